@@ -1,5 +1,5 @@
 -- A seat that goes on with the transactions that it had.
-use Rattle.std.proofs.Common.{◌≡◌, ℕ, List, ◌++◌, refl, ap, ◌∙◌, append_assoc, None, arith}
+use Rattle.std.proofs.Common.{◌≡◌, ℕ, List, refl, ap, ◌∙◌, None, arith}
 use Rattle.std.specs.FinMap as finite
 use Rattle.wp_model.specs.History.{entry_at}
 use Rattle.wp_model.specs.declared.change.Change.{Change}
@@ -14,9 +14,6 @@ use Rattle.wp_core.proofs.KeepsSeen.{shorter}
 use Rattle.wp_shared.specs.Calls.{Continues}
 use Rattle.wp_shared.specs.Seats.{SharedState, SeatState}
 use Rattle.wp_txn.specs.Txn.{HasOpen, HasPrepared}
-
-pub starts_through : (a b c : List Entry) → StartsWith c b → StartsWith b a → StartsWith c a
-starts_through a b c later sooner = (sooner.0 ++ later.0, later.1 ∙ ap (λ (es : List Entry). es ++ later.0) sooner.1 ∙ append_assoc a sooner.0 later.0)
 
 -- the seat has the transactions that it had, and knows of them what it knew
 pub record HasStill (old new : SeatState) : Type 0 where

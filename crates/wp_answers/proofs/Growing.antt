@@ -12,7 +12,7 @@ use Rattle.wp_core.specs.World.{Participant}
 use Rattle.wp_core.proofs.KeepsSeen.{shorter}
 use Rattle.wp_core.proofs.PastsGrow.{in_front}
 use Rattle.wp_shared.specs.Seats.{SharedState}
-use Rattle.wp_answers.proofs.Going.{starts_through}
+use Rattle.wp_shared.proofs.Onward.{starts_on}
 use Rattle.wp_replies.specs.Progress.{Progress, knows_label}
 use Rattle.wp_replies.specs.Replies.{Evidence}
 use Rattle.wp_answers.specs.Agrees.{Agrees}
@@ -38,7 +38,7 @@ seen_taken history seen starts = ap (take (length seen)) starts.1 ∙ take-appen
 -- what agrees with a seat agrees with it as it was earlier
 pub agrees_before : {D : Type 0} (z : SharedState D) (e : Evidence) (p q : Participant) (events : List Event) → StartsWith q.seen p.seen → q.past ≡ p.past ++ events → Agrees e z q → Agrees e z p
 agrees_before z e p q events grown more a = record {
-  seen = starts_through p.seen q.seen e.history a.seen grown;
+  seen = starts_on p.seen q.seen e.history grown a.seen;
   limit = a.limit;
   past = λ event there. a.past event (subst (IsIn event) (sym more) (in_front event p.past events there));
 }

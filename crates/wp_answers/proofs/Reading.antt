@@ -18,8 +18,8 @@ use Rattle.wp_core.proofs.Tests.{same_some}
 use Rattle.wp_rule.specs.Shows.{WasLast}
 use Rattle.wp_parts.specs.Parts.{content}
 use Rattle.wp_shared.specs.Seats.{SharedState, SeatState, IsFree}
+use Rattle.wp_shared.proofs.Onward.{starts_on}
 use Rattle.wp_txn.specs.Calls.{Keeps}
-use Rattle.wp_answers.proofs.Going.{starts_through}
 use Rattle.wp_replies.specs.declared.client.LabelledSnapshot.{LabelledSnapshot}
 use Rattle.wp_replies.specs.Client.{Client, own_batch, number_of}
 use Rattle.wp_replies.specs.After.{after_reply}
@@ -89,7 +89,7 @@ module _ {D : Type 0} (z : SharedState D) (old new : SeatState) (t : HeldTxn) (k
 
   -- the history begins with what the seat had seen
   starts : (e : Evidence) → Keeps z old new → Agrees e z new.knows.participant → StartsWith e.history old.knows.participant.seen
-  starts e goes agrees = starts_through old.knows.participant.seen new.knows.participant.seen e.history agrees.seen goes.seen
+  starts e goes agrees = starts_on old.knows.participant.seen new.knows.participant.seen e.history goes.seen agrees.seen
 
   own_answers_by : (said : Option (Option (List ℕ))) (r : Reply) → change_to (batch_in t) key ≡ said → own_reply said ≡ Some r → Keeps z old new → Answers z old new me me (command.Get key) r
   own_answers_by None r at is goes = absurd cc

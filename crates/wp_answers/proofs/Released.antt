@@ -10,6 +10,7 @@ use Rattle.wp_core.proofs.PastsGrow.{in_last}
 use Rattle.wp_read.specs.Registers.{IsTaken}
 use Rattle.wp_shared.specs.Calls.{Continues}
 use Rattle.wp_shared.specs.Seats.{SharedState, SeatState}
+use Rattle.wp_shared.proofs.Onward.{starts_on}
 use Rattle.wp_txn.specs.Calls.{Keeps, without_transaction, GivesUp}
 use Rattle.wp_answers.specs.declared.holdings.HeldTxn.{HeldTxn}
 use Rattle.wp_answers.specs.declared.holdings.HeldTxn.TheVariants as held
@@ -18,7 +19,6 @@ use Rattle.wp_answers.specs.Answers.{Stays}
 use Rattle.wp_answers.specs.Ends.{LetsGo}
 use Rattle.wp_answers.specs.Holdings.{HoldingsState, no_holdings, Holds, HoldsFrom}
 use Rattle.wp_answers.specs.Replies.{ReadsFresh, IsPlace}
-use Rattle.wp_answers.proofs.Going.{starts_through}
 use Rattle.wp_answers.proofs.Labelled.{none_before_last}
 use Rattle.wp_answers.proofs.Reading.{value_old}
 use Rattle.wp_answers.proofs.Snapping.{Released, place_registered, freed_holds}
@@ -65,7 +65,7 @@ module _ {D : Type 0} (z : SharedState D) (a b : SeatState) (r : Registration) (
       released = record {
         free = left.free;
         same_by = left.same_by ∙ (read.same_by ∙ took.same_by);
-        seen = starts_through a.knows.participant.seen c.knows.participant.seen d.knows.participant.seen left.seen (starts_through a.knows.participant.seen b.knows.participant.seen c.knows.participant.seen read.seen took.seen);
+        seen = starts_on a.knows.participant.seen c.knows.participant.seen d.knows.participant.seen (starts_on a.knows.participant.seen b.knows.participant.seen c.knows.participant.seen took.seen read.seen) left.seen;
         participant = left.participant
             ∙ (ap (λ (p : Participant). record p { registered = front ++ back; seen = d.knows.participant.seen }) (read.participant ∙ ap (λ (p : Participant). record p { seen = c.knows.participant.seen }) took.participant)
             ∙ ap (λ (rs : List Registration). record a.knows.participant { registered = rs; seen = d.knows.participant.seen }) as_before);
@@ -88,7 +88,7 @@ module _ {D : Type 0} (z : SharedState D) (a b : SeatState) (r : Registration) (
               history = b.knows.participant.seen;
               taken = taken;
               number = refl;
-              seen = starts_through b.knows.participant.seen c.knows.participant.seen d.knows.participant.seen left.seen read.seen;
+              seen = starts_on b.knows.participant.seen c.knows.participant.seen d.knows.participant.seen read.seen left.seen;
             };
             value_is = is ∙ sym (value_old d.knows.participant.seen c.knows.participant.seen key r.number left.seen (omega (arith, second, number)));
           }
@@ -101,7 +101,7 @@ stays_through a b c first second = record {
   made = second.made ∙ first.made;
   joined = second.joined ∙ first.joined;
   client = second.client ∙ first.client;
-  seen = starts_through a.knows.participant.seen b.knows.participant.seen c.knows.participant.seen second.seen first.seen;
+  seen = starts_on a.knows.participant.seen b.knows.participant.seen c.knows.participant.seen first.seen second.seen;
 }
 
 module _ {D : Type 0} (z : SharedState D) (old : SeatState) (was : HoldingsState) where

@@ -16,7 +16,7 @@ use Rattle.wp_txn.specs.Calls.{Keeps}
 use Rattle.wp_answers.proofs.Going.{HasStill, still, open_still, prepared_still}
 use Rattle.wp_text.specs.declared.script.Command.{Command}
 use Rattle.wp_replies.specs.Client.{Client}
-use Rattle.wp_replies.proofs.SaidLemmas.{within_more}
+use Rattle.wp_replies.proofs.Within.{within_more}
 use Rattle.wp_answers.specs.declared.holdings.HeldTxn.{HeldTxn}
 use Rattle.wp_answers.specs.declared.holdings.HeldTxn.TheVariants as held
 use Rattle.wp_sole_client.specs.Alone.{log_faults, tables_faults}

@@ -134,7 +134,7 @@ fn obey<D: Disk + Drop, R: Wait>(
 }
 
 /// For the proof alone: the seat stands in a world of the store.
-fn stand<D: Disk + Drop>(store: &Shared<D>, seat: &mut Seat<D>)
+fn shows_world<D: Disk + Drop>(store: &Shared<D>, seat: &mut Seat<D>)
     requires { seat.old.table ≡ store.now.table }
     ensures same { seat.new ≡ seat.old }
     ensures stands { (w : World) × Stands store.now seat.new w }
@@ -161,6 +161,6 @@ pub fn answer<D: Disk + Drop, R: Wait>(
     ensures kept { OnErr result (held.new ≡ held.old) }
 {
     let outcome = obey(store, rt, alloc, seat, held, command);
-    stand(store, seat);
+    shows_world(store, seat);
     outcome
 }

@@ -58,7 +58,7 @@ fn del_now<D: Disk + Drop, R: Wait>(
 }
 
 /// For the proof alone: no more keys are changed than may be, each once, in order.
-fn is_whole(txn: &OpenTxn)
+fn shows_batch(txn: &OpenTxn)
     ensures { is_batch txn.now.batch ≡ true }
 {
     let _ = txn.batch().changes();
@@ -79,7 +79,7 @@ fn put_open<D: Disk + Drop, R: Wait>(
     ensures answered { IfOk result (AnswersFrom store.now seat.old seat.new (held.Open txn.old) (held.Open txn.new) (Put key.now value.now)) }
     ensures err { OnErr result (BreaksOffFrom seat.old seat.new (held.Open txn.old) (held.Open txn.new) (Put key.now value.now)) }
 {
-    is_whole(txn);
+    shows_batch(txn);
     match wp_txn::put(store, rt, alloc, seat, txn, key, value) {
         Ok(()) => Ok(Reply::Held),
         Err(why) => refusal(why),
@@ -100,7 +100,7 @@ fn del_open<D: Disk + Drop, R: Wait>(
     ensures answered { IfOk result (AnswersFrom store.now seat.old seat.new (held.Open txn.old) (held.Open txn.new) (Del key.now)) }
     ensures err { OnErr result (BreaksOffFrom seat.old seat.new (held.Open txn.old) (held.Open txn.new) (Del key.now)) }
 {
-    is_whole(txn);
+    shows_batch(txn);
     match wp_txn::del(store, rt, alloc, seat, txn, key) {
         Ok(()) => Ok(Reply::Held),
         Err(why) => refusal(why),

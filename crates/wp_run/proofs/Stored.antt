@@ -14,12 +14,14 @@ use Rattle.wp_gatelog.specs.Durability.{LosesNoRecord}
 use Rattle.wp_open.specs.Opens.{AllKnown, OpensTo, installed_of}
 use Rattle.wp_core.specs.Lists.{one_if}
 use Rattle.wp_parts.specs.Opening.{running_set}
-use Rattle.wp_shared.specs.Devices.{DevicesLeft}
+use Rattle.wp_parts.specs.Devices.{DevicesLeft}
 use Rattle.wp_shared.specs.Ended.{IsEnded}
 use Rattle.wp_shared.specs.OpenedFrom.{IsOpenedFrom}
 use Rattle.wp_shared.specs.Seats.{SharedState, SeatState}
 use Rattle.wp_threads.specs.Explained.{found_in, left_in, failed_in, faults_in}
-use Rattle.wp_run.specs.Serving.{Serving, HasStored}
+use Rattle.wp_run.specs.Crash.{CrashOpens}
+use Rattle.wp_run.specs.Headline.{Serving}
+use Rattle.wp_run.specs.Met.{IsStored}
 use Rattle.wp_run.specs.Use.{IsDurable, DisksUse}
 use Rattle.wp_run.proofs.Crashed.{crash_opens}
 use Rattle.wp_run.proofs.Keeping.{records_trans, fronts_trans, rose_since}
@@ -88,25 +90,31 @@ module _ {D : Type 0} {z : SharedState D} (asked : ℕ) (disks : DisksUse) {seat
       }
 
 -- what is stored then
-pub has_stored : {D : Type 0} {z : SharedState D} (s : Serving) {seats : List SeatState} {history : List Entry} (opened : IsOpenedFrom s.id (before s.disks) z) (ended : IsEnded z seats history (after s.disks)) → ended.first_edit ≡ installed_of opened.edits.edit opened.versions.tables
-    → HasStored s (faults_in ended) (found_in ended) (left_in ended) (failed_in ended)
-has_stored {D} {z} s {seats} {history} opened ended same_edit =
-    let since = ended.since in let old = s.disks in
-    let wal = same_wal s.id s.disks opened ended in let set = same_set s.id s.disks opened ended in
-    let wal_faults = ap (λ (w : WalState). w.faults) wal in let edits_faults = ap (λ (t : TableSetState). t.manifest.log.faults) set in let tables_faults = ap (λ (t : TableSetState). t.faults) set in
-    record {
-      id = ended.opened.wal.id;
-      made = subst (λ (w : WalState). IfKnown old.log.before (λ m. IsUnmade m.reads → w.id ≡ s.id)) (sym wal) opened.parts.made;
-      spelled = subst (λ (w : WalState). IfKnown old.log.before (λ m. IsLogOf w.id z.opened m.reads)) (sym wal) opened.parts.found;
-      opened = subst (λ (x : WalState × InstalledEdit). AllKnown old.log.before old.manifest.before old.tables.before (OpensTo x.0.id z.opened x.1)) (λ i. (sym wal i, sym same_edit i)) opened.opens;
-      stored = ended.stored;
-      opens = crash_opens ended.opened.wal.id ended.writes ended.edits history old.log.after old.manifest.after old.tables.after ended.log ended.whole ended.none_asked ended.opens;
-      unfailed = λ none. ended.none_failed (was_none ended.writes.closed none);
-      once = at_most_one ended.writes.closed;
-      cause = λ up. rose_since old.log.faults_before ended.opened.wal.faults old.log.faults_after (omega (arith, opened.log_later, wal_faults)) (since.log_cause (was_one ended.writes.closed up));
-      tables_once = at_most_one ended.edits.halted;
-      tables_cause = λ up. ⊎_elim
-          (λ (rose : Rose ended.opened.set.manifest.log.faults old.manifest.faults_after). inl (rose_since old.manifest.faults_before ended.opened.set.manifest.log.faults old.manifest.faults_after (omega (arith, opened.manifest_later, edits_faults)) rose))
-          (λ (rose : Rose ended.opened.set.faults old.tables.faults_after). inr (rose_since old.tables.faults_before ended.opened.set.faults old.tables.faults_after (omega (arith, opened.tables_later, tables_faults)) rose))
-          (since.tables_cause (was_one ended.edits.halted up));
-    }
+module _ {D : Type 0} {z : SharedState D} (s : Serving) {seats : List SeatState} {history : List Entry} (opened : IsOpenedFrom s.id (before s.disks) z) (ended : IsEnded z seats history (after s.disks)) where
+  wal_is : ended.opened.wal ≡ opened.wal
+  wal_is = same_wal s.id s.disks opened ended
+
+  pub was_opened : ended.first_edit ≡ installed_of opened.edits.edit opened.versions.tables → AllKnown s.disks.log.before s.disks.manifest.before s.disks.tables.before (OpensTo ended.opened.wal.id z.opened ended.first_edit)
+  was_opened same_edit = subst (λ (x : WalState × InstalledEdit). AllKnown s.disks.log.before s.disks.manifest.before s.disks.tables.before (OpensTo x.0.id z.opened x.1)) (λ i. (sym wal_is i, sym same_edit i)) opened.opens
+
+  pub crash_leaves : CrashOpens (faults_in ended) ended.opened.wal.id (left_in ended) (failed_in ended) s.disks.log.after s.disks.manifest.after s.disks.tables.after
+  crash_leaves = crash_opens ended.writes ended.edits history ended.opened.wal.id s.disks.log.after s.disks.manifest.after s.disks.tables.after ended.log ended.none_asked ended.opens
+
+  pub is_stored : IsStored s.disks s.id ended.opened.wal.id (found_in ended) (left_in ended) (failed_in ended) (faults_in ended)
+  is_stored =
+      let since = ended.since in let old = s.disks in let set = same_set s.id s.disks opened ended in
+      let wal_faults = ap (λ (w : WalState). w.faults) wal_is in let edits_faults = ap (λ (t : TableSetState). t.manifest.log.faults) set in let tables_faults = ap (λ (t : TableSetState). t.faults) set in
+      record {
+        made = subst (λ (w : WalState). IfKnown old.log.before (λ m. IsUnmade m.reads → w.id ≡ s.id)) (sym wal_is) opened.parts.made;
+        spelled = subst (λ (w : WalState). IfKnown old.log.before (λ m. IsLogOf w.id z.opened m.reads)) (sym wal_is) opened.parts.found;
+        stored = ended.stored;
+        unfailed = λ none. ended.none_failed (was_none ended.writes.closed none);
+        whole = λ up. ended.whole (was_one ended.writes.closed up);
+        once = at_most_one ended.writes.closed;
+        cause = λ up. rose_since old.log.faults_before ended.opened.wal.faults old.log.faults_after (omega (arith, opened.log_later, wal_faults)) (since.log_cause (was_one ended.writes.closed up));
+        tables_once = at_most_one ended.edits.halted;
+        tables_cause = λ up. ⊎_elim
+            (λ (rose : Rose ended.opened.set.manifest.log.faults old.manifest.faults_after). inl (rose_since old.manifest.faults_before ended.opened.set.manifest.log.faults old.manifest.faults_after (omega (arith, opened.manifest_later, edits_faults)) rose))
+            (λ (rose : Rose ended.opened.set.faults old.tables.faults_after). inr (rose_since old.tables.faults_before ended.opened.set.faults old.tables.faults_after (omega (arith, opened.tables_later, tables_faults)) rose))
+            (since.tables_cause (was_one ended.edits.halted up));
+      }

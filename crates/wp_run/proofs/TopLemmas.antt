@@ -8,10 +8,12 @@ use Rattle.wp_open.specs.declared.opening.OpenError.{OpenError}
 use Rattle.wp_open.specs.declared.opening.OpenError.TheVariants as open_error
 use Rattle.wp_open.specs.Opens.{installed_of}
 use Rattle.wp_text.specs.declared.script.Part.{Part}
+use Rattle.wp_text.specs.declared.reply.Reply.{Reply}
 use Rattle.wp_core.specs.Lists.{one_if}
 use Rattle.wp_rule.proofs.Knows.{one_was_first}
 use Rattle.wp_parts.specs.Parts.{content}
-use Rattle.wp_replies.specs.Explains.{Explains}
+use Rattle.wp_replies.specs.Exact.{IsExact}
+use Rattle.wp_replies.specs.Explains.{Faults, Explains}
 use Rattle.wp_replies.specs.Kind.{is_fault, is_tables_fault}
 use Rattle.wp_shared.specs.OpenedFrom.{IsOpenedFrom}
 use Rattle.wp_shared.specs.Seats.{SharedState, SeatState}
@@ -26,11 +28,13 @@ use Rattle.wp_run.specs.declared.status.Status.{Status}
 use Rattle.wp_run.specs.declared.status.Status.TheVariants as status
 use Rattle.wp_run.specs.Run.{Call, IsChosen, IsUnread, IsReadAs, IsServed, Ends}
 use Rattle.wp_run.specs.Seating.{IsFirstClient}
-use Rattle.wp_run.specs.Serving.{Serving, AnswersScript, LacksMemory, IsUnopened, faults_of, Serves, are_whole, one_fails, IsWritten, HasEnded}
+use Rattle.wp_run.specs.Headline.{Serving, Headline}
+use Rattle.wp_run.specs.Serving.{nothing_more, exactly, AnswersScript, LacksMemory, faults_of, Serves, ServesExactly, are_whole, one_fails, IsWritten, HasEnded}
+use Rattle.wp_run.specs.Unopened.{IsUnopened}
 use Rattle.wp_run.specs.Status.{IsStatusOf}
 use Rattle.wp_run.specs.Transcript.{text_of}
 use Rattle.wp_run.specs.Use.{SinkUse, AreUncalled}
-use Rattle.wp_run.proofs.Stored.{before, after, has_stored}
+use Rattle.wp_run.proofs.Stored.{before, after, was_opened, crash_leaves, is_stored}
 use Rattle.wp_run.proofs.Whole.{all_ran, fails_as_counted}
 
 -- ---- how a script was served
@@ -40,30 +44,40 @@ module _ {D : Type 0} (z : SharedState D) (s : Serving) (answered : List Answere
   same_edit : run.ended.first_edit ≡ installed_of opened.edits.edit opened.versions.tables
   same_edit = one_was_first content z.first run.ended.first_edit (installed_of opened.edits.edit opened.versions.tables) run.ended.first_is opened.last_is
 
-  explained : (parts : List Part) → run.run ≡ parts → Explains s.limit (faults_in run.ended) s.script parts (found_in run.ended) (left_in run.ended) (failed_in run.ended) (replies_of answered)
-  explained parts is = subst (λ (x : ℕ × List Part). Explains x.0 (faults_in run.ended) s.script x.1 (found_in run.ended) (left_in run.ended) (failed_in run.ended) (replies_of answered)) (λ i. (limit i, is i)) run.explained
+  abbrev replies : List (List Reply)
+  replies = replies_of answered
 
-  lacks : LacksMemory s
-  lacks = record {
-    faults = faults_in run.ended;
-    found = found_in run.ended;
-    left = left_in run.ended;
-    failed = failed_in run.ended;
-    store = has_stored s opened run.ended same_edit;
-    run = run.run;
-    first = run.first;
-    replies = replies_of answered;
-    explained = explained run.run refl;
-  }
+  -- what the commands came to that ran
+  headline : (parts : List Part) → run.run ≡ parts → (h : Headline s (faults_in run.ended) parts) × exactly s (faults_in run.ended) parts h × (h.replies ≡ replies) × (h.left.history ≡ history)
+  headline parts is =
+      let e = subst (λ (x : ℕ × List Part). Explains x.0 (faults_in run.ended) s.script x.1 (found_in run.ended) (left_in run.ended) (failed_in run.ended) replies) (λ i. (limit i, is i)) run.explained in (
+        record {
+          id = run.ended.opened.wal.id;
+          found = found_in run.ended;
+          opened = was_opened s opened run.ended same_edit;
+          left = left_in run.ended;
+          legal = e.legal;
+          begins = e.begins;
+          failed = failed_in run.ended;
+          replies = replies;
+          sessions = e.answered;
+          once = e.paired;
+          crash = crash_leaves s opened run.ended;
+          stored = is_stored s opened run.ended;
+          met = record { log_failed = e.log_failed; stopped = e.stopped; tables_failed = e.tables_failed; halted = e.halted; edit = e.edit };
+        },
+        subst (λ (x : ℕ × List Part). IsExact x.0 (found_in run.ended) (left_in run.ended) (failed_in run.ended) x.1 replies) (λ i. (limit i, is i)) run.exact,
+        refl,
+        refl,
+      )
 
-  answers : are_whole answered ≡ true → AnswersScript s (faults_in run.ended) (text_of s.script (replies_of answered) history)
-  answers whole = record {
-    found = found_in run.ended;
-    left = left_in run.ended;
-    failed = failed_in run.ended;
-    store = has_stored s opened run.ended same_edit;
-    transcript = (replies_of answered, explained s.script (all_ran s.script run.run answered run.whole whole), refl);
-  }
+  lacks : LacksMemory s (exactly s)
+  lacks = let h = headline run.run refl in record { faults = faults_in run.ended; run = run.run; first = run.first; headline = h.0; also = h.1 }
+
+  answers : are_whole answered ≡ true → AnswersScript s (exactly s) (faults_in run.ended) (text_of s.script replies history)
+  answers whole =
+      let h = headline s.script (all_ran s.script run.run answered run.whole whole) in
+      record { headline = h.0; transcript = λ i. text_of s.script (sym h.2 i) (sym h.3 i); also = h.1 }
 
   -- the faults are those that a client was answered
   log_as_told : one_fails is_fault answered ≡ run.ended.writes.closed
@@ -72,10 +86,10 @@ module _ {D : Type 0} (z : SharedState D) (s : Serving) (answered : List Answere
   tables_as_told : one_fails is_tables_fault answered ≡ run.ended.edits.halted
   tables_as_told = fails_as_counted is_tables_fault answered run.ended.edits.halted run.explained.tables_failed
 
-  answers_as : (stopped halted : Bool) → run.ended.writes.closed ≡ stopped → run.ended.edits.halted ≡ halted → are_whole answered ≡ true → AnswersScript s (faults_of (one_if stopped) (one_if halted)) (text_of s.script (replies_of answered) history)
-  answers_as stopped halted a b whole = subst (λ (x : Bool × Bool). AnswersScript s (faults_of (one_if x.0) (one_if x.1)) (text_of s.script (replies_of answered) history)) (λ i. (a i, b i)) (answers whole)
+  answers_as : (stopped halted : Bool) → run.ended.writes.closed ≡ stopped → run.ended.edits.halted ≡ halted → are_whole answered ≡ true → AnswersScript s (exactly s) (faults_of (one_if stopped) (one_if halted)) (text_of s.script (replies_of answered) history)
+  answers_as stopped halted a b whole = subst (λ (x : Bool × Bool). AnswersScript s (exactly s) (faults_of (one_if x.0) (one_if x.1)) (text_of s.script (replies_of answered) history)) (λ i. (a i, b i)) (answers whole)
 
-  pub serves_run : (end : Status) → HasEnded s.script answered history s.sink end → Serves s end
+  pub serves_run : (end : Status) → HasEnded s.script answered history s.sink end → ServesExactly s end
   serves_run status.Memory h = inr lacks
   serves_run status.Ok h = (text_of s.script (replies_of answered) history, answers_as false false (sym log_as_told ∙ h.1.0) (sym tables_as_told ∙ h.1.1) h.0, h.1.2)
   serves_run status.LogFault h = (one_if run.ended.edits.halted, text_of s.script (replies_of answered) history, answers_as true run.ended.edits.halted (sym log_as_told ∙ h.1.0) refl h.0, h.1.1)
@@ -87,10 +101,27 @@ module _ {D : Type 0} (z : SharedState D) (s : Serving) (answered : List Answere
   serves_run (status.Contents damage) h = absurd h.1
   serves_run (status.OpenFault d) h = absurd h.1
 
-pub serves_refused : (why : OpenError) (end : Status) (s : Serving) → IsStatusOf why end → IsUnopened s why → Serves s end
+pub serves_refused : (why : OpenError) (end : Status) (s : Serving) → IsStatusOf why end → IsUnopened s why → ServesExactly s end
 serves_refused open_error.Memory end s is refused = rw is (inl refused)
 serves_refused (open_error.OpenFault device) end s is refused = rw is refused
 serves_refused (open_error.Contents damage) end s is refused = rw is refused
+
+-- ... with nothing more
+answers_only : (s : Serving) (faults : Faults) (text : List ℕ) → AnswersScript s (exactly s) faults text → AnswersScript s (nothing_more s) faults text
+answers_only s faults text a = record { headline = a.headline; transcript = a.transcript; also = tt }
+
+pub serves_only : (s : Serving) (end : Status) → ServesExactly s end → Serves s end
+serves_only s status.Ok h = (h.0, answers_only s _ h.0 h.1, h.2)
+serves_only s status.LogFault h = (h.0, h.1, answers_only s _ h.1 h.2, h.3)
+serves_only s status.TableFault h = (h.0, answers_only s _ h.0 h.1, h.2)
+serves_only s status.SinkFault h = (h.0, h.1, h.2, answers_only s h.1 h.2 h.3, h.4)
+serves_only s status.Memory (inl none) = inl none
+serves_only s status.Memory (inr lacks) = inr (record { faults = lacks.faults; run = lacks.run; first = lacks.first; headline = lacks.headline; also = tt })
+serves_only s (status.Contents damage) h = h
+serves_only s (status.OpenFault device) h = h
+serves_only s status.Words h = h
+serves_only s status.SourceFault h = h
+serves_only s (status.Script fault) h = h
 
 -- the seat that comes with the store is the first client's
 pub is_first : {D : Type 0} (z : SharedState D) (parts : List Part) (client : List ℕ) (first : SeatState) → first ≡ first_seat z client → IsFirstClient parts client → IsFirst z parts first
@@ -110,7 +141,7 @@ text_ends script answered history (Ok text) stopped halted sink end whole is sto
 text_ends script answered history (Err e) stopped halted sink end whole is stopped-is halted-is written none = rw none tt
 
 -- a choice whose script was served
-pub served_ends : (call : Call) (end : Status) → IsServed call end → Ends call end
+pub served_ends : (call : Call) (end : Status) → IsServed ServesExactly call end → Ends ServesExactly call end
 served_ends call status.Memory h = inr h
 served_ends call status.Words h = absurd h.served
 served_ends call status.SourceFault h = absurd h.served
@@ -122,6 +153,22 @@ served_ends call status.TableFault h = h
 served_ends call (status.Contents damage) h = h
 served_ends call (status.OpenFault device) h = h
 
+served_only : (call : Call) (end : Status) → IsServed ServesExactly call end → IsServed Serves call end
+served_only call end h = record { choice = h.choice; chosen = h.chosen; script = h.script; read = h.read; served = serves_only _ end h.served }
+
+pub ends_only : (call : Call) (end : Status) → Ends ServesExactly call end → Ends Serves call end
+ends_only call status.Words h = h
+ends_only call status.SourceFault h = h
+ends_only call (status.Script fault) h = h
+ends_only call status.Memory (inl same) = inl same
+ends_only call status.Memory (inr h) = inr (served_only call status.Memory h)
+ends_only call status.Ok h = served_only call status.Ok h
+ends_only call status.SinkFault h = served_only call status.SinkFault h
+ends_only call status.LogFault h = served_only call status.LogFault h
+ends_only call status.TableFault h = served_only call status.TableFault h
+ends_only call (status.Contents damage) h = served_only call (status.Contents damage) h
+ends_only call (status.OpenFault device) h = served_only call (status.OpenFault device) h
+
 -- the numbers of a choice are in their ranges
 pub in_ranges : (words : List (List ℕ)) (choice : Choice) → IsChoice words choice → (choice.bits ≤ 16) × (1 ≤ choice.limit) × (choice.limit < 2 ^ 32)
 in_ranges words choice is = by _ is.entered
@@ -132,13 +179,13 @@ in_ranges words choice is = by _ is.entered
 
 -- ---- no script
 
-unread_ends : (call : Call) (end : Status) → IsChosen call.words action.Run → AreUncalled call.disks → IsUnread call.source end → Ends call end
+unread_ends : (call : Call) (end : Status) → IsChosen call.words action.Run → AreUncalled call.disks → IsUnread call.source end → Ends ServesExactly call end
 unread_ends call status.Memory chosen same why = inl same
 unread_ends call status.SourceFault chosen same why = (chosen, why)
 unread_ends call (status.Script fault) chosen same why = (chosen, why)
 unread_ends call other chosen same why = absurd why
 
 -- a choice whose script was not read, and whose devices were not called
-pub scriptless_ends : (call : Call) (chosen : Action) (end : Status) → IsChosen call.words chosen → AreUncalled call.disks → IsReadAs chosen call.source (Err end) → Ends call end
+pub scriptless_ends : (call : Call) (chosen : Action) (end : Status) → IsChosen call.words chosen → AreUncalled call.disks → IsReadAs chosen call.source (Err end) → Ends ServesExactly call end
 scriptless_ends call action.Run end is same why = unread_ends call end is same why
 scriptless_ends call action.Show end is same why = rw why.1 (inl same)

@@ -1,32 +1,31 @@
 -- What a crash leaves of a store's three devices.
-use Rattle.std.specs.Prelude.{◌≡◌, ◌⊎◌, ℕ, zero, suc, ◌+◌, List, ◌++◌, length}
+use Rattle.std.specs.Prelude.{◌≡◌, ◌⊎◌, ℕ, zero, suc, List, ◌++◌, Some}
 use Rattle.wp_model.specs.declared.entry.Entry.{Entry}
 use Rattle.wp_model.specs.Flushed.{InstalledEdit}
 use Rattle.wp_outside.specs.Disk.{Moment, images}
-use Rattle.wp_entry.specs.Record.{IsRecord}
 use Rattle.wp_open.specs.Opens.{OpensTo}
+use Rattle.wp_replies.specs.Explains.{Faults}
+use Rattle.wp_replies.specs.Known.{StoredState}
+use Rattle.wp_replies.specs.Replies.{Failed}
 
--- the history; or, once the log has failed, it or it and one record more
-abbrev pub IsOrOneMore : (faults : ℕ) → List Entry → List Entry → Type 0
-IsOrOneMore zero history longer = longer ≡ history
-IsOrOneMore (suc faults) history longer = (longer ≡ history) ⊎ ((next : List Entry) × IsRecord (length history + 1) next × (longer ≡ history ++ next))
+-- the history that is left; or, once the log has failed, it or it and what the log failed to take
+abbrev pub MayBeSpelled : (faults : ℕ) → (left failed history : List Entry) → Type 0
+MayBeSpelled zero left failed history = history ≡ left
+MayBeSpelled (suc faults) left failed history = (history ≡ left) ⊎ (history ≡ left ++ failed)
 
--- the edit that was installed; or, once a device of the tables has failed, it or the one that they failed to take
-abbrev pub MayBeLast : (faults : ℕ) → (installed failed edit : InstalledEdit) → Type 0
-MayBeLast zero installed failed edit = edit ≡ installed
-MayBeLast (suc faults) installed failed edit = (edit ≡ installed) ⊎ (edit ≡ failed)
+-- the edit that is left; or, once a device of the tables has failed, it or the one that they failed to take
+abbrev pub MayBeLast : (faults : ℕ) → StoredState → Failed → InstalledEdit → Type 0
+MayBeLast zero left failed edit = edit ≡ left.edit
+MayBeLast (suc faults) left failed edit = (edit ≡ left.edit) ⊎ (failed.edit ≡ Some edit)
 
 -- the bytes of the three devices open to such a history, and to such an edit as the last one
-pub record OpensAs (id : ℕ) (IsHistory : List Entry → Type 0) (IsLast : InstalledEdit → Type 0) (log manifest tables : List ℕ) : Type 0 where
+pub record OpensAs (faults : Faults) (id : ℕ) (left : StoredState) (failed : Failed) (log manifest tables : List ℕ) : Type 0 where
   pub history : List Entry
   pub edit : InstalledEdit
-  pub is : IsHistory history
-  pub last : IsLast edit
+  pub spelled : MayBeSpelled faults.log left.history failed.entries history
+  pub last : MayBeLast faults.tables left failed edit
   pub opens : OpensTo id history edit log manifest tables
 
--- Whichever image each of the devices is left with, they open to the history, or, once the log has failed, to it or it and
--- one record more; and the last edit is the one that was installed, or, once a device of the tables has failed, it or the
--- one that they failed to take.
-abbrev pub CrashOpens : (log_faults tables_faults id : ℕ) → List Entry → (installed failed : InstalledEdit) → (log manifest tables : List Moment) → Type 0
-CrashOpens log_faults tables_faults id history installed failed log manifest tables = (l m t : List ℕ) → images log l → images manifest m → images tables t
-    → OpensAs id (IsOrOneMore log_faults history) (MayBeLast tables_faults installed failed) l m t
+-- whichever image each of the devices is left with, they open so
+abbrev pub CrashOpens : Faults → (id : ℕ) → StoredState → Failed → (log manifest tables : List Moment) → Type 0
+CrashOpens faults id left failed log manifest tables = (l m t : List ℕ) → images log l → images manifest m → images tables t → OpensAs faults id left failed l m t

@@ -1,7 +1,11 @@
-pub mod Transcript
 pub mod Use
+pub mod Limits
 pub mod Status
+pub mod Transcript
 pub mod Crash
+pub mod Met
+pub mod Headline
+pub mod Unopened
 pub mod Seating
 pub mod Serving
 pub mod Run

@@ -13,7 +13,7 @@ use Rattle.wp_outside.specs.Whole.{AreBytesRead}
 use Rattle.wp_run.specs.declared.status.Status.{Status}
 use Rattle.wp_run.specs.declared.status.Status.TheVariants as status
 use Rattle.wp_text.specs.declared.read.TheConstants.{MOST_BYTES}
-use Rattle.wp_run.specs.Serving.{Serves}
+use Rattle.wp_run.specs.Headline.{Serving}
 use Rattle.wp_run.specs.Use.{DisksUse, SourceUse, SinkUse, AreUncalled}
 
 -- the words choose to do this
@@ -58,19 +58,22 @@ pub record Call : Type 1 where
   pub disks : DisksUse
   pub sink : SinkUse
 
+abbrev pub call_of : List (List ℕ) → SourceUse → DisksUse → SinkUse → Call
+call_of words source disks sink = record { words = words; source = source; disks = disks; sink = sink }
+
 -- a choice of the words had its script served so
-pub record IsServed (call : Call) (end : Status) : Type 0 where
+pub record IsServed (Serves : Serving → Status → Type 0) (call : Call) (end : Status) : Type 0 where
   pub choice : Choice
   pub chosen : IsChoice call.words choice
   pub script : List Part
   pub read : IsScriptOf choice.action call.source script
   pub served : Serves (record { limit = choice.limit; id = choice.id; script = script; disks = call.disks; sink = call.sink }) end
 
--- How a call ended, why, what was written and what the devices store. Want of memory came before a device was called, or
--- as the script of a choice was served.
-abbrev pub Ends : Call → Status → Type 0
-Ends call status.Words = ¬ IsTaken call.words
-Ends call status.SourceFault = IsChosen call.words action.Run × Rose call.source.faults_before call.source.faults_after
-Ends call (status.Script fault) = IsChosen call.words action.Run × IsOutsideGrammar call.source fault
-Ends call status.Memory = AreUncalled call.disks ⊎ IsServed call status.Memory
-Ends call end = IsServed call end
+-- How a call ended, and why, where a script is served so. Want of memory came before a device was called, or as the script of a
+-- choice was served.
+abbrev pub Ends : (Serves : Serving → Status → Type 0) → Call → Status → Type 0
+Ends Serves call status.Words = ¬ IsTaken call.words
+Ends Serves call status.SourceFault = IsChosen call.words action.Run × Rose call.source.faults_before call.source.faults_after
+Ends Serves call (status.Script fault) = IsChosen call.words action.Run × IsOutsideGrammar call.source fault
+Ends Serves call status.Memory = AreUncalled call.disks ⊎ IsServed Serves call status.Memory
+Ends Serves call end = IsServed Serves call end

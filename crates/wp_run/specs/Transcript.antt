@@ -1,14 +1,11 @@
 -- A transcript: the text of all clients' replies and of the history that explains them.
-use Rattle.std.specs.Prelude.{◌≡◌, ℕ, List, [], ◌∷◌, ◌++◌, length, codes}
+use Rattle.std.specs.Prelude.{ℕ, List, [], ◌∷◌, ◌++◌, length, codes}
 use Rattle.std.specs.List.{flat_map}
 use Rattle.wp_model.specs.declared.entry.Entry.{Entry}
 use Rattle.wp_model.specs.History.{undecided}
 use Rattle.wp_text.specs.declared.script.Part.{Part}
 use Rattle.wp_text.specs.declared.reply.Reply.{Reply}
 use Rattle.wp_text.specs.Lines.{client_line, reply_line, entry_lines, end_line, line_end}
-use Rattle.wp_replies.specs.Explains.{Faults, Explains}
-use Rattle.wp_replies.specs.Known.{StoredState}
-use Rattle.wp_replies.specs.Replies.{Failed}
 
 -- one client's replies, below its name
 abbrev pub client_text : Part → List Reply → List ℕ
@@ -22,7 +19,3 @@ client_lines (part ∷ parts) (answers ∷ others) = client_text part answers ++
 -- the text: each client's replies, then every entry, then the end
 abbrev pub text_of : List Part → List (List Reply) → List Entry → List ℕ
 text_of script sessions history = client_lines script sessions ++ codes "history" ++ line_end ++ entry_lines 1 history ++ end_line (length history) (length (undecided history))
-
--- The text answers the script from what was found on, and shows the history that is left.
-abbrev pub IsTranscript : ℕ → Faults → List Part → (found left : StoredState) → Failed → List ℕ → Type 0
-IsTranscript limit faults script found left failed text = (sessions : List (List Reply)) × Explains limit faults script script found left failed sessions × (text ≡ text_of script sessions left.history)

@@ -1,6 +1,7 @@
 -- What a call did to each device that it was handed.
-use Rattle.std.specs.Prelude.{◌≤◌, ℕ, List, Option}
+use Rattle.std.specs.Prelude.{◌≡◌, ◌≤◌, ℕ, List, Option}
 use Rattle.wp_outside.specs.Disk.{Moment}
+use Rattle.wp_outside.specs.declared.disk.Disks.{Disks}
 use Rattle.wp_gatelog.specs.Durability.{LosesNoRecord}
 use Rattle.wp_manifest.specs.Spelling as edits
 use Rattle.wp_tableset.specs.Device.{KeepsFronts}
@@ -13,14 +14,18 @@ pub record DiskUse : Type 1 where
   pub faults_after : ℕ
   pub uncalled : Type 0
 
-abbrev pub disk_use : List Moment → List Moment → ℕ → ℕ → Type 0 → DiskUse
-disk_use before after faults_before faults_after uncalled = record { before = before; after = after; faults_before = faults_before; faults_after = faults_after; uncalled = uncalled }
+abbrev pub disk_use : {D : Type 0} → (D → List Moment) → (D → ℕ) → (old new : D) → DiskUse
+disk_use moments faults old new = record { before = moments old; after = moments new; faults_before = faults old; faults_after = faults new; uncalled = new ≡ old }
 
 -- of the three devices of a store
 pub record DisksUse : Type 1 where
   pub log : DiskUse
   pub manifest : DiskUse
   pub tables : DiskUse
+
+abbrev pub disks_use : {D : Type 0} → (D → List Moment) → (D → ℕ) → (old new : Disks D) → DisksUse
+disks_use moments faults old new =
+    record { log = disk_use moments faults old.log new.log; manifest = disk_use moments faults old.manifest new.manifest; tables = disk_use moments faults old.tables new.tables }
 
 -- What was for good on the devices is so afterwards, and no count of faults falls.
 pub record IsDurable (disks : DisksUse) : Type 0 where
@@ -41,8 +46,8 @@ pub record SinkUse : Type 0 where
   pub faults_before : ℕ
   pub faults_after : ℕ
 
-abbrev pub sink_use : Option (List ℕ) → Option (List ℕ) → ℕ → ℕ → SinkUse
-sink_use before after faults_before faults_after = record { before = before; after = after; faults_before = faults_before; faults_after = faults_after }
+abbrev pub sink_use : {K : Type 0} → (K → Option (List ℕ)) → (K → ℕ) → (old new : K) → SinkUse
+sink_use contents faults old new = record { before = contents old; after = contents new; faults_before = faults old; faults_after = faults new }
 
 pub record SourceUse : Type 1 where
   pub before : Option (List ℕ)  -- the bytes that it has left, where they are known
@@ -51,5 +56,5 @@ pub record SourceUse : Type 1 where
   pub faults_after : ℕ
   pub uncalled : Type 0
 
-abbrev pub source_use : Option (List ℕ) → Option (List ℕ) → ℕ → ℕ → Type 0 → SourceUse
-source_use before after faults_before faults_after uncalled = record { before = before; after = after; faults_before = faults_before; faults_after = faults_after; uncalled = uncalled }
+abbrev pub source_use : {S : Type 0} → (S → Option (List ℕ)) → (S → ℕ) → (old new : S) → SourceUse
+source_use left faults old new = record { before = left old; after = left new; faults_before = faults old; faults_after = faults new; uncalled = new ≡ old }

@@ -2,9 +2,9 @@
 ghost use Rattle.std.specs.Prelude.{◌≡◌, ◌≤◌, ◌<◌, ◌^◌, length};
 ghost use Rattle.wp_outside.specs.Disk.{ReadsItself};
 ghost use Rattle.wp_run.specs.Seating.{IsSeating};
-ghost use Rattle.wp_run.specs.Serving.{Serves, HasEnded};
+ghost use Rattle.wp_run.specs.Serving.{ServesExactly, HasEnded};
 ghost use Rattle.wp_run.specs.Status.{IsStatusOf, IsBeforeSink, stage_of};
-ghost use Rattle.wp_run.specs.Use.{IsDurable, disk_use, sink_use};
+ghost use Rattle.wp_run.specs.Use.{IsDurable, disks_use, sink_use};
 
 use crate::seating::Seating;
 use crate::status::Status;
@@ -34,7 +34,7 @@ fn finish<D: Drop, K: Sink>(
 ) -> Served<D>
     requires { length parts.now ≡ length run.answers.items }
     ensures disks { result.disks ≡ run.disks }
-    ensures ended { HasEnded parts.now run.answers.items run.history.entries (sink_use (K.contents sink.old) (K.contents sink.new) (K.faults sink.old) (K.faults sink.new)) result.status }
+    ensures ended { HasEnded parts.now run.answers.items run.history.entries (sink_use K.contents K.faults sink.old sink.new) result.status }
     ensures silent { IsBeforeSink (stage_of result.status) → sink.new ≡ sink.old }
     ensures sink_later { K.faults sink.old ≤ K.faults sink.new }
 {
@@ -61,7 +61,7 @@ fn status_of(why: OpenError) -> Status
 }
 
 /// For the proof alone: the tables' device as it reads is one of its images.
-fn reads_itself<D: Disk>(disks: &Disks<D>)
+fn shows_reading<D: Disk>(disks: &Disks<D>)
     ensures { ReadsItself (D.moments disks.now.tables) }
 {
     let _ = &disks.tables;
@@ -80,26 +80,18 @@ pub(crate) fn serve<R: Threads + Wait + Sync, D: Disk + Drop + Send, K: Sink, G:
 ) -> Served<D>
     requires ranges { (choice.bits ≤ 16) × (1 ≤ choice.limit) × (choice.limit < 2 ^ 32) }
     requires seating { IsSeating parts.now seating.client seating.room }
-    ensures serves { Serves (record {
+    ensures serves { ServesExactly (record {
       limit = choice.limit;
       id = choice.id;
       script = parts.now;
-      disks = record {
-        log = disk_use (D.moments disks.log) (D.moments result.disks.log) (D.faults disks.log) (D.faults result.disks.log) (result.disks.log ≡ disks.log);
-        manifest = disk_use (D.moments disks.manifest) (D.moments result.disks.manifest) (D.faults disks.manifest) (D.faults result.disks.manifest) (result.disks.manifest ≡ disks.manifest);
-        tables = disk_use (D.moments disks.tables) (D.moments result.disks.tables) (D.faults disks.tables) (D.faults result.disks.tables) (result.disks.tables ≡ disks.tables);
-      };
-      sink = sink_use (K.contents sink.old) (K.contents sink.new) (K.faults sink.old) (K.faults sink.new);
+      disks = disks_use D.moments D.faults disks result.disks;
+      sink = sink_use K.contents K.faults sink.old sink.new;
     }) result.status }
-    ensures durable { IsDurable (record {
-      log = disk_use (D.moments disks.log) (D.moments result.disks.log) (D.faults disks.log) (D.faults result.disks.log) (result.disks.log ≡ disks.log);
-      manifest = disk_use (D.moments disks.manifest) (D.moments result.disks.manifest) (D.faults disks.manifest) (D.faults result.disks.manifest) (result.disks.manifest ≡ disks.manifest);
-      tables = disk_use (D.moments disks.tables) (D.moments result.disks.tables) (D.faults disks.tables) (D.faults result.disks.tables) (result.disks.tables ≡ disks.tables);
-    }) }
+    ensures durable { IsDurable (disks_use D.moments D.faults disks result.disks) }
     ensures silent { IsBeforeSink (stage_of result.status) → sink.new ≡ sink.old }
     ensures sink_later { K.faults sink.old ≤ K.faults sink.new }
 {
-    reads_itself(&disks);
+    shows_reading(&disks);
     let Seating { client, room } = seating;
     match Shared::open(alloc, client, disks, choice.bits, choice.limit, choice.id) {
         Ok((store, first)) => {

@@ -89,7 +89,7 @@ pub(crate) fn write_text<K: Sink>(
     stopped: bool,
     halted: bool,
 ) -> Status
-    ensures written { IfOk text (λ text. IsWritten stopped halted (sink_use (K.contents sink.old) (K.contents sink.new) (K.faults sink.old) (K.faults sink.new)) text.items result) }
+    ensures written { IfOk text (λ text. IsWritten stopped halted (sink_use K.contents K.faults sink.old sink.new) text.items result) }
     ensures unwritten { OnErr text (result ≡ Status.Memory) }
     ensures silent { IsBeforeSink (stage_of result) → sink.new ≡ sink.old }
     ensures later { K.faults sink.old ≤ K.faults sink.new }

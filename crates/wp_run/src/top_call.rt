@@ -1,7 +1,9 @@
 ghost use Rattle.std.specs.Prelude.{◌≡◌, ◌≤◌, map};
 ghost use Rattle.std.specs.String.{string_bytes};
-ghost use Rattle.wp_run.specs.Run.{Call, Ends, IsChosen, IsReadAs};
-ghost use Rattle.wp_run.specs.Use.{IsDurable, disk_use, source_use, sink_use};
+ghost use Rattle.wp_run.specs.Limits.{LimitsAre};
+ghost use Rattle.wp_run.specs.Run.{call_of, Ends, IsChosen, IsReadAs};
+ghost use Rattle.wp_run.specs.Serving.{Serves, ServesExactly};
+ghost use Rattle.wp_run.specs.Use.{IsDurable, disks_use, source_use, sink_use};
 ghost use Rattle.wp_run.specs.Status.{LeavesUncalled, stage_of};
 
 use crate::seating::Seating;
@@ -23,7 +25,7 @@ pub struct Ended<D> {
 
 /// The script that the source holds.
 fn script_in<S: Source>(alloc: Global, source: &mut S) -> Result<Script, Status>
-    ensures read { IsReadAs Action.Run (source_use (S.left source.old) (S.left source.new) (S.faults source.old) (S.faults source.new) (source.new ≡ source.old)) result }
+    ensures read { IsReadAs Action.Run (source_use S.left S.faults source.old source.new) result }
     ensures later { S.faults source.old ≤ S.faults source.new }
 {
     match read_all(alloc, source, MOST_BYTES + 1) {
@@ -39,7 +41,7 @@ fn script_in<S: Source>(alloc: Global, source: &mut S) -> Result<Script, Status>
 
 /// The script that is to be run. To show a store is to run none, and the source is not called.
 fn script_of<S: Source>(alloc: Global, action: Action, source: &mut S) -> Result<Script, Status>
-    ensures read { IsReadAs action (source_use (S.left source.old) (S.left source.new) (S.faults source.old) (S.faults source.new) (source.new ≡ source.old)) result }
+    ensures read { IsReadAs action (source_use S.left S.faults source.old source.new) result }
     ensures later { S.faults source.old ≤ S.faults source.new }
 {
     match action {
@@ -60,27 +62,17 @@ pub fn run<R: Threads + Wait + Sync, D: Disk + Drop + Send, S: Source, K: Sink, 
     gate: &G,
 ) -> Ended<D>
     // How the call ended and why, what was written and what the devices store, by the status.
-    ensures ends { Ends (record {
-      words = map string_bytes words.now;
-      source = source_use (S.left source.old) (S.left source.new) (S.faults source.old) (S.faults source.new) (source.new ≡ source.old);
-      disks = record {
-        log = disk_use (D.moments disks.log) (D.moments result.disks.log) (D.faults disks.log) (D.faults result.disks.log) (result.disks.log ≡ disks.log);
-        manifest = disk_use (D.moments disks.manifest) (D.moments result.disks.manifest) (D.faults disks.manifest) (D.faults result.disks.manifest) (result.disks.manifest ≡ disks.manifest);
-        tables = disk_use (D.moments disks.tables) (D.moments result.disks.tables) (D.faults disks.tables) (D.faults result.disks.tables) (result.disks.tables ≡ disks.tables);
-      };
-      sink = sink_use (K.contents sink.old) (K.contents sink.new) (K.faults sink.old) (K.faults sink.new);
-    }) result.status }
+    ensures ends { Ends Serves (call_of (map string_bytes words.now) (source_use S.left S.faults source.old source.new) (disks_use D.moments D.faults disks result.disks) (sink_use K.contents K.faults sink.old sink.new)) result.status }
+    // The same, where each reply of a client that is alone is the one that is due.
+    ensures alone { Ends ServesExactly (call_of (map string_bytes words.now) (source_use S.left S.faults source.old source.new) (disks_use D.moments D.faults disks result.disks) (sink_use K.contents K.faults sink.old sink.new)) result.status }
     // However it ended, no crash takes what each crash would have left before: acknowledged entries and edits, and the
     // bytes of tables.
-    ensures durable { IsDurable (record {
-      log = disk_use (D.moments disks.log) (D.moments result.disks.log) (D.faults disks.log) (D.faults result.disks.log) (result.disks.log ≡ disks.log);
-      manifest = disk_use (D.moments disks.manifest) (D.moments result.disks.manifest) (D.faults disks.manifest) (D.faults result.disks.manifest) (result.disks.manifest ≡ disks.manifest);
-      tables = disk_use (D.moments disks.tables) (D.moments result.disks.tables) (D.faults disks.tables) (D.faults result.disks.tables) (result.disks.tables ≡ disks.tables);
-    }) }
+    ensures durable { IsDurable (disks_use D.moments D.faults disks result.disks) }
     ensures uncalled { LeavesUncalled (stage_of result.status) (source.new ≡ source.old) (result.disks ≡ disks) (sink.new ≡ sink.old) }
     ensures shown { IsChosen (map string_bytes words.now) Action.Show → source.new ≡ source.old }
     ensures source_later { S.faults source.old ≤ S.faults source.new }
     ensures sink_later { K.faults sink.old ≤ K.faults sink.new }
+    ensures limits { LimitsAre }
 {
     words_choose_once();
     let choice = match choice_of(alloc, words) {

@@ -1,5 +1,5 @@
 -- Where all that was published since the opening is one's own, and one has seen that, one has seen the whole history.
-use Rattle.std.proofs.Common.{◌≡◌, ◌⊎◌, ⊎_elim, inl, inr, ℕ, suc, ◌+◌, ◌<◌, ◌≤◌, ◌==◌, Bool, true, false, List, [], ◌∷◌, ◌++◌, length, refl, ap, ◌∙◌, append-nil, append_assoc, length-append, arith}
+use Rattle.std.proofs.Common.{◌≡◌, ◌⊎◌, ⊎_elim, inl, inr, ℕ, suc, ◌+◌, ◌<◌, ◌≤◌, ◌==◌, Bool, true, false, List, [], ◌∷◌, ◌++◌, length, refl, ap, ◌∙◌, append-nil, length-append, arith}
 use Rattle.std.proofs.lemmas.Bool.{eqb-true}
 use Rattle.std.proofs.lemmas.Bool.Decides.{nat_tests}
 use Rattle.wp_model.specs.declared.entry.Entry.{Entry}
@@ -53,10 +53,6 @@ in_behind x [] ys there = there
 in_behind x (y ∷ xs) ys there = inr (in_behind x xs ys there)
 
 -- ---- the history
-
--- what begins with a history begins with the first part of it
-pub starts_through : (a b c : List Entry) → StartsWith c b → StartsWith b a → StartsWith c a
-starts_through a b c later sooner = (sooner.0 ++ later.0, later.1 ∙ ap (λ (es : List Entry). es ++ later.0) sooner.1 ∙ append_assoc a sooner.0 later.0)
 
 -- a number since the opening is there once
 since : (opened history : List Entry) (n : ℕ) → length opened < n → n ≤ length history → once opened history n ≡ 1

@@ -19,9 +19,10 @@ use Rattle.wp_rule.specs.Words.{IsAt}
 use Rattle.wp_records.specs.Records.{numbers_behind}
 use Rattle.wp_shared.specs.Calls.{ContinuesWith}
 use Rattle.wp_shared.specs.Seats.{SharedState, SeatState, Stands, place_at}
+use Rattle.wp_shared.proofs.Onward.{starts_on}
 use Rattle.wp_replies.specs.Due.{Store}
 use Rattle.wp_sole_client.specs.Alone.{log_faults, tables_faults, IsOnly, IsStoreOf}
-use Rattle.wp_sole_client.proofs.Published.{starts_through, total_both, in_both, is_own, whole_seen}
+use Rattle.wp_sole_client.proofs.Published.{total_both, in_both, is_own, whole_seen}
 use Rattle.wp_sole_client.proofs.Worlds.{has_seen, only_of, seen_whole}
 
 -- ---- events
@@ -139,11 +140,11 @@ module _ {D : Type 0} (z : SharedState D) (first : InstalledEdit) (old new : Sea
   opened_is seen begins = subst (StartsWith seen) (sym stood.1.opened) begins
 
   pub begins_opened : (numbers : List ℕ) (events : List Event) → Follows old new numbers events → StartsWith new.knows.participant.seen z.opened
-  begins_opened numbers events f = starts_through z.opened old.knows.participant.seen new.knows.participant.seen f.seen is.opened
+  begins_opened numbers events f = starts_on z.opened old.knows.participant.seen new.knows.participant.seen is.opened f.seen
 
   -- the history begins with what the seat had seen before the call
   seen_before : (numbers : List ℕ) (events : List Event) → Follows old new numbers events → StartsWith w.writes.history old.knows.participant.seen
-  seen_before numbers events f = starts_through old.knows.participant.seen new.knows.participant.seen w.writes.history (has_seen w stood.1.reached new.by new.knows stood.1.there) f.seen
+  seen_before numbers events f = starts_on old.knows.participant.seen new.knows.participant.seen w.writes.history f.seen (has_seen w stood.1.reached new.by new.knows stood.1.there)
 
   -- how often the log has failed by now
   pub log_now : (numbers : List ℕ) (events : List Event) → Follows old new numbers events → log_faults new.knows.participant.past ≡ one_if store.stopped + log_faults events

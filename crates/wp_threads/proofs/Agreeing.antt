@@ -21,12 +21,12 @@ use Rattle.wp_text.specs.declared.reply.Reply.{Reply}
 use Rattle.wp_text.specs.declared.reply.Reply.TheVariants as reply
 use Rattle.wp_core.specs.Lists.{IsIn}
 use Rattle.wp_core.specs.Sound.Actors.{seen_of}
-use Rattle.wp_core.specs.Sound.Locks.{prepare_holding}
+use Rattle.wp_history.specs.Opened.{prepare_holding}
 use Rattle.wp_core.specs.Sound.Pasts.{HasDone, IsPast, Makes, IsAccounted, WasLocked, WasInstalled, past_of}
 use Rattle.wp_core.specs.Views.{Account, own, another, prepare_at, Event, claimed, took, locked, told, heard, installed, log_failed, tables_failed, stopped, found_edit, found}
 use Rattle.wp_core.specs.World.{Participant}
 use Rattle.wp_core.proofs.Tests.{some_none}
-use Rattle.wp_shared.specs.Devices.{DevicesLeft}
+use Rattle.wp_parts.specs.Devices.{DevicesLeft}
 use Rattle.wp_shared.specs.Ended.{IsEnded, of_seats}
 use Rattle.wp_shared.specs.Ending.{participant_of}
 use Rattle.wp_shared.specs.Seats.{SharedState, SeatState}

@@ -5,7 +5,7 @@ use Rattle.wp_text.specs.declared.script.Command.{Command}
 use Rattle.wp_text.specs.declared.reply.Reply.{Reply}
 use Rattle.wp_core.specs.Lists.{IsIn}
 use Rattle.wp_core.specs.Sound.Actors.{StartsWith}
-use Rattle.wp_answers.proofs.Going.{starts_through}
+use Rattle.wp_shared.proofs.Onward.{starts_on}
 use Rattle.wp_replies.specs.Asked.{FaultAsks}
 use Rattle.wp_replies.specs.Client.{Client}
 use Rattle.wp_replies.specs.Current.{RunsAlone}
@@ -24,7 +24,7 @@ runs_more old was _ _ s client c r ran replied = absurd ran
 pub runs_grow : (old : Store) (was : Client) (done : List Command) (answers : List Reply) (s : Store) (client : Client) → RunsAlone old was done answers s client → StartsWith s.history old.history
 runs_grow old was [] [] s client (same, is) = ([], ap (λ (x : Store). x.history) same ∙ sym (append-nil old.history))
 runs_grow old was (d ∷ done) (a ∷ answers) s client (first, rest) =
-    starts_through old.history (store_after old was d a).history s.history (runs_grow (store_after old was d a) (client_after old.history was d a) done answers s client rest) (logged_entries old was d a, refl)
+    starts_on old.history (store_after old was d a).history s.history (logged_entries old was d a, refl) (runs_grow (store_after old was d a) (client_after old.history was d a) done answers s client rest)
 runs_grow old was _ _ s client ran = absurd ran
 
 module _ (is_failed : Reply → Bool) (Asks : Store → Client → Command → Type 0) where

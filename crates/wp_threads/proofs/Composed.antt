@@ -13,11 +13,12 @@ use Rattle.wp_core.specs.Lists.{IsIn, one_if}
 use Rattle.wp_core.specs.Sound.Pasts.{is_log_fault, is_tables_fault, past_of}
 use Rattle.wp_core.specs.Views.{Event, stopped, found_edit}
 use Rattle.wp_core.specs.World.{Participant}
-use Rattle.wp_shared.specs.Devices.{DevicesLeft}
+use Rattle.wp_parts.specs.Devices.{DevicesLeft}
 use Rattle.wp_shared.specs.Ended.{IsEnded}
 use Rattle.wp_shared.specs.Ending.{AreAll, participant_of}
 use Rattle.wp_shared.specs.Seats.{SharedState, SeatState}
-use Rattle.wp_replies.specs.Explains.{dialogue, dialogues, all_replies, AreFirstParts, AreSessions, IsExact, Explains}
+use Rattle.wp_replies.specs.Exact.{IsExact}
+use Rattle.wp_replies.specs.Explains.{dialogue, dialogues, all_replies, AreFirstParts, AreSessions, Explains}
 use Rattle.wp_replies.specs.Kind.{is_fault, is_stopped, is_halted}
 use Rattle.wp_replies.specs.Kind as kinds
 use Rattle.wp_replies.specs.Known.{StoredState, Dialogue, answers_in}
@@ -124,7 +125,6 @@ module _ {D : Type 0} {z : SharedState D} {seats : List SeatState} {history : Li
         let k = remembers z (found_in ended) is_halted parts answered seats over said in let n = halted_there k.past k.answer k.is k.remembered in
         one_at_least ended.edits.halted (ended.faults.found_halted n.0 n.1 n.2 (0, k.place, (k.past, (map past_of (map participant_of seats), refl, k.there), n.3)));
     edit = let first = first_past seats all in last_edit ended parts answered over first.0 first.1;
-    exact = exact_of parts answered seats ended over all;
   }
 
   -- the sessions of a script, all of whose seats were handed in
@@ -136,4 +136,5 @@ module _ {D : Type 0} {z : SharedState D} {seats : List SeatState} {history : Li
     first = are_first z (found_in ended) parts answered seats over;
     whole = all_ran z (found_in ended) parts answered seats over;
     explained = explains all;
+    exact = exact_of parts answered seats ended over all;
   }

@@ -14,15 +14,15 @@ use Rattle.wp_core.specs.Sound.Actors.{StartsWith, times}
 use Rattle.wp_core.specs.Sound.Pasts.{HasDone, IsPast, OtherInstalls, is_log_fault, is_tables_fault, past_of}
 use Rattle.wp_core.specs.Views.{Event, log_failed, tables_failed}
 use Rattle.wp_core.proofs.KeepsSeen.{shorter}
-use Rattle.wp_shared.specs.Devices.{DevicesLeft}
+use Rattle.wp_parts.specs.Devices.{DevicesLeft}
 use Rattle.wp_shared.specs.Ended.{IsEnded, of_seats}
 use Rattle.wp_shared.specs.Ending.{AreAll}
 use Rattle.wp_shared.specs.Seats.{SharedState, SeatState}
-use Rattle.wp_answers.proofs.Going.{starts_through}
+use Rattle.wp_shared.proofs.Onward.{starts_on}
 use Rattle.wp_replies.specs.Asked.{AsksLog, AsksEdit, FaultAsks}
 use Rattle.wp_replies.specs.Client.{new_client}
 use Rattle.wp_replies.specs.Current.{opened_store}
-use Rattle.wp_replies.specs.Explains.{IsExact}
+use Rattle.wp_replies.specs.Exact.{IsExact}
 use Rattle.wp_replies.specs.Kind.{is_fault}
 use Rattle.wp_replies.specs.Kind as kinds
 use Rattle.wp_sole_client.specs.Alone.{IsOnly}
@@ -59,7 +59,7 @@ module _ {D : Type 0} {z : SharedState D} {s : SeatState} {history : List Entry}
   alone = over.alone only
 
   grown : StartsWith history alone.store.history
-  grown = starts_through alone.store.history s.knows.participant.seen history (ended.seen 0 0 s.knows.participant.seen (s.knows.participant.seen ∷ [], refl, refl)) alone.history
+  grown = starts_on alone.store.history s.knows.participant.seen history alone.history (ended.seen 0 0 s.knows.participant.seen (s.knows.participant.seen ∷ [], refl, refl))
 
   from_opened : length z.opened ≤ length alone.store.history
   from_opened = shorter alone.store.history z.opened (runs_grow (opened_store z.limit (found_in ended)) new_client over.done answered.replies alone.store alone.client alone.ran)

@@ -11,7 +11,7 @@ use Rattle.wp_text.specs.declared.reply.Reply.TheVariants as reply
 use Rattle.wp_core.specs.Lists.{IsIn}
 use Rattle.wp_core.specs.Sound.Pasts.{HasDone, WasInstalled, last_installed, past_of}
 use Rattle.wp_core.specs.Views.{Event, installed}
-use Rattle.wp_shared.specs.Devices.{DevicesLeft}
+use Rattle.wp_parts.specs.Devices.{DevicesLeft}
 use Rattle.wp_shared.specs.Ended.{IsEnded, of_seats}
 use Rattle.wp_shared.specs.Ending.{participant_of}
 use Rattle.wp_shared.specs.Seats.{SharedState, SeatState}

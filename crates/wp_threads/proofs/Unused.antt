@@ -9,7 +9,7 @@ use Rattle.wp_core.specs.Lists.{IsIn, one_if}
 use Rattle.wp_core.specs.Sound.Actors.{once}
 use Rattle.wp_core.specs.Sound.Pasts.{HasDone}
 use Rattle.wp_core.specs.Views.{Event}
-use Rattle.wp_shared.specs.Devices.{DevicesLeft}
+use Rattle.wp_parts.specs.Devices.{DevicesLeft}
 use Rattle.wp_shared.specs.Ended.{IsEnded}
 use Rattle.wp_shared.specs.Seats.{SharedState, SeatState}
 use Rattle.wp_replies.specs.Explains.{Explains}
@@ -60,11 +60,10 @@ module _ {D : Type 0} {z : SharedState D} (client : List ℕ) {history : List En
       greatest = λ n said. absurd cc;
       unchanged = λ none. same_edit;
     };
-    exact = tt;
   }
 
   none_ran : HaveRun z [] [] history left
-  none_ran = record { seats = first_seat z client ∷ []; ended = ended; run = []; first = tt; whole = tt; explained = explains_none }
+  none_ran = record { seats = first_seat z client ∷ []; ended = ended; run = []; first = tt; whole = tt; explained = explains_none; exact = tt }
 
 -- so nothing of a script without parts ran, and that is all of it
 pub unused_run : {D : Type 0} (z : SharedState D) (client : List ℕ) (seats : List SeatState) (history : List Entry) (left : DevicesLeft) → seats ≡ first_seat z client ∷ [] → IsEnded z seats history left → HaveRun z [] [] history left

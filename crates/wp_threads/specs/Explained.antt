@@ -3,9 +3,10 @@ use Rattle.std.specs.Prelude.{◌≡◌, true, List, [], ◌∷◌}
 use Rattle.wp_model.specs.declared.entry.Entry.{Entry}
 use Rattle.wp_text.specs.declared.script.Part.{Part}
 use Rattle.wp_core.specs.Lists.{one_if}
-use Rattle.wp_shared.specs.Devices.{DevicesLeft}
+use Rattle.wp_parts.specs.Devices.{DevicesLeft}
 use Rattle.wp_shared.specs.Ended.{IsEnded}
 use Rattle.wp_shared.specs.Seats.{SharedState, SeatState}
+use Rattle.wp_replies.specs.Exact.{IsExact}
 use Rattle.wp_replies.specs.Explains.{Faults, AreFirstParts, Explains}
 use Rattle.wp_replies.specs.Known.{StoredState}
 use Rattle.wp_replies.specs.Replies.{Failed}
@@ -33,7 +34,7 @@ AreWholeParts (part ∷ parts) (first ∷ firsts) (a ∷ answered) = (a.whole �
 AreWholeParts parts firsts answered = ⊥
 
 -- The store ended, with all its seats handed in. The clients were answered so, each to the first of its commands, which are all
--- where its answers are whole; and the history and the devices that are left explain the replies.
+-- where its answers are whole; and the history and the devices that are left explain the replies. With one client they are just what is due.
 pub record HaveRun {D : Type 0} (z : SharedState D) (script : List Part) (answered : List Answered) (history : List Entry) (left : DevicesLeft) : Type 0 where
   pub seats : List SeatState
   pub ended : IsEnded z seats history left
@@ -41,3 +42,4 @@ pub record HaveRun {D : Type 0} (z : SharedState D) (script : List Part) (answer
   pub first : AreFirstParts script run
   pub whole : AreWholeParts script run answered
   pub explained : Explains z.limit (faults_in ended) script run (found_in ended) (left_in ended) (failed_in ended) (replies_of answered)
+  pub exact : IsExact z.limit (found_in ended) (left_in ended) (failed_in ended) run (replies_of answered)

@@ -1,6 +1,6 @@
 //! The end of all sessions: their seats are handed in, and the store is ended.
 ghost use Rattle.std.specs.Prelude.{◌≡◌, ◌≤◌, ◌<◌, ℕ, List, [], map, vec_len, vec_capacity};
-ghost use Rattle.wp_shared.specs.Devices.{devices_of};
+ghost use Rattle.wp_parts.specs.Devices.{devices_of};
 ghost use Rattle.wp_shared.specs.Ending.{AreAll};
 ghost use Rattle.wp_threads.specs.New.{AreNew, clients_of, first_seat};
 ghost use Rattle.wp_threads.specs.Lists.{seat_of, answers_of};

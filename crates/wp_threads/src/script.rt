@@ -1,6 +1,6 @@
 //! A script's sessions at an opened store.
 ghost use Rattle.std.specs.Prelude.{◌≡◌, ◌+◌, ◌<◌, [], ◌∷◌, map, vec_len, vec_capacity};
-ghost use Rattle.wp_shared.specs.Devices.{devices_of};
+ghost use Rattle.wp_parts.specs.Devices.{devices_of};
 ghost use Rattle.wp_shared.specs.Ending.{AreAll};
 ghost use Rattle.wp_threads.specs.New.{AreNew, having_made, first_seat, IsFirst, others_of};
 ghost use Rattle.wp_threads.specs.Lists.{seat_of};

@@ -17,7 +17,7 @@ pub returns-in-Ok-clause-answered : goal.returns-in-Ok-clause-answered
 returns-in-Ok-clause-answered g c =
     let z = c.args.store.now in let s = c.args.seat.now in let t = c.put.new.seat in let was = c.args.txn.now in let left = c.put.new.txn in
     answers_from z s t (held.Open was) (held.Open left) (command.Put c.args.key.now c.args.value.now) reply.Held
-    (λ snapshots. held_answers z s t was left (change.Put c.args.key.now c.args.value.now) snapshots c.is_whole.ensures _ (c.in-Ok.ensures {u = tt}))
+    (λ snapshots. held_answers z s t was left (change.Put c.args.key.now c.args.value.now) snapshots c.shows_batch.ensures _ (c.in-Ok.ensures {u = tt}))
 
 pub returns-in-Err-clause-holds : goal.returns-in-Err-clause-holds
 returns-in-Err-clause-holds g c = not_held_holds c.args.store.now c.args.seat.now c.put.new.seat c.args.txn.now c.put.new.txn (change.Put c.args.key.now c.args.value.now) c.requires c.in-Err.why (c.in-Err.ensures {u = tt})
@@ -26,15 +26,15 @@ pub returns-in-Err-clause-answered : goal.returns-in-Err-clause-answered
 returns-in-Err-clause-answered g c =
     let z = c.args.store.now in let s = c.args.seat.now in let t = c.put.new.seat in let was = c.args.txn.now in let left = c.put.new.txn in let why = c.in-Err.why in
     IfOk-weaker c.refusal.result (λ r. refusal why ≡ Some r) (AnswersFrom z s t (held.Open was) (held.Open left) (command.Put c.args.key.now c.args.value.now))
-    (λ r is. answers_from z s t (held.Open was) (held.Open left) (command.Put c.args.key.now c.args.value.now) r (λ snapshots. not_held_answers z s t was left (change.Put c.args.key.now c.args.value.now) snapshots c.is_whole.ensures c.requires why r is (c.in-Err.ensures {u = tt})))
+    (λ r is. answers_from z s t (held.Open was) (held.Open left) (command.Put c.args.key.now c.args.value.now) r (λ snapshots. not_held_answers z s t was left (change.Put c.args.key.now c.args.value.now) snapshots c.shows_batch.ensures c.requires why r is (c.in-Err.ensures {u = tt})))
     c.refusal.ensures.answered
 
 pub returns-in-Err-clause-err : goal.returns-in-Err-clause-err
 returns-in-Err-clause-err g c =
     let z = c.args.store.now in let s = c.args.seat.now in let t = c.put.new.seat in let was = c.args.txn.now in let left = c.put.new.txn in let why = c.in-Err.why in
-    on_err_weaker c.refusal.result (λ none. breaks_from s t (held.Open was) (held.Open left) (command.Put c.args.key.now c.args.value.now) (ap held.Open (not_held_same z s t was left (change.Put c.args.key.now c.args.value.now) [] c.is_whole.ensures why none (c.in-Err.ensures {u = tt}))) (λ snapshots. not_held_breaks z s t was left (change.Put c.args.key.now c.args.value.now) snapshots c.is_whole.ensures why none (c.in-Err.ensures {u = tt}))) c.refusal.ensures.err
+    on_err_weaker c.refusal.result (λ none. breaks_from s t (held.Open was) (held.Open left) (command.Put c.args.key.now c.args.value.now) (ap held.Open (not_held_same z s t was left (change.Put c.args.key.now c.args.value.now) [] c.shows_batch.ensures why none (c.in-Err.ensures {u = tt}))) (λ snapshots. not_held_breaks z s t was left (change.Put c.args.key.now c.args.value.now) snapshots c.shows_batch.ensures why none (c.in-Err.ensures {u = tt}))) c.refusal.ensures.err
 
 pub refusal-requires : goal.refusal-requires
 refusal-requires g c =
     let z = c.args.store.now in let s = c.args.seat.now in let t = c.put.new.seat in let was = c.args.txn.now in let left = c.put.new.txn in
-    not_held_named z s t was left (change.Put c.args.key.now c.args.value.now) [] c.is_whole.ensures c.in-Err.why (c.in-Err.ensures {u = tt})
+    not_held_named z s t was left (change.Put c.args.key.now c.args.value.now) [] c.shows_batch.ensures c.in-Err.why (c.in-Err.ensures {u = tt})

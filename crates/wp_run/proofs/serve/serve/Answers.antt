@@ -1,6 +1,6 @@
 use Rattle.std.proofs.Common.{sym, subst, ap}
 use Rattle.wp_outside.specs.declared.disk.Disks.{Disks}
-use Rattle.wp_shared.specs.Devices.{devices_of}
+use Rattle.wp_parts.specs.Devices.{devices_of}
 use Rattle.wp_threads.specs.Explained.{HaveRun}
 use Rattle.wp_run.proofs.Opened.{refused_fronts}
 use Rattle.wp_run.proofs.Stored.{is_durable}
@@ -24,7 +24,7 @@ pub returns-in-Ok-clause-durable : goal.returns-in-Ok-clause-durable
 returns-in-Ok-clause-durable g c =
     let left = c.run_script-run.result in
     let ran = subst (λ (ds : Disks g.row.D.Denot). HaveRun c.in-Ok.store c.args.parts.now left.answers.items left.history.entries (devices_of g.D.Disk.moments g.D.Disk.faults ds)) (sym c.finish.ensures.disks) c.run_script-run.ensures in
-    is_durable c.args.choice.id _ c.in-Ok.ensures.opened ran.ended c.reads_itself.ensures
+    is_durable c.args.choice.id _ c.in-Ok.ensures.opened ran.ended c.shows_reading.ensures
 
 pub returns-in-Err-clause-serves : goal.returns-in-Err-clause-serves
 returns-in-Err-clause-serves g c =
@@ -38,7 +38,7 @@ returns-in-Err-clause-durable g c =
     record {
       log = refused.log_durable;
       manifest = refused.manifest_durable;
-      tables = refused_fronts _ _ _ _ _ _ _ _ c.in-Err.field-0.why (λ e. ap (λ disk. g.D.Disk.moments disk) e) c.reads_itself.ensures refused.left;
+      tables = refused_fronts _ _ _ _ _ _ _ _ c.in-Err.field-0.why (λ e. ap (λ disk. g.D.Disk.moments disk) e) c.shows_reading.ensures refused.left;
       log_later = refused.log_later;
       manifest_later = refused.manifest_later;
       tables_later = refused.tables_later;
