@@ -7,16 +7,21 @@ use Rattle.std.proofs.lemmas.Bool.{cases_lt, cond-true, lt-ltb, or_left, or_righ
 use Rattle.std.proofs.lemmas.List.{append-nil, length-take-le}
 use Rattle.std.proofs.lemmas.List.Quantifiers.{position-Some}
 use Rattle.std.proofs.lemmas.Option.{slice_get-get_or}
-use Rattle.wp_model.specs.declared.change.Change.{Change}
 use Rattle.wp_model.specs.declared.entry.Entry.{Entry}
 use Rattle.wp_model.specs.declared.entry.Entry.TheVariants.{Write, Prepare, Commit, Undo, Close}
-use Rattle.wp_model.specs.Batch.{change_to}
 use Rattle.wp_model.specs.History.{entry_at, decides}
 use Rattle.wp_model.specs.Legal.{IsLegal, IsLegalNext}
-use Rattle.wp_model.specs.Decision.{version_in, entry_version, decision_in, IsCommittedAt}
-use Rattle.wp_history.specs.Committed.{counts, committed_version}
+use Rattle.wp_model.specs.Decision.{version_in, entry_version, decision_in, decision_of, IsCommittedAt}
 use Rattle.wp_history.proofs.Growth.{decides_undecided}
 use Rattle.wp_model.proofs.Entries.{entry_at_old, entry_at_past, undecided_within}
+
+-- the entry with that number is committed, by the history
+abbrev pub counts : List Entry → ℕ → Bool
+counts history p = is_some (decision_of history p)
+
+-- the version of the key of the entry with that number, where it is committed
+abbrev pub committed_version : List Entry → ℕ → List ℕ → Option (Option (List ℕ))
+committed_version history p key = cond (counts history p) (entry_version history p key) None
 
 -- ---- the first place where a test passes
 
@@ -57,10 +62,6 @@ decided_any history p = by (list_any (decides p) history) refl
     by : (b : Bool) → list_any (decides p) history ≡ b → is_some (option_map suc (position (decides p) history)) ≡ b
     by true some = ap (λ (o : Option ℕ). is_some (option_map suc o)) (ap (position (decides p)) (sym (append-nil history)) ∙ position_before (decides p) history [] some)
     by false none = at (position (decides p) history) refl none
-
-pub prepared_version : (history : List Entry) (p : ℕ) (key name : List ℕ) (batch : List Change) → entry_at history p ≡ Some (Prepare name batch) → committed_version history p key ≡ cond (list_any (decides p) history) (change_to batch key) None
-prepared_version history p key name batch at =
-    ap (λ (e : Option Entry). cond (is_some (decision_in history p e)) (version_in e key) None) at ∙ ap (λ (b : Bool). cond b (change_to batch key) None) (decided_any history p)
 
 -- ---- by the first entries alone
 

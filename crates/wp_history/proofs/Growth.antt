@@ -11,7 +11,7 @@ use Rattle.wp_model.specs.declared.entry.Entry.{Entry}
 use Rattle.wp_model.specs.declared.entry.Entry.TheVariants.{Write, Prepare, Commit, Undo, Close}
 use Rattle.wp_model.specs.History.{entry_at, is_prepare, decides, is_undecided}
 use Rattle.wp_model.specs.Legal.{IsLegal, IsLegalNext, NamesUndecided}
-use Rattle.wp_model.proofs.Entries.{entry_at_old, entry_at_past, prepared_within, undecided_prepared, slice_get_old, slice_get_next}
+use Rattle.wp_model.proofs.Entries.{entry_at_old, prepared_within, undecided_prepared, slice_get_old, slice_get_next}
 
 -- ---- what is at a number
 

@@ -1,5 +1,5 @@
 -- The newest committed version of a key is the store's value.
-use Rattle.std.proofs.Common.{◌≡◌, ℕ, zero, suc, ◌+◌, ◌<◌, ◌≤◌, Bool, true, false, ◌||◌, cond, List, [], ◌∷◌, ◌++◌, length, take, drop, Option, Some, None, refl, sym, ap, ◌∙◌, subst, inl, inr, arith}
+use Rattle.std.proofs.Common.{◌≡◌, ℕ, zero, suc, ◌+◌, ◌<◌, ◌≤◌, Bool, true, false, ◌||◌, cond, List, [], ◌∷◌, ◌++◌, length, take, drop, Option, Some, None, ◌⊎◌, refl, sym, ap, ◌∙◌, subst, inl, inr, arith}
 use Rattle.std.specs.Prelude.{option_map, unwrap_or, is_some}
 use Rattle.std.specs.List.{list_any}
 use Rattle.std.proofs.Math.Seq.{take-append_seam}
@@ -11,13 +11,12 @@ use Rattle.wp_model.specs.declared.entry.Entry.TheVariants.{Write, Prepare, Comm
 use Rattle.wp_model.specs.Batch.{change_to}
 use Rattle.wp_model.specs.History.{entry_at, is_prepare, batch_at, decides, is_undecided, newest, value_at}
 use Rattle.wp_model.specs.Legal.{changes_in, IsLegal, IsLegalNext, undone_last, prior}
-use Rattle.wp_model.specs.Decision.{version_in, entry_version, decision_in, IsNewestCommitted, HasNoneCommitted}
-use Rattle.wp_history.specs.Committed.{counts, committed_version}
+use Rattle.wp_model.specs.Decision.{version_in, entry_version, decision_in, IsCommittedAt, IsNewestCommitted, HasNoneCommitted}
 use Rattle.wp_history.proofs.Growth.{entry_at_next, length_next, by_growth, legal_before, after_front, decided_next}
 use Rattle.wp_model.proofs.Entries.{entry_at_old, entry_at_past, undecided_prepared, undecided_within, last_undo, batch_at_old}
 use Rattle.wp_history.proofs.Undecided.{never_decided}
 use Rattle.wp_history.proofs.Newest.{newest_next}
-use Rattle.wp_history.proofs.Counting.{decided_any, counts_within, counts_from, committed_from, entry_version_old}
+use Rattle.wp_history.proofs.Counting.{counts, committed_version, decided_any, counts_within, counts_from, committed_from, entry_version_old}
 use Rattle.wp_history.proofs.Held.{prior_to}
 use Rattle.wp_history.proofs.Above.{Holds, NoneAbove, legal_none_above, none_above, undecided_version, is_changed_from}
 
@@ -238,70 +237,89 @@ lawful_none key = record {
 legal_lawful : (history : List Entry) → IsLegal history → (key : List ℕ) → IsLawful history key
 legal_lawful history legal key = by_growth (λ h. IsLawful h key) (lawful_none key) (λ h entry _ before after lawful. lawful_next h entry key before after lawful) history legal
 
--- ---- by the first entries, searched backwards
+-- ---- by what is committed at a number
 
 -- no entry above p has a version of the key that counts
-pub record NoneCountsAbove (front : List Entry) (key : List ℕ) (p : ℕ) : Type 0 where
-  pub above : (q : ℕ) → p < q → committed_version front q key ≡ None
+record NoneCountsAbove (front : List Entry) (key : List ℕ) (p : ℕ) : Type 0 where
+  above : (q : ℕ) → p < q → committed_version front q key ≡ None
 
--- the version of the key at p is the newest one that is committed at n, and it is the store's value there
-pub record IsNewest (history : List Entry) (key : List ℕ) (n p : ℕ) (value : Option (List ℕ)) : Type 0 where
-  pub newest : IsNewestCommitted history key n p
-  pub there : entry_version history p key ≡ Some value
-  pub stored : value_at history key n ≡ value
+-- at the number that the first entries reach
+module _ (front more : List Entry) (key : List ℕ) (legal : IsLegal (front ++ more)) where
+  lawful : IsLawful front key
+  lawful = legal_lawful front (legal_before front more legal) key
 
-version_counted : (front : List Entry) (p : ℕ) (key : List ℕ) (value : Option (List ℕ)) → committed_version front p key ≡ Some value → (counts front p ≡ true) × (entry_version front p key ≡ Some value)
-version_counted front p key value e =
-    elim (counts front p) as (λ b. cond b (entry_version front p key) None ≡ Some value → (b ≡ true) × (entry_version front p key ≡ Some value)) [
-      | true ↦ λ here. (refl, here)
-      | false ↦ λ here. absurd cc
-    ] e
+  stored_in : value_at (front ++ more) key (length front) ≡ newest front key
+  stored_in = ap (λ (h : List Entry). newest h key) (take-append_seam front more)
 
-newest_of : (front more : List Entry) (key : List ℕ) (p : ℕ) (value : Option (List ℕ)) → IsLegal (front ++ more) → committed_version front p key ≡ Some value → NoneCountsAbove front key p → IsNewest (front ++ more) key (length front) p value
-newest_of front more key p value legal here none =
-    let counted = version_counted front p key value here in
-    let there : entry_version (front ++ more) p key ≡ Some value = entry_version_old front more p key (counts_within front p counted.0) ∙ counted.1 in
-    record {
-      newest = record {
-        value = value;
-        there = there;
-        committed = committed_from front more p counted.0;
-        newest = λ q lt committed.
-            let counts_q = counts_from front more q legal committed in
-            entry_version_old front more q key (counts_within front q counts_q) ∙ sym (ap (λ (b : Bool). cond b (entry_version front q key) None) counts_q) ∙ none.above q lt;
-      };
-      there = there;
-      stored = ap (λ (h : List Entry). newest h key) (take-append_seam front more) ∙ sym ((legal_lawful front (legal_before front more legal) key).newest_counts p value here none.above);
-    }
+  version_by : (p : ℕ) → IsCommittedAt (front ++ more) p (length front) → committed_version front p key ≡ entry_version (front ++ more) p key
+  version_by p committed =
+      let counted = counts_from front more p legal committed in
+      ap (λ (b : Bool). cond b (entry_version front p key) None) counted ∙ sym (entry_version_old front more p key (counts_within front p counted))
 
-pub newest_found : (history : List Entry) (key : List ℕ) (n p : ℕ) (value : Option (List ℕ)) → IsLegal history → n ≤ length history → Some value ≡ committed_version (take n history) p key → NoneCountsAbove (take n history) key p → IsNewest history key n p value
-newest_found history key n p value legal le here none =
+  -- a version that counts is committed
+  committed_by : (p : ℕ) (value : Option (List ℕ)) → committed_version front p key ≡ Some value → IsCommittedAt (front ++ more) p (length front)
+  committed_by p value here = committed_from front more p (elim (cases_Bool (counts front p)) [
+    | inl counted ↦ counted
+    | inr uncounted ↦ let nothing : committed_version front p key ≡ None = ap (λ (b : Bool). cond b (entry_version front p key) None) uncounted in absurd cc
+  ])
+
+  none_by : (p : ℕ) → (IsCommittedAt (front ++ more) p (length front) → entry_version (front ++ more) p key ≡ None) → committed_version front p key ≡ None
+  none_by p none = by (committed_version front p key) refl
+    where
+      by : (o : Option (Option (List ℕ))) → committed_version front p key ≡ o → committed_version front p key ≡ None
+      by None is = is
+      by (Some value) is = let committed = committed_by p value is in version_by p committed ∙ none committed
+
+  newest_stored : (p : ℕ) (v : IsNewestCommitted (front ++ more) key (length front) p) → value_at (front ++ more) key (length front) ≡ v.value
+  newest_stored p v = stored_in ∙ sym (lawful.newest_counts p v.value (version_by p v.committed ∙ v.there) (λ q lt. none_by q (v.newest q lt)))
+
+  none_stored : HasNoneCommitted (front ++ more) key (length front) → value_at (front ++ more) key (length front) ≡ None
+  none_stored none = stored_in ∙ lawful.none_counts (λ p. none_by p (none p))
+
+  -- searched backwards
+  sought : (p : ℕ) → NoneCountsAbove front key p → HasNoneCommitted (front ++ more) key (length front) ⊎ ((q : ℕ) × IsNewestCommitted (front ++ more) key (length front) q)
+  sought zero none = inl (λ p committed. sym (version_by p committed) ∙ elim (cases_eq p 0) [
+    | inl start ↦ rw start (no_version_counts front 0 key refl)
+    | inr other ↦ none.above p (omega arith)
+  ])
+  sought (suc n) none = by (sought n) (committed_version front (suc n) key) refl
+    where
+      by : (NoneCountsAbove front key n → HasNoneCommitted (front ++ more) key (length front) ⊎ ((q : ℕ) × IsNewestCommitted (front ++ more) key (length front) q))
+          → (o : Option (Option (List ℕ))) → committed_version front (suc n) key ≡ o → HasNoneCommitted (front ++ more) key (length front) ⊎ ((q : ℕ) × IsNewestCommitted (front ++ more) key (length front) q)
+      by below None is = below (record {
+        above = λ q lt. elim (cases_eq q (suc n)) [
+          | inl here ↦ rw here is
+          | inr other ↦ none.above q (omega arith)
+        ];
+      })
+      by below (Some value) is = let committed = committed_by (suc n) value is in inr (
+        suc n,
+        record {
+          value = value;
+          there = sym (version_by (suc n) committed) ∙ is;
+          committed = committed;
+          newest = λ q lt at. sym (version_by q at) ∙ none.above q lt;
+        },
+      )
+
+  newest_or_none : HasNoneCommitted (front ++ more) key (length front) ⊎ ((q : ℕ) × IsNewestCommitted (front ++ more) key (length front) q)
+  newest_or_none = sought (length front) (record { above = λ q lt. none_counts_past front q key lt })
+
+-- the first n entries reach n
+at_front : (P : List Entry → ℕ → Type 0) (history : List Entry) (n : ℕ) → IsLegal history → n ≤ length history → ((front more : List Entry) → IsLegal (front ++ more) → P (front ++ more) (length front)) → P history n
+at_front P history n legal le holds =
     let whole = take-append-drop n history in
-    let P : List Entry → ℕ → Type 0 = λ h m. IsNewest h key m p value in
-    let found = newest_of (take n history) (drop n history) key p value (subst IsLegal (sym whole) legal) (sym here) none in
-    subst (λ (m : ℕ). P history m) (length-take-le n history le) (subst (λ (h : List Entry). P h (length (take n history))) whole found)
+    subst (λ (m : ℕ). P history m) (length-take-le n history le)
+    (subst (λ (h : List Entry). P h (length (take n history))) whole (holds (take n history) (drop n history) (subst IsLegal (sym whole) legal)))
 
--- the key has no version that is committed at n, and the store has nothing under it there
-pub record IsNoneNewest (history : List Entry) (key : List ℕ) (n : ℕ) : Type 0 where
-  pub none : HasNoneCommitted history key n
-  pub missing : value_at history key n ≡ None
+pub newest_is_value : (history : List Entry) (key : List ℕ) (n p : ℕ) → IsLegal history → n ≤ length history → (v : IsNewestCommitted history key n p) → value_at history key n ≡ v.value
+newest_is_value history key n p legal le =
+    at_front (λ h m. (v : IsNewestCommitted h key m p) → value_at h key m ≡ v.value) history n legal le (λ front more whole. newest_stored front more key whole p)
 
-none_newest_of : (front more : List Entry) (key : List ℕ) → IsLegal (front ++ more) → NoneCountsAbove front key 0 → IsNoneNewest (front ++ more) key (length front)
-none_newest_of front more key legal none =
-    let nowhere : (p : ℕ) → committed_version front p key ≡ None = λ p. elim (cases_eq p 0) [
-      | inl start ↦ rw start (no_version_counts front 0 key refl)
-      | inr other ↦ none.above p (omega arith)
-    ] in
-    record {
-      none = λ p committed.
-          let counts_p = counts_from front more p legal committed in
-          entry_version_old front more p key (counts_within front p counts_p) ∙ sym (ap (λ (b : Bool). cond b (entry_version front p key) None) counts_p) ∙ nowhere p;
-      missing = ap (λ (h : List Entry). newest h key) (take-append_seam front more) ∙ (legal_lawful front (legal_before front more legal) key).none_counts nowhere;
-    }
+pub none_is_no_value : (history : List Entry) (key : List ℕ) (n : ℕ) → IsLegal history → n ≤ length history → HasNoneCommitted history key n → value_at history key n ≡ None
+none_is_no_value history key n legal le =
+    at_front (λ h m. HasNoneCommitted h key m → value_at h key m ≡ None) history n legal le (λ front more whole. none_stored front more key whole)
 
-pub none_found : (history : List Entry) (key : List ℕ) (n p : ℕ) → IsLegal history → n ≤ length history → p ≡ 0 → NoneCountsAbove (take n history) key p → IsNoneNewest history key n
-none_found history key n p legal le start none =
-    let whole = take-append-drop n history in
-    let above : NoneCountsAbove (take n history) key 0 = subst (NoneCountsAbove (take n history) key) start none in
-    let found = none_newest_of (take n history) (drop n history) key (subst IsLegal (sym whole) legal) above in
-    subst (λ (m : ℕ). IsNoneNewest history key m) (length-take-le n history le) (subst (λ (h : List Entry). IsNoneNewest h key (length (take n history))) whole found)
+pub one_or_none : (history : List Entry) (key : List ℕ) (n : ℕ) → IsLegal history → n ≤ length history → HasNoneCommitted history key n ⊎ ((p : ℕ) × IsNewestCommitted history key n p)
+one_or_none history key n legal le =
+    at_front (λ h m. HasNoneCommitted h key m ⊎ ((p : ℕ) × IsNewestCommitted h key m p)) history n legal le (λ front more whole. newest_or_none front more key whole)

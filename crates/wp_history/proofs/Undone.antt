@@ -4,7 +4,7 @@ use Rattle.std.specs.Prelude.{slice_get}
 use Rattle.std.proofs.lemmas.Option.{slice_get-get_or}
 use Rattle.wp_model.specs.declared.entry.Entry.{Entry}
 use Rattle.wp_model.specs.Legal.{undone_last}
-use Rattle.wp_model.proofs.Entries.{LastUndo, last_undo, undone_after}
+use Rattle.wp_model.proofs.Entries.{undone_after}
 use Rattle.wp_history.specs.Growth.{undone_by}
 
 pub undone_next : (history : List Entry) (entry : Entry) → undone_last (history ++ entry ∷ []) ≡ undone_by entry

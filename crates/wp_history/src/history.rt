@@ -30,14 +30,6 @@ impl Model for History {
         × (vec_len h.entries + h.room ≤ vec_capacity h.entries) × (vec_len h.undecided + h.room ≤ vec_capacity h.undecided) };
 }
 
-/// The entry with that number, if there is one.
-pub(crate) fn entry_at(entries: &[Entry], n: Seq) -> Option<&Entry>
-    ensures { option_copied result ≡ entry_at entries.now n }
-{
-    let before = n.checked_sub(1)?;
-    entries.get(usize::try_from(before).ok()?)
-}
-
 fn take_out(numbers: &mut Vec<Seq>, p: Seq)
     ensures numbers { numbers.new.items ≡ without_decided numbers.old.items p }
     ensures len { vec_len numbers.new ≤ vec_len numbers.old }
@@ -100,7 +92,8 @@ impl History {
     pub fn entry_at(&self, n: Seq) -> Option<&Entry>
         ensures { option_copied result ≡ entry_at self.now.entries n }
     {
-        entry_at(&self.entries, n)
+        let before = n.checked_sub(1)?;
+        self.entries.get(usize::try_from(before).ok()?)
     }
 
     /// Takes the memory for `n` pushes.

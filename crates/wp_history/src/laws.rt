@@ -1,8 +1,9 @@
-//! How legal histories grow, over plain lists.
-ghost use Rattle.std.specs.Prelude.{◌≡◌, ℕ, ◌+◌, ◌^◌, ◌<◌, ◌≤◌, true, List, [], ◌∷◌, ◌++◌, length};
+//! How legal histories grow, and what the store has under a key, over plain lists.
+ghost use Rattle.std.specs.Prelude.{◌≡◌, ◌⊎◌, ℕ, ◌+◌, ◌^◌, ◌<◌, ◌≤◌, true, None, List, [], ◌∷◌, ◌++◌, length};
 ghost use Rattle.wp_model.specs.declared.change.Change.{Change};
 ghost use Rattle.wp_model.specs.declared.entry.Entry.{Entry};
 ghost use Rattle.wp_model.specs.declared.entry.Entry.TheVariants.{Prepare, Undo, Close};
+ghost use Rattle.wp_model.specs.Decision.{IsNewestCommitted, HasNoneCommitted};
 ghost use Rattle.wp_model.specs.History.{undecided, is_undecided, name_at, batch_at, value_at};
 ghost use Rattle.wp_model.specs.Legal.{IsLegal, IsLegalNext, undone_last};
 ghost use Rattle.wp_history.specs.Growth.{undecided_after};
@@ -49,4 +50,14 @@ pub fn old_numbers_stay()
 pub fn last_entry_undoes()
     ensures { (front others : List Entry) (entry : Entry)
         → undone_last (front ++ entry ∷ others) ≡ undone_last (entry ∷ others) }
+{}
+
+/// At a number a key has one newest version that is committed, or none: and that is what the store has under the key there.
+pub fn newest_committed_is_the_value()
+    ensures either { (history : List Entry) (key : List ℕ) (n : ℕ) → IsLegal history → n ≤ length history
+        → HasNoneCommitted history key n ⊎ ((p : ℕ) × IsNewestCommitted history key n p) }
+    ensures newest { (history : List Entry) (key : List ℕ) (n p : ℕ) → IsLegal history → n ≤ length history
+        → (v : IsNewestCommitted history key n p) → value_at history key n ≡ v.value }
+    ensures none { (history : List Entry) (key : List ℕ) (n : ℕ) → IsLegal history → n ≤ length history
+        → HasNoneCommitted history key n → value_at history key n ≡ None }
 {}

@@ -1,11 +1,10 @@
 //! The core: a history in memory that stays legal.
 //!
 //! A history knows its undecided prepares, so that a put asks only these which keys are held. It answers what the
-//! store has under a key at a number, which entry may follow those that it has, and which version of a key is
-//! the newest one that is committed at a number. On a legal history that version is the store's value.
+//! store has under a key at a number, and which entry may follow those that it has. On a legal history that is the
+//! newest version of the key that is committed at the number.
 #![tactic(auto)]
 
-mod committed;
 mod history;
 pub mod laws;
 mod legality;

@@ -22,6 +22,14 @@ pub enum SetError {
     TooMany,
 }
 
+impl From<AllocError> for SetError {
+    ghost from_gives = { λ _ e. e ≡ Memory };
+
+    fn from(_e: AllocError) -> SetError {
+        SetError::Memory
+    }
+}
+
 impl<T: Drop> From<AllocFailed<T>> for SetError {
     ghost from_gives = { λ _ e. e ≡ Memory };
 
@@ -70,6 +78,16 @@ fn place_of(changes: &[Change], key: &Key) -> Place
     Place::Before(changes.len())
 }
 
+/// Takes room for one change more. The first one gets just that, since most batches have no other.
+fn reserve_one(changes: &mut Vec<Change>) -> Result<(), AllocError>
+    ensures { changes.new.items ≡ changes.old.items }
+{
+    if changes.is_empty() {
+        return changes.reserve_exact(1);
+    }
+    changes.reserve(1)
+}
+
 impl Batch {
     /// A batch without changes.
     pub fn new(alloc: Global) -> Batch
@@ -108,6 +126,7 @@ impl Batch {
                 if self.changes.len() >= MOST_KEYS {
                     return Err(SetError::TooMany);
                 }
+                reserve_one(&mut self.changes)?;
                 self.changes.insert(i, change)?;
                 Ok(())
             }
