@@ -1,7 +1,7 @@
 //! The records of the log: what one append makes durable, as one run of bytes.
 //!
 //! A record is the number of its first entry, its kind, and what the entries of that kind hold. Each list of
-//! entries that is a record has one spelling. `write_record` gives it, and `read_record` takes nothing else: it
+//! entries that is a record has one spelling. `push_record` gives it, and `read_record` takes nothing else: it
 //! names the first fault from the left. Whether an entry may be in a history at all is asked elsewhere.
 #![tactic(auto)]
 
@@ -14,4 +14,4 @@ mod writing;
 pub use error::RecordError;
 pub use laws::{records_are_read, spellings_differ};
 pub use reading::read_record;
-pub use writing::write_record;
+pub use writing::push_record;

@@ -1,9 +1,9 @@
-ghost use Rattle.std.specs.Prelude.{◌≡◌, ◌<◌, ◌^◌, true, ◌++◌, OnOk, IfOk};
+ghost use Rattle.std.specs.Prelude.{◌≡◌, ◌<◌, ◌^◌, true, ◌++◌, OnOk};
 ghost use Rattle.std.specs.List.{list_all};
 ghost use Rattle.wp_entry.specs.Record.{entries_bytes, record_bytes, is_entry, FormRecord, IsRecord};
 
 use crate::layout::{COMMIT, PREPARE, ROLLBACK, WRITE};
-use std::alloc::{AllocError, Global};
+use std::alloc::AllocError;
 use wp_encoding::{push_batch, push_word};
 use wp_fields::{push_u8, push_u32};
 use wp_model::{Entry, Seq};
@@ -37,14 +37,12 @@ fn push_entries(out: &mut Vec<u8>, first: Seq, entries: &[Entry]) -> Result<(), 
     }
 }
 
-/// The one spelling of the record that the entries are, where the first of them has the number `first`.
-pub fn write_record(alloc: Global, first: Seq, entries: &[Entry]) -> Result<Vec<u8>, AllocError>
+/// Puts the one spelling of the record that the entries are at the end, where the first of them has the number `first`.
+pub fn push_record(out: &mut Vec<u8>, first: Seq, entries: &[Entry]) -> Result<(), AllocError>
     requires { FormRecord first entries.now }
     ensures record { OnOk result (IsRecord first entries.now) }
-    ensures spelling { IfOk result (λ bytes. bytes.items ≡ record_bytes first entries.now) }
+    ensures pushed { OnOk result (out.new.items ≡ out.old.items ++ record_bytes first entries.now) }
 {
-    let mut out = Vec::new(alloc);
-    push_u32(&mut out, first as u32)?;
-    push_entries(&mut out, first, entries)?;
-    Ok(out)
+    push_u32(out, first as u32)?;
+    push_entries(out, first, entries)
 }

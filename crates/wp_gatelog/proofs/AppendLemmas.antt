@@ -6,19 +6,17 @@ use Rattle.std.specs.Int.{w64, to_be_bytes}
 use Rattle.wp_outside.specs.Disk.{Moment, IsImage, synced, after_write, write_end, Each}
 use Rattle.wp_gatelog.specs.Log.{Grows, IsAcknowledged, IsAtRest, last_gate}
 use Rattle.wp_gatelog.specs.Spelling.{Gated, IsOpen, framed, frame_of, identity, all_gated, log_of}
+use Rattle.wp_gatelog.proofs.FramedLemmas.{length-frame_of}
 use Rattle.wp_gatelog.proofs.MomentLemmas.{image_after, image_of_gate, reads_after}
 
 pub length-framed : (bytes : List ℕ) → length (framed bytes) ≡ 8 + length bytes
 unfolding framed
 length-framed bytes = length-append (to_be_bytes w64 (length bytes)) bytes
 
--- a record that was written is not longer than a disk
-fits_frame : (frame bytes : List ℕ) → frame ≡ frame_of bytes → length frame ≤ 2 ^ 62 → length bytes < 2 ^ 64
-fits_frame frame bytes is bounded = omega (arith, ap length is, length-append (framed bytes) (0 ∷ []), length-framed bytes)
-
-pub fits_disk : (at : ℕ) (frame bytes : List ℕ) → frame ≡ frame_of bytes → write_end at frame ≤ 2 ^ 62 → length bytes < 2 ^ 64
-fits_disk at [] bytes is bounded = fits_frame [] bytes is (omega arith)
-fits_disk at (b ∷ frame) bytes is bounded = fits_frame (b ∷ frame) bytes is (omega arith)
+-- a frame that was written ends on the disk
+pub frame_end : (at : ℕ) (frame bytes : List ℕ) → frame ≡ frame_of bytes → write_end at frame ≤ 2 ^ 62 → at + (length bytes + 9) ≤ 2 ^ 62
+frame_end at [] bytes is bounded = absurd (omega (arith, ap length is, length-frame_of bytes))
+frame_end at (b ∷ frame) bytes is bounded = omega (arith, bounded, ap length is, length-frame_of bytes)
 
 -- ---- the two writes
 
@@ -78,13 +76,13 @@ acknowledged_more gated records bytes fits acknowledged = record {
 }
 
 -- at rest with the new one
-pub at_rest_more : (magic : List ℕ) (id end : ℕ) (records : List (List ℕ)) (frame bytes : List ℕ) → frame ≡ frame_of bytes → length bytes < 2 ^ 64 → (gated : List Gated) → IsAcknowledged gated records
-    → end ≡ length (log_of magic id 1 gated) → (m : Moment) → m ≡ synced (log_of magic id 1 gated ++ 1 ∷ frame_of bytes) → IsAtRest magic id (end + length frame) (records ++ bytes ∷ []) m
-at_rest_more magic id end records frame bytes is fits gated acknowledged place m on =
+pub at_rest_more : (magic : List ℕ) (id end : ℕ) (records : List (List ℕ)) (bytes : List ℕ) → length bytes < 2 ^ 64 → (gated : List Gated) → IsAcknowledged gated records
+    → end ≡ length (log_of magic id 1 gated) → (m : Moment) → m ≡ synced (log_of magic id 1 gated ++ 1 ∷ frame_of bytes) → IsAtRest magic id (end + (length bytes + 9)) (records ++ bytes ∷ []) m
+at_rest_more magic id end records bytes fits gated acknowledged place m on =
     let more = log_more magic id 1 gated 1 bytes in
     record {
       gated = gated ++ record { gate = 1; bytes = bytes } ∷ [];
       acknowledged = acknowledged_more gated records bytes fits acknowledged;
-      place = omega (arith, ap length more, ap length is, length-append (framed bytes) (0 ∷ []), length-append (log_of magic id 1 gated) (1 ∷ framed bytes));
+      place = omega (arith, place, ap length more, length-framed bytes, length-append (log_of magic id 1 gated) (1 ∷ framed bytes));
       on_disk = on ∙ ap synced (sym (append_assoc (log_of magic id 1 gated) (1 ∷ framed bytes) (0 ∷ [])) ∙ ap (λ (l : List ℕ). l ++ 0 ∷ []) (sym more));
     }

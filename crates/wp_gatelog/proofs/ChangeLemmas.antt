@@ -77,7 +77,7 @@ pub brings_failed : {T U E F : Type 0} (e : F) (magic : List ℕ) (P : List ℕ 
     → BringsTo magic P Q old new result → BringsTo {T = T} {E = F} magic P R old new (Err e)
 brings_failed e magic P Q R old new result brings = record { passed = brings.passed; durable = brings.durable; done = tt }
 
-on_ok : {T E : Type 0} (result : Result T E) (P : Type 0) → P → OnOk result P
+pub on_ok : {T E : Type 0} (result : Result T E) (P : Type 0) → P → OnOk result P
 on_ok (Ok x) P p = p
 on_ok (Err e) P p = tt
 

@@ -13,4 +13,4 @@ pub mod ParseLemmas
 pub mod ScanLemmas
 pub mod SomeLemmas
 pub mod SurvivalLemmas
-pub mod AppendClauses
+pub mod FramedLemmas

@@ -1,7 +1,7 @@
 -- An open log.
 use Rattle.std.specs.Prelude.{◌≡◌, ◌⊎◌, ℕ, Bool, List, [], ◌∷◌, ◌++◌, length}
 use Rattle.wp_outside.specs.Disk.{Moment, IfKnown, Each, synced}
-use Rattle.wp_gatelog.specs.Spelling.{Gated, IsOpen, framed, frame_of, log_of, records_of, Spells}
+use Rattle.wp_gatelog.specs.Spelling.{Gated, IsOpen, framed, log_of, records_of, Spells}
 
 pub record LogState : Type 0 where
   pub moments : List Moment  -- its disk's
@@ -43,7 +43,3 @@ Grows front bytes image = (following : List ℕ) × (
 -- a crash leaves the records, or those and the new one
 abbrev pub BeforeOrAfter : List ℕ → ℕ → List (List ℕ) → List ℕ → List ℕ → Type 0
 BeforeOrAfter magic id records bytes image = Spells image magic id records ⊎ Spells image magic id (records ++ bytes ∷ [])
-
--- it is what is written for some record
-abbrev pub IsFrame : List ℕ → Type 0
-IsFrame frame = (bytes : List ℕ) × (frame ≡ frame_of bytes)

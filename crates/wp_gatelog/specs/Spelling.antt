@@ -2,7 +2,7 @@
 --
 -- A log is a head (a gate, four bytes magic, the version 01, four bytes id), records, each after a gate of its own,
 -- and a closed gate. What follows the first closed gate is nothing.
-use Rattle.std.specs.Prelude.{◌≡◌, ◌≢◌, ◌⊎◌, ℕ, ◌<◌, ◌^◌, List, [], ◌∷◌, ◌++◌, length, map, ⊤}
+use Rattle.std.specs.Prelude.{◌≡◌, ◌≢◌, ◌⊎◌, ℕ, ◌-◌, ◌<◌, ◌^◌, List, [], ◌∷◌, ◌++◌, length, take, drop, map, ⊤}
 use Rattle.std.specs.Int.{w32, w64, to_be_bytes}
 use Rattle.wp_outside.specs.Disk.{Each}
 
@@ -18,6 +18,10 @@ framed bytes = to_be_bytes w64 (length bytes) ++ bytes
 -- what is written for a new record: the next one's gate follows it, closed
 abbrev pub frame_of : List ℕ → List ℕ
 frame_of bytes = framed bytes ++ 0 ∷ []
+
+-- the record whose frame this is: after eight bytes of length, and before a gate
+abbrev pub framed_in : List ℕ → List ℕ
+framed_in frame = take (length frame - 9) (drop 8 frame)
 
 -- what follows the head's gate
 unfoldable pub identity : List ℕ → ℕ → List ℕ

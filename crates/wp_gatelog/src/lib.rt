@@ -10,6 +10,7 @@
 
 mod device;
 mod error;
+mod frame;
 mod gate;
 mod head;
 mod laws;
@@ -21,6 +22,7 @@ mod repair;
 mod scan;
 
 pub use error::{DiskRefused, LogError};
+pub use frame::Frame;
 pub use laws::{acknowledged_records_come_first, bytes_are_read_in_one_way};
 pub use log::{AppendError, GateLog};
-pub use record::{Record, frame};
+pub use record::Record;

@@ -1,17 +1,19 @@
 -- Why a manifest is refused.
 use Rattle.std.proofs.Common.{◌≡◌, ◌≢◌, ℕ, Bool, true, false, ◌==◌, List, [], ◌∷◌, ◌++◌, refl, sym, subst, ap, ◌∙◌, inl, inr, append_assoc, if◌then◌else◌}
 use Rattle.std.proofs.lemmas.Bool.{eqb-true, eq-eqb}
-use Rattle.wp_outside.specs.Disk.{Moment, IfKnown}
+use Rattle.wp_outside.specs.Disk.{Moment, IfKnown, added, after_sync}
 use Rattle.wp_outside.specs.Faults.{Rose}
 use Rattle.wp_gatelog.specs.declared.error.LogError.{LogError}
 use Rattle.wp_gatelog.specs.declared.error.LogError.TheVariants as log
 use Rattle.wp_gatelog.specs.Damage.{IsCut}
 use Rattle.wp_gatelog.specs.Errors.{FaultRose}
-use Rattle.wp_gatelog.specs.Opening.{IsFound, IsRefused}
+use Rattle.wp_gatelog.specs.Left.{IsLeftAtRest, IsSyncedOrAtRest}
+use Rattle.wp_gatelog.specs.Log.{LogState, IsAtRest}
+use Rattle.wp_gatelog.specs.Opening.{IsFound, IsRefused, IsUntouched, IsOpened}
 use Rattle.wp_gatelog.specs.Spelling.{Gated, identity, all_gated, framed, log_of}
 use Rattle.wp_manifest.specs.declared.error.ManifestError.TheVariants.{Stranger, BadEdit}
 use Rattle.wp_manifest.specs.Errors.{manifest_error_of}
-use Rattle.wp_manifest.specs.Opening.{IsStranger, IsBadEdit, IsManifestCause}
+use Rattle.wp_manifest.specs.Opening.{IsStranger, IsBadEdit, IsManifestCause, LeavesEdits}
 use Rattle.wp_manifest.specs.Spelling.{MAGIC, HasHead}
 
 -- ---- the head
@@ -61,3 +63,24 @@ refused_cause id before now moments (log.Cut index found) refused rose = by (fou
         known (λ m. (cut : IsCut MAGIC index m.reads) × (found ≡ cut.id)) (λ m. IsBadEdit id index m.reads) moments (λ m cut. inl (cut.0, sym cut.1 ∙ eqb-true found id is)) refused
     by false is =
         known (λ m. (cut : IsCut MAGIC index m.reads) × (found ≡ cut.id)) (λ m. IsStranger id id found m.reads) moments (λ m cut. record { asked = refl; other = λ e. apart (eq-eqb found id e) is; head = subst (λ (i : ℕ). HasHead i m.reads) (sym cut.1) (cut_head index m.reads cut.0) }) refused
+
+-- ---- what is left
+
+pub refused_left : (id : ℕ) (old new : List Moment) (why : LogError) → IsUntouched (added after_sync old) new why → LeavesEdits old new (manifest_error_of id why)
+refused_left id old new log.Memory same = inl same
+refused_left id old new log.DiskFault same = tt
+refused_left id old new log.BadHead same = same
+refused_left id old new (log.Cut index found) same = by (found == id)
+  where
+    by : (b : Bool) → LeavesEdits old new (if b then BadEdit index else Stranger id found)
+    by true = inl same
+    by false = inl same
+
+-- the log of the edits was opened, and let go of
+pub opened_left : (asked : ℕ) (log : LogState) (records : List (List ℕ)) (old : List Moment) → IsOpened MAGIC asked old log records → IsSyncedOrAtRest MAGIC old log.moments
+opened_left asked log records old opened = inr (by old log.moments opened.found opened.rests)
+  where
+    by : (old new : List Moment) → IfKnown old (λ m. IsFound MAGIC asked m.reads log.id records) → IfKnown new (IsAtRest MAGIC log.id log.end records) → IsLeftAtRest MAGIC old new
+    by [] new found rests = tt
+    by (m ∷ past) [] found rests = tt
+    by (m ∷ past) (n ∷ before) found rests = record { id = log.id; end = log.end; records = records; spelled = found.spelled; rests = rests }

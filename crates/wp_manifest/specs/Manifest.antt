@@ -28,7 +28,8 @@ pub record StoresEdits (manifest : ManifestState) (edits : List Edit) (next : Ed
   pub rests : manifest.log.closed ≡ false → Rests MAGIC manifest.log records
   pub left : manifest.log.closed ≡ true → IfKnown manifest.log.moments (LeavesEditsOrNext manifest.log.id records edits next)
 
--- The manifest was opened on a disk with these moments, for a log with this id: it stores what the disk spelled.
+-- The manifest was opened on a disk with these moments, for a log with this id: it stores what the disk spelled as it was
+-- handed in, and a crash from now on leaves that.
 pub record Opened (id : ℕ) (moments : List Moment) (manifest : ManifestState) : Type 0 where
   pub edits : List Edit
   pub stores : StoresEdits manifest edits no_edit

@@ -1,6 +1,7 @@
 -- Why a manifest is not opened, and what is left of it.
 use Rattle.std.specs.Prelude.{◌≡◌, ◌≢◌, ◌⊎◌, ℕ, List, ⊤}
 use Rattle.wp_outside.specs.Disk.{Moment, IfKnown, added, after_sync}
+use Rattle.wp_outside.specs.Faults.{Rose}
 use Rattle.wp_gatelog.specs.Damage.{IsBadHead, IsCut}
 use Rattle.wp_gatelog.specs.Left.{IsSyncedOrAtRest}
 use Rattle.wp_gatelog.specs.Spelling.{Spells}
@@ -35,3 +36,9 @@ abbrev pub LeavesEdits : List Moment → List Moment → ManifestError → Type 
 LeavesEdits old new DiskFault = ⊤
 LeavesEdits old new BadHead = new ≡ added after_sync old
 LeavesEdits old new other = IsSyncedOrAtRest MAGIC old new
+
+-- No manifest was opened on a disk with these moments and so many faults. The bytes are left as they were, or the log in
+-- them repaired, with all of its records.
+pub record IsUnopenedManifest (id : ℕ) (old new : List Moment) (before now : ℕ) (why : ManifestError) : Type 0 where
+  pub cause : IsManifestCause id (Rose before now) old why
+  pub left : LeavesEdits old new why

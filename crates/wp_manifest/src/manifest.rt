@@ -1,24 +1,23 @@
 //! An open manifest.
 
-ghost use Rattle.std.specs.Prelude.{◌≡◌, ◌≤◌, ◌<◌, ◌^◌, ◌++◌, [], ◌∷◌, List, ℕ, length, false, IfOk, IfErr, OnOk, MatchResult};
-ghost use Rattle.wp_outside.specs.Disk.{IfKnown, Passes, images};
-ghost use Rattle.wp_outside.specs.Faults.{Rose};
+ghost use Rattle.std.specs.Prelude.{◌≡◌, ◌≤◌, ◌<◌, ◌^◌, ◌++◌, [], ◌∷◌, List, length, false, IfOk, IfErr, OnOk, MatchResult};
+ghost use Rattle.wp_outside.specs.Disk.{Passes};
 ghost use Rattle.wp_gatelog.specs.Durability.{LosesNoRecord};
 ghost use Rattle.wp_gatelog.specs.Moments.{Leaves};
-ghost use Rattle.wp_gatelog.specs.Opening.{SurvivesThrough};
+ghost use Rattle.wp_gatelog.specs.Opening.{KeepsLog};
 ghost use Rattle.wp_manifest.specs.Edit.{Edit, no_edit};
 ghost use Rattle.wp_manifest.specs.Errors.{manifest_error_of};
-ghost use Rattle.wp_manifest.specs.Spelling.{MAGIC, IsManifestOf, IsManifestOrNext};
+ghost use Rattle.wp_manifest.specs.Spelling.{MAGIC, IsManifestOrNext};
 ghost use Rattle.wp_manifest.specs.Manifest.{Opened, StoresEdits, InstallRefused};
-ghost use Rattle.wp_manifest.specs.Opening.{IsManifestCause, LeavesEdits};
+ghost use Rattle.wp_manifest.specs.Opening.{IsUnopenedManifest};
 
 use crate::edit::Edit;
 use crate::error::{InstallError, ManifestError};
 use crate::read::last_edit;
-use crate::write::write_edit;
+use crate::write::frame_edit;
 use std::alloc::Global;
 use std::marker::Model;
-use wp_gatelog::{DiskRefused, GateLog, LogError, acknowledged_records_come_first, frame};
+use wp_gatelog::{DiskRefused, GateLog, LogError, acknowledged_records_come_first};
 use wp_outside::Disk;
 
 /// The first four bytes after the gate of the manifest's head.
@@ -64,24 +63,14 @@ impl<D: Disk> Manifest<D> {
         disk: D,
         id: u32,
     ) -> Result<Manifest<D>, DiskRefused<D, ManifestError>>
-        // The edits are those that the disk spelled as it was handed in, and a crash from now on leaves them.
         ensures opened { IfOk result (Opened id (D.moments disk)) }
 
-        ensures cause { IfErr result (λ refused. IsManifestCause id (Rose (D.faults disk) (D.faults refused.disk)) (D.moments disk) refused.why) }
-
-        // The bytes are left as they were, or the log in them repaired, with all of its records.
-        ensures left { IfErr result (λ refused. LeavesEdits (D.moments disk) (D.moments refused.disk) refused.why) }
-
-        // At each moment since its beginning a crash leaves the bytes as they were found, or a log of their records; but
-        // where the head's gate was not 01 it may leave none, and where the last record's was not, all but that one.
-        ensures survives { MatchResult result (λ opened. SurvivesThrough MAGIC id (D.moments disk) opened.log.moments)
-            (λ refused. SurvivesThrough MAGIC id (D.moments disk) (D.moments refused.disk)) }
-
-        // What each crash at one moment would leave acknowledged, each crash at a later moment leaves too.
-        ensures durable { MatchResult result
-            (λ opened. LosesNoRecord MAGIC (D.moments disk) opened.log.moments)
-            (λ refused. LosesNoRecord MAGIC (D.moments disk) (D.moments refused.disk)) }
-        ensures later { MatchResult result (λ opened. D.faults disk ≤ opened.log.faults) (λ refused. D.faults disk ≤ D.faults refused.disk) }
+        ensures refused { IfErr result (λ refused. IsUnopenedManifest id
+            (D.moments disk) (D.moments refused.disk) (D.faults disk) (D.faults refused.disk) refused.why) }
+        ensures kept { MatchResult result
+            (λ opened. KeepsLog MAGIC id (D.moments disk) opened.log.moments (D.faults disk) opened.log.faults)
+            (λ refused. KeepsLog MAGIC id
+            (D.moments disk) (D.moments refused.disk) (D.faults disk) (D.faults refused.disk)) }
     {
         let (log, records) = match GateLog::open(alloc, disk, MANIFEST_MAGIC, id) {
             Ok(opened) => opened,
@@ -144,9 +133,8 @@ impl<D: Disk> Manifest<D> {
         ensures later { self.old.log.faults ≤ self.new.log.faults }
     {
         acknowledged_records_come_first();
-        let bytes = write_edit(self.alloc, &edit)?;
-        let framed = frame(self.alloc, &bytes)?;
-        self.log.append(&framed)?;
+        let frame = frame_edit(self.alloc, &edit)?;
+        self.log.append(&frame)?;
         self.edit = edit;
         Ok(())
     }

@@ -6,6 +6,7 @@ ghost use Rattle.wp_manifest.specs.Edit.{ArePlaces, IsEdit, edit_bytes, place_by
 use crate::edit::Edit;
 use std::alloc::{AllocError, Global};
 use wp_fields::{push_u32, push_u64};
+use wp_gatelog::Frame;
 
 fn push_place(out: &mut Vec<u8>, table: &(u64, u64)) -> Result<(), AllocError>
     ensures pushed { OnOk result (out.new.items ≡ out.old.items ++ place_bytes table.now) }
@@ -27,16 +28,27 @@ fn push_places(out: &mut Vec<u8>, tables: &[(u64, u64)]) -> Result<(), AllocErro
     Ok(())
 }
 
-/// The bytes of the edit.
-pub(crate) fn write_edit(alloc: Global, edit: &Edit) -> Result<Vec<u8>, AllocError>
+/// Puts the edit's bytes at the end.
+fn push_edit(out: &mut Vec<u8>, edit: &Edit) -> Result<(), AllocError>
     requires flushed { edit.now.flushed < 2 ^ 32 }
     requires count { length edit.now.tables ≤ edit.now.flushed }
-    ensures spelling { IfOk result (λ bytes. bytes.items ≡ edit_bytes edit.now) }
+    ensures pushed { OnOk result (out.new.items ≡ out.old.items ++ edit_bytes edit.now) }
+    ensures edit { OnOk result (IsEdit edit.now) }
+{
+    push_u32(out, edit.flushed as u32)?;
+    push_u32(out, edit.tables.len() as u32)?;
+    push_places(out, &edit.tables)
+}
+
+/// The record that the edit is, as it is written.
+pub(crate) fn frame_edit(alloc: Global, edit: &Edit) -> Result<Frame, AllocError>
+    requires flushed { edit.now.flushed < 2 ^ 32 }
+    requires count { length edit.now.tables ≤ edit.now.flushed }
+    ensures spelling { IfOk result (λ frame. frame ≡ edit_bytes edit.now) }
     ensures edit { IfOk result (λ _. IsEdit edit.now) }
 {
-    let mut bytes = Vec::new(alloc);
-    push_u32(&mut bytes, edit.flushed as u32)?;
-    push_u32(&mut bytes, edit.tables.len() as u32)?;
-    push_places(&mut bytes, &edit.tables)?;
-    Ok(bytes)
+    let mut room = Frame::room(alloc)?;
+    push_edit(&mut room, edit)?;
+    let frame = Frame::of(room)?;
+    Ok(frame)
 }

@@ -1,5 +1,5 @@
 -- The tables at their places: what is read there, and what is wrong.
-use Rattle.std.proofs.Common.{◌≡◌, ℕ, suc, get_or, ◌+◌, ◌<◌, ◌≤◌, List, [], ◌∷◌, ◌++◌, length, take, drop, inl, refl, sym, subst, ap, ◌∙◌, arith, length-take, length-drop}
+use Rattle.std.proofs.Common.{◌≡◌, ℕ, suc, get_or, ◌+◌, ◌<◌, ◌≤◌, List, [], ◌∷◌, ◌++◌, length, take, drop, inl, inr, refl, sym, subst, ap, ◌∙◌, arith, length-take, length-drop}
 use Rattle.std.specs.Prelude.{IfSome}
 use Rattle.std.specs.List.{AllByRecursion}
 use Rattle.std.proofs.Math.Seq.{drop-cons}
@@ -50,6 +50,13 @@ found_table id flushed len found placed versions moments is spelled whole read =
     known_map (λ m. len ≡ length m.reads → found ≡ bytes_at m.reads placed) (λ m. len ≡ length m.reads → HasTable id flushed m.reads placed versions)
     (λ m there len_is. let same : found ≡ bytes_at m.reads placed = there len_is in
     table_at_place id flushed m.reads placed versions is (sym same ∙ spelled) (let size = ap length same in omega (arith, size, whole))) moments read
+
+-- a table that ends before its place does
+pub short_named : (id flushed len : ℕ) (found : List ℕ) (placed : ℕ × ℕ) (versions : List Version) (moments : List Moment) → IsTable id flushed versions → found ≡ table_bytes id versions → length found < placed.1 → IfKnown moments (λ m. len ≡ length m.reads → found ≡ bytes_at m.reads placed) → IfKnown moments (λ m. len ≡ length m.reads → IsBadTable id flushed m.reads placed table.Short)
+short_named id flushed len found placed versions moments is spelled short read =
+    known_map (λ m. len ≡ length m.reads → found ≡ bytes_at m.reads placed) (λ m. len ≡ length m.reads → IsBadTable id flushed m.reads placed table.Short)
+    (λ m there len_is. let same : found ≡ bytes_at m.reads placed = there len_is in
+    inr (versions, is, sym same ∙ spelled, (let size = ap length same in omega (arith, size, short)), refl)) moments read
 
 pub fault_named : (id flushed len : ℕ) (placed : ℕ × ℕ) (rose : Type 0) (moments : List Moment) (found : List ℕ) (why : TableError) (error : OpenError) → IfSome (table_fault why) (λ fault. IsTableFault id flushed found fault) → IfKnown moments (λ m. len ≡ length m.reads → found ≡ bytes_at m.reads placed) → IsTableReason id placed.0 why error → IsTableCause id flushed placed len rose moments error
 fault_named id flushed len placed rose moments found table.Memory error fault read is = rw is tt

@@ -1,18 +1,22 @@
 -- What each step of an opening says of the whole: why it is refused, and what it leaves.
-use Rattle.std.proofs.Common.{◌≡◌, ◌↔◌, ℕ, ◌<◌, ◌^◌, Bool, true, false, true≢false, List, [], ◌∷◌, length, sym, subst, ◌∙◌}
+use Rattle.std.proofs.Common.{◌≡◌, ◌↔◌, ℕ, ◌<◌, ◌≤◌, ◌^◌, Bool, true, false, true≢false, List, [], ◌∷◌, length, sym, subst, ◌∙◌}
 use Rattle.wp_model.specs.declared.entry.Entry.{Entry}
 use Rattle.wp_model.specs.declared.version.Version.{Version}
 use Rattle.wp_model.specs.Legal.{IsLegal}
 use Rattle.wp_outside.specs.declared.disk.Device.TheVariants as device
 use Rattle.wp_outside.specs.Disk.{Moment, IfKnown, added, after_sync, images}
 use Rattle.wp_outside.proofs.Moments.{image_of_synced}
+use Rattle.wp_outside.specs.Faults.{Rose}
+use Rattle.wp_gatelog.specs.Durability.{LosesNoRecord}
 use Rattle.wp_gatelog.specs.Left.{IsLeftAtRest, RestsAsSpelled}
 use Rattle.wp_gatelog.specs.Log.{IsAtRest}
+use Rattle.wp_gatelog.specs.Opening.{KeepsLog}
 use Rattle.wp_gatelog.specs.Spelling.{IsUnmade, Spells}
 use Rattle.wp_wal.specs.declared.error.WalError.{WalError}
 use Rattle.wp_wal.specs.declared.error.WalError.TheVariants as wal_error
 use Rattle.wp_wal.specs.Opening.{IsLogCause}
 use Rattle.wp_wal.specs.Spelling.{IsLogOf}
+use Rattle.wp_wal.specs.Spelling as wal
 use Rattle.wp_wal.specs.Wal.{LeavesHistory}
 use Rattle.wp_manifest.specs.declared.error.ManifestError.{ManifestError}
 use Rattle.wp_manifest.specs.declared.error.ManifestError.TheVariants as manifest_error
@@ -26,8 +30,9 @@ use Rattle.wp_open.specs.declared.bad.Bad.TheVariants as bad
 use Rattle.wp_open.specs.declared.opening.OpenError.{OpenError}
 use Rattle.wp_open.specs.declared.opening.OpenError.TheVariants as open_error
 use Rattle.wp_open.specs.Damage.{Finds, IsLogDamaged, IsManifestDamaged, IsTableNamed, IsUncovered, IsEditDamaged, log_behind, in_tables, uncovered, IsDamaged, in_log, in_manifest, in_edit}
+use Rattle.wp_open.specs.Devices.{DevicesLeft}
 use Rattle.wp_open.specs.Opens.{AreCovering, Opens, AllKnown}
-use Rattle.wp_open.specs.Refused.{IsCause, of_log, of_manifest, of_edit, IsOfTables, IsOutside, IsLogReason, IsManifestReason, IsLogLeft, IsManifestLeft, IsLeft, at_edit, at_tables}
+use Rattle.wp_open.specs.Refused.{IsCause, of_log, of_manifest, of_edit, IsOfTables, IsOutside, IsLogReason, IsManifestReason, IsLogLeft, IsManifestLeft, IsLeft, at_edit, at_tables, IsRefusedFrom}
 use Rattle.wp_open.specs.Tables.{AreTablesCause, IsStoreCause, behind, of_tables, not_covered, LeavesSynced}
 
 -- ---- the tables, once synced
@@ -84,7 +89,7 @@ abbrev pub OpensOrDamaged : Type 0
 OpensOrDamaged = (l m t : List ℕ) (asked id : ℕ) (history : List Entry) (damage : Bad) → (IsUnmade l → id ≡ asked) → Opens id history l m t → IsDamaged asked l m t damage → ⊥
 
 -- so where they open to a history, no refusal is about their contents
-pub only_outside : OpensOrDamaged → (asked : ℕ) (log_rose manifest_rose tables_rose : Type 0) (log manifest tables : List Moment) (why : OpenError) → IsCause asked log_rose manifest_rose tables_rose log manifest tables why → AllKnown log manifest tables (λ l m t. (found : ℕ) (history : List Entry) → Opens found history l m t → (IsUnmade l → found ≡ asked) → IsOutside why)
+only_outside : OpensOrDamaged → (asked : ℕ) (log_rose manifest_rose tables_rose : Type 0) (log manifest tables : List Moment) (why : OpenError) → IsCause asked log_rose manifest_rose tables_rose log manifest tables why → AllKnown log manifest tables (λ l m t. (found : ℕ) (history : List Entry) → Opens found history l m t → (IsUnmade l → found ≡ asked) → IsOutside why)
 only_outside law asked log_rose manifest_rose tables_rose [] manifest tables why cause = tt
 only_outside law asked log_rose manifest_rose tables_rose (l ∷ ls) [] tables why cause = tt
 only_outside law asked log_rose manifest_rose tables_rose (l ∷ ls) (m ∷ ms) [] why cause = tt
@@ -139,3 +144,22 @@ edit_left same_manifest same_tables rose log log_now manifest manifest_now table
     at_tables id history list log_rests rests (rw (← is) low) (of_the_tables id edit rose tables why cause) left
 edit_left same_manifest same_tables rose log log_now manifest manifest_now tables tables_now id history list edit why is log_rests rests (not_covered low named none) left =
     at_tables id history list log_rests rests (rw (← is) low) (subst (IsOfTables id) (sym named) tt) left
+
+-- ---- a refusal, as a whole
+
+pub refused_from : OpensOrDamaged → (asked : ℕ) (same_manifest same_tables : Type 0) (old new : DevicesLeft) (why : OpenError)
+    → IsCause asked (Rose old.log_faults new.log_faults) (Rose old.manifest_faults new.manifest_faults) (Rose old.tables_faults new.tables_faults) old.log old.manifest old.tables why
+    → IsLeft same_manifest same_tables old.log new.log old.manifest new.manifest old.tables new.tables why
+    → KeepsLog wal.MAGIC asked old.log new.log old.log_faults new.log_faults → LosesNoRecord edits.MAGIC old.manifest new.manifest → old.manifest_faults ≤ new.manifest_faults → old.tables_faults ≤ new.tables_faults
+    → IsRefusedFrom asked same_manifest same_tables old new why
+refused_from law asked same_manifest same_tables old new why cause left log manifest manifest_later tables_later = record {
+  cause = cause;
+  only = only_outside law asked _ _ _ old.log old.manifest old.tables why cause;
+  left = left;
+  log_survives = log.survives;
+  log_durable = log.durable;
+  manifest_durable = manifest;
+  log_later = log.later;
+  manifest_later = manifest_later;
+  tables_later = tables_later;
+}

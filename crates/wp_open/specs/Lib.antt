@@ -3,3 +3,4 @@ pub mod Damage
 pub mod Tables
 pub mod Parts
 pub mod Refused
+pub mod Devices

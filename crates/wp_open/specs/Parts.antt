@@ -1,20 +1,24 @@
 -- What an opening hands out.
-use Rattle.std.specs.Prelude.{◌≡◌, ℕ, ◌<◌, ◌^◌, false, List, [], None}
+use Rattle.std.specs.Prelude.{◌≡◌, ℕ, ◌<◌, ◌≤◌, ◌^◌, false, List, [], None}
 use Rattle.wp_model.specs.declared.entry.Entry.{Entry}
 use Rattle.wp_model.specs.Flushed.{later_versions}
 use Rattle.wp_model.specs.Legal.{IsLegal}
 use Rattle.wp_outside.specs.Disk.{Moment, IfKnown, added, after_sync, images}
+use Rattle.wp_gatelog.specs.Opening.{KeepsLog}
 use Rattle.wp_gatelog.specs.Spelling.{IsUnmade}
+use Rattle.wp_wal.specs.Spelling as log_spelling
 use Rattle.wp_wal.specs.Spelling.{IsLogOf}
 use Rattle.wp_wal.specs.Wal.{WalState, StoresHistory}
 use Rattle.wp_manifest.specs.Edit.{Edit}
 use Rattle.wp_manifest.specs.Manifest.{ManifestState, Opened}
+use Rattle.wp_manifest.specs.Spelling as edits_spelling
 use Rattle.std.specs.List.{AllByRecursion}
 use Rattle.wp_table.specs.File.{HasTables}
 use Rattle.wp_table.specs.Table.{IsTable}
 use Rattle.wp_merge.specs.Merge.{sorted_of}
 use Rattle.wp_store.specs.Store.{StoreParts}
-use Rattle.wp_open.specs.Opens.{AreCovering}
+use Rattle.wp_open.specs.Devices.{DevicesLeft}
+use Rattle.wp_open.specs.Opens.{AreCovering, OpensTo, AllKnown, installed_of}
 
 -- The store has in memory the versions of the entries after the edit's flushed number, and nothing frozen. With these its
 -- tables cover the history.
@@ -39,3 +43,13 @@ pub record PartsOpened (asked : ℕ) (log manifest tables : List Moment) (wal : 
   pub there : IfKnown tables (λ m. HasTables wal.id edits.edit.flushed m.reads edits.edit.tables parts.tables)
   pub are : AllByRecursion (IsTable wal.id edits.edit.flushed) parts.tables
   pub kept : (image : List ℕ) → images tables_now image → HasTables wal.id edits.edit.flushed image edits.edit.tables parts.tables
+
+-- What the parts of a store have of the devices that it was opened from.
+pub record ArePartsOf (asked : ℕ) (old : DevicesLeft) (wal : WalState) (history : List Entry) (edits : ManifestState) (tables_faults : ℕ) (parts : StoreParts) : Type 0 where
+  -- what the devices read opens to the history that is handed out, and to the edit that names the store's tables
+  pub opens : AllKnown old.log old.manifest old.tables (OpensTo wal.id history (installed_of edits.edit parts.tables))
+  -- what each of the two logs keeps of its device
+  pub log : KeepsLog log_spelling.MAGIC asked old.log wal.moments old.log_faults wal.faults
+  pub manifest : KeepsLog edits_spelling.MAGIC wal.id old.manifest edits.log.moments old.manifest_faults edits.log.faults
+  -- no fault of the third device is forgotten
+  pub tables_later : old.tables_faults ≤ tables_faults

@@ -3,12 +3,16 @@ use Rattle.std.specs.Prelude.{◌≡◌, ℕ, ◌<◌, ◌≤◌, ◌^◌, List,
 use Rattle.wp_model.specs.declared.entry.Entry.{Entry}
 use Rattle.wp_outside.specs.declared.disk.Device.TheVariants as device
 use Rattle.wp_outside.specs.Disk.{Moment, IfKnown}
+use Rattle.wp_outside.specs.Faults.{Rose}
+use Rattle.wp_gatelog.specs.Durability.{LosesNoRecord}
 use Rattle.wp_gatelog.specs.Left.{IsLeftAtRest}
 use Rattle.wp_gatelog.specs.Opening.{SurvivesThrough}
+use Rattle.wp_gatelog.specs.Spelling.{IsUnmade}
 use Rattle.wp_wal.specs.declared.error.WalError.{WalError}
 use Rattle.wp_wal.specs.declared.error.WalError.TheVariants as wal_error
 use Rattle.wp_wal.specs.Opening.{IsLogCause, LeavesRecords}
 use Rattle.wp_wal.specs.Spelling.{IsLogOf}
+use Rattle.wp_wal.specs.Spelling as log_spelling
 use Rattle.wp_wal.specs.Wal.{LeavesHistory}
 use Rattle.wp_manifest.specs.declared.error.ManifestError.{ManifestError}
 use Rattle.wp_manifest.specs.declared.error.ManifestError.TheVariants as manifest_error
@@ -21,6 +25,8 @@ use Rattle.wp_open.specs.declared.bad.Bad.TheVariants as bad
 use Rattle.wp_open.specs.declared.opening.OpenError.{OpenError}
 use Rattle.wp_open.specs.declared.opening.OpenError.TheVariants as open_error
 use Rattle.wp_open.specs.Damage.{Finds, IsOwnFault}
+use Rattle.wp_open.specs.Devices.{DevicesLeft}
+use Rattle.wp_open.specs.Opens.{Opens, AllKnown}
 use Rattle.wp_open.specs.Tables.{IsStoreCause, LeavesSynced}
 
 -- ---- what the errors of the parts mean
@@ -91,3 +97,18 @@ pub data IsLeft (same_manifest same_tables : Type 0) (log log_now manifest manif
   at_manifest : (id : ℕ) (history : List Entry) (refusal : ManifestError) → IsLogLeft id history log log_now → IsManifestReason refusal why → LeavesEdits manifest manifest_now refusal → SurvivesThrough MAGIC id manifest manifest_now → same_tables → IsLeft same_manifest same_tables log log_now manifest manifest_now tables tables_now why
   at_edit : (id : ℕ) (history : List Entry) (edits : List Edit) → IsLogLeft id history log log_now → IsManifestLeft id edits manifest manifest_now → length history < (last_edit edits).flushed → why ≡ open_error.Contents (bad.LogBehind (last_edit edits).flushed (length history)) → same_tables → IsLeft same_manifest same_tables log log_now manifest manifest_now tables tables_now why
   at_tables : (id : ℕ) (history : List Entry) (edits : List Edit) → IsLogLeft id history log log_now → IsManifestLeft id edits manifest manifest_now → (last_edit edits).flushed ≤ length history → IsOfTables id why → LeavesSynced same_tables tables tables_now why → IsLeft same_manifest same_tables log log_now manifest manifest_now tables tables_now why
+
+-- ---- the whole
+
+-- A store was not opened. There is a cause of that, and bytes that open to a history are none. The devices are left as they were,
+-- or repaired, or made new without entries; the same is said of them as of a store's.
+pub record IsRefusedFrom (asked : ℕ) (same_manifest same_tables : Type 0) (old new : DevicesLeft) (why : OpenError) : Type 0 where
+  pub cause : IsCause asked (Rose old.log_faults new.log_faults) (Rose old.manifest_faults new.manifest_faults) (Rose old.tables_faults new.tables_faults) old.log old.manifest old.tables why
+  pub only : AllKnown old.log old.manifest old.tables (λ log manifest tables. (found : ℕ) (history : List Entry) → Opens found history log manifest tables → (IsUnmade log → found ≡ asked) → IsOutside why)
+  pub left : IsLeft same_manifest same_tables old.log new.log old.manifest new.manifest old.tables new.tables why
+  pub log_survives : SurvivesThrough log_spelling.MAGIC asked old.log new.log
+  pub log_durable : LosesNoRecord log_spelling.MAGIC old.log new.log
+  pub manifest_durable : LosesNoRecord MAGIC old.manifest new.manifest
+  pub log_later : old.log_faults ≤ new.log_faults
+  pub manifest_later : old.manifest_faults ≤ new.manifest_faults
+  pub tables_later : old.tables_faults ≤ new.tables_faults

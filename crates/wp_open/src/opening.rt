@@ -1,20 +1,14 @@
 //! Opening a store.
-ghost use Rattle.std.specs.Prelude.{◌≡◌, ◌≤◌, ℕ, List, length, IfOk, IfErr, OnOk, MatchResult};
-ghost use Rattle.wp_model.specs.declared.entry.Entry.{Entry};
+ghost use Rattle.std.specs.Prelude.{◌≡◌, ◌≤◌, IfOk, IfErr, OnOk};
 ghost use Rattle.wp_outside.specs.Disk.{IfKnown, added, after_sync};
 ghost use Rattle.wp_outside.specs.Faults.{Rose};
-ghost use Rattle.wp_gatelog.specs.Durability.{LosesNoRecord};
-ghost use Rattle.wp_gatelog.specs.Opening.{SurvivesThrough};
-ghost use Rattle.wp_gatelog.specs.Spelling.{IsUnmade};
-ghost use Rattle.wp_wal.specs.Spelling as wal;
-ghost use Rattle.wp_manifest.specs.Spelling as manifest;
 ghost use Rattle.std.specs.List.{AllByRecursion};
 ghost use Rattle.wp_table.specs.File.{HasTables};
 ghost use Rattle.wp_table.specs.Table.{IsTable};
-ghost use Rattle.wp_open.specs.Opens.{Opens, OpensTo, AllKnown, installed_of};
+ghost use Rattle.wp_open.specs.Devices.{devices_of};
 ghost use Rattle.wp_open.specs.Tables.{IsStoreCause, LeavesSynced};
-ghost use Rattle.wp_open.specs.Parts.{IsStoreOf, PartsOpened};
-ghost use Rattle.wp_open.specs.Refused.{IsCause, IsOutside, IsLeft};
+ghost use Rattle.wp_open.specs.Parts.{IsStoreOf, PartsOpened, ArePartsOf};
+ghost use Rattle.wp_open.specs.Refused.{IsRefusedFrom};
 
 use crate::bad::Bad;
 use crate::covering::are_covering;
@@ -125,40 +119,9 @@ pub fn open_parts<D: Disk>(
 ) -> Result<Parts<D>, OpenRefused<D>>
     ensures opened { IfOk result (λ parts. PartsOpened id (D.moments disks.log) (D.moments disks.manifest) (D.moments disks.tables) parts.wal parts.history.entries parts.manifest (D.moments parts.tables) parts.store) }
 
-    // What the devices read opens to the history that is handed out, and to the edit that names the store's tables.
-    ensures opens { IfOk result (λ parts. AllKnown (D.moments disks.log) (D.moments disks.manifest) (D.moments disks.tables)
-        (OpensTo parts.wal.id parts.history.entries (installed_of parts.manifest.edit parts.store.tables))) }
-
-    // Each refusal of the bytes comes where they are so, and none comes where they open to a history.
-    ensures cause { IfErr result (λ refused. IsCause id (Rose (D.faults disks.log) (D.faults refused.disks.log))
-        (Rose (D.faults disks.manifest) (D.faults refused.disks.manifest)) (Rose (D.faults disks.tables) (D.faults refused.disks.tables))
-        (D.moments disks.log) (D.moments disks.manifest) (D.moments disks.tables) refused.why) }
-    ensures only { IfErr result (λ refused. AllKnown (D.moments disks.log) (D.moments disks.manifest) (D.moments disks.tables)
-        (λ log manifest tables. (found : ℕ) (history : List Entry) → Opens found history log manifest tables → (IsUnmade log → found ≡ id) → IsOutside refused.why)) }
-
-    // The devices are left as they were, or repaired, or made new without entries.
-    ensures left { IfErr result (λ refused. IsLeft (refused.disks.manifest ≡ disks.manifest) (refused.disks.tables ≡ disks.tables)
-        (D.moments disks.log) (D.moments refused.disks.log) (D.moments disks.manifest) (D.moments refused.disks.manifest)
-        (D.moments disks.tables) (D.moments refused.disks.tables) refused.why) }
-
-    // At each moment since its beginning a crash leaves the bytes of the log and of the manifest as they were found, or a log of
-    // their records; but where the head's gate was not 01 it may leave none, and where the last record's was not, all but that one.
-    ensures log_survives { MatchResult result
-        (λ parts. SurvivesThrough wal.MAGIC id (D.moments disks.log) parts.wal.moments)
-        (λ refused. SurvivesThrough wal.MAGIC id (D.moments disks.log) (D.moments refused.disks.log)) }
-    ensures manifest_survives { IfOk result (λ parts. SurvivesThrough manifest.MAGIC parts.wal.id (D.moments disks.manifest) parts.manifest.log.moments) }
-
-    // What each crash at one moment would leave acknowledged, each crash at a later moment leaves too.
-    ensures log_durable { MatchResult result
-        (λ parts. LosesNoRecord wal.MAGIC (D.moments disks.log) parts.wal.moments)
-        (λ refused. LosesNoRecord wal.MAGIC (D.moments disks.log) (D.moments refused.disks.log)) }
-    ensures manifest_durable { MatchResult result
-        (λ parts. LosesNoRecord manifest.MAGIC (D.moments disks.manifest) parts.manifest.log.moments)
-        (λ refused. LosesNoRecord manifest.MAGIC (D.moments disks.manifest) (D.moments refused.disks.manifest)) }
-
-    ensures log_later { MatchResult result (λ parts. D.faults disks.log ≤ parts.wal.faults) (λ refused. D.faults disks.log ≤ D.faults refused.disks.log) }
-    ensures manifest_later { MatchResult result (λ parts. D.faults disks.manifest ≤ parts.manifest.log.faults) (λ refused. D.faults disks.manifest ≤ D.faults refused.disks.manifest) }
-    ensures tables_later { MatchResult result (λ parts. D.faults disks.tables ≤ D.faults parts.tables) (λ refused. D.faults disks.tables ≤ D.faults refused.disks.tables) }
+    ensures found { IfOk result (λ parts. ArePartsOf id (devices_of D.moments D.faults disks) parts.wal parts.history.entries parts.manifest (D.faults parts.tables) parts.store) }
+    ensures refused { IfErr result (λ refused. IsRefusedFrom id (refused.disks.manifest ≡ disks.manifest) (refused.disks.tables ≡ disks.tables)
+        (devices_of D.moments D.faults disks) (devices_of D.moments D.faults refused.disks) refused.why) }
 {
     a_store_is_opened_in_one_way();
     let Disks {

@@ -125,6 +125,7 @@ module _ (set first : TableSetState) (parts : List (List Version)) (failed : Opt
         edits = k.edits;
         next = next;
         next_parts = after parts;
+        stores = stored;
         last_is = ap (λ (e : Edit). installed_of e parts) last;
         next_is = made;
         manifest = passed k.edits stored.manifest open_before;
@@ -227,12 +228,13 @@ module _ (set first : TableSetState) (parts : List (List Version)) (failed : Opt
       refused_table Halted refused = let halted = refused.0 in absurd cc
 
 -- an install that called no device
-pub nothing_called : (set first : TableSetState) (parts : List (List Version)) (failed : Option FailedInstall) → IsEdits (edits_state set first parts failed) → (next : Edit) (after : List (List Version) → List (List Version)) (edit : InstalledEdit) (now : EditsState)
+pub nothing_called : (set first : TableSetState) (parts : List (List Version)) (failed : Option FailedInstall) → IsEdits (edits_state set first parts failed) → set.halted ≡ false → (next : Edit) (after : List (List Version) → List (List Version)) (edit : InstalledEdit) (now : EditsState)
     → edit ≡ installed_of next (after parts) → now.set ≡ set → SurvivesInstall (edits_state set first parts failed) now edit
-nothing_called set first parts failed k next after edit now made same = rw same record {
+nothing_called set first parts failed k running next after edit now made same = rw same record {
   edits = k.edits;
   next = next;
   next_parts = after parts;
+  stores = running_stores set k.edits k.next parts k.next_parts (k.running running) k.stores;
   last_is = ap (λ (e : Edit). installed_of e parts) k.stores.manifest.last;
   next_is = made;
   manifest = ([], refl, tt);

@@ -19,8 +19,6 @@ use Rattle.wp_model.specs.Covered.{IsCovered, is_among}
 use Rattle.wp_model.specs.Flushed.{InstalledEdit, IsEditCovered, later_versions}
 use Rattle.wp_model.specs.History.{is_undecided, undecided}
 use Rattle.wp_model.specs.Legal.{undone_last}
-use Rattle.wp_model.specs.LockTables.{LockTables}
-use Rattle.wp_model.specs.PreparedTables.{PreparedTables}
 use Rattle.wp_model.specs.Snapshots.{Snapshots}
 use Rattle.wp_model.specs.Versions.{version_at}
 use Rattle.wp_model.proofs.Entries.{undone_after}
@@ -42,7 +40,6 @@ use Rattle.wp_wal.specs.Wal.{WalState}
 use Rattle.wp_core.specs.Turns.{Turn, write_turn, prepared_turn, snapshots_turn, store_turn, locks_turn, tables_turn, all_free}
 use Rattle.wp_core.specs.Changes.{turn_index}
 use Rattle.wp_core.specs.Runs.{IsOpening}
-use Rattle.wp_history.specs.Opened.{AreOpened}
 use Rattle.wp_core.specs.Sound.Store.{IsStored, NoneFlushed}
 use Rattle.wp_core.specs.Tables.{Installed, live_numbers, up_to}
 use Rattle.wp_core.specs.Tables as table
@@ -55,7 +52,7 @@ use Rattle.wp_rule.specs.Shows.{Founds, IsPart}
 use Rattle.wp_parts.specs.Log.{LogState, log_state}
 use Rattle.wp_parts.specs.Stock.{StockState, store_table}
 use Rattle.wp_parts.specs.Edits.{EditsState, edits_state}
-use Rattle.wp_parts.specs.Opening.{AreDelayed, AreFilled, IsFlagOf, running_set}
+use Rattle.wp_parts.specs.Opening.{AreFilled, IsFlagOf, running_set}
 use Rattle.wp_parts.specs.Parts.{content, LogStands, EditsStand, tells}
 use Rattle.wp_parts.specs.declared.part.Part.{Part}
 use Rattle.wp_parts.specs.declared.part.Part.TheVariants as part
@@ -190,7 +187,7 @@ module _ (asked : ℕ) (log manifest tables : List Moment) (wal : WalState) (his
 
   -- ---- the world
 
-  module _ (faults : ℕ) (t : PreparedTables) (names : LockTables) (delayed : AreDelayed history t) (are_opened : AreOpened history names) (client : List ℕ) (cells flag : ℕ) (some_cells : 1 ≤ cells) (flagged : IsFlagOf history flag) where
+  module _ {D : Type 0} (faults : ℕ) (slots : List (Part D)) (f : AreFilled wal history (running_set edits now faults) store slots) (client : List ℕ) (cells flag : ℕ) (some_cells : 1 ≤ cells) (flagged : IsFlagOf history flag) where
     abbrev installed : Installed
     installed = (edits_state (running_set edits now faults) (running_set edits now faults) store.tables None).table
 
@@ -203,10 +200,10 @@ module _ (asked : ℕ) (log manifest tables : List Moment) (wal : WalState) (his
       cache = replicate cells 0;
       holders = all_free;
       writes = (log_state wal wal history [] false []).table;
-      prepared = t;
+      prepared = f.prepared.value;
       snapshots = finite.empty;
       store = store_table (record { parts = store; floor = length history });
-      locks = names;
+      locks = f.locks.value;
       installed = installed;
       first_edit = last;
       actors = new_actor true client history ∷ [];
@@ -228,9 +225,9 @@ module _ (asked : ℕ) (log manifest tables : List Moment) (wal : WalState) (his
       words = rw length-replicate some_cells;
       cache = All-replicate (λ word. word ≡ 0) cells 0 refl;
       holders = refl;
-      heap = delayed.heap;
-      delayed = delayed.delayed;
-      delayed_commits = delayed.delayed_commits;
+      heap = f.delayed.heap;
+      delayed = f.delayed.delayed;
+      delayed_commits = f.delayed.delayed_commits;
       delayed_flag = flagged.0;
       delayed_free = flagged.1;
       old_flag = refl;
@@ -240,22 +237,21 @@ module _ (asked : ℕ) (log manifest tables : List Moment) (wal : WalState) (his
       first_edit = refl;
       not_failed = none_failed;
       running = refl;
-      locks = are_opened;
+      locks = f.locked;
       client = client;
       actors = refl;
     }
 
-    module _ {D : Type 0} (slots : List (Part D)) (f : AreFilled wal history (running_set edits now faults) store.tables slots) (tables_are : f.prepared.value ≡ t) (none : f.snaps.value ≡ finite.empty)
-        (stock_is : f.stock.value ≡ record { parts = store; floor = length history }) (names_are : f.locks.value ≡ names) (log_told : LogStands f.log.value) (set_told : EditsStand f.edits.value) where
+    module _ (log_told : LogStands f.log.value) (set_told : EditsStand f.edits.value) where
       abbrev list : List (Part D)
       list = part.Write f.log ∷ part.Prepared f.prepared ∷ part.Snapshots f.snaps ∷ part.Store f.stock ∷ part.Locks f.locks ∷ part.Tables f.edits ∷ []
 
       each : (turn : Turn) → (x : Part D) × (get_elem? list (turn_index turn) ≡ some x) × IsPart content (tells list) x (content_of opened_world turn)
       each write_turn = (part.Write f.log, refl, (ap (λ (l : LogState). Some (table.writes l.table)) f.log_is, (log_told, refl)))
-      each prepared_turn = (part.Prepared f.prepared, refl, (ap (λ (p : PreparedTables). Some (table.prepared p)) tables_are, (tt, tt)))
-      each snapshots_turn = (part.Snapshots f.snaps, refl, (ap (λ (m : Snapshots). Some (table.snapshots m)) none, (tt, tt)))
-      each store_turn = (part.Store f.stock, refl, (ap (λ (s : StockState). Some (table.store (store_table s))) stock_is, (tt, tt)))
-      each locks_turn = (part.Locks f.locks, refl, (ap (λ (l : LockTables). Some (table.locks l)) names_are, (tt, tt)))
+      each prepared_turn = (part.Prepared f.prepared, refl, (refl, (tt, tt)))
+      each snapshots_turn = (part.Snapshots f.snaps, refl, (ap (λ (m : Snapshots). Some (table.snapshots m)) f.none_live, (tt, tt)))
+      each store_turn = (part.Store f.stock, refl, (ap (λ (s : StockState). Some (table.store (store_table s))) f.stock_is, (tt, tt)))
+      each locks_turn = (part.Locks f.locks, refl, (refl, (tt, tt)))
       each tables_turn = (part.Tables f.edits, refl, (ap (λ (e : EditsState). Some (table.installed e.table)) f.edits_are, (set_told, refl)))
 
       pub founds : Founds content (tells slots) client history cells flag slots

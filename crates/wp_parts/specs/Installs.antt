@@ -1,17 +1,17 @@
 -- The tables' edit that comes next, and what is left where it is refused.
-use Rattle.std.specs.Prelude.{◌≡◌, ◌⊎◌, ℕ, suc, List, ◌++◌, length, min, Some, None}
+use Rattle.std.specs.Prelude.{◌≡◌, ◌⊎◌, ℕ, suc, List, [], ◌++◌, length, min, Some, None}
 use Rattle.wp_model.specs.declared.version.Version.{Version}
 use Rattle.wp_model.specs.Flushed.{InstalledEdit}
 use Rattle.wp_outside.specs.Disk.{IfKnown, Passes}
 use Rattle.wp_outside.specs.Faults.{Rose}
 use Rattle.wp_gatelog.specs.Moments.{Leaves}
-use Rattle.wp_manifest.specs.Edit.{Edit}
+use Rattle.wp_manifest.specs.Edit.{Edit, no_edit}
 use Rattle.wp_manifest.specs.Spelling.{last_edit, IsManifestOrNext}
 use Rattle.wp_merge.specs.Merge.{sorted_of}
 use Rattle.wp_open.specs.Opens.{installed_of}
 use Rattle.wp_core.specs.Effects.{with_failed}
 use Rattle.wp_core.specs.Tables.{Installed}
-use Rattle.wp_tableset.specs.Set.{TableSetState, LeavesTables}
+use Rattle.wp_tableset.specs.Set.{TableSetState, LeavesTables, StoresTables}
 use Rattle.wp_tableset.specs.declared.error.TableSetError.{TableSetError}
 use Rattle.wp_tableset.specs.declared.error.TableSetError.TheVariants.{Memory, Fault, Halted}
 use Rattle.wp_parts.specs.Edits.{EditsState}
@@ -39,13 +39,14 @@ abbrev pub HadCause : TableSetState → TableSetState → TableSetError → Type
 HadCause old new Fault = Rose old.manifest.log.faults new.manifest.log.faults ⊎ Rose old.faults new.faults
 HadCause old new other = Unit {0}
 
--- What a crash leaves while an edit is being installed. At each moment the manifest spells the edits up to the last one, or those
--- and this one, and the tables' device has the last one's tables. Where the manifest's device was called for it, the tables'
+-- What a crash leaves while an edit is being installed. The set stored the edits up to the last one, and its tables. At each moment
+-- since then the manifest spells those, or those and this one, and the tables' device has the last one's tables. Where the manifest's device was called for it, the tables'
 -- device has this one's tables too in the end.
 pub record SurvivesInstall (old new : EditsState) (edit : InstalledEdit) : Type 0 where
   pub edits : List Edit
   pub next : Edit
   pub next_parts : List (List Version)
+  pub stores : StoresTables old.set edits no_edit old.parts []
   pub last_is : old.table.last ≡ installed_of (last_edit edits) old.parts
   pub next_is : edit ≡ installed_of next next_parts
   pub manifest : Passes (Leaves (IsManifestOrNext old.set.manifest.log.id edits next)) old.set.manifest.log.moments new.set.manifest.log.moments

@@ -1,5 +1,5 @@
 -- What an opened store is, behind the turns.
-use Rattle.std.specs.Prelude.{◌≡◌, ℕ, List, [], ◌∷◌, false, None, ◌↔◌, Box}
+use Rattle.std.specs.Prelude.{◌≡◌, ℕ, List, [], ◌∷◌, length, false, None, ◌↔◌, Box}
 use Rattle.std.specs.declared.alloc.Global.{Global}
 use Rattle.std.specs.FinSet as set
 use Rattle.std.specs.FinMap as finite
@@ -8,9 +8,10 @@ use Rattle.wp_model.specs.History.{undecided}
 use Rattle.wp_model.specs.LockTables.{LockTables}
 use Rattle.wp_model.specs.PreparedTables.{PreparedTables}
 use Rattle.wp_model.specs.Snapshots.{Snapshots}
-use Rattle.wp_model.specs.declared.version.Version.{Version}
+use Rattle.wp_history.specs.Opened.{AreOpened}
 use Rattle.wp_manifest.specs.Manifest.{ManifestState}
 use Rattle.wp_outside.specs.Disk.{Moment}
+use Rattle.wp_store.specs.Store.{StoreParts}
 use Rattle.wp_tableset.specs.Set.{TableSetState}
 use Rattle.wp_wal.specs.Wal.{WalState}
 use Rattle.wp_parts.specs.Log.{LogState, log_state}
@@ -33,8 +34,10 @@ IsFlagOf history flag = (flag ≡ 0) ↔ (undecided history ≡ [])
 abbrev pub running_set : ManifestState → List Moment → ℕ → TableSetState
 running_set manifest moments faults = record { manifest = manifest; moments = moments; faults = faults; halted = false }
 
--- The values behind the turns, in the turns' order: the log and the set are as they were opened.
-pub record AreFilled {D : Type 0} (wal : WalState) (history : List Entry) (set : TableSetState) (tables : List (List Version)) (slots : List (Part D)) : Type 0 where
+-- The values behind the turns, in the turns' order, as they were opened: nothing is pending; just the undecided prepares are
+-- delayed; no snapshot is live; the store's versions serve a reader at the history's end; and just the keys of the undecided
+-- prepares are locked.
+pub record AreFilled {D : Type 0} (wal : WalState) (history : List Entry) (set : TableSetState) (store : StoreParts) (slots : List (Part D)) : Type 0 where
   pub log : Box LogState Global
   pub prepared : Box PreparedTables Global
   pub snaps : Box Snapshots Global
@@ -43,4 +46,8 @@ pub record AreFilled {D : Type 0} (wal : WalState) (history : List Entry) (set :
   pub edits : Box EditsState Global
   pub are : slots ≡ part.Write log ∷ part.Prepared prepared ∷ part.Snapshots snaps ∷ part.Store stock ∷ part.Locks locks ∷ part.Tables edits ∷ []
   pub log_is : log.value ≡ log_state wal wal history [] false []
-  pub edits_are : edits.value ≡ edits_state set set tables None
+  pub delayed : AreDelayed history prepared.value
+  pub none_live : snaps.value ≡ finite.empty
+  pub stock_is : stock.value ≡ record { parts = store; floor = length history }
+  pub locked : AreOpened history locks.value
+  pub edits_are : edits.value ≡ edits_state set set store.tables None

@@ -3,6 +3,7 @@ ghost use Rattle.std.specs.Prelude.{◌≡◌, ◌≤◌, ◌<◌, ◌^◌, true
 ghost use Rattle.std.specs.Arc.{arc_value};
 ghost use Rattle.std.specs.List.{list_all};
 ghost use Rattle.std.specs.Option.{option_map};
+ghost use Rattle.wp_model.specs.Versions.{AreInOrder};
 ghost use Rattle.wp_outside.specs.Disk.{images};
 ghost use Rattle.wp_manifest.specs.Edit.{Edit, no_edit};
 ghost use Rattle.wp_merge.specs.Merge.{joined, sorted_of};
@@ -63,6 +64,20 @@ fn put_alone(tables: &mut Vec<TableVersions>, table: &Option<Arc<Table>>)
     }
 }
 
+/// For the proof alone: the manifest is open where the set runs.
+fn shows_running<D: Disk>(set: &TableSet<D>)
+    ensures { set.now.halted ≡ false → set.now.manifest.log.closed ≡ false }
+{
+    set.is_halted();
+}
+
+/// For the proof alone: versions are in order.
+fn shows_order(versions: &Versions)
+    ensures { AreInOrder versions.now }
+{
+    versions.as_slice();
+}
+
 impl<D: Disk> Edits<D> {
     /// The set as an opening gives it, with what the tables of its last edit have, the newest first.
     pub fn new(set: TableSet<D>, tables: Vec<TableVersions>) -> Edits<D>
@@ -71,7 +86,7 @@ impl<D: Disk> Edits<D> {
         requires running { set.halted ≡ false }
         ensures { result ≡ edits_state set set tables.items None }
     {
-        set.is_halted();
+        shows_running(&set);
         Edits {
             first: Snapshot::of(&set),
             set,
@@ -122,7 +137,7 @@ impl<D: Disk> Edits<D> {
         self.tables.reserve(1)?;
         match self.set.flush(versions, flushed) {
             Ok(table) => {
-                self.set.is_halted();
+                shows_running(&self.set);
                 self.tables.insert(0, TableVersions::of(&table)).unwrap();
                 Ok(table)
             }
@@ -152,12 +167,12 @@ impl<D: Disk> Edits<D> {
         ensures uncalled { versions.now ≡ [] → (self.new.set.moments ≡ self.old.set.moments) × (self.new.set.faults ≡ self.old.set.faults) }
         ensures first { self.new.first ≡ self.old.first }
     {
-        versions.as_slice();
+        shows_order(versions);
         let flushed = self.set.edit().flushed;
         self.tables.reserve(1)?;
         match self.set.compact(versions) {
             Ok(table) => {
-                self.set.is_halted();
+                shows_running(&self.set);
                 put_alone(&mut self.tables, &table);
                 Ok(table)
             }

@@ -49,6 +49,13 @@ impl<D: Disk> Model for Log<D> {
     ghost invariant = { λ l. IsKept (log_state l.wal l.first.value l.history.entries l.pending.items l.logged l.failed.value.items) l.history.room l.closed };
 }
 
+/// For the proof alone: a history is legal.
+fn shows_legal(history: &History)
+    ensures { IsLegal history.now.entries }
+{
+    history.entries();
+}
+
 impl<D: Disk> Log<D> {
     /// The log as an opening gives it, with nothing pending.
     pub fn new(alloc: Global, wal: Wal<D>, history: History) -> Log<D>
@@ -56,7 +63,7 @@ impl<D: Disk> Log<D> {
         requires running { wal.closed ≡ false }
         ensures { result ≡ log_state wal wal history.entries [] false [] }
     {
-        history.entries();
+        shows_legal(&history);
         let pending = Vec::new(alloc);
         Log {
             alloc,

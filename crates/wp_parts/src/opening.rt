@@ -164,7 +164,7 @@ pub fn guard<D: Disk + Drop>(alloc: Global, parts: Parts<D>) -> Result<Vec<Part<
         × PartsOpened asked log manifest tables parts.wal parts.history.entries parts.manifest (D.moments parts.tables) parts.store }
     ensures founds { IfOk result (λ slots. (client : List ℕ) (cells flag : ℕ) → 1 ≤ cells → IsFlagOf parts.history.entries flag
         → Founds content (tells slots.items) client parts.history.entries cells flag slots.items) }
-    ensures slots { IfOk result (λ slots. AreFilled parts.wal parts.history.entries (running_set parts.manifest (D.moments parts.tables) (D.faults parts.tables)) parts.store.tables slots.items) }
+    ensures slots { IfOk result (λ slots. AreFilled parts.wal parts.history.entries (running_set parts.manifest (D.moments parts.tables) (D.faults parts.tables)) parts.store slots.items) }
     ensures refused { IfErr result (λ disks. devices_of D.moments D.faults disks ≡ devices_behind parts.wal (running_set parts.manifest (D.moments parts.tables) (D.faults parts.tables))) }
 {
     let Ok((room, versions)) = room_for(alloc, &parts) else {

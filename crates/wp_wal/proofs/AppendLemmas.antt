@@ -1,23 +1,21 @@
 -- What an append makes of a log that stores a history.
-use Rattle.std.proofs.Common.{◌≡◌, ℕ, ◌+◌, Bool, true, false, List, [], ◌∷◌, ◌++◌, length, Option, Some, None, refl, ap, subst, ◌∙◌, inl, inr, arith, length-append}
+use Rattle.std.proofs.Common.{◌≡◌, ℕ, ◌+◌, Bool, true, false, List, [], ◌∷◌, ◌++◌, length, Option, Some, None, Result, Ok, Err, refl, sym, ap, subst, ◌∙◌, inl, inr, arith, length-append}
 use Rattle.std.specs.Prelude.{IfSome}
 use Rattle.wp_model.specs.declared.entry.Entry.{Entry}
 use Rattle.wp_outside.specs.Disk.{Moment, IsImage, IfKnown, Each, Passes}
 use Rattle.wp_entry.specs.Record.{IsRecord, record_bytes}
 use Rattle.wp_gatelog.specs.declared.log.AppendError.{AppendError}
 use Rattle.wp_gatelog.specs.declared.log.AppendError.TheVariants.{DiskFault, Closed}
-use Rattle.wp_gatelog.specs.Append.{FrameAppended, FrameRefused}
+use Rattle.wp_gatelog.specs.Append.{Appends, AppendsAfter, FrameAppended, FrameRefused}
 use Rattle.wp_gatelog.specs.Durability.{HasAcknowledged}
 use Rattle.wp_gatelog.specs.Log.{LogState, IsAtRest, BeforeOrAfter}
 use Rattle.wp_gatelog.specs.Moments.{Leaves}
-use Rattle.wp_gatelog.specs.Spelling.{Spells, frame_of, log_of}
+use Rattle.wp_gatelog.specs.Spelling.{Spells, log_of}
 use Rattle.wp_outside.proofs.Moments.{image_of_synced}
 use Rattle.wp_gatelog.proofs.AcknowledgedLemmas.{rest_acknowledged}
-use Rattle.wp_gatelog.proofs.AppendClauses.{GrowsThrough, AcknowledgesThrough, RestsAfter}
 use Rattle.wp_wal.specs.Spelling.{MAGIC, AreEntries, IsLogOf, IsLogOrNext, HasAcknowledgedEntries}
-use Rattle.wp_wal.specs.Wal.{Reserved, reserved_of, WalState, wal_state, StoresHistory, LeavesHistory, IsReserved, Appended, StoresWhenRefused}
+use Rattle.wp_wal.specs.Wal.{Reserved, reserved_of, WalState, wal_state, StoresHistory, LeavesHistory, IsReserved, AppendsNext, Appended}
 use Rattle.wp_wal.proofs.EntriesLemmas.{AreEntries-push}
-use Rattle.wp_wal.proofs.FrameLemmas.{length-frame_of}
 
 -- ---- images
 
@@ -71,101 +69,112 @@ left_both P Q old new before ps qs =
 
 -- ---- the record after the history
 
--- The frame is that of the record of the next entries, which is reserved with their count.
-record IsNext (history next : List Entry) (due count : ℕ) (frame : List ℕ) : Type 0 where
-  framed : frame ≡ frame_of (record_bytes (length history + 1) next)
+-- The bytes are the record of the next entries, which is reserved with their count.
+record IsNext (history next : List Entry) (due : ℕ) (r : Reserved) : Type 0 where
+  spelled : r.bytes ≡ record_bytes (length history + 1) next
   numbered : due ≡ length history + 1
-  counted : count ≡ length next
+  counted : r.count ≡ length next
   is : IsRecord (length history + 1) next
 
-next_reserved : (log : LogState) (due : ℕ) (reserved : Option Reserved) (r : Reserved) (frame : List ℕ) (history next : List Entry) → reserved ≡ Some r → frame ≡ frame_of r.bytes → IsReserved (wal_state log due reserved) history next → IsNext history next due r.count frame
-next_reserved log due reserved r frame history next there framed is =
+next_reserved : (log : LogState) (due : ℕ) (reserved : Option Reserved) (r : Reserved) (history next : List Entry) → reserved ≡ Some r → IsReserved (wal_state log due reserved) history next → IsNext history next due r
+next_reserved log due reserved r history next there is =
     let numbered : due ≡ length history + 1 = is.stores.numbered in
     let lies : reserved ≡ Some (reserved_of due next) = is.reserved in
     let same : r ≡ reserved_of due next = cc in
     record {
-      framed = framed ∙ ap (λ (s : Reserved). frame_of s.bytes) same ∙ ap (λ (n : ℕ). frame_of (record_bytes n next)) numbered;
+      spelled = ap (λ (s : Reserved). s.bytes) same ∙ ap (λ (n : ℕ). record_bytes n next) numbered;
       numbered = numbered;
       counted = ap (λ (s : Reserved). s.count) same;
       is = subst (λ (n : ℕ). IsRecord n next) numbered is.is;
     }
 
--- before or after, an image spells the history or it with the next entries
-grown_history : (id : ℕ) (records : List (List ℕ)) (history next : List Entry) (image : List ℕ) → AreEntries 1 records history → IsRecord (length history + 1) next → BeforeOrAfter MAGIC id records (record_bytes (length history + 1) next) image → IsLogOrNext id history next image
-grown_history id records history next image spelled one h =
-    elim h [
-      | inl before ↦ inl (records, before, spelled)
-      | inr after ↦ inr (records ++ record_bytes (length history + 1) next ∷ [], after, AreEntries-push records history next spelled one)
-    ]
-
--- ---- an append
-
-pub appended_reserved : (old new : LogState) (due : ℕ) (reserved : Option Reserved) (r : Reserved) (frame : List ℕ) → reserved ≡ Some r → frame ≡ frame_of r.bytes → FrameAppended old new (length frame)
+pub appended_reserved : (old new : LogState) (due : ℕ) (reserved : Option Reserved) (r : Reserved) → reserved ≡ Some r → FrameAppended old new r.bytes
     → IfSome reserved (Appended (wal_state old due reserved) (wal_state new (due + r.count) None))
-appended_reserved old new due reserved r frame there framed appended =
-    let size : length frame ≡ length r.bytes + 9 = ap (λ (xs : List ℕ). length xs) framed ∙ length-frame_of r.bytes in
-    let grown : new.end ≡ old.end + length frame = ap (λ (s : LogState). s.end) appended.changed in
+appended_reserved old new due reserved r there appended =
+    let grown : new.end ≡ old.end + (length r.bytes + 9) = ap (λ (s : LogState). s.end) appended.changed in
     let end : new.end ≡ old.end + length r.bytes + 9 = omega arith in
     let id : new.id ≡ old.id = ap (λ (s : LogState). s.id) appended.changed in
     let count : new.count ≡ old.count + 1 = ap (λ (s : LogState). s.count) appended.changed in
     let closed : new.closed ≡ old.closed = ap (λ (s : LogState). s.closed) appended.changed in
     rw there (record { was_open = appended.was_open; changed = rw (end, id, count, closed) refl })
 
-pub passes_history : (old new : LogState) (due : ℕ) (reserved : Option Reserved) (r : Reserved) (frame : List ℕ) → reserved ≡ Some r → frame ≡ frame_of r.bytes → GrowsThrough old new frame
-    → (history next : List Entry) → IsReserved (wal_state old due reserved) history next → Passes (Leaves (IsLogOrNext old.id history next)) old.moments new.moments
-passes_history old new due reserved r frame there framed grows history next is =
-    let one = next_reserved old due reserved r frame history next there framed is in
-    let records = is.stores.records in
-    let bytes = record_bytes (length history + 1) next in
-    let passed = grows MAGIC records bytes one.framed (is.stores.rests is.running) in
-    (passed.0, passed.1, each_other (BeforeOrAfter MAGIC old.id records bytes) (IsLogOrNext old.id history next) passed.0 (λ image h. grown_history old.id records history next image is.stores.spelled one.is h) passed.2)
+module _ (old new : LogState) (due : ℕ) (reserved : Option Reserved) (r : Reserved) (there : reserved ≡ Some r) (history next : List Entry) (is : IsReserved (wal_state old due reserved) history next) where
+  abbrev records : List (List ℕ)
+  records = is.stores.records
 
-pub passes_acknowledged : (old new : LogState) (due : ℕ) (reserved : Option Reserved) → AcknowledgesThrough old new
-    → (history next : List Entry) → IsReserved (wal_state old due reserved) history next → Passes (Leaves (HasAcknowledgedEntries old.id history)) old.moments new.moments
-passes_acknowledged old new due reserved has history next is =
-    let records = is.stores.records in
-    let passed = has MAGIC records (is.stores.rests is.running) in
-    (passed.0, passed.1, each_other (HasAcknowledged MAGIC old.id records) (HasAcknowledgedEntries old.id history) passed.0 (λ image h. (records, h, is.stores.spelled)) passed.2)
+  one : IsNext history next due r
+  one = next_reserved old due reserved r history next there is
 
-pub stores_appended : (old new : LogState) (due : ℕ) (reserved : Option Reserved) (r : Reserved) (frame : List ℕ) (len : ℕ) → reserved ≡ Some r → frame ≡ frame_of r.bytes → FrameAppended old new len → RestsAfter old new frame
-    → (history next : List Entry) → IsReserved (wal_state old due reserved) history next → StoresHistory (wal_state new (due + r.count) None) (history ++ next) []
-stores_appended old new due reserved r frame len there framed appended rests history next is =
-    let one = next_reserved old due reserved r frame history next there framed is in
-    let records = is.stores.records in
-    let bytes = record_bytes (length history + 1) next in
-    let count : new.count ≡ old.count + 1 = ap (λ (s : LogState). s.count) appended.changed in
-    let before : old.count ≡ length records = is.stores.counted in
-    let running : new.closed ≡ old.closed = ap (λ (s : LogState). s.closed) appended.changed in
-    let was_open = appended.was_open in
-    record {
-      records = records ++ bytes ∷ [];
-      spelled = AreEntries-push records history next is.stores.spelled one.is;
-      counted = omega (arith, count, before, length-append records (bytes ∷ []));
-      numbered = omega (arith, one.numbered, one.counted, length-append history next);
-      rests = λ _. rests MAGIC records bytes one.framed (is.stores.rests is.running);
-      left = λ closed. absurd cc;
-    }
+  spelled_next : AreEntries 1 (records ++ r.bytes ∷ []) (history ++ next)
+  spelled_next =
+      subst (λ (bytes : List ℕ). AreEntries 1 (records ++ bytes ∷ []) (history ++ next)) (sym one.spelled) (AreEntries-push records history next is.stores.spelled one.is)
 
-stores_failed : (old new : LogState) (due : ℕ) (reserved : Option Reserved) (r : Reserved) (frame : List ℕ) → reserved ≡ Some r → frame ≡ frame_of r.bytes → FrameRefused old new DiskFault → GrowsThrough old new frame → AcknowledgesThrough old new
-    → (history next : List Entry) → IsReserved (wal_state old due reserved) history next → StoresHistory (wal_state new due None) history next
-stores_failed old new due reserved r frame there framed refuses grows has history next is =
-    let passed = passes_history old new due reserved r frame there framed grows history next is in
-    let still = passes_acknowledged old new due reserved has history next is in
-    let before = known_other (λ image. IsLogOf old.id history image × HasAcknowledgedEntries old.id history image) (λ image. IsLogOrNext old.id history next image × HasAcknowledgedEntries old.id history image) old.moments
-    (λ image h. (inl h.0, h.1)) (running_history (wal_state old due reserved) history [] is.stores is.running) in
-    let same : new.id ≡ old.id = ap (λ (s : LogState). s.id) refuses.2 in
-    let closed : new.closed ≡ true = ap (λ (s : LogState). s.closed) refuses.2 in
-    let count : new.count ≡ old.count = ap (λ (s : LogState). s.count) refuses.2 in
-    record {
-      records = is.stores.records;
-      spelled = is.stores.spelled;
-      counted = count ∙ is.stores.counted;
-      numbered = is.stores.numbered;
-      rests = λ reopened. absurd cc;
-      left = λ _. rw same (left_both (IsLogOrNext old.id history next) (HasAcknowledgedEntries old.id history) old.moments new.moments before passed still);
-    }
+  -- before or after, an image spells the history or it with the next entries
+  grown : (image : List ℕ) → BeforeOrAfter MAGIC old.id records r.bytes image → IsLogOrNext old.id history next image
+  grown image h =
+      elim h [
+        | inl before ↦ inl (records, before, is.stores.spelled)
+        | inr after ↦ inr (records ++ r.bytes ∷ [], after, spelled_next)
+      ]
 
-pub stores_refused : (old new : LogState) (due : ℕ) (reserved : Option Reserved) (r : Reserved) (frame : List ℕ) (why : AppendError) → reserved ≡ Some r → frame ≡ frame_of r.bytes → FrameRefused old new why → GrowsThrough old new frame → AcknowledgesThrough old new
-    → StoresWhenRefused (wal_state old due reserved) (wal_state new due None) why
-stores_refused old new due reserved r frame DiskFault there framed refuses grows has = stores_failed old new due reserved r frame there framed refuses grows has
-stores_refused old new due reserved r frame (Closed n) there framed refuses grows has = tt
+  module _ {T E : Type 0} (result : Result T E) (appends : Appends r.bytes old new result) where
+    abbrev after : AppendsAfter MAGIC records r.bytes old new result
+    after = appends MAGIC records is.stores.rests
+
+    passes : Passes (Leaves (IsLogOrNext old.id history next)) old.moments new.moments
+    passes =
+        let passed = after.any_moment in
+        (passed.0, passed.1, each_other (BeforeOrAfter MAGIC old.id records r.bytes) (IsLogOrNext old.id history next) passed.0 grown passed.2)
+
+    acknowledges : Passes (Leaves (HasAcknowledgedEntries old.id history)) old.moments new.moments
+    acknowledges =
+        let passed = after.acknowledged in
+        (passed.0, passed.1, each_other (HasAcknowledged MAGIC old.id records) (HasAcknowledgedEntries old.id history) passed.0 (λ image h. (records, h, is.stores.spelled)) passed.2)
+
+  pub appends_next : {T U E F : Type 0} (x : T) (y : U) → FrameAppended old new r.bytes → Appends {E = E} r.bytes old new (Ok x) → AppendsNext {E = F} history next (wal_state old due reserved) (wal_state new (due + r.count) None) (Ok y)
+  appends_next x y appended appends =
+      let count : new.count ≡ old.count + 1 = ap (λ (s : LogState). s.count) appended.changed in
+      let before : old.count ≡ length records = is.stores.counted in
+      let running : new.closed ≡ old.closed = ap (λ (s : LogState). s.closed) appended.changed in
+      let was_open = appended.was_open in
+      record {
+        any_moment = passes (Ok x) appends;
+        acknowledged = acknowledges (Ok x) appends;
+        stores = record {
+          records = records ++ r.bytes ∷ [];
+          spelled = spelled_next;
+          counted = omega (arith, count, before, length-append records (r.bytes ∷ []));
+          numbered = omega (arith, one.numbered, one.counted, length-append history next);
+          rests = λ _. (after (Ok x) appends).rests;
+          left = λ closed. absurd cc;
+        };
+        refused = tt;
+      }
+
+  stores_failed : {T : Type 0} → FrameRefused old new DiskFault → Appends {T = T} {E = AppendError} r.bytes old new (Err DiskFault) → StoresHistory (wal_state new due None) history next
+  stores_failed refuses appends =
+      let before = known_other (λ image. IsLogOf old.id history image × HasAcknowledgedEntries old.id history image) (λ image. IsLogOrNext old.id history next image × HasAcknowledgedEntries old.id history image) old.moments
+      (λ image h. (inl h.0, h.1)) (running_history (wal_state old due reserved) history [] is.stores is.running) in
+      let same : new.id ≡ old.id = ap (λ (s : LogState). s.id) refuses.2 in
+      let closed : new.closed ≡ true = ap (λ (s : LogState). s.closed) refuses.2 in
+      let count : new.count ≡ old.count = ap (λ (s : LogState). s.count) refuses.2 in
+      record {
+        records = records;
+        spelled = is.stores.spelled;
+        counted = count ∙ is.stores.counted;
+        numbered = is.stores.numbered;
+        rests = λ reopened. absurd cc;
+        left = λ _. rw same (left_both (IsLogOrNext old.id history next) (HasAcknowledgedEntries old.id history) old.moments new.moments before (passes (Err DiskFault) appends) (acknowledges (Err DiskFault) appends));
+      }
+
+  pub refuses_next : {T U F : Type 0} (why : AppendError) (e : F) → FrameRefused old new why → Appends {T = T} r.bytes old new (Err why) → AppendsNext {T = U} history next (wal_state old due reserved) (wal_state new due None) (Err e)
+  refuses_next DiskFault e refuses appends = record {
+    any_moment = passes (Err DiskFault) appends;
+    acknowledged = acknowledges (Err DiskFault) appends;
+    stores = tt;
+    refused = stores_failed refuses appends;
+  }
+  refuses_next (Closed n) e refuses appends =
+      let shut : old.closed ≡ true = refuses.0 in
+      let running : old.closed ≡ false = is.running in
+      absurd cc

@@ -1,4 +1,3 @@
 pub mod EntriesLemmas
-pub mod FrameLemmas
 pub mod AppendLemmas
 pub mod LawLemmas

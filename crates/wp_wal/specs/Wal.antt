@@ -1,7 +1,7 @@
 -- An open log that stores a history, and what an append makes of it.
-use Rattle.std.specs.Prelude.{◌≡◌, ℕ, ◌+◌, ◌-◌, ◌^◌, ◌≤◌, Bool, true, false, List, [], length, take, drop, Option, Some, None}
+use Rattle.std.specs.Prelude.{◌≡◌, ℕ, ◌+◌, ◌^◌, ◌≤◌, Bool, true, false, List, [], ◌++◌, length, Option, Some, None, Result, OnOk, OnErr}
 use Rattle.wp_model.specs.declared.entry.Entry.{Entry}
-use Rattle.wp_outside.specs.Disk.{Moment, IfKnown}
+use Rattle.wp_outside.specs.Disk.{Moment, IfKnown, Passes}
 use Rattle.wp_outside.specs.Faults.{Rose}
 use Rattle.wp_entry.specs.Record.{IsRecord, record_bytes}
 use Rattle.wp_gatelog.specs.declared.log.AppendError.{AppendError}
@@ -21,10 +21,6 @@ pub record Reserved : Type 0 where
 -- the record of these entries, of which the first has that number
 abbrev pub reserved_of : ℕ → List Entry → Reserved
 reserved_of first entries = record { bytes = record_bytes first entries; count = length entries }
-
--- the record whose frame this is: after eight bytes of length, and before a gate
-abbrev pub framed_in : List ℕ → List ℕ
-framed_in frame = take (length frame - 9) (drop 8 frame)
 
 pub record WalState : Type 0 where
   pub moments : List Moment  -- its disk's
@@ -81,6 +77,16 @@ pub record IsReserved (wal : WalState) (history next : List Entry) : Type 0 wher
   pub is : IsRecord wal.due next
   pub reserved : wal.reserved ≡ Some (reserved_of wal.due next)
 
+-- The record of these entries, which is reserved, is appended to a log that stores the history.
+pub record AppendsNext {T E : Type 0} (history next : List Entry) (old new : WalState) (result : Result T E) : Type 0 where
+  -- at each moment since its beginning a crash leaves the history, or it and the next entries, whole
+  pub any_moment : Passes (Leaves (IsLogOrNext old.id history next)) old.moments new.moments
+  -- the history is acknowledged all along
+  pub acknowledged : Passes (Leaves (HasAcknowledgedEntries old.id history)) old.moments new.moments
+  -- once it is acknowledged, a crash leaves the next entries too; and after a fault still one of the two
+  pub stores : OnOk result (StoresHistory new (history ++ next) [])
+  pub refused : OnErr result (StoresHistory new history next)
+
 -- the record that was reserved is in the log: with nine bytes of its frame, the length and a gate
 pub record Appended (old new : WalState) (added : Reserved) : Type 0 where
   pub was_open : old.closed ≡ false
@@ -99,11 +105,6 @@ abbrev pub Refuses : WalState → WalState → AppendError → Type 0
 Refuses old new DiskFault =
     (old.closed ≡ false) × Rose old.faults new.faults × (new ≡ record old { moments = new.moments; faults = new.faults; closed = true; reserved = None })
 Refuses old new (Closed n) = (old.closed ≡ true) × (n ≡ old.count) × (new ≡ record old { reserved = None })
-
--- after a fault a crash leaves the history, or it and the next entries
-abbrev pub StoresWhenRefused : WalState → WalState → AppendError → Type 0
-StoresWhenRefused old new DiskFault = (history next : List Entry) → IsReserved old history next → StoresHistory new history next
-StoresWhenRefused old new (Closed n) = Unit {0}
 
 -- Records that each crash at one moment would leave acknowledged, each crash at a later moment leaves so too.
 abbrev pub LosesNothing : List Moment → List Moment → Type 0

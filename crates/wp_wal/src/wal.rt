@@ -1,16 +1,12 @@
 //! An open write-ahead log.
-ghost use Rattle.std.specs.Prelude.{◌≡◌, ◌+◌, ◌≤◌, ◌++◌, List, [], Some, None, true, false, is_some, length, IfOk, IfErr, IfSome, OnOk, OnErr, MatchResult};
+ghost use Rattle.std.specs.Prelude.{◌≡◌, ◌≤◌, List, Some, true, false, is_some, IfOk, IfErr, IfSome, OnOk, OnErr, MatchResult};
 ghost use Rattle.wp_model.specs.declared.entry.Entry.{Entry};
-ghost use Rattle.wp_model.specs.Legal.{IsLegal};
-ghost use Rattle.wp_outside.specs.Disk.{IfKnown, Passes};
-ghost use Rattle.wp_outside.specs.Faults.{Rose};
+ghost use Rattle.wp_outside.specs.Disk.{IfKnown};
 ghost use Rattle.wp_entry.specs.Record.{FormRecord, IsRecord};
-ghost use Rattle.wp_gatelog.specs.Moments.{Leaves};
-ghost use Rattle.wp_gatelog.specs.Opening.{SurvivesThrough};
-ghost use Rattle.wp_gatelog.specs.Spelling.{IsUnmade};
-ghost use Rattle.wp_wal.specs.Spelling.{MAGIC, IsLogOf, IsLogOrNext, HasAcknowledgedEntries};
-ghost use Rattle.wp_wal.specs.Opening.{IsLogCause, LeavesRecords};
-ghost use Rattle.wp_wal.specs.Wal.{LosesNothing, StoresHistory, IsReserved, LeavesHistory, Appended, Refuses, StoresWhenRefused, reserved_of};
+ghost use Rattle.wp_gatelog.specs.Opening.{KeepsLog};
+ghost use Rattle.wp_wal.specs.Spelling.{MAGIC};
+ghost use Rattle.wp_wal.specs.Opening.{IsOpenedLog, IsUnopenedLog};
+ghost use Rattle.wp_wal.specs.Wal.{LosesNothing, StoresHistory, IsReserved, LeavesHistory, AppendsNext, Appended, Refuses, reserved_of};
 
 use crate::error::WalError;
 use crate::read::history_of;
@@ -53,29 +49,13 @@ impl<D: Disk> Wal<D> {
         disk: D,
         id: u32,
     ) -> Result<(Wal<D>, History), DiskRefused<D, WalError>>
-        ensures stores { IfOk result (λ opened. StoresHistory opened.0 opened.1.entries []) }
-        ensures fresh { IfOk result (λ opened. (opened.0.closed ≡ false) × (opened.0.reserved ≡ None)) }
-        ensures legal { IfOk result (λ opened. IsLegal opened.1.entries) }
-
-        // The history is the one that the disk spelled as it was handed in, and the id the one in its head.
-        ensures found { IfOk result (λ opened. IfKnown (D.moments disk) (λ m. IsLogOf opened.0.id opened.1.entries m.reads)) }
-        ensures made { IfOk result (λ opened. IfKnown (D.moments disk) (λ m. IsUnmade m.reads → opened.0.id ≡ id)) }
-
-        ensures cause { IfErr result (λ refused. IsLogCause (Rose (D.faults disk) (D.faults refused.disk)) (D.moments disk) refused.why) }
-
-        // The bytes are left as they were, or the log in them repaired, with all of its records.
-        ensures left { IfErr result (λ refused. LeavesRecords (D.moments disk) (D.moments refused.disk) refused.why) }
-
-        // At each moment since its beginning a crash leaves the bytes as they were found, or a log of their records; but
-        // where the head's gate was not 01 it may leave none, and where the last record's was not, all but that one.
-        ensures survives { MatchResult result (λ opened. SurvivesThrough MAGIC id (D.moments disk) opened.0.moments)
-            (λ refused. SurvivesThrough MAGIC id (D.moments disk) (D.moments refused.disk)) }
-
-        // What each crash at one moment would leave acknowledged, each crash at a later moment leaves too.
-        ensures durable { MatchResult result
-            (λ opened. LosesNothing (D.moments disk) opened.0.moments)
-            (λ refused. LosesNothing (D.moments disk) (D.moments refused.disk)) }
-        ensures later { MatchResult result (λ opened. D.faults disk ≤ opened.0.faults) (λ refused. D.faults disk ≤ D.faults refused.disk) }
+        ensures opened { IfOk result (λ opened. IsOpenedLog id (D.moments disk) opened.0 opened.1.entries) }
+        ensures refused { IfErr result (λ refused. IsUnopenedLog
+            (D.moments disk) (D.moments refused.disk) (D.faults disk) (D.faults refused.disk) refused.why) }
+        ensures kept { MatchResult result
+            (λ opened. KeepsLog MAGIC id (D.moments disk) opened.0.moments (D.faults disk) opened.0.faults)
+            (λ refused. KeepsLog MAGIC id
+            (D.moments disk) (D.moments refused.disk) (D.faults disk) (D.faults refused.disk)) }
     {
         let (log, records) = match GateLog::open(alloc, disk, LOG_MAGIC, id) {
             Ok(opened) => opened,
@@ -125,26 +105,14 @@ impl<D: Disk> Wal<D> {
     /// afterwards; after a fault the log is closed, and is to be opened again.
     pub fn append(&mut self) -> Result<(), AppendError>
         requires { is_some self.old.reserved ≡ true }
+        ensures appends { (history entries : List Entry) → IsReserved self.old history entries
+            → AppendsNext history entries self.old self.new result }
 
-        // At each moment since its beginning a crash leaves the history, or it and the new entries, whole.
-        ensures any_moment { (history entries : List Entry) → IsReserved self.old history entries
-            → Passes (Leaves (IsLogOrNext self.old.id history entries)) self.old.moments self.new.moments }
-
-        // What each crash at one moment would leave acknowledged, each crash at a later moment leaves too: the history,
-        // all along.
+        // What each crash at one moment would leave acknowledged, each crash at a later moment leaves too.
         ensures durable { (history next : List Entry) → StoresHistory self.old history next
             → LosesNothing self.old.moments self.new.moments }
-        ensures acknowledged { (history entries : List Entry) → IsReserved self.old history entries
-            → Passes (Leaves (HasAcknowledgedEntries self.old.id history)) self.old.moments self.new.moments }
-
-        // Once it is acknowledged, a crash leaves the new entries; and after a fault still one of the two.
-        ensures stores { OnOk result ((history entries : List Entry) → IsReserved self.old history entries
-            → StoresHistory self.new (history ++ entries) []) }
-        ensures refused { IfErr result (StoresWhenRefused self.old self.new) }
-
         ensures ok { OnOk result (IfSome self.old.reserved (Appended self.old self.new)) }
         ensures err { IfErr result (Refuses self.old self.new) }
-        ensures spent { self.new.reserved ≡ None }
         ensures later { self.old.faults ≤ self.new.faults }
     {
         let Some(reserved) = self.reserved.take() else {

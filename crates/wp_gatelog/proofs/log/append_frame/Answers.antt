@@ -1,25 +1,32 @@
 use Rattle.std.proofs.lemmas.Result.{err_from_is_err_and}
-use Rattle.std.proofs.Common.{◌+◌, ◌∷◌, [], ◌++◌, length}
+use Rattle.std.proofs.Common.{◌+◌, ◌<◌, ◌≤◌, ◌^◌, ◌∷◌, [], ◌++◌, length, arith}
 use Rattle.wp_gatelog.specs.Log.{BeforeOrAfter, IsAtRest}
 use Rattle.wp_gatelog.specs.Spelling.{frame_of, log_of}
-use Rattle.wp_gatelog.proofs.AppendLemmas.{fits_disk}
-use Rattle.wp_gatelog.proofs.ChangeLemmas.{brings_known, brings_failed, brings_on}
+use Rattle.wp_gatelog.proofs.AppendLemmas.{frame_end}
+use Rattle.wp_gatelog.proofs.ChangeLemmas.{brings_known, brings_failed, brings_on, on_ok}
 use Rattle.wp_gatelog.proofs.FrameLemmas.{brings_frame, brings_gate, rest_synced}
 use Rattle.wp_gatelog.proofs.log.append_frame.Goals as goal
 
 pub returns-in_err-write_synced-clause-appended : goal.returns-in_err-write_synced-clause-appended
-returns-in_err-write_synced-clause-appended g c = λ magic id records bytes is known.
+returns-in_err-write_synced-clause-appended g c = λ magic id records known.
     let p = err_from_is_err_and c.from_residual.result c.from_residual.ensures.1 in
+    let bytes = c.args.frame.now in
     let P = BeforeOrAfter magic id records bytes in
-    let R = IsAtRest magic id (c.args.end + length c.args.frame.now) (records ++ bytes ∷ []) in
+    let R = IsAtRest magic id (c.args.end + (length bytes + 9)) (records ++ bytes ∷ []) in
     rw p.1 (brings_known magic P (IsAtRest magic id c.args.end records) R _ _ _ c.write_synced.ensures.unknown known (λ past m old rest.
-    brings_failed p.0 magic P _ R _ _ _ (brings_frame magic id c.args.end records c.args.frame.now bytes is m rest _ _ _ (c.write_synced.ensures.changes _ (rest_synced magic id c.args.end records m past _ old rest)))))
+    brings_failed p.0 magic P _ R _ _ _ (brings_frame magic id c.args.end records c.bytes.result.now bytes c.bytes.ensures m rest _ _ _ (c.write_synced.ensures.changes _ (rest_synced magic id c.args.end records m past _ old rest)))))
 
 pub returns-clause-appended : goal.returns-clause-appended
-returns-clause-appended g c = λ magic id records bytes is known.
+returns-clause-appended g c = λ magic id records known.
+    let bytes = c.args.frame.now in
     let P = BeforeOrAfter magic id records bytes in
-    let R = IsAtRest magic id (c.args.end + length c.args.frame.now) (records ++ bytes ∷ []) in
-    let fits = fits_disk (c.args.end + 1) c.args.frame.now bytes is c.in_ok-write_synced.ensures.bounded in
+    let R = IsAtRest magic id (c.args.end + (length bytes + 9)) (records ++ bytes ∷ []) in
+    let fits : length bytes < 2 ^ 64 = omega (arith, frame_end (c.args.end + 1) c.bytes.result.now bytes c.bytes.ensures c.in_ok-write_synced.ensures.bounded) in
     brings_known magic P (IsAtRest magic id c.args.end records) R _ _ _ (λ none. c.write_synced-2.ensures.unknown (c.write_synced.ensures.unknown none)) known (λ past m old rest.
-    let framed = brings_frame magic id c.args.end records c.args.frame.now bytes is m rest _ _ _ (c.in_ok-write_synced.ensures.changes _ (rest_synced magic id c.args.end records m past _ old rest)) in
-    brings_on magic P _ R _ _ _ _ _ framed (brings_gate magic id c.args.end records c.args.frame.now bytes is m rest fits _ _ _ (c.write_synced-2.ensures.changes (log_of magic id 1 rest.gated ++ 0 ∷ frame_of bytes) framed.done)))
+    let framed = brings_frame magic id c.args.end records c.bytes.result.now bytes c.bytes.ensures m rest _ _ _ (c.in_ok-write_synced.ensures.changes _ (rest_synced magic id c.args.end records m past _ old rest)) in
+    brings_on magic P _ R _ _ _ _ _ framed (brings_gate magic id c.args.end records c.bytes.result.now bytes c.bytes.ensures m rest fits _ _ _ (c.write_synced-2.ensures.changes (log_of magic id 1 rest.gated ++ 0 ∷ frame_of bytes) framed.done)))
+
+pub returns-clause-bounded : goal.returns-clause-bounded
+returns-clause-bounded g c =
+    let fits : c.args.end + (length c.args.frame.now + 9) + 1 ≤ 2 ^ 62 = omega (arith, frame_end (c.args.end + 1) c.bytes.result.now c.args.frame.now c.bytes.ensures c.in_ok-write_synced.ensures.bounded) in
+    on_ok _ _ fits

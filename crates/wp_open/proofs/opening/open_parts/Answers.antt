@@ -14,47 +14,34 @@ use Rattle.wp_open.specs.Parts.{IsStoreOf}
 use Rattle.wp_open.specs.Refused.{of_log, of_manifest, of_edit, IsLogLeft, IsManifestLeft, at_log, at_manifest}
 use Rattle.wp_open.specs.Tables.{IsStoreCause}
 use Rattle.wp_open.proofs.Opened.{opens_to}
-use Rattle.wp_open.proofs.Stages.{only_outside, finds_here, kept_tables, manifest_rests, edit_left, log_left}
+use Rattle.wp_open.proofs.Stages.{refused_from, finds_here, kept_tables, manifest_rests, edit_left, log_left}
 use Rattle.wp_open.proofs.opening.open_parts.Goals as goal
 
 -- ---- the log is refused
 
-pub returns-in-Err-clause-cause : goal.returns-in-Err-clause-cause
-returns-in-Err-clause-cause g c = of_log c.in-Err.field-0.why c.log_reason-why.ensures c.in-Err.ensures.cause
-
-pub returns-in-Err-clause-only : goal.returns-in-Err-clause-only
-returns-in-Err-clause-only g c =
-    only_outside c.a_store_is_opened_in_one_way.ensures.opened_or_damaged c.args.id _ _ _ _ _ _ _ (returns-in-Err-clause-cause g c)
-
-pub returns-in-Err-clause-left : goal.returns-in-Err-clause-left
-returns-in-Err-clause-left g c = at_log c.in-Err.field-0.why c.log_reason-why.ensures c.in-Err.ensures.left refl refl
+pub returns-in-Err-clause-refused : goal.returns-in-Err-clause-refused
+returns-in-Err-clause-refused g c =
+    let e = c.in-Err.ensures in let why = c.in-Err.field-0.why in
+    refused_from c.a_store_is_opened_in_one_way.ensures.opened_or_damaged c.args.id _ _ _ _ _
+    (of_log why c.log_reason-why.ensures e.refused.cause) (at_log why c.log_reason-why.ensures e.refused.left refl refl) e.kept (λ id records. ([], refl, tt)) (omega arith) (omega arith)
 
 -- ---- the manifest is refused
 
-pub returns-in-Err-open-clause-cause : goal.returns-in-Err-open-clause-cause
-returns-in-Err-open-clause-cause g c =
-    let log = g.D.Disk.moments c.args.disks.log in
-    let history = c.in-Ok.opened.1.entries in
-    let fits : c.in-Ok.opened.0.id < 2 ^ 32 = omega (arith, c.id-found.type_inv, c.id-found.ensures) in
-    let finds = subst (λ (n : ℕ). IfKnown log (λ l. Finds c.args.id n history l.reads)) (sym c.id-found.ensures)
-    (finds_here c.args.id c.in-Ok.opened.0.id history log fits c.in-Ok.ensures.legal c.in-Ok.ensures.found c.in-Ok.ensures.made) in
-    of_manifest c.id-found.result history c.in-Err-open.field-0.why finds c.manifest_reason-why.ensures c.in-Err-open.ensures.cause
-
-pub returns-in-Err-open-clause-only : goal.returns-in-Err-open-clause-only
-returns-in-Err-open-clause-only g c =
-    only_outside c.a_store_is_opened_in_one_way.ensures.opened_or_damaged c.args.id _ _ _ _ _ _ _ (returns-in-Err-open-clause-cause g c)
-
-pub returns-in-Err-open-clause-left : goal.returns-in-Err-open-clause-left
-returns-in-Err-open-clause-left g c =
+pub returns-in-Err-open-clause-refused : goal.returns-in-Err-open-clause-refused
+returns-in-Err-open-clause-refused g c =
     let log = g.D.Disk.moments c.args.disks.log in
     let now = g.D.Disk.moments c.into_disk.result in
-    let history = c.in-Ok.opened.1.entries in
+    let wal = c.in-Ok.opened.0 in let history = c.in-Ok.opened.1.entries in
+    let e = c.in-Ok.ensures in let refused = c.in-Err-open.ensures in let why = c.in-Err-open.field-0.why in
+    let fits : wal.id < 2 ^ 32 = omega (arith, c.id-found.type_inv, c.id-found.ensures) in
+    let finds = subst (λ (n : ℕ). IfKnown log (λ l. Finds c.args.id n history l.reads)) (sym c.id-found.ensures)
+    (finds_here c.args.id wal.id history log fits e.opened.legal e.opened.found e.opened.made) in
     let left = subst (λ (n : ℕ). IsLogLeft n history log now) (sym c.id-found.ensures)
-    (log_left c.in-Ok.opened.0.id history log now c.in-Ok.opened.0.moments c.into_disk.ensures.moments c.in-Ok.ensures.found (c.into_disk.ensures.left history [] c.in-Ok.ensures.stores c.in-Ok.ensures.fresh.0)) in
-    at_manifest c.id-found.result history c.in-Err-open.field-0.why left c.manifest_reason-why.ensures c.in-Err-open.ensures.left c.in-Err-open.ensures.survives refl
-
-pub returns-in-Err-open-clause-log_durable : goal.returns-in-Err-open-clause-log_durable
-returns-in-Err-open-clause-log_durable g c = rw c.into_disk.ensures.moments c.in-Ok.ensures.durable
+    (log_left wal.id history log now wal.moments c.into_disk.ensures.moments e.opened.found (c.into_disk.ensures.left history [] e.opened.stores e.opened.running)) in
+    refused_from c.a_store_is_opened_in_one_way.ensures.opened_or_damaged c.args.id _ _ _ _ _
+    (of_manifest c.id-found.result history why finds c.manifest_reason-why.ensures refused.refused.cause)
+    (at_manifest c.id-found.result history why left c.manifest_reason-why.ensures refused.refused.left refused.kept.survives refl)
+    (rw (c.into_disk.ensures.moments, c.into_disk.ensures.faults) e.kept) refused.kept.durable refused.kept.later (omega arith)
 
 -- ---- the parts
 
@@ -68,13 +55,13 @@ returns-in-Ok-open_store-clause-opened g c =
     let there = subst (λ (n : ℕ). IfKnown tables (λ m. HasTables n edit.flushed m.reads edit.tables parts)) c.id-found.ensures
     (subst (λ (e : Edit). IfKnown tables (λ m. HasTables c.id-found.result e.flushed m.reads e.tables parts)) c.edit.ensures c.in-Ok-open_store.ensures.there) in
     record {
-      stores = c.in-Ok.ensures.stores;
-      legal = c.in-Ok.ensures.legal;
-      running = c.in-Ok.ensures.fresh.0;
-      unreserved = c.in-Ok.ensures.fresh.1;
+      stores = c.in-Ok.ensures.opened.stores;
+      legal = c.in-Ok.ensures.opened.legal;
+      running = c.in-Ok.ensures.opened.running;
+      unreserved = c.in-Ok.ensures.opened.unreserved;
       id_fits = omega (arith, c.id-found.type_inv, c.id-found.ensures);
-      found = c.in-Ok.ensures.found;
-      made = c.in-Ok.ensures.made;
+      found = c.in-Ok.ensures.opened.found;
+      made = c.in-Ok.ensures.opened.made;
       installed = subst (λ (n : ℕ). Opened n (g.D.Disk.moments c.args.disks.manifest) c.in-Ok-open.manifest) c.id-found.ensures c.in-Ok-open.ensures.opened;
       store = subst (λ (e : Edit). IsStoreOf history e c.in-Ok-open_store.store) c.edit.ensures c.in-Ok-open_store.ensures.store;
       synced = c.in-Ok-open_store.ensures.synced;
@@ -83,47 +70,39 @@ returns-in-Ok-open_store-clause-opened g c =
       kept = kept_tables (λ bytes. HasTables wal.id edit.flushed bytes edit.tables parts) tables (g.D.Disk.moments c.open_store.new.tables) c.in-Ok-open_store.ensures.synced there;
     }
 
-pub returns-in-Ok-open_store-clause-opens : goal.returns-in-Ok-open_store-clause-opens
-returns-in-Ok-open_store-clause-opens g c = opens_to _ _ _ _ _ _ _ _ _ (returns-in-Ok-open_store-clause-opened g c)
+pub returns-in-Ok-open_store-clause-found : goal.returns-in-Ok-open_store-clause-found
+returns-in-Ok-open_store-clause-found g c = record {
+  opens = opens_to _ _ _ _ _ _ _ _ _ (returns-in-Ok-open_store-clause-opened g c);
+  log = c.in-Ok.ensures.kept;
+  manifest = rw (← c.id-found.ensures) c.in-Ok-open.ensures.kept;
+  tables_later = c.open_store.ensures.later;
+}
 
 -- ---- what the last edit says is refused
 
-pub returns-in-Err-open_store-clause-cause : goal.returns-in-Err-open_store-clause-cause
-returns-in-Err-open_store-clause-cause g c =
-    let log = g.D.Disk.moments c.args.disks.log in
-    let tables = g.D.Disk.moments c.args.disks.tables in
-    let rose = Rose (g.D.Disk.faults c.args.disks.tables) (g.D.Disk.faults c.open_store.new.tables) in
-    let history = c.in-Ok.opened.1.entries in
-    let opened = c.in-Ok-open.ensures.opened in
-    let fits : c.in-Ok.opened.0.id < 2 ^ 32 = omega (arith, c.id-found.type_inv, c.id-found.ensures) in
-    let finds = subst (λ (n : ℕ). IfKnown log (λ l. Finds c.args.id n history l.reads)) (sym c.id-found.ensures)
-    (finds_here c.args.id c.in-Ok.opened.0.id history log fits c.in-Ok.ensures.legal c.in-Ok.ensures.found c.in-Ok.ensures.made) in
-    of_edit c.id-found.result history opened.edits finds opened.found
-    (subst (λ (e : Edit). IsStoreCause c.id-found.result history e rose tables c.in-Err-open_store.why) (c.edit.ensures ∙ opened.stores.last) c.in-Err-open_store.ensures.cause)
-
-pub returns-in-Err-open_store-clause-only : goal.returns-in-Err-open_store-clause-only
-returns-in-Err-open_store-clause-only g c =
-    only_outside c.a_store_is_opened_in_one_way.ensures.opened_or_damaged c.args.id _ _ _ _ _ _ _ (returns-in-Err-open_store-clause-cause g c)
-
-pub returns-in-Err-open_store-clause-left : goal.returns-in-Err-open_store-clause-left
-returns-in-Err-open_store-clause-left g c =
+pub returns-in-Err-open_store-clause-refused : goal.returns-in-Err-open_store-clause-refused
+returns-in-Err-open_store-clause-refused g c =
     let log = g.D.Disk.moments c.args.disks.log in
     let manifest = g.D.Disk.moments c.args.disks.manifest in
+    let tables = g.D.Disk.moments c.args.disks.tables in
     let log_now = g.D.Disk.moments c.into_disk-in-Err-open_store.result in
-    let history = c.in-Ok.opened.1.entries in
-    let opened = c.in-Ok-open.ensures.opened in
-    let back = sym c.into_disk-in-Err-open_store-2.ensures.moments in
+    let rose = Rose (g.D.Disk.faults c.args.disks.tables) (g.D.Disk.faults c.open_store.new.tables) in
+    let wal = c.in-Ok.opened.0 in let history = c.in-Ok.opened.1.entries in
+    let e = c.in-Ok.ensures in let opened = c.in-Ok-open.ensures.opened in
+    let back = c.into_disk-in-Err-open_store-2.ensures.moments in
+    let fits : wal.id < 2 ^ 32 = omega (arith, c.id-found.type_inv, c.id-found.ensures) in
+    let finds = subst (λ (n : ℕ). IfKnown log (λ l. Finds c.args.id n history l.reads)) (sym c.id-found.ensures)
+    (finds_here c.args.id wal.id history log fits e.opened.legal e.opened.found e.opened.made) in
     let left = subst (λ (n : ℕ). IsLogLeft n history log log_now) (sym c.id-found.ensures)
-    (log_left c.in-Ok.opened.0.id history log log_now c.in-Ok.opened.0.moments c.into_disk-in-Err-open_store.ensures.moments c.in-Ok.ensures.found (c.into_disk-in-Err-open_store.ensures.left history [] c.in-Ok.ensures.stores c.in-Ok.ensures.fresh.0)) in
+    (log_left wal.id history log log_now wal.moments c.into_disk-in-Err-open_store.ensures.moments e.opened.found (c.into_disk-in-Err-open_store.ensures.left history [] e.opened.stores e.opened.running)) in
     let rests : IsManifestLeft c.id-found.result opened.edits manifest (g.D.Disk.moments c.into_disk-in-Err-open_store-2.result) = record {
       found = opened.found;
-      rests = subst (λ (ms : List Moment). IsLeftAtRest edits.MAGIC manifest ms) back (manifest_rests c.id-found.result manifest c.in-Ok-open.manifest opened);
-      survives = subst (λ (ms : List Moment). SurvivesThrough edits.MAGIC c.id-found.result manifest ms) back c.in-Ok-open.ensures.survives;
+      rests = subst (λ (ms : List Moment). IsLeftAtRest edits.MAGIC manifest ms) (sym back) (manifest_rests c.id-found.result manifest c.in-Ok-open.manifest opened);
+      survives = subst (λ (ms : List Moment). SurvivesThrough edits.MAGIC c.id-found.result manifest ms) (sym back) c.in-Ok-open.ensures.kept.survives;
     } in
-    edit_left _ _ _ _ _ _ _ _ _ c.id-found.result history opened.edits c.edit.result.now c.in-Err-open_store.why (c.edit.ensures ∙ opened.stores.last) left rests c.in-Err-open_store.ensures.cause c.in-Err-open_store.ensures.left
-
-pub returns-in-Err-open_store-clause-log_durable : goal.returns-in-Err-open_store-clause-log_durable
-returns-in-Err-open_store-clause-log_durable g c = rw c.into_disk-in-Err-open_store.ensures.moments c.in-Ok.ensures.durable
-
-pub returns-in-Err-open_store-clause-manifest_durable : goal.returns-in-Err-open_store-clause-manifest_durable
-returns-in-Err-open_store-clause-manifest_durable g c = rw c.into_disk-in-Err-open_store-2.ensures.moments c.in-Ok-open.ensures.durable
+    refused_from c.a_store_is_opened_in_one_way.ensures.opened_or_damaged c.args.id _ _ _ _ _
+    (of_edit c.id-found.result history opened.edits finds opened.found
+    (subst (λ (x : Edit). IsStoreCause c.id-found.result history x rose tables c.in-Err-open_store.why) (c.edit.ensures ∙ opened.stores.last) c.in-Err-open_store.ensures.cause))
+    (edit_left _ _ _ _ _ _ _ _ _ c.id-found.result history opened.edits c.edit.result.now c.in-Err-open_store.why (c.edit.ensures ∙ opened.stores.last) left rests c.in-Err-open_store.ensures.cause c.in-Err-open_store.ensures.left)
+    (rw (c.into_disk-in-Err-open_store.ensures.moments, c.into_disk-in-Err-open_store.ensures.faults) e.kept) (rw back c.in-Ok-open.ensures.kept.durable)
+    (rw c.into_disk-in-Err-open_store-2.ensures.faults c.in-Ok-open.ensures.kept.later) c.open_store.ensures.later

@@ -1,15 +1,17 @@
 use Rattle.std.proofs.Common.{◌∙◌}
-use Rattle.wp_manifest.proofs.OpeningLemmas.{refused_cause, stranger_found}
+use Rattle.wp_manifest.proofs.OpeningLemmas.{opened_left, refused_cause, refused_left, stranger_found}
 use Rattle.wp_manifest.proofs.manifest.Manifest.open.Goals as goal
 
-pub returns-in-Err-clause-cause : goal.returns-in-Err-clause-cause
-returns-in-Err-clause-cause g c = rw c.error_of-why.ensures (refused_cause c.args.id _ _ _ c.in-Err.field-0.why c.in-Err.ensures.refused c.in-Err.ensures.fault)
+pub returns-in-Err-clause-refused : goal.returns-in-Err-clause-refused
+returns-in-Err-clause-refused g c = rw c.error_of-why.ensures (record {
+  cause = refused_cause c.args.id _ _ _ c.in-Err.field-0.why c.in-Err.ensures.refused.refused c.in-Err.ensures.refused.fault;
+  left = refused_left c.args.id _ _ c.in-Err.field-0.why c.in-Err.ensures.refused.untouched;
+})
 
-pub returns-then-id-clause-cause : goal.returns-then-id-clause-cause
-returns-then-id-clause-cause g c = rw c.id-then-id.ensures (stranger_found c.args.id c.in-Ok.opened.0.id c.in-Ok.opened.1.items _ (λ e. c.if-id.true (c.id.ensures ∙ e)) c.in-Ok.ensures.found)
-
-pub returns-then-id-clause-durable : goal.returns-then-id-clause-durable
-returns-then-id-clause-durable g c = rw c.into_disk-disk.ensures.moments c.in-Ok.ensures.durable
-
-pub returns-clause-durable : goal.returns-clause-durable
-returns-clause-durable g c = rw c.into_disk-disk-in-Err-last_edit.ensures.moments c.in-Ok.ensures.durable
+pub returns-then-id-clause-refused : goal.returns-then-id-clause-refused
+returns-then-id-clause-refused g c =
+    let opened = c.in-Ok.ensures.opened in
+    rw (c.id-then-id.ensures, c.into_disk-disk.ensures.moments) (record {
+      cause = stranger_found c.args.id c.in-Ok.opened.0.id c.in-Ok.opened.1.items _ (λ e. c.if-id.true (c.id.ensures ∙ e)) opened.found;
+      left = opened_left c.args.id c.in-Ok.opened.0 c.in-Ok.opened.1.items _ opened;
+    })

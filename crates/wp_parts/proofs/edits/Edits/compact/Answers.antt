@@ -13,8 +13,8 @@ invariant_of-self-in-Ok g c =
     let call = c.in-Ok.ensures.installs in
     let now : c.put_alone.new.tables.items ≡ compacted_parts versions = c.put_alone.ensures ∙ ap (λ (o : Option (List Version)). with_newest o []) c.in-Ok.ensures.table ∙ alone versions in
     installed_edits inside.set inside.first.value inside.tables.items inside.failed c.self.invariant running c.compact.new.self c.compact.ensures.keeps
-    (compacted_edit inside.set versions call.0) (λ _. compacted_parts versions) call.1.installed (c.is_halted.ensures.running call.1.installed.running) c.put_alone.new.tables.items now
-    (one_flushed inside.set.manifest.edit.flushed versions c.as_slice.ensures.in_order (rw (← c.self.view_is) at c.requires.flushed))
+    (compacted_edit inside.set versions call.0) (λ _. compacted_parts versions) call.1.installed (c.shows_running.ensures call.1.installed.running) c.put_alone.new.tables.items now
+    (one_flushed inside.set.manifest.edit.flushed versions c.shows_order.ensures (rw (← c.self.view_is) at c.requires.flushed))
 
 pub returns-in-Ok-clause-installed : goal.returns-in-Ok-clause-installed
 returns-in-Ok-clause-installed g c =
@@ -25,8 +25,8 @@ returns-in-Ok-clause-installed g c =
     let now : c.put_alone.new.tables.items ≡ compacted_parts versions = c.put_alone.ensures ∙ ap (λ (o : Option (List Version)). with_newest o []) c.in-Ok.ensures.table ∙ alone versions in
     let next = compacted_edit inside.set versions call.0 in
     rw (← c.self.view_is) (installed_table inside.set inside.first.value inside.tables.items inside.failed c.self.invariant running c.compact.new.self c.compact.ensures.keeps
-    next (λ _. compacted_parts versions) call.1.installed (c.is_halted.ensures.running call.1.installed.running) c.put_alone.new.tables.items now _
-    (is_in_one_table inside.set.manifest.edit next versions inside.tables.items c.as_slice.ensures.in_order refl))
+    next (λ _. compacted_parts versions) call.1.installed (c.shows_running.ensures call.1.installed.running) c.put_alone.new.tables.items now _
+    (is_in_one_table inside.set.manifest.edit next versions inside.tables.items c.shows_order.ensures refl))
 
 pub invariant_of-self-in-Err : goal.invariant_of-self-in-Err
 invariant_of-self-in-Err g c =
@@ -47,7 +47,7 @@ returns-in-Err-clause-refused g c =
     let same : c.behind-self.inside.flushed ≡ inside.set.manifest.edit.flushed = search rules in
     let next = compacted_edit inside.set versions call.0 in
     rw (← c.self.view_is, c.reserve.ensures.items) (refused_table inside.set inside.first.value inside.tables.items inside.failed c.self.invariant running c.compact.new.self c.compact.ensures.keeps
-    next (λ _. compacted_parts versions) _ (rw (c.of.ensures, same) refl) _ (is_in_one_table inside.set.manifest.edit next versions inside.tables.items c.as_slice.ensures.in_order refl) c.in-Err.why call.1.refused)
+    next (λ _. compacted_parts versions) _ (rw (c.of.ensures, same) refl) _ (is_in_one_table inside.set.manifest.edit next versions inside.tables.items c.shows_order.ensures refl) c.in-Err.why call.1.refused)
 
 pub returns-in-Ok-clause-parts : goal.returns-in-Ok-clause-parts
 returns-in-Ok-clause-parts g c = c.put_alone.ensures ∙ ap (λ (o : Option (List Version)). with_newest o []) c.in-Ok.ensures.table ∙ alone c.args.versions.now
@@ -67,7 +67,7 @@ returns-in-Ok-clause-survives g c =
     let call = c.in-Ok.ensures.installs in
     let next = compacted_edit inside.set versions call.0 in
     rw (← c.self.view_is) (survives inside.set inside.first.value inside.tables.items inside.failed c.self.invariant running c.compact.new.self c.compact.ensures.keeps
-    next (λ _. compacted_parts versions) _ _ (sym (is_in_one_table inside.set.manifest.edit next versions inside.tables.items c.as_slice.ensures.in_order refl)) refl call.1.passed call.1.there)
+    next (λ _. compacted_parts versions) _ _ (sym (is_in_one_table inside.set.manifest.edit next versions inside.tables.items c.shows_order.ensures refl)) refl call.1.passed call.1.there)
 
 pub returns-in-Err-clause-survives : goal.returns-in-Err-clause-survives
 returns-in-Err-clause-survives g c =
@@ -77,11 +77,11 @@ returns-in-Err-clause-survives g c =
     let call = c.in-Err.ensures.installs in
     let next = compacted_edit inside.set versions call.0 in
     rw (← c.self.view_is) (survives inside.set inside.first.value inside.tables.items inside.failed c.self.invariant running c.compact.new.self c.compact.ensures.keeps
-    next (λ _. compacted_parts versions) _ _ (sym (is_in_one_table inside.set.manifest.edit next versions inside.tables.items c.as_slice.ensures.in_order refl)) refl call.1.passed call.1.there)
+    next (λ _. compacted_parts versions) _ _ (sym (is_in_one_table inside.set.manifest.edit next versions inside.tables.items c.shows_order.ensures refl)) refl call.1.passed call.1.there)
 
 pub returns-in_err-reserve-clause-survives : goal.returns-in_err-reserve-clause-survives
 returns-in_err-reserve-clause-survives g c =
     let inside = c.self.inside in
     let versions = c.args.versions.now in
     let next = compacted_edit inside.set versions 0 in
-    rw (← c.self.view_is) (nothing_called inside.set inside.first.value inside.tables.items inside.failed c.self.invariant next (λ _. compacted_parts versions) _ _ (sym (is_in_one_table inside.set.manifest.edit next versions inside.tables.items c.as_slice.ensures.in_order refl)) refl)
+    rw (← c.self.view_is) (nothing_called inside.set inside.first.value inside.tables.items inside.failed c.self.invariant (rw (← c.self.view_is) at c.requires.running) next (λ _. compacted_parts versions) _ _ (sym (is_in_one_table inside.set.manifest.edit next versions inside.tables.items c.shows_order.ensures refl)) refl)

@@ -12,7 +12,7 @@ invariant_of-self-in-Ok g c =
     let call = c.in-Ok.ensures.installs in
     let now : c.insert.new.self.items ≡ versions ∷ inside.tables.items = search rules in
     installed_edits inside.set inside.first.value inside.tables.items inside.failed c.self.invariant running c.flush.new.self c.flush.ensures.keeps
-    (flushed_edit inside.set versions c.args.flushed call.0) (λ parts. versions ∷ parts) call.1.installed (c.is_halted.ensures.running call.1.installed.running) c.insert.new.self.items now
+    (flushed_edit inside.set versions c.args.flushed call.0) (λ parts. versions ∷ parts) call.1.installed (c.shows_running.ensures call.1.installed.running) c.insert.new.self.items now
     (front_flushed inside.set.manifest.edit.flushed c.args.flushed versions inside.tables.items (rw (← c.self.view_is) at c.requires.later) c.requires.flushed c.self.invariant.flushed)
 
 pub returns-in-Ok-clause-installed : goal.returns-in-Ok-clause-installed
@@ -24,7 +24,7 @@ returns-in-Ok-clause-installed g c =
     let now : c.insert.new.self.items ≡ versions ∷ inside.tables.items = search rules in
     let next = flushed_edit inside.set versions c.args.flushed call.0 in
     rw (← c.self.view_is) (installed_table inside.set inside.first.value inside.tables.items inside.failed c.self.invariant running c.flush.new.self c.flush.ensures.keeps
-    next (λ parts. versions ∷ parts) call.1.installed (c.is_halted.ensures.running call.1.installed.running) c.insert.new.self.items now _ (is_with_table inside.set.manifest.edit next versions inside.tables.items))
+    next (λ parts. versions ∷ parts) call.1.installed (c.shows_running.ensures call.1.installed.running) c.insert.new.self.items now _ (is_with_table inside.set.manifest.edit next versions inside.tables.items))
 
 pub invariant_of-self-in-Err : goal.invariant_of-self-in-Err
 invariant_of-self-in-Err g c =
@@ -82,4 +82,4 @@ returns-in_err-reserve-clause-survives g c =
     let inside = c.self.inside in
     let versions = c.args.versions.now in
     let next = flushed_edit inside.set versions c.args.flushed 0 in
-    rw (← c.self.view_is) (nothing_called inside.set inside.first.value inside.tables.items inside.failed c.self.invariant next (λ parts. versions ∷ parts) _ _ (sym (is_with_table inside.set.manifest.edit next versions inside.tables.items)) refl)
+    rw (← c.self.view_is) (nothing_called inside.set inside.first.value inside.tables.items inside.failed c.self.invariant (rw (← c.self.view_is) at c.requires.running) next (λ parts. versions ∷ parts) _ _ (sym (is_with_table inside.set.manifest.edit next versions inside.tables.items)) refl)
