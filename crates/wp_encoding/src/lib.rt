@@ -14,5 +14,5 @@ mod writing;
 
 pub use error::EncodingError;
 pub use laws::{batches_are_read, values_are_read, words_are_read};
-pub use reading::{read_batch, read_value, read_word};
+pub use reading::{read_batch, read_value, read_value_bytes, read_word, read_word_bytes};
 pub use writing::{push_batch, push_value, push_word};

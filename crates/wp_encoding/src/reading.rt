@@ -1,5 +1,7 @@
 ghost use Rattle.std.specs.Prelude.{◌≡◌, [], ◌∷◌, ◌++◌, length, true, ◌<◌, ◌≤◌, IfOk, IfErr, OnOk};
+ghost use Rattle.std.specs.List.{list_all};
 ghost use Rattle.wp_model.specs.Batch.{key_of, is_batch};
+ghost use Rattle.wp_model.specs.Word.{is_word, is_word_byte, is_value};
 ghost use Rattle.wp_fields.specs.Reading.{Gives};
 ghost use Rattle.wp_encoding.specs.Errors.{encoding_fault};
 ghost use Rattle.wp_encoding.specs.Reading.{text_at, word_field_at, value_field_at, is_above_last, next_key_at, next_change_at, changes_after, batch_field_at};
@@ -8,43 +10,80 @@ use crate::error::EncodingError;
 use crate::layout::{DELETION, PUT};
 use std::alloc::Global;
 use wp_fields::Fields;
-use wp_model::{Batch, Change, Key, MOST_KEYS, SetError, Value, Word};
+use wp_model::{Batch, Change, Key, MOST_KEYS, MOST_VALUE_BYTES, SetError, Value, Word, WordError};
 
-/// The word of `len` bytes.
-#[tactic(auto, unfolding(crate::specs::Reading::text_at))]
-fn text<const MOST: usize>(
-    alloc: Global,
-    fields: &mut Fields<'_>,
-    len: usize,
-) -> Result<Word<MOST>, EncodingError>
-    ensures { Gives encoding_fault (λ word. (word, fields.new)) result (text_at MOST len fields.old) }
+fn are_word_bytes(bytes: &[u8]) -> bool
+    ensures { result ≡ list_all is_word_byte bytes.now }
 {
-    if len == 0 || len > MOST {
+    bytes.iter().all(|b| *b >= b'!' && *b <= b'~')
+}
+
+/// The text of `len` bytes, which has to be a word of at most `most`.
+#[tactic(auto, unfolding(crate::specs::Reading::text_at))]
+fn text<'a>(fields: &mut Fields<'a>, most: usize, len: usize) -> Result<&'a [u8], EncodingError>
+    ensures read { Gives encoding_fault (λ text. (text.now, fields.new)) result (text_at most len fields.old) }
+    ensures word { IfOk result (λ text. is_word most text.now ≡ true) }
+{
+    if len == 0 || len > most {
         return Err(EncodingError::Word);
     }
-    let bytes = fields.piece(len).ok_or(EncodingError::Short)?;
-    Ok(Word::read(alloc, bytes)?)
+    let text = fields.piece(len).ok_or(EncodingError::Short)?;
+    if !are_word_bytes(text) {
+        return Err(EncodingError::Word);
+    }
+    Ok(text)
+}
+
+/// The bytes of the key or the name of at most `most` bytes, after its one byte length.
+#[tactic(auto, unfolding(crate::specs::Reading::word_field_at))]
+pub fn read_word_bytes<'a>(fields: &mut Fields<'a>, most: usize) -> Result<&'a [u8], EncodingError>
+    ensures read { Gives encoding_fault (λ word. (word.now, fields.new)) result (word_field_at most fields.old) }
+    ensures word { IfOk result (λ word. is_word most word.now ≡ true) }
+{
+    let len = fields.u8().ok_or(EncodingError::Short)?;
+    text(fields, most, len as usize)
+}
+
+/// The bytes of the value, after its two bytes length.
+#[tactic(auto, unfolding(crate::specs::Reading::value_field_at))]
+pub fn read_value_bytes<'a>(fields: &mut Fields<'a>) -> Result<&'a [u8], EncodingError>
+    ensures read { Gives encoding_fault (λ value. (value.now, fields.new)) result (value_field_at fields.old) }
+    ensures word { IfOk result (λ value. is_value value.now ≡ true) }
+{
+    let len = fields.u16().ok_or(EncodingError::Short)?;
+    text(fields, MOST_VALUE_BYTES, len as usize)
+}
+
+/// The word that the bytes are.
+fn word_of<const MOST: usize>(alloc: Global, bytes: &[u8]) -> Result<Word<MOST>, EncodingError>
+    requires { is_word MOST bytes.now ≡ true }
+    ensures word { IfOk result (λ word. word ≡ bytes.now) }
+    ensures memory { IfErr result (λ error. error ≡ EncodingError.Memory) }
+{
+    match Word::read(alloc, bytes) {
+        Ok(word) => Ok(word),
+        Err(WordError::Memory) => Err(EncodingError::Memory),
+        Err(WordError::BadWord) => unreachable!(),
+    }
 }
 
 /// The key or the name of at most `MOST` bytes, after its one byte length.
-#[tactic(auto, unfolding(crate::specs::Reading::word_field_at))]
 pub fn read_word<const MOST: usize>(
     alloc: Global,
     fields: &mut Fields<'_>,
 ) -> Result<Word<MOST>, EncodingError>
     ensures { Gives encoding_fault (λ word. (word, fields.new)) result (word_field_at MOST fields.old) }
 {
-    let len = fields.u8().ok_or(EncodingError::Short)?;
-    text(alloc, fields, len as usize)
+    let bytes = read_word_bytes(fields, MOST)?;
+    word_of(alloc, bytes)
 }
 
 /// The value, after its two bytes length.
-#[tactic(auto, unfolding(crate::specs::Reading::value_field_at))]
 pub fn read_value(alloc: Global, fields: &mut Fields<'_>) -> Result<Value, EncodingError>
     ensures { Gives encoding_fault (λ value. (value, fields.new)) result (value_field_at fields.old) }
 {
-    let len = fields.u16().ok_or(EncodingError::Short)?;
-    text(alloc, fields, len as usize)
+    let bytes = read_value_bytes(fields)?;
+    word_of(alloc, bytes)
 }
 
 fn is_above_last(batch: &Batch, key: &Key) -> bool

@@ -144,3 +144,10 @@ module _ (key : List ℕ) (n : ℕ) where
       ∙ ap (option_or (first_at rest key n)) (at_merge source versions h)
       ∙ sym (or_or (first_at rest key n) (version_at source key n) (version_at versions key n))
       ∙ ap (λ o. option_or o (version_at versions key n)) (sym (first_at-push rest source) ∙ ap (λ ss. first_at ss key n) (sym left))
+
+  -- what was merged of the first lists, merged with the next one
+  pub merged_next : (versions source merged : List Version) (sources : List (List Version)) → merged ≡ merge_of versions source → AreInOrder versions → option_or (version_at merged key n) (first_at sources key n) ≡ option_or (version_at versions key n) (first_at (source ∷ sources) key n)
+  merged_next versions source merged sources is h =
+      ap (λ m. option_or (version_at m key n) (first_at sources key n)) is
+      ∙ ap (λ o. option_or o (first_at sources key n)) (at_merge versions source h)
+      ∙ or_or (version_at versions key n) (version_at source key n) (first_at sources key n)

@@ -1,9 +1,7 @@
 -- How the newest versions of a key are copied, one after another.
 use Rattle.std.proofs.Common.{◌≡◌, ℕ, zero, suc, ◌+◌, ◌<◌, Bool, true, false, cond, List, [], ◌∷◌, ◌++◌, take, map, refl, sym, ap, ◌∙◌, arith, append_assoc}
-use Rattle.std.specs.List.{list_all}
 use Rattle.std.specs.Str.{bytes_eq}
 use Rattle.std.proofs.lemmas.List.{append-nil, map-append}
-use Rattle.std.proofs.lemmas.Bool.{and_from}
 use Rattle.std.proofs.lemmas.Slice.Eq.{bytes_eq-Decides}
 use Rattle.wp_model.specs.declared.version.Version.{Version}
 use Rattle.wp_memtable.specs.Memtable.{under, numbered_of}
@@ -35,14 +33,6 @@ under-numbered key (v ∷ vs) = by (bytes_eq v.key key) refl (under-numbered key
     by true is rest =
         let same : v.key ≡ key = (bytes_eq-Decides v.key key).0 is in
         λ i. record { key = sym same i; number = v.number; value = v.value } ∷ rest i
-    by false is rest = rest
-
-pub all_of_key : (key : List ℕ) (vs : List Version) → list_all (λ v. bytes_eq v.key key) (of_key key vs) ≡ true
-all_of_key key [] = refl
-all_of_key key (v ∷ vs) = by (bytes_eq v.key key) refl (all_of_key key vs)
-  where
-    by : (b : Bool) → bytes_eq v.key key ≡ b → list_all (λ (w : Version). bytes_eq w.key key) (of_key key vs) ≡ true → list_all (λ (w : Version). bytes_eq w.key key) (cond b (v ∷ of_key key vs) (of_key key vs)) ≡ true
-    by true is rest = and_from _ _ is rest
     by false is rest = rest
 
 -- ---- the lists of the parts

@@ -15,15 +15,30 @@ use wp_merge::Merge;
 use wp_model::{Key, Versions};
 use wp_table::Table;
 
+/// The versions that were merged, as a list.
+fn listed(alloc: Global, merge: Merge) -> Result<Versions, AllocError>
+    requires { AreInOrder merge }
+    ensures { IfOk result (λ all. all ≡ merge) }
+{
+    let mut list = Vec::new(alloc);
+    for version in merge {
+        list.push(version)?;
+    }
+    Ok(Versions::of(list))
+}
+
 /// All versions of the lists, in order. Of two with one key and number it is the earlier list's.
 pub fn merged(alloc: Global, sources: Vec<Versions>) -> Result<Versions, AllocError>
     ensures { IfOk result (λ all. AreMerged sources.items all) }
 {
-    let mut list = Vec::new(alloc);
-    for version in Merge::of(alloc, sources)? {
-        list.push(version)?;
-    }
-    Ok(Versions::of(list))
+    listed(alloc, Merge::of(alloc, sources)?)
+}
+
+/// All versions of the tables, in order. Of two with one key and number it is the earlier table's.
+pub fn merged_tables(alloc: Global, tables: &VecDeque<Arc<Table>>) -> Result<Versions, AllocError>
+    ensures { IfOk result (λ all. AreMerged (map arc_value tables.now.items) all) }
+{
+    listed(alloc, Merge::of_tables(alloc, tables)?)
 }
 
 pub fn push_frozen(
@@ -34,19 +49,6 @@ pub fn push_frozen(
 {
     for part in frozen {
         sources.push(part.all()?)?;
-    }
-    Ok(())
-}
-
-pub fn push_tables(
-    alloc: Global,
-    sources: &mut Vec<Versions>,
-    tables: &VecDeque<Arc<Table>>,
-) -> Result<(), AllocError>
-    ensures { OnOk result (sources.new.items ≡ sources.old.items ++ map arc_value tables.now.items) }
-{
-    for table in tables {
-        sources.push(table.all(alloc)?)?;
     }
     Ok(())
 }

@@ -9,7 +9,7 @@ ghost use Rattle.wp_store.specs.Store.{parts_of, is_flushed, parts_above, newest
 
 use crate::gone::Gone;
 use crate::newest::newest_in_memory;
-use crate::sources::{merged, push_frozen, push_newest_frozen, push_newest_tables, push_tables};
+use crate::sources::{merged, merged_tables, push_frozen, push_newest_frozen, push_newest_tables};
 use std::alloc::{AllocError, Global};
 use std::collections::VecDeque;
 use std::marker::Model;
@@ -150,9 +150,7 @@ impl Store {
     pub fn in_tables(&self) -> Result<Versions, AllocError>
         ensures { IfOk result (λ all. AreMerged self.now.tables all) }
     {
-        let mut sources = Vec::new(self.alloc);
-        push_tables(self.alloc, &mut sources, &self.tables)?;
-        merged(self.alloc, sources)
+        merged_tables(self.alloc, &self.tables)
     }
 
     /// Makes what is in memory the first frozen part, and leaves memory empty.

@@ -22,7 +22,7 @@ use Rattle.wp_table.proofs.VersionLemmas.{TakesVersions, versions_take, versions
 
 -- ---- how many blocks there are
 
-count_bounds : (n : ℕ) → (n ≤ block_count n * 16) × (block_count n * 16 < n + 16)
+pub count_bounds : (n : ℕ) → (n ≤ block_count n * 16) × (block_count n * 16 < n + 16)
 count_bounds n = div_ceil_times n 16 (lit< tt)
 
 pub no_blocks : (n : ℕ) → 0 ≡ block_count n → n ≡ 0

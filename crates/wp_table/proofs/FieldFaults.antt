@@ -11,9 +11,9 @@ use Rattle.wp_encoding.proofs.WordLemmas.{word_takes, word_again, word_fails, wo
 use Rattle.wp_table.specs.declared.error.TableError.{TableError}
 use Rattle.wp_table.specs.declared.error.TableError.TheVariants.{Short, Number, Order, Word}
 use Rattle.wp_table.specs.Errors.{table_error}
-use Rattle.wp_table.specs.Reading.{if_right, flushed_number_at, stored_at, is_after_last, next_place_at, next_version_at}
+use Rattle.wp_table.specs.Reading.{if_right, flushed_number_at, stored_at, last_of, is_after_last, next_place_at, next_version_at}
 use Rattle.wp_table.specs.Faults.{IsNumberFault, ends, is_wrong, IsStoredFault, HasPlace, IsVersionFault, in_key, in_number, out_of_order, in_value}
-use Rattle.wp_table.proofs.Order.{after_last-any_value}
+use Rattle.wp_table.proofs.Order.{after-any_value}
 use Rattle.wp_table.proofs.VersionLemmas.{Stored, put_value, place_after, with_value, flushed_number_takes, flushed_number_again, place_takes}
 
 -- what was read was wrong
@@ -65,22 +65,22 @@ stored_refused (zero ∷ bytes) fault is = absurd is
 stored_refused (suc zero ∷ bytes) fault (field, wrong, is) = rw (value_refused bytes field wrong, is) refl
 stored_refused (suc (suc n) ∷ bytes) fault is = rw is refl
 
-place_again : (flushed : ℕ) (before : List Version) (bytes : List ℕ) (v : Version) (rest : List ℕ) → HasPlace flushed bytes v rest → is_after_last before v ≡ true → next_place_at flushed before bytes ≡ Ok (record { key = v.key; number = v.number; value = None }, rest)
+place_again : (flushed : ℕ) (before : List Version) (bytes : List ℕ) (v : Version) (rest : List ℕ) → HasPlace flushed bytes v rest → is_after_last before v ≡ true → next_place_at flushed (last_of before) bytes ≡ Ok (record { key = v.key; number = v.number; value = None }, rest)
 unfolding next_place_at
 place_again flushed before bytes v rest has after =
-    let same : is_after_last before (record { key = v.key; number = v.number; value = None }) ≡ true = after_last-any_value before v.key v.number None v.value ∙ after in
-    ap (next_place_at flushed before) has.parts ∙ rw (word_again 64 v.key (to_be_bytes w32 v.number ++ rest) has.word, flushed_number_again flushed v.number rest has.numbered has.flushed_number, same) refl
+    let same : is_after_last before (record { key = v.key; number = v.number; value = None }) ≡ true = after-any_value (last_of before) v.key v.number None v.value ∙ after in
+    ap (next_place_at flushed (last_of before)) has.parts ∙ rw (word_again 64 v.key (to_be_bytes w32 v.number ++ rest) has.word, flushed_number_again flushed v.number rest has.numbered has.flushed_number, same) refl
 
-place_fails : (flushed : ℕ) (before : List Version) (bytes : List ℕ) (fault : TableError) → AreBytes bytes → next_place_at flushed before bytes ≡ Err fault → IsVersionFault flushed before bytes fault
+place_fails : (flushed : ℕ) (before : List Version) (bytes : List ℕ) (fault : TableError) → AreBytes bytes → next_place_at flushed (last_of before) bytes ≡ Err fault → IsVersionFault flushed before bytes fault
 unfolding next_place_at flushed_number_at
 place_fails flushed before bytes fault h e =
-    elim (bind_err (map_err table_error (word_field_at 64 bytes)) (λ key. flushed_number_at flushed key.1 >>= place_after before key.0) fault e) [
+    elim (bind_err (map_err table_error (word_field_at 64 bytes)) (λ key. flushed_number_at flushed key.1 >>= place_after (last_of before) key.0) fault e) [
       | inl wrong ↦
           let field = map_failed table_error (word_field_at 64 bytes) fault wrong in
           in_key field.0 (word_fails 64 bytes field.0 field.1) (sym field.2)
       | inr there ↦
           let word = word_takes 64 bytes there.0 h (map_ok table_error (word_field_at 64 bytes) there.0 there.1) in
-          elim (bind_err (flushed_number_at flushed there.0.1) (place_after before there.0.0) fault there.2) [
+          elim (bind_err (flushed_number_at flushed there.0.1) (place_after (last_of before) there.0.0) fault there.2) [
             | inl wrong ↦
                 in_number there.0.0 there.0.1 (record { parts = word.0.parts; in_range = word.1 })
                 (tested_fails w32 (2 ^ 32) fields_32 (λ n. leb 1 n && leb n flushed) (λ _. Number) (λ n. n) there.0.1 fault word.0.rest_bytes wrong)
@@ -93,28 +93,28 @@ place_fails flushed before bytes fault h e =
           ]
     ]
 
-pub version_fails : (flushed : ℕ) (before : List Version) (bytes : List ℕ) (fault : TableError) → AreBytes bytes → next_version_at flushed before bytes ≡ Err fault → IsVersionFault flushed before bytes fault
+pub version_fails : (flushed : ℕ) (before : List Version) (bytes : List ℕ) (fault : TableError) → AreBytes bytes → next_version_at flushed (last_of before) bytes ≡ Err fault → IsVersionFault flushed before bytes fault
 unfolding next_version_at
 version_fails flushed before bytes fault h e =
-    elim (bind_err (next_place_at flushed before bytes) (λ place. stored_at place.1 >>= with_value place.0) fault e) [
+    elim (bind_err (next_place_at flushed (last_of before) bytes) (λ place. stored_at place.1 >>= with_value place.0) fault e) [
       | inl wrong ↦ place_fails flushed before bytes fault h wrong
       | inr there ↦
-          let place = place_takes flushed before bytes there.0 h there.1 in
+          let place = place_takes flushed (last_of before) bytes there.0 h there.1 in
           let v = there.0.0 in
           let parts : bytes ≡ word_bytes v.key ++ (to_be_bytes w32 v.number ++ there.0.1) = place.parts.parts ∙ append_assoc (word_bytes v.key) (to_be_bytes w32 v.number) there.0.1 in
           let has : HasPlace flushed bytes v there.0.1 = record { parts = parts; word = place.word; numbered = place.numbered; flushed_number = place.is_in } in
           elim (bind_err (stored_at there.0.1) (with_value v) fault there.2) [
-            | inl wrong ↦ in_value v there.0.1 has (after_last-any_value before v.key v.number v.value None ∙ place.after) (stored_fails there.0.1 fault place.parts.rest_bytes wrong)
+            | inl wrong ↦ in_value v there.0.1 has (after-any_value (last_of before) v.key v.number v.value None ∙ place.after) (stored_fails there.0.1 fault place.parts.rest_bytes wrong)
             | inr read ↦ let whole : Version = record { key = v.key; number = v.number; value = read.0.0 } in absurd (ok_or_err (whole, read.0.1) fault read.2)
           ]
     ]
 
-pub version_refused : (flushed : ℕ) (before : List Version) (bytes : List ℕ) (fault : TableError) → IsVersionFault flushed before bytes fault → next_version_at flushed before bytes ≡ Err fault
+pub version_refused : (flushed : ℕ) (before : List Version) (bytes : List ℕ) (fault : TableError) → IsVersionFault flushed before bytes fault → next_version_at flushed (last_of before) bytes ≡ Err fault
 unfolding next_version_at next_place_at flushed_number_at
 version_refused flushed before bytes fault (in_key field wrong is) = rw (word_refused 64 bytes field wrong, is) refl
 version_refused flushed before bytes fault (in_number word rest has wrong) =
-    ap (next_version_at flushed before) has.parts ∙ rw (word_again 64 word rest has.in_range, tested_refused w32 (2 ^ 32) fields_32 (λ n. leb 1 n && leb n flushed) (λ _. Number) (λ n. n) rest fault wrong) refl
+    ap (next_version_at flushed (last_of before)) has.parts ∙ rw (word_again 64 word rest has.in_range, tested_refused w32 (2 ^ 32) fields_32 (λ n. leb 1 n && leb n flushed) (λ _. Number) (λ n. n) rest fault wrong) refl
 version_refused flushed before bytes fault (out_of_order v rest has after is) =
-    let same : is_after_last before (record { key = v.key; number = v.number; value = None }) ≡ false = after_last-any_value before v.key v.number None v.value ∙ after in
-    ap (next_version_at flushed before) has.parts ∙ rw (word_again 64 v.key (to_be_bytes w32 v.number ++ rest) has.word, flushed_number_again flushed v.number rest has.numbered has.flushed_number, same, is) refl
+    let same : is_after_last before (record { key = v.key; number = v.number; value = None }) ≡ false = after-any_value (last_of before) v.key v.number None v.value ∙ after in
+    ap (next_version_at flushed (last_of before)) has.parts ∙ rw (word_again 64 v.key (to_be_bytes w32 v.number ++ rest) has.word, flushed_number_again flushed v.number rest has.numbered has.flushed_number, same, is) refl
 version_refused flushed before bytes fault (in_value v rest has after wrong) = rw (place_again flushed before bytes v rest has after, stored_refused rest fault wrong) refl

@@ -4,6 +4,9 @@ pub mod VersionLemmas
 pub mod BlockLemmas
 pub mod Whole
 pub mod Loop
+pub mod WalkLemmas
+pub mod Judged
+pub mod Halving
 pub mod Lookup
 pub mod NextBlock
 pub mod FieldFaults

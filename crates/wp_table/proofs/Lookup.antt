@@ -1,11 +1,8 @@
 -- Versions in order, searched for those of one key.
-use Rattle.std.proofs.Common.{◌≡◌, ℕ, zero, suc, ◌<◌, ◌≤◌, Bool, true, false, Less, Equal, Greater, List, [], ◌∷◌, length, get_or, take, drop, filter, refl, sym, ap, ◌∙◌, arith, inl, inr, ◌⊎◌}
+use Rattle.std.proofs.Common.{◌≡◌, ℕ, zero, suc, ◌*◌, ◌<◌, ◌≤◌, Bool, true, false, Less, Equal, Greater, List, [], ◌∷◌, length, drop, filter, Option, Some, None, refl, sym, ap, ◌∙◌, arith, inl, inr, ◌⊎◌}
 use Rattle.std.specs.declared.cmp.Ordering.{Ordering}
 use Rattle.std.specs.Ordering.{nat_cmp, is_lt, ordering_then, ordering_reverse}
-use Rattle.std.specs.List.{AllWithin, All}
-use Rattle.std.specs.List.Sorted.{IsPartitionedBy}
 use Rattle.std.specs.Str.{bytes_eq}
-use Rattle.std.proofs.lemmas.Bool.{cases_lt}
 use Rattle.std.proofs.lemmas.Cmp.{nat_list_cmp_total}
 use Rattle.std.proofs.lemmas.Map.Lookups.{exact_bytes}
 use Rattle.std.proofs.lemmas.Slice.Eq.{bytes_eq-Decides}
@@ -15,19 +12,15 @@ use Rattle.wp_model.specs.declared.version.Version.{Version}
 use Rattle.wp_model.specs.Versions.{AreInOrder, version_cmp}
 use Rattle.wp_model.proofs.BatchLemmas.{less_from_test}
 use Rattle.wp_model.proofs.VersionLists.{IsBefore, in_order_parts}
+use Rattle.wp_table.specs.Borrowed.{with_next, begins_below, skip_below, front_with}
+use Rattle.std.proofs.lemmas.List.{drop_all}
+use Rattle.wp_table.specs.declared.layout.TheConstants.{BLOCK}
+use Rattle.wp_table.specs.Table.{block_count}
+use Rattle.wp_table.specs.Walk.{StandsFrom}
+use Rattle.wp_table.proofs.BlockLemmas.{count_bounds}
+use Rattle.wp_table.proofs.Order.{in_order_drop}
 
 -- ---- earlier and later versions
-
-before_at : (v : Version) (vs : List Version) (j : ℕ) (d : Version) → IsBefore v vs → j < length vs → version_cmp v (get_or vs j d) ≡ Less
-before_at v [] j d before lt = absurd (omega arith)
-before_at v (w ∷ vs) zero d before lt = before.0
-before_at v (w ∷ vs) (suc j) d before lt = before_at v vs j d before.1 (omega (arith, lt))
-
-in_order_at : (vs : List Version) (i j : ℕ) (d : Version) → AreInOrder vs → i < j → j < length vs → version_cmp (get_or vs i d) (get_or vs j d) ≡ Less
-in_order_at [] i j d h lt within = absurd (omega arith)
-in_order_at (v ∷ vs) i zero d h lt within = absurd (omega arith)
-in_order_at (v ∷ vs) zero (suc j) d h lt within = before_at v vs j d (in_order_parts v vs h).0 (omega (arith, within))
-in_order_at (v ∷ vs) (suc i) (suc j) d h lt within = in_order_at vs i j d (in_order_parts v vs h).1 (omega (arith, lt)) (omega (arith, within))
 
 not_after : (o p : Ordering) → ordering_then o p ≡ Less → (o ≡ Less) ⊎ (o ≡ Equal)
 not_after Less p h = inl refl
@@ -45,13 +38,6 @@ lesser v w key h less =
       | inr same ↦ nat_list_cmp_total.congr v.key w.key key same ∙ less
     ]
 
-pub below_first : (vs : List Version) (key : List ℕ) → AreInOrder vs → IsPartitionedBy (λ v. is_lt (key_cmp v.key key)) vs
-below_first vs key h i j d le within below =
-    elim (cases_lt i j) [
-      | inl lt ↦ test_of_less _ (lesser (get_or vs i d) (get_or vs j d) key (in_order_at vs i j d h lt within) (less_from_test _ below))
-      | inr ge ↦ let same : i ≡ j = omega arith in ap (λ (k : ℕ). is_lt (key_cmp (get_or vs k d).key key)) same ∙ below
-    ]
-
 true_or_false : true ≡ false → ⊥
 true_or_false h = absurd cc
 
@@ -62,13 +48,6 @@ same_key v w key h equal not_less =
     elim (not_after (key_cmp v.key w.key) (nat_cmp w.number v.number) h) [
       | inl before ↦ absurd (true_or_false (sym (test_of_less (key_cmp v.key key) (ap (key_cmp v.key) (sym is) ∙ before)) ∙ not_less))
       | inr same ↦ (bytes_eq-Decides v.key key).1 (exact_bytes v.key w.key same ∙ is)
-    ]
-
-pub key_first : (vs : List Version) (key : List ℕ) → AreInOrder vs → All (λ v. is_lt (key_cmp v.key key) ≡ false) vs → IsPartitionedBy (λ v. bytes_eq v.key key) vs
-key_first vs key h not_below i j d le within equal =
-    elim (cases_lt i j) [
-      | inl lt ↦ same_key (get_or vs i d) (get_or vs j d) key (in_order_at vs i j d h lt within) equal (not_below i d (omega (arith, within)))
-      | inr ge ↦ let same : i ≡ j = omega arith in ap (λ (k : ℕ). bytes_eq (get_or vs k d).key key) same ∙ equal
     ]
 
 -- ---- what is found
@@ -86,25 +65,86 @@ other_key v key less =
       | inr differ ↦ differ
     ]
 
-skip_below : (vs : List Version) (key : List ℕ) (start : ℕ) → AllWithin (λ v. is_lt (key_cmp v.key key) ≡ true) vs 0 start → start ≤ length vs → filter (λ v. bytes_eq v.key key) vs ≡ filter (λ v. bytes_eq v.key key) (drop start vs)
-skip_below vs key zero below within = refl
-skip_below [] key (suc start) below within = refl
-skip_below (v ∷ vs) key (suc start) below within =
-    rw (other_key v key (below 0 v (omega arith) (omega arith))) (skip_below vs key start (λ k d lo hi. below (suc k) d (omega arith) (omega (arith, hi))) (omega (arith, within)))
+abbrev has : List ℕ → Version → Bool
+has key v = bytes_eq v.key key
 
-none_left : (p : Version → Bool) (vs : List Version) → AllWithin (λ v. p v ≡ false) vs 0 (length vs) → filter p vs ≡ []
-none_left p [] none = refl
-none_left p (v ∷ vs) none = rw (none 0 v (omega arith) (omega arith)) (none_left p vs (λ k d lo hi. none (suc k) d (omega arith) (omega (arith, hi))))
+-- behind a key that is not lesser comes none
+not_below_next : (v : Version) (vs : List Version) (key : List ℕ) → AreInOrder (v ∷ vs) → is_lt (key_cmp v.key key) ≡ false → begins_below key vs ≡ false
+not_below_next v [] key h not_less = refl
+not_below_next v (w ∷ vs) key h not_less =
+    elim (either (is_lt (key_cmp w.key key))) [
+      | inl less ↦ absurd (true_or_false (sym (test_of_less _ (lesser v w key (in_order_parts v (w ∷ vs) h).0.0 (less_from_test _ less))) ∙ not_less))
+      | inr is ↦ is
+    ]
 
-take_key : (p : Version → Bool) (vs : List Version) (count : ℕ) → AllWithin (λ v. p v ≡ true) vs 0 count → AllWithin (λ v. p v ≡ false) vs count (length vs) → count ≤ length vs → filter p vs ≡ take count vs
-take_key p vs zero all none within = none_left p vs none
-take_key p [] (suc count) all none within = refl
-take_key p (v ∷ vs) (suc count) all none within =
-    let rest = take_key p vs count (λ k d lo hi. all (suc k) d (omega arith) (omega (arith, hi))) (λ k d lo hi. none (suc k) d (omega (arith, lo)) (omega (arith, hi))) (omega (arith, within)) in
-    rw (all 0 v (omega arith) (omega arith)) (ap (λ (ws : List Version). v ∷ ws) rest)
+not_below_later : (n : ℕ) (vs : List Version) (key : List ℕ) → AreInOrder vs → begins_below key vs ≡ false → begins_below key (drop n vs) ≡ false
+not_below_later zero vs key h not_less = not_less
+not_below_later (suc n) [] key h not_less = refl
+not_below_later (suc n) (v ∷ vs) key h not_less = not_below_later n vs key (in_order_parts v vs h).1 (not_below_next v vs key h not_less)
 
-pub found_is : (vs : List Version) (key : List ℕ) (start count : ℕ) → AllWithin (λ v. is_lt (key_cmp v.key key) ≡ true) vs 0 start → start ≤ length vs
-    → AllWithin (λ v. bytes_eq v.key key ≡ true) (drop start vs) 0 count → AllWithin (λ v. bytes_eq v.key key ≡ false) (drop start vs) count (length (drop start vs)) → count ≤ length (drop start vs)
-    → take count (drop start vs) ≡ filter (λ v. bytes_eq v.key key) vs
-found_is vs key start count below within all none counted =
-    sym (skip_below vs key start below within ∙ take_key (λ v. bytes_eq v.key key) (drop start vs) count all none counted)
+-- before a lesser key the key does not stand
+pub below_before : (n : ℕ) (vs : List Version) (key : List ℕ) → AreInOrder vs → begins_below key (drop n vs) ≡ true → filter (has key) (drop n vs) ≡ filter (has key) vs
+below_before zero vs key h below = refl
+below_before (suc n) [] key h below = refl
+below_before (suc n) (v ∷ vs) key h below =
+    let less : is_lt (key_cmp v.key key) ≡ true = elim (either (is_lt (key_cmp v.key key))) [
+      | inl is ↦ is
+      | inr not_less ↦ absurd (true_or_false (sym below ∙ not_below_later (suc n) (v ∷ vs) key h not_less))
+    ] in
+    rw (other_key v key less) (below_before n vs key (in_order_parts v vs h).1 below)
+
+-- behind a greater key the key does not stand
+none_behind : (v : Version) (vs : List Version) (key : List ℕ) → IsBefore v vs → is_lt (key_cmp v.key key) ≡ false → bytes_eq v.key key ≡ false → filter (has key) vs ≡ []
+none_behind v [] key before not_less other = refl
+none_behind v (w ∷ vs) key before not_less other =
+    let differ : bytes_eq w.key key ≡ false = elim (either (bytes_eq w.key key)) [
+      | inl same ↦ absurd (true_or_false (sym (same_key v w key before.0 same not_less) ∙ other))
+      | inr is ↦ is
+    ] in
+    rw differ (none_behind v vs key before.1 not_less other)
+
+front_is : (vs : List Version) (key : List ℕ) → AreInOrder vs → begins_below key vs ≡ false → front_with key vs ≡ filter (has key) vs
+front_is [] key h not_less = refl
+front_is (v ∷ vs) key h not_less =
+    let parts = in_order_parts v vs h in
+    elim (either (bytes_eq v.key key)) [
+      | inl same ↦ rw same (ap (λ (ws : List Version). v ∷ ws) (front_is vs key parts.1 (not_below_next v vs key h not_less)))
+      | inr other ↦ rw other (sym (none_behind v vs key parts.0 not_less other))
+    ]
+
+found_in : (vs : List Version) (key : List ℕ) → AreInOrder vs → front_with key (skip_below key vs) ≡ filter (has key) vs
+found_in [] key h = refl
+found_in (v ∷ vs) key h =
+    elim (either (is_lt (key_cmp v.key key))) [
+      | inl less ↦ rw (less, other_key v key less) (found_in vs key (in_order_parts v vs h).1)
+      | inr not_less ↦ rw not_less (front_is (v ∷ vs) key h not_less)
+    ]
+
+-- what is found from a place on, in front of which the key does not stand
+pub found_from : (n : ℕ) (vs : List Version) (key : List ℕ) → AreInOrder vs → filter (has key) (drop n vs) ≡ filter (has key) vs → front_with key (skip_below key (drop n vs)) ≡ filter (has key) vs
+found_from n vs key h from = found_in (drop n vs) key (in_order_drop n vs h) ∙ from
+
+-- ---- what is skipped
+
+pub skipped : (key : List ℕ) (next : Option Version) (rest : List Version) → begins_below key (with_next next []) ≡ true → skip_below key (with_next next rest) ≡ skip_below key rest
+skipped key None rest less = absurd cc
+skipped key (Some v) rest less = rw less refl
+
+pub none_skipped : (key : List ℕ) (next : Option Version) (rest : List Version) → begins_below key (with_next next []) ≡ false → skip_below key (with_next next rest) ≡ with_next next rest
+none_skipped key None rest not_less = refl
+none_skipped key (Some v) rest not_less = rw not_less refl
+
+pub fewer_left : (key : List ℕ) (next : Option Version) (rest : List Version) → begins_below key (with_next next []) ≡ true → length rest < length (with_next next rest)
+fewer_left key None rest less = absurd cc
+fewer_left key (Some v) rest less = omega arith
+
+-- ---- where the key stands
+
+pub all_stand : (vs : List Version) (key : List ℕ) (blocks : ℕ) → blocks ≡ block_count (length vs) → 1 ≤ blocks → StandsFrom vs key 0 blocks
+all_stand vs key blocks is some =
+    let none : drop (blocks * BLOCK) vs ≡ [] = drop_all (blocks * BLOCK) vs (omega (arith, (count_bounds (length vs)).0, is)) in
+    record { later = omega (arith, some); within = omega (arith, is); from = refl; not_below = ap (begins_below key) none }
+
+pub later_stands : (vs : List Version) (key : List ℕ) (first behind middle : ℕ) → AreInOrder vs → StandsFrom vs key first behind → begins_below key (drop (middle * BLOCK) vs) ≡ true → middle < behind → StandsFrom vs key middle behind
+later_stands vs key first behind middle h stands below lt =
+    record { later = lt; within = stands.within; from = below_before (middle * BLOCK) vs key h below; not_below = stands.not_below }

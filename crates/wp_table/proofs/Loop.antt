@@ -1,5 +1,5 @@
 -- Reading versions, blocks and places one after the other, as a loop does.
-use Rattle.std.proofs.Common.{◌≡◌, ℕ, suc, ◌-◌, ◌+◌, ◌≤◌, ◌<◌, min, List, [], ◌∷◌, ◌++◌, length, get_or, drop, drop-cons, Result, Ok, Err, refl, sym, ap, ◌∙◌, arith}
+use Rattle.std.proofs.Common.{◌≡◌, ℕ, suc, ◌-◌, ◌+◌, ◌≤◌, ◌<◌, min, List, [], ◌∷◌, ◌++◌, length, get_or, drop, drop-cons, Option, Some, Result, Ok, Err, refl, sym, ap, ◌∙◌, arith}
 use Rattle.std.proofs.lemmas.List.{drop_all}
 use Rattle.wp_model.specs.declared.version.Version.{Version}
 use Rattle.wp_fields.specs.Reading.{◌>>=◌, Fails}
@@ -7,10 +7,11 @@ use Rattle.wp_table.specs.declared.layout.TheConstants.{BLOCK}
 use Rattle.wp_table.specs.declared.error.TableError.{TableError}
 use Rattle.wp_table.specs.declared.error.TableError.TheVariants.{Memory, Short, Head, Stranger, Count, Word, Number, Order, Index, Extra}
 use Rattle.wp_table.specs.Errors.{table_fault}
-use Rattle.wp_table.specs.Reading.{next_version_at, versions_after, block_after, blocks_after, after_place, after_places}
+use Rattle.wp_table.specs.Reading.{next_version_at, after_place, after_places}
+use Rattle.wp_table.specs.Judging.{last_after, last_of_block, places_after}
 
 -- a fault of the next step is the fault of all
-fails_as_well : {X Y : Type 0} (error : TableError) (read : Result X TableError) (total : Result Y TableError) → Fails table_fault error read → (read ≡ Err error → total ≡ Err error) → Fails table_fault error total
+pub fails_as_well : {X Y : Type 0} (error : TableError) (read : Result X TableError) (total : Result Y TableError) → Fails table_fault error read → (read ≡ Err error → total ≡ Err error) → Fails table_fault error total
 fails_as_well Memory read total f on = tt
 fails_as_well Short read total f on = on f
 fails_as_well Head read total f on = on f
@@ -24,53 +25,53 @@ fails_as_well Extra read total f on = on f
 
 -- ---- versions
 
-abbrev Versions : Type 0
-Versions = Result (List Version × List ℕ) TableError
+abbrev Last : Type 0
+Last = Result (Option Version × List ℕ) TableError
 
-one_version : (count i flushed : ℕ) (versions : List Version) (bytes : List ℕ) → i < count → versions_after (count - i) flushed versions bytes ≡ next_version_at flushed versions bytes >>= λ x. versions_after (count - (i + 1)) flushed (versions ++ x.0 ∷ []) x.1
-unfolding versions_after
-one_version count i flushed versions bytes lt = let k : count - i ≡ suc (count - (i + 1)) = omega arith in rw k refl
+one_version : (count i flushed : ℕ) (last : Option Version) (bytes : List ℕ) → i < count → last_after (count - i) flushed last bytes ≡ next_version_at flushed last bytes >>= λ x. last_after (count - (i + 1)) flushed (Some x.0) x.1
+unfolding last_after
+one_version count i flushed last bytes lt = let k : count - i ≡ suc (count - (i + 1)) = omega arith in rw k refl
 
-pub version_read : (count i flushed : ℕ) (versions : List Version) (bytes : List ℕ) (version : Version) (rest : List ℕ) (total : Versions) → i < count → next_version_at flushed versions bytes ≡ Ok (version, rest)
-    → versions_after (count - i) flushed versions bytes ≡ total → versions_after (count - (i + 1)) flushed (versions ++ version ∷ []) rest ≡ total
-version_read count i flushed versions bytes version rest total lt read so_far =
-    let step : versions_after (count - i) flushed versions bytes ≡ versions_after (count - (i + 1)) flushed (versions ++ version ∷ []) rest = one_version count i flushed versions bytes lt ∙ rw read refl in
+pub version_read : (count i flushed : ℕ) (last : Option Version) (bytes : List ℕ) (version : Version) (rest : List ℕ) (total : Last) → i < count → next_version_at flushed last bytes ≡ Ok (version, rest)
+    → last_after (count - i) flushed last bytes ≡ total → last_after (count - (i + 1)) flushed (Some version) rest ≡ total
+version_read count i flushed last bytes version rest total lt read so_far =
+    let step : last_after (count - i) flushed last bytes ≡ last_after (count - (i + 1)) flushed (Some version) rest = one_version count i flushed last bytes lt ∙ rw read refl in
     sym step ∙ so_far
 
-pub version_fails : (count i flushed : ℕ) (versions : List Version) (bytes : List ℕ) (error : TableError) (total : Versions) → i < count → Fails table_fault error (next_version_at flushed versions bytes)
-    → versions_after (count - i) flushed versions bytes ≡ total → Fails table_fault error total
-version_fails count i flushed versions bytes error total lt read so_far =
-    fails_as_well error (next_version_at flushed versions bytes) total read (λ e. sym so_far ∙ one_version count i flushed versions bytes lt ∙ rw e refl)
+pub version_fails : (count i flushed : ℕ) (last : Option Version) (bytes : List ℕ) (error : TableError) (total : Last) → i < count → Fails table_fault error (next_version_at flushed last bytes)
+    → last_after (count - i) flushed last bytes ≡ total → Fails table_fault error total
+version_fails count i flushed last bytes error total lt read so_far =
+    fails_as_well error (next_version_at flushed last bytes) total read (λ e. sym so_far ∙ one_version count i flushed last bytes lt ∙ rw e refl)
 
-pub versions_read : (count i flushed : ℕ) (versions : List Version) (bytes : List ℕ) (total : Versions) → count ≤ i → versions_after (count - i) flushed versions bytes ≡ total → total ≡ Ok (versions, bytes)
-unfolding versions_after
-versions_read count i flushed versions bytes total le so_far = let k : count - i ≡ 0 = omega arith in sym so_far ∙ rw k refl
+pub versions_read : (count i flushed : ℕ) (last : Option Version) (bytes : List ℕ) (total : Last) → count ≤ i → last_after (count - i) flushed last bytes ≡ total → total ≡ Ok (last, bytes)
+unfolding last_after
+versions_read count i flushed last bytes total le so_far = let k : count - i ≡ 0 = omega arith in sym so_far ∙ rw k refl
 
 -- ---- blocks
 
-abbrev Blocks : Type 0
-Blocks = Result ((List Version × List ℕ) × List ℕ) TableError
+abbrev Places : Type 0
+Places = Result (List ℕ × List ℕ) TableError
 
-one_block : (count i size flushed left : ℕ) (versions : List Version) (places bytes : List ℕ) → i < count
-    → blocks_after (count - i) size flushed left versions places bytes ≡ block_after (min left BLOCK) flushed versions bytes >>= λ x. blocks_after (count - (i + 1)) size flushed (left - min left BLOCK) x.0 (places ++ (size - length bytes) ∷ []) x.1
-unfolding blocks_after
-one_block count i size flushed left versions places bytes lt = let k : count - i ≡ suc (count - (i + 1)) = omega arith in rw k refl
+one_block : (count i size flushed left : ℕ) (last : Option Version) (places bytes : List ℕ) → i < count
+    → places_after (count - i) size flushed left last places bytes ≡ last_of_block (min left BLOCK) flushed last bytes >>= λ x. places_after (count - (i + 1)) size flushed (left - min left BLOCK) x.0 (places ++ (size - length bytes) ∷ []) x.1
+unfolding places_after
+one_block count i size flushed left last places bytes lt = let k : count - i ≡ suc (count - (i + 1)) = omega arith in rw k refl
 
-pub block_read : (count i size flushed left : ℕ) (versions : List Version) (places bytes : List ℕ) (found : List Version × List ℕ) (total : Blocks) → i < count → block_after (min left BLOCK) flushed versions bytes ≡ Ok found
-    → blocks_after (count - i) size flushed left versions places bytes ≡ total → blocks_after (count - (i + 1)) size flushed (left - min left BLOCK) found.0 (places ++ (size - length bytes) ∷ []) found.1 ≡ total
-block_read count i size flushed left versions places bytes found total lt read so_far =
-    let step : blocks_after (count - i) size flushed left versions places bytes ≡ blocks_after (count - (i + 1)) size flushed (left - min left BLOCK) found.0 (places ++ (size - length bytes) ∷ []) found.1 =
-    one_block count i size flushed left versions places bytes lt ∙ rw read refl in
+pub block_read : (count i size flushed left : ℕ) (last : Option Version) (places bytes : List ℕ) (found : Option Version × List ℕ) (total : Places) → i < count → last_of_block (min left BLOCK) flushed last bytes ≡ Ok found
+    → places_after (count - i) size flushed left last places bytes ≡ total → places_after (count - (i + 1)) size flushed (left - min left BLOCK) found.0 (places ++ (size - length bytes) ∷ []) found.1 ≡ total
+block_read count i size flushed left last places bytes found total lt read so_far =
+    let step : places_after (count - i) size flushed left last places bytes ≡ places_after (count - (i + 1)) size flushed (left - min left BLOCK) found.0 (places ++ (size - length bytes) ∷ []) found.1 =
+    one_block count i size flushed left last places bytes lt ∙ rw read refl in
     sym step ∙ so_far
 
-pub block_fails : (count i size flushed left : ℕ) (versions : List Version) (places bytes : List ℕ) (error : TableError) (total : Blocks) → i < count → Fails table_fault error (block_after (min left BLOCK) flushed versions bytes)
-    → blocks_after (count - i) size flushed left versions places bytes ≡ total → Fails table_fault error total
-block_fails count i size flushed left versions places bytes error total lt read so_far =
-    fails_as_well error (block_after (min left BLOCK) flushed versions bytes) total read (λ e. sym so_far ∙ one_block count i size flushed left versions places bytes lt ∙ rw e refl)
+pub block_fails : (count i size flushed left : ℕ) (last : Option Version) (places bytes : List ℕ) (error : TableError) (total : Places) → i < count → Fails table_fault error (last_of_block (min left BLOCK) flushed last bytes)
+    → places_after (count - i) size flushed left last places bytes ≡ total → Fails table_fault error total
+block_fails count i size flushed left last places bytes error total lt read so_far =
+    fails_as_well error (last_of_block (min left BLOCK) flushed last bytes) total read (λ e. sym so_far ∙ one_block count i size flushed left last places bytes lt ∙ rw e refl)
 
-pub blocks_read : (count i size flushed left : ℕ) (versions : List Version) (places bytes : List ℕ) (total : Blocks) → count ≤ i → blocks_after (count - i) size flushed left versions places bytes ≡ total → total ≡ Ok ((versions, places ++ (size - length bytes) ∷ []), bytes)
-unfolding blocks_after
-blocks_read count i size flushed left versions places bytes total le so_far = let k : count - i ≡ 0 = omega arith in sym so_far ∙ rw k refl
+pub blocks_read : (count i size flushed left : ℕ) (last : Option Version) (places bytes : List ℕ) (total : Places) → count ≤ i → places_after (count - i) size flushed left last places bytes ≡ total → total ≡ Ok (places, bytes)
+unfolding places_after
+blocks_read count i size flushed left last places bytes total le so_far = let k : count - i ≡ 0 = omega arith in sym so_far ∙ rw k refl
 
 -- ---- places
 

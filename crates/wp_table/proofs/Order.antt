@@ -1,12 +1,12 @@
 -- Versions in order, and the one that comes last.
-use Rattle.std.proofs.Common.{◌≡◌, ℕ, suc, ◌-◌, ◌≤◌, true, Less, List, [], ◌∷◌, ◌++◌, length, get_or, take, drop, Option, refl, sym, ap, subst, ◌∙◌, arith}
+use Rattle.std.proofs.Common.{◌≡◌, ℕ, true, Less, List, [], ◌∷◌, ◌++◌, take, drop, Option, Some, None, refl, sym, ap, subst}
 use Rattle.std.specs.Ordering.{is_lt}
 use Rattle.std.proofs.lemmas.List.{take-append-drop}
 use Rattle.wp_model.specs.declared.version.Version.{Version}
 use Rattle.wp_model.specs.Versions.{AreInOrder, version_cmp}
 use Rattle.wp_model.proofs.BatchLemmas.{less_from_test}
 use Rattle.wp_model.proofs.VersionLists.{IsBefore, in_order_nil, in_order_parts, in_order_cons, version_total}
-use Rattle.wp_table.specs.Reading.{is_after_last}
+use Rattle.wp_table.specs.Reading.{last_of, is_after, is_after_last}
 
 pub in_order_one : (v : Version) → AreInOrder (v ∷ [])
 in_order_one v = in_order_cons v [] tt in_order_nil
@@ -37,18 +37,15 @@ after_from_order [] v others h = refl
 after_from_order (first ∷ []) v others h = ap is_lt (in_order_parts first (v ∷ others) h).0.0
 after_from_order (first ∷ second ∷ before) v others h = after_from_order (second ∷ before) v others (in_order_parts first ((second ∷ before) ++ v ∷ others) h).1
 
-pub is_after_last-at : (vs : List Version) (v last : Version) → 1 ≤ length vs → last ≡ get_or vs (length vs - 1) last → is_after_last vs v ≡ is_lt (version_cmp last v)
-is_after_last-at [] v last h is = absurd (omega arith)
-is_after_last-at (first ∷ []) v last h is = ap (λ (w : Version). is_lt (version_cmp w v)) (sym is)
-is_after_last-at (first ∷ second ∷ others) v last h is =
-    let i : length (first ∷ second ∷ others) - 1 ≡ suc (length (second ∷ others) - 1) = omega arith in
-    is_after_last-at (second ∷ others) v last (omega arith) (is ∙ ap (λ (n : ℕ). get_or (first ∷ second ∷ others) n last) i)
+pub last_push : (vs : List Version) (v : Version) → last_of (vs ++ v ∷ []) ≡ Some v
+last_push [] v = refl
+last_push (w ∷ []) v = refl
+last_push (w ∷ x ∷ vs) v = last_push (x ∷ vs) v
 
 -- what a version has under its key doesn't count
-pub after_last-any_value : (before : List Version) (key : List ℕ) (number : ℕ) (x y : Option (List ℕ)) → is_after_last before (record { key = key; number = number; value = x }) ≡ is_after_last before (record { key = key; number = number; value = y })
-after_last-any_value [] key number x y = refl
-after_last-any_value (last ∷ []) key number x y = refl
-after_last-any_value (first ∷ second ∷ others) key number x y = after_last-any_value (second ∷ others) key number x y
+pub after-any_value : (last : Option Version) (key : List ℕ) (number : ℕ) (x y : Option (List ℕ)) → is_after last (record { key = key; number = number; value = x }) ≡ is_after last (record { key = key; number = number; value = y })
+after-any_value None key number x y = refl
+after-any_value (Some last) key number x y = refl
 
 before_front : (v : Version) (vs ws : List Version) → IsBefore v (vs ++ ws) → IsBefore v vs
 before_front v [] ws h = tt

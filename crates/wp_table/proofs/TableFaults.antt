@@ -14,7 +14,7 @@ use Rattle.wp_table.specs.declared.layout.TheConstants.{BLOCK}
 use Rattle.wp_table.specs.declared.error.TableError.{TableError}
 use Rattle.wp_table.specs.declared.error.TableError.TheVariants.{Short, Count, Index}
 use Rattle.wp_table.specs.Table.{version_bytes, block_bytes, block_count, blocks_in, is_version}
-use Rattle.wp_table.specs.Reading.{if_right, next_version_at, versions_after, block_after, blocks_after, after_place, after_places}
+use Rattle.wp_table.specs.Reading.{if_right, last_of, next_version_at, versions_after, block_after, blocks_after, after_place, after_places}
 use Rattle.wp_table.specs.Faults.{IsNumberFault, IsVersionFault, IsBlockFault, in_count, in_versions, IsBlocksFault, FitsField, IsPlacesFault}
 use Rattle.wp_model.proofs.VersionLists.{in_order_nil}
 use Rattle.wp_table.proofs.Order.{in_order_push, after_from_order, in_order_front}
@@ -43,7 +43,7 @@ versions_fail : (count flushed : ℕ) (before : List Version) (bytes : List ℕ)
 unfolding versions_after
 versions_fail zero flushed before bytes fault h e = absurd (ok_or_err (before, bytes) fault e)
 versions_fail (suc count) flushed before bytes fault h e =
-    elim (bind_err (next_version_at flushed before bytes) (others_after count flushed before) fault e) [
+    elim (bind_err (next_version_at flushed (last_of before) bytes) (others_after count flushed before) fault e) [
       | inl wrong ↦
           let same : before ≡ before ++ [] = sym (append-nil before) in
           record {
@@ -56,7 +56,7 @@ versions_fail (suc count) flushed before bytes fault h e =
             wrong = subst (λ (all : List Version). IsVersionFault flushed all bytes fault) same (version_fails flushed before bytes fault h wrong);
           }
       | inr there ↦
-          let v = version_takes flushed before bytes there.0 h there.1 in
+          let v = version_takes flushed (last_of before) bytes there.0 h there.1 in
           let after = versions_fail count flushed (before ++ there.0.0 ∷ []) there.0.1 fault v.0.rest_bytes there.2 in
           let all : (before ++ there.0.0 ∷ []) ++ after.more ≡ before ++ there.0.0 ∷ after.more = append_assoc before (there.0.0 ∷ []) after.more in
           record {
@@ -79,11 +79,11 @@ versions_refused [] (suc count) flushed before rest fault order range fewer wron
     rw (version_refused flushed before rest fault (subst (λ (vs : List Version). IsVersionFault flushed vs rest fault) same wrong)) refl
 versions_refused (v ∷ more) (suc count) flushed before rest fault order range fewer wrong =
     let parts = and_parts (is_version flushed v) (list_all (is_version flushed) more) range in
-    let next : IsNext flushed before v = record { in_range = parts.0; after = after_from_order before v more order } in
+    let next : IsNext flushed (last_of before) v = record { in_range = parts.0; after = after_from_order before v more order } in
     let regrouped : (version_bytes v ++ flat_map version_bytes more) ++ rest ≡ version_bytes v ++ (flat_map version_bytes more ++ rest) = append_assoc (version_bytes v) (flat_map version_bytes more) rest in
     let all : before ++ v ∷ more ≡ (before ++ v ∷ []) ++ more = sym (append_assoc before (v ∷ []) more) in
     let others = versions_refused more count flushed (before ++ v ∷ []) rest fault (subst AreInOrder all order) parts.1 (omega (arith, fewer)) (subst (λ (vs : List Version). IsVersionFault flushed vs rest fault) all wrong) in
-    ap (versions_after (suc count) flushed before) regrouped ∙ rw (version_again flushed before v (flat_map version_bytes more ++ rest) next) others
+    ap (versions_after (suc count) flushed before) regrouped ∙ rw (version_again flushed (last_of before) v (flat_map version_bytes more ++ rest) next) others
 
 -- ---- one block
 

@@ -17,8 +17,8 @@ use Rattle.wp_table.specs.declared.error.TableError.{TableError}
 use Rattle.wp_table.specs.declared.error.TableError.TheVariants.{Short, Number, Order}
 use Rattle.wp_table.specs.Errors.{table_error}
 use Rattle.wp_table.specs.Table.{stored_bytes, version_bytes, is_numbered, is_flushed, is_stored, has_words, is_version}
-use Rattle.wp_table.specs.Reading.{if_right, flushed_number_at, stored_at, is_after_last, next_place_at, next_version_at, versions_after}
-use Rattle.wp_table.proofs.Order.{in_order_push, after_from_order, after_last-any_value}
+use Rattle.wp_table.specs.Reading.{if_right, flushed_number_at, stored_at, last_of, is_after, next_place_at, next_version_at, versions_after}
+use Rattle.wp_table.proofs.Order.{in_order_push, after_from_order, after-any_value}
 use Rattle.wp_table.proofs.Parts.{was_right}
 
 -- ---- numbers
@@ -78,32 +78,32 @@ stored_again (Some value) rest is = rw (value_again value rest is) refl
 
 -- ---- versions
 
--- the version is in range, and may come after those before it
-pub record IsNext (flushed : ℕ) (before : List Version) (v : Version) : Type 0 where
+-- the version is in range, and may come after the last one
+pub record IsNext (flushed : ℕ) (last : Option Version) (v : Version) : Type 0 where
   pub in_range : is_version flushed v ≡ true
-  pub after : is_after_last before v ≡ true
+  pub after : is_after last v ≡ true
 
-abbrev pub place_after : List Version → List ℕ → ℕ × List ℕ → Result (Version × List ℕ) TableError
-place_after before key number =
-    let version : Version = record { key = key; number = number.0; value = None } in if_right (is_after_last before version) Order (version, number.1)
+abbrev pub place_after : Option Version → List ℕ → ℕ × List ℕ → Result (Version × List ℕ) TableError
+place_after last key number =
+    let version : Version = record { key = key; number = number.0; value = None } in if_right (is_after last version) Order (version, number.1)
 
-pub record TakesPlace (flushed : ℕ) (before : List Version) (bytes : List ℕ) (x : Version × List ℕ) : Type 0 where
+pub record TakesPlace (flushed : ℕ) (last : Option Version) (bytes : List ℕ) (x : Version × List ℕ) : Type 0 where
   pub parts : Begins bytes (word_bytes x.0.key ++ to_be_bytes w32 x.0.number) x.1
   pub word : is_word 64 x.0.key ≡ true
   pub numbered : is_numbered x.0 ≡ true
   pub is_in : is_flushed flushed x.0 ≡ true
-  pub after : is_after_last before (record { key = x.0.key; number = x.0.number; value = None }) ≡ true
+  pub after : is_after last (record { key = x.0.key; number = x.0.number; value = None }) ≡ true
 
-pub place_takes : (flushed : ℕ) (before : List Version) (bytes : List ℕ) (x : Version × List ℕ) → AreBytes bytes → next_place_at flushed before bytes ≡ Ok x → TakesPlace flushed before bytes x
+pub place_takes : (flushed : ℕ) (last : Option Version) (bytes : List ℕ) (x : Version × List ℕ) → AreBytes bytes → next_place_at flushed last bytes ≡ Ok x → TakesPlace flushed last bytes x
 unfolding next_place_at
-place_takes flushed before bytes x h e =
-    let s = bind_ok (map_err table_error (word_field_at 64 bytes)) (λ key. flushed_number_at flushed key.1 >>= place_after before key.0) x e in
+place_takes flushed last bytes x h e =
+    let s = bind_ok (map_err table_error (word_field_at 64 bytes)) (λ key. flushed_number_at flushed key.1 >>= place_after last key.0) x e in
     let key = word_takes 64 bytes s.0 h (map_ok table_error (word_field_at 64 bytes) s.0 s.1) in
-    let t = bind_ok (flushed_number_at flushed s.0.1) (place_after before s.0.0) x s.2 in
+    let t = bind_ok (flushed_number_at flushed s.0.1) (place_after last s.0.0) x s.2 in
     let number = flushed_number_takes flushed s.0.1 t.0 key.0.rest_bytes t.1 in
     let version : Version = record { key = s.0.0; number = t.0.0; value = None } in
-    let right = was_right (is_after_last before version) Order (version, t.0.1) x t.2 in
-    let found : TakesPlace flushed before bytes (version, t.0.1) = record {
+    let right = was_right (is_after last version) Order (version, t.0.1) x t.2 in
+    let found : TakesPlace flushed last bytes (version, t.0.1) = record {
       parts = Begins-then bytes (word_bytes s.0.0) s.0.1 (to_be_bytes w32 t.0.0) t.0.1 key.0 number.parts;
       word = key.1;
       numbered = number.numbered;
@@ -115,34 +115,34 @@ place_takes flushed before bytes x h e =
 abbrev pub with_value : Version → Stored → Result (Version × List ℕ) TableError
 with_value place value = Ok (record { key = place.key; number = place.number; value = value.0 }, value.1)
 
-pub version_takes : (flushed : ℕ) (before : List Version) (bytes : List ℕ) (x : Version × List ℕ) → AreBytes bytes → next_version_at flushed before bytes ≡ Ok x → Begins bytes (version_bytes x.0) x.1 × IsNext flushed before x.0
+pub version_takes : (flushed : ℕ) (last : Option Version) (bytes : List ℕ) (x : Version × List ℕ) → AreBytes bytes → next_version_at flushed last bytes ≡ Ok x → Begins bytes (version_bytes x.0) x.1 × IsNext flushed last x.0
 unfolding next_version_at
-version_takes flushed before bytes x h e =
-    let s = bind_ok (next_place_at flushed before bytes) (λ place. stored_at place.1 >>= with_value place.0) x e in
-    let place = place_takes flushed before bytes s.0 h s.1 in
+version_takes flushed last bytes x h e =
+    let s = bind_ok (next_place_at flushed last bytes) (λ place. stored_at place.1 >>= with_value place.0) x e in
+    let place = place_takes flushed last bytes s.0 h s.1 in
     let t = bind_ok (stored_at s.0.1) (with_value s.0.0) x s.2 in
     let value = stored_takes s.0.1 t.0 place.parts.rest_bytes t.1 in
     let version : Version = record { key = s.0.0.key; number = s.0.0.number; value = t.0.0 } in
     let whole = Begins-then bytes (word_bytes s.0.0.key ++ to_be_bytes w32 s.0.0.number) s.0.1 (stored_bytes t.0.0) t.0.1 place.parts value.0 in
     let parts : Begins bytes (version_bytes version) t.0.1 = rw (append_assoc (word_bytes s.0.0.key) (to_be_bytes w32 s.0.0.number) (stored_bytes t.0.0)) at whole in
-    let next : IsNext flushed before version = record {
+    let next : IsNext flushed last version = record {
       in_range = and_from _ _ (and_from _ _ place.word value.1) (and_from _ _ place.numbered place.is_in);
-      after = after_last-any_value before s.0.0.key s.0.0.number t.0.0 None ∙ place.after;
+      after = after-any_value last s.0.0.key s.0.0.number t.0.0 None ∙ place.after;
     } in
-    let found : Begins bytes (version_bytes version) t.0.1 × IsNext flushed before version = (parts, next) in
+    let found : Begins bytes (version_bytes version) t.0.1 × IsNext flushed last version = (parts, next) in
     rw (← ok_is {E = TableError} (version, t.0.1) x t.2) found
 
-pub version_again : (flushed : ℕ) (before : List Version) (v : Version) (rest : List ℕ) → IsNext flushed before v → next_version_at flushed before (version_bytes v ++ rest) ≡ Ok (v, rest)
+pub version_again : (flushed : ℕ) (last : Option Version) (v : Version) (rest : List ℕ) → IsNext flushed last v → next_version_at flushed last (version_bytes v ++ rest) ≡ Ok (v, rest)
 unfolding next_version_at next_place_at
-version_again flushed before v rest next =
+version_again flushed last v rest next =
     let outer = and_parts (has_words v) (is_numbered v && is_flushed flushed v) next.in_range in
     let words = and_parts (is_word 64 v.key) (is_stored v.value) outer.0 in
     let numbers = and_parts (is_numbered v) (is_flushed flushed v) outer.1 in
-    let after : is_after_last before (record { key = v.key; number = v.number; value = None }) ≡ true = after_last-any_value before v.key v.number None v.value ∙ next.after in
+    let after : is_after last (record { key = v.key; number = v.number; value = None }) ≡ true = after-any_value last v.key v.number None v.value ∙ next.after in
     let number = to_be_bytes w32 v.number in
     let regrouped : version_bytes v ++ rest ≡ word_bytes v.key ++ (number ++ (stored_bytes v.value ++ rest)) =
     append_assoc (word_bytes v.key) (number ++ stored_bytes v.value) rest ∙ ap (λ (t : List ℕ). word_bytes v.key ++ t) (append_assoc number (stored_bytes v.value) rest) in
-    ap (next_version_at flushed before) regrouped ∙ rw (word_again 64 v.key (number ++ (stored_bytes v.value ++ rest)) words.0, flushed_number_again flushed v.number (stored_bytes v.value ++ rest) numbers.0 numbers.1, after, stored_again v.value rest words.1) refl
+    ap (next_version_at flushed last) regrouped ∙ rw (word_again 64 v.key (number ++ (stored_bytes v.value ++ rest)) words.0, flushed_number_again flushed v.number (stored_bytes v.value ++ rest) numbers.0 numbers.1, after, stored_again v.value rest words.1) refl
 
 -- ---- several versions
 
@@ -164,8 +164,8 @@ versions_take zero flushed before bytes x h e =
     let all : TakesVersions 0 flushed before bytes (before, bytes) = record { more = []; appended = sym (append-nil before); counted = refl; parts = record { parts = refl; rest_bytes = h }; in_range = refl; in_order = λ order. order } in
     rw (← ok_is {E = TableError} (before, bytes) x e) all
 versions_take (suc count) flushed before bytes x h e =
-    let s = bind_ok (next_version_at flushed before bytes) (others_after count flushed before) x e in
-    let version = version_takes flushed before bytes s.0 h s.1 in
+    let s = bind_ok (next_version_at flushed (last_of before) bytes) (others_after count flushed before) x e in
+    let version = version_takes flushed (last_of before) bytes s.0 h s.1 in
     let rest = versions_take count flushed (before ++ s.0.0 ∷ []) s.0.1 x version.0.rest_bytes s.2 in
     record {
       more = s.0.0 ∷ rest.more;
@@ -181,8 +181,8 @@ unfolding versions_after
 versions_again [] flushed before rest order range = ap (λ (all : List Version). Ok (all, rest)) (sym (append-nil before))
 versions_again (v ∷ more) flushed before rest order range =
     let parts = and_parts (is_version flushed v) (list_all (is_version flushed) more) range in
-    let next : IsNext flushed before v = record { in_range = parts.0; after = after_from_order before v more order } in
+    let next : IsNext flushed (last_of before) v = record { in_range = parts.0; after = after_from_order before v more order } in
     let regrouped : (version_bytes v ++ flat_map version_bytes more) ++ rest ≡ version_bytes v ++ (flat_map version_bytes more ++ rest) = append_assoc (version_bytes v) (flat_map version_bytes more) rest in
     let all : (before ++ v ∷ []) ++ more ≡ before ++ v ∷ more = append_assoc before (v ∷ []) more in
     let others = versions_again more flushed (before ++ v ∷ []) rest (subst AreInOrder (sym all) order) parts.1 in
-    ap (versions_after (suc (length more)) flushed before) regrouped ∙ rw (version_again flushed before v (flat_map version_bytes more ++ rest) next) (others ∙ ap (λ (versions : List Version). Ok (versions, rest)) all)
+    ap (versions_after (suc (length more)) flushed before) regrouped ∙ rw (version_again flushed (last_of before) v (flat_map version_bytes more ++ rest) next) (others ∙ ap (λ (versions : List Version). Ok (versions, rest)) all)

@@ -1,7 +1,6 @@
 -- A whole table: what is read is spelled so, and what is spelled so is read.
 use Rattle.std.proofs.Common.{◌≡◌, ℕ, ◌+◌, ◌-◌, ◌^◌, ◌<◌, ◌≤◌, true, eqb, leb, List, [], ◌∷◌, ◌++◌, length, Result, Ok, Err, refl, sym, ap, subst, ◌∙◌, append_assoc, arith}
 use Rattle.std.specs.Prelude.{codes, IfOk}
-use Rattle.std.specs.Global.{Vec}
 use Rattle.std.specs.Int.{w32, w64, to_be_bytes}
 use Rattle.std.specs.List.{AllByRecursion, flat_map, list_all}
 use Rattle.std.specs.Str.{bytes_eq}
@@ -261,9 +260,9 @@ table_there id flushed versions rest is =
 pub table_again : (id flushed : ℕ) (versions : List Version) → IsTable id flushed versions → table_at id flushed (table_bytes id versions) ≡ Ok versions
 table_again id flushed versions is = ap (table_at id flushed) (sym (append-nil (table_bytes id versions))) ∙ table_there id flushed versions [] is
 
-pub found_is_table : (id flushed : ℕ) (bytes : List ℕ) (result : Result (Vec Version) TableError) → AreBytes bytes → Gives table_fault (λ versions. versions.items) result (table_at id flushed bytes) → IfOk result (λ versions. IsTable id flushed versions.items × (bytes ≡ table_bytes id versions.items))
-found_is_table id flushed bytes (Ok versions) h read = table_takes id flushed bytes versions.items h read
-found_is_table id flushed bytes (Err fault) h read = tt
+pub found_is_table : {X : Type 0} (view : X → List Version) (id flushed : ℕ) (bytes : List ℕ) (result : Result X TableError) → AreBytes bytes → Gives table_fault view result (table_at id flushed bytes) → IfOk result (λ read. IsTable id flushed (view read) × (bytes ≡ table_bytes id (view read)))
+found_is_table view id flushed bytes (Ok read) h is = table_takes id flushed bytes (view read) h is
+found_is_table view id flushed bytes (Err fault) h is = tt
 
 -- the table of a store is a stranger to another one
 pub other_store : (id other flushed : ℕ) (versions : List Version) → IsTable other flushed versions → (other ≡ id → ⊥) → table_at id flushed (table_bytes other versions) ≡ Err (Stranger other)

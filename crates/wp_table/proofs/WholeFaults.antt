@@ -1,7 +1,6 @@
 -- Faults of a head and of a whole table: what is refused has the fault, and what has a fault is refused for it.
 use Rattle.std.proofs.Common.{◌≡◌, ℕ, ◌^◌, ◌<◌, ◌≤◌, true, false, eqb, leb, List, [], ◌∷◌, ◌++◌, length, take, Result, Ok, Err, refl, sym, ap, subst, ◌∙◌, arith, inl, inr, ◌⊎◌}
 use Rattle.std.specs.Prelude.{codes, IfErr, IfSome}
-use Rattle.std.specs.Global.{Vec}
 use Rattle.std.specs.Int.{w32, w64, to_be_bytes}
 use Rattle.std.specs.List.{AllByRecursion, flat_map}
 use Rattle.std.specs.Str.{bytes_eq}
@@ -207,15 +206,15 @@ reading_of id flushed bytes (Err fault) h e = inr (fault, table_fails id flushed
 pub table_or_fault : (id flushed : ℕ) (bytes : List ℕ) → AreBytes bytes → Reading id flushed bytes
 table_or_fault id flushed bytes h = reading_of id flushed bytes (table_at id flushed bytes) h refl
 
-pub refused_has_fault : (id flushed : ℕ) (bytes : List ℕ) (result : Result (Vec Version) TableError) → AreBytes bytes → Gives table_fault (λ versions. versions.items) result (table_at id flushed bytes) → IfErr result (λ error. IfSome (table_fault error) (λ fault. IsTableFault id flushed bytes fault))
-refused_has_fault id flushed bytes (Ok versions) h read = tt
-refused_has_fault id flushed bytes (Err Memory) h read = tt
-refused_has_fault id flushed bytes (Err Short) h read = table_fails id flushed bytes Short h read
-refused_has_fault id flushed bytes (Err Head) h read = table_fails id flushed bytes Head h read
-refused_has_fault id flushed bytes (Err (Stranger other)) h read = table_fails id flushed bytes (Stranger other) h read
-refused_has_fault id flushed bytes (Err Count) h read = table_fails id flushed bytes Count h read
-refused_has_fault id flushed bytes (Err Word) h read = table_fails id flushed bytes Word h read
-refused_has_fault id flushed bytes (Err Number) h read = table_fails id flushed bytes Number h read
-refused_has_fault id flushed bytes (Err Order) h read = table_fails id flushed bytes Order h read
-refused_has_fault id flushed bytes (Err Index) h read = table_fails id flushed bytes Index h read
-refused_has_fault id flushed bytes (Err Extra) h read = table_fails id flushed bytes Extra h read
+pub refused_has_fault : {X : Type 0} (view : X → List Version) (id flushed : ℕ) (bytes : List ℕ) (result : Result X TableError) → AreBytes bytes → Gives table_fault view result (table_at id flushed bytes) → IfErr result (λ error. IfSome (table_fault error) (λ fault. IsTableFault id flushed bytes fault))
+refused_has_fault view id flushed bytes (Ok versions) h read = tt
+refused_has_fault view id flushed bytes (Err Memory) h read = tt
+refused_has_fault view id flushed bytes (Err Short) h read = table_fails id flushed bytes Short h read
+refused_has_fault view id flushed bytes (Err Head) h read = table_fails id flushed bytes Head h read
+refused_has_fault view id flushed bytes (Err (Stranger other)) h read = table_fails id flushed bytes (Stranger other) h read
+refused_has_fault view id flushed bytes (Err Count) h read = table_fails id flushed bytes Count h read
+refused_has_fault view id flushed bytes (Err Word) h read = table_fails id flushed bytes Word h read
+refused_has_fault view id flushed bytes (Err Number) h read = table_fails id flushed bytes Number h read
+refused_has_fault view id flushed bytes (Err Order) h read = table_fails id flushed bytes Order h read
+refused_has_fault view id flushed bytes (Err Index) h read = table_fails id flushed bytes Index h read
+refused_has_fault view id flushed bytes (Err Extra) h read = table_fails id flushed bytes Extra h read

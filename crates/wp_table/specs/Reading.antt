@@ -65,23 +65,32 @@ stored_at (suc zero ∷ bytes) = do
   Ok (Some value.0, value.1)
 stored_at (suc (suc n) ∷ bytes) = Err Word
 
+-- the last version, if there is one
+abbrev pub last_of : List Version → Option Version
+last_of [] = None
+last_of (last ∷ []) = Some last
+last_of (first ∷ second ∷ others) = last_of (second ∷ others)
+
+-- the version comes after the last one, if there is one
+abbrev pub is_after : Option Version → Version → Bool
+is_after None v = true
+is_after (Some last) v = is_lt (version_cmp last v)
+
 -- the version comes after the last of those before it, if there is one
 abbrev pub is_after_last : List Version → Version → Bool
-is_after_last [] v = true
-is_after_last (last ∷ []) v = is_lt (version_cmp last v)
-is_after_last (first ∷ second ∷ others) v = is_after_last (second ∷ others) v
+is_after_last before v = is_after (last_of before) v
 
--- the key and the number of the version after those before it, whose value is still to be read
-unfoldable pub next_place_at : ℕ → List Version → List ℕ → Result (Version × List ℕ) TableError
-next_place_at flushed before bytes = do
+-- the key and the number of the version after the last one, whose value is still to be read
+unfoldable pub next_place_at : ℕ → Option Version → List ℕ → Result (Version × List ℕ) TableError
+next_place_at flushed last bytes = do
   key ← map_err table_error (word_field_at MOST_KEY_BYTES bytes)
   number ← flushed_number_at flushed key.1
-  let version : Version = record { key = key.0; number = number.0; value = None } in if_right (is_after_last before version) Order (version, number.1)
+  let version : Version = record { key = key.0; number = number.0; value = None } in if_right (is_after last version) Order (version, number.1)
 
--- the version after those before it
-unfoldable pub next_version_at : ℕ → List Version → List ℕ → Result (Version × List ℕ) TableError
-next_version_at flushed before bytes = do
-  place ← next_place_at flushed before bytes
+-- the version after the last one
+unfoldable pub next_version_at : ℕ → Option Version → List ℕ → Result (Version × List ℕ) TableError
+next_version_at flushed last bytes = do
+  place ← next_place_at flushed last bytes
   value ← stored_at place.1
   Ok (record { key = place.0.key; number = place.0.number; value = value.0 }, value.1)
 
@@ -91,7 +100,7 @@ next_version_at flushed before bytes = do
 unfoldable pub versions_after : ℕ → ℕ → List Version → List ℕ → Result (List Version × List ℕ) TableError
 versions_after zero flushed versions bytes = Ok (versions, bytes)
 versions_after (suc count) flushed versions bytes = do
-  version ← next_version_at flushed versions bytes
+  version ← next_version_at flushed (last_of versions) bytes
   versions_after count flushed (versions ++ version.0 ∷ []) version.1
 
 -- the versions with those of a block that is to have so many

@@ -9,6 +9,9 @@ pub const MAGIC: [u8; 4] = *b"WPTB";
 /// The number of the table format.
 pub const FORMAT: u8 = 1;
 
+/// How many bytes the head has, behind which the first block begins.
+pub const HEAD: u64 = 25;
+
 /// How many versions each block has. The last one may have fewer.
 pub const BLOCK: u64 = 16;
 

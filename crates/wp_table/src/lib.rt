@@ -2,19 +2,26 @@
 //!
 //! A table is a head, blocks of sixteen versions, an index with the place of each block, and the place of the index.
 //! Each list of versions has one spelling. `build` gives it, and `Table::of` takes nothing else: it names the first
-//! fault from the left. Above, a table is its list of versions; how it keeps them is known here alone.
+//! fault from the left. Above, a table is its list of versions. It keeps its bytes and the places of its blocks, and is
+//! searched there: what it gives is borrowed from the bytes.
 #![tactic(auto)]
 
+mod all;
 mod error;
 mod found;
 mod laws;
 mod layout;
 mod reading;
+mod steps;
 mod table;
+mod version;
 mod writing;
 
+pub use all::All;
 pub use error::TableError;
-pub use found::{Found, VersionRef};
+pub use found::Found;
 pub use laws::{bytes_are_read_in_one_way, limits_are, tables_are_read, tables_have_one_store};
+pub use steps::Steps;
 pub use table::Table;
+pub use version::VersionRef;
 pub use writing::build;

@@ -1,18 +1,23 @@
-ghost use Rattle.std.specs.Prelude.{◌≡◌, ◌-◌, [], List, length, IfOk, IfErr, IfSome, Ok, Err};
+ghost use Rattle.std.specs.Prelude.{◌≡◌, ◌-◌, [], List, length, None, IfOk, IfErr, IfSome, Ok, Err};
+ghost use Rattle.std.specs.Option.{option_copied, option_map};
 ghost use Rattle.wp_model.specs.declared.version.Version.{Version};
 ghost use Rattle.wp_fields.specs.Reading.{Gives};
 ghost use Rattle.wp_table.specs.declared.error.TableError.{TableError};
+ghost use Rattle.wp_table.specs.Borrowed.{seen};
 ghost use Rattle.wp_table.specs.Errors.{table_fault};
 ghost use Rattle.wp_table.specs.Faults.{IsTableFault};
 ghost use Rattle.wp_table.specs.Table.{block_count, table_bytes, IsTable};
-ghost use Rattle.wp_table.specs.Reading.{after_magic, after_id, count_at, head_at, flushed_number_at, stored_at, is_after_last, next_place_at, next_version_at, versions_after, block_after, blocks_after, after_place, after_places, table_at};
+ghost use Rattle.wp_table.specs.Reading.{after_magic, after_id, count_at, head_at, flushed_number_at, stored_at, is_after, next_place_at, next_version_at, after_place, after_places, table_at};
+ghost use Rattle.wp_table.specs.Judging.{last_after, last_of_block, places_after, table_judged};
+ghost use Rattle.wp_table.specs.Walk.{stored_versions, IsIndexed};
 
 use crate::error::TableError;
 use crate::layout::{BLOCK, DELETION, FORMAT, MAGIC, PUT, blocks_for};
+use crate::version::VersionRef;
 use std::alloc::Global;
-use wp_encoding::{read_value, read_word};
+use wp_encoding::{read_value_bytes, read_word_bytes};
 use wp_fields::Fields;
-use wp_model::{Seq, Value, Version};
+use wp_model::{MOST_KEY_BYTES, Seq};
 
 #[tactic(auto, unfolding(crate::specs::Reading::after_magic))]
 fn magic(fields: &mut Fields<'_>) -> Result<(), TableError>
@@ -78,95 +83,91 @@ fn flushed_number(fields: &mut Fields<'_>, flushed: Seq) -> Result<Seq, TableErr
 
 /// What a version leaves under its key: a value, or none.
 #[tactic(auto, unfolding(crate::specs::Reading::stored_at))]
-fn stored(alloc: Global, fields: &mut Fields<'_>) -> Result<Option<Value>, TableError>
-    ensures { Gives table_fault (λ value. (value, fields.new)) result (stored_at fields.old) }
+fn stored<'a>(fields: &mut Fields<'a>) -> Result<Option<&'a [u8]>, TableError>
+    ensures { Gives table_fault (λ value. (option_copied value, fields.new)) result (stored_at fields.old) }
 {
     match fields.u8().ok_or(TableError::Short)? {
         DELETION => Ok(None),
-        PUT => Ok(Some(read_value(alloc, fields)?)),
+        PUT => Ok(Some(read_value_bytes(fields)?)),
         _ => Err(TableError::Word),
     }
 }
 
-fn is_after_last(versions: &[Version], version: &Version) -> bool
-    ensures { result ≡ is_after_last versions.now version.now }
+fn is_after(last: Option<VersionRef<'_>>, version: &VersionRef<'_>) -> bool
+    ensures { result ≡ is_after (option_map seen last.entry) (seen version.now) }
 {
-    match versions {
-        [] => true,
-        [.., last] => last.place_cmp(version).is_lt(),
+    match last {
+        None => true,
+        Some(last) => last.place_cmp(version).is_lt(),
     }
 }
 
-/// The version after those before it, whose value is still to be read.
+/// The version after the last one, whose value is still to be read.
 #[tactic(auto, unfolding(crate::specs::Reading::next_place_at))]
-fn next_place(
-    alloc: Global,
-    fields: &mut Fields<'_>,
+fn next_place<'a>(
+    fields: &mut Fields<'a>,
     flushed: Seq,
-    before: &[Version],
-) -> Result<Version, TableError>
-    ensures { Gives table_fault (λ version. (version, fields.new)) result (next_place_at flushed before.now fields.old) }
+    last: Option<VersionRef<'a>>,
+) -> Result<VersionRef<'a>, TableError>
+    ensures { Gives table_fault (λ version. (seen version, fields.new)) result (next_place_at flushed (option_map seen last.entry) fields.old) }
 {
-    let key = read_word(alloc, fields)?;
+    let key = read_word_bytes(fields, MOST_KEY_BYTES)?;
     let number = flushed_number(fields, flushed)?;
-    let version = Version {
+    let version = VersionRef {
         key,
         number,
         value: None,
     };
-    if !is_after_last(before, &version) {
+    if !is_after(last, &version) {
         return Err(TableError::Order);
     }
     Ok(version)
 }
 
 #[tactic(auto, unfolding(crate::specs::Reading::next_version_at))]
-fn next_version(
-    alloc: Global,
-    fields: &mut Fields<'_>,
+fn next_version<'a>(
+    fields: &mut Fields<'a>,
     flushed: Seq,
-    before: &[Version],
-) -> Result<Version, TableError>
-    ensures { Gives table_fault (λ version. (version, fields.new)) result (next_version_at flushed before.now fields.old) }
+    last: Option<VersionRef<'a>>,
+) -> Result<VersionRef<'a>, TableError>
+    ensures { Gives table_fault (λ version. (seen version, fields.new)) result (next_version_at flushed (option_map seen last.entry) fields.old) }
 {
-    let mut version = next_place(alloc, fields, flushed, before)?;
-    version.value = stored(alloc, fields)?;
-    Ok(version)
+    let VersionRef { key, number, .. } = next_place(fields, flushed, last)?;
+    let value = stored(fields)?;
+    Ok(VersionRef { key, number, value })
 }
 
-/// Takes in so many versions more.
-fn more_versions(
-    alloc: Global,
-    fields: &mut Fields<'_>,
+/// The last version after so many more.
+fn last_after<'a>(
+    fields: &mut Fields<'a>,
     count: u64,
     flushed: Seq,
-    versions: &mut Vec<Version>,
-) -> Result<(), TableError>
-    ensures { Gives table_fault (λ _. (versions.new.items, fields.new)) result (versions_after count flushed versions.old.items fields.old) }
+    before: Option<VersionRef<'a>>,
+) -> Result<Option<VersionRef<'a>>, TableError>
+    ensures { Gives table_fault (λ last. (option_map seen last, fields.new)) result (last_after count flushed (option_map seen before.entry) fields.old) }
 {
+    let mut last = before;
     for _ in 0..count {
-        let version = next_version(alloc, fields, flushed, versions)?;
-        versions.push(version)?;
+        last = Some(next_version(fields, flushed, last)?);
     }
-    Ok(())
+    Ok(last)
 }
 
-/// Takes in the versions of a block that is to have so many.
-#[tactic(auto, unfolding(crate::specs::Reading::block_after))]
-fn block(
-    alloc: Global,
-    fields: &mut Fields<'_>,
+/// The last version after those of a block that is to have so many.
+#[tactic(auto, unfolding(crate::specs::Judging::last_of_block))]
+fn last_of_block<'a>(
+    fields: &mut Fields<'a>,
     count: u64,
     flushed: Seq,
-    versions: &mut Vec<Version>,
-) -> Result<(), TableError>
-    ensures { Gives table_fault (λ _. (versions.new.items, fields.new)) result (block_after count flushed versions.old.items fields.old) }
+    last: Option<VersionRef<'a>>,
+) -> Result<Option<VersionRef<'a>>, TableError>
+    ensures { Gives table_fault (λ last. (option_map seen last, fields.new)) result (last_of_block count flushed (option_map seen last.entry) fields.old) }
 {
     let found = u64::from(fields.u16().ok_or(TableError::Short)?);
     if found != count {
         return Err(TableError::Count);
     }
-    more_versions(alloc, fields, count, flushed, versions)
+    last_after(fields, count, flushed, last)
 }
 
 /// Where the next field is in a table of `size` bytes.
@@ -176,27 +177,28 @@ fn place_of(fields: &Fields<'_>, size: usize) -> u64
     size.saturating_sub(fields.left()) as u64
 }
 
-/// The versions of all blocks, and the places: where each block begins, and at last where they end.
+/// Judges all blocks: the places where they begin. A table has eight bytes in its index for each, so that no more memory is
+/// taken for them than the bytes', whatever the head says.
 fn all_blocks(
     alloc: Global,
     fields: &mut Fields<'_>,
     size: usize,
     flushed: Seq,
     count: u64,
-) -> Result<(Vec<Version>, Vec<u64>), TableError>
-    ensures { Gives table_fault (λ found. ((found.0.items, found.1.items), fields.new)) result (blocks_after (block_count count) size flushed count [] [] fields.old) }
+) -> Result<Vec<u64>, TableError>
+    ensures { Gives table_fault (λ places. (places.items, fields.new)) result (places_after (block_count count) size flushed count None [] fields.old) }
 {
-    let mut versions = Vec::new(alloc);
-    let mut places = Vec::new(alloc);
+    let blocks = blocks_for(count);
+    let mut places = Vec::with_capacity(alloc, blocks.min((size / 8) as u64) as usize)?;
+    let mut last = None;
     let mut left = count;
-    for _ in 0..blocks_for(count) {
+    for _ in 0..blocks {
         let in_block = left.min(BLOCK);
         places.push(place_of(fields, size))?;
-        block(alloc, fields, in_block, flushed, &mut versions)?;
+        last = last_of_block(fields, in_block, flushed, last)?;
         left -= in_block;
     }
-    places.push(place_of(fields, size))?;
-    Ok((versions, places))
+    Ok(places)
 }
 
 #[tactic(auto, unfolding(crate::specs::Reading::after_place))]
@@ -210,7 +212,7 @@ fn same_place(fields: &mut Fields<'_>, place: u64) -> Result<(), TableError>
     Ok(())
 }
 
-/// The index and the end have these places.
+/// The index has these places.
 fn same_places(fields: &mut Fields<'_>, places: &[u64]) -> Result<(), TableError>
     ensures { Gives table_fault (λ _. fields.new) result (after_places places.now fields.old) }
 {
@@ -220,34 +222,38 @@ fn same_places(fields: &mut Fields<'_>, places: &[u64]) -> Result<(), TableError
     Ok(())
 }
 
-#[tactic(auto, unfolding(crate::specs::Reading::table_at))]
-fn table(alloc: Global, bytes: &[u8], id: u32, flushed: Seq) -> Result<Vec<Version>, TableError>
-    ensures { Gives table_fault (λ versions. versions.items) result (table_at id flushed bytes.now) }
+#[tactic(auto, unfolding(crate::specs::Judging::table_judged))]
+fn table(alloc: Global, bytes: &[u8], id: u32, flushed: Seq) -> Result<(u64, Vec<u64>), TableError>
+    ensures { Gives table_fault (λ read. (read.0, read.1.items)) result (table_judged id flushed bytes.now) }
 {
     let mut fields = Fields::of(bytes);
     let count = head(&mut fields, id)?;
-    let (versions, places) = all_blocks(alloc, &mut fields, bytes.len(), flushed, count)?;
+    let places = all_blocks(alloc, &mut fields, bytes.len(), flushed, count)?;
+    let end = place_of(&fields, bytes.len());
     same_places(&mut fields, &places)?;
+    same_place(&mut fields, end)?;
     if fields.left() != 0 {
         return Err(TableError::Extra);
     }
-    Ok(versions)
+    Ok((count, places))
 }
 
-/// The versions of the table that the bytes are.
-pub fn read_table(
+/// Judges the bytes of a table in one pass, for the first fault from the left: how many versions it has, and the places
+/// where its blocks begin.
+pub fn judge(
     alloc: Global,
     bytes: &[u8],
     id: u32,
     flushed: Seq,
-) -> Result<Vec<Version>, TableError>
-    ensures found { IfOk result (λ versions. IsTable id flushed versions.items × (bytes.now ≡ table_bytes id versions.items)) }
+) -> Result<(u64, Vec<u64>), TableError>
+    ensures found { IfOk result (λ read. IsTable id flushed (stored_versions bytes.now read.0) × (bytes.now ≡ table_bytes id (stored_versions bytes.now read.0))) }
     ensures only { (written : List Version) → IsTable id flushed written → bytes.now ≡ table_bytes id written
-        → Gives table_fault (λ versions. versions.items) result (Ok written) }
+        → Gives table_fault (λ read. stored_versions bytes.now read.0) result (Ok written) }
     ensures refused { IfErr result (λ error. IfSome (table_fault error) (λ fault. IsTableFault id flushed bytes.now fault)) }
     ensures each_fault { (fault : TableError) → IsTableFault id flushed bytes.now fault
-        → Gives table_fault (λ versions. versions.items) result (Err fault) }
-    ensures exact { Gives table_fault (λ versions. versions.items) result (table_at id flushed bytes.now) }
+        → Gives table_fault (λ read. stored_versions bytes.now read.0) result (Err fault) }
+    ensures exact { Gives table_fault (λ read. stored_versions bytes.now read.0) result (table_at id flushed bytes.now) }
+    ensures indexed { IfOk result (λ read. IsIndexed bytes.now read.0 read.1.items) }
 {
     table(alloc, bytes, id, flushed)
 }

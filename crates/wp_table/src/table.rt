@@ -1,76 +1,54 @@
-ghost use Rattle.std.specs.Prelude.{◌≡◌, ◌≤◌, true, false, List, length, IfOk, IfErr, IfSome, Ok, Err, filter};
-ghost use Rattle.std.specs.List.{All, list_all};
-ghost use Rattle.std.specs.List.Sorted.{IsPartitionPoint};
-ghost use Rattle.std.specs.Ordering.{is_lt};
+ghost use Rattle.std.specs.Prelude.{◌≡◌, ◌+◌, ◌-◌, ◌*◌, ◌^◌, ◌≤◌, ◌<◌, true, false, List, length, drop, IfOk, IfErr, IfSome, Ok, Err, filter};
+ghost use Rattle.std.specs.List.{list_all};
 ghost use Rattle.std.specs.Str.{bytes_eq};
-ghost use Rattle.wp_model.specs.Batch.{key_cmp};
 ghost use Rattle.wp_model.specs.declared.version.Version.{Version};
 ghost use Rattle.wp_model.specs.Versions.{AreInOrder};
 ghost use Rattle.wp_fields.specs.Reading.{Gives};
 ghost use Rattle.wp_table.specs.declared.error.TableError.{TableError};
+ghost use Rattle.wp_table.specs.declared.layout.TheConstants.{BLOCK};
+ghost use Rattle.wp_table.specs.Borrowed.{begins_below};
 ghost use Rattle.wp_table.specs.Errors.{table_fault};
 ghost use Rattle.wp_table.specs.Faults.{IsTableFault};
 ghost use Rattle.wp_table.specs.Reading.{table_at};
-ghost use Rattle.wp_table.specs.Table.{has_words, IsTable, table_bytes};
+ghost use Rattle.wp_table.specs.Table.{block_count, has_words, IsTable, table_bytes};
+ghost use Rattle.wp_table.specs.Walk.{StandsFrom};
 
+use crate::all::All;
 use crate::error::TableError;
 use crate::found::Found;
-use crate::reading::read_table;
-use std::alloc::{AllocError, Global};
-use std::marker::Model;
-use wp_model::{Key, Seq, Version, Versions};
+use crate::layout::{BLOCK, HEAD};
+use crate::reading::judge;
+use crate::steps::Steps;
+use std::alloc::Global;
+use std::marker::{Brand, Model};
+use std::sync::ledger::{Blank, Ledger};
+use wp_model::{Key, Seq};
 
-/// A table that was read. Threads may share it.
+/// A table that was judged: its bytes, and eight for each block. Threads may share it.
 #[derive(Drop)]
 pub struct Table {
-    versions: Versions,
+    bytes: Vec<u8>,
+    /// How many versions it has.
+    count: u64,
+    /// Where each block begins.
+    index: Vec<u64>,
 }
 
 impl Model for Table {
-    ghost use Rattle.std.specs.Prelude.{◌≡◌, true, List};
-    ghost use Rattle.std.specs.List.{list_all};
+    ghost use Rattle.std.specs.Prelude.{List};
     ghost use Rattle.wp_model.specs.declared.version.Version.{Version};
-    ghost use Rattle.wp_table.specs.Table.{has_words};
+    ghost use Rattle.wp_table.specs.Walk.{stored_versions, IsIndexed};
 
     ghost Value = { List Version };
 
-    ghost view = { λ t. t.versions };
+    ghost view = { λ t. stored_versions t.bytes.items t.count };
 
-    ghost invariant = { λ t. list_all has_words t.versions ≡ true };
-}
-
-/// How many of the versions have a lesser key.
-fn below(versions: &[Version], key: &Key) -> usize
-    requires { AreInOrder versions.now }
-    ensures within { result ≤ length versions.now }
-    ensures point { IsPartitionPoint (λ v. is_lt (key_cmp v.key key.now) ≡ true) (λ v. is_lt (key_cmp v.key key.now) ≡ false) versions.now result }
-{
-    versions.partition_point(|version| version.key < *key)
-}
-
-/// How many of the versions, none of which has a lesser key, have that key.
-fn with_key(versions: &[Version], key: &Key) -> usize
-    requires in_order { AreInOrder versions.now }
-    requires not_below { All (λ v. is_lt (key_cmp v.key key.now) ≡ false) versions.now }
-    ensures within { result ≤ length versions.now }
-    ensures point { IsPartitionPoint (λ v. bytes_eq v.key key.now ≡ true) (λ v. bytes_eq v.key key.now ≡ false) versions.now result }
-{
-    versions.partition_point(|version| version.key == *key)
-}
-
-/// The versions of the key.
-fn of_key<'a>(versions: &'a [Version], key: &Key) -> &'a [Version]
-    requires { AreInOrder versions.now }
-    ensures { result.now ≡ filter (λ v. bytes_eq v.key key.now) versions.entry.now }
-{
-    let (_, rest) = versions.split_at(below(versions, key));
-    let (found, _) = rest.split_at(with_key(rest, key));
-    found
+    ghost invariant = { λ t. IsIndexed t.bytes.items t.count t.index.items };
 }
 
 impl Table {
-    /// The table that the bytes are, in the store with that id, where the entries up to `flushed` were flushed. It
-    /// takes time that grows with the number of bytes.
+    /// The table that the bytes are, in the store with that id, where the entries up to `flushed` were flushed. It reads
+    /// the bytes once, and makes no list of the versions.
     pub fn of(alloc: Global, bytes: Vec<u8>, id: u32, flushed: Seq) -> Result<Table, TableError>
         // What is read is a table, and the bytes are its spelling.
         ensures found { IfOk result (λ table. IsTable id flushed table × (bytes.items ≡ table_bytes id table)) }
@@ -83,31 +61,120 @@ impl Table {
             → Gives table_fault (λ table. table) result (Err fault) }
         ensures exact { Gives table_fault (λ table. table) result (table_at id flushed bytes.items) }
     {
-        let versions = read_table(alloc, &bytes, id, flushed)?;
+        let (count, index) = judge(alloc, &bytes, id, flushed)?;
         Ok(Table {
-            versions: Versions::of(versions),
+            bytes,
+            count,
+            index,
         })
     }
 
-    /// The versions of the key, the newest first. They are found by binary search.
-    pub fn versions(&self, key: &Key) -> Found<'_>
+    /// How many blocks it has.
+    pub fn block_count(&self) -> usize
+        ensures blocks { result ≡ block_count (length self.now) }
+        ensures some { 1 ≤ result }
+    {
+        self.index.len()
+    }
+
+    /// The versions from the block on.
+    fn from_block(&self, block: usize) -> All<'_>
+        requires { block < block_count (length self.now) }
+        ensures versions { result ≡ drop (block * BLOCK) self.now }
+        ensures in_range { list_all has_words self.now ≡ true }
+        ensures in_order { AreInOrder self.now }
+    {
+        All::at(
+            &self.bytes,
+            self.index[block],
+            self.count - block as u64 * BLOCK,
+        )
+    }
+
+    /// Whether the first key of the block is lesser, which is one step.
+    fn begins_below<L: Ledger>(&self, block: usize, key: &Key, steps: &mut Steps<L>) -> bool
+        requires { block < block_count (length self.now) }
+        ensures below { result ≡ begins_below key.now (drop (block * BLOCK) self.now) }
+        ensures step { steps.new ≡ steps.old + 1 }
+        ensures in_order { AreInOrder self.now }
+    {
+        steps.tick();
+        match self.from_block(block).next() {
+            Some(first) => first.key.cmp(key.bytes()).is_lt(),
+            None => false,
+        }
+    }
+
+    /// The half of these blocks that the key's versions stand from, by one step.
+    fn halve<L: Ledger>(
+        &self,
+        first: usize,
+        behind: usize,
+        key: &Key,
+        steps: &mut Steps<L>,
+    ) -> (usize, usize)
+        requires stands { StandsFrom self.now key.now first behind }
+        requires some { first + 1 < behind }
+        ensures stands { StandsFrom self.now key.now result.0 result.1 }
+        ensures half { 2 * (result.1 - result.0 - 1) ≤ behind - first - 1 }
+        ensures step { steps.new ≡ steps.old + 1 }
+    {
+        let middle = first + (behind - first) / 2;
+        if self.begins_below(middle, key, steps) {
+            return (middle, behind);
+        }
+        (first, middle)
+    }
+
+    /// The block from which on the versions of the key stand, by binary search. A step is one comparison with the first
+    /// key of a block.
+    pub fn first_block<L: Ledger>(&self, key: &Key, steps: &mut Steps<L>) -> usize
+        ensures within { result < block_count (length self.now) }
+        // Every version of the key stands in that block or later.
+        ensures from { filter (λ v. bytes_eq v.key key.now) (drop (result * BLOCK) self.now) ≡ filter (λ v. bytes_eq v.key key.now) self.now }
+        // The first key of the block behind it, if there is one, is not below the key.
+        ensures behind { begins_below key.now (drop ((result + 1) * BLOCK) self.now) ≡ false }
+        ensures cost { 2 ^ (steps.new - steps.old) ≤ 2 * block_count (length self.now) + 1 }
+    {
+        let mut first = 0;
+        let mut behind = self.block_count();
+        while behind - first > 1 {
+            let half = self.halve(first, behind, key, steps);
+            first = half.0;
+            behind = half.1;
+        }
+        first
+    }
+
+    /// The same, where nobody counts the steps.
+    fn uncounted_first_block<L: Ledger>(&self, key: &Key, blank: Blank) -> usize
+        requires name { blank.name ≡ L.name }
+        requires parts { blank.parts ≡ L.parts }
+        requires some { 0 < blank.parts }
+        ensures within { result < block_count (length self.now) }
+        ensures from { filter (λ v. bytes_eq v.key key.now) (drop (result * BLOCK) self.now) ≡ filter (λ v. bytes_eq v.key key.now) self.now }
+    {
+        let mut steps = Steps::<L>::new(blank);
+        self.first_block(key, &mut steps)
+    }
+
+    /// The versions of the key, the newest first, borrowed from the table's bytes. The block where they stand is found by
+    /// binary search.
+    pub fn versions<'a>(&'a self, key: &'a Key) -> Found<'a>
         ensures found { result ≡ filter (λ v. bytes_eq v.key key.now) self.now }
         ensures in_range { list_all has_words result ≡ true }
         ensures in_order { AreInOrder self.now }
     {
-        Found::new(of_key(self.versions.as_slice(), key).iter())
+        let block = self.uncounted_first_block::<Brand>(key, Blank::new(1));
+        Found::of(self.from_block(block), key.bytes())
     }
 
-    /// A copy of all versions.
-    pub fn all(&self, alloc: Global) -> Result<Versions, AllocError>
-        ensures all { IfOk result (λ versions. versions ≡ self.now) }
+    /// All versions, in order, borrowed from the table's bytes.
+    pub fn all(&self) -> All<'_>
+        ensures all { result ≡ self.now }
+        ensures in_range { list_all has_words self.now ≡ true }
         ensures in_order { AreInOrder self.now }
     {
-        let versions = self.versions.as_slice();
-        let mut list = Vec::with_capacity(alloc, versions.len())?;
-        for version in versions {
-            list.push(version.copy(alloc)?)?;
-        }
-        Ok(Versions::of(list))
+        All::at(&self.bytes, HEAD, self.count)
     }
 }

@@ -1,7 +1,0 @@
-use Rattle.std.proofs.Common.{◌≡◌, ◌++◌, map}
-use Rattle.std.specs.Arc.{arc_value}
-use Rattle.std.specs.VecDeque.Iter.{deque_iter_rest}
-use Rattle.wp_store.proofs.sources.push_tables.Given as goal
-
-abbrev pub invariant-loop-table : goal.invariant-loop-table
-invariant-loop-table l = l.sources.items ++ map arc_value (deque_iter_rest l.table-iterator) ≡ l.fn.sources.items ++ map arc_value l.tables.items
