@@ -89,6 +89,7 @@ module _ {D : Type 0} (z : SharedState D) (old new : SeatState) where
           labels = λ before. refl;
           log_failed = refl;
           tables_failed = refl;
+          once = omega arith;
           remembered = tt;
           explained = of_two (IsExplained it.client client.txn command.Compact (Some (reply.Compacted done.at done.versions))) event made tt refl;
         })

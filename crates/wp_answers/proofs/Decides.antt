@@ -66,7 +66,7 @@ module _ {D : Type 0} (z : SharedState D) (old new : SeatState) (snapshots : Lis
   pub prepared_answers : (txn : OpenState) (prepared : PreparedState) (n : ℕ) → Prepares z old txn prepared n new → IsAnswered z old new (having (Open txn.name txn.batch) snapshots) (having (Prepared prepared.number) snapshots) command.Prepare (reply.Prepared n)
   prepared_answers txn prepared n k = (
     one_answers z old new _ it it k.3.0 (entry.Prepare txn.name txn.batch) [] (having (Open txn.name txn.batch) snapshots) (having (Prepared prepared.number) snapshots) command.Prepare (reply.Prepared n) n k.3.1 k.0 refl refl (sym (append-nil it.past))
-        (record { acknowledges = refl; tables = λ before. refl; labels = λ before. refl; log_failed = refl; tables_failed = refl; remembered = tt; explained = λ event there. absurd there })
+        (record { acknowledges = refl; tables = λ before. refl; labels = λ before. refl; log_failed = refl; tables_failed = refl; once = omega arith; remembered = tt; explained = λ event there. absurd there })
         (ap (λ (x : PreparedState). having (Prepared x.number) snapshots) k.1) (λ before. refl) (λ before e logged. logged),
     λ world stands only first is_first store so. prepared_alone z first old new only store so (world, stands) snapshots txn prepared n k,
   )
@@ -77,7 +77,7 @@ module _ {D : Type 0} (z : SharedState D) (old new : SeatState) (snapshots : Lis
         → ((before : Progress) (e : Evidence) → IsLoggedAt e.history before.last n made → Allows e before (having t snapshots) 0 command.Commit (reply.Committed n)) → Answers z old new (having t snapshots) (having Idle snapshots) command.Commit (reply.Committed n)
     ended_answers t made k free row =
         one_answers z old new _ it (without_transaction name it) k.1.0 made [] (having t snapshots) (having Idle snapshots) command.Commit (reply.Committed n) n k.1.1 k.0 refl refl (sym (append-nil it.past))
-        (record { acknowledges = refl; tables = λ before. refl; labels = λ before. refl; log_failed = refl; tables_failed = refl; remembered = tt; explained = λ event there. absurd there })
+        (record { acknowledges = refl; tables = λ before. refl; labels = λ before. refl; log_failed = refl; tables_failed = refl; once = omega arith; remembered = tt; explained = λ event there. absurd there })
         refl (λ before. refl) row
 
   pub committed_now_answers : (txn : OpenState) (n : ℕ) → CommitsNow z old txn n new → IsAnswered z old new (having (Open txn.name txn.batch) snapshots) (having Idle snapshots) command.Commit (reply.Committed n)
@@ -103,7 +103,7 @@ module _ {D : Type 0} (z : SharedState D) (old new : SeatState) (snapshots : Lis
   pub dropped_answers : (txn : OpenState) → GivesUp z old new txn.name → IsAnswered z old new (having (Open txn.name txn.batch) snapshots) (having Idle snapshots) command.Rollback reply.Dropped
   dropped_answers txn goes = (
     given_up_answers txn.name (Open txn.name txn.batch) command.Rollback reply.Dropped goes
-        (record { acknowledges = refl; tables = λ before. refl; labels = λ before. refl; log_failed = refl; tables_failed = refl; remembered = tt; explained = λ event there. absurd there })
+        (record { acknowledges = refl; tables = λ before. refl; labels = λ before. refl; log_failed = refl; tables_failed = refl; once = omega arith; remembered = tt; explained = λ event there. absurd there })
         refl (λ before. refl) (λ e before. tt),
     λ world stands only first is_first store so. dropped_alone z first old new only store so (world, stands) snapshots txn goes,
   )
@@ -111,7 +111,7 @@ module _ {D : Type 0} (z : SharedState D) (old new : SeatState) (snapshots : Lis
   pub left_answers : (txn : PreparedState) → GivesUp z old new txn.name → IsAnswered z old new (having (Prepared txn.number) snapshots) (having Idle snapshots) command.Leave reply.Left
   left_answers txn goes = (
     given_up_answers txn.name (Prepared txn.number) command.Leave reply.Left goes
-        (record { acknowledges = refl; tables = λ before. refl; labels = λ before. refl; log_failed = refl; tables_failed = refl; remembered = tt; explained = λ event there. absurd there })
+        (record { acknowledges = refl; tables = λ before. refl; labels = λ before. refl; log_failed = refl; tables_failed = refl; once = omega arith; remembered = tt; explained = λ event there. absurd there })
         refl (λ before. refl) (λ e before. tt),
     λ world stands only first is_first store so. left_alone z first old new only store so (world, stands) snapshots txn goes,
   )
@@ -164,6 +164,7 @@ module _ {D : Type 0} (z : SharedState D) (old new : SeatState) (txn : PreparedS
         explained = λ event there. absurd there;
         log_failed = refl;
         tables_failed = refl;
+        once = omega arith;
         remembered = tt;
         number = 0;
         after = refl;
@@ -217,7 +218,7 @@ module _ {D : Type 0} (z : SharedState D) (old new : SeatState) (why : TxnError)
     open_refused_named is = (subst (λ (w : TxnError). RefusesOpen z old txn made left w new) is k).2
 
     pub open_refused_breaks : refusal why ≡ None → BreaksOff old new (having (Open txn.name txn.batch) snapshots) c
-    open_refused_breaks none = broke_off_after _ z old new old.knows.participant (refused_memory z old new 1 (λ (entries : List Entry). entries ≡ made ∷ []) old.knows.participant old.knows.participant why none k.2) [] (having (Open txn.name txn.batch) snapshots) c refl refl (sym (append-nil old.knows.participant.past)) (λ event there. absurd there) refl refl
+    open_refused_breaks none = broke_off_after _ z old new old.knows.participant (refused_memory z old new 1 (λ (entries : List Entry). entries ≡ made ∷ []) old.knows.participant old.knows.participant why none k.2) [] (having (Open txn.name txn.batch) snapshots) c refl refl (sym (append-nil old.knows.participant.past)) (λ event there. absurd there) refl refl refl
 
   pub open_refused_holds : (txn left : OpenState) (made : Entry) → RefusesOpen z old txn made left why new → HoldsFrom z old new (held.Open txn) (held.Open left)
   open_refused_holds txn left made k = subst (λ (x : OpenState). HoldsFrom z old new (held.Open txn) (held.Open x)) (sym k.0)
@@ -233,7 +234,7 @@ module _ {D : Type 0} (z : SharedState D) (old new : SeatState) (why : TxnError)
     prepared_refused_named is = (subst (λ (w : TxnError). RefusesPrepared z old txn needs Asks left w new) is k).2
 
     pub prepared_refused_breaks : refusal why ≡ None → BreaksOff old new (having (Prepared txn.number) snapshots) c
-    prepared_refused_breaks none = broke_off_after _ z old new old.knows.participant (refused_memory z old new needs (Asks new.knows.participant.seen txn) old.knows.participant old.knows.participant why none k.2) [] (having (Prepared txn.number) snapshots) c refl refl (sym (append-nil old.knows.participant.past)) (λ event there. absurd there) refl refl
+    prepared_refused_breaks none = broke_off_after _ z old new old.knows.participant (refused_memory z old new needs (Asks new.knows.participant.seen txn) old.knows.participant old.knows.participant why none k.2) [] (having (Prepared txn.number) snapshots) c refl refl (sym (append-nil old.knows.participant.past)) (λ event there. absurd there) refl refl refl
 
   pub prepared_refused_holds : (txn left : PreparedState) (needs : ℕ) (Asks : List Entry → PreparedState → List Entry → Type 0) → RefusesPrepared z old txn needs Asks left why new → HoldsFrom z old new (held.Prepared txn) (held.Prepared left)
   prepared_refused_holds txn left needs Asks k = subst (λ (x : PreparedState). HoldsFrom z old new (held.Prepared txn) (held.Prepared x)) (sym k.0)

@@ -28,7 +28,7 @@ use Rattle.wp_replies.specs.Progress.{Progress, heard_after, knows_label}
 use Rattle.wp_replies.specs.Replies.{Evidence, IsLoggedAt, Allows}
 use Rattle.wp_answers.specs.Agrees.{Agrees}
 use Rattle.wp_sole_client.specs.Alone.{log_faults, tables_faults}
-use Rattle.wp_answers.specs.Answers.{IsProgress, IsExplained, IsRemembered, Answers}
+use Rattle.wp_answers.specs.Answers.{IsProgress, IsExplained, findings, IsRemembered, Answers}
 use Rattle.wp_answers.proofs.Staying.{in_place}
 use Rattle.wp_answers.proofs.Growing.{progress_by, last_still}
 
@@ -40,6 +40,7 @@ pub record Fits (c : Command) (r : Reply) (numbers : List ℕ) (events : List Ev
   pub labels : (before : List (List ℕ)) → heard_after before c r ≡ before
   pub log_failed : log_faults events ≡ one_if (is_fault r)
   pub tables_failed : tables_faults events ≡ one_if (is_tables_fault r)
+  pub once : findings events ≤ 1
   pub remembered : IsRemembered events r
   pub explained : (event : Event) → IsIn event events → IsExplained client txn c (Some r) event
 
@@ -83,6 +84,7 @@ module _ {D : Type 0} (z : SharedState D) (old new : SeatState) where
     explained = k.explained;
     log_failed = k.log_failed;
     tables_failed = k.tables_failed;
+    once = k.once;
     remembered = k.remembered;
     number = number;
     after = is;
@@ -107,6 +109,7 @@ module _ {D : Type 0} (z : SharedState D) (old new : SeatState) where
         explained = k.explained;
         log_failed = k.log_failed;
         tables_failed = k.tables_failed;
+        once = k.once;
         remembered = k.remembered;
         number = 0;
         after = then;

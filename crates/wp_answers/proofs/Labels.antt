@@ -62,6 +62,7 @@ module _ {D : Type 0} (z : SharedState D) (old new : SeatState) (label : List â„
     explained = of_one (IsExplained it.client client.txn (command.Tell label) (Some (reply.Told n))) (told label n) (tells_itself label n);
     log_failed = refl;
     tables_failed = refl;
+    once = omega arith;
     remembered = tt;
     number = 0;
     after = refl;
@@ -79,6 +80,7 @@ module _ {D : Type 0} (z : SharedState D) (old new : SeatState) (label : List â„
     explained = of_one (IsExplained it.client client.txn (command.Hear label) (Some (reply.Heard n))) (heard label m) tt;
     log_failed = refl;
     tables_failed = refl;
+    once = omega arith;
     remembered = tt;
     number = 0;
     after = refl;
@@ -104,6 +106,7 @@ module _ {D : Type 0} (z : SharedState D) (old new : SeatState) (label : List â„
     explained = Î» event there. absurd there;
     log_failed = refl;
     tables_failed = refl;
+    once = omega arith;
     remembered = tt;
     number = 0;
     after = refl;

@@ -85,10 +85,10 @@ module _ {D : Type 0} (z : SharedState D) (old new : SeatState) where
         let event : Event = found_by z old new t k.found in
         let same : event ≡ found_edit flushed t.last.tables (tables_due k.found.world.first_edit it.past) true = λ i. found_edit (sym k.flushed_is i) t.last.tables (tables_due k.found.world.first_edit it.past) (k.halted i) in
         tables_answers (reply.Halted flushed) (event ∷ []) k.goes_on
-        (record { acknowledges = refl; tables = λ before. refl; labels = λ before. of.labels before (reply.Halted flushed); log_failed = refl; tables_failed = refl; remembered = (t.last.tables, tables_due k.found.world.first_edit it.past, inl same); explained = of_one (IsExplained it.client client.txn c (Some (reply.Halted flushed))) event tt })
+        (record { acknowledges = refl; tables = λ before. refl; labels = λ before. of.labels before (reply.Halted flushed); log_failed = refl; tables_failed = refl; once = omega arith; remembered = (t.last.tables, tables_due k.found.world.first_edit it.past, inl same); explained = of_one (IsExplained it.client client.txn c (Some (reply.Halted flushed))) event tt })
         refl (λ before low. low)
         (λ first is_first before p e agrees. let known = known_of (event ∷ []) k.goes_on e agrees event (inl refl) in
-        of.halted e before client flushed (subst (λ (n : ℕ). IsKnown e (WasFlushed n)) (sym k.flushed_is) known.0, known.1 k.halted))
+        of.halted e before client flushed (subst (IsHaltedAt e) (sym k.flushed_is) (known.1 k.halted)))
 
     -- there was nothing to do
     pub nothing_answers : (t : Installed) (Idle : InstalledEdit → Type 0) (k : HasNothing (Continues z old new) z old new t Idle)
@@ -96,7 +96,7 @@ module _ {D : Type 0} (z : SharedState D) (old new : SeatState) where
         → Answers z old new client client c reply.Nothing
     nothing_answers t Idle k row = let event : Event = found_by z old new t k.found in
         tables_answers reply.Nothing (event ∷ []) k.goes_on
-        (record { acknowledges = refl; tables = λ before. refl; labels = λ before. of.labels before reply.Nothing; log_failed = refl; tables_failed = refl; remembered = tt; explained = of_one (IsExplained it.client client.txn c (Some reply.Nothing)) event tt })
+        (record { acknowledges = refl; tables = λ before. refl; labels = λ before. of.labels before reply.Nothing; log_failed = refl; tables_failed = refl; once = omega arith; remembered = tt; explained = of_one (IsExplained it.client client.txn c (Some reply.Nothing)) event tt })
         refl (λ before low. low)
         (λ first is_first before p e agrees. row first is_first before p e agrees (known_of (event ∷ []) k.goes_on e agrees event (inl refl)))
 
@@ -107,7 +107,7 @@ module _ {D : Type 0} (z : SharedState D) (old new : SeatState) where
     failed_answers t Busy IsNext k row =
         let event : Event = found_by z old new t k.found in let fault : Event = tables_failed t.last k.asked in
         tables_answers reply.FaultTables (event ∷ fault ∷ []) k.goes_on
-        (record { acknowledges = refl; tables = λ before. refl; labels = λ before. of.labels before reply.FaultTables; log_failed = refl; tables_failed = refl; remembered = tt; explained = of_two (IsExplained it.client client.txn c (Some reply.FaultTables)) event fault tt tt })
+        (record { acknowledges = refl; tables = λ before. refl; labels = λ before. of.labels before reply.FaultTables; log_failed = refl; tables_failed = refl; once = omega arith; remembered = tt; explained = of_two (IsExplained it.client client.txn c (Some reply.FaultTables)) event fault tt tt })
         refl (λ before low. low)
         (λ first is_first before p e agrees. let known = known_of (event ∷ fault ∷ []) k.goes_on e agrees fault (inr (inl refl)) in
         row before p.last e agrees known.0 known.1)
@@ -138,6 +138,7 @@ module _ {D : Type 0} (z : SharedState D) (old new : SeatState) where
           labels = λ before. refl;
           log_failed = refl;
           tables_failed = refl;
+          once = omega arith;
           remembered = (edit, sym k.at, inr (inl refl));
           explained = of_two (IsExplained it.client client.txn command.Flush (Some (reply.Flushed done.at done.versions))) event made tt (let at = k.at in grind (arith, nat_tests));
         })

@@ -61,7 +61,7 @@ pub keeps_answers : {D : Type 0} (z : SharedState D) (old new : SeatState) (was 
     → Answers z old new was now c r
 keeps_answers z old new was now c r goes quiet is low allowed =
     else_answers z old new _ old.knows.participant [] was now c r 0 goes refl refl (sym (append-nil old.knows.participant.past))
-    (record { acknowledges = quiet.acknowledges; tables = quiet.tables; labels = quiet.labels; log_failed = ap one_if (sym quiet.log_failed); tables_failed = ap one_if (sym quiet.tables_failed); remembered = quiet.remembered; explained = λ event there. absurd there })
+    (record { acknowledges = quiet.acknowledges; tables = quiet.tables; labels = quiet.labels; log_failed = ap one_if (sym quiet.log_failed); tables_failed = ap one_if (sym quiet.tables_failed); once = omega arith; remembered = quiet.remembered; explained = λ event there. absurd there })
     is low allowed
 
 -- ---- what the history has

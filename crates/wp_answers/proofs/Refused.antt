@@ -25,7 +25,7 @@ use Rattle.wp_replies.specs.Progress.{Progress, heard_after}
 use Rattle.wp_replies.specs.Replies.{Evidence, refusal_of, needed, AsksFor, IsFresh, Row, UnlessRefused, Allows}
 use Rattle.wp_answers.specs.Agrees.{Agrees}
 use Rattle.wp_sole_client.specs.Alone.{log_faults, tables_faults}
-use Rattle.wp_answers.specs.Answers.{IsProgress, IsExplained, Answers}
+use Rattle.wp_answers.specs.Answers.{IsProgress, IsExplained, is_finding, findings, Answers}
 use Rattle.wp_answers.specs.Holdings.{HoldingsState, Holds}
 use Rattle.wp_answers.specs.Replies.{refusal}
 use Rattle.wp_answers.proofs.Fitting.{else_answers}
@@ -49,15 +49,16 @@ pub record IsLogged (client : Client) (c : Command) (needs : ℕ) (Asks : List E
   pub fresh : (r : Reply) → fresh_in c r ≡ number_in r
   pub labels : (before : List (List ℕ)) (r : Reply) → heard_after before c r ≡ before
 
--- these events have nothing of faults and edits, and are explained by the command, unless it was taken by the log
+-- these events have nothing of faults and edits, nor of what was found, and are explained by the command, unless it was taken by the log
 pub record ComesBefore (client : Client) (c : Command) (name : List ℕ) (front : List Event) : Type 0 where
   pub log_failed : log_faults front ≡ 0
   pub tables_failed : tables_faults front ≡ 0
+  pub none_found : findings front ≡ 0
   pub quiet : InstallNothing front
   pub explained : (r : Reply) → IsOfLog r → (event : Event) → IsIn event front → IsExplained name client.txn c (Some r) event
 
 pub none_before : (client : Client) (c : Command) (name : List ℕ) → ComesBefore client c name []
-none_before client c name = record { log_failed = refl; tables_failed = refl; quiet = λ due. refl; explained = λ r of_log event there. absurd there }
+none_before client c name = record { log_failed = refl; tables_failed = refl; none_found = refl; quiet = λ due. refl; explained = λ r of_log event there. absurd there }
 
 -- What is so of a refusal of the log, where it is so of the three that have a reply.
 module _ {D : Type 0} (z : SharedState D) (old new : SeatState) (needs : ℕ) (Asks : List Entry → Type 0) (found after : Participant) (P : Reply → Type 0)
@@ -84,6 +85,9 @@ module _ (front : List Event) (last : Event) where
 
   tables_more : tables_faults (front ++ last ∷ []) ≡ tables_faults front + one_if (pasts.is_tables_fault last)
   tables_more = total_more (λ (e : Event). one_if (pasts.is_tables_fault e)) front last
+
+  found_more : findings (front ++ last ∷ []) ≡ findings front + one_if (is_finding last)
+  found_more = total_more (λ (e : Event). one_if (is_finding e)) front last
 
   quiet_more : InstallNothing front → ((due : ℕ) → due_after due last ≡ due) → InstallNothing (front ++ last ∷ [])
   quiet_more quiet still due = due_still due front (last ∷ []) still ∙ quiet due
@@ -113,7 +117,7 @@ module _ {D : Type 0} (z : SharedState D) (old new : SeatState) (client : Client
     full_answers : (published limit : ℕ) → Refuses z old new needs Asks found after (NumbersFull published limit) → Answers z old new client client c (reply.Full published limit)
     full_answers published limit f =
         else_answers z old new _ after front client client c (reply.Full published limit) 0 f.4 same_client own past
-        (record { acknowledges = refl; tables = λ before. sym (k.quiet before); labels = λ before. logged.labels before (reply.Full published limit); log_failed = k.log_failed; tables_failed = k.tables_failed; remembered = tt; explained = k.explained (reply.Full published limit) tt })
+        (record { acknowledges = refl; tables = λ before. sym (k.quiet before); labels = λ before. logged.labels before (reply.Full published limit); log_failed = k.log_failed; tables_failed = k.tables_failed; once = (let none = k.none_found in omega (arith, none)); remembered = tt; explained = k.explained (reply.Full published limit) tt })
         refl (same_last (reply.Full published limit) refl)
         (λ first is_first before p e agrees. by_row e before (reply.Full published limit) (
           (let n = logged.needs_is in let some = logged.some in omega (arith, n, some)),
@@ -131,6 +135,7 @@ module _ {D : Type 0} (z : SharedState D) (old new : SeatState) (client : Client
           labels = λ before. logged.labels before (reply.Stopped n);
           log_failed = (let m = log_more front (stopped n) in let none = k.log_failed in omega (arith, m, none));
           tables_failed = (let m = tables_more front (stopped n) in let none = k.tables_failed in omega (arith, m, none));
+          once = (let m = found_more front (stopped n) in let none = k.none_found in omega (arith, m, none));
           remembered = in_last (stopped n) front;
           explained = λ event there. ⊎_elim (λ (t : IsIn event front). k.explained (reply.Stopped n) tt event t)
               (λ (same : stopped n ≡ event). subst (IsExplained it.client client.txn c (Some (reply.Stopped n))) same tt) (in_either event (stopped n) front there);
@@ -151,6 +156,7 @@ module _ {D : Type 0} (z : SharedState D) (old new : SeatState) (client : Client
           labels = λ before. logged.labels before reply.FaultLog;
           log_failed = (let m = log_more front (log_failed entries) in let none = k.log_failed in omega (arith, m, none));
           tables_failed = (let m = tables_more front (log_failed entries) in let none = k.tables_failed in omega (arith, m, none));
+          once = (let m = found_more front (log_failed entries) in let none = k.none_found in omega (arith, m, none));
           remembered = tt;
           explained = λ event there. ⊎_elim (λ (t : IsIn event front). k.explained reply.FaultLog tt event t)
               (λ (same : log_failed entries ≡ event). subst (IsExplained it.client client.txn c (Some reply.FaultLog)) same tt) (in_either event (log_failed entries) front there);

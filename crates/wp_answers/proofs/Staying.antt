@@ -20,7 +20,7 @@ use Rattle.wp_replies.proofs.Within.{within_more}
 use Rattle.wp_answers.specs.declared.holdings.HeldTxn.{HeldTxn}
 use Rattle.wp_answers.specs.declared.holdings.HeldTxn.TheVariants as held
 use Rattle.wp_sole_client.specs.Alone.{log_faults, tables_faults}
-use Rattle.wp_answers.specs.Answers.{IsExplained, Stays, BreaksOff}
+use Rattle.wp_answers.specs.Answers.{IsExplained, findings, Stays, BreaksOff}
 use Rattle.wp_answers.specs.Holdings.{HoldingsState, labelled, HasTxn, is_named, times_registered, HoldsTxn, Holds, HoldsFrom}
 
 -- it stays in its place, of its client
@@ -99,8 +99,8 @@ module _ {D : Type 0} (Kept : Fact → Type 0) (z : SharedState D) (old new : Se
 
   -- memory was wanting, once the seat had done this
   pub broke_off_after : (events : List Event) (was : Client) (c : Command) → after.client ≡ old.knows.participant.client → after.own ≡ old.knows.participant.own → after.past ≡ old.knows.participant.past ++ events
-      → ((event : Event) → IsIn event events → IsExplained old.knows.participant.client was.txn c None event) → log_faults events ≡ 0 → tables_faults events ≡ 0 → BreaksOff old new was c
-  broke_off_after events was c client own past explained log tables = record {
+      → ((event : Event) → IsIn event events → IsExplained old.knows.participant.client was.txn c None event) → log_faults events ≡ 0 → tables_faults events ≡ 0 → findings events ≡ 0 → BreaksOff old new was c
+  broke_off_after events was c client own past explained log tables none = record {
     stays = in_place Kept z old new after goes client;
     own = ap (λ (p : Participant). p.own) goes.participant ∙ own;
     events = events;
@@ -108,10 +108,11 @@ module _ {D : Type 0} (Kept : Fact → Type 0) (z : SharedState D) (old new : Se
     explained = explained;
     log_failed = log;
     tables_failed = tables;
+    none_found = none;
   }
 
 -- ---- where memory was wanting
 
 -- the seat did nothing that it remembers
 pub broke_off : {D : Type 0} (z : SharedState D) (old new : SeatState) (was : Client) (c : Command) → Keeps z old new → BreaksOff old new was c
-broke_off z old new was c goes = broke_off_after _ z old new old.knows.participant goes [] was c refl refl (sym (append-nil old.knows.participant.past)) (λ event there. absurd there) refl refl
+broke_off z old new was c goes = broke_off_after _ z old new old.knows.participant goes [] was c refl refl (sym (append-nil old.knows.participant.past)) (λ event there. absurd there) refl refl refl

@@ -87,8 +87,8 @@ locked_alone (change.Del key) client = rw (itself client, itself key) refl
 
 -- the reply that has the number
 fits_made : (c : Change) (n : ℕ) (client : List ℕ) → Fits (asking c) (acknowledging c n) (n ∷ []) (locked (key_of c) (holder.Client client) ∷ []) client Idle
-fits_made (change.Put key value) n client = record { acknowledges = refl; tables = λ before. refl; labels = λ before. refl; log_failed = refl; tables_failed = refl; remembered = tt; explained = of_one (IsExplained client Idle (command.Put key value) (Some (reply.Put n))) (locked key (holder.Client client)) (locked_made (change.Put key value) n client) }
-fits_made (change.Del key) n client = record { acknowledges = refl; tables = λ before. refl; labels = λ before. refl; log_failed = refl; tables_failed = refl; remembered = tt; explained = of_one (IsExplained client Idle (command.Del key) (Some (reply.Del n))) (locked key (holder.Client client)) (locked_made (change.Del key) n client) }
+fits_made (change.Put key value) n client = record { acknowledges = refl; tables = λ before. refl; labels = λ before. refl; log_failed = refl; tables_failed = refl; once = omega arith; remembered = tt; explained = of_one (IsExplained client Idle (command.Put key value) (Some (reply.Put n))) (locked key (holder.Client client)) (locked_made (change.Put key value) n client) }
+fits_made (change.Del key) n client = record { acknowledges = refl; tables = λ before. refl; labels = λ before. refl; log_failed = refl; tables_failed = refl; once = omega arith; remembered = tt; explained = of_one (IsExplained client Idle (command.Del key) (Some (reply.Del n))) (locked key (holder.Client client)) (locked_made (change.Del key) n client) }
 
 last_made : (c : Change) (n before : ℕ) → last_after before (asking c) (acknowledging c n) ≡ n
 last_made (change.Put key value) n before = refl
@@ -116,6 +116,7 @@ module _ {D : Type 0} (z : SharedState D) (old new : SeatState) (c : Change) (sn
   lock_before = record {
     log_failed = refl;
     tables_failed = refl;
+    none_found = refl;
     quiet = λ due. refl;
     explained = λ r of_log. of_one (IsExplained it.client Idle (asking c) (Some r)) (locked (key_of c) (holder.Client it.client)) (locked_refused c r it.client of_log);
   }
@@ -131,7 +132,7 @@ module _ {D : Type 0} (z : SharedState D) (old new : SeatState) (c : Change) (sn
   busy_answers has by f =
       let account : Account = account_of it f.world.locks f.published (Some (key_of c)) by in let event : Event = found (Some (key_of c)) by (length it.seen) account in
       else_answers z old new _ (remembering (event ∷ []) it) (event ∷ []) me me (asking c) (reply.Busy by) 0 f.goes_on refl refl refl
-      (record { acknowledges = refl; tables = λ before. refl; labels = λ before. labels_same c before (reply.Busy by); log_failed = refl; tables_failed = refl; remembered = tt; explained = of_one (IsExplained it.client Idle (asking c) (Some (reply.Busy by))) event tt })
+      (record { acknowledges = refl; tables = λ before. refl; labels = λ before. labels_same c before (reply.Busy by); log_failed = refl; tables_failed = refl; once = omega arith; remembered = tt; explained = of_one (IsExplained it.client Idle (asking c) (Some (reply.Busy by))) event tt })
       refl (last_same c (reply.Busy by) (length new.knows.participant.seen) refl)
       (λ first is_first before p e agrees. busy_row c snapshots e before by
       (found_busy e before.last (key_of c) by it f.world.locks f.published p.last has.direct (λ name same. has.only name refl)
@@ -155,7 +156,7 @@ module _ {D : Type 0} (z : SharedState D) (old new : SeatState) (c : Change) (sn
 
   memory_breaks : Continues z old new (wrote_direct (key_of c) it) → BreaksOff old new me (asking c)
   memory_breaks goes = broke_off_after _ z old new (wrote_direct (key_of c) it) goes (locked (key_of c) (holder.Client it.client) ∷ []) me (asking c) refl refl refl
-      (of_one (IsExplained it.client Idle (asking c) None) (locked (key_of c) (holder.Client it.client)) (locked_alone c it.client)) refl refl
+      (of_one (IsExplained it.client Idle (asking c) None) (locked (key_of c) (holder.Client it.client)) (locked_alone c it.client)) refl refl refl
 
   pub not_written_breaks : (why : TxnError) → refusal why ≡ None → WritesDirect z old c (Err why) new → BreaksOff old new me (asking c)
   not_written_breaks Memory none f = ⊎_elim (λ (k : Keeps z old new). broke_off z old new me (asking c) k) memory_breaks f

@@ -1,5 +1,5 @@
 -- What a client is judged by agrees with what its seat saw, did and found.
-use Rattle.std.specs.Prelude.{◌≡◌, ℕ, ◌≤◌, ◌<◌, true, List, take, Option, Some, None}
+use Rattle.std.specs.Prelude.{◌≡◌, ◌⊎◌, ℕ, ◌≤◌, ◌<◌, true, List, take, Option, Some, None}
 use Rattle.wp_model.specs.declared.holder.Holder.{Holder}
 use Rattle.wp_model.specs.declared.holder.Holder.TheVariants as holder
 use Rattle.wp_core.specs.Lists.{IsIn}
@@ -8,12 +8,12 @@ use Rattle.wp_core.specs.Sound.Pasts.{HasKeyAt}
 use Rattle.wp_core.specs.Views.{Account, own, another, prepare_at, Event, heard, log_failed, tables_failed, stopped, found_edit, found}
 use Rattle.wp_core.specs.World.{Participant}
 use Rattle.wp_shared.specs.Seats.{SharedState}
-use Rattle.wp_replies.specs.Replies.{HasName, HasKey, WritesKey, WasTold, LogFailed, WasFlushed, TablesFailed, OtherCompacted, Evidence, IsKnown, WasUndecided}
+use Rattle.wp_replies.specs.Replies.{HasName, HasTaken, HasKey, WritesKey, WasTold, LogFailed, WasFlushed, OtherCompacted, Evidence, IsKnown, WasUndecided, IsPrepared, IsHaltedAt}
 
--- another client has the transaction of this name, and the key, where one is given; or it writes the key at once
+-- another client has the transaction of this name, and the key in it, where one is given; or it writes the key at once
 abbrev pub IsAnother : Evidence → Option (List ℕ) → Holder → Type 0
 IsAnother e None (holder.Txn name) = IsKnown e (HasName name)
-IsAnother e (Some key) (holder.Txn name) = IsKnown e (HasName name) × IsKnown e (HasKey name key)
+IsAnother e (Some key) (holder.Txn name) = IsKnown e (HasKey name key) ⊎ (IsKnown e (HasTaken name) × IsPrepared e.history name key)
 IsAnother e (Some key) (holder.Client name) = IsKnown e (WritesKey name key)
 IsAnother e None (holder.Client name) = Unit {0}
 
@@ -35,7 +35,7 @@ Knows e (heard label n) = (m : ℕ) → n ≤ m → IsKnown e (WasTold label m)
 Knows e (stopped n) = IsKnown e (LogFailed n)
 Knows e (log_failed entries) = e.failed.entries ≡ entries
 Knows e (tables_failed last edit) = (e.installed ≡ last) × (e.failed.edit ≡ edit)
-Knows e (found_edit flushed tables due halted) = IsKnown e (WasFlushed flushed) × (halted ≡ true → IsKnown e TablesFailed) × (tables < due → IsKnown e OtherCompacted)
+Knows e (found_edit flushed tables due halted) = IsKnown e (WasFlushed flushed) × (halted ≡ true → IsHaltedAt e flushed) × (tables < due → IsKnown e OtherCompacted)
 Knows e other = Unit {0}
 
 -- The history begins with what the seat has seen, the limit is the store's, and what the seat's past tells is known. Less of it

@@ -6,10 +6,10 @@ use Rattle.wp_model.specs.declared.holder.Holder.TheVariants as holder
 use Rattle.wp_text.specs.declared.script.Command.{Command}
 use Rattle.wp_text.specs.declared.reply.Reply.{Reply}
 use Rattle.wp_text.specs.declared.reply.Reply.TheVariants as reply
-use Rattle.wp_core.specs.Lists.{IsIn, one_if}
+use Rattle.wp_core.specs.Lists.{IsIn, one_if, total}
 use Rattle.wp_core.specs.Sound.Actors.{StartsWith}
 use Rattle.wp_core.specs.Sound.Pasts.{tables_due}
-use Rattle.wp_core.specs.Views.{Event, claimed, took, locked, told, heard, installed, stopped, found_edit}
+use Rattle.wp_core.specs.Views.{Event, claimed, took, locked, told, heard, installed, stopped, found_edit, found}
 use Rattle.wp_core.specs.World.{Participant, World}
 use Rattle.wp_rule.specs.Shows.{WasLast}
 use Rattle.wp_parts.specs.Parts.{content}
@@ -19,7 +19,7 @@ use Rattle.wp_replies.specs.Client.{Client}
 use Rattle.wp_replies.specs.Due.{Store}
 use Rattle.wp_replies.specs.After.{after_reply}
 use Rattle.wp_replies.specs.Kind.{acknowledged, is_fault, is_flushed, is_compacted, is_tables_fault}
-use Rattle.wp_replies.specs.Known.{gets_name, stages_key, writes_key, tells}
+use Rattle.wp_replies.specs.Known.{gets_name, takes_name, stages_key, writes_key, tells}
 use Rattle.wp_replies.specs.Progress.{Progress, knows_label, progress_after}
 use Rattle.wp_replies.specs.Replies.{Evidence, Allows}
 use Rattle.wp_sole_client.specs.Alone.{log_faults, tables_faults, IsOnly, IsStoreOf, AnswersAlone}
@@ -47,7 +47,7 @@ is_answer is_such (Some answer) = is_such answer
 -- what the client came to for the event to be in its seat's past; of others nothing is asked
 abbrev pub explaining : List ℕ → Event → Option (Txn → Command → Option Reply → Bool)
 explaining client (claimed name) = Some (gets_name name)
-explaining client (took name) = Some (gets_name name)
+explaining client (took name) = Some (takes_name name)
 explaining client (locked key (holder.Txn name)) = Some (stages_key name key)
 explaining client (locked key (holder.Client name)) = Some (λ txn command answer. bytes_eq name client && writes_key key txn command answer)
 explaining client (told label n) = Some (tells label n)
@@ -58,6 +58,17 @@ explaining client other = None
 -- the client came to it by the command, with this reply or with none
 abbrev pub IsExplained : List ℕ → Txn → Command → Option Reply → Event → Type 0
 IsExplained client txn command answer event = IfSome (explaining client event) (λ is_such. is_such txn command answer ≡ true)
+
+-- it tells of a holder, of a closed log or of the tables, as the seat found them
+abbrev pub is_finding : Event → Bool
+is_finding (found key holder seen account) = true
+is_finding (stopped n) = true
+is_finding (found_edit flushed tables due halted) = true
+is_finding other = false
+
+-- how often the seat found such a thing
+abbrev pub findings : List Event → ℕ
+findings events = total (λ e. one_if (is_finding e)) events
 
 -- what the seat did or found for the client to be answered so; of other replies nothing is asked
 abbrev pub IsRemembered : List Event → Reply → Type 0
@@ -77,7 +88,7 @@ pub record Stays (old new : SeatState) : Type 0 where
   pub seen : StartsWith new.knows.participant.seen old.knows.participant.seen
 
 -- The client that was so is answered this, and is so now. Its seat published just what the reply acknowledges, and what its past
--- has more is explained by the reply. Whatever agrees with what the seat then knows allows the reply, where the client knows of the
+-- has more is explained by the reply; it found at most once what a reply may speak of. Whatever agrees with what the seat then knows allows the reply, where the client knows of the
 -- tables by the last edit of the store as it was opened.
 pub record Answers {D : Type 0} (z : SharedState D) (old new : SeatState) (was now : Client) (command : Command) (answer : Reply) : Type 0 where
   pub stays : Stays old new
@@ -87,13 +98,14 @@ pub record Answers {D : Type 0} (z : SharedState D) (old new : SeatState) (was n
   pub explained : (event : Event) → IsIn event events → IsExplained old.knows.participant.client was.txn command (Some answer) event
   pub log_failed : log_faults events ≡ one_if (is_fault answer)
   pub tables_failed : tables_faults events ≡ one_if (is_tables_fault answer)
+  pub once : findings events ≤ 1
   pub remembered : IsRemembered events answer
   pub number : ℕ  -- of the prepare that `took` gives
   pub after : now ≡ after_reply number was command answer
   pub progress : (first : InstalledEdit) → WasLast content z.first first → (before : Progress) → IsProgress first old.knows.participant before → IsProgress first new.knows.participant (progress_after before command answer)
   pub allowed : (first : InstalledEdit) → WasLast content z.first first → (before : Progress) → IsProgress first old.knows.participant before → (e : Evidence) → Agrees e z new.knows.participant → Allows e before was number command answer
 
--- Memory was wanting, so that the command has no reply. The seat published nothing and met no fault, and what its past has more is
+-- Memory was wanting, so that the command has no reply. The seat published nothing, met no fault and found nothing, and what its past has more is
 -- explained by the command alone: the key of a direct write was locked, and is free again.
 pub record BreaksOff (old new : SeatState) (was : Client) (command : Command) : Type 0 where
   pub stays : Stays old new
@@ -103,6 +115,7 @@ pub record BreaksOff (old new : SeatState) (was : Client) (command : Command) : 
   pub explained : (event : Event) → IsIn event events → IsExplained old.knows.participant.client was.txn command None event
   pub log_failed : log_faults events ≡ 0
   pub tables_failed : tables_faults events ≡ 0
+  pub none_found : findings events ≡ 0
 
 -- Where the seat is the only one, and stands in a world of the store now, the reply is the one that is due from the store as it was,
 -- or a fault, and the store is as it is to be then.

@@ -71,7 +71,6 @@ module _ (w : World) (by : ℕ) (a : Actor) (at : get_elem? w.actors by ≡ some
     not_logged = λ q. inr n.2;
     stopped = λ m h. ⊎_elim (λ k. absurd (true≢false (sym (s.faults.stopped m k).0 ∙ n.3))) (λ q. absurd cc) (past_before w.actors by a b failure at refl refl (stopped m) h);
     failed = λ entries h. ⊎_elim (λ k. absurd (true≢false (sym (s.faults.failed entries k).0 ∙ n.3))) (λ (q : failure ≡ log_failed entries). let same : w.writes.pending ≡ entries = cc in (refl, same)) (past_before w.actors by a b failure at refl refl (log_failed entries) h);
-    found_halted = λ m tables due h. ⊎_elim (λ k. s.faults.found_halted m tables due k) (λ q. absurd cc) (past_before w.actors by a b failure at refl refl (found_edit m tables due true) h);
   }
 
   log_closes : IsSound (done w by (forgets w.writes.history (length w.cache) close_log a) close_log)
@@ -82,7 +81,7 @@ module _ (w : World) (by : ℕ) (a : Actor) (at : get_elem? w.actors by ≡ some
         holders = holders_still w.actors by a b failure at refl refl w.opened w.writes.history w.locks tt s.holders;
         board = board_still w.actors by a b failure at refl refl (world.published w) w.locks tt s.board;
         faults = faults_closed;
-        edits = edits_still w.actors by a b failure at refl refl w.first_edit w.installed (λ m. refl) (λ m. refl) refl (λ m tables due halted q. absurd cc) s.edits;
+        edits = edits_still w.actors by a b failure at refl refl w.first_edit w.installed (λ m. refl) (λ m. refl) refl (λ m tables due halted q. absurd cc) (λ m tables due q. absurd cc) s.edits;
       }) (turns_changed w by a b at e n.0 refl s)
       (readers_still w by a b at refl s)
       (notes_stay w by a b at close_log w.holders (SoPending w d) refl (λ fact left m. record { guarded = m.guarded; is_so = so_closed fact m.is_so }) (λ j x fact ne there m. record { guarded = m.guarded; is_so = others_closed x.0 fact m.is_so }) s)

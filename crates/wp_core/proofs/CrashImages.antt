@@ -12,9 +12,6 @@ use Rattle.wp_model.specs.Flushed.{IsEditCovered, InstalledEdit}
 use Rattle.wp_core.specs.World.{World, history}
 use Rattle.wp_core.proofs.PublishesVersions.{edit_part}
 
-Left : List Entry → List Entry → Type 0
-Left before entries = StartsWith entries before × IsLegal entries
-
 -- nothing of a record that is not logged is in the log
 not_logged : (logged : Bool) (pending : List Entry) → logged ≡ false → logged_part logged pending ≡ []
 not_logged logged pending is = rw is refl

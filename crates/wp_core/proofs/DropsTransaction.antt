@@ -54,13 +54,14 @@ module _ (w : World) (by : ℕ) (a : Actor) (name : List ℕ) (x0 : Transaction)
   has_still : (n : List ℕ) (y : Transaction) → (n ≡ name → ⊥) → finite.get a.participant.transactions n ≡ Some y → finite.get p.transactions n ≡ Some y
   has_still n y ne h = else_removed a.participant.transactions name n ne ∙ h
 
-  own_owner : IsOwner t (owner_of p)
+  own_owner : IsOwner w.writes.history t (owner_of p)
   own_owner =
       let old = s.locks.had by 0 (owner_of a.participant) (mine owner_of w.actors by a a at refl) in
       record {
         names = λ n x h. let g = had_name n x h in d.others.names n g.0 ∙ old.names n x g.1;
         keys = λ n x c h held. let g = had_name n x h in d.others.transactions c n g.0 (old.keys n x c g.1 held);
         direct = λ c h. d.others.directs c a.participant.client (old.direct c h);
+        came = λ n x c h held. old.came n x c (had_name n x h).1 held;
       }
 
   name_still : (n c : List ℕ) → (n ≡ name → ⊥) → IsNameOf (participants owner_of w) n c → IsNameOf after n c
@@ -88,7 +89,7 @@ module _ (w : World) (by : ℕ) (a : Actor) (name : List ℕ) (x0 : Transaction)
   locked_part = record {
     prepared_names = d.prepared_names;
     prepared_keys = d.prepared_keys;
-    had = each_apart owner_of w.actors by a b at refl (IsOwner t) own_owner (others_own w by a name x0 at has s t d.others);
+    had = each_apart owner_of w.actors by a b at refl (IsOwner w.writes.history t) own_owner (others_own w by a name x0 at has s t d.others);
     apart = owners_apart w.actors by a b at refl (λ n x h. inl (x, (had_name n x h).1)) (λ c h. inl h) s.locks.apart;
     names_had = names_had;
     names_left = names_left;

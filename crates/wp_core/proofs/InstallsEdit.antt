@@ -61,7 +61,6 @@ module _ (w : World) (by : ℕ) (a : Actor) (edit : InstalledEdit) (compacts : B
         not_logged = s.faults.not_logged;
         stopped = λ n h. ⊎_elim (λ k. s.faults.stopped n k) (λ (q : e ≡ stopped n). absurd cc) (past_before w.actors by a c e at refl refl (stopped n) h);
         failed = λ entries h. ⊎_elim (λ k. s.faults.failed entries k) (λ (q : e ≡ log_failed entries). absurd cc) (past_before w.actors by a c e at refl refl (log_failed entries) h);
-        found_halted = λ n tables due h. ⊎_elim (λ k. s.faults.found_halted n tables due k) (λ (q : e ≡ found_edit n tables due true). absurd cc) (past_before w.actors by a c e at refl refl (found_edit n tables due true) h);
       }
 
   -- the others know that it was another's
@@ -93,6 +92,8 @@ module _ (w : World) (by : ℕ) (a : Actor) (edit : InstalledEdit) (compacts : B
     its_tables = λ due. subst (λ (z : ℕ). z ≤ edit.tables) (sym (due_more w.first_edit a.participant.past e)) (its_tables compacts refl due);
     their_tables = their_tables compacts refl;
     failed = λ last failing h. ⊎_elim (λ k. absurd (true≢false (sym (s.edits.failed last failing k).0 ∙ n.1))) (λ (q : e ≡ tables_failed last failing). absurd cc) (past_before w.actors by a c e at refl refl (tables_failed last failing) h);
+    stays = λ halted. absurd (true≢false (sym halted ∙ n.1));
+    found_halted = λ n tables due q. absurd cc;
     none_failed = s.edits.none_failed;
   } s.edits
 
@@ -151,7 +152,6 @@ module _ (w : World) (by : ℕ) (a : Actor) (edit : Option InstalledEdit) (at : 
         not_logged = s.faults.not_logged;
         stopped = λ n h. ⊎_elim (λ k. s.faults.stopped n k) (λ (q : failure ≡ stopped n). absurd cc) (past_before w.actors by a b failure at refl refl (stopped n) h);
         failed = λ entries h. ⊎_elim (λ k. s.faults.failed entries k) (λ (q : failure ≡ log_failed entries). absurd cc) (past_before w.actors by a b failure at refl refl (log_failed entries) h);
-        found_halted = λ n tables due h. is_halted w.installed edit;
       }
 
   -- it is the one failure
@@ -175,6 +175,8 @@ module _ (w : World) (by : ℕ) (a : Actor) (edit : Option InstalledEdit) (at : 
         its_tables = λ due. let q = due_more w.first_edit a.participant.past failure in omega arith;
         their_tables = λ j i past apart due. inl (omega arith);
         failed = λ last failing h. ⊎_elim (λ k. absurd (true≢false (sym (s.edits.failed last failing k).0 ∙ running))) (λ q. failed_now last failing q) (past_before w.actors by a b failure at refl refl (tables_failed last failing) h);
+        stays = λ halted. (is_halted w.installed edit, same);
+        found_halted = λ n tables due q. absurd cc;
         none_failed = λ q. absurd (true≢false (sym (is_halted w.installed edit) ∙ q));
       } s.edits
 

@@ -26,6 +26,7 @@ claimed_one w name free s = record {
   keys = λ k h. absurd (true≢false (sym h ∙ contains-empty key_cmp k));
   known = λ k h. absurd (true≢false (sym (s.locks.keys_live k name h) ∙ ap is_some free));
   begins = inl refl;
+  came = λ k h. absurd (true≢false (sym h ∙ contains-empty key_cmp k));
 }
 
 pub claims_name : (w : World) (by : ℕ) (a : Actor) (name : List ℕ) → get_elem? w.actors by ≡ some a → Needs w by a (claim_name name) → IsSound w

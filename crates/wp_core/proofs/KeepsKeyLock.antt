@@ -13,6 +13,7 @@ use Rattle.wp_model.specs.declared.holder.Holder.TheVariants.{Txn, Client}
 use Rattle.wp_model.specs.LockTables.{LockTables}
 use Rattle.wp_model.proofs.Found.{found_holder}
 use Rattle.wp_core.specs.Entries.{batch_of_name}
+use Rattle.wp_core.specs.Lists.{IsIn}
 use Rattle.wp_core.specs.Views.{Event, locked, Fact, undecided_at, prior_values, unprepared, direct_free}
 use Rattle.wp_core.specs.World.{Transaction, Actor, Participant, World}
 use Rattle.wp_core.specs.Steps.{lock_key}
@@ -21,12 +22,12 @@ use Rattle.wp_core.specs.Effects.{done}
 use Rattle.wp_core.specs.Needs.{Needs}
 use Rattle.wp_core.specs.Notes.{forgets}
 use Rattle.wp_core.specs.Sound.Actors.{IsParticipantAt}
-use Rattle.wp_core.specs.Sound.Locks.{Owner, owner_of, Has, IsNameOf, IsDirectOf, IsOwner, AreLocked}
+use Rattle.wp_core.specs.Sound.Locks.{Owner, owner_of, Has, IsNameOf, IsDirectOf, CameToKey, IsOwner, AreLocked}
 use Rattle.wp_core.specs.IsSound.{IsSound, participants}
 use Rattle.wp_core.proofs.Keyed.{same_test, is_word_same, not_same, at_inserted}
-use Rattle.wp_core.proofs.OwnerMoves.{owners_apart, name_kept, direct_kept}
+use Rattle.wp_core.proofs.OwnerMoves.{owners_apart, came_still, name_kept, direct_kept}
 use Rattle.wp_core.proofs.AllParticipants.{mine, was_apart, each_apart}
-use Rattle.wp_core.proofs.PastsGrow.{in_front}
+use Rattle.wp_core.proofs.PastsGrow.{in_front, in_last}
 use Rattle.wp_core.proofs.LocksChange.{SoWith, actor_after, owners_after, LocksParts, locks_change}
 use Rattle.wp_core.proofs.AllParts.{SoIn}
 use Rattle.wp_core.proofs.KeyLocked.{held_still, held_now, owner_locked, so_locked, pasts_locked}
@@ -66,8 +67,9 @@ module _ (w : World) (by : ℕ) (a : Actor) (name : List ℕ) (x0 : Transaction)
   abbrev after : List (List Owner)
   after = owners_after w by a (lock_key name x0 key) p t
 
-  own_owner : IsOwner t (owner_of p)
+  own_owner : IsOwner w.writes.history t (owner_of p)
   own_owner =
+      let still = came_still w.writes.history a.participant.past p.past (λ x k. in_front x a.participant.past (e ∷ []) k) in
       let old = s.locks.had by 0 (owner_of a.participant) (mine owner_of w.actors by a a at refl) in
       record {
         names = λ n x h. let y = had_name w by a name x0 x1 at has n x h in old.names n y.0 y.1;
@@ -77,6 +79,11 @@ module _ (w : World) (by : ℕ) (a : Actor) (name : List ℕ) (x0 : Transaction)
             (λ (ne : c ≡ key → ⊥). held_still w key (Txn name) free c (Txn name) (old.keys name x0 c has (was_in x0.locked key c ne in_it))) (is_word_same c key))
             (λ n x c ne h held. held_still w key (Txn name) free c (Txn n) (old.keys n x c h held));
         direct = λ c h. held_still w key (Txn name) free c (Client a.participant.client) (old.direct c h);
+        came = each_key w by a name x0 x1 at has (λ n c. CameToKey w.writes.history p.past n c)
+            (λ c in_it. ⊎_elim
+            (λ (q : c ≡ key). inl (subst (λ (z : List ℕ). IsIn (locked z (Txn name)) p.past) (sym q) (in_last e a.participant.past)))
+            (λ (ne : c ≡ key → ⊥). still name c (old.came name x0 c has (was_in x0.locked key c ne in_it))) (is_word_same c key))
+            (λ n x c ne h held. still n c (old.came n x c h held));
       }
 
   name_still : (n c : List ℕ) → IsNameOf (participants owner_of w) n c → IsNameOf after n c
@@ -129,7 +136,7 @@ module _ (w : World) (by : ℕ) (a : Actor) (name : List ℕ) (x0 : Transaction)
   locked_part = record {
     prepared_names = s.locks.prepared_names;
     prepared_keys = λ q k u h. held_still w key (Txn name) free k (Txn (name_at w.writes.history q)) (s.locks.prepared_keys q k u h);
-    had = each_apart owner_of w.actors by a b at refl (IsOwner t) own_owner (λ j i o elsewhere there. owner_locked w key (Txn name) free o (s.locks.had j i o there));
+    had = each_apart owner_of w.actors by a b at refl (IsOwner w.writes.history t) own_owner (λ j i o elsewhere there. owner_locked w key (Txn name) free w.writes.history o (s.locks.had j i o there));
     apart = owners_apart w.actors by a b at refl (λ n x h. inl (had_name w by a name x0 x1 at has n x h)) (λ c h. inl h) s.locks.apart;
     names_had = λ n c h. name_still n c (s.locks.names_had n c h);
     names_left = s.locks.names_left;

@@ -2,6 +2,7 @@
 use Rattle.std.proofs.Common.{◌≡◌, ◌&&◌, ℕ, Bool, true, false, true≢false, List, length, inr, refl, sym, ap, ◌∙◌, Option, Some, None, is_some}
 use mathlib.Core.Option.{some}
 use lib.ListN.{get_elem?}
+use Rattle.std.specs.Prelude.{unwrap_or}
 use Rattle.std.specs.List.{list_any, filter}
 use Rattle.std.specs.Option.{option_map_or}
 use Rattle.std.specs.Ordering.{eq_by_cmp}
@@ -13,11 +14,13 @@ use Rattle.std.proofs.lemmas.Cmp.{nat_list_cmp_total}
 use Rattle.std.proofs.lemmas.Map.Views.{any-filter_same}
 use Rattle.std.proofs.lemmas.Slice.Eq.{bytes_eq-Decides}
 use Rattle.wp_model.specs.Batch.{key_cmp}
-use Rattle.wp_model.specs.History.{batch_at}
+use Rattle.wp_model.specs.History.{is_changed, name_at, batch_at, named}
 use Rattle.wp_model.specs.Holder.{is_same}
 use Rattle.wp_model.specs.declared.holder.Holder.{Holder}
 use Rattle.wp_model.specs.declared.holder.Holder.TheVariants.{Txn, Client}
 use Rattle.wp_model.specs.LockTables.{LockTables}
+use Rattle.wp_model.proofs.Entries.{undecided_within}
+use Rattle.wp_model.proofs.Found.{found_named}
 use Rattle.wp_model.proofs.Words.{same_word}
 use Rattle.wp_core.specs.Views.{took}
 use Rattle.wp_core.specs.World.{Transaction, Actor, World}
@@ -26,6 +29,7 @@ use Rattle.wp_core.specs.Changes.{is_held_by, keys_of_holder}
 use Rattle.wp_core.specs.Effects.{done}
 use Rattle.wp_core.specs.Needs.{Needs}
 use Rattle.wp_core.specs.Notes.{forgets}
+use Rattle.wp_core.specs.Sound.Locks.{PrepareHas}
 use Rattle.wp_core.specs.IsSound.{IsSound}
 use Rattle.wp_core.proofs.LocksChange.{locks_change}
 use Rattle.wp_core.proofs.GainsTransaction.{Gains, p, t, gained_parts}
@@ -57,17 +61,28 @@ module _ (l : LockTables) (name : List ℕ) where
 abbrev taken_transaction : World → List ℕ → ℕ → Transaction
 taken_transaction w name q = record { batch = batch_at w.writes.history q; locked = keys_of_holder w.locks (Txn name) }
 
-taken_one : (w : World) (name : List ℕ) (q : ℕ) → finite.get w.locks.names name ≡ Some None → Gains w name (taken_transaction w name q) (took name)
-taken_one w name q left = record {
+taken_one : (w : World) (name : List ℕ) (q : ℕ) → finite.get w.locks.names name ≡ Some None → IsSound w → Gains w name (taken_transaction w name q) (took name)
+taken_one w name q left s = record {
   nobody = λ c h. let f : Some None ≡ Some (Some c) = sym left ∙ h in absurd cc;
   keys = λ k h. held_in_set w.locks name k h;
   known = λ k h. in_set_if_held w.locks name k h;
   begins = inr refl;
+  came = λ k h. (refl, prepare_has k (held_in_set w.locks name k h) (named w.writes.history name) refl);
 }
+  where
+    -- a key that is held for it is the undecided prepare's
+    prepare_has : (k : List ℕ) → finite.get w.locks.keys k ≡ Some (Txn name) → (o : Option ℕ) → named w.writes.history name ≡ o → PrepareHas w.writes.history name k
+    prepare_has k held None is = absurd (true≢false (sym (s.locks.names_left name left) ∙ ap is_some is))
+    prepare_has k held (Some p) is = let found = found_named w.writes.history name p is in (
+      p,
+      (undecided_within w.writes.history p found.0).1,
+      (bytes_eq-Decides (name_at w.writes.history p) name).0 found.1,
+      ap (λ (o : Option ℕ). is_changed (batch_at w.writes.history (unwrap_or o 0)) k) (sym is) ∙ s.locks.keys_left k name left held,
+    )
 
 pub takes_name : (w : World) (by : ℕ) (a : Actor) (name : List ℕ) (q : ℕ) → get_elem? w.actors by ≡ some a → Needs w by a (take_name name q) → IsSound w
     → IsSound (done w by (forgets w.writes.history (length w.cache) (take_name name q) a) (take_name name q))
 takes_name w by a name q at needs s =
-    let d = taken_one w name q needs.1 in let x = taken_transaction w name q in
+    let d = taken_one w name q needs.1 s in let x = taken_transaction w name q in
     locks_change w by a (take_name name q) (p w by a name x (took name) (take_name name q) at d s) (t w by a name x (took name) (take_name name q) at d s) at needs.0
     (gained_parts w by a name x (took name) (take_name name q) at d s) s

@@ -11,7 +11,7 @@ use Rattle.wp_model.specs.declared.holder.Holder.TheVariants.{Txn, Client}
 use Rattle.wp_core.specs.Lists.{IsIn}
 use Rattle.wp_core.specs.Turns.{write_turn, locks_turn, tables_turn}
 use Rattle.wp_core.specs.Views.{Account, own, another, prepare_at, Event, claimed, took, locked, told, heard, stopped, found_edit, found, Fact}
-use Rattle.wp_core.specs.World.{Actor, Participant, World, content_of}
+use Rattle.wp_core.specs.World.{Transaction, Actor, Participant, World, content_of}
 use Rattle.wp_core.specs.World as world
 use Rattle.wp_core.specs.Steps.{Step, find_log_closed, find_edit, find_holder, hear}
 use Rattle.wp_core.specs.Changes.{with_actor, remembers}
@@ -20,8 +20,8 @@ use Rattle.wp_core.specs.Needs.{Needs}
 use Rattle.wp_core.specs.Conditions.{Accounts, IsHolder, IsSelf}
 use Rattle.wp_core.specs.Notes.{forgets}
 use Rattle.wp_core.specs.Sound.Actors.{seen_of, participants_of, IsParticipantAt}
-use Rattle.wp_core.specs.Sound.Locks.{Owner, owner_of, Began}
-use Rattle.wp_core.specs.Sound.Pasts.{past_of, IsPast, Makes, HasDone, HasKeyAt, IsAccounted, WasLocked, WasInstalled, tables_due, OtherCompacts}
+use Rattle.wp_core.specs.Sound.Locks.{Owner, owner_of, Has, PrepareHas}
+use Rattle.wp_core.specs.Sound.Pasts.{past_of, IsPast, HasDone, HasKeyAt, HasBegun, MadeHolder, IsAccounted, WasInstalled, tables_due, OtherCompacts}
 use Rattle.wp_core.specs.Sound.Views.{noter_of}
 use Rattle.wp_core.specs.IsSound.{IsSound, participants}
 use Rattle.wp_core.proofs.Frames.{at_map}
@@ -42,10 +42,10 @@ so_past w a past fact k = k
 
 -- what an event has to meet that is only remembered, by its kind
 abbrev pub MayRemember : World → ℕ → Event → Type 0
-MayRemember w by (found key holder seen account) = IsAccounted w.writes.history (participants past_of w) by 0 key holder seen account × ((k : List ℕ) → key ≡ Some k → WasLocked w.opened (participants past_of w) k holder)
+MayRemember w by (found key holder seen account) = IsAccounted w.writes.history (participants past_of w) by 0 key holder seen account
 MayRemember w by (heard label n) = (is_some (finite.get w.locks.labels label) ≡ true) × IsPast (participants past_of w) (told label n)
 MayRemember w by (stopped n) = (w.writes.closed ≡ true) × (n ≡ length w.writes.history)
-MayRemember w by (found_edit n tables due halted) = WasInstalled w.first_edit (participants past_of w) n × (tables < due → OtherCompacts (participants past_of w) by 0) × (halted ≡ true → w.installed.halted ≡ true)
+MayRemember w by (found_edit n tables due halted) = WasInstalled w.first_edit (participants past_of w) n × (tables < due → OtherCompacts (participants past_of w) by 0) × (halted ≡ true → (w.installed.halted ≡ true) × (n ≡ w.installed.last.flushed))
 MayRemember w by e = ⊥
 
 remembered_quietly : (w : World) (by : ℕ) (e : Event) → MayRemember w by e → IsQuiet e
@@ -62,11 +62,11 @@ remembering w by a e step at live may s =
     let quiet = remembered_quietly w by e may in
     let is : (x : Event) → e ≡ x → MayRemember w by x = λ x q. subst (MayRemember w by) q may in
     all_parts w (set w.actors by b) (tables_of w s) (views_still w by a b at refl s) (past_locked w.actors by a b e at refl refl w.writes.history w.locks s.locks) (record {
-      holders = holders_more w.actors by a b e at refl refl w.opened w.writes.history w.locks (λ key holder seen account q. (is (found key holder seen account) q).0) (λ key holder seen account q. (is (found (Some key) holder seen account) q).1 key refl) s.holders;
+      holders = holders_more w.actors by a b e at refl refl w.opened w.writes.history w.locks (λ key holder seen account q. is (found key holder seen account) q) s.holders;
       board = board_more w.actors by a b e at refl refl (world.published w) w.locks
           (λ label n q. ⊎_elim (λ (r : e ≡ told label n). absurd (is (told label n) r)) (λ (r : e ≡ heard label n). (is (heard label n) r).0) q) (λ label n q. (is (heard label n) q).1) (λ label n q. is (told label n) q) s.board;
-      faults = faults_more w.actors by a b e at refl refl w.writes w.installed.halted quiet (λ n q. is (stopped n) q) (λ n tables due q. (is (found_edit n tables due true) q).2 refl) s.faults;
-      edits = edits_more w.actors by a b e at refl refl w.first_edit w.installed quiet (λ n tables due halted q. let k = is (found_edit n tables due halted) q in (k.0, k.1)) s.edits;
+      faults = faults_more w.actors by a b e at refl refl w.writes w.installed.halted quiet (λ n q. is (stopped n) q) s.faults;
+      edits = edits_more w.actors by a b e at refl refl w.first_edit w.installed quiet (λ n tables due halted q. let k = is (found_edit n tables due halted) q in (k.0, k.1)) (λ n tables due q. (is (found_edit n tables due true) q).2 refl) s.edits;
     }) (turns_still w by a b at refl s)
     (readers_still w by a b at refl s)
     (notes_stay w by a b at step w.holders (SoIn w) refl (λ fact left m. record { guarded = m.guarded; is_so = so_past w a.participant (a.participant.past ++ e ∷ []) fact m.is_so }) (λ j x fact ne there m. m) s)
@@ -89,7 +89,7 @@ pub finds_edit : (w : World) (by : ℕ) (a : Actor) → get_elem? w.actors by �
     → IsSound (done w by (forgets w.writes.history (length w.cache) find_edit a) find_edit)
 finds_edit w by a at n s =
     let e = w.installed in
-    remembering w by a (found_edit e.last.flushed e.last.tables (tables_due w.first_edit a.participant.past) e.halted) find_edit at (holder_lives w by a tables_turn at n s) (s.edits.last, few_found w by a at s, λ q. q) s
+    remembering w by a (found_edit e.last.flushed e.last.tables (tables_due w.first_edit a.participant.past) e.halted) find_edit at (holder_lives w by a tables_turn at n s) (s.edits.last, few_found w by a at s, λ q. (q, refl)) s
 
 pub hears : (w : World) (by : ℕ) (a : Actor) (label : List ℕ) (n : ℕ) → get_elem? w.actors by ≡ some a → Needs w by a (hear label n) → IsSound w
     → IsSound (done w by (forgets w.writes.history (length w.cache) (hear label n) a) (hear label n))
@@ -113,34 +113,35 @@ past_there xs j i o k =
     let p = from_map owner_of (x.0.participant ∷ x.0.joined) i o (ap (λ (z : List Owner). get_elem? z i) x.2 ∙ k.2) in
     (participants_of past_of x.0, at_map (participants_of past_of) xs j x.0 x.1, at_map past_of (x.0.participant ∷ x.0.joined) i p.0 p.1 ∙ ap (λ (z : Owner). some z.past) p.2)
 
-begun_by : (key : Option (List ℕ)) (name : List ℕ) (past : List Event) → Began past name → (e : Event) × Makes e key (Txn name) × IsIn e past
-begun_by key name past (inl k) = (claimed name, refl, k)
-begun_by key name past (inr k) = (took name, refl, k)
-
--- one that has the name claimed or took it, and one that has a direct write of the key locked it
-self_made : (w : World) (j i : ℕ) (o : Owner) (key : Option (List ℕ)) (holder : Holder) → IsSound w → IsParticipantAt (participants owner_of w) j i o → IsSelf o key holder → (e : Event) × Makes e key holder × HasDone (participants past_of w) j i e
-self_made w j i o key (Txn name) s there is =
-    let live = (s.locks.had j i o there).names name is.0 is.1 in
+-- one that has the name claimed or took it
+begun_by : (w : World) (j i : ℕ) (o : Owner) (name : List ℕ) (x : Transaction) → IsSound w → IsParticipantAt (participants owner_of w) j i o → Has o name x → HasBegun (participants past_of w) j i name
+begun_by w j i o name x s there has =
+    let live = (s.locks.had j i o there).names name x has in
     let had = s.locks.names_had name o.client live in
-    let same = s.locks.apart.names j i had.at had.place o had.owner name is.0 had.transaction there had.there is.1 had.has in
-    let made = begun_by key name had.owner.past had.began in (
-      made.0,
-      made.1,
-      subst (λ (n : ℕ). HasDone (participants past_of w) n i made.0) (sym same.0)
-          (subst (λ (n : ℕ). HasDone (participants past_of w) had.at n made.0) (sym same.1) (had.owner.past, past_there w.actors had.at had.place had.owner had.there, made.2)),
-    )
-self_made w j i o (Some key) (Client client) s there is =
-    let held = (s.locks.had j i o there).direct key is.1 in
-    let had = s.locks.keys_direct key o.client held in
+    let same = s.locks.apart.names j i had.at had.place o had.owner name x had.transaction there had.there has had.has in
+    let past = past_there w.actors had.at had.place had.owner had.there in
+    let begun : HasBegun (participants past_of w) had.at had.place name = ⊎_elim (λ (k : IsIn (claimed name) had.owner.past). inl (had.owner.past, past, k)) (λ (k : IsIn (took name) had.owner.past). inr (had.owner.past, past, k)) had.began in
+    subst (λ (n : ℕ). HasBegun (participants past_of w) n i name) (sym same.0) (subst (λ (n : ℕ). HasBegun (participants past_of w) had.at n name) (sym same.1) begun)
+
+-- ... and locked each key that is held for it, or took it with a prepare that has the key; and one that has a direct write of the
+-- key locked it
+self_made : (w : World) (j i : ℕ) (o : Owner) (key : Option (List ℕ)) (holder : Holder) → IsSound w → IsHolder w key holder → IsParticipantAt (participants owner_of w) j i o → IsSelf o key holder → MadeHolder w.writes.history (participants past_of w) j i key holder
+self_made w j i o None (Txn name) s held there is = begun_by w j i o name is.0 s there is.1
+self_made w j i o (Some key) (Txn name) s held there is =
+    let past = past_there w.actors j i o there in
+    ⊎_elim
+    (λ (k : IsIn (locked key (Txn name)) o.past). inl (begun_by w j i o name is.0 s there is.1, (o.past, past, k)))
+    (λ (k : IsIn (took name) o.past × PrepareHas w.writes.history name key). inr ((o.past, past, k.0), k.1))
+    ((s.locks.had j i o there).came name is.0 key is.1 (s.locks.keys_known key name held j i o there is.0 is.1))
+self_made w j i o (Some key) (Client client) s held there is =
+    let its = (s.locks.had j i o there).direct key is.1 in
+    let had = s.locks.keys_direct key o.client its in
     let same = s.locks.apart.direct j i had.at had.place o had.owner key there had.there is.1 had.has in
     let e = locked key (Client client) in
-    let there_too = subst (λ (c : List ℕ). IsIn (locked key (Client c)) had.owner.past) is.0 had.began in (
-      e,
-      (refl, refl),
-      subst (λ (n : ℕ). HasDone (participants past_of w) n i e) (sym same.0)
-          (subst (λ (n : ℕ). HasDone (participants past_of w) had.at n e) (sym same.1) (had.owner.past, past_there w.actors had.at had.place had.owner had.there, there_too)),
-    )
-self_made w j i o None (Client client) s there is = absurd is
+    let there_too = subst (λ (c : List ℕ). IsIn (locked key (Client c)) had.owner.past) is.0 had.began in
+    subst (λ (n : ℕ). HasDone (participants past_of w) n i e) (sym same.0)
+    (subst (λ (n : ℕ). HasDone (participants past_of w) had.at n e) (sym same.1) (had.owner.past, past_there w.actors had.at had.place had.owner had.there, there_too))
+self_made w j i o None (Client client) s held there is = absurd is
 
 -- a key of a name that nobody has is the undecided prepare's
 left_key : (w : World) (key : Option (List ℕ)) (name : List ℕ) (p : ℕ) → finite.get w.locks.names name ≡ Some None → named w.writes.history name ≡ Some p → IsHolder w key (Txn name) → IsSound w → HasKeyAt w.writes.history p key
@@ -148,9 +149,8 @@ left_key w None name p left is held s = tt
 left_key w (Some key) name p left is held s = ap (λ (o : Option ℕ). is_changed (batch_at w.writes.history (unwrap_or o 0)) key) (sym is) ∙ s.locks.keys_left key name left held
 
 accounts : (w : World) (by : ℕ) (a : Actor) (key : Option (List ℕ)) (holder : Holder) (account : Account) → get_elem? w.actors by ≡ some a → IsHolder w key holder → IsSound w → Accounts w by a key holder account → IsAccounted w.writes.history (participants past_of w) by 0 key holder (length a.participant.seen) account
-accounts w by a key holder own at is s k = self_made w by 0 (owner_of a.participant) key holder s (mine owner_of w.actors by a a at refl) k
-accounts w by a key holder another at is s k =
-    let made = self_made w k.at k.place k.participant key holder s k.there k.is in (k.at, k.place, made.0, k.apart, made.1, made.2)
+accounts w by a key holder own at is s k = self_made w by 0 (owner_of a.participant) key holder s is (mine owner_of w.actors by a a at refl) k
+accounts w by a key holder another at is s k = (k.at, k.place, k.apart, self_made w k.at k.place k.participant key holder s is k.there k.is)
 accounts w by a key (Txn name) (prepare_at n) at is s k =
     let seen = s.seen by 0 a.participant.seen (mine seen_of w.actors by a a at refl) in
     let few : length a.participant.seen ≤ length w.writes.history = rw seen.1 (rw (length-append a.participant.seen seen.0) (omega arith)) in
@@ -166,4 +166,4 @@ pub finds_holder : (w : World) (by : ℕ) (a : Actor) (key : Option (List ℕ)) 
     → IsSound (done w by (forgets w.writes.history (length w.cache) (find_holder key holder account) a) (find_holder key holder account))
 finds_holder w by a key holder account at needs s =
     remembering w by a (found key holder (length a.participant.seen) account) (find_holder key holder account) at (holder_lives w by a locks_turn at needs.0 s)
-    (accounts w by a key holder account at needs.1 s needs.2, λ k q. s.holders.keys k holder (subst (λ (z : Option (List ℕ)). IsHolder w z holder) q needs.1)) s
+    (accounts w by a key holder account at needs.1 s needs.2) s

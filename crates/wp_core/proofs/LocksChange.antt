@@ -66,8 +66,8 @@ module _ (w : World) (by : ℕ) (a : Actor) (step : Step) (p : Participant) (t :
     pasts_grown e grown quiet nothing names keys board s = record {
       holders = holders_new w.actors by a actor_after e at refl grown w.opened w.writes.history w.locks t nothing names keys s.holders;
       board = board;
-      faults = faults_more w.actors by a actor_after e at refl grown w.writes w.installed.halted quiet (λ n q. absurd (subst FindsNothing q nothing)) (λ n tables due q. absurd (subst FindsNothing q nothing)) s.faults;
-      edits = edits_more w.actors by a actor_after e at refl grown w.first_edit w.installed quiet (λ n tables due halted q. absurd (subst FindsNothing q nothing)) s.edits;
+      faults = faults_more w.actors by a actor_after e at refl grown w.writes w.installed.halted quiet (λ n q. absurd (subst FindsNothing q nothing)) s.faults;
+      edits = edits_more w.actors by a actor_after e at refl grown w.first_edit w.installed quiet (λ n tables due halted q. absurd (subst FindsNothing q nothing)) (λ n tables due q. absurd (subst FindsNothing q nothing)) s.edits;
     }
 
     -- the board hangs on the labels of a table alone
@@ -89,7 +89,7 @@ module _ (w : World) (by : ℕ) (a : Actor) (step : Step) (p : Participant) (t :
         let k = pasts_still w by a actor_after at (λ i. same i ∷ map past_of a.joined) s in
         let o = k.holders in
         record {
-          holders = record { names = λ name live. o.names name (names name live); keys = λ key holder h. o.keys key holder (keys key holder h); found_keys = o.found_keys; found = o.found };
+          holders = record { names = λ name live. o.names name (names name live); keys = λ key holder h. o.keys key holder (keys key holder h); found = o.found };
           board = same_board actors_after labels k.board;
           faults = k.faults;
           edits = k.edits;

@@ -215,8 +215,8 @@ module _ (opened : List Entry) (cache : List ℕ) (flag : ℕ) (logged : Bool) (
     locks = record {
       prepared_names = is_live;
       prepared_keys = λ p key u changed. locks.keys key ∙ ap (prepare_holding opened) (holder_is opened legal p key u changed);
-      had = λ j i o at. subst (IsOwner t) (one_participant (owner_of (new_participant client opened)) j i o at)
-          record { names = λ name x e. absurd (no_transaction name x e); keys = λ name x key e _. absurd (no_transaction name x e); direct = λ key e. let q : None ≡ Some key = e in absurd (cc) };
+      had = λ j i o at. subst (IsOwner opened t) (one_participant (owner_of (new_participant client opened)) j i o at)
+          record { names = λ name x e. absurd (no_transaction name x e); keys = λ name x key e _. absurd (no_transaction name x e); direct = λ key e. let q : None ≡ Some key = e in absurd (cc); came = λ name x key e _. absurd (no_transaction name x e) };
       apart = record {
         names = λ j i k l o p name x y at _ e _. absurd (no_transaction name x (ap (λ (z : Owner). finite.get z.transactions name) (one_participant (owner_of (new_participant client opened)) j i o at) ∙ e));
         direct = λ j i k l o p key at _ e _. let q : None ≡ Some key = ap (λ (z : Owner). z.direct) (one_participant (owner_of (new_participant client opened)) j i o at) ∙ e in absurd (cc);
@@ -231,7 +231,6 @@ module _ (opened : List Entry) (cache : List ℕ) (flag : ℕ) (logged : Bool) (
     holders = record {
       names = λ name live. inr (was_named name live);
       keys = λ key holder e. inr (sym (locks.keys key) ∙ e);
-      found_keys = λ key holder seen account k. absurd (no_past (found (Some key) holder seen account) k);
       found = λ j i key holder seen account k. absurd (no_past (found key holder seen account) (j, i, k));
     };
     board = record { labels = λ label n e. ⊎_elim (λ k. absurd (no_past (told label n) k)) (λ k. absurd (no_past (heard label n) k)) e; numbers = λ label n e. absurd (none_some _ n (no_label label) e); heard = λ label n k. absurd (no_past (heard label n) k); told = λ label n k. absurd (no_past (told label n) k) };
@@ -241,7 +240,6 @@ module _ (opened : List Entry) (cache : List ℕ) (flag : ℕ) (logged : Bool) (
       not_logged = λ e. inl refl;
       stopped = λ n k. absurd (no_past (stopped n) k);
       failed = λ entries k. absurd (no_past (log_failed entries) k);
-      found_halted = λ n tables due k. absurd (no_past (found_edit n tables due true) k);
     };
     edits = record {
       last = inl refl;
@@ -251,6 +249,7 @@ module _ (opened : List Entry) (cache : List ℕ) (flag : ℕ) (logged : Bool) (
       edit = λ j i past at. inl (ap (last_installed edit) (one_participant [] j i past at));
       tables = λ j i past at. inl (subst (λ (z : List Event). tables_due edit z ≤ edit.tables) (one_participant [] j i past at) (omega arith));
       failed = λ last failing k. absurd (no_past (tables_failed last failing) k);
+      found_halted = λ n tables due k. absurd (no_past (found_edit n tables due true) k);
       none_failed = λ _. refl;
     };
     pending = λ _. refl;

@@ -3,13 +3,19 @@ use Rattle.std.proofs.Common.{◌≡◌, ⊎_elim, inl, inr, ℕ, List, map, set
 use mathlib.Core.Option.{some}
 use lib.ListN.{get_elem?}
 use Rattle.std.specs.FinSet as words
-use Rattle.wp_model.specs.declared.holder.Holder.TheVariants.{Client}
+use Rattle.wp_model.specs.declared.entry.Entry.{Entry}
+use Rattle.wp_model.specs.declared.holder.Holder.TheVariants.{Txn, Client}
 use Rattle.wp_core.specs.Lists.{IsIn}
 use Rattle.wp_core.specs.Views.{Event, claimed, took, locked}
 use Rattle.wp_core.specs.World.{Transaction, Actor}
 use Rattle.wp_core.specs.Sound.Actors.{participants_of, IsParticipantAt, EachParticipant}
-use Rattle.wp_core.specs.Sound.Locks.{Owner, owner_of, Has, Began, IsNameOf, IsDirectOf, AreApart}
+use Rattle.wp_core.specs.Sound.Locks.{Owner, owner_of, Has, Began, IsNameOf, IsDirectOf, CameToKey, AreApart}
 use Rattle.wp_core.proofs.AllParticipants.{still, at_after, who_was, still_apart}
+
+-- how one came to a key stays so as its past grows
+pub came_still : (history : List Entry) (past more : List Event) → ((e : Event) → IsIn e past → IsIn e more) → (name key : List ℕ) → CameToKey history past name key → CameToKey history more name key
+came_still history past more grew name key (inl k) = inl (grew (locked key (Txn name)) k)
+came_still history past more grew name key (inr (k, has)) = inr (grew (took name) k, has)
 
 module _ (xs : List Actor) (by : ℕ) (a b : Actor) (at : get_elem? xs by ≡ some a) (same : b.joined ≡ a.joined) where
   abbrev before : List (List Owner)

@@ -13,7 +13,7 @@ use Rattle.wp_core.specs.World.{Transaction, Actor}
 use Rattle.wp_core.specs.Sound.Actors.{participants_of, IsParticipantAt, EachParticipant}
 use Rattle.wp_core.specs.Sound.Locks.{Owner, owner_of, Has, IsOwner, AreLocked}
 use Rattle.wp_core.proofs.PastsGrow.{in_front}
-use Rattle.wp_core.proofs.OwnerMoves.{owners_apart, name_kept, direct_kept}
+use Rattle.wp_core.proofs.OwnerMoves.{owners_apart, came_still, name_kept, direct_kept}
 use Rattle.wp_core.proofs.AllParticipants.{who_was}
 
 -- the same of names and keys, and a past that grew
@@ -38,11 +38,12 @@ module _ (xs : List Actor) (by : ℕ) (a b : Actor) (at : get_elem? xs by ≡ so
   abbrev after : List (List Owner)
   after = map (participants_of owner_of) (set xs by b)
 
-  owner_still : (t : LockTables) (o p : Owner) → IsSameOwner o p → IsOwner t o → IsOwner t p
-  owner_still t o p q k = record {
+  owner_still : (history : List Entry) (t : LockTables) (o p : Owner) → IsSameOwner o p → IsOwner history t o → IsOwner history t p
+  owner_still history t o p q k = record {
     names = λ name x h. let u = q.had name x h in k.names name u.0 u.1 ∙ ap (λ (c : List ℕ). Some (Some c)) (sym q.client);
     keys = λ name x key h held. let u = q.had name x h in k.keys name u.0 key u.1 (subst (λ (z : set_of.FinSet key_cmp). set_of.contains z key ≡ true) (sym u.2) held);
     direct = λ key h. k.direct key (sym q.direct ∙ h) ∙ ap (λ (c : List ℕ). Some (Client c)) (sym q.client);
+    came = λ name x key h held. let u = q.had name x h in came_still history o.past p.past q.past name key (k.came name u.0 key u.1 (subst (λ (z : set_of.FinSet key_cmp). set_of.contains z key ≡ true) (sym u.2) held));
   }
 
   was_there : (j i : ℕ) (p : Owner) → IsParticipantAt after j i p → (o : Owner) × IsParticipantAt before j i o × IsSameOwner o p
@@ -58,7 +59,7 @@ module _ (xs : List Actor) (by : ℕ) (a b : Actor) (at : get_elem? xs by ≡ so
   locked_still history t k = record {
     prepared_names = k.prepared_names;
     prepared_keys = k.prepared_keys;
-    had = λ j i p there. let o = was_there j i p there in owner_still t o.0 p o.2 (k.had j i o.0 o.1);
+    had = λ j i p there. let o = was_there j i p there in owner_still history t o.0 p o.2 (k.had j i o.0 o.1);
     apart = owners_apart xs by a b at same (λ name x h. let y = is.had name x h in inl (y.0, y.1)) (λ key h. inl (sym is.direct ∙ h)) k.apart;
     names_had = λ name client h. name_kept xs by a b at same is.client is.past name client (λ y q. let x = is.has name y q in (x.0, x.1)) (k.names_had name client h);
     names_left = k.names_left;

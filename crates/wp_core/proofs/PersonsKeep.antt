@@ -15,12 +15,12 @@ use Rattle.wp_core.specs.Lists.{IsIn, one_if, total}
 use Rattle.wp_core.specs.Tables.{WriteTable, Installed}
 use Rattle.wp_model.specs.Flushed.{InstalledEdit}
 use Rattle.wp_core.specs.Reading.{Registration}
-use Rattle.wp_core.specs.Views.{Account, own, another, prepare_at, Event, installed, found_edit, found}
+use Rattle.wp_core.specs.Views.{Account, own, another, prepare_at, Event, claimed, took, locked, installed, found_edit, found}
 use Rattle.wp_core.specs.World.{Actor, Participant, Transaction}
 use Rattle.wp_core.specs.Sound.Actors.{participants_of, IsParticipantAt, StartsWith, seen_of, own_of, times, AreSeen, AreOwned, EachParticipant}
 use Rattle.wp_core.specs.Sound.Snapshots.{registered_of, AreBelowCommitted, AreRegistered, view_of, HasSeen}
 use Rattle.wp_core.specs.Sound.Locks.{Owner, owner_of, Has, IsOwner, AreLocked}
-use Rattle.wp_core.specs.Sound.Pasts.{past_of, HasDone, IsPast, IsAccounted, WasLocked, AreHolders, IsBoard, is_log_fault, is_tables_fault, AreFaults, WasInstalled, due_after, tables_due, last_after, last_installed, OtherDid, OtherInstalls, OtherCompacts, AreEdits}
+use Rattle.wp_core.specs.Sound.Pasts.{past_of, HasDone, IsPast, HasBegun, MadeHolder, IsAccounted, WasLocked, AreHolders, IsBoard, is_log_fault, is_tables_fault, AreFaults, WasInstalled, due_after, tables_due, last_after, last_installed, OtherDid, OtherInstalls, OtherCompacts, AreEdits}
 use Rattle.wp_core.proofs.PastsGrow.{at_place}
 use Rattle.wp_core.proofs.Persons.{IsNone, Moves, same_there, apart_still, CameWith, IsOfNone, came_from, goes_to, total_same}
 
@@ -37,11 +37,12 @@ none_has p name x none h =
 none_direct : (p : Participant) (key : List ℕ) → IsNone p → p.direct ≡ Some key → ⊥
 none_direct p key none h = let q : None ≡ Some key = sym (ap (λ (z : Participant). z.direct) none) ∙ h in absurd (cc)
 
-none_owner : (t : LockTables) (p : Participant) → IsNone p → IsOwner t (owner_of p)
-none_owner t p none = record {
+none_owner : (history : List Entry) (t : LockTables) (p : Participant) → IsNone p → IsOwner history t (owner_of p)
+none_owner history t p none = record {
   names = λ name x h. absurd (none_has p name x none h);
   keys = λ name x key h held. absurd (none_has p name x none h);
   direct = λ key h. absurd (none_direct p key none h);
+  came = λ name x key h held. absurd (none_has p name x none h);
 }
 
 -- ---- the tables that are due
@@ -142,7 +143,7 @@ module _ (row place : ℕ → ℕ → ℕ) (history : List Entry) (xs ys : List 
     prepared_keys = k.prepared_keys;
     had = λ j i o there. ⊎_elim
         (λ (c : CameOwner j i o). k.had c.at c.at_place o c.there)
-        (λ (n : NoneOwner o). subst (IsOwner t) n.0.has (none_owner t n.0.person n.0.none))
+        (λ (n : NoneOwner o). subst (IsOwner history t) n.0.has (none_owner history t n.0.person n.0.none))
         (came_from row place history xs ys m owner_of j i o there);
     apart = record {
       names = λ j i l n o p name x y here there first second.
@@ -204,9 +205,20 @@ module _ (row place : ℕ → ℕ → ℕ) (history : List Entry) (xs ys : List 
   pub past_was : (e : Event) → IsPast (pasts ys) e → IsPast (pasts xs) e
   past_was e (j, i, k) = let o = done_was j i e k in (o.at, o.at_place, o.done)
 
+  begun_moved : (j i : ℕ) (name : List ℕ) → HasBegun (pasts xs) j i name → HasBegun (pasts ys) (row j i) (place j i) name
+  begun_moved j i name (inl k) = inl (done_moved j i (claimed name) k)
+  begun_moved j i name (inr k) = inr (done_moved j i (took name) k)
+
+  made_moved : (j i : ℕ) (key : Option (List ℕ)) (holder : Holder) → MadeHolder history (pasts xs) j i key holder → MadeHolder history (pasts ys) (row j i) (place j i) key holder
+  made_moved j i None (Txn name) k = begun_moved j i name k
+  made_moved j i (Some key) (Txn name) (inl (begun, k)) = inl (begun_moved j i name begun, done_moved j i (locked key (Txn name)) k)
+  made_moved j i (Some key) (Txn name) (inr (k, has)) = inr (done_moved j i (took name) k, has)
+  made_moved j i (Some key) (Client client) k = done_moved j i (locked key (Client client)) k
+  made_moved j i None (Client client) none = absurd none
+
   accounted_moved : (j i : ℕ) (key : Option (List ℕ)) (holder : Holder) (seen : ℕ) (account : Account) → IsAccounted history (pasts xs) j i key holder seen account → IsAccounted history (pasts ys) (row j i) (place j i) key holder seen account
-  accounted_moved j i key holder seen own (e, makes, k) = (e, makes, done_moved j i e k)
-  accounted_moved j i key holder seen another (l, n, e, apart, makes, k) = (row l n, place l n, e, apart_still row place history xs ys m j i l n apart, makes, done_moved l n e k)
+  accounted_moved j i key holder seen own k = made_moved j i key holder k
+  accounted_moved j i key holder seen another (l, n, apart, k) = (row l n, place l n, apart_still row place history xs ys m j i l n apart, made_moved l n key holder k)
   accounted_moved j i key (Txn name) seen (prepare_at n) k = k
   accounted_moved j i key (Client name) seen (prepare_at n) k = k
 
@@ -220,7 +232,6 @@ module _ (row place : ℕ → ℕ → ℕ) (history : List Entry) (xs ys : List 
         (λ c. inl (⊎_elim (λ p. inl (past_moved _ p)) (λ p. inr (past_moved _ p)) c))
         (λ c. inr c) (k.names name h);
     keys = λ key holder h. key_moved opened key holder (k.keys key holder h);
-    found_keys = λ key holder seen account h. key_moved opened key holder (k.found_keys key holder seen account (past_was _ h));
     found = λ j i key holder seen account h.
         let o = done_was j i (found key holder seen account) h in
         let is = accounted_moved o.at o.at_place key holder seen account (k.found o.at o.at_place key holder seen account o.done) in
@@ -242,7 +253,6 @@ module _ (row place : ℕ → ℕ → ℕ) (history : List Entry) (xs ys : List 
     not_logged = k.not_logged;
     stopped = λ n h. k.stopped n (past_was _ h);
     failed = λ entries h. k.failed entries (past_was _ h);
-    found_halted = λ n tables due h. k.found_halted n tables due (past_was _ h);
   }
 
   installed_moved : (first : InstalledEdit) (n : ℕ) → WasInstalled first (pasts xs) n → WasInstalled first (pasts ys) n
@@ -330,5 +340,6 @@ module _ (row place : ℕ → ℕ → ℕ) (history : List Entry) (xs ys : List 
         (tables_else by a first t mine k j i (subst (IsParticipantAt (pasts ys) j i) empty there)))
         (came_from row place history xs ys m past_of j i past there);
     failed = λ last edit h. k.failed last edit (past_was _ h);
+    found_halted = λ n tables due h. k.found_halted n tables due (past_was _ h);
     none_failed = k.none_failed;
   }

@@ -1,5 +1,5 @@
 -- Changes of the prepared tables keep a world sound.
-use Rattle.std.proofs.Common.{◌≡◌, ◌≢◌, ◌⊎◌, inl, inr, ⊎_elim, ℕ, suc, ◌||◌, Bool, true, false, true≢false, length, slice_index, refl, sym, subst, ap, ◌∙◌, Some, None, arith}
+use Rattle.std.proofs.Common.{◌≡◌, ◌≢◌, ◌⊎◌, inl, inr, ⊎_elim, ℕ, suc, ◌||◌, true, false, true≢false, length, slice_index, refl, sym, subst, ap, ◌∙◌, Some, None, arith}
 use mathlib.Core.Option.{some}
 use mathlib.Core.Logic.{dite}
 use native.Mathlib.Decide.{ℕ_discrete}
@@ -42,11 +42,6 @@ clearing_decided w place pair why s k =
     let ordered = pair_ordered (slice_index w.cache place) pair k.there in
     let published = k.published_by in let low = ordered.1 in
     extended_was w.writes.history w.writes.pending pair.number pair.decision (omega arith) published at.decided
-
-pub in_either : (a b : Bool) → (a ≡ true) ⊎ (b ≡ true) → (a || b) ≡ true
-in_either true b k = refl
-in_either false b (inl e) = absurd (true≢false (sym e))
-in_either false b (inr e) = e
 
 -- ---- a decided number leaves
 

@@ -1,5 +1,5 @@
 -- What is so of all pasts, once one actor's past has an event more that installs nothing and is no fault.
-use Rattle.std.proofs.Common.{◌≡◌, ◌⊎◌, ⊎_elim, inl, inr, ℕ, ◌≤◌, ◌<◌, Bool, true, false, true≢false, List, [], ◌∷◌, ◌++◌, length, map, set, sym, subst, ap, ◌∙◌, arith, Option, is_some, Some, None, ◌≢◌}
+use Rattle.std.proofs.Common.{◌≡◌, ◌⊎◌, ⊎_elim, inl, inr, ℕ, ◌≤◌, ◌<◌, Bool, true, false, true≢false, List, [], ◌∷◌, ◌++◌, length, map, set, refl, sym, subst, ap, ◌∙◌, arith, Option, is_some, Some, None, ◌≢◌}
 use Rattle.std.proofs.lemmas.List.Sums.{fold-append}
 use mathlib.Core.Option.{some}
 use lib.ListN.{get_elem?}
@@ -13,7 +13,7 @@ use Rattle.wp_model.specs.Flushed.{InstalledEdit}
 use Rattle.wp_core.specs.Views.{Account, own, another, prepare_at, Event, claimed, took, locked, told, heard, installed, log_failed, tables_failed, stopped, found_edit, found}
 use Rattle.wp_core.specs.World.{Actor}
 use Rattle.wp_core.specs.Sound.Actors.{participants_of, IsParticipantAt}
-use Rattle.wp_core.specs.Sound.Pasts.{past_of, HasDone, IsPast, IsAccounted, WasLocked, AreHolders, IsBoard, is_log_fault, is_tables_fault, AreFaults, WasInstalled, due_after, tables_due, last_after, last_installed, OtherDid, OtherInstalls, OtherCompacts, AreEdits}
+use Rattle.wp_core.specs.Sound.Pasts.{past_of, HasDone, IsPast, HasBegun, MadeHolder, IsAccounted, WasLocked, AreHolders, IsBoard, is_log_fault, is_tables_fault, AreFaults, WasInstalled, due_after, tables_due, last_after, last_installed, OtherDid, OtherInstalls, OtherCompacts, AreEdits}
 use Rattle.wp_core.proofs.AllParticipants.{mine, was_apart}
 use Rattle.wp_core.proofs.PastsGrow.{at_place, done_still, done_before, past_still, past_last, past_before, times_more}
 
@@ -44,9 +44,20 @@ module _ (xs : List Actor) (by : ℕ) (a b : Actor) (e : Event) (at : get_elem? 
   abbrev after : List (List (List Event))
   after = map (participants_of past_of) (set xs by b)
 
+  begun_still : (j i : ℕ) (name : List ℕ) → HasBegun before j i name → HasBegun after j i name
+  begun_still j i name (inl k) = inl (done_still xs by a b e at same grown j i (claimed name) k)
+  begun_still j i name (inr k) = inr (done_still xs by a b e at same grown j i (took name) k)
+
+  made_still : (history : List Entry) (j i : ℕ) (key : Option (List ℕ)) (holder : Holder) → MadeHolder history before j i key holder → MadeHolder history after j i key holder
+  made_still history j i None (Txn name) k = begun_still j i name k
+  made_still history j i (Some key) (Txn name) (inl (begun, k)) = inl (begun_still j i name begun, done_still xs by a b e at same grown j i (locked key (Txn name)) k)
+  made_still history j i (Some key) (Txn name) (inr (k, has)) = inr (done_still xs by a b e at same grown j i (took name) k, has)
+  made_still history j i (Some key) (Client client) k = done_still xs by a b e at same grown j i (locked key (Client client)) k
+  made_still history j i None (Client client) none = absurd none
+
   accounted_still : (history : List Entry) (j i : ℕ) (key : Option (List ℕ)) (holder : Holder) (seen : ℕ) (account : Account) → IsAccounted history before j i key holder seen account → IsAccounted history after j i key holder seen account
-  accounted_still history j i key holder seen own (x, makes, k) = (x, makes, done_still xs by a b e at same grown j i x k)
-  accounted_still history j i key holder seen another (l, m, x, apart, makes, k) = (l, m, x, apart, makes, done_still xs by a b e at same grown l m x k)
+  accounted_still history j i key holder seen own k = made_still history j i key holder k
+  accounted_still history j i key holder seen another (l, m, apart, k) = (l, m, apart, made_still history l m key holder k)
   accounted_still history j i key (Txn name) seen (prepare_at n) k = k
   accounted_still history j i key (Client name) seen (prepare_at n) k = k
 
@@ -55,14 +66,12 @@ module _ (xs : List Actor) (by : ℕ) (a b : Actor) (e : Event) (at : get_elem? 
   key_still opened key holder (inr k) = inr k
 
   pub holders_more : (opened history : List Entry) (t : LockTables) → ((key : Option (List ℕ)) (holder : Holder) (seen : ℕ) (account : Account) → e ≡ found key holder seen account → IsAccounted history before by 0 key holder seen account)
-      → ((key : List ℕ) (holder : Holder) (seen : ℕ) (account : Account) → e ≡ found (Some key) holder seen account → WasLocked opened before key holder)
       → AreHolders opened history t before → AreHolders opened history t after
-  holders_more opened history t new new_key k = record {
+  holders_more opened history t new k = record {
     names = λ name h. ⊎_elim
         (λ c. inl (⊎_elim (λ p. inl (past_still xs by a b e at same grown _ p)) (λ p. inr (past_still xs by a b e at same grown _ p)) c))
         (λ c. inr c) (k.names name h);
     keys = λ key holder h. key_still opened key holder (k.keys key holder h);
-    found_keys = λ key holder seen account h. ⊎_elim (λ c. key_still opened key holder (k.found_keys key holder seen account c)) (λ c. key_still opened key holder (new_key key holder seen account c)) (past_before xs by a b e at same grown (found (Some key) holder seen account) h);
     found = λ j i key holder seen account h. ⊎_elim
         (λ c. accounted_still history j i key holder seen account (k.found j i key holder seen account c))
         (λ (c : (j ≡ by) × (i ≡ 0) × (e ≡ found key holder seen account)).
@@ -77,13 +86,12 @@ module _ (xs : List Actor) (by : ℕ) (a b : Actor) (e : Event) (at : get_elem? 
       → ((key : List ℕ) (holder : Holder) → finite.get u.keys key ≡ Some holder → (e ≡ locked key holder) ⊎ (finite.get t.keys key ≡ Some holder))
       → AreHolders opened history t before → AreHolders opened history u after
   holders_new opened history t u nothing names keys s =
-      let k = holders_more opened history t (λ key holder seen account q. absurd (subst FindsNothing q nothing)) (λ key holder seen account q. absurd (subst FindsNothing q nothing)) s in
+      let k = holders_more opened history t (λ key holder seen account q. absurd (subst FindsNothing q nothing)) s in
       record {
         names = λ name live. ⊎_elim
             (λ c. inl (⊎_elim (λ q. inl (subst (IsPast after) q (past_last xs by a b e at same grown))) (λ q. inr (subst (IsPast after) q (past_last xs by a b e at same grown))) c))
             (λ c. k.names name c) (names name live);
         keys = λ key holder h. ⊎_elim (λ q. inl (subst (IsPast after) q (past_last xs by a b e at same grown))) (λ c. k.keys key holder c) (keys key holder h);
-        found_keys = k.found_keys;
         found = k.found;
       }
 
@@ -105,14 +113,13 @@ module _ (xs : List Actor) (by : ℕ) (a b : Actor) (e : Event) (at : get_elem? 
   board_still published t nothing k = board_more published t (λ label n q. absurd (⊎_elim (λ (r : e ≡ told label n). subst TellsNothing r nothing) (λ (r : e ≡ heard label n). subst TellsNothing r nothing) q)) (λ label n q. absurd (subst TellsNothing q nothing)) (λ label n q. subst TellsNothing q nothing) k
 
   pub faults_more : (writes : WriteTable) (halted : Bool) → IsQuiet e → ((n : ℕ) → e ≡ stopped n → (writes.closed ≡ true) × (n ≡ length writes.history))
-      → ((n tables due : ℕ) → e ≡ found_edit n tables due true → halted ≡ true) → AreFaults writes halted before → AreFaults writes halted after
-  faults_more writes halted quiet new new_edit k = record {
+      → AreFaults writes halted before → AreFaults writes halted after
+  faults_more writes halted quiet new k = record {
     log = times_more xs by a b e at same grown is_log_fault ∙ rw quiet.log (let z = k.log in omega (arith, z));
     tables = times_more xs by a b e at same grown is_tables_fault ∙ rw quiet.tables (let z = k.tables in omega (arith, z));
     not_logged = k.not_logged;
     stopped = λ n h. ⊎_elim (λ c. k.stopped n c) (λ c. new n c) (past_before xs by a b e at same grown (stopped n) h);
     failed = λ entries h. ⊎_elim (λ c. k.failed entries c) (λ (q : e ≡ log_failed entries). absurd (true≢false (sym (ap is_log_fault q) ∙ quiet.log))) (past_before xs by a b e at same grown (log_failed entries) h);
-    found_halted = λ n tables due h. ⊎_elim (λ c. k.found_halted n tables due c) (λ c. new_edit n tables due c) (past_before xs by a b e at same grown (found_edit n tables due true) h);
   }
 
   pub installed_still : (first : InstalledEdit) (n : ℕ) → WasInstalled first before n → WasInstalled first after n
@@ -149,6 +156,8 @@ module _ (xs : List Actor) (by : ℕ) (a b : Actor) (e : Event) (at : get_elem? 
     pub its_tables : tables_due first a.participant.past ≤ t.last.tables → tables_due first b.participant.past ≤ u.last.tables
     pub their_tables : (j i : ℕ) (past : List Event) → (j ≢ by) ⊎ (i ≢ 0) → tables_due first past ≤ t.last.tables → (tables_due first past ≤ u.last.tables) ⊎ OtherCompacts after j i
     pub failed : (last : InstalledEdit) (edit : Option InstalledEdit) → IsPast after (tables_failed last edit) → (u.halted ≡ true) × (u.last ≡ last) × (u.failed ≡ edit)
+    pub stays : t.halted ≡ true → (u.halted ≡ true) × (u.last ≡ t.last)
+    pub found_halted : (n tables due : ℕ) → e ≡ found_edit n tables due true → (u.halted ≡ true) × (n ≡ u.last.flushed)
     pub none_failed : u.halted ≡ false → u.failed ≡ None
 
   few_more : (first : InstalledEdit) (t : Installed) → AreFound first → AreEdits first t before → (j i n tables due : ℕ) (halted : Bool) → HasDone after j i (found_edit n tables due halted) → tables < due → OtherCompacts after j i
@@ -195,13 +204,17 @@ module _ (xs : List Actor) (by : ℕ) (a b : Actor) (e : Event) (at : get_elem? 
         (k.tables j i past c.1))
         (was_apart past_of xs by a b at same j i past there);
     failed = g.failed;
+    found_halted = λ n tables due h. ⊎_elim
+        (λ (c : IsPast before (found_edit n tables due true)). let was = k.found_halted n tables due c in let stays = g.stays was.0 in (stays.0, was.1 ∙ ap (λ (edit : InstalledEdit). edit.flushed) (sym stays.1)))
+        (λ (q : e ≡ found_edit n tables due true). g.found_halted n tables due q)
+        (past_before xs by a b e at same grown (found_edit n tables due true) h);
     none_failed = g.none_failed;
   }
 
   -- the same where the event installs nothing and is no fault of the tables' devices
   pub edits_still : (first : InstalledEdit) (t : Installed) → ((n : ℕ) → due_after n e ≡ n) → ((edit : InstalledEdit) → last_after edit e ≡ edit) → is_tables_fault e ≡ false → AreFound first
-      → AreEdits first t before → AreEdits first t after
-  edits_still first t due last working is_so k = edits_grown first t t record {
+      → ((n tables due : ℕ) → e ≡ found_edit n tables due true → (t.halted ≡ true) × (n ≡ t.last.flushed)) → AreEdits first t before → AreEdits first t after
+  edits_still first t due last working is_so halted_so k = edits_grown first t t record {
     last = installed_still first t.last.flushed k.last;
     rises = omega arith;
     new = λ edit q. let d : 1 ≡ 0 = subst (λ (x : Event). due_after 0 x ≡ 0) q (due 0) in absurd cc;
@@ -211,8 +224,10 @@ module _ (xs : List Actor) (by : ℕ) (a b : Actor) (e : Event) (at : get_elem? 
     its_tables = λ le. subst (λ (n : ℕ). n ≤ t.last.tables) (sym (due_same first due)) le;
     their_tables = λ j i past elsewhere le. inl le;
     failed = λ last edit h. ⊎_elim (λ c. k.failed last edit c) (λ (q : e ≡ tables_failed last edit). absurd (true≢false (sym (ap is_tables_fault q) ∙ working))) (past_before xs by a b e at same grown (tables_failed last edit) h);
+    stays = λ halted. (halted, refl);
+    found_halted = halted_so;
     none_failed = k.none_failed;
   } k
 
-  pub edits_more : (first : InstalledEdit) (t : Installed) → IsQuiet e → AreFound first → AreEdits first t before → AreEdits first t after
-  edits_more first t quiet is_so k = edits_still first t quiet.due quiet.last quiet.tables is_so k
+  pub edits_more : (first : InstalledEdit) (t : Installed) → IsQuiet e → AreFound first → ((n tables due : ℕ) → e ≡ found_edit n tables due true → (t.halted ≡ true) × (n ≡ t.last.flushed)) → AreEdits first t before → AreEdits first t after
+  edits_more first t quiet is_so halted_so k = edits_still first t quiet.due quiet.last quiet.tables is_so halted_so k

@@ -44,18 +44,19 @@ module _ (xs : List Actor) (by : ℕ) (a b : Actor) (at : get_elem? xs by ≡ so
   none_writes : (o : Owner) (key : List ℕ) → o ≡ owner_of b.participant → o.direct ≡ Some key → ⊥
   none_writes o key e h = no_direct b.participant.transactions b.participant.direct key after_none (subst (λ (z : Owner). z.direct ≡ Some key) e h)
 
-  none_owner : (t : LockTables) → IsOwner t (owner_of b.participant)
-  none_owner t = record {
+  none_owner : (history : List Entry) (t : LockTables) → IsOwner history t (owner_of b.participant)
+  none_owner history t = record {
     names = λ name x h. absurd (none_now (owner_of b.participant) name x refl h);
     keys = λ name x key h held. absurd (none_now (owner_of b.participant) name x refl h);
     direct = λ key h. absurd (none_writes (owner_of b.participant) key refl h);
+    came = λ name x key h held. absurd (none_now (owner_of b.participant) name x refl h);
   }
 
   pub locked_none : (history : List Entry) (t : LockTables) → AreLocked history t before → AreLocked history t after
   locked_none history t k = record {
     prepared_names = k.prepared_names;
     prepared_keys = k.prepared_keys;
-    had = each_apart owner_of xs by a b at same (IsOwner t) (none_owner t) (λ j i o elsewhere there. k.had j i o there);
+    had = each_apart owner_of xs by a b at same (IsOwner history t) (none_owner history t) (λ j i o elsewhere there. k.had j i o there);
     apart = owners_apart xs by a b at same (λ name x h. absurd (none_now (owner_of b.participant) name x refl h)) (λ key h. absurd (none_writes (owner_of b.participant) key refl h)) k.apart;
     names_had = λ name client h.
         let o = k.names_had name client h in

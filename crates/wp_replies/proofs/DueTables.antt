@@ -46,7 +46,7 @@ on_tables {client = client} {c = c} {answer = answer} s made free due_is unlogge
   where
     by_halted : (r : Reply) → r ≡ unless_halted (store_in s) made → RowOf s r
     by_halted r is = elim (cases_Bool s.given.devices.halted) [
-      | inl failed ↦ let answered : r ≡ reply.Halted s.given.devices.installed.flushed = rw failed at is in subst (RowOf s) (sym answered) (halted (s.given.known.flushed, s.given.known.halted failed))
+      | inl failed ↦ let answered : r ≡ reply.Halted s.given.devices.installed.flushed = rw failed at is in subst (RowOf s) (sym answered) (halted (s.given.known.halted failed))
       | inr runs ↦ let answered : r ≡ made = rw runs at is in subst (RowOf s) (sym answered) row
     ]
 

@@ -10,7 +10,7 @@ use Rattle.wp_text.specs.declared.reply.Reply.{Reply}
 use Rattle.wp_replies.specs.Client.{new_client}
 use Rattle.wp_replies.specs.Kind.{acknowledged, is_fault, is_stopped, is_flushed, is_installed, is_tables_fault, is_halted}
 use Rattle.wp_replies.specs.Session.{IsSession}
-use Rattle.wp_replies.specs.Replies.{Failed, Evidence}
+use Rattle.wp_replies.specs.Replies.{Untaken, Evidence}
 use Rattle.wp_replies.specs.Known.{StoredState, Dialogue, evidence_of, known_at_first}
 
 -- how often the log failed under a command, and the tables did
@@ -32,7 +32,7 @@ dialogues (part ∷ parts) (answers ∷ others) = dialogue part answers ∷ dial
 dialogues parts sessions = []
 
 -- what a client's replies are judged by, with the dialogues of the clients before it and after it
-abbrev pub judged_by : (left : StoredState) → ℕ → Failed → (found : StoredState) → List Dialogue → Dialogue → List Dialogue → Evidence
+abbrev pub judged_by : (left : StoredState) → ℕ → Untaken → (found : StoredState) → List Dialogue → Dialogue → List Dialogue → Evidence
 judged_by left limit failed found before own others = evidence_of left limit failed found (before ++ own ∷ others) (before ++ others)
 
 -- ---- what was answered of a script
@@ -50,7 +50,7 @@ AreFirstParts (part ∷ parts) (first ∷ firsts) = IsFirstPart part first × Ar
 
 -- Each part has one session, which begins with what was found, of those of its commands that have run. The dialogues before them
 -- come first. A session is judged by the whole parts: where memory was wanting for a command, others may have met it.
-abbrev pub AreSessions : (left : StoredState) → ℕ → Failed → (found : StoredState) → List Dialogue → (script run : List Part) → List (List Reply) → Type 0
+abbrev pub AreSessions : (left : StoredState) → ℕ → Untaken → (found : StoredState) → List Dialogue → (script run : List Part) → List (List Reply) → Type 0
 AreSessions left limit failed found before [] [] [] = Unit {0}
 AreSessions left limit failed found before (part ∷ parts) (first ∷ firsts) (answers ∷ others) =
     IsSession (judged_by left limit failed found before (dialogue part answers) (dialogues parts others)) (known_at_first found) new_client first.commands answers
@@ -68,7 +68,7 @@ pub record IsLastEdit (found left : InstalledEdit) (answers : List Reply) : Type
 -- The replies are explained by the history that is left, which begins with the one that was found, by the last edit, and by
 -- what the devices failed to take, which the commands of these replies asked for. So many replies tell a fault of the log, and of
 -- the tables. Each part of the script has one session, of the commands in its place of those that ran.
-pub record Explains (limit : ℕ) (faults : Faults) (script run : List Part) (found left : StoredState) (failed : Failed) (sessions : List (List Reply)) : Type 0 where
+pub record Explains (limit : ℕ) (faults : Faults) (script run : List Part) (found left : StoredState) (failed : Untaken) (sessions : List (List Reply)) : Type 0 where
   pub legal : IsLegal left.history
   pub begins : (added : List Entry) × (left.history ≡ found.history ++ added)
   pub answered : AreSessions left limit failed found [] script run sessions

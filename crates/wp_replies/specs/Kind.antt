@@ -9,11 +9,11 @@ pub data Kind : Type 0 where
   Logged : ℕ → Kind  -- it acknowledges the entry with this number
   RolledBack : ℕ → Kind  -- it acknowledges an Undo, and its Close, which has this number
   Published : ℕ → Kind  -- it was given over so many entries
-  Failed : Kind  -- the log failed
+  LogFault : Kind  -- the log failed
   Stopped : Kind  -- the log had failed before
   Flushed : ℕ → Kind  -- one table more was installed, and this is the flushed number from then on
   Compacted : ℕ → ℕ → Kind  -- over so many entries all tables were merged, and so many versions are left
-  TablesFailed : Kind  -- the manifest's device or the tables' failed
+  TablesFault : Kind  -- the manifest's device or the tables' failed
   Halted : Kind  -- one of them had failed before
   Plain : Kind  -- it speaks of no entry
 
@@ -29,11 +29,11 @@ kind (reply.Snapped n) = Published n
 kind (reply.Unknown name n) = Published n
 kind (reply.Told n) = Published n
 kind (reply.Heard n) = Published n
-kind reply.FaultLog = Failed
+kind reply.FaultLog = LogFault
 kind (reply.Stopped n) = Stopped
 kind (reply.Flushed n versions) = Flushed n
 kind (reply.Compacted n versions) = Compacted n versions
-kind reply.FaultTables = TablesFailed
+kind reply.FaultTables = TablesFault
 kind (reply.Halted flushed) = Halted
 kind other = Plain
 
@@ -55,13 +55,13 @@ says_logged other = false
 abbrev pub is_logged : Reply → Bool
 is_logged answer = says_logged (kind answer)
 
-abbrev pub says_failed : Kind → Bool
-says_failed Failed = true
-says_failed other = false
+abbrev pub says_log_fault : Kind → Bool
+says_log_fault LogFault = true
+says_log_fault other = false
 
 -- the log failed at its command
 abbrev pub is_fault : Reply → Bool
-is_fault answer = says_failed (kind answer)
+is_fault answer = says_log_fault (kind answer)
 
 abbrev pub says_stopped : Kind → Bool
 says_stopped Stopped = true
@@ -96,13 +96,13 @@ says_compacted other = false
 abbrev pub is_compacted : Reply → Bool
 is_compacted answer = says_compacted (kind answer)
 
-abbrev pub says_tables_failed : Kind → Bool
-says_tables_failed TablesFailed = true
-says_tables_failed other = false
+abbrev pub says_tables_fault : Kind → Bool
+says_tables_fault TablesFault = true
+says_tables_fault other = false
 
 -- the manifest's device or the tables' failed at its command
 abbrev pub is_tables_fault : Reply → Bool
-is_tables_fault answer = says_tables_failed (kind answer)
+is_tables_fault answer = says_tables_fault (kind answer)
 
 abbrev pub says_halted : Kind → Bool
 says_halted Halted = true

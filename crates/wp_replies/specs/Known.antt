@@ -4,7 +4,6 @@ use Rattle.std.specs.List.{filter, flat_map, list_any}
 use Rattle.std.specs.Str.{bytes_eq}
 use Rattle.wp_model.specs.declared.entry.Entry.{Entry}
 use Rattle.wp_model.specs.Flushed.{InstalledEdit}
-use Rattle.wp_model.specs.History.{batch_at, is_changed, named}
 use Rattle.wp_text.specs.declared.script.Command.{Command}
 use Rattle.wp_text.specs.declared.script.Command.TheVariants as command
 use Rattle.wp_text.specs.declared.script.Part.{Part}
@@ -16,7 +15,7 @@ use Rattle.wp_replies.specs.Client.{Client, new_client}
 use Rattle.wp_replies.specs.After.{after_reply}
 use Rattle.wp_replies.specs.Kind.{is_fault, is_flushed, is_compacted, is_tables_fault}
 use Rattle.wp_replies.specs.Progress.{Progress}
-use Rattle.wp_replies.specs.Replies.{Claim, HasName, HasKey, WritesKey, WasTold, LogFailed, WasFlushed, TablesFailed, OtherCompacted, Failed, Evidence}
+use Rattle.wp_replies.specs.Replies.{Claim, HasName, HasTaken, HasKey, WritesKey, WasTold, LogFailed, WasFlushed, TablesFailed, OtherCompacted, Untaken, Evidence}
 
 -- what a store has on its devices: a history, and the last edit of the tables
 pub record StoredState : Type 0 where
@@ -55,6 +54,11 @@ gets_name name txn (command.Begin other) (Some reply.Begun) = bytes_eq other nam
 gets_name name txn (command.Take other) (Some reply.Took) = bytes_eq other name
 gets_name name txn command answer = false
 
+-- it was answered `took` for the name
+abbrev pub takes_name : List ℕ → Txn → Command → Option Reply → Bool
+takes_name name txn (command.Take other) (Some reply.Took) = bytes_eq other name
+takes_name name txn command answer = false
+
 -- it puts or deletes the key
 abbrev pub changes_key : List ℕ → Command → Bool
 changes_key key (command.Put other value) = bytes_eq other key
@@ -79,16 +83,12 @@ tells label n txn command answer = false
 
 -- ---- claims
 
--- the undecided prepare, where there is one, has the key
-abbrev pub prepare_has : List Entry → Option ℕ → List ℕ → Bool
-prepare_has history None key = false
-prepare_has history (Some p) key = is_changed (batch_at history p) key
-
 -- The claim is said by the history, by what the store was opened with, by the dialogues of all clients, or by those of the
 -- other clients.
 abbrev pub is_said : List Entry → StoredState → List Dialogue → List Dialogue → Claim → Bool
 is_said history found all others (HasName name) = one_comes_to (gets_name name) others
-is_said history found all others (HasKey name key) = prepare_has found.history (named found.history name) key || one_comes_to (stages_key name key) all
+is_said history found all others (HasTaken name) = one_comes_to (takes_name name) others
+is_said history found all others (HasKey name key) = one_comes_to (stages_key name key) others
 is_said history found all others (WritesKey name key) = one_comes_to (writes_key key) (filter (λ d. bytes_eq d.part.client name) others)
 is_said history found all others (WasTold label n) = one_comes_to (tells label n) all
 is_said history found all others (LogFailed n) = (n == length history) && list_any is_fault (answers_in all)
@@ -97,5 +97,5 @@ is_said history found all others TablesFailed = list_any is_tables_fault (answer
 is_said history found all others OtherCompacted = list_any is_compacted (answers_in others)
 
 -- what a client's replies are judged by: what is left, what was found, the dialogues of all clients, and those of the others
-abbrev pub evidence_of : (left : StoredState) → ℕ → Failed → (found : StoredState) → List Dialogue → List Dialogue → Evidence
+abbrev pub evidence_of : (left : StoredState) → ℕ → Untaken → (found : StoredState) → List Dialogue → List Dialogue → Evidence
 evidence_of left limit failed found all others = record { history = left.history; installed = left.edit; limit = limit; failed = failed; known = is_said left.history found all others }

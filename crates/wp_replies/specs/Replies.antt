@@ -28,7 +28,8 @@ use Rattle.wp_replies.specs.Tables.{unflushed, after_flush, after_compaction}
 -- what a row may say of the other clients, of the log and of the tables
 pub data Claim : Type 0 where
   HasName : List ℕ → Claim  -- another client was answered `begun` or `took` for the name
-  HasKey : List ℕ → List ℕ → Claim  -- the transaction of this name has the key: a client was answered `held` in it for the key, or it was undecided at opening
+  HasTaken : List ℕ → Claim  -- another client was answered `took` for the name
+  HasKey : List ℕ → List ℕ → Claim  -- another client was answered `held` for the key, in its open transaction of this name
   WritesKey : List ℕ → List ℕ → Claim  -- another client, of this name, came to write the key at once
   WasTold : List ℕ → ℕ → Claim  -- a client was answered `told` for the label, with a number of at most this
   LogFailed : ℕ → Claim  -- a client was answered `fault log`, and so many entries are all of the history
@@ -37,7 +38,7 @@ pub data Claim : Type 0 where
   OtherCompacted : Claim  -- another client was answered `compacted`
 
 -- what the devices failed to take
-pub record Failed : Type 0 where
+pub record Untaken : Type 0 where
   pub entries : List Entry  -- of one record, for the log
   pub edit : Option InstalledEdit  -- for the manifest's device and the tables'; none where one failed before the manifest was called
 
@@ -46,7 +47,7 @@ pub record Evidence : Type 0 where
   pub history : List Entry
   pub installed : InstalledEdit  -- the last edit of the tables
   pub limit : ℕ  -- the greatest number that an entry may have
-  pub failed : Failed
+  pub failed : Untaken
   pub known : Claim → Bool  -- what is known of the other clients, of the log and of the tables
 
 abbrev pub IsKnown : Evidence → Claim → Type 0
@@ -120,11 +121,17 @@ pub record WasUndecided (history : List Entry) (last : ℕ) (name : List ℕ) (p
   pub undecided : is_undecided (take at history) p ≡ true
   pub named : name_at (take at history) p ≡ name
 
--- the transaction has the key in its batch, and was undecided or is another client's; or the other client writes the key
+-- a prepare of this name has the key
+abbrev pub IsPrepared : List Entry → (name key : List ℕ) → Type 0
+IsPrepared history name key = (p : ℕ) × (p ≤ length history) × (name_at history p ≡ name) × (is_changed (batch_at history p) key ≡ true)
+
+-- The transaction was undecided, with the key in its batch; or it is another client's, which has the key in it, or took it with a
+-- prepare that has the key. Or the other client writes the key.
 abbrev pub IsBusy : Evidence → ℕ → List ℕ → Holder → Type 0
 IsBusy evidence last key (holder.Txn name) =
     ((p : ℕ) × (was : WasUndecided evidence.history last name p) × (is_changed (batch_at (take was.at evidence.history) p) key ≡ true))
-    ⊎ (IsKnown evidence (HasName name) × IsKnown evidence (HasKey name key))
+    ⊎ IsKnown evidence (HasKey name key)
+    ⊎ (IsKnown evidence (HasTaken name) × IsPrepared evidence.history name key)
 IsBusy evidence last key (holder.Client name) = IsKnown evidence (WritesKey name key)
 
 -- the name was that of an undecided prepare, or it is another client's
@@ -223,9 +230,9 @@ pub record FailsCompaction (evidence : Evidence) (last : ℕ) (client : Client) 
   pub own : (n : ℕ) → list_any (λ m. m == n) (numbers_of client.snapshots) ≡ true → list_any (λ m. m == n) snapshots ≡ true
   pub edit : IfSome evidence.failed.edit (λ edit. edit ≡ after_compaction (take at evidence.history) snapshots evidence.installed)
 
--- the manifest's device or the tables' failed, and the number was the flushed one
+-- the manifest's device or the tables' failed, and the number is the last edit's flushed one
 abbrev pub IsHaltedAt : Evidence → ℕ → Type 0
-IsHaltedAt evidence flushed = IsKnown evidence (WasFlushed flushed) × IsKnown evidence TablesFailed
+IsHaltedAt evidence flushed = (flushed ≡ evidence.installed.flushed) × IsKnown evidence TablesFailed
 
 -- ---- the rows
 

@@ -12,7 +12,6 @@ pub mod Seats
 pub mod Founds
 pub mod OnlyFirst
 pub mod Ends
-pub mod TurnsTaken
 pub mod Accounts
 pub mod MayBeMade
 pub mod Outlasting

@@ -14,7 +14,7 @@ use Rattle.wp_core.specs.World.{Actor, Participant, World, new_participant}
 use Rattle.wp_core.specs.World as world
 use Rattle.wp_core.specs.Sound.Actors.{seen_of, own_of, learned_of, held_of, role_of, participants_of, IsParticipantAt, total_participants, times}
 use Rattle.wp_core.specs.Sound.Locks.{Owner, owner_of, IsNameOf, IsDirectOf, AreLocked}
-use Rattle.wp_core.specs.Sound.Pasts.{past_of, HasDone, IsPast, is_log_fault, is_tables_fault, IsAccounted, WasLocked, WasInstalled, OtherDid, OtherInstalls, OtherCompacts, AreHolders, IsBoard, AreFaults, AreEdits}
+use Rattle.wp_core.specs.Sound.Pasts.{past_of, HasDone, IsPast, is_log_fault, is_tables_fault, HasBegun, MadeHolder, IsAccounted, WasLocked, WasInstalled, OtherDid, OtherInstalls, OtherCompacts, AreHolders, IsBoard, AreFaults, AreEdits}
 use Rattle.wp_core.specs.Sound.Reader.{reader_of}
 use Rattle.wp_core.specs.Sound.Snapshots.{registered_of, view_of}
 use Rattle.wp_core.specs.Sound.Views.{noter_of}
@@ -89,9 +89,19 @@ module _ (w : World) (a : Actor) (others : List Actor) (is : w.actors ≡ a ∷ 
   locked_down : (key : List ℕ) (holder : Holder) → WasLocked w.opened (participants past_of w) key holder → WasLocked w.opened (participants past_of v) key holder
   locked_down key holder l = ⊎_elim (λ q. inl (past_down _ q)) (λ o. inr o) l
 
+  begun_down : (j i : ℕ) (name : List ℕ) → HasBegun (participants past_of w) j i name → HasBegun (participants past_of v) j i name
+  begun_down j i name k = ⊎_elim (λ q. inl (done_down j i _ q)) (λ q. inr (done_down j i _ q)) k
+
+  made_down : (j i : ℕ) (key : Option (List ℕ)) (holder : Holder) → MadeHolder w.writes.history (participants past_of w) j i key holder → MadeHolder w.writes.history (participants past_of v) j i key holder
+  made_down j i None (Txn name) k = begun_down j i name k
+  made_down j i (Some key) (Txn name) (inl (begun, k)) = inl (begun_down j i name begun, done_down j i _ k)
+  made_down j i (Some key) (Txn name) (inr (k, has)) = inr (done_down j i _ k, has)
+  made_down j i (Some key) (Client client) k = done_down j i _ k
+  made_down j i None (Client client) none = absurd none
+
   accounted_down : (j i : ℕ) (key : Option (List ℕ)) (holder : Holder) (seen : ℕ) (account : Account) → IsAccounted w.writes.history (participants past_of w) j i key holder seen account → IsAccounted w.writes.history (participants past_of v) j i key holder seen account
-  accounted_down j i key holder seen own k = (k.0, k.1, done_down j i k.0 k.2)
-  accounted_down j i key holder seen another k = (k.0, k.1, k.2, k.3, k.4, done_down k.0 k.1 k.2 k.5)
+  accounted_down j i key holder seen own k = made_down j i key holder k
+  accounted_down j i key holder seen another k = (k.0, k.1, k.2, made_down k.0 k.1 key holder k.3)
   accounted_down j i key (Txn name) seen (prepare_at n) k = k
   accounted_down j i key (Client name) seen (prepare_at n) k = absurd k
 
@@ -132,7 +142,6 @@ module _ (w : World) (a : Actor) (others : List Actor) (is : w.actors ≡ a ∷ 
   holders_down = let k = s.holders in record {
     names = λ name h. ⊎_elim (λ p. inl (⊎_elim (λ q. inl (past_down _ q)) (λ q. inr (past_down _ q)) p)) (λ o. inr o) (k.names name h);
     keys = λ key holder h. locked_down key holder (k.keys key holder h);
-    found_keys = λ key holder seen account q. locked_down key holder (k.found_keys key holder seen account (past_up _ q));
     found = λ j i key holder seen account d. accounted_down j i key holder seen account (k.found j i key holder seen account (done_up j i _ d));
   }
 
@@ -151,7 +160,6 @@ module _ (w : World) (a : Actor) (others : List Actor) (is : w.actors ≡ a ∷ 
     not_logged = k.not_logged;
     stopped = λ n q. k.stopped n (past_up _ q);
     failed = λ entries q. k.failed entries (past_up _ q);
-    found_halted = λ n tables due q. k.found_halted n tables due (past_up _ q);
   }
 
   installed_down : (n : ℕ) → WasInstalled w.first_edit (participants past_of w) n → WasInstalled w.first_edit (participants past_of v) n
@@ -175,6 +183,7 @@ module _ (w : World) (a : Actor) (others : List Actor) (is : w.actors ≡ a ∷ 
     edit = λ j i past there. ⊎_elim (λ same. inl same) (λ (o : OtherInstalls (participants past_of w) j i). inr (o.0, o.1, other_down j i _ o.2)) (k.edit j i past (up past_of j i past there));
     tables = λ j i past there. ⊎_elim (λ le. inl le) (λ (o : OtherCompacts (participants past_of w) j i). inr (compacts_down j i o)) (k.tables j i past (up past_of j i past there));
     failed = λ last edit q. k.failed last edit (past_up _ q);
+    found_halted = λ n tables due q. k.found_halted n tables due (past_up _ q);
     none_failed = k.none_failed;
   }
 

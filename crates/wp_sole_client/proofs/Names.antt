@@ -9,7 +9,7 @@ use Rattle.wp_model.specs.History.{named}
 use Rattle.wp_text.specs.declared.script.Command.TheVariants as command
 use Rattle.wp_text.specs.declared.reply.Reply.TheVariants as reply
 use Rattle.wp_core.specs.Views.{Event, claimed, took, found}
-use Rattle.wp_core.specs.World.{Actor, World}
+use Rattle.wp_core.specs.World.{Actor, Participant, World}
 use Rattle.wp_core.proofs.Tests.{none_some}
 use Rattle.wp_rule.specs.Accounts.{account_of}
 use Rattle.wp_shared.specs.Seats.{SharedState, SeatState, Stands}
@@ -23,7 +23,7 @@ use Rattle.wp_replies.specs.Due.{Store}
 use Rattle.wp_replies.specs.Plan.{begin_reply, take_reply}
 use Rattle.wp_sole_client.specs.Alone.{IsOnly, IsStoreOf, AnswersAlone}
 use Rattle.wp_sole_client.proofs.Worlds.{only_of, left_name, open_is_free}
-use Rattle.wp_sole_client.proofs.Seated.{one_quiet, none_quiet, follows_on, alone_then, history_then, alone_at, is_alone, history_still, seen_still}
+use Rattle.wp_sole_client.proofs.Seated.{one_quiet, none_quiet, follows_on, alone_with_locks, history_with_locks, alone_at, is_alone, history_still, seen_still}
 use Rattle.wp_sole_client.proofs.Quiet.{quiet_answers}
 
 module _ {D : Type 0} (z : SharedState D) (first : InstalledEdit) (old new : SeatState) (only : IsOnly old) (store : Store) (is : IsStoreOf z first old.knows.participant store) (stood : (w : World) × Stands z new w) (snapshots : List LabelledSnapshot) where
@@ -50,8 +50,8 @@ module _ {D : Type 0} (z : SharedState D) (first : InstalledEdit) (old new : Sea
         let f = k.1 in
         let event : Event = found None (Txn name) (length old.knows.participant.seen) (account_of old.knows.participant f.world.locks f.published None (Txn name)) in
         let live : is_some (finite.get f.world.locks.names name) ≡ true = named_live name f.holds.0 f.holds.1 f.holds.2 in
-        let left = left_name f.world f.stood.reached old.knows (alone_then z first old only store is f.world f.stood) name live (none name) in
-        let there : named store.history name ≡ Some left.1.0 = ap (λ (h : List Entry). named h name) (sym (history_then z first old only store is f.world f.stood)) ∙ left.1.1 in
+        let left = left_name f.world f.stood.there.reached f.stood.actor (alone_with_locks z first old only store is f.world f.stood) name live (ap (λ (p : Participant). finite.get p.transactions name) f.stood.participant ∙ none name) in
+        let there : named store.history name ≡ Some left.1.0 = ap (λ (h : List Entry). named h name) (sym (history_with_locks z first old only store is f.world f.stood)) ∙ left.1.1 in
         quiet_answers z first old new only store is stood (event ∷ []) (follows_on _ z old new _ f.goes_on (event ∷ []) refl refl) (one_quiet event refl refl (λ edit. refl) (λ label n e. absurd cc)) idle idle (command.Begin name) (reply.Taken other)
         (record { logged = refl; fault = refl; installed = refl; tables = refl; board = λ b. refl })
         (inl (ap reply.Taken k.0 ∙ sym (ap (λ (o : Option ℕ). begin_reply o name) there))) refl

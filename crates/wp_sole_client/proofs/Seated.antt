@@ -20,6 +20,7 @@ use Rattle.wp_records.specs.Records.{numbers_behind}
 use Rattle.wp_shared.specs.Calls.{ContinuesWith}
 use Rattle.wp_shared.specs.Seats.{SharedState, SeatState, Stands, place_at}
 use Rattle.wp_shared.proofs.Onward.{starts_on}
+use Rattle.wp_txn.specs.Calls.{StoodWithLocks}
 use Rattle.wp_replies.specs.Due.{Store}
 use Rattle.wp_sole_client.specs.Alone.{log_faults, tables_faults, IsOnly, IsStoreOf}
 use Rattle.wp_sole_client.proofs.Published.{total_both, in_both, is_own, whole_seen}
@@ -128,6 +129,13 @@ module _ {D : Type 0} (z : SharedState D) (first : InstalledEdit) (old : SeatSta
 
   pub history_then : Stands z old w → w.writes.history ≡ store.history
   history_then at = seen_then old.knows at refl (alone_then at)
+
+  -- the same of a world in which it held the locks turn
+  pub alone_with_locks : (s : StoodWithLocks z old w) → IsAlone w s.actor
+  alone_with_locks s = alone_at z old.by s.actor w s.there only.by (s.made ∙ only.made) (s.joined ∙ only.joined)
+
+  pub history_with_locks : StoodWithLocks z old w → w.writes.history ≡ store.history
+  history_with_locks s = seen_then s.actor s.there s.participant (alone_with_locks s)
 
 module _ {D : Type 0} (z : SharedState D) (first : InstalledEdit) (old new : SeatState) (only : IsOnly old) (store : Store) (is : IsStoreOf z first old.knows.participant store) (stood : (w : World) × Stands z new w) where
   abbrev w : World

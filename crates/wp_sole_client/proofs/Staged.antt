@@ -25,7 +25,7 @@ use Rattle.wp_replies.specs.Client as session
 use Rattle.wp_replies.specs.Due.{Store, reply_to}
 use Rattle.wp_sole_client.specs.Alone.{IsOnly, IsStoreOf, AnswersAlone}
 use Rattle.wp_sole_client.proofs.Worlds.{held_by_prepare, open_is_free}
-use Rattle.wp_sole_client.proofs.Seated.{AreQuiet, none_quiet, one_quiet, Follows, follows_on, alone_then, history_then, is_alone, history_still}
+use Rattle.wp_sole_client.proofs.Seated.{AreQuiet, none_quiet, one_quiet, Follows, follows_on, alone_with_locks, history_with_locks, is_alone, history_still}
 use Rattle.wp_sole_client.proofs.Quiet.{quiet_answers}
 use Rattle.wp_sole_client.proofs.Changing.{asking, board_same, holds_change, is_busy_open, has_too_many, has_change, full_has_none, not_full_has_room, changed_now}
 
@@ -81,8 +81,9 @@ module _ {D : Type 0} (z : SharedState D) (first : InstalledEdit) (old new : Sea
   busy_alone whole direct none by k =
       let f = k.5 in
       let event : Event = found (Some (key_of c)) by (length it.seen) (account_of it f.world.locks f.published (Some (key_of c)) by) in
-      let held = held_by_prepare f.world f.stood.reached old.knows (alone_then z first old only store is f.world f.stood) (key_of c) by f.holds direct (λ name same. other name same (bytes_eq txn.name name) refl) in
-      let history = history_then z first old only store is f.world f.stood in
+      let held = held_by_prepare f.world f.stood.there.reached f.stood.actor (alone_with_locks z first old only store is f.world f.stood) (key_of c) by f.holds (ap (λ (p : Participant). p.direct) f.stood.participant ∙ direct)
+      (λ name same. ap (λ (p : Participant). finite.get p.transactions name) f.stood.participant ∙ other name same (bytes_eq txn.name name) refl) in
+      let history = history_with_locks z first old only store is f.world f.stood in
       let there : holder_of store.history (key_of c) ≡ Some held.0 = ap (λ (h : List Entry). holder_of h (key_of c)) (sym history) ∙ held.1 in
       let room = not_full_has_room txn.batch (key_of c) whole k.0 in
       quiet_answers z first old new only store is stood (event ∷ []) (follows_on _ z old new _ f.goes_on (event ∷ []) refl refl) (one_quiet event refl refl (λ edit. refl) (λ label n e. absurd cc)) (having txn) (having left) (asking c) (reply.Busy by)

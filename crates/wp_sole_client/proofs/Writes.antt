@@ -29,7 +29,7 @@ use Rattle.wp_replies.specs.Kind.{is_logged, is_fault, is_installed, is_tables_f
 use Rattle.wp_replies.specs.Plan.{next, asked_of}
 use Rattle.wp_sole_client.specs.Alone.{IsOnly, IsStoreOf, AnswersAlone}
 use Rattle.wp_sole_client.proofs.Worlds.{direct_is_free, held_by_prepare}
-use Rattle.wp_sole_client.proofs.Seated.{AreQuiet, one_quiet, follows_on, alone_then, history_then}
+use Rattle.wp_sole_client.proofs.Seated.{AreQuiet, one_quiet, follows_on, alone_with_locks, history_with_locks}
 use Rattle.wp_sole_client.proofs.Quiet.{quiet_answers}
 use Rattle.wp_sole_client.proofs.Logged.{AsksFor, put_answers, stopped_answers, full_answers, fault_answers}
 use Rattle.wp_sole_client.proofs.Changing.{asking, acknowledging, board_same, writes_at_once, is_busy_at_once, still_idle}
@@ -85,8 +85,9 @@ module _ {D : Type 0} (z : SharedState D) (first : InstalledEdit) (old new : Sea
   pub busy_alone : it.direct ≡ None → ((name : List ℕ) → finite.get it.transactions name ≡ None) → (by : Holder) → WritesDirect z old c (Err (Busy by)) new → AnswersAlone z first old new idle idle (asking c) (reply.Busy by) store
   busy_alone direct none by f =
       let event : Event = found (Some (key_of c)) by (length it.seen) (account_of it f.world.locks f.published (Some (key_of c)) by) in
-      let held = held_by_prepare f.world f.stood.reached old.knows (alone_then z first old only store is f.world f.stood) (key_of c) by f.holds direct (λ name same. none name) in
-      let history = history_then z first old only store is f.world f.stood in
+      let held = held_by_prepare f.world f.stood.there.reached f.stood.actor (alone_with_locks z first old only store is f.world f.stood) (key_of c) by f.holds (ap (λ (p : Participant). p.direct) f.stood.participant ∙ direct)
+      (λ name same. ap (λ (p : Participant). finite.get p.transactions name) f.stood.participant ∙ none name) in
+      let history = history_with_locks z first old only store is f.world f.stood in
       let there : holder_of store.history (key_of c) ≡ Some held.0 = ap (λ (h : List Entry). holder_of h (key_of c)) (sym history) ∙ held.1 in
       quiet_answers z first old new only store is stood (event ∷ []) (follows_on _ z old new _ f.goes_on (event ∷ []) refl refl) (one_quiet event refl refl (λ edit. refl) (λ label n e. absurd cc)) idle idle (asking c) (reply.Busy by)
       (record { logged = refl; fault = refl; installed = refl; tables = refl; board = λ b. board_same c b (reply.Busy by) })

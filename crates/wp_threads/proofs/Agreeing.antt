@@ -10,10 +10,8 @@ use lib.ListN.{get_elem?}
 use Rattle.wp_model.specs.declared.entry.Entry.{Entry}
 use Rattle.wp_model.specs.declared.holder.Holder.{Holder}
 use Rattle.wp_model.specs.declared.holder.Holder.TheVariants.{Txn, Client}
-use Rattle.wp_model.specs.History.{name_at, named, holder_of}
-use Rattle.wp_model.specs.Legal.{IsLegal}
-use Rattle.wp_model.proofs.Found.{found_holder, found_named}
-use Rattle.wp_history.proofs.Growth.{legal_before}
+use Rattle.wp_model.specs.History.{name_at, named}
+use Rattle.wp_model.proofs.Found.{found_named}
 use Rattle.wp_text.specs.declared.script.Command.{Command}
 use Rattle.wp_text.specs.declared.script.Command.TheVariants as command
 use Rattle.wp_text.specs.declared.script.Part.{Part}
@@ -21,27 +19,24 @@ use Rattle.wp_text.specs.declared.reply.Reply.{Reply}
 use Rattle.wp_text.specs.declared.reply.Reply.TheVariants as reply
 use Rattle.wp_core.specs.Lists.{IsIn}
 use Rattle.wp_core.specs.Sound.Actors.{seen_of}
-use Rattle.wp_history.specs.Opened.{prepare_holding}
-use Rattle.wp_core.specs.Sound.Pasts.{HasDone, IsPast, Makes, IsAccounted, WasLocked, WasInstalled, past_of}
+use Rattle.wp_core.specs.Sound.Pasts.{HasDone, IsPast, MadeHolder, IsAccounted, WasInstalled, past_of}
 use Rattle.wp_core.specs.Views.{Account, own, another, prepare_at, Event, claimed, took, locked, told, heard, installed, log_failed, tables_failed, stopped, found_edit, found}
 use Rattle.wp_core.specs.World.{Participant}
-use Rattle.wp_core.proofs.Tests.{some_none}
 use Rattle.wp_parts.specs.Devices.{DevicesLeft}
 use Rattle.wp_shared.specs.Ended.{IsEnded, of_seats}
 use Rattle.wp_shared.specs.Ending.{participant_of}
 use Rattle.wp_shared.specs.Seats.{SharedState, SeatState}
-use Rattle.wp_core.proofs.OneHolder.{name_is}
 use Rattle.wp_replies.specs.declared.client.Txn as session_txn
 use Rattle.wp_replies.specs.Client.{new_client}
 use Rattle.wp_replies.specs.Explains.{dialogues, judged_by}
 use Rattle.wp_replies.specs.Kind.{is_fault, is_flushed, is_compacted}
-use Rattle.wp_replies.specs.Known.{Dialogue, answers_in, comes_to, one_comes_to, gets_name, stages_key, writes_key, tells, prepare_has}
-use Rattle.wp_replies.specs.Replies.{HasName, HasKey, WasTold, WasFlushed, TablesFailed, OtherCompacted, Evidence, IsKnown}
+use Rattle.wp_replies.specs.Known.{Dialogue, answers_in, comes_to, gets_name, takes_name, stages_key, writes_key, tells}
+use Rattle.wp_replies.specs.Replies.{WasTold, WasFlushed, TablesFailed, OtherCompacted, Evidence, IsKnown}
 use Rattle.wp_answers.specs.Agrees.{IsAnother, IsPrepares, KnowsHolder, Knows, Agrees}
 use Rattle.wp_threads.specs.Explained.{found_in, left_in, failed_in}
 use Rattle.wp_threads.specs.Over.{Answered, AreOver, replies_of}
 use Rattle.wp_threads.proofs.Coming.{comes_wider, comes_answered, answers_any}
-use Rattle.wp_threads.proofs.Doings.{Did, did, got_name, wrote_key}
+use Rattle.wp_threads.proofs.Doings.{Did, did, took_name, wrote_key}
 use Rattle.wp_threads.proofs.Lists.{or_left, or_right, both_so, at_map, any_at, any_other, any_filter}
 
 -- a number that was told is at most each greater one
@@ -55,19 +50,6 @@ tells_more label n m le t (command.Tell other) (Some (reply.Told k)) is =
     both_true true b is = (refl, is)
     both_true false b is = absurd cc
 tells_more label n m le t c a is = absurd cc
-
--- a prepare that held a key at the opening has it
-prepare_has_key : (opened : List Entry) (key name : List ℕ) → IsLegal opened → prepare_holding opened (holder_of opened key) ≡ Some (Txn name) → prepare_has opened (named opened name) key ≡ true
-prepare_has_key opened key name legal is = by (holder_of opened key) refl is
-  where
-    same_name : (a b : List ℕ) → Some (Txn a) ≡ Some (Txn b) → a ≡ b
-    same_name a b e = cc
-
-    by : (o : Option ℕ) → holder_of opened key ≡ o → prepare_holding opened o ≡ Some (Txn name) → prepare_has opened (named opened name) key ≡ true
-    by None e h = absurd (some_none (Txn name) (sym h))
-    by (Some p) e h =
-        let k = found_holder opened key p e in
-        rw (subst (λ (n : List ℕ). named opened n ≡ Some p) (same_name (name_at opened p) name h) (name_is opened legal p k.0)) k.1
 
 module _ {D : Type 0} {z : SharedState D} {seats : List SeatState} {history : List Entry} {left : DevicesLeft} (ended : IsEnded z seats history left) (parts : List Part) (answered : List Answered) (over : AreOver z (found_in ended) parts answered seats) (before : List Dialogue) (mine : Dialogue) (after : List Dialogue)
     (split : dialogues parts (replies_of answered) ≡ before ++ mine ∷ after) where
@@ -91,36 +73,28 @@ module _ {D : Type 0} {z : SharedState D} {seats : List SeatState} {history : Li
 
   -- ---- holders
 
-  opened_legal : IsLegal z.opened
-  opened_legal = legal_before z.opened ended.grown.0 (subst IsLegal ended.grown.1 ended.legal)
-
-  has_key : (key name : List ℕ) → WasLocked z.opened (of_seats past_of seats) key (Txn name) → IsKnown evidence (HasKey name key)
-  has_key key name (inl (j, i, h)) =
-      let d = (done_by j i (locked key (Txn name)) h).1 in
-      or_right (prepare_has z.opened (named z.opened name) key) (one_comes_to (stages_key name key) (before ++ mine ∷ after)) (one_did (λ (x : Dialogue). comes_to (stages_key name key) new_client x.part.commands x.answers) i d.own d.there d.told)
-  has_key key name (inr held) = or_left (prepare_has z.opened (named z.opened name) key) (one_comes_to (stages_key name key) (before ++ mine ∷ after)) (prepare_has_key z.opened key name opened_legal held)
-
   -- another one than this made the holder
   abbrev MadeByOther : Option (List ℕ) → Holder → Type 0
-  MadeByOther key holder = (k l : ℕ) × (e : Event) × ((k ≢ 0) ⊎ (l ≢ length before)) × Makes e key holder × HasDone (of_seats past_of seats) k l e
+  MadeByOther key holder = (k l : ℕ) × ((k ≢ 0) ⊎ (l ≢ length before)) × MadeHolder history (of_seats past_of seats) k l key holder
 
   elsewhere : (k l : ℕ) → k ≡ 0 → (k ≢ 0) ⊎ (l ≢ length before) → l ≢ length before
   elsewhere k l same (inl ne) = absurd (ne same)
   elsewhere k l same (inr ne) = ne
 
-  has_name : (key : Option (List ℕ)) (name : List ℕ) → MadeByOther key (Txn name) → IsKnown evidence (HasName name)
-  has_name key name (k, l, e, ne, makes, h) =
-      let d = done_by k l e h in
-      other_did (λ (x : Dialogue). comes_to (gets_name name) new_client x.part.commands x.answers) l d.1.own d.1.there (elsewhere k l d.0 ne) (got_name all l e key name makes d.1)
+  -- what another client did, it came to
+  other_came : (k l : ℕ) (event : Event) → (k ≢ 0) ⊎ (l ≢ length before) → HasDone (of_seats past_of seats) k l event → (d : Did all l event) × ((p : Dialogue → Bool) → p d.own ≡ true → list_any p (before ++ after) ≡ true)
+  other_came k l event ne h = let d = done_by k l event h in (d.1, λ p is. other_did p l d.1.own d.1.there (elsewhere k l d.0 ne) is)
 
-  is_another : (key : Option (List ℕ)) (holder : Holder) → MadeByOther key holder → ((k : List ℕ) → key ≡ Some k → WasLocked z.opened (of_seats past_of seats) k holder) → IsAnother evidence key holder
-  is_another None (Txn name) made locks = has_name None name made
-  is_another (Some key) (Txn name) made locks = (has_name (Some key) name made, has_key key name (locks key refl))
-  is_another (Some key) (Client name) (k, l, e, ne, makes, h) locks =
-      let d = done_by k l e h in
+  is_another : (key : Option (List ℕ)) (holder : Holder) → MadeByOther key holder → IsAnother evidence key holder
+  is_another None (Txn name) (k, l, ne, inl h) = let o = other_came k l (claimed name) ne h in o.1 (λ (x : Dialogue). comes_to (gets_name name) new_client x.part.commands x.answers) o.0.told
+  is_another None (Txn name) (k, l, ne, inr h) = let o = other_came k l (took name) ne h in o.1 (λ (x : Dialogue). comes_to (gets_name name) new_client x.part.commands x.answers) (took_name all l name o.0)
+  is_another (Some key) (Txn name) (k, l, ne, inl (begun, h)) = let o = other_came k l (locked key (Txn name)) ne h in inl (o.1 (λ (x : Dialogue). comes_to (stages_key name key) new_client x.part.commands x.answers) o.0.told)
+  is_another (Some key) (Txn name) (k, l, ne, inr (h, has)) = let o = other_came k l (took name) ne h in inr (o.1 (λ (x : Dialogue). comes_to (takes_name name) new_client x.part.commands x.answers) o.0.told, has)
+  is_another (Some key) (Client name) (k, l, ne, h) =
+      let o = other_came k l (locked key (Client name)) ne h in
       any_filter (λ (x : Dialogue). comes_to (writes_key key) new_client x.part.commands x.answers) (λ (x : Dialogue). bytes_eq x.part.client name) (before ++ after)
-      (other_did (λ (x : Dialogue). bytes_eq x.part.client name && comes_to (writes_key key) new_client x.part.commands x.answers) l d.1.own d.1.there (elsewhere k l d.0 ne) (wrote_key all l e key name makes d.1))
-  is_another None (Client name) made locks = tt
+      (o.1 (λ (x : Dialogue). bytes_eq x.part.client name && comes_to (writes_key key) new_client x.part.commands x.answers) (wrote_key all l key name o.0))
+  is_another None (Client name) made = tt
 
   is_prepares : (i : ℕ) (key : Option (List ℕ)) (holder : Holder) (seen n : ℕ) → IsAccounted history (of_seats past_of seats) 0 i key holder seen (prepare_at n) → IsPrepares evidence key holder seen
   is_prepares i key (Txn name) seen n (low, high, (p, is, has)) =
@@ -150,7 +124,6 @@ module _ {D : Type 0} {z : SharedState D} {seats : List SeatState} {history : Li
     knows_holder : (key : Option (List ℕ)) (holder : Holder) (seen : ℕ) (account : Account) → IsIn (found key holder seen account) p.past → KnowsHolder evidence key holder seen account
     knows_holder key holder seen own there = tt
     knows_holder key holder seen another there = is_another key holder (ended.holders.found 0 (length before) key holder seen another (mine_did (found key holder seen another) there))
-        (λ k same. ended.holders.found_keys k holder seen another (past_is (found (Some k) holder seen another) (subst (λ (o : Option (List ℕ)). IsIn (found o holder seen another) p.past) same there)))
     knows_holder key holder seen (prepare_at n) there = is_prepares (length before) key holder seen n (ended.holders.found 0 (length before) key holder seen (prepare_at n) (mine_did (found key holder seen (prepare_at n)) there))
 
     was_told : (label : List ℕ) (n m : ℕ) → n ≤ m → IsPast (of_seats past_of seats) (told label n) → IsKnown evidence (WasTold label m)
@@ -174,7 +147,7 @@ module _ {D : Type 0} {z : SharedState D} {seats : List SeatState} {history : Li
     knows (tables_failed last edit) there = let f = ended.installed.failed last edit (past_is (tables_failed last edit) there) in (f.1, f.2)
     knows (found_edit n tables due halted) there = (
       was_flushed n (ended.installed.found n tables due halted (past_is (found_edit n tables due halted) there)),
-      (λ is. halted_said (ended.faults.found_halted n tables due (past_is (found_edit n tables due true) (subst (λ (b : Bool). IsIn (found_edit n tables due b) p.past) is there)))),
+      (λ is. let k = ended.installed.found_halted n tables due (past_is (found_edit n tables due true) (subst (λ (b : Bool). IsIn (found_edit n tables due b) p.past) is there)) in (k.1, halted_said k.0)),
       (λ lt. other_compacted tables due n halted there lt),
     )
     knows (claimed name) there = tt

@@ -12,7 +12,7 @@ use Rattle.wp_replies.specs.declared.client.Txn.{Txn}
 use Rattle.wp_replies.specs.declared.client.Txn.TheVariants.{Idle, Open, Prepared}
 use Rattle.wp_replies.specs.After.{with_staged, after_reply}
 use Rattle.wp_replies.specs.Client.{Client}
-use Rattle.wp_replies.specs.Known.{gets_name, tells}
+use Rattle.wp_replies.specs.Known.{gets_name, takes_name, tells}
 use Rattle.wp_answers.specs.Answers.{IsExplained}
 use Rattle.wp_threads.specs.SoFar.{IsAlike}
 
@@ -55,13 +55,17 @@ gets_same name p q (command.Begin other) (Some reply.Begun) = refl
 gets_same name p q (command.Take other) (Some reply.Took) = refl
 gets_same name p q c a = refl
 
+takes_same : (name : List ℕ) (p q : ℕ) (c : Command) (a : Option Reply) → takes_name name (Prepared p) c a ≡ takes_name name (Prepared q) c a
+takes_same name p q (command.Take other) (Some reply.Took) = refl
+takes_same name p q c a = refl
+
 tells_same : (label : List ℕ) (n p q : ℕ) (c : Command) (a : Option Reply) → tells label n (Prepared p) c a ≡ tells label n (Prepared q) c a
 tells_same label n p q (command.Tell other) (Some (reply.Told m)) = refl
 tells_same label n p q c a = refl
 
 explained_same : (name : List ℕ) (c : Command) (a : Option Reply) (event : Event) (p q : ℕ) → IsExplained name (Prepared p) c a event → IsExplained name (Prepared q) c a event
 explained_same name c a (claimed other) p q is = sym (gets_same other p q c a) ∙ is
-explained_same name c a (took other) p q is = sym (gets_same other p q c a) ∙ is
+explained_same name c a (took other) p q is = sym (takes_same other p q c a) ∙ is
 explained_same name c a (told label n) p q is = sym (tells_same label n p q c a) ∙ is
 explained_same name c a (locked key (holder.Txn other)) p q is = is
 explained_same name c a (locked key (holder.Client other)) p q is = is

@@ -123,7 +123,7 @@ module _ {D : Type 0} {z : SharedState D} {seats : List SeatState} {history : Li
     tables_failed = tables_counted;
     halted = λ said.
         let k = remembers z (found_in ended) is_halted parts answered seats over said in let n = halted_there k.past k.answer k.is k.remembered in
-        one_at_least ended.edits.halted (ended.faults.found_halted n.0 n.1 n.2 (0, k.place, (k.past, (map past_of (map participant_of seats), refl, k.there), n.3)));
+        one_at_least ended.edits.halted (ended.installed.found_halted n.0 n.1 n.2 (0, k.place, (k.past, (map past_of (map participant_of seats), refl, k.there), n.3))).0;
     edit = let first = first_past seats all in last_edit ended parts answered over first.0 first.1;
   }
 

@@ -1,25 +1,29 @@
 -- What is in a seat's past is explained by the dialogue of the client whose session it was.
 use Rattle.std.proofs.Common.{◌≡◌, ℕ, zero, suc, true, List, [], ◌∷◌, map, refl, sym, subst, ap, ◌∙◌}
-use Rattle.std.specs.Prelude.{IfSome, ◌&&◌, Option, Some, None}
+use Rattle.std.specs.Prelude.{IfSome, ◌&&◌, Option, Some}
 use Rattle.std.specs.Str.{bytes_eq}
 use Rattle.std.proofs.lemmas.Slice.Eq.{bytes_eq-Decides}
 use mathlib.Core.Option.{some, some-injective, some-ne-none}
 use lib.ListN.{get_elem?}
-use Rattle.wp_model.specs.declared.holder.Holder.{Holder}
-use Rattle.wp_model.specs.declared.holder.Holder.TheVariants.{Txn, Client}
+use Rattle.wp_model.specs.declared.holder.Holder.TheVariants.{Client}
+use Rattle.wp_text.specs.declared.script.Command.{Command}
+use Rattle.wp_text.specs.declared.script.Command.TheVariants as command
 use Rattle.wp_text.specs.declared.script.Part.{Part}
+use Rattle.wp_text.specs.declared.reply.Reply.{Reply}
+use Rattle.wp_text.specs.declared.reply.Reply.TheVariants as reply
 use Rattle.wp_core.specs.Lists.{IsIn}
-use Rattle.wp_core.specs.Sound.Pasts.{HasDone, Makes, past_of}
-use Rattle.wp_core.specs.Views.{Event, claimed, took, locked}
+use Rattle.wp_core.specs.Sound.Pasts.{HasDone, past_of}
+use Rattle.wp_core.specs.Views.{Event, took, locked}
 use Rattle.wp_shared.specs.Seats.{SharedState, SeatState}
 use Rattle.wp_shared.specs.Ending.{participant_of}
 use Rattle.wp_shared.specs.Ended.{of_seats}
+use Rattle.wp_replies.specs.declared.client.Txn as session_txn
 use Rattle.wp_replies.specs.Client.{new_client}
 use Rattle.wp_replies.specs.Explains.{dialogue, dialogues}
-use Rattle.wp_replies.specs.Known.{StoredState, Dialogue, comes_to, gets_name, writes_key}
+use Rattle.wp_replies.specs.Known.{StoredState, Dialogue, comes_to, gets_name, takes_name, writes_key}
 use Rattle.wp_answers.specs.Answers.{explaining}
 use Rattle.wp_threads.specs.Over.{Answered, AreOver, replies_of}
-use Rattle.wp_threads.proofs.Coming.{comes_both}
+use Rattle.wp_threads.proofs.Coming.{comes_wider, comes_both}
 
 -- the client with this one of the dialogues did it
 pub record Did (all : List Dialogue) (i : ℕ) (event : Event) : Type 0 where
@@ -43,21 +47,18 @@ module _ {D : Type 0} (z : SharedState D) (found : StoredState) where
       (refl, in_past parts answered seats over i past event (ap (λ (x : List (List Event)). get_elem? x i) (some-injective (map past_of (map participant_of seats)) ps at) ∙ there) is)
   did parts answered seats over (suc j) i event (past, (ps, at, there), is) = absurd (some-ne-none ps (sym at))
 
--- who made a holder came to it: it has the name
-pub got_name : (all : List Dialogue) (i : ℕ) (event : Event) (key : Option (List ℕ)) (name : List ℕ) → Makes event key (Txn name) → (d : Did all i event) → comes_to (gets_name name) new_client d.own.part.commands d.own.answers ≡ true
-got_name all i (claimed other) key name same d = subst (λ (x : List ℕ). comes_to (gets_name x) new_client d.own.part.commands d.own.answers ≡ true) same d.told
-got_name all i (took other) key name same d = subst (λ (x : List ℕ). comes_to (gets_name x) new_client d.own.part.commands d.own.answers ≡ true) same d.told
-got_name all i (locked k h) None name m d = absurd m
-got_name all i (locked k h) (Some key) name m d = absurd m
-got_name all i other key name m d = absurd m
+-- who took a name has it
+takes_gets : (name : List ℕ) (t : session_txn.Txn) (c : Command) (a : Option Reply) → takes_name name t c a ≡ true → gets_name name t c a ≡ true
+takes_gets name t (command.Take other) (Some reply.Took) is = is
+takes_gets name t c a is = absurd cc
 
--- or it is of that name, and writes the key
-pub wrote_key : (all : List Dialogue) (i : ℕ) (event : Event) (key name : List ℕ) → Makes event (Some key) (Client name) → (d : Did all i event)
+pub took_name : (all : List Dialogue) (i : ℕ) (name : List ℕ) (d : Did all i (took name)) → comes_to (gets_name name) new_client d.own.part.commands d.own.answers ≡ true
+took_name all i name d = comes_wider (takes_name name) (gets_name name) (takes_gets name) new_client d.own.part.commands d.own.answers d.told
+
+-- who locked a key for a direct write is of that name, and writes the key
+pub wrote_key : (all : List Dialogue) (i : ℕ) (key name : List ℕ) (d : Did all i (locked key (Client name)))
     → (bytes_eq d.own.part.client name && comes_to (writes_key key) new_client d.own.part.commands d.own.answers) ≡ true
-wrote_key all i (locked k h) key name (same, is) d =
-    let told : IfSome (explaining d.own.part.client (locked key (Client name))) (λ is_such. comes_to is_such new_client d.own.part.commands d.own.answers ≡ true) =
-    subst (λ (x : List ℕ × Holder). IfSome (explaining d.own.part.client (locked x.0 x.1)) (λ is_such. comes_to is_such new_client d.own.part.commands d.own.answers ≡ true)) (λ j. (same j, is j)) d.told in
-    let k = comes_both (bytes_eq name d.own.part.client) (writes_key key) new_client d.own.part.commands d.own.answers told in
+wrote_key all i key name d =
+    let k = comes_both (bytes_eq name d.own.part.client) (writes_key key) new_client d.own.part.commands d.own.answers d.told in
     let mine : bytes_eq d.own.part.client name ≡ true = (bytes_eq-Decides d.own.part.client name).1 (sym ((bytes_eq-Decides name d.own.part.client).0 k.0)) in
     rw (mine, k.1) refl
-wrote_key all i other key name m d = absurd m

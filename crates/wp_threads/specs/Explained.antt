@@ -9,7 +9,7 @@ use Rattle.wp_shared.specs.Seats.{SharedState, SeatState}
 use Rattle.wp_replies.specs.Exact.{IsExact}
 use Rattle.wp_replies.specs.Explains.{Faults, AreFirstParts, Explains}
 use Rattle.wp_replies.specs.Known.{StoredState}
-use Rattle.wp_replies.specs.Replies.{Failed}
+use Rattle.wp_replies.specs.Replies.{Untaken}
 use Rattle.wp_threads.specs.Over.{Answered, replies_of}
 
 module _ {D : Type 0} {z : SharedState D} {seats : List SeatState} {history : List Entry} {left : DevicesLeft} (ended : IsEnded z seats history left) where
@@ -21,7 +21,7 @@ module _ {D : Type 0} {z : SharedState D} {seats : List SeatState} {history : Li
   left_in = record { history = history; edit = ended.edits.last }
 
   -- what its devices failed to take, and how often they failed
-  abbrev pub failed_in : Failed
+  abbrev pub failed_in : Untaken
   failed_in = record { entries = ended.writes.failed; edit = ended.edits.failed }
 
   abbrev pub faults_in : Faults

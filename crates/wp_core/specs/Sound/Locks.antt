@@ -1,5 +1,5 @@
 -- What is so of names and keys.
-use Rattle.std.specs.Prelude.{◌≡◌, ◌⊎◌, ℕ, true, List, Option, Some, None, is_some}
+use Rattle.std.specs.Prelude.{◌≡◌, ◌⊎◌, ℕ, ◌≤◌, true, List, length, Option, Some, None, is_some}
 use Rattle.std.specs.FinSet as set
 use Rattle.std.specs.FinMap as finite
 use Rattle.wp_model.specs.declared.entry.Entry.{Entry}
@@ -50,11 +50,20 @@ pub record IsDirectOf (owners : List (List Owner)) (key client : List ℕ) : Typ
   pub has : owner.direct ≡ Some key
   pub began : IsIn (locked key (Client client)) owner.past
 
--- what an owner has is in the table
-pub record IsOwner (t : LockTables) (o : Owner) : Type 0 where
+-- a prepare of this name has the key
+abbrev pub PrepareHas : List Entry → (name key : List ℕ) → Type 0
+PrepareHas history name key = (p : ℕ) × (p ≤ length history) × (name_at history p ≡ name) × (is_changed (batch_at history p) key ≡ true)
+
+-- how one that has the transaction of this name came to the key: it locked it, or took a prepare that has it
+abbrev pub CameToKey : List Entry → List Event → (name key : List ℕ) → Type 0
+CameToKey history past name key = IsIn (locked key (Txn name)) past ⊎ (IsIn (took name) past × PrepareHas history name key)
+
+-- what an owner has is in the table, and each key of its transactions it came to itself
+pub record IsOwner (history : List Entry) (t : LockTables) (o : Owner) : Type 0 where
   pub names : (name : List ℕ) (x : Transaction) → Has o name x → finite.get t.names name ≡ Some (Some o.client)
   pub keys : (name : List ℕ) (x : Transaction) (key : List ℕ) → Has o name x → set.contains x.locked key ≡ true → finite.get t.keys key ≡ Some (Txn name)
   pub direct : (key : List ℕ) → o.direct ≡ Some key → finite.get t.keys key ≡ Some (Client o.client)
+  pub came : (name : List ℕ) (x : Transaction) (key : List ℕ) → Has o name x → set.contains x.locked key ≡ true → CameToKey history o.past name key
 
 -- no two have the same transaction or direct key
 pub record AreApart (owners : List (List Owner)) : Type 0 where
@@ -67,7 +76,7 @@ pub record AreApart (owners : List (List Owner)) : Type 0 where
 pub record AreLocked (history : List Entry) (t : LockTables) (owners : List (List Owner)) : Type 0 where
   pub prepared_names : (p : ℕ) → is_undecided history p ≡ true → is_some (finite.get t.names (name_at history p)) ≡ true
   pub prepared_keys : (p : ℕ) (key : List ℕ) → is_undecided history p ≡ true → is_changed (batch_at history p) key ≡ true → finite.get t.keys key ≡ Some (Txn (name_at history p))
-  pub had : EachParticipant (IsOwner t) owners
+  pub had : EachParticipant (IsOwner history t) owners
   pub apart : AreApart owners
   pub names_had : (name client : List ℕ) → finite.get t.names name ≡ Some (Some client) → IsNameOf owners name client
   pub names_left : (name : List ℕ) → finite.get t.names name ≡ Some None → is_some (named history name) ≡ true

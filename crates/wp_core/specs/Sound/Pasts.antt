@@ -12,6 +12,7 @@ use Rattle.wp_model.specs.Flushed.{InstalledEdit}
 use Rattle.wp_core.specs.Views.{Account, own, another, prepare_at, Event, claimed, took, locked, told, heard, installed, log_failed, tables_failed, stopped, found_edit, found}
 use Rattle.wp_core.specs.World.{Participant}
 use Rattle.wp_core.specs.Sound.Actors.{IsParticipantAt, total_participants}
+use Rattle.wp_core.specs.Sound.Locks.{PrepareHas}
 use Rattle.wp_history.specs.Opened.{prepare_holding}
 
 abbrev pub past_of : Participant → List Event
@@ -31,12 +32,17 @@ times_past test pasts = total_participants (total (λ e. one_if (test e))) pasts
 
 -- ---- holders
 
--- the event made the holder one: the name was claimed or taken, or the key locked for a direct write
-abbrev pub Makes : Event → Option (List ℕ) → Holder → Type 0
-Makes (claimed name) key (Txn other) = name ≡ other
-Makes (took name) key (Txn other) = name ≡ other
-Makes (locked key holder) (Some other) (Client client) = (key ≡ other) × (holder ≡ Client client)
-Makes e key holder = ⊥
+-- one of the participants claimed or took the name
+abbrev pub HasBegun : List (List (List Event)) → ℕ → ℕ → List ℕ → Type 0
+HasBegun pasts j i name = HasDone pasts j i (claimed name) ⊎ HasDone pasts j i (took name)
+
+-- One of the participants made the holder one: it claimed or took the name, and locked the key under it or took it with a prepare
+-- that has the key; or it locked the key for a direct write.
+abbrev pub MadeHolder : List Entry → List (List (List Event)) → ℕ → ℕ → Option (List ℕ) → Holder → Type 0
+MadeHolder history pasts j i None (Txn name) = HasBegun pasts j i name
+MadeHolder history pasts j i (Some key) (Txn name) = (HasBegun pasts j i name × HasDone pasts j i (locked key (Txn name))) ⊎ (HasDone pasts j i (took name) × PrepareHas history name key)
+MadeHolder history pasts j i (Some key) (Client client) = HasDone pasts j i (locked key (Client client))
+MadeHolder history pasts j i None (Client client) = ⊥
 
 -- the prepare with this number changes the key, where one is given
 abbrev pub HasKeyAt : List Entry → ℕ → Option (List ℕ) → Type 0
@@ -46,8 +52,8 @@ HasKeyAt history p (Some key) = is_changed (batch_at history p) key ≡ true
 -- How the answer of one of the participants, that this is the holder of a key or else a live name, is accounted for: by
 -- what it did itself, by what another did, or by a prepare that was undecided when it had seen so many entries, or later.
 abbrev pub IsAccounted : List Entry → List (List (List Event)) → ℕ → ℕ → Option (List ℕ) → Holder → ℕ → Account → Type 0
-IsAccounted history pasts j i key holder seen own = (e : Event) × Makes e key holder × HasDone pasts j i e
-IsAccounted history pasts j i key holder seen another = (k l : ℕ) × (e : Event) × ((k ≢ j) ⊎ (l ≢ i)) × Makes e key holder × HasDone pasts k l e
+IsAccounted history pasts j i key holder seen own = MadeHolder history pasts j i key holder
+IsAccounted history pasts j i key holder seen another = (k l : ℕ) × ((k ≢ j) ⊎ (l ≢ i)) × MadeHolder history pasts k l key holder
 IsAccounted history pasts j i key (Txn name) seen (prepare_at n) = (seen ≤ n) × (n ≤ length history) × ((p : ℕ) × (named (take n history) name ≡ Some p) × HasKeyAt (take n history) p key)
 IsAccounted history pasts j i key (Client name) seen (prepare_at n) = ⊥
 
@@ -55,12 +61,10 @@ IsAccounted history pasts j i key (Client name) seen (prepare_at n) = ⊥
 abbrev pub WasLocked : List Entry → List (List (List Event)) → List ℕ → Holder → Type 0
 WasLocked opened pasts key holder = IsPast pasts (locked key holder) ⊎ (prepare_holding opened (holder_of opened key) ≡ Some holder)
 
--- A live name was claimed or taken, or comes from the opening, and so does each key that is held. Who was found is accounted
--- for, and so is its key.
+-- A live name was claimed or taken, or comes from the opening, and so does each key that is held. Who was found is accounted for.
 pub record AreHolders (opened history : List Entry) (t : LockTables) (pasts : List (List (List Event))) : Type 0 where
   pub names : (name : List ℕ) → is_some (finite.get t.names name) ≡ true → (IsPast pasts (claimed name) ⊎ IsPast pasts (took name)) ⊎ (is_some (named opened name) ≡ true)
   pub keys : (key : List ℕ) (holder : Holder) → finite.get t.keys key ≡ Some holder → WasLocked opened pasts key holder
-  pub found_keys : (key : List ℕ) (holder : Holder) (seen : ℕ) (account : Account) → IsPast pasts (found (Some key) holder seen account) → WasLocked opened pasts key holder
   pub found : (j i : ℕ) (key : Option (List ℕ)) (holder : Holder) (seen : ℕ) (account : Account) → HasDone pasts j i (found key holder seen account) → IsAccounted history pasts j i key holder seen account
 
 -- ---- the board
@@ -89,7 +93,6 @@ pub record AreFaults (writes : WriteTable) (halted : Bool) (pasts : List (List (
   pub stopped : (n : ℕ) → IsPast pasts (stopped n) → (writes.closed ≡ true) × (n ≡ length writes.history)
   -- the record whose append failed is the one that the log may have
   pub failed : (entries : List Entry) → IsPast pasts (log_failed entries) → (writes.closed ≡ true) × (writes.failed ≡ entries)
-  pub found_halted : (n tables due : ℕ) → IsPast pasts (found_edit n tables due true) → halted ≡ true
 
 -- ---- edits
 
@@ -127,7 +130,7 @@ OtherCompacts pasts j i = (edit : InstalledEdit) × OtherDid pasts j i (installe
 -- The last edit's flushed number is the opening's or a flush's, of which none is greater, and so is each that was found. It is
 -- the edit that a participant installed last, unless another one installed one, and has at least the tables that this one knows
 -- of, unless another one compacted; so has the edit that was found. Where the devices failed, it is that one still, and so is the
--- one whose install failed.
+-- one whose install failed; and it has the flushed number that was found once they had failed.
 pub record AreEdits (first : InstalledEdit) (t : Installed) (pasts : List (List (List Event))) : Type 0 where
   pub last : WasInstalled first pasts t.last.flushed
   pub rises : (n : ℕ) → WasInstalled first pasts n → n ≤ t.last.flushed
@@ -136,4 +139,5 @@ pub record AreEdits (first : InstalledEdit) (t : Installed) (pasts : List (List 
   pub edit : (j i : ℕ) (past : List Event) → IsParticipantAt pasts j i past → (t.last ≡ last_installed first past) ⊎ OtherInstalls pasts j i
   pub tables : (j i : ℕ) (past : List Event) → IsParticipantAt pasts j i past → (tables_due first past ≤ t.last.tables) ⊎ OtherCompacts pasts j i
   pub failed : (last : InstalledEdit) (edit : Option InstalledEdit) → IsPast pasts (tables_failed last edit) → (t.halted ≡ true) × (t.last ≡ last) × (t.failed ≡ edit)
+  pub found_halted : (n tables due : ℕ) → IsPast pasts (found_edit n tables due true) → (t.halted ≡ true) × (n ≡ t.last.flushed)
   pub none_failed : t.halted ≡ false → t.failed ≡ None

@@ -10,27 +10,27 @@ use Rattle.wp_answers.proofs.AtOnce.{at_once_holds, at_once_answers, at_once_ref
 use Rattle.wp_answers.proofs.changes.del_now.Goals as goal
 
 pub returns-in-Ok-clause-holds : goal.returns-in-Ok-clause-holds
-returns-in-Ok-clause-holds g c = at_once_holds c.args.store.now c.args.seat.now c.write.new.seat (change.Del c.in_ok-copy.field-0) (Ok c.in-Ok.n) (c.in-Ok.ensures {u = tt})
+returns-in-Ok-clause-holds g c = at_once_holds c.args.store.now c.args.seat.now c.write.new.seat (change.Del c.in_ok-copy.field-0) (Ok c.in-Ok.n) ((c.in-Ok.ensures {u = tt}).answers)
 
 pub returns-in-Ok-clause-answered : goal.returns-in-Ok-clause-answered
 returns-in-Ok-clause-answered g c =
     let here : Change = change.Del c.in_ok-copy.field-0 in let asked : Change = change.Del c.args.key.now in let same : here ≡ asked = ap change.Del (c.in_ok-copy.ensures {u = tt}) in
-    at_once_answers c.args.store.now c.args.seat.now c.write.new.seat here asked same c.in-Ok.n (c.in-Ok.ensures {u = tt})
+    at_once_answers c.args.store.now c.args.seat.now c.write.new.seat here asked same c.in-Ok.n ((c.in-Ok.ensures {u = tt}).answers)
 
 pub returns-in-Err-clause-holds : goal.returns-in-Err-clause-holds
-returns-in-Err-clause-holds g c = at_once_holds c.args.store.now c.args.seat.now c.write.new.seat (change.Del c.in_ok-copy.field-0) (Err c.in-Err.why) (c.in-Err.ensures {u = tt})
+returns-in-Err-clause-holds g c = at_once_holds c.args.store.now c.args.seat.now c.write.new.seat (change.Del c.in_ok-copy.field-0) (Err c.in-Err.why) ((c.in-Err.ensures {u = tt}).answers)
 
 pub returns-in-Err-clause-answered : goal.returns-in-Err-clause-answered
 returns-in-Err-clause-answered g c =
     let z = c.args.store.now in let s = c.args.seat.now in let t = c.write.new.seat in let why = c.in-Err.why in
     let here : Change = change.Del c.in_ok-copy.field-0 in let asked : Change = change.Del c.args.key.now in let same : here ≡ asked = ap change.Del (c.in_ok-copy.ensures {u = tt}) in
-    IfOk-weaker c.refusal.result (λ r. refusal why ≡ Some r) (AnswersFrom z s t held.Idle held.Idle (command.Del c.args.key.now)) (λ r is. at_once_refused z s t here asked same c.requires why r is (c.in-Err.ensures {u = tt})) c.refusal.ensures.answered
+    IfOk-weaker c.refusal.result (λ r. refusal why ≡ Some r) (AnswersFrom z s t held.Idle held.Idle (command.Del c.args.key.now)) (λ r is. at_once_refused z s t here asked same c.requires why r is ((c.in-Err.ensures {u = tt}).answers)) c.refusal.ensures.answered
 
 pub returns-in-Err-clause-err : goal.returns-in-Err-clause-err
 returns-in-Err-clause-err g c =
     let z = c.args.store.now in let s = c.args.seat.now in let t = c.write.new.seat in let why = c.in-Err.why in
     let here : Change = change.Del c.in_ok-copy.field-0 in let asked : Change = change.Del c.args.key.now in let same : here ≡ asked = ap change.Del (c.in_ok-copy.ensures {u = tt}) in
-    on_err_weaker c.refusal.result (λ none. at_once_breaks z s t here asked same why none (c.in-Err.ensures {u = tt})) c.refusal.ensures.err
+    on_err_weaker c.refusal.result (λ none. at_once_breaks z s t here asked same why none ((c.in-Err.ensures {u = tt}).answers)) c.refusal.ensures.err
 
 pub refusal-requires : goal.refusal-requires
-refusal-requires g c = at_once_named c.args.store.now c.args.seat.now c.write.new.seat (change.Del c.in_ok-copy.field-0) c.in-Err.why (c.in-Err.ensures {u = tt})
+refusal-requires g c = at_once_named c.args.store.now c.args.seat.now c.write.new.seat (change.Del c.in_ok-copy.field-0) c.in-Err.why ((c.in-Err.ensures {u = tt}).answers)
