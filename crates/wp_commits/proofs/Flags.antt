@@ -1,6 +1,6 @@
 -- The flags, which tell whether something is delayed, or is kept for snapshots.
 use Rattle.std.proofs.Common.{◌≡◌, inl, ℕ, Bool, true, false, true≢false, List, length, refl, sym, subst, ◌∙◌, arith}
-use Rattle.std.specs.Prelude.{[], ◌∷◌, IsTrue, ◌↔◌}
+use Rattle.std.specs.Prelude.{[], ◌∷◌}
 use Rattle.wp_model.specs.declared.entry.Entry.{Entry}
 use Rattle.wp_core.specs.Notes.{ends}
 use Rattle.wp_core.specs.Steps.{store_delayed_flag, store_old_flag, note}
@@ -72,7 +72,3 @@ module _ (p : Place) (a : Actor) (none : Bool) (value : ℕ) (says : Says none v
 
   pub may_put_old : Holding a snapshots (λ m. none ≡ true → NoOldCommits m) → MayStep p a (store_old_flag value)
   may_put_old h w k = needed p a w k (store_old_flag value) (record { table = h.table; held = h.held; so_is = λ e. h.so_is (zero_says none value says e) })
-
--- what the flag tells by a test it tells by what the test is of
-pub flag_fits : (a : Actor) (flag : ℕ → Fact) (test : Bool) (none : Type 0) → IsTrue test ↔ none → FlagTells a flag (test ≡ true) → FlagTells a flag none
-flag_fits a flag test none is f = record { value = f.value; noted = f.noted; empty = λ e. is.0 (f.empty e); down = λ n. f.down (is.1 n) }

@@ -18,9 +18,9 @@ use Rattle.wp_shared.specs.Seats.{SeatState}
 use Rattle.wp_commits.specs.declared.way.Way.{Way}
 use Rattle.wp_commits.specs.declared.way.Way.TheVariants.{Undecided, InWord}
 use Rattle.wp_commits.specs.Bound.{bound_with, bound_for}
-use Rattle.wp_commits.specs.Cleared.{MayGoFrom, IsReadyAt}
+use Rattle.wp_commits.specs.Cleared.{MayGoFrom, IsCleared, IsReadyAt}
 use Rattle.wp_shared.specs.Notes.{GoesOn}
-use Rattle.wp_commits.specs.Ways.{way_of, ways_of, IsInWord, IsReadyFor, AreReady, IsElsewhere, AreElsewhere, MayPrecede}
+use Rattle.wp_commits.specs.Ways.{way_of, ways_of, IsInWord, IsClearedFor, AreCleared, AreReady, IsElsewhere, AreElsewhere, MayPrecede}
 
 -- ---- what is ready stays so
 
@@ -36,6 +36,22 @@ keeps_ready test s t h m less k words = record {
   words = words;
   gone = λ place pair may. let l = less place pair in (k.noted (passed place pair) l.0 may.0, k.noted (in_old_commits place pair) l.1 may.1, k.noted (apart place pair) l.2 may.2);
 }
+
+module _ (a b : Actor) (k : KeepsReady a b) where
+  cleared_still : (place : ℕ) → IsCleared a place → IsCleared b place
+  cleared_still place (inl empty) = let w = k.words empty.0 empty.1 empty.2 in inl (w.0, empty.1, w.1, empty.3)
+  cleared_still place (inr gone) = inr (gone.0, k.gone place gone.0 gone.1)
+
+  pub are_cleared_still : (cells : ℕ) (ways : List Way) → AreCleared a cells ways → AreCleared b cells ways
+  are_cleared_still cells [] r = tt
+  are_cleared_still cells (Undecided ∷ ways) r = (tt, are_cleared_still cells ways r.1)
+  are_cleared_still cells (InWord p c ∷ ways) r = (cleared_still (cache_place cells p) r.0, are_cleared_still cells ways r.1)
+
+-- where the words are cleared the pairs may be entered
+pub cleared_ready : (a : Actor) (cells published : ℕ) (ways : List Way) → AreCleared a cells ways → AreReady a cells published ways
+cleared_ready a cells published [] r = tt
+cleared_ready a cells published (Undecided ∷ ways) r = (tt, cleared_ready a cells published ways r.1)
+cleared_ready a cells published (InWord p c ∷ ways) r = (inl r.0, cleared_ready a cells published ways r.1)
 
 module _ (a b : Actor) (cells m n : ℕ) where
   all_kept : (ways : List Way) → ((place : ℕ) → IsReadyAt a m place → IsReadyAt b n place) → AreReady a cells m ways → AreReady b cells n ways
@@ -61,22 +77,21 @@ module _ (a b : Actor) (cells m n : ℕ) where
 
   module _ (k : KeepsReady a b) (later : m ≤ n) where
     pub ready_still : (place : ℕ) → IsReadyAt a m place → IsReadyAt b n place
-    ready_still place (inl (inl empty)) = let w = k.words empty.0 empty.1 empty.2 in inl (inl (w.0, empty.1, w.1, empty.3))
-    ready_still place (inl (inr gone)) = inl (inr (gone.0, k.gone place gone.0 gone.1))
+    ready_still place (inl cleared) = inl (cleared_still a b k place cleared)
     ready_still place (inr own) = let w = k.words own.0 own.1 own.3 in let low = own.4 in inr (w.0, own.1, own.2, w.1, omega (arith, low, later), own.5)
 
     pub are_ready_still : (ways : List Way) → AreReady a cells m ways → AreReady b cells n ways
     are_ready_still ways r = all_kept ways ready_still r
 
--- ---- one way more
+-- ---- more ways
 
-pub bound_for_last : (cells published bound : ℕ) (words : List ℕ) (ways : List Way) (way : Way) → bound_for cells published bound words (ways ++ way ∷ []) ≡ bound_with cells published (bound_for cells published bound words ways) words way
-bound_for_last cells published bound words [] way = refl
-bound_for_last cells published bound words (first ∷ ways) way = bound_for_last cells published (bound_with cells published bound words first) words ways way
+pub bound_for_more : (cells published bound : ℕ) (words : List ℕ) (ways others : List Way) → bound_for cells published bound words (ways ++ others) ≡ bound_for cells published (bound_for cells published bound words ways) words others
+bound_for_more cells published bound words [] others = refl
+bound_for_more cells published bound words (way ∷ ways) others = bound_for_more cells published (bound_with cells published bound words way) words ways others
 
-pub ready_last : (a : Actor) (cells published : ℕ) (ways : List Way) (way : Way) → AreReady a cells published ways → IsReadyFor a cells published way → AreReady a cells published (ways ++ way ∷ [])
-ready_last a cells published [] way r one = (one, tt)
-ready_last a cells published (first ∷ ways) way r one = (r.0, ready_last a cells published ways way r.1 one)
+pub cleared_last : (a : Actor) (cells : ℕ) (ways : List Way) (way : Way) → AreCleared a cells ways → IsClearedFor a cells way → AreCleared a cells (ways ++ way ∷ [])
+cleared_last a cells [] way r one = (one, tt)
+cleared_last a cells (first ∷ ways) way r one = (r.0, cleared_last a cells ways way r.1 one)
 
 pub next_taken : (n i : ℕ) (entries : List Entry) (entry : Entry) → slice_get entries i ≡ Some entry → take (suc i) (ways_of n entries) ≡ take i (ways_of n entries) ++ way_of (pair_by (n + i) entry) ∷ []
 next_taken n i [] entry e = absurd (none_some (slice_get [] i) entry refl e)

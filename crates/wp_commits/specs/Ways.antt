@@ -4,9 +4,11 @@ use Rattle.wp_model.specs.declared.entry.Entry.{Entry}
 use Rattle.wp_judge.specs.Words.{CommitPair}
 use Rattle.wp_core.specs.Cache.{cache_place, pair_at, with_pair}
 use Rattle.wp_core.specs.Entries.{pair_by}
-use Rattle.wp_core.specs.Views.{Fact}
+use Rattle.wp_core.specs.Views.{Fact, words_stay}
 use Rattle.wp_core.specs.World.{Actor}
-use Rattle.wp_commits.specs.Cleared.{IsReadyAt}
+use Rattle.wp_rule.specs.Knows.{Noted}
+use Rattle.wp_commits.specs.Bound.{bound_with, bound_for}
+use Rattle.wp_commits.specs.Cleared.{IsCleared, IsReadyAt}
 use Rattle.wp_commits.specs.Notes.{is_of_words, is_of_place}
 use Rattle.wp_commits.specs.declared.way.Way.{Way}
 use Rattle.wp_commits.specs.declared.way.Way.TheVariants.{Undecided, InWord}
@@ -27,6 +29,19 @@ IsInWord Undecided = ⊥
 IsInWord (InWord p c) = Unit {0}
 
 -- ---- before
+
+-- the bound rose for the pairs that are kept in these ways, and the words are as they were
+abbrev pub RisesFor : ℕ → ℕ → Actor → Actor → List Way → Type 0
+RisesFor cells published old new ways = (bound : ℕ) (words : List ℕ) → Noted old (words_stay bound words) → Noted new (words_stay (bound_for cells published bound words ways) words)
+
+-- what the pair is to replace may go
+abbrev pub IsClearedFor : Actor → ℕ → Way → Type 0
+IsClearedFor a cells Undecided = Unit {0}
+IsClearedFor a cells (InWord p c) = IsCleared a (cache_place cells p)
+
+abbrev pub AreCleared : Actor → ℕ → List Way → Type 0
+AreCleared a cells [] = Unit {0}
+AreCleared a cells (way ∷ ways) = IsClearedFor a cells way × AreCleared a cells ways
 
 -- the pair may be entered
 abbrev pub IsReadyFor : Actor → ℕ → ℕ → Way → Type 0
@@ -67,6 +82,12 @@ is_of_way cells (InWord p c) = is_of_place (cache_place cells p)
 abbrev pub with_way : List ℕ → Way → List ℕ
 with_way words Undecided = words
 with_way words (InWord p c) = with_pair words (record { number = p; decision = c })
+
+-- What the bound and the words are once the pairs are entered that are kept in these ways, one after another, each behind one entry
+-- more.
+abbrev pub entered : ℕ → ℕ → ℕ → List ℕ → List Way → Fact
+entered cells published bound words [] = words_stay bound words
+entered cells published bound words (way ∷ ways) = entered cells (suc published) (bound_with cells published bound words way) (with_way words way) ways
 
 -- the pair is where it is kept
 abbrev pub IsEntered : ℕ → List ℕ → Way → Type 0

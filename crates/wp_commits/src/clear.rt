@@ -7,11 +7,11 @@ ghost use Rattle.wp_core.specs.Lists.{IsIn};
 ghost use Rattle.wp_core.specs.Tables.{writes, prepared, snapshots};
 ghost use Rattle.wp_core.specs.Views.{passed, in_old_commits, apart, words_stay};
 ghost use Rattle.wp_rule.specs.Knows.{Noted};
-ghost use Rattle.wp_commits.specs.Bound.{raised, bound_after, bound_with, bound_for};
+ghost use Rattle.wp_commits.specs.Bound.{raised, bound_after, bound_with};
 ghost use Rattle.wp_commits.specs.Cleared.{IsThere, IsWanted, IsCleared, IsUnentered};
 ghost use Rattle.wp_shared.specs.Notes.{is_flag, GoesOn, DelayedFlagTells, OldFlagTells};
 ghost use Rattle.wp_commits.specs.Notes.{is_of_words};
-ghost use Rattle.wp_commits.specs.Ways.{way_of, ways_of, IsInWord, IsReadyFor, AreReady};
+ghost use Rattle.wp_commits.specs.Ways.{way_of, ways_of, IsInWord, RisesFor, IsClearedFor, AreCleared};
 ghost use Rattle.wp_commits.specs.declared.way.Way.{Way};
 ghost use Rattle.wp_commits.specs.declared.way.Way.TheVariants.{InWord};
 
@@ -279,7 +279,7 @@ fn clear<D: Disk + Drop, R: Wait>(
     ensures seat { GoesOn is_of_words (writes log.now.table ∷ []) seat.old.turns seat.old seat.new }
     ensures bound { (bound : ℕ) (words : List ℕ) → Noted seat.old.knows (words_stay bound words)
         → Noted seat.new.knows (words_stay (bound_with store.now.cells (length log.now.table.history) bound words way) words) }
-    ensures ready { OnOk result (IsReadyFor seat.new.knows store.now.cells (length log.now.table.history) way) }
+    ensures cleared { OnOk result (IsClearedFor seat.new.knows store.now.cells way) }
     ensures wanting { OnErr result (IsInWord way) }
 {
     match way {
@@ -304,11 +304,10 @@ pub fn clear_all<D: Disk + Drop, R: Wait>(
     requires words { (bound : ℕ) × (words : List ℕ) × Noted seat.old.knows (words_stay bound words) }
     requires unentered { IsUnentered seat.old.knows store.now.cells log.now.table }
     ensures seat { GoesOn is_of_words seat.old.knows.held seat.old.turns seat.old seat.new }
-    ensures bound { OnOk result ((bound : ℕ) (words : List ℕ) → Noted seat.old.knows (words_stay bound words)
-        → Noted seat.new.knows (words_stay (bound_for store.now.cells (length log.now.table.history) bound words (ways_of (suc (length log.now.table.history)) log.now.table.pending)) words)) }
+    ensures bound { OnOk result (RisesFor store.now.cells (length log.now.table.history) seat.old.knows seat.new.knows (ways_of (suc (length log.now.table.history)) log.now.table.pending)) }
     ensures refused { OnErr result ((front : List Way) × (p : ℕ) × (c : ℕ) × (back : List Way) × (ways_of (suc (length log.now.table.history)) log.now.table.pending ≡ front ++ InWord p c ∷ back)
-        × ((bound : ℕ) (words : List ℕ) → Noted seat.old.knows (words_stay bound words) → Noted seat.new.knows (words_stay (bound_for store.now.cells (length log.now.table.history) bound words (front ++ InWord p c ∷ [])) words))) }
-    ensures ready { OnOk result (AreReady seat.new.knows store.now.cells (length log.now.table.history) (ways_of (suc (length log.now.table.history)) log.now.table.pending)) }
+        × RisesFor store.now.cells (length log.now.table.history) seat.old.knows seat.new.knows (front ++ InWord p c ∷ [])) }
+    ensures cleared { OnOk result (AreCleared seat.new.knows store.now.cells (ways_of (suc (length log.now.table.history)) log.now.table.pending)) }
 {
     log.shows_told();
     let entries = log.pending();

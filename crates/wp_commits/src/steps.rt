@@ -332,7 +332,8 @@ fn forget_prepared_by<D: Disk + Drop, J: Moves>(
     store.make::<J>(seat);
 }
 
-/// Takes the number, which is decided, out of all prepared tables, and puts the flag down where nothing is delayed any more.
+/// Takes the number, which is decided, out of all prepared tables, the delayed commits too, and puts the flag down where nothing
+/// is delayed any more.
 pub fn forget_prepared<D: Disk + Drop>(
     store: &Shared<D>,
     seat: &mut Seat<D>,
@@ -345,6 +346,7 @@ pub fn forget_prepared<D: Disk + Drop>(
     requires flag { DelayedFlagTells seat.old.knows tables.old }
     ensures seat { GoesOn is_flag (prepared tables.new ∷ []) seat.old.turns seat.old seat.new }
     ensures flag { DelayedFlagTells seat.new.knows tables.new }
+    ensures left { tables.new ≡ without_prepared tables.old p }
     ensures gone { IsIn (has_left p) seat.new.knows.notes }
 {
     let none = tables.none_delayed();

@@ -1,22 +1,19 @@
 -- What a step on one of the tables makes of it.
-use Rattle.std.proofs.Common.{◌≡◌, ℕ, Bool, true, false, cond, not, filter, List, Option, Some, None, is_some, refl, sym, ap, subst, ◌∙◌}
-use Rattle.std.specs.Map.{keys_of}
+use Rattle.std.proofs.Common.{◌≡◌, ℕ, ◌+◌, ◌<◌, true, List, [], ◌∷◌, ◌++◌, length, take, get_or, Option, Some, None, is_some, refl, sym, ap, subst, ◌∙◌}
 use Rattle.std.specs.FinMap as map
-use Rattle.std.specs.Cmp.{eq_by_cmp_equiv}
-use Rattle.std.specs.List.Sorted.{IsStrictlySortedBy}
 use Rattle.std.proofs.lemmas.Bool.{false≢true}
-use Rattle.std.proofs.lemmas.Cmp.{nat_list_cmp_total}
-use Rattle.std.proofs.lemmas.Map.Entries.{option_filter, lookup-filter-values}
-use Rattle.std.proofs.lemmas.Map.Keys.{IsDistinct-from_sorted}
+use Rattle.std.proofs.lemmas.List.{take_more}
+use Rattle.std.proofs.lemmas.List.Sums.{fold-append}
 use Rattle.std.proofs.lemmas.Map.Text.{is_eq-slice_cmp}
-use Rattle.wp_model.specs.Batch.{key_cmp}
+use Rattle.wp_model.specs.Batch.{key_cmp, key_of}
+use Rattle.wp_model.specs.declared.change.Change.{Change}
 use Rattle.wp_model.specs.declared.holder.Holder.{Holder}
 use Rattle.wp_model.specs.declared.holder.Holder.TheVariants.{Txn, Client}
 use Rattle.wp_locks.specs.declared.error.LockError.TheVariants.{Unknown, InUse}
-use Rattle.wp_model.specs.Holder.{is_same, is_same_txn}
-use Rattle.wp_locks.specs.Locks.{RefusesTake, names_left, but, FreesAllOf}
+use Rattle.wp_model.specs.Holder.{is_same_txn}
+use Rattle.wp_locks.specs.Locks.{RefusesTake, names_left, keys_without}
 use Rattle.wp_model.specs.LockTables.{LockTables, Keys}
-use Rattle.wp_locks.proofs.Maps.{value_at, map_of, get-map_of, map_of_inserted, UpdatedAt, insert_same}
+use Rattle.wp_locks.proofs.Maps.{value_at, map_of, get-map_of, map_of_inserted, map_of_removed, UpdatedAt, insert_same}
 use Rattle.wp_model.proofs.Words.{same_word}
 
 -- ---- names
@@ -48,22 +45,14 @@ same_txn (Client a) b h = absurd cc
 pub locked_again : (keys : map.FinMap key_cmp Holder) (k : List ℕ) (other holder : Holder) → map.get keys k ≡ Some other → is_same_txn other holder ≡ true → keys ≡ map.insert keys k holder
 locked_again keys k other holder found same = sym (insert_same keys k holder (found ∙ ap Some (same_txn other holder same)))
 
-but_filter : (holder : Holder) (o : Option Holder) → option_filter (λ other. not (is_same other holder)) o ≡ but holder o
-but_filter holder None = refl
-but_filter holder (Some other) = by (is_same other holder)
-  where
-    by : (b : Bool) → cond (not b) (Some other) None ≡ cond b None (Some other)
-    by true = refl
-    by false = refl
-
--- the keys without those of the holder
-pub freed : (holder : Holder) (es ns : List (List ℕ × Holder)) → ns ≡ filter (λ e. not (is_same e.1 holder)) es → IsStrictlySortedBy key_cmp (keys_of es) → FreesAllOf holder (map_of es) (map_of ns)
-freed holder es ns is sorted key =
-    get-map_of ns key
-    ∙ ap (λ xs. value_at xs key) is
-    ∙ lookup-filter-values (eq_by_cmp_equiv nat_list_cmp_total) (λ other. not (is_same other holder)) key es (IsDistinct-from_sorted key_cmp _ sorted)
-    ∙ but_filter holder (value_at es key)
-    ∙ ap (but holder) (sym (get-map_of es key))
+-- one change more, and its key is free too
+pub freed_one : (es ns : List (List ℕ × Holder)) (keys : Keys) (changes : List Change) (i : ℕ) (change : Change) → i < length changes → change ≡ get_or changes i change → map_of es ≡ keys_without keys (take i changes) → UpdatedAt es ns (key_of change) None
+    → map_of ns ≡ keys_without keys (take (i + 1) changes)
+freed_one es ns keys changes i change within is so_far updated =
+    map_of_removed es ns (key_of change) updated
+    ∙ ap (λ (ks : Keys). map.remove ks (key_of change)) so_far
+    ∙ sym (fold-append (λ (left : Keys) (x : Change). map.remove left (key_of x)) keys (take i changes) (change ∷ []))
+    ∙ ap (keys_without keys) (ap (λ (x : Change). take i changes ++ x ∷ []) is ∙ sym (take_more changes i change within))
 
 -- the tables with other keys that equal theirs
 pub with_keys : (t : LockTables) (keys : Keys) → t.keys ≡ keys → t ≡ record t { keys = keys }

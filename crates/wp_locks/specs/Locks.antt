@@ -1,13 +1,14 @@
 -- The live names, the held keys and the board.
-use Rattle.std.specs.Prelude.{◌≡◌, ℕ, Bool, true, false, List, ◌++◌, Option, Some, None, is_some, Result, Ok, Err, if◌then◌else◌}
+use Rattle.std.specs.Prelude.{◌≡◌, ℕ, Bool, true, false, List, ◌++◌, fold, Option, Some, None, is_some, Result, Ok, Err, if◌then◌else◌}
 use Rattle.std.specs.FinMap as map
 use Rattle.std.specs.BTreeMap as tree
-use Rattle.wp_model.specs.Batch.{key_cmp}
+use Rattle.wp_model.specs.Batch.{key_cmp, key_of}
+use Rattle.wp_model.specs.declared.change.Change.{Change}
 use Rattle.wp_model.specs.declared.holder.Holder.{Holder}
 use Rattle.wp_locks.specs.declared.error.LockError.{LockError}
 use Rattle.wp_locks.specs.declared.error.LockError.TheVariants.{Memory, Taken, Unknown, InUse, Busy}
 use Rattle.wp_locks.specs.declared.error.TakeRefused.{TakeRefused}
-use Rattle.wp_model.specs.Holder.{is_same, is_same_txn}
+use Rattle.wp_model.specs.Holder.{is_same_txn}
 use Rattle.wp_model.specs.LockTables.{Names, Keys, LockTables}
 
 -- what `claim_name` answers, and what it leaves
@@ -48,14 +49,9 @@ Locking old key holder (Err (Taken taken)) new = ⊥
 Locking old key holder (Err (Unknown unknown)) new = ⊥
 Locking old key holder (Err (InUse used)) new = ⊥
 
--- a key's holder, where it is not this one
-abbrev pub but : Holder → Option Holder → Option Holder
-but holder None = None
-but holder (Some other) = if is_same other holder then None else Some other
-
--- just the keys that the holder held are free
-abbrev pub FreesAllOf : Holder → Keys → Keys → Type 0
-FreesAllOf holder old new = (key : List ℕ) → map.get new key ≡ but holder (map.get old key)
+-- the keys without those of the changes
+abbrev pub keys_without : Keys → List Change → Keys
+keys_without keys changes = fold (λ left change. map.remove left (key_of change)) keys changes
 
 -- the entries come before those of the tree: what is under a key is what they have first, and then its own
 abbrev pub Joins : {X : Type 0} → List (List ℕ × X) → tree.BTreeMap (List ℕ) X → tree.BTreeMap (List ℕ) X → Type 0

@@ -1,6 +1,8 @@
 ghost use Rattle.std.specs.Prelude.{◌≡◌, IfOk, OnOk, OnErr};
 ghost use Rattle.std.specs.FinMap as map;
-ghost use Rattle.wp_locks.specs.Locks.{Claims, TakesName, Locking, names_left, FreesAllOf};
+ghost use Rattle.std.specs.FinMap.{from_entries};
+ghost use Rattle.wp_model.specs.Batch.{key_cmp};
+ghost use Rattle.wp_locks.specs.Locks.{Claims, TakesName, Locking, names_left, keys_without};
 ghost use Rattle.wp_model.specs.LockTables.{nothing_locked};
 ghost use Rattle.wp_history.specs.Opened.{AreOpened};
 
@@ -10,7 +12,7 @@ use std::alloc::{AllocError, Global};
 use std::collections::BTreeMap;
 use std::marker::Model;
 use wp_history::History;
-use wp_model::{Holder, Key, Name, Seq};
+use wp_model::{Change, Holder, Key, Name, Seq};
 
 /// The live names, the held keys and the board, which the holder of the locks turn changes.
 #[derive(Drop)]
@@ -31,6 +33,15 @@ impl Model for Locks {
     ghost coded = { lock_tables_code };
 
     ghost view = { λ l. record { names = map.from_entries l.names.entries; keys = map.from_entries l.keys.entries; labels = map.from_entries l.labels.entries } };
+}
+
+/// Frees the key of each of the changes.
+fn free_keys(keys: &mut BTreeMap<Key, Holder>, changes: &[Change])
+    ensures { from_entries {R = key_cmp} keys.new.entries ≡ keys_without (from_entries keys.old.entries) changes.now }
+{
+    for change in changes {
+        keys.remove(change.key());
+    }
 }
 
 impl Locks {
@@ -126,12 +137,12 @@ impl Locks {
         self.keys.remove(key);
     }
 
-    /// Frees each key that the holder holds, and no other, in a time that grows with the number of held keys.
-    pub fn unlock_all(&mut self, holder: &Holder)
-        ensures keys { FreesAllOf holder.now self.old.keys self.new.keys }
-        ensures others { self.new ≡ record self.old { keys = self.new.keys } }
+    /// Frees the key of each of the changes, whoever holds it. Each takes a time that grows with the logarithm of the number of held
+    /// keys.
+    pub fn unlock_all(&mut self, changes: &[Change])
+        ensures { self.new ≡ record self.old { keys = keys_without self.old.keys changes.now } }
     {
-        self.keys.retain(|_, other| !other.is_same(holder));
+        free_keys(&mut self.keys, changes);
     }
 
     /// Puts the number under the label, in place of an earlier one.

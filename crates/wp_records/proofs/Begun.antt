@@ -9,11 +9,9 @@ use Rattle.wp_rule.specs.Knows.{Noted}
 use Rattle.wp_parts.specs.Log.{LogState}
 use Rattle.wp_shared.specs.Seats.{SharedState, SeatState}
 use Rattle.wp_shared.specs.Notes.{GoesOn}
-use Rattle.wp_shared.proofs.Goes.{wider}
 use Rattle.wp_shared.specs.Notes.{KnowsWords}
 use Rattle.wp_records.specs.Writing.{HoldsWrite}
-use Rattle.wp_records.specs.Stages.{is_of_pending, is_guarded, HoldsPending, IsBegun}
-use Rattle.wp_records.proofs.Facts.{not_pending}
+use Rattle.wp_records.specs.Stages.{is_of_pending, HoldsPending, IsBegun}
 use Rattle.wp_records.proofs.Holding.{holds_with, as_pending, as_write, words_kept}
 
 module _ (log left : LogState) (entries : List Entry) (is : left.table ≡ record log.table { pending = entries; logged = false }) where
@@ -36,7 +34,7 @@ module _ (log left : LogState) (entries : List Entry) (is : left.table ≡ recor
       → IsBegun z old log entries new left
   begun z old new h first wal k nowhere below = record {
     holds = holds_with z old new log left (as_pending z old log h) is_of_pending k first history_is (words_kept is_of_pending old new (writes left.table ∷ []) old.turns (length log.table.history) (λ bound words. refl) k h.words);
-    seat = wider is_of_pending old new new is_guarded (writes left.table ∷ []) old.turns not_pending k;
+    seat = k;
     table = is;
     wal = wal;
     nowhere = nowhere;
@@ -47,12 +45,8 @@ module _ {D : Type 0} (z : SharedState D) (old new : SeatState) (log left : LogS
   pub words_before : KnowsWords old.knows (length left.table.history)
   words_before = subst (λ (e : List Entry). KnowsWords old.knows (length e)) (sym (ap (λ (x : LogState). x.table.history) is)) h.words
 
-  module _ (k : GoesOn is_of_pending (writes left.table ∷ []) old.turns old new) where
-    pub dropped_holds : HoldsWrite z new left
-    dropped_holds =
-        as_write z new left
-        (holds_with z old new log left h is_of_pending k (ap (λ (x : LogState). x.first) is) (ap (λ (x : LogState). x.table.history) is) (words_kept is_of_pending old new (writes left.table ∷ []) old.turns (length log.table.history) (λ bound words. refl) k h.words))
-        (ap (λ (x : LogState). x.table.pending) is)
-
-    pub dropped_goes : GoesOn is_guarded (writes left.table ∷ []) old.turns old new
-    dropped_goes = wider is_of_pending old new new is_guarded (writes left.table ∷ []) old.turns not_pending k
+  pub dropped_holds : GoesOn is_of_pending (writes left.table ∷ []) old.turns old new → HoldsWrite z new left
+  dropped_holds k =
+      as_write z new left
+      (holds_with z old new log left h is_of_pending k (ap (λ (x : LogState). x.first) is) (ap (λ (x : LogState). x.table.history) is) (words_kept is_of_pending old new (writes left.table ∷ []) old.turns (length log.table.history) (λ bound words. refl) k h.words))
+      (ap (λ (x : LogState). x.table.pending) is)

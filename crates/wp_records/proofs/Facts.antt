@@ -1,6 +1,5 @@
 -- Which facts outlast a stage, and stages one after another.
 use Rattle.std.proofs.Common.{◌≡◌, ℕ, Bool, true, false, true≢false, ◌||◌, List, refl, ap, subst, ◌∙◌, None, is_some}
-use Rattle.std.specs.Prelude.{Result, Ok, Err, OnErr}
 use Rattle.wp_model.specs.declared.entry.Entry.{Entry}
 use Rattle.wp_core.specs.Cache.{cache_place}
 use Rattle.wp_core.specs.Sound.Views.{guarded_by}
@@ -17,7 +16,7 @@ use Rattle.wp_core.specs.Turns.{prepared_turn, store_turn}
 use Rattle.wp_commits.specs.Notes.{is_of_words, is_of_place}
 use Rattle.wp_commits.specs.Ways.{is_of_way}
 use Rattle.wp_records.specs.Records.{is_about}
-use Rattle.wp_records.specs.Stages.{is_of_versions, is_of_heap, is_of_number, is_of_pending, is_guarded, is_over, may_end}
+use Rattle.wp_records.specs.Stages.{is_of_versions, is_of_heap, is_of_number, is_of_pending, is_of_stage, is_guarded, is_over, may_end}
 
 -- ---- what no turn guards is in none of the tests
 
@@ -60,6 +59,22 @@ not_place place other e = refl
 pub neither : (a b : Bool) → (a || b) ≡ false → (a ≡ false) × (b ≡ false)
 neither false b e = (refl, e)
 neither true b e = absurd (true≢false e)
+
+module _ (fact : Fact) (e : is_of_stage fact ≡ false) where
+  parts : (is_of_pending fact ≡ false) × (is_flag fact ≡ false)
+  parts = neither (is_of_pending fact) (is_flag fact) e
+
+  pub stage_pending : is_of_pending fact ≡ false
+  stage_pending = parts.0
+
+  pub stage_versions : is_of_versions fact ≡ false
+  stage_versions = (neither (is_of_versions fact) (is_of_heap fact) parts.0).0
+
+  pub stage_number : is_of_number fact ≡ false
+  stage_number = λ i. (neither (is_of_versions fact) (is_of_heap fact) parts.0).1 i || parts.1 i
+
+pub not_stage : (fact : Fact) → is_guarded fact ≡ false → is_of_stage fact ≡ false
+not_stage fact e = λ i. not_pending fact e i || (neither (is_of_heap fact) (is_flag fact) (not_number fact e)).1 i
 
 module _ (history : List Entry) (entry : Entry) (fact : Fact) (e : may_end history entry fact ≡ false) where
   stays : (is_guarded fact ≡ false) × (is_about (transaction_of history entry) fact ≡ false)
@@ -105,7 +120,3 @@ module _ (test one two : Fact → Bool) (less : (fact : Fact) → test fact ≡ 
   -- where the second leaves the turns as they are
   pub and_with : (h k : List Content) (m : List ℕ) → GoesOn one h m s t → GoesOn two k t.turns t u → GoesOn test k m s u
   and_with h k m first second = subst (λ (x : List ℕ). GoesOn test k x s u) (ap (λ (x : SeatState). x.turns) first.same) (and_then h k m t.turns first second)
-
-pub on_err : {T E : Type 0} (r : Result T E) (P Q : Type 0) → (P → Q) → OnErr r P → OnErr r Q
-on_err (Ok x) P Q f h = tt
-on_err (Err e) P Q f h = f h

@@ -26,8 +26,8 @@ use Rattle.wp_shared.proofs.Tables.{held_table}
 use Rattle.wp_records.specs.Stages.{is_of_heap, is_of_number}
 use Rattle.wp_records.proofs.Facts.{heap_alone}
 
--- a seat that holds both tables, in a world that a load found
-module _ {D : Type 0} (z : SharedState D) (s t : SeatState) (d : WriteTable) (tables : PreparedTables) (loaded : ℕ) (same : t ≡ s) (at : (w : World) × Stands z t w × (loaded ≡ w.max_evicted)) (held : s.knows.held ≡ prepared tables ∷ writes d ∷ []) where
+-- a seat that holds both tables, in a world of the store
+module _ {D : Type 0} (z : SharedState D) (s t : SeatState) (d : WriteTable) (tables : PreparedTables) (same : t ≡ s) (at : (w : World) × Stands z t w) (held : s.knows.held ≡ prepared tables ∷ writes d ∷ []) where
   abbrev w : World
   w = at.0
 

@@ -14,11 +14,12 @@ use Rattle.wp_core.specs.Views as view
 use Rattle.wp_core.specs.Views.{Fact, passed, in_old_commits, words_stay, versions_in_memory, versions_nowhere, number_in_heap, number_not_in_heap}
 use Rattle.wp_core.specs.World.{Transaction, Participant, Actor}
 use Rattle.wp_core.proofs.HistoryLaws.{first_legal}
-use Rattle.wp_rule.specs.Knows.{KnowsHeld, HasNoVersions, Noted}
+use Rattle.wp_rule.specs.Knows.{KnowsHeld, Noted}
 use Rattle.wp_parts.specs.Log.{LogState}
 use Rattle.wp_shared.specs.Seats.{SharedState, SeatState}
 use Rattle.wp_commits.specs.declared.way.Way.{Way}
 use Rattle.wp_commits.specs.declared.way.Way.TheVariants.{Undecided, InWord}
+use Rattle.wp_commits.specs.Bound.{bound_with}
 use Rattle.wp_commits.specs.Cleared.{IsReadyAt}
 use Rattle.wp_shared.specs.Notes.{noting, GoesOn}
 use Rattle.wp_commits.specs.Ways.{way_of, ways_of, is_of_way, with_way, IsReadyFor, AreReady, IsElsewhere, MayPrecede, AreApart, IsEntered}
@@ -64,12 +65,6 @@ one_behind [] one = tt
 one_behind (entry ∷ []) one = tt
 one_behind (Undo p batch ∷ Close q ∷ []) one = tt
 one_behind others one = absurd one
-
-pub behind_bare : (entries : List Entry) → AreBehind entries → HasNoVersions (next_of entries)
-behind_bare [] behind key = refl
-behind_bare (Commit p ∷ entries) behind key = refl
-behind_bare (Close p ∷ entries) behind key = refl
-behind_bare other behind key = absurd behind
 
 behind_decides : (entries : List Entry) → AreBehind entries → is_prepare (next_of entries) ≡ true → ⊥
 behind_decides [] behind is = true≢false (sym is)
@@ -151,9 +146,8 @@ module _ {D : Type 0} (z : SharedState D) (s t u : SeatState) (log left : LogSta
       longer : length left.table.history ≡ suc (length log.table.history)
       longer = let l = length-append log.table.history (entry ∷ []) in ap length history_is ∙ omega (arith, l)
 
-      -- with these words, which it noted before
-      pub joined : (bound : ℕ) (words : List ℕ) → ArePublished (length log.table.history) words → Noted t.knows (words_stay bound (with_way words way)) → HasJoined z s log entry others u left
-      joined bound words are noted = record {
+      pub joined : ((bound : ℕ) (words : List ℕ) → Noted s.knows (words_stay bound words) → Noted t.knows (words_stay (bound_with z.cells (length log.table.history) bound words way) (with_way words way))) → HasJoined z s log entry others u left
+      joined entering = let w = h.words in record {
         holds = record {
           turn = record {
             same_table = ap (λ (x : SeatState). x.table) joined_goes.same ∙ h.turn.same_table;
@@ -164,14 +158,17 @@ module _ {D : Type 0} (z : SharedState D) (s t u : SeatState) (log left : LogSta
           seen = ap (λ (x : SeatState). x.knows.participant.seen) joined_goes.same ∙ sym history_is;
           of_store = h.of_store ∙ ap Some (sym (ap (λ (x : LogState). x.first) k.log_is));
           words = record {
-            bound = bound;
-            words = with_way words way;
-            noted = k.seat.noted (words_stay bound (with_way words way)) refl noted;
-            are_published = subst (λ (n : ℕ). ArePublished n (with_way words way)) (sym longer)
-                (way_published (length log.table.history) words (pending_pair log.table.history log.table.pending) (pending_decides log.table.history log.table.pending) are);
+            bound = bound_with z.cells (length log.table.history) w.bound w.words way;
+            words = with_way w.words way;
+            noted = k.seat.noted (words_stay (bound_with z.cells (length log.table.history) w.bound w.words way) (with_way w.words way)) refl (entering w.bound w.words w.noted);
+            are_published = subst (λ (n : ℕ). ArePublished n (with_way w.words way)) (sym longer)
+                (way_published (length log.table.history) w.words (pending_pair log.table.history log.table.pending) (pending_decides log.table.history log.table.pending) w.are_published);
           };
         };
         seat = joined_goes;
+        words = λ bound words there.
+            subst (λ (o : Option CommitPair). Noted u.knows (words_stay (bound_with z.cells (length log.table.history) bound words (way_of o)) (with_way words (way_of o)))) pair_is
+            (k.seat.noted (words_stay (bound_with z.cells (length log.table.history) bound words way) (with_way words way)) refl (entering bound words there));
         log_is = k.log_is;
       }
 

@@ -7,51 +7,47 @@ use Rattle.wp_outside.specs.Faults.{Rose}
 use Rattle.wp_gatelog.specs.Moments.{Leaves}
 use Rattle.wp_wal.specs.Spelling.{IsLogOrNext}
 use Rattle.wp_wal.specs.Wal.{WalState, LosesNothing}
-use Rattle.wp_core.specs.Entries.{transaction_of}
+use Rattle.wp_core.specs.Entries.{pair_by, transaction_of}
 use Rattle.wp_core.specs.Lists.{IsIn}
 use Rattle.wp_core.specs.Sound.Views.{guarded_by}
 use Rattle.wp_core.specs.Tables.{WriteTable, Content, writes}
-use Rattle.wp_core.specs.Views.{Fact, versions_in_memory}
+use Rattle.wp_core.specs.Views.{Fact, words_stay, versions_in_memory}
 use Rattle.wp_core.specs.World.{Participant}
+use Rattle.wp_rule.specs.Knows.{Noted}
 use Rattle.wp_parts.specs.Log.{LogState}
 use Rattle.wp_shared.specs.Seats.{SharedState, SeatState}
 use Rattle.wp_shared.specs.Notes.{being, noting, GoesOn}
 use Rattle.wp_shared.proofs.Goes.{holds, notes}
+use Rattle.wp_commits.specs.declared.way.Way.{Way}
+use Rattle.wp_commits.specs.Bound.{bound_with, bound_for}
+use Rattle.wp_commits.specs.Ways.{way_of, ways_of, RisesFor, with_way, entered}
+use Rattle.wp_commits.proofs.Clears.{still_noted}
+use Rattle.wp_commits.proofs.Ways.{bound_for_more}
 use Rattle.wp_records.specs.declared.error.WriteError.{WriteError}
 use Rattle.wp_records.specs.declared.error.WriteError.TheVariants.{Memory, LogFault}
 use Rattle.wp_records.specs.Writing.{HoldsWrite}
-use Rattle.wp_records.specs.Records.{numbers_behind, putting, is_about, IsAboutNone, IsPut, IsNotPut, failing, FailsAppend, Puts}
-use Rattle.wp_records.specs.Stages.{is_guarded, may_end, holding, as_failed, HoldsPending, IsLogged, HasJoined}
-use Rattle.wp_records.proofs.Facts.{unguarded}
+use Rattle.wp_records.specs.Records.{numbers_behind, putting, is_about, IsAboutNone, IsPutWith, IsPut, IsNotPut, failing, FailsAppend, Puts}
+use Rattle.wp_records.specs.Stages.{is_of_stage, is_guarded, may_end, holding, as_failed, HoldsPending, IsLogged, Logs, HasJoined}
+use Rattle.wp_records.proofs.Facts.{not_stage, unguarded}
 use Rattle.wp_records.proofs.Holding.{as_write}
 
 -- ---- nothing was put
 
--- nothing was done at all
-pub unchanged : {D : Type 0} (z : SharedState D) (s : SeatState) (log : LogState) → HoldsWrite z s log → log.table.closed ≡ false → IsNotPut z s log false s.knows.participant s log
-unchanged z s log h running = record {
-  holds = h;
-  same_by = refl;
-  history = refl;
-  closed_is = running;
-  knows = ap (λ (c : List Content). record s.knows { held = c }) h.turn.held;
-  notes = λ fact guard there. there;
-}
-
 module _ {D : Type 0} (z : SharedState D) (s new : SeatState) (log left : LogState) (holds : HoldsWrite z new left) where
   -- what was done was taken back
-  pub not_put : (closed : Bool) (after : Participant) → GoesOn is_guarded (writes left.table ∷ []) s.turns (being after s) new → left.table.history ≡ log.table.history → left.table.closed ≡ closed → IsNotPut z s log closed after new left
+  pub not_put : (closed : Bool) (after : Participant) → GoesOn is_of_stage (writes left.table ∷ []) s.turns (being after s) new → left.table.history ≡ log.table.history → left.table.closed ≡ closed → IsNotPut z s log [] closed after new left
   not_put closed after k history is = record {
     holds = holds;
     same_by = ap (λ (x : SeatState). x.by) k.same;
     history = history;
     closed_is = is;
     knows = ap (λ (x : SeatState). x.knows) k.same;
-    notes = λ fact guard there. k.noted fact (unguarded fact guard) there;
+    notes = λ fact guard there. k.noted fact (not_stage fact (unguarded fact guard)) there;
+    words = λ bound words there. k.noted (words_stay bound words) refl there;
   }
 
   -- where the log call failed
-  pub failed_put : (t : SeatState) (d : WriteTable) (entries : List Entry) → t ≡ holding d (as_failed entries s) → GoesOn is_guarded (writes left.table ∷ []) t.turns t new → left.table.history ≡ log.table.history → left.table.closed ≡ true → IsNotPut z s log true (failing entries s.knows.participant) new left
+  pub failed_put : (t : SeatState) (d : WriteTable) (entries : List Entry) → t ≡ holding d (as_failed entries s) → GoesOn is_of_stage (writes left.table ∷ []) t.turns t new → left.table.history ≡ log.table.history → left.table.closed ≡ true → IsNotPut z s log [] true (failing entries s.knows.participant) new left
   failed_put t d entries is k history closed =
       not_put true (failing entries s.knows.participant)
       (record {
@@ -82,28 +78,43 @@ abbrev pub unreserved : WalState → WalState
 unreserved w = record w { reserved = None }
 
 module _ {D : Type 0} (z : SharedState D) (s t new : SeatState) (log mid left : LogState) (h : List Content) (m : List ℕ) (k : GoesOn is_guarded h m s t) (same_history : mid.table.history ≡ log.table.history) where
-  not_put_before : (f : Participant → Participant) (closed : Bool) → IsNotPut z t mid closed (f t.knows.participant) new left → IsNotPut z s log closed (f s.knows.participant) new left
-  not_put_before f closed p = record {
-    holds = p.holds;
-    same_by = p.same_by ∙ ap (λ (x : SeatState). x.by) k.same;
-    history = p.history ∙ same_history;
-    closed_is = p.closed_is;
-    knows = p.knows ∙ ap (λ (x : SeatState). record x.knows { participant = f x.knows.participant; held = writes left.table ∷ []; notes = new.knows.notes }) k.same;
-    notes = λ fact guard there. p.notes fact guard (k.noted fact (unguarded fact guard) there);
-  }
+  abbrev n : ℕ
+  n = length log.table.history
 
-  pub put_before : (entries : List Entry) → IsPut z t mid entries new left → IsPut z s log entries new left
-  put_before entries p = record {
-    holds = p.holds;
-    same_by = p.same_by ∙ ap (λ (x : SeatState). x.by) k.same;
-    history = p.history ∙ ap (λ (e : List Entry). e ++ entries) same_history;
-    running = p.running;
-    knows = p.knows
-        ∙ (λ i. record (k.same i).knows { participant = putting (same_history i) entries (k.same i).knows.participant; learned = []; held = writes left.table ∷ []; notes = new.knows.notes });
-    notes = λ fact guard about there. p.notes fact guard (subst (λ (e : List Entry). IsAboutNone e entries fact) (sym same_history) about) (k.noted fact (unguarded fact guard) there);
-  }
+  -- in which the bound rose for these ways, and then for others
+  module _ (cleared : List Way) (rises : RisesFor z.cells n s.knows t.knows cleared) where
+    rose : (others : List Way) (bound : ℕ) (words : List ℕ)
+        → bound_for z.cells (length mid.table.history) (bound_for z.cells n bound words cleared) words others ≡ bound_for z.cells n bound words (cleared ++ others)
+    rose others bound words =
+        ap (λ (e : List Entry). bound_for z.cells (length e) (bound_for z.cells n bound words cleared) words others) same_history ∙ sym (bound_for_more z.cells n bound words cleared others)
 
-  module _ (table : settled mid.table ≡ settled log.table) (wal : unreserved mid.wal ≡ unreserved log.wal) where
+    not_put_before : (f : Participant → Participant) (others : List Way) (closed : Bool) → IsNotPut z t mid others closed (f t.knows.participant) new left → IsNotPut z s log (cleared ++ others) closed (f s.knows.participant) new left
+    not_put_before f others closed p = record {
+      holds = p.holds;
+      same_by = p.same_by ∙ ap (λ (x : SeatState). x.by) k.same;
+      history = p.history ∙ same_history;
+      closed_is = p.closed_is;
+      knows = p.knows ∙ ap (λ (x : SeatState). record x.knows { participant = f x.knows.participant; held = writes left.table ∷ []; notes = new.knows.notes }) k.same;
+      notes = λ fact guard there. p.notes fact guard (k.noted fact (unguarded fact guard) there);
+      words = λ bound words there. subst (λ (b : ℕ). Noted new.knows (words_stay b words)) (rose others bound words) (p.words (bound_for z.cells n bound words cleared) words (rises bound words there));
+    }
+
+    put_before : (others : List Way) (entries : List Entry) → IsPutWith z t mid others entries new left → IsPutWith z s log (cleared ++ others) entries new left
+    put_before others entries p = record {
+      holds = p.holds;
+      same_by = p.same_by ∙ ap (λ (x : SeatState). x.by) k.same;
+      history = p.history ∙ ap (λ (e : List Entry). e ++ entries) same_history;
+      running = p.running;
+      knows = p.knows
+          ∙ (λ i. record (k.same i).knows { participant = putting (same_history i) entries (k.same i).knows.participant; learned = []; held = writes left.table ∷ []; notes = new.knows.notes });
+      notes = λ fact guard about there. p.notes fact guard (subst (λ (e : List Entry). IsAboutNone e entries fact) (sym same_history) about) (k.noted fact (unguarded fact guard) there);
+      words = λ bound words there.
+          subst (λ (x : List Entry × ℕ). Noted new.knows (entered z.cells (length x.0) x.1 words (ways_of (suc (length x.0)) entries))) (λ i. (same_history i, rose others bound words i))
+          (p.words (bound_for z.cells n bound words cleared) words (rises bound words there));
+    }
+
+  -- in which it did not rise
+  module _ (rises : RisesFor z.cells n s.knows t.knows []) (table : settled mid.table ≡ settled log.table) (wal : unreserved mid.wal ≡ unreserved log.wal) where
     fails_before : (entries : List Entry) → FailsAppend mid entries left → FailsAppend log entries left
     fails_before entries f = record {
       table = f.table ∙ ap (λ (x : WriteTable). record x { closed = true; failed = entries }) table;
@@ -112,10 +123,30 @@ module _ {D : Type 0} (z : SharedState D) (s t new : SeatState) (log mid left : 
       durable = subst (λ (w : WalState). LosesNothing w.moments left.wal.moments) wal f.durable;
     }
 
+    ways_are : (entries : List Entry) → ways_of (suc (length mid.table.history)) entries ≡ ways_of (suc n) entries
+    ways_are entries = ap (λ (e : List Entry). ways_of (suc (length e)) entries) same_history
+
     pub puts_before : (entries : List Entry) (answer : Result (Unit {0}) WriteError) → Puts z t mid entries answer new left → Puts z s log entries answer new left
-    puts_before entries (Ok done) p = put_before entries p
-    puts_before entries (Err Memory) p = not_put_before (λ x. x) false p
-    puts_before entries (Err LogFault) p = (not_put_before (failing entries) true p.0, fails_before entries p.1)
+    puts_before entries (Ok done) p = subst (λ (w : List Way). IsPutWith z s log w entries new left) (ways_are entries) (put_before [] rises (ways_of (suc (length mid.table.history)) entries) entries p)
+    puts_before entries (Err Memory) p = (p.0, p.1, sym (ways_are entries) ∙ p.2, not_put_before [] rises (λ x. x) p.0 false p.3)
+    puts_before entries (Err LogFault) p = (
+      subst (λ (w : List Way). IsNotPut z s log w true (failing entries s.knows.participant) new left) (ways_are entries) (not_put_before [] rises (failing entries) (ways_of (suc (length mid.table.history)) entries) true p.0),
+      fails_before entries p.1,
+    )
+
+-- the record was made ready before, or it was tried
+module _ {D : Type 0} (z : SharedState D) (s t new : SeatState) (log left : LogState) (k : GoesOn is_guarded s.knows.held s.turns s t) (cleared : List Way) (rises : RisesFor z.cells (length log.table.history) s.knows t.knows cleared) where
+  pub not_ready : (others : List Way) → ways_of (suc (length log.table.history)) log.table.pending ≡ cleared ++ others → (why : WriteError) → why ≡ Memory → IsNotPut z t log [] false t.knows.participant new left → Puts z s log log.table.pending (Err why) new left
+  not_ready others are why is p =
+      subst (λ (e : WriteError). Puts z s log log.table.pending (Err e) new left) (sym is)
+      (cleared, others, are, subst (λ (w : List Way). IsNotPut z s log w false s.knows.participant new left) (append-nil cleared) (not_put_before z s t new log log left _ _ k refl cleared rises (λ x. x) [] false p))
+
+  pub not_logged : cleared ≡ ways_of (suc (length log.table.history)) log.table.pending → (why : WriteError) → Logs z t log (Err why) new left → Puts z s log log.table.pending (Err why) new left
+  not_logged all Memory none = absurd none
+  not_logged all LogFault p = (
+    subst (λ (w : List Way). IsNotPut z s log w true (failing log.table.pending s.knows.participant) new left) (append-nil cleared ∙ all) (not_put_before z s t new log log left _ _ k refl cleared rises (failing log.table.pending) [] true p.0),
+    p.1,
+  )
 
 -- ---- entries were put
 
@@ -123,7 +154,7 @@ may_end_not : (history : List Entry) (entry : Entry) (fact : Fact) → guarded_b
 may_end_not history entry fact guard about = λ i. unguarded fact guard i || about i
 
 -- no entry is left to put
-pub put_none : {D : Type 0} (z : SharedState D) (s : SeatState) (log : LogState) → HoldsPending z s log → log.table.pending ≡ [] → log.table.closed ≡ false → s.knows.learned ≡ [] → IsPut z s log [] s log
+pub put_none : {D : Type 0} (z : SharedState D) (s : SeatState) (log : LogState) → HoldsPending z s log → log.table.pending ≡ [] → log.table.closed ≡ false → s.knows.learned ≡ [] → IsPutWith z s log [] [] s log
 put_none z s log h none running learned = record {
   holds = as_write z s log h none;
   same_by = refl;
@@ -131,22 +162,25 @@ put_none z s log h none running learned = record {
   running = running;
   knows = let seen = h.seen ∙ sym (append-nil log.table.history) in λ i. record s.knows { participant = record s.knows.participant { seen = seen i; own = sym (append-nil s.knows.participant.own) i }; learned = learned i; held = h.turn.held i };
   notes = λ fact guard about there. there;
+  words = λ bound words there. there;
 }
 
 -- the first was put, and then the others
-module _ {D : Type 0} (z : SharedState D) (s t new : SeatState) (log mid left : LogState) (entry : Entry) (others : List Entry) (joined : HasJoined z s log entry others t mid) (k : IsPut z t mid others new left) where
+module _ {D : Type 0} (z : SharedState D) (s t new : SeatState) (log mid left : LogState) (entry : Entry) (others : List Entry) (joined : HasJoined z s log entry others t mid) (k : IsPutWith z t mid [] others new left) where
   history_is : mid.table.history ≡ log.table.history ++ entry ∷ []
   history_is = ap (λ (x : LogState). x.table.history) joined.log_is
+
+  one_longer : (h : List Entry) → length (h ++ entry ∷ []) ≡ suc (length h)
+  one_longer h = let l = length-append h (entry ∷ []) in omega (arith, l)
 
   one_more : (h : List Entry) (p : Participant) → putting (h ++ entry ∷ []) others (putting h (entry ∷ []) p) ≡ putting h (entry ∷ others) p
   one_more h p =
       let seen : (h ++ entry ∷ []) ++ others ≡ h ++ entry ∷ others = append_assoc h (entry ∷ []) others in
-      let long : length (h ++ entry ∷ []) ≡ suc (length h) = let l = length-append h (entry ∷ []) in omega (arith, l) in
       let own : (p.own ++ suc (length h) ∷ []) ++ numbers_behind (length (h ++ entry ∷ [])) others ≡ p.own ++ suc (length h) ∷ numbers_behind (suc (length h)) others =
-      append_assoc p.own (suc (length h) ∷ []) (numbers_behind (length (h ++ entry ∷ [])) others) ∙ ap (λ (n : ℕ). p.own ++ suc (length h) ∷ numbers_behind n others) long in
+      append_assoc p.own (suc (length h) ∷ []) (numbers_behind (length (h ++ entry ∷ [])) others) ∙ ap (λ (m : ℕ). p.own ++ suc (length h) ∷ numbers_behind m others) (one_longer h) in
       λ i. record p { seen = seen i; own = own i }
 
-  pub put_next : IsPut z s log (entry ∷ others) new left
+  pub put_next : IsPutWith z s log [] (entry ∷ others) new left
   put_next = record {
     holds = k.holds;
     same_by = k.same_by ∙ ap (λ (x : SeatState). x.by) joined.seat.same;
@@ -156,24 +190,33 @@ module _ {D : Type 0} (z : SharedState D) (s t new : SeatState) (log mid left : 
         ∙ ((λ i. record (joined.seat.same i).knows { participant = putting (history_is i) others (joined.seat.same i).knows.participant; learned = []; held = writes left.table ∷ []; notes = new.knows.notes })
         ∙ ap (λ (p : Participant). record s.knows { participant = p; learned = []; held = writes left.table ∷ []; notes = new.knows.notes }) (one_more log.table.history s.knows.participant));
     notes = λ fact guard about there. k.notes fact guard (subst (λ (e : List Entry). IsAboutNone e others fact) (sym history_is) about.1) (joined.seat.noted fact (may_end_not log.table.history entry fact guard about.0) there);
+    words = λ bound words there.
+        let way = way_of (pair_by (suc (length log.table.history)) entry) in
+        let next : ℕ = bound_with z.cells (length log.table.history) bound words way in
+        subst (λ (m : ℕ). Noted new.knows (entered z.cells m next (with_way words way) (ways_of (suc m) others))) (ap (λ (e : List Entry). length e) history_is ∙ one_longer log.table.history)
+        (k.words next (with_way words way) (joined.words bound words there));
   }
 
 module _ {D : Type 0} (z : SharedState D) (s t : SeatState) (log mid : LogState) (entry : Entry) (others : List Entry) (joined : HasJoined z s log entry others t mid) (pending : log.table.pending ≡ entry ∷ others) where
   pub others_pending : mid.table.pending ≡ others
   others_pending = ap (λ (x : LogState). x.table.pending) joined.log_is
 
-  pub put_first : (new : SeatState) (left : LogState) → IsPut z t mid mid.table.pending new left → IsPut z s log log.table.pending new left
+  pub put_first : (new : SeatState) (left : LogState) → IsPutWith z t mid [] mid.table.pending new left → IsPutWith z s log [] log.table.pending new left
   put_first new left p =
-      subst (λ (e : List Entry). IsPut z s log e new left) (sym pending) (put_next z s t new log mid left entry others joined (subst (λ (e : List Entry). IsPut z t mid e new left) others_pending p))
+      subst (λ (e : List Entry). IsPutWith z s log [] e new left) (sym pending) (put_next z s t new log mid left entry others joined (subst (λ (e : List Entry). IsPutWith z t mid [] e new left) others_pending p))
 
   -- behind a fact that was noted
-  pub put_noted : (r : SeatState) → s ≡ noting versions_in_memory r → (new : SeatState) (left : LogState) → IsPut z t mid mid.table.pending new left → IsPut z r log log.table.pending new left
-  put_noted r noted new left p = put_before z r s new log log left _ _ (notes is_guarded r s s versions_in_memory noted) refl log.table.pending (put_first new left p)
+  pub put_noted : (r : SeatState) → s ≡ noting versions_in_memory r → (new : SeatState) (left : LogState) → IsPutWith z t mid [] mid.table.pending new left → IsPutWith z r log [] log.table.pending new left
+  put_noted r noted new left p =
+      put_before z r s new log log left _ _ (notes is_guarded r s s versions_in_memory noted) refl [] (λ bound words there. still_noted r s versions_in_memory (words_stay bound words) noted there) [] log.table.pending (put_first new left p)
 
 -- the record was made ready and logged before
-pub put_logged : {D : Type 0} (z : SharedState D) (s t u new : SeatState) (log mid left : LogState) → GoesOn is_guarded s.knows.held s.turns s t → IsLogged z t log u mid → IsPut z u mid mid.table.pending new left → IsPut z s log log.table.pending new left
-put_logged z s t u new log mid left k logged p =
+pub put_logged : {D : Type 0} (z : SharedState D) (s t u new : SeatState) (log mid left : LogState) → GoesOn is_guarded s.knows.held s.turns s t → RisesFor z.cells (length log.table.history) s.knows t.knows (ways_of (suc (length log.table.history)) log.table.pending)
+    → IsLogged z t log u mid → IsPutWith z u mid [] mid.table.pending new left → IsPut z s log log.table.pending new left
+put_logged z s t u new log mid left k rises logged p =
     let history : mid.table.history ≡ log.table.history = ap (λ (x : WriteTable). x.history) logged.table in
     let pending : mid.table.pending ≡ log.table.pending = ap (λ (x : WriteTable). x.pending) logged.table in
-    put_before z s t new log log left _ _ k refl log.table.pending
-    (put_before z t u new log mid left _ _ (holds is_guarded t u u (writes mid.table ∷ []) logged.seat) history log.table.pending (subst (λ (e : List Entry). IsPut z u mid e new left) pending p))
+    let ways = ways_of (suc (length log.table.history)) log.table.pending in
+    let behind = put_before z t u new log mid left _ _ (holds is_guarded t u u (writes mid.table ∷ []) logged.seat) history [] (λ bound words there. subst (λ (x : SeatState). Noted x.knows (words_stay bound words)) (sym logged.seat) there)
+    [] log.table.pending (subst (λ (e : List Entry). IsPutWith z u mid [] e new left) pending p) in
+    subst (λ (w : List Way). IsPutWith z s log w log.table.pending new left) (append-nil ways) (put_before z s t new log log left _ _ k refl ways rises [] log.table.pending behind)

@@ -1,5 +1,5 @@
 -- A record that is made ready for its log call.
-use Rattle.std.proofs.Common.{◌≡◌, ℕ, suc, false, List, length, sym, subst, ap, ◌∙◌}
+use Rattle.std.proofs.Common.{◌≡◌, ℕ, suc, false, List, length, refl, sym, subst, ap, ◌∙◌}
 use Rattle.std.specs.Prelude.{Result}
 use Rattle.wp_model.specs.declared.entry.Entry.{Entry}
 use Rattle.wp_core.specs.Entries.{IsOneRecord}
@@ -10,11 +10,13 @@ use Rattle.wp_rule.specs.Knows.{Noted}
 use Rattle.wp_parts.specs.Log.{LogState}
 use Rattle.wp_shared.specs.Seats.{SharedState, SeatState}
 use Rattle.wp_shared.specs.Notes.{GoesOn}
+use Rattle.wp_shared.proofs.Goes.{wider}
 use Rattle.wp_commits.specs.Notes.{is_of_words}
 use Rattle.wp_commits.specs.Ways.{ways_of, AreApart}
 use Rattle.wp_records.specs.declared.error.WriteError.{WriteError}
 use Rattle.wp_records.specs.Records.{MayPut, Puts}
-use Rattle.wp_records.specs.Stages.{HoldsPending, IsUnlogged, IsBegun}
+use Rattle.wp_records.specs.Stages.{is_guarded, is_of_pending, HoldsPending, IsUnlogged, IsBegun}
+use Rattle.wp_records.proofs.Facts.{not_pending}
 use Rattle.wp_records.proofs.Holding.{still_holds, words_still}
 use Rattle.wp_records.proofs.Joined.{own_still, one_some}
 use Rattle.wp_records.proofs.Puts.{settled, unreserved, puts_before}
@@ -48,4 +50,4 @@ module _ {D : Type 0} (z : SharedState D) (s t : SeatState) (log mid : LogState)
 
   pub begun_puts : (new : SeatState) (left : LogState) (answer : Result (Unit {0}) WriteError) → Puts z t mid mid.table.pending answer new left → Puts z s log es answer new left
   begun_puts new left answer p =
-      puts_before z s t new log mid left _ _ b.seat history_is (ap settled b.table) (ap unreserved b.wal) es answer (subst (λ (e : List Entry). Puts z t mid e answer new left) pending_is p)
+      puts_before z s t new log mid left _ _ (wider is_of_pending s t t is_guarded _ _ not_pending b.seat) history_is (λ bound words there. b.seat.noted (words_stay bound words) refl there) (ap settled b.table) (ap unreserved b.wal) es answer (subst (λ (e : List Entry). Puts z t mid e answer new left) pending_is p)

@@ -15,11 +15,14 @@ use Rattle.wp_core.specs.Lists.{IsIn}
 use Rattle.wp_core.specs.Notes.{is_name}
 use Rattle.wp_core.specs.Sound.Views.{guarded_by}
 use Rattle.wp_core.specs.Tables.{writes}
-use Rattle.wp_core.specs.Views.{Fact, log_failed, undecided_at, prior_values, unprepared}
+use Rattle.wp_core.specs.Views.{Fact, words_stay, log_failed, undecided_at, prior_values, unprepared}
 use Rattle.wp_core.specs.World.{Transaction, Actor, Participant}
-use Rattle.wp_rule.specs.Knows.{KnowsHeld}
+use Rattle.wp_rule.specs.Knows.{KnowsHeld, Noted}
 use Rattle.wp_parts.specs.Log.{LogState}
 use Rattle.wp_shared.specs.Seats.{SharedState, SeatState}
+use Rattle.wp_commits.specs.declared.way.Way.{Way}
+use Rattle.wp_commits.specs.Bound.{bound_for}
+use Rattle.wp_commits.specs.Ways.{ways_of, RisesFor, entered}
 use Rattle.wp_records.specs.declared.error.WriteError.{WriteError}
 use Rattle.wp_records.specs.declared.error.WriteError.TheVariants.{Memory, LogFault}
 use Rattle.wp_records.specs.Writing.{HoldsWrite}
@@ -65,24 +68,33 @@ abbrev pub IsAboutNone : List Entry → List Entry → Fact → Type 0
 IsAboutNone history [] fact = Unit {0}
 IsAboutNone history (entry ∷ entries) fact = (is_about (transaction_of history entry) fact ≡ false) × IsAboutNone (history ++ entry ∷ []) entries fact
 
--- The entries stand behind the history, and the seat put them there. What it noted without a turn it has noted still, but for what
--- was about the transaction of one of them.
-pub record IsPut {D : Type 0} (z : SharedState D) (old : SeatState) (log : LogState) (entries : List Entry) (new : SeatState) (left : LogState) : Type 0 where
+-- The entries stand behind the history, and the seat put them there, once the bound had risen for the pairs that are kept in these
+-- ways. What it noted without a turn it has noted still, but for what was about the transaction of one of them. The bound and the
+-- words are as they were but for that, and for the entries' own pairs.
+pub record IsPutWith {D : Type 0} (z : SharedState D) (old : SeatState) (log : LogState) (cleared : List Way) (entries : List Entry) (new : SeatState) (left : LogState) : Type 0 where
   pub holds : HoldsWrite z new left
   pub same_by : new.by ≡ old.by
   pub history : left.table.history ≡ log.table.history ++ entries
   pub running : left.table.closed ≡ false
   pub knows : new.knows ≡ record old.knows { participant = putting log.table.history entries old.knows.participant; learned = []; held = writes left.table ∷ []; notes = new.knows.notes }
   pub notes : (fact : Fact) → guarded_by fact ≡ None → IsAboutNone log.table.history entries fact → IsIn fact old.knows.notes → IsIn fact new.knows.notes
+  pub words : (bound : ℕ) (words : List ℕ) → Noted old.knows (words_stay bound words)
+      → Noted new.knows (entered z.cells (length log.table.history) (bound_for z.cells (length log.table.history) bound words cleared) words (ways_of (suc (length log.table.history)) entries))
 
--- The history is as it was, and nothing is pending. The log is closed now, or it is not.
-pub record IsNotPut {D : Type 0} (z : SharedState D) (old : SeatState) (log : LogState) (closed : Bool) (after : Participant) (new : SeatState) (left : LogState) : Type 0 where
+-- ... for those of all its entries
+abbrev pub IsPut : {D : Type 0} → SharedState D → SeatState → LogState → List Entry → SeatState → LogState → Type 0
+IsPut z old log entries new left = IsPutWith z old log (ways_of (suc (length log.table.history)) entries) entries new left
+
+-- The history is as it was, and nothing is pending. The log is closed now, or it is not. The bound rose for these ways, and the words
+-- are as they were.
+pub record IsNotPut {D : Type 0} (z : SharedState D) (old : SeatState) (log : LogState) (cleared : List Way) (closed : Bool) (after : Participant) (new : SeatState) (left : LogState) : Type 0 where
   pub holds : HoldsWrite z new left
   pub same_by : new.by ≡ old.by
   pub history : left.table.history ≡ log.table.history
   pub closed_is : left.table.closed ≡ closed
   pub knows : new.knows ≡ record old.knows { participant = after; held = writes left.table ∷ []; notes = new.knows.notes }
   pub notes : (fact : Fact) → guarded_by fact ≡ None → IsIn fact old.knows.notes → IsIn fact new.knows.notes
+  pub words : RisesFor z.cells (length log.table.history) old.knows new.knows cleared
 
 -- the participant, to which the log call for these entries failed
 abbrev pub failing : List Entry → Participant → Participant
@@ -96,8 +108,10 @@ pub record FailsAppend (log : LogState) (entries : List Entry) (left : LogState)
   pub passed : Passes (Leaves (IsLogOrNext log.wal.id log.table.history entries)) log.wal.moments left.wal.moments
   pub durable : LosesNothing log.wal.moments left.wal.moments
 
--- what a call answers that puts these entries behind the history, and what it leaves
+-- What a call answers that puts these entries behind the history, and what it leaves. Where memory is wanting the bound rose for some
+-- of the first of its ways, for none, or for all.
 abbrev pub Puts : {D : Type 0} → SharedState D → SeatState → LogState → List Entry → Result (Unit {0}) WriteError → SeatState → LogState → Type 0
 Puts z old log entries (Ok done) new left = IsPut z old log entries new left
-Puts z old log entries (Err Memory) new left = IsNotPut z old log false old.knows.participant new left
-Puts z old log entries (Err LogFault) new left = IsNotPut z old log true (failing entries old.knows.participant) new left × FailsAppend log entries left
+Puts z old log entries (Err Memory) new left =
+    (cleared : List Way) × (others : List Way) × (ways_of (suc (length log.table.history)) entries ≡ cleared ++ others) × IsNotPut z old log cleared false old.knows.participant new left
+Puts z old log entries (Err LogFault) new left = IsNotPut z old log (ways_of (suc (length log.table.history)) entries) true (failing entries old.knows.participant) new left × FailsAppend log entries left

@@ -21,9 +21,10 @@ use Rattle.wp_parts.specs.Parts.{log_first}
 use Rattle.wp_shared.specs.Seats.{SharedState, SeatState}
 use Rattle.wp_shared.specs.Turns.{HoldsTurn}
 use Rattle.wp_shared.specs.Notes.{is_flag, GoesOn, KnowsWords}
-use Rattle.wp_commits.specs.Ways.{ways_of, AreReady, AreApart}
+use Rattle.wp_commits.specs.Ways.{ways_of, AreReady, AreApart, entered}
 use Rattle.wp_records.specs.declared.error.WriteError.{WriteError}
-use Rattle.wp_records.specs.Records.{OwnsEntry, is_about, MayPut, Puts}
+use Rattle.wp_records.specs.declared.error.WriteError.TheVariants.{Memory, LogFault}
+use Rattle.wp_records.specs.Records.{OwnsEntry, is_about, MayPut, IsNotPut, failing, FailsAppend}
 
 -- ---- which facts
 
@@ -46,6 +47,10 @@ is_of_number fact = is_of_heap fact || is_flag fact
 -- any of the pending entry
 abbrev pub is_of_pending : Fact → Bool
 is_of_pending fact = is_of_versions fact || is_of_heap fact
+
+-- that, or what a flag is
+abbrev pub is_of_stage : Fact → Bool
+is_of_stage fact = is_of_pending fact || is_flag fact
 
 -- a turn guards it
 abbrev pub is_guarded : Fact → Bool
@@ -96,7 +101,7 @@ HasPrepare d = (name : List ℕ) × (batch : List Change) × (others : List Entr
 -- the entries were made pending, and nothing of them is anywhere
 pub record IsBegun {D : Type 0} (z : SharedState D) (old : SeatState) (log : LogState) (entries : List Entry) (new : SeatState) (left : LogState) : Type 0 where
   pub holds : HoldsPending z new left
-  pub seat : GoesOn is_guarded (writes left.table ∷ []) old.turns old new
+  pub seat : GoesOn is_of_pending (writes left.table ∷ []) old.turns old new
   pub table : left.table ≡ record log.table { pending = entries; logged = false }
   pub wal : left.wal ≡ record log.wal { reserved = left.wal.reserved }
   pub nowhere : Noted new.knows versions_nowhere
@@ -117,10 +122,11 @@ pub record IsLogged {D : Type 0} (z : SharedState D) (old : SeatState) (log : Lo
   pub seat : new ≡ holding left.table old
   pub table : left.table ≡ record log.table { logged = true; log = log.table.log ++ log.table.pending }
 
--- what the log call leaves of the pending record: it is logged, or taken back
+-- what the log call leaves of the pending record: it is logged, or taken back. It takes no memory
 abbrev pub Logs : {D : Type 0} → SharedState D → SeatState → LogState → Result (Unit {0}) WriteError → SeatState → LogState → Type 0
 Logs z old log (Ok done) new left = IsLogged z old log new left
-Logs z old log (Err why) new left = Puts z old log log.table.pending (Err why) new left
+Logs z old log (Err Memory) new left = ⊥
+Logs z old log (Err LogFault) new left = IsNotPut z old log [] true (failing log.table.pending old.knows.participant) new left × FailsAppend log log.table.pending left
 
 -- ---- behind it
 
@@ -146,6 +152,7 @@ pub record IsPublished (old : SeatState) (log : LogState) (entry : Entry) (other
 pub record HasJoined {D : Type 0} (z : SharedState D) (old : SeatState) (log : LogState) (entry : Entry) (others : List Entry) (new : SeatState) (left : LogState) : Type 0 where
   pub holds : HoldsPending z new left
   pub seat : GoesOn (may_end log.table.history entry) (writes left.table ∷ []) old.turns (as_published log.table.history entry old) new
+  pub words : (bound : ℕ) (words : List ℕ) → Noted old.knows (words_stay bound words) → Noted new.knows (entered z.cells (length log.table.history) bound words (ways_of (suc (length log.table.history)) (entry ∷ [])))
   pub log_is : left ≡ record log { table = with_entry log.table entry others }
 
 -- they have no versions, and none is a Prepare: so they may stand in a record behind another one

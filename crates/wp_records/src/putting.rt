@@ -1,13 +1,15 @@
 //! A record from its making to the history.
-ghost use Rattle.std.specs.Prelude.{◌≡◌, ◌≢◌, suc, false, List, [], ◌∷◌, length, OnOk};
+ghost use Rattle.std.specs.Prelude.{◌≡◌, ◌≢◌, suc, false, List, [], ◌∷◌, ◌++◌, length, OnOk, OnErr};
 ghost use Rattle.wp_model.specs.declared.entry.Entry.{Entry};
 ghost use Rattle.wp_core.specs.Entries.{IsOneRecord};
 ghost use Rattle.wp_core.specs.Views.{versions_in_memory, versions_nowhere, number_not_in_heap};
 ghost use Rattle.wp_rule.specs.Knows.{Noted};
 ghost use Rattle.wp_shared.specs.Notes.{GoesOn};
-ghost use Rattle.wp_commits.specs.Ways.{ways_of, AreApart};
+ghost use Rattle.wp_commits.specs.declared.way.Way.{Way};
+ghost use Rattle.wp_commits.specs.Ways.{ways_of, RisesFor, AreApart};
+ghost use Rattle.wp_records.specs.declared.error.WriteError.TheVariants.{Memory};
 ghost use Rattle.wp_records.specs.Writing.{HoldsWrite};
-ghost use Rattle.wp_records.specs.Records.{MayPut, IsPut, Puts};
+ghost use Rattle.wp_records.specs.Records.{MayPut, IsPutWith, IsNotPut, Puts};
 ghost use Rattle.wp_records.specs.Stages.{is_guarded, HoldsPending, IsUnlogged, IsReadied, Logs, AreBehind, MayJoin, HasJoined};
 
 use crate::error::WriteError;
@@ -36,6 +38,9 @@ fn ready<D: Disk + Drop, R: Wait>(
     ensures holds { HoldsPending store.now seat.new log.now }
     ensures seat { GoesOn is_guarded seat.old.knows.held seat.old.turns seat.old seat.new }
     ensures ok { OnOk result (IsReadied seat.new.knows store.now.cells log.now.table) }
+    ensures bound { OnOk result (RisesFor store.now.cells (length log.now.table.history) seat.old.knows seat.new.knows (ways_of (suc (length log.now.table.history)) log.now.table.pending)) }
+    ensures refused { OnErr result ((cleared : List Way) × (others : List Way) × (ways_of (suc (length log.now.table.history)) log.now.table.pending ≡ cleared ++ others)
+        × RisesFor store.now.cells (length log.now.table.history) seat.old.knows seat.new.knows cleared) }
 {
     clear_all(store, rt, seat, log)?;
     put_versions(store, rt, seat, log)?;
@@ -52,7 +57,8 @@ fn give_up<D: Disk + Drop, R: Wait>(
     requires holds { HoldsPending store.now seat.old log.old }
     requires unlogged { log.old.table.logged ≡ false }
     requires running { log.old.table.closed ≡ false }
-    ensures { Puts store.now seat.old log.old log.old.table.pending (Err result) seat.new log.new }
+    ensures why { result ≡ Memory }
+    ensures back { IsNotPut store.now seat.old log.old [] false seat.old.knows.participant seat.new log.new }
 {
     take_back(store, rt, seat, log);
     WriteError::Memory
@@ -113,7 +119,7 @@ fn publish_all<D: Disk + Drop, R: Wait>(
     requires running { log.old.table.closed ≡ false }
     requires may { MayJoin seat.old.knows store.now.cells log.old.table }
     requires versions { Noted seat.old.knows versions_in_memory }
-    ensures { IsPut store.now seat.old log.old log.old.table.pending seat.new log.new }
+    ensures { IsPutWith store.now seat.old log.old [] log.old.table.pending seat.new log.new }
 {
     publish_next(store, rt, seat, log);
     while !log.pending().is_empty() {

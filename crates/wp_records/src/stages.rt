@@ -11,7 +11,7 @@ ghost use Rattle.wp_core.specs.Views.{versions_in_memory, versions_nowhere, numb
 ghost use Rattle.wp_rule.specs.Knows.{HasNoVersions, Noted};
 ghost use Rattle.wp_parts.specs.Stock.{store_table};
 ghost use Rattle.wp_shared.specs.Notes.{GoesOn, DelayedFlagTells};
-ghost use Rattle.wp_records.specs.Stages.{is_of_versions, is_of_number, is_guarded, HoldsPending, HasPrepare, IsBegun};
+ghost use Rattle.wp_records.specs.Stages.{is_of_versions, is_of_number, is_of_pending, is_of_stage, HoldsPending, HasPrepare, IsBegun};
 ghost use Rattle.wp_records.specs.Writing.{HoldsWrite};
 
 use crate::record::Record;
@@ -54,7 +54,7 @@ fn drop_pending<D: Disk + Drop>(store: &Shared<D>, seat: &mut Seat<D>, log: &mut
     requires nowhere { Noted seat.old.knows versions_nowhere }
     requires below { Noted seat.old.knows number_not_in_heap }
     ensures holds { HoldsWrite store.now seat.new log.new }
-    ensures seat { GoesOn is_guarded (writes log.new.table ∷ []) seat.old.turns seat.old seat.new }
+    ensures seat { GoesOn is_of_pending (writes log.new.table ∷ []) seat.old.turns seat.old seat.new }
     ensures log { log.new ≡ record log.old { table = record log.old.table { pending = [] } } }
 {
     log.drop_pending();
@@ -179,7 +179,7 @@ fn insert_number<D: Disk + Drop>(
     ensures flag { DelayedFlagTells seat.new.knows tables.new }
     ensures ok { OnOk result (Noted seat.new.knows number_in_heap) }
 {
-    store.max(seat);
+    store.shows_world(seat);
     tables.add(log.published() + 1)?;
     steps::add_number(store, seat, log, tables);
     Ok(())
@@ -223,7 +223,7 @@ fn remove_number<D: Disk + Drop>(
     ensures flag { DelayedFlagTells seat.new.knows tables.new }
     ensures below { Noted seat.new.knows number_not_in_heap }
 {
-    store.max(seat);
+    store.shows_world(seat);
     tables.remove(log.published() + 1);
     steps::take_number(store, seat, log, tables);
 }
@@ -256,7 +256,7 @@ pub(crate) fn take_back<D: Disk + Drop, R: Wait>(
     requires holds { HoldsPending store.now seat.old log.old }
     requires unlogged { log.old.table.logged ≡ false }
     ensures holds { HoldsWrite store.now seat.new log.new }
-    ensures seat { GoesOn is_guarded (writes log.new.table ∷ []) seat.old.turns seat.old seat.new }
+    ensures seat { GoesOn is_of_stage (writes log.new.table ∷ []) seat.old.turns seat.old seat.new }
     ensures log { log.new ≡ record log.old { table = record log.old.table { pending = [] } } }
 {
     leave_heap(store, rt, seat, log);

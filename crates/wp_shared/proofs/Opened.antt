@@ -4,22 +4,19 @@ use Rattle.std.proofs.Common.{Box, ◌≡◌, ℕ, ◌<◌, ◌≤◌, ◌^◌, 
 use Rattle.std.specs.Prelude.{slice_index_or}
 use Rattle.std.specs.List.{remove}
 use Rattle.wp_model.specs.declared.entry.Entry.{Entry}
-use Rattle.wp_model.specs.declared.version.Version.{Version}
 use Rattle.wp_outside.specs.Disk.{Moment}
-use Rattle.wp_gatelog.specs.Durability.{LosesNoRecord}
 use Rattle.wp_gatelog.specs.Opening.{SurvivesThrough}
 use Rattle.wp_store.specs.Store.{StoreParts}
 use Rattle.wp_tableset.specs.Set.{TableSetState}
 use Rattle.wp_wal.specs.declared.error.WalError.TheVariants as wal_error
-use Rattle.wp_wal.specs.Spelling as log_spelling
 use Rattle.wp_wal.specs.Wal.{WalState}
 use Rattle.wp_wal.proofs.AppendLemmas.{running_history}
 use Rattle.wp_manifest.specs.Edit.{Edit}
 use Rattle.wp_manifest.specs.Manifest.{ManifestState}
 use Rattle.wp_manifest.specs.Spelling.{MAGIC}
 use Rattle.wp_open.specs.Opens.{AllKnown, installed_of}
-use Rattle.wp_open.specs.Parts.{PartsOpened}
-use Rattle.wp_open.specs.Refused.{of_log, IsLeft, at_tables}
+use Rattle.wp_open.specs.Parts.{PartsOpened, ArePartsOf}
+use Rattle.wp_open.specs.Refused.{of_log, IsLeft, at_tables, IsRefusedFrom}
 use Rattle.wp_open.specs.declared.opening.OpenError.TheVariants as open_error
 use Rattle.wp_open.proofs.Stages.{manifest_rests}
 use Rattle.wp_core.specs.Tables.{writes, installed}
@@ -33,7 +30,6 @@ use Rattle.wp_parts.specs.Parts.{content, log_first, set_first, IsGuardedBy}
 use Rattle.wp_parts.specs.declared.part.Part.{Part}
 use Rattle.wp_parts.specs.declared.part.Part.TheVariants as part
 use Rattle.wp_parts.specs.Devices.{DevicesLeft, devices_behind}
-use Rattle.wp_shared.specs.OpenedFrom.{IsRefusedFrom}
 use Rattle.wp_shared.specs.Opening.{IsOneStore}
 
 pub one_store : {D : Type 0} (first slots : List (Part D)) (wal : WalState) (set : TableSetState) → first ≡ slots → log_first slots ≡ Some wal → set_first slots ≡ Some set → set.manifest.log.id ≡ wal.id → wal.id < 2 ^ 32 → IsOneStore first
@@ -49,14 +45,14 @@ edits_in other d = d
 
 -- ---- the values in their slots
 
-module _ {D : Type 0} (slots : List (Part D)) (wal : WalState) (history : List Entry) (set : TableSetState) (tables : List (List Version)) (f : AreFilled wal history set tables slots) where
+module _ {D : Type 0} (slots : List (Part D)) (wal : WalState) (history : List Entry) (set : TableSetState) (store : StoreParts) (f : AreFilled wal history set store slots) where
   pub log_there : log_first slots ≡ Some wal
   log_there = ap log_first f.are ∙ ap (λ (log : LogState). Some log.first) f.log_is
 
   pub set_there : set_first slots ≡ Some set
   set_there = ap set_first f.are ∙ ap (λ (edits : EditsState). Some edits.first) f.edits_are
 
-  pub last_edit_is : (first : List (Part D)) → first ≡ slots → WasLast content first (installed_of set.manifest.edit tables)
+  pub last_edit_is : (first : List (Part D)) → first ≡ slots → WasLast content first (installed_of set.manifest.edit store.tables)
   last_edit_is first same = ap (first_edit_of content) (same ∙ f.are) ∙ ap (λ (edits : EditsState). Some edits.table.last) f.edits_are
 
   -- the slots came back: the last one is taken out, and then the first
@@ -112,18 +108,16 @@ none_known P (l ∷ ls) (m ∷ ms) (t ∷ ts) all = all l.reads m.reads t.reads
 -- it is a refusal, with no other cause
 pub refused_late : (same_manifest same_tables : Type 0) (asked : ℕ) (old left : DevicesLeft) (wal : WalState) (history : List Entry) (edits : ManifestState) (tables_now : List Moment) (faults : ℕ) (versions : StoreParts)
     → left ≡ devices_behind wal (running_set edits tables_now faults) → PartsOpened asked old.log old.manifest old.tables wal history edits tables_now versions
-    → SurvivesThrough log_spelling.MAGIC asked old.log wal.moments → SurvivesThrough MAGIC wal.id old.manifest edits.log.moments
-    → LosesNoRecord log_spelling.MAGIC old.log wal.moments → LosesNoRecord MAGIC old.manifest edits.log.moments
-    → old.log_faults ≤ wal.faults → old.manifest_faults ≤ edits.log.faults → old.tables_faults ≤ faults → IsRefusedFrom asked same_manifest same_tables old left open_error.Memory
-refused_late same_manifest same_tables asked old left wal history edits tables_now faults versions is p log_survives manifest_survives log_durable manifest_durable log_later manifest_later tables_later =
+    → ArePartsOf asked old wal history edits faults versions → IsRefusedFrom asked same_manifest same_tables old left open_error.Memory
+refused_late same_manifest same_tables asked old left wal history edits tables_now faults versions is p found =
     subst (λ (x : DevicesLeft). IsRefusedFrom asked same_manifest same_tables old x open_error.Memory) (sym is) (record {
       cause = of_log wal_error.Memory refl tt;
       only = none_known _ old.log old.manifest old.tables (λ l m t found entries opens unmade. tt);
-      left = left_behind same_manifest same_tables asked old.log old.manifest old.tables wal history edits tables_now versions p manifest_survives;
-      log_survives = log_survives;
-      log_durable = log_durable;
-      manifest_durable = manifest_durable;
-      log_later = log_later;
-      manifest_later = manifest_later;
-      tables_later = tables_later;
+      left = left_behind same_manifest same_tables asked old.log old.manifest old.tables wal history edits tables_now versions p found.manifest.survives;
+      log_survives = found.log.survives;
+      log_durable = found.log.durable;
+      manifest_durable = found.manifest.durable;
+      log_later = found.log.later;
+      manifest_later = found.manifest.later;
+      tables_later = found.tables_later;
     })

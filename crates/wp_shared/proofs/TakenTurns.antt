@@ -101,8 +101,10 @@ module _ {D : Type 0} (z : SharedState D) (old s new : SeatState) (log : LogStat
 
   pub took_log : TookLog z old new log
   took_log = record {
-    bound = k.world.max_evicted;
-    words = k.world.cache;
+    found = k.world;
+    before = k.before;
+    free = k.free;
+    found_is = k.is;
     seat = now_is_all;
     goes = record {
       same = now_is_all ∙ ap (λ (notes : List Fact). record (saw_as log.table.history) { knows = record (saw_as log.table.history).knows { notes = notes } }) (sym (ap (λ (x : SeatState). x.knows.notes) now_is_all));

@@ -8,7 +8,7 @@ use Rattle.wp_core.specs.Steps.{give_turn}
 use Rattle.wp_core.specs.Tables.{Content, writes, prepared, snapshots, store, locks, installed, turn_of}
 use Rattle.wp_model.specs.PreparedTables.{NoneDelayed}
 use Rattle.wp_model.specs.Snapshots.{NoOldCommits}
-use Rattle.wp_core.specs.Turns.{Turn, turn_holder}
+use Rattle.wp_core.specs.Turns.{Turn, write_turn, turn_holder}
 use Rattle.wp_core.specs.Views.{Fact, words_stay, delayed_flag_stays, old_flag_stays}
 use Rattle.wp_core.specs.World.{Actor, World, content_of}
 use Rattle.wp_rule.specs.Knows.{Noted, KnowsTables}
@@ -106,11 +106,14 @@ pub record Taken {D : Type 0} (z : SharedState D) (old new : SeatState) (table :
   pub knows : KnowsTaken new.knows table
   pub stands : (w : World) × Stands z new w
 
--- The seat took the write turn with this log, which is the store's, and has seen the whole history.
+-- The seat took the write turn, which was free, with this log, which is the store's and as a reached world had it. It noted the bound
+-- and the words of that world, and has seen the whole history since.
 pub record TookLog {D : Type 0} (z : SharedState D) (old new : SeatState) (log : LogState) : Type 0 where
-  pub bound : ℕ
-  pub words : List ℕ
-  pub seat : new ≡ record old { knows = record (sees log.table.history old.knows) { held = writes log.table ∷ old.knows.held; notes = words_stay bound words ∷ old.knows.notes }; turns = 0 ∷ old.turns }
+  pub found : World
+  pub before : Stands z old found
+  pub free : turn_holder found.holders write_turn ≡ None
+  pub found_is : found.writes ≡ log.table
+  pub seat : new ≡ record old { knows = record (sees log.table.history old.knows) { held = writes log.table ∷ old.knows.held; notes = words_stay found.max_evicted found.cache ∷ old.knows.notes }; turns = 0 ∷ old.turns }
   pub goes : GoesOn no_fact (writes log.table ∷ old.knows.held) (0 ∷ old.turns) (seeing log.table.history old) new
   pub holds : HoldsTurn z new (writes log.table) old.knows.held old.turns
   pub knows : KnowsTaken new.knows (writes log.table)

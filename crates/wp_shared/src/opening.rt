@@ -3,13 +3,14 @@ ghost use Rattle.std.specs.Prelude.{◌≡◌, ◌<◌, ◌≤◌, ◌^◌, [], 
 ghost use Rattle.wp_outside.specs.Disk.{Moment};
 ghost use Rattle.wp_open.specs.Opens.{installed_of};
 ghost use Rattle.wp_open.specs.Parts.{PartsOpened};
+ghost use Rattle.wp_open.specs.Refused.{IsRefusedFrom};
 ghost use Rattle.wp_core.specs.World.{new_actor};
 ghost use Rattle.wp_rule.specs.Shows.{WasLast};
 ghost use Rattle.wp_rule.specs.Words.{SawAll};
 ghost use Rattle.wp_parts.specs.Opening.{running_set};
 ghost use Rattle.wp_parts.specs.Parts.{content, log_first, set_first};
 ghost use Rattle.wp_parts.specs.Devices.{devices_of, devices_behind};
-ghost use Rattle.wp_shared.specs.OpenedFrom.{IsOpenedFrom, IsRefusedFrom};
+ghost use Rattle.wp_shared.specs.OpenedFrom.{IsOpenedFrom};
 ghost use Rattle.wp_shared.specs.Seats.{place_at};
 
 use crate::seat::Seat;

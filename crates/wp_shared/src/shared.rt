@@ -129,6 +129,15 @@ impl<D: Disk + Drop> Shared<D> {
         self.load_max::<Brand>(seat)
     }
 
+    /// Loads the evicted bound, and leaves it: the seat stands in a world of the store. Only its clause is of use to the caller.
+    pub fn shows_world(&self, seat: &mut Seat<D>)
+        requires { seat.old.table ≡ self.now.table }
+        ensures same { seat.new ≡ seat.old }
+        ensures stands { (w : World) × Stands self.now seat.new w }
+    {
+        self.max(seat);
+    }
+
     /// The word of the commit cache with this index, as its one load found it.
     pub fn word(&self, seat: &mut Seat<D>, i: usize) -> u64
         requires seat { seat.old.table ≡ self.now.table }

@@ -36,7 +36,6 @@ use Rattle.wp_txn.specs.Calls.{with_transaction, Finds, IsFull, locking, changin
 use Rattle.wp_txn.specs.Keys.{HoldsKey}
 use Rattle.wp_txn.specs.Txn.{OpenState, HasOpen}
 use Rattle.wp_txn.specs.Under.{LocksKey}
-use Rattle.wp_txn.proofs.Freed.{either_turned}
 use Rattle.wp_txn.proofs.Goes.{still, open_still}
 use Rattle.wp_txn.proofs.GoesOn.{locks_found, with_locks, under, back_at_once, nothing_done, finds}
 
@@ -58,6 +57,15 @@ twice false u = refl
 
 pub changed_one : (change : Change) (others : List Change) (k : List ℕ) → is_changed (change ∷ others) k ≡ (bytes_eq (key_of change) k || is_changed others k)
 changed_one change others k = some_of (bytes_eq (key_of change) k) (value_of change) (change_to others k)
+
+either_turned : (a b : List ℕ) → bytes_eq a b ≡ bytes_eq b a
+either_turned a b = by (bytes_eq a b) refl (bytes_eq b a) refl
+  where
+    by : (s : Bool) → bytes_eq a b ≡ s → (t : Bool) → bytes_eq b a ≡ t → s ≡ t
+    by true e true f = refl
+    by false e false f = refl
+    by true e false f = sym ((bytes_eq-Decides b a).1 (sym ((bytes_eq-Decides a b).0 e))) ∙ f
+    by false e true f = sym e ∙ (bytes_eq-Decides a b).1 (sym ((bytes_eq-Decides b a).0 f))
 
 -- ... as the sets of keys compare them
 same_key : (a b : List ℕ) → bytes_eq a b ≡ eq_by_cmp key_cmp b a

@@ -1,5 +1,5 @@
 -- A transaction that its entries end, and one that is prepared.
-use Rattle.std.proofs.Common.{◌≡◌, inl, ℕ, suc, true, false, List, [], ◌∷◌, ◌++◌, length, refl, sym, subst, ap, ◌∙◌, Option, Some, None, is_some, eq-eqb, ◌+◌, arith}
+use Rattle.std.proofs.Common.{◌≡◌, inl, ℕ, suc, false, List, [], ◌∷◌, ◌++◌, length, refl, sym, subst, ap, ◌∙◌, Option, Some, None, eq-eqb, ◌+◌, arith}
 use Rattle.std.specs.Prelude.{Ok}
 use Rattle.std.specs.FinMap as finite
 use Rattle.wp_model.specs.Decision.{decision_of}
@@ -23,13 +23,20 @@ use Rattle.wp_shared.specs.Seats.{SharedState, SeatState, place_at}
 use Rattle.wp_txn.specs.Calls.{without_transaction}
 use Rattle.wp_txn.specs.Recording.{Records, Frees}
 use Rattle.wp_txn.specs.Turns.{IsApartFrom}
-use Rattle.wp_txn.specs.Txn.{OpenState, PreparedState, HasOpen, HasPrepared}
+use Rattle.wp_txn.specs.Txn.{OpenState, PreparedState, HasLocked, HasOpen, HasPrepared}
 use Rattle.wp_txn.specs.Writes.{HasPut, Refuses, Prepares, Ends, RefusesOpen, RefusesPrepared}
 use Rattle.wp_txn.specs.declared.error.TxnError.{TxnError}
 use Rattle.wp_txn.proofs.DirectWrites.{none_about}
 use Rattle.wp_txn.proofs.Goes.{chain, put_within, refused_within, refused_still, open_still, prepared_still}
 
 -- ---- the transaction is freed
+
+-- its keys are those that its changes change
+pub open_locked : (s : SeatState) (name : List ℕ) (batch : List Change) → HasOpen s name batch → HasLocked s name batch
+open_locked s name batch h = record { transaction = h.transaction; has = h.has; keys = h.keys }
+
+pub prepared_locked : (s : SeatState) (name : List ℕ) (number : ℕ) (batch : List Change) → HasPrepared s name number batch → HasLocked s name batch
+prepared_locked s name number batch h = record { transaction = h.transaction; has = h.has; keys = h.keys }
 
 -- the call began with what left the seat as it was, but for what it had seen
 module _ {D : Type 0} (z : SharedState D) (old start mid new : SeatState) (name : List ℕ) (entries : List Entry) (facts : ℕ → List Fact) (n : ℕ) (begins : Continues z old start old.knows.participant)
@@ -69,9 +76,9 @@ module _ {D : Type 0} (z : SharedState D) (old start mid new : SeatState) (name 
   pub ended : Frees z mid new name → Ends z old name entries n new
   ended frees = (number_still frees, (r.1.0, put_and_freed frees), frees.freed)
 
-  -- it has the transaction until then
-  pub has_until : is_some (finite.get it.transactions name) ≡ true → is_some (finite.get mid.knows.participant.transactions name) ≡ true
-  has_until there = ap (λ (p : Participant). is_some (finite.get p.transactions name)) until_then.participant ∙ there
+  -- it has the transaction until then, with the keys that it locked
+  pub locked_until : (batch : List Change) → HasLocked old name batch → HasLocked mid name batch
+  locked_until batch h = record { transaction = h.transaction; has = ap (λ (p : Participant). finite.get p.transactions name) until_then.participant ∙ h.has; keys = h.keys }
 
 -- a refusal behind such a beginning
 pub refused_from : {D : Type 0} (z : SharedState D) (old start new : SeatState) (needed : ℕ) (Asks More : List Entry → Type 0) (wider : (entries : List Entry) → Asks entries → IsLegal (new.knows.participant.seen ++ entries) → More entries) (begins : Continues z old start old.knows.participant) (why : TxnError)
@@ -96,7 +103,11 @@ freed_then z old mid new name frees goes same = record {
   gives_up = chain (IsApartFrom name) (IsApartFrom name) IsLoose z old mid new (without_transaction name old.knows.participant) mid.knows.participant (without_transaction name old.knows.participant)
       (λ fact apart. apart) (λ fact apart. apart.0) frees.gives_up goes (ap (λ (p : Participant). record p { seen = new.knows.participant.seen }) frees.same);
   same = same ∙ frees.same;
-  freed = let k = frees.freed in record { world = k.world; actor = k.actor; there = subst (λ (n : ℕ). IsAt (place_at z n) k.actor k.world) (sym goes.same_by) k.there; participant = k.participant ∙ sym same; so_is = k.so_is };
+  freed = let k = frees.freed in let a = k.stood in record {
+    world = k.world;
+    stood = record { actor = a.actor; there = subst (λ (n : ℕ). IsAt (place_at z n) a.actor k.world) (sym goes.same_by) a.there; held = a.held; participant = a.participant ∙ sym same; made = a.made ∙ sym goes.made; joined = a.joined ∙ sym goes.joined };
+    so_is = k.so_is;
+  };
 }
 
 -- ---- a prepare is decided
@@ -108,9 +119,6 @@ module _ {D : Type 0} (z : SharedState D) (old mid : SeatState) (name : List ℕ
 
   pub name_before : (history : List Entry) → StartsWith history old.knows.participant.seen → Some (name_at history number) ≡ Some name
   name_before history grown = ap (λ (o : Option Entry). Some (prepared_name o)) (stands_before history grown)
-
-  pub there_before : is_some (finite.get old.knows.participant.transactions name) ≡ true
-  there_before = ap is_some h.has
 
   module _ (facts : ℕ → List Fact) (n : ℕ) (r : Records z old (Commit number ∷ []) facts (Ok n) mid) where
     pub commit_is_of : (fact : Fact) → is_about (Some name) fact ≡ false → IsAboutNone r.1.0 (Commit number ∷ []) fact

@@ -32,7 +32,7 @@ use Rattle.wp_shared.proofs.Onward.{holds_alone}
 use Rattle.wp_txn.specs.declared.error.TxnError.{TxnError}
 use Rattle.wp_txn.specs.declared.error.TxnError.TheVariants as why
 use Rattle.wp_txn.specs.Actors.{no_changes, with_claimed, with_found, with_told, with_heard, giving_up}
-use Rattle.wp_txn.specs.Calls.{with_transaction, Keeps, LocksWere, IsFreeName, Finds, GivesUp, Begins, WasHistory, Tells, Hears}
+use Rattle.wp_txn.specs.Calls.{with_transaction, Keeps, StoodWithLocks, LocksWere, IsFreeName, Finds, GivesUp, Begins, WasHistory, Tells, Hears}
 use Rattle.wp_txn.specs.Recording.{Frees}
 use Rattle.wp_txn.specs.Turns.{IsApartFrom, IsWithout}
 use Rattle.wp_txn.specs.Txn.{HasOpen}
@@ -71,17 +71,37 @@ lent_as {z = z} {old = old} {s = s} same k = subst (λ (x : LockTables). Taken z
 
 -- ---- what the tables held
 
+-- the seat holds them as it took them
+module _ {D : Type 0} (z : SharedState D) (old s : SeatState) (t : LockTables) (k : Taken z old s (locks t)) where
+  pub taken_are : k.stands.0.locks ≡ t
+  taken_are = locks_are (place_at z s.by) s.knows k.stands.0 t k.stands.1 (held_last k.holds)
+
+  pub stood_taken : StoodWithLocks z old k.stands.0
+  stood_taken = record {
+    actor = s.knows;
+    there = subst (λ (by : ℕ). IsAt (place_at z by) s.knows k.stands.0) (ap (λ (x : SeatState). x.by) k.seat) k.stands.1;
+    held = subst (λ (l : LockTables). IsIn (locks l) s.knows.held) (sym taken_are) (held_last k.holds);
+    participant = ap (λ (x : SeatState). x.knows.participant) k.seat;
+    made = ap (λ (x : SeatState). x.knows.made) k.seat;
+    joined = ap (λ (x : SeatState). x.knows.joined) k.seat;
+  }
+
 pub locks_found : {D : Type 0} (z : SharedState D) (old s : SeatState) (t : LockTables) (So : LockTables → Type 0) → Taken z old s (locks t) → So t → LocksWere z old So
-locks_found z old s t So k so = record { world = k.world; actor = old.knows; there = k.before; participant = refl; so_is = subst So (sym k.is) so }
+locks_found z old s t So k so = record { world = k.stands.0; stood = stood_taken z old s t k; so_is = subst So (sym (taken_are z old s t k)) so }
 
 -- the seat held them so as it gave the turn
 pub locks_left : {D : Type 0} (z : SharedState D) (r new : SeatState) (m : LockTables) (So : LockTables → Type 0) → (w : World) × Stands z r w → IsIn (locks m) r.knows.held → Given z locks_turn r new [] [] → So m → LocksWere z new So
-locks_left z r new m So stands held gave so = record {
+locks_left z r new m So stands held gave so = let are = locks_are (place_at z r.by) r.knows stands.0 m stands.1 held in record {
   world = stands.0;
-  actor = r.knows;
-  there = subst (λ (n : ℕ). IsAt (place_at z n) r.knows stands.0) (sym (ap (λ (x : SeatState). x.by) gave.goes.same)) stands.1;
-  participant = sym (ap (λ (x : SeatState). x.knows.participant) gave.goes.same);
-  so_is = subst So (sym (locks_are (place_at z r.by) r.knows stands.0 m stands.1 held)) so;
+  stood = record {
+    actor = r.knows;
+    there = subst (λ (n : ℕ). IsAt (place_at z n) r.knows stands.0) (sym (ap (λ (x : SeatState). x.by) gave.goes.same)) stands.1;
+    held = subst (λ (l : LockTables). IsIn (locks l) r.knows.held) (sym are) held;
+    participant = sym (ap (λ (x : SeatState). x.knows.participant) gave.goes.same);
+    made = sym (ap (λ (x : SeatState). x.knows.made) gave.goes.same);
+    joined = sym (ap (λ (x : SeatState). x.knows.joined) gave.goes.same);
+  };
+  so_is = subst So (sym are) so;
 }
 
 -- it has no transaction of a name that was not live
@@ -145,12 +165,12 @@ module _ {D : Type 0} (z : SharedState D) (old : SeatState) (t : LockTables) (s 
   pub finds : (key : Option (List ℕ)) (holder : Holder) (r new : SeatState) (published : ℕ) → IsHolderIn t key holder → length s.knows.participant.seen ≤ published → r ≡ seat_of s (with_found t published key holder s.knows) → Given z locks_turn r new [] []
       → Finds z old new key holder
   finds key holder r new published is low e gave = record {
-    world = k.world;
-    stood = k.before;
-    holds = subst (λ (l : LockTables). IsHolderIn l key holder) (sym k.is) is;
+    world = k.stands.0;
+    stood = stood_taken z old s t k;
+    holds = subst (λ (l : LockTables). IsHolderIn l key holder) (sym (taken_are z old s t k)) is;
     published = published;
     reached = subst (λ (x : SeatState). length x.knows.participant.seen ≤ published) took low;
-    goes_on = subst (λ (l : LockTables). Continues z old new (remembering (found key holder (length old.knows.participant.seen) (account_of old.knows.participant l published key holder) ∷ []) old.knows.participant)) (sym k.is)
+    goes_on = subst (λ (l : LockTables). Continues z old new (remembering (found key holder (length old.knows.participant.seen) (account_of old.knows.participant l published key holder) ∷ []) old.knows.participant)) (sym (taken_are z old s t k))
         (back_at_once (with_found t published key holder (with_locks t old).knows) r new (under (with_found t published key holder) r e) gave refl refl refl (λ fact there. there));
   }
 
@@ -256,9 +276,9 @@ module _ {D : Type 0} (z : SharedState D) (old : SeatState) (t : LockTables) (s 
       let past = mine past_of w.actors old.by old.knows old.knows k.before.there refl in
       let board = (at_sound (place_at z old.by) old.knows w k.before).board in (
         record {
-          world = w;
-          stood = k.before;
-          none = none;
+          world = k.stands.0;
+          stood = stood_taken z old s t k;
+          none = ap (λ (l : LockTables). finite.get l.labels label) (taken_are z old s t k) ∙ c.0;
           not_told = λ n there. true≢false (sym (board.labels label n (inl (old.by, 0, (old.knows.participant.past, past, there)))) ∙ ap is_some none);
           not_heard = λ n there. true≢false (sym (board.labels label n (inr (old.by, 0, (old.knows.participant.past, past, there)))) ∙ ap is_some none);
         },

@@ -8,5 +8,6 @@ mod OneName
 mod MayPut
 mod UnderLog
 mod DirectWrites
+mod BeforeLog
 mod Ends
 mod RollsBack

@@ -3,6 +3,7 @@ use Rattle.std.proofs.Common.{◌≡◌, ℕ, ◌≤◌, true, false, true≢fal
 use Rattle.std.specs.Prelude.{unwrap_or}
 use Rattle.std.specs.FinSet as set
 use Rattle.std.specs.FinMap as finite
+use Rattle.std.specs.Option.{option_map_or}
 use Rattle.std.specs.Cmp.{both_ways}
 use Rattle.std.proofs.lemmas.Slice.Eq.{bytes_eq-Decides}
 use Rattle.wp_model.specs.LockTables.{LockTables}
@@ -13,19 +14,19 @@ use Rattle.wp_model.specs.declared.entry.Entry.{Entry}
 use Rattle.wp_model.specs.declared.holder.Holder.{Holder}
 use Rattle.wp_model.specs.declared.holder.Holder.TheVariants.{Txn, Client}
 use Rattle.wp_locks.specs.Locks.{is_free_for}
-use Rattle.wp_model.specs.Holder.{is_same_txn}
+use Rattle.wp_model.specs.Holder.{is_same, is_same_txn}
 use Rattle.wp_core.specs.Lists.{IsIn}
 use Rattle.wp_core.specs.Tables.{locks}
 use Rattle.wp_core.specs.Views.{Account, Fact, passed, in_old_commits, apart, words_stay, has_left, versions_in_memory, versions_nowhere, number_in_heap, number_not_in_heap, undecided_at, prior_values, unprepared, direct_free, tables_stay, live_listed, nothing_flushed, frozen_stay, delayed_flag_stays, old_flag_stays}
 use Rattle.wp_core.specs.World.{Transaction, Actor, World}
 use Rattle.wp_core.specs.Steps.{Step, load_published, claim_name, find_holder, lock_key, set_batch, free_transaction, leave_name, take_name, tell, hear, note}
-use Rattle.wp_core.specs.Changes.{sees, keys_of_holder, with_name, without_transaction}
+use Rattle.wp_core.specs.Changes.{sees, is_held_by, keys_of_holder, with_name, without_transaction}
 use Rattle.wp_core.specs.Conditions.{HasTransaction}
 use Rattle.wp_core.specs.Effects.{done}
 use Rattle.wp_core.specs.Entries.{batch_of_name}
 use Rattle.wp_core.specs.Notes.{ends}
 use Rattle.wp_core.specs.Sound.Actors.{StartsWith}
-use Rattle.wp_core.specs.Sound.Locks.{IsOwner, owner_of}
+use Rattle.wp_core.specs.Sound.Locks.{owner_of}
 use Rattle.wp_core.proofs.AllParticipants.{mine}
 use Rattle.wp_core.proofs.HistoryGrows.{none_is}
 use Rattle.wp_core.proofs.Keyed.{at_inserted}
@@ -104,12 +105,17 @@ has_its a name there = there_is (finite.get a.participant.transactions name) no_
 pub locks_are : (p : Place) (a : Actor) (w : World) (t : LockTables) → IsAt p a w → IsIn (locks t) a.held → w.locks ≡ t
 locks_are p a w t k held = (has_locks p a w k (λ l. l ≡ t) (record { table = t; held = held; so_is = refl })).1
 
-owned : (p : Place) (a : Actor) (w : World) → IsAt p a w → IsOwner w.locks (owner_of a.participant)
-owned p a w k = (at_sound p a w k).locks.had p.by 0 (owner_of a.participant) (mine owner_of w.actors p.by a a k.there refl)
+-- what it has is in them
+module _ (p : Place) (a : Actor) (w : World) (k : IsAt p a w) (name : List ℕ) (x : Transaction) (has : HasTransaction a name x) where
+  name_there : finite.get w.locks.names name ≡ Some (Some a.participant.client)
+  name_there = ((at_sound p a w k).locks.had p.by 0 (owner_of a.participant) (mine owner_of w.actors p.by a a k.there refl)).names name x has
+
+  key_there : (key : List ℕ) → set.contains x.locked key ≡ true → finite.get w.locks.keys key ≡ Some (Txn name)
+  key_there key locked = ((at_sound p a w k).locks.had p.by 0 (owner_of a.participant) (mine owner_of w.actors p.by a a k.there refl)).keys name x key has locked
 
 -- it has no transaction whose name is no client's
 pub not_had : (p : Place) (a : Actor) (w : World) (t : LockTables) (name : List ℕ) → IsAt p a w → w.locks ≡ t → ((client : List ℕ) → finite.get t.names name ≡ Some (Some client) → ⊥) → finite.get a.participant.transactions name ≡ None
-not_had p a w t name k are none = none_is (finite.get a.participant.transactions name) (λ x has. none a.participant.client (ap (λ (l : LockTables). finite.get l.names name) (sym are) ∙ (owned p a w k).names name x has))
+not_had p a w t name k are none = none_is (finite.get a.participant.transactions name) (λ x has. none a.participant.client (ap (λ (l : LockTables). finite.get l.names name) (sym are) ∙ name_there p a w k name x has))
 
 -- ---- names and holders
 
@@ -190,7 +196,7 @@ may_leave p s t name number batch h held =
 
 pub is_live : (p : Place) (a : Actor) (w : World) (t : LockTables) (name : List ℕ) → IsAt p a w → is_some (finite.get a.participant.transactions name) ≡ true → IsIn (locks t) a.held → is_some (finite.get t.names name) ≡ true
 is_live p a w t name k there held =
-    ap (λ (l : LockTables). is_some (finite.get l.names name)) (sym (locks_are p a w t k held)) ∙ ap is_some ((owned p a w k).names name (transaction_in a.participant name) (has_its a name there))
+    ap (λ (l : LockTables). is_some (finite.get l.names name)) (sym (locks_are p a w t k held)) ∙ ap is_some (name_there p a w k name (transaction_in a.participant name) (has_its a name there))
 
 free_ends : (history : List Entry) (words : ℕ) (name : List ℕ) (fact : Fact) → IsApartFrom name fact → ends history words (free_transaction name) fact ≡ false
 free_ends history words name (undecided_at other p) e = e.1
@@ -235,6 +241,15 @@ leave_ends history words name (frozen_stay n versions) = refl
 leave_ends history words name (delayed_flag_stays value) = refl
 leave_ends history words name (old_flag_stays value) = refl
 
+-- who holds a key, as the tables have it, and as the test says
+held_so : (name : List ℕ) (o : Option Holder) → option_map_or (is_same (Txn name)) o false ≡ true → o ≡ Some (Txn name)
+held_so name None h = absurd cc
+held_so name (Some (Client client)) h = absurd cc
+held_so name (Some (Txn other)) h = ap (λ (n : List ℕ). Some (Txn n)) (sym ((bytes_eq-Decides name other).0 h))
+
+held_for : (name : List ℕ) (o : Option Holder) → o ≡ Some (Txn name) → option_map_or (is_same (Txn name)) o false ≡ true
+held_for name o e = ap (λ (x : Option Holder). option_map_or (is_same (Txn name)) x false) e ∙ (bytes_eq-Decides name name).1 refl
+
 -- the actor but for its notes
 pub but_notes : (a b c : Actor) → b ≡ record a { notes = c.notes } → b ≡ record a { notes = b.notes }
 but_notes a b c e = e ∙ ap (λ (notes : List Fact). record a { notes = notes }) (sym (ap (λ (x : Actor). x.notes) e))
@@ -250,6 +265,18 @@ module _ (p : Place) (so : World → Type 0) (s new : SeatState) (same : (new.ta
         notes = λ fact stays there.
             subst (λ (x : Actor). Noted x fact) (sym m.actor) (outlasts fact (free_transaction name ∷ []) m.world p.by s.knows there ((λ x. x), free_ends m.world.writes.history (length m.world.cache) name fact stays, tt));
       }
+
+  -- the tables had just those keys for it that it locked
+  pub locked_are_held : is_some (finite.get s.knows.participant.transactions name) ≡ true → Moved p (λ w. free_transaction name ∷ []) so s.knows new.knows → (key : List ℕ)
+      → is_held_by t (Txn name) key ≡ set.contains (transaction_in s.knows.participant name).locked key
+  locked_are_held there m key =
+      let w = m.world in let k = m.before in let x = transaction_in s.knows.participant name in
+      let at : w.locks ≡ t = locks_are p s.knows w t k held in let has = has_its s.knows name there in
+      both_ways (is_held_by t (Txn name) key) (set.contains x.locked key)
+      (λ holds.
+      (at_sound p s.knows w k).locks.keys_known key name (ap (λ (l : LockTables). finite.get l.keys key) at ∙ held_so name (finite.get t.keys key) holds) p.by 0 (owner_of s.knows.participant)
+      (mine owner_of w.actors p.by s.knows s.knows k.there refl) x has)
+      (λ locked. held_for name (finite.get t.keys key) (ap (λ (l : LockTables). finite.get l.keys key) (sym at) ∙ key_there p s.knows w k name x has key locked))
 
   pub left_it : Moved p (λ w. leave_name name ∷ []) so s.knows new.knows → IsWithout s new (with_name t name None) name
   left_it m =

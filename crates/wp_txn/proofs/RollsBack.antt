@@ -21,12 +21,13 @@ use Rattle.wp_parts.specs.Log.{LogState}
 use Rattle.wp_records.specs.Records.{is_about, IsAboutNone}
 use Rattle.wp_shared.specs.Calls.{IsLoose, Continues}
 use Rattle.wp_shared.specs.Seats.{SharedState, SeatState}
+use Rattle.wp_shared.proofs.Onward.{continues_none}
 use Rattle.wp_txn.specs.Calls.{without_transaction}
 use Rattle.wp_txn.specs.Recording.{OpensLog, Records, HadPrior, IsPriorSince, Frees}
 use Rattle.wp_txn.specs.Turns.{IsApartFrom}
-use Rattle.wp_txn.specs.Txn.{HasPrepared}
+use Rattle.wp_txn.specs.Txn.{HasLocked, HasPrepared}
 use Rattle.wp_txn.specs.Writes.{HasPut, RollsBack, AsksRollback}
-use Rattle.wp_txn.proofs.Ends.{put_and_freed, number_still, name_before, stands_before}
+use Rattle.wp_txn.proofs.Ends.{prepared_locked, put_and_freed, number_still, locked_until, name_before, stands_before}
 use Rattle.wp_txn.proofs.Goes.{chain, still, prepared_still}
 use Rattle.wp_txn.proofs.MayPut.{legal_now, stands_still, undecided_still}
 use Rattle.wp_txn.proofs.OneName.{name_is_free}
@@ -178,6 +179,10 @@ module _ {D : Type 0} (z : SharedState D) (old start mid : SeatState) (name : Li
 
   restored_is : restored ≡ prior before_it batch
   restored_is = (after_front before_it (Undo number restored) (Close number ∷ []) r.1.1.legal).restores_prior ∙ ap (prior before_it) (ap prepared_batch (stands_before z start mid name number batch h before_it r.1.1.put.grown))
+
+  -- it has the transaction until the record is put
+  pub locked_still : HasLocked mid name batch
+  locked_still = locked_until z start start mid mid name (Undo number restored ∷ Close number ∷ []) facts n (continues_none z start begins.free) r rollback_is_of batch (prepared_locked start name number batch h)
 
   pub rolled_back : (new : SeatState) → Frees z mid new name → IsIn (has_left number) new.knows.notes → RollsBack z old (record { name = name; number = number; batch = batch }) n new
   rolled_back new frees gone =

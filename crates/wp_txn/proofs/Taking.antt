@@ -38,7 +38,7 @@ use Rattle.wp_txn.specs.Actors.{with_found, with_taken}
 use Rattle.wp_txn.specs.Calls.{Keeps, StoodWithLog, Takes, TakesPrepared}
 use Rattle.wp_txn.specs.Turns.{TakesPrepare}
 use Rattle.wp_txn.specs.Under.{IsPrepareOf, TakesUnder}
-use Rattle.wp_txn.proofs.GoesOn.{with_locks}
+use Rattle.wp_txn.proofs.GoesOn.{taken_are, stood_taken, with_locks}
 use Rattle.wp_txn.proofs.Made.{locks_are, not_had}
 
 -- ---- names
@@ -202,12 +202,17 @@ module _ {D : Type 0} (z : SharedState D) (old : SeatState) (d : WriteTable) (s 
             let f = found_named h name number named_is in
             record {
               name_is = refl;
-              nobodys = record {
-                world = k2.world;
-                actor = s.knows;
-                there = subst (λ (by : ℕ). IsAt (place_at z by) s.knows k2.world) (ap (λ (x : SeatState). x.by) seat_then) k2.before;
-                participant = ap (λ (x : SeatState). x.knows.participant) seat_then;
-                so_is = ap (λ (l : LockTables). finite.get l.names name) k2.is ∙ left;
+              nobodys = let w = k2.stands.0 in let stood = stood_taken z s s2 t k2 in record {
+                world = w;
+                stood = record {
+                  actor = stood.actor;
+                  there = subst (λ (by : ℕ). IsAt (place_at z by) stood.actor w) (ap (λ (x : SeatState). x.by) seat_then) stood.there;
+                  held = stood.held;
+                  participant = stood.participant ∙ ap (λ (x : SeatState). x.knows.participant) seat_then;
+                  made = stood.made ∙ ap (λ (x : SeatState). x.knows.made) seat_then;
+                  joined = stood.joined ∙ ap (λ (x : SeatState). x.knows.joined) seat_then;
+                };
+                so_is = ap (λ (l : LockTables). finite.get l.names name) (taken_are z s s2 t k2) ∙ left;
               };
               not_had = ap (λ (x : SeatState). finite.get x.knows.participant.transactions name) (sym seat_then) ∙ not_had (place_at z s.by) s.knows k2.world t name k2.before k2.is (λ client has. none_left client (sym left ∙ has));
               number_is = ap (λ (entries : List Entry). named entries name) seen ∙ named_is;

@@ -192,9 +192,9 @@ module _ {D : Type 0} (z : SharedState D) (old s t new : SeatState) (log left : 
             (ap (λ (a : Actor). a.joined) put.knows ∙ joined_then z old s log o.took);
       }
 
-  not_put_back : (closed : Bool) (change : Participant → Participant) → ((es : List Entry) (p : Participant) → change (record p { seen = es }) ≡ record (change p) { seen = es }) → IsNotPut z s log closed (change s.knows.participant) t left
+  not_put_back : (cleared : List Way) (closed : Bool) (change : Participant → Participant) → ((es : List Entry) (p : Participant) → change (record p { seen = es }) ≡ record (change p) { seen = es }) → IsNotPut z s log cleared closed (change s.knows.participant) t left
       → (new.knows.participant.seen ≡ before_it) × Continues z old new (change it)
-  not_put_back closed change keeps put =
+  not_put_back cleared closed change keeps put =
       let is : t.knows.participant ≡ record (change it) { seen = before_it } = ap (λ (a : Actor). a.participant) put.knows ∙ ap change (participant_then z old s log o.took) ∙ keeps before_it it in
       let seen_there : t.knows.participant.seen ≡ before_it = ap (λ (p : Participant). p.seen) is in (
         ap (λ (x : SeatState). x.knows.participant.seen) gives.goes.same ∙ seen_there,
@@ -211,9 +211,9 @@ module _ {D : Type 0} (z : SharedState D) (old s t new : SeatState) (log left : 
         (before_it, record { put = put; legal = legal }),
         λ fact there. gives.goes.noted fact (loose_under write_turn fact (loose (length left.table.history) fact there)) (p.1 fact there),
       )
-  recorded (Err write_error.Memory) p = (not_put_back false (λ (x : Participant). x) (λ es x. refl) p).1
+  recorded (Err write_error.Memory) p = (not_put_back p.0 false (λ (x : Participant). x) (λ es x. refl) p.3).1
   recorded (Err write_error.LogFault) p =
-      let back = not_put_back true (failing entries) (λ es x. refl) p.0 in (
+      let back = not_put_back _ true (failing entries) (λ es x. refl) p.0 in (
         subst (λ (es : List Entry). length es + length entries ≤ z.limit) (sym back.0) o.within,
         found_then z old s log o.took new.knows.participant.seen false back.0 o.running,
         (
@@ -237,7 +237,7 @@ module _ {D : Type 0} (z : SharedState D) (old s t new : SeatState) (log left : 
 -- the seat holds the write turn still, whatever the outcome
 pub holds_then : {D : Type 0} (z : SharedState D) (s t : SeatState) (log left : LogState) (entries : List Entry) (facts : List Fact) (outcome : Result (Unit {0}) WriteError) → PutsNoting z s log entries facts outcome t left → HoldsWrite z t left
 holds_then z s t log left entries facts (Ok done) p = p.0.holds
-holds_then z s t log left entries facts (Err write_error.Memory) p = p.holds
+holds_then z s t log left entries facts (Err write_error.Memory) p = p.3.holds
 holds_then z s t log left entries facts (Err write_error.LogFault) p = p.0.holds
 
 -- ---- how the pairs of a record are kept
@@ -284,6 +284,7 @@ put_noting z s t u log left entries fact put is =
         running = put.running;
         knows = ap (with_note fact) put.knows;
         notes = λ other turnless apart there. inr (put.notes other turnless apart there);
+        words = λ bound words there. inr (put.words bound words there);
       },
       λ other there. ⊎_elim (λ (e : fact ≡ other). inl e) (λ (no : ⊥). absurd no) there,
     )

@@ -15,7 +15,7 @@ use Rattle.wp_core.specs.Lists.{IsIn}
 use Rattle.wp_core.specs.World.{Transaction, Participant, Actor, World}
 use Rattle.wp_rule.specs.Words.{IsAt}
 use Rattle.wp_rule.specs.Accounts.{IsHolderIn, account_of}
-use Rattle.wp_shared.specs.Seats.{SharedState, SeatState, Stands, place_at}
+use Rattle.wp_shared.specs.Seats.{SharedState, SeatState, place_at}
 use Rattle.wp_shared.specs.Calls.{ContinuesWith, Continues, remembering}
 use Rattle.wp_txn.specs.declared.error.TxnError.{TxnError}
 use Rattle.wp_txn.specs.declared.error.TxnError.TheVariants.{Memory, Taken, Busy, TooMany, Silent, Unknown, InUse}
@@ -34,13 +34,19 @@ without_transaction name p = record p { transactions = finite.remove p.transacti
 abbrev pub Keeps : {D : Type 0} → SharedState D → SeatState → SeatState → Type 0
 Keeps z old new = Continues z old new old.knows.participant
 
--- The locks' tables were so, in a world of the store in which the seat was this participant: as a call found them, or as it left
--- them.
+-- a reached world in which the seat was this participant, had made and taken in as many others, and held the locks turn
+pub record StoodWithLocks {D : Type 0} (z : SharedState D) (s : SeatState) (w : World) : Type 0 where
+  pub actor : Actor
+  pub there : IsAt (place_at z s.by) actor w
+  pub held : IsIn (locks w.locks) actor.held
+  pub participant : actor.participant ≡ s.knows.participant
+  pub made : actor.made ≡ s.knows.made
+  pub joined : actor.joined ≡ s.knows.joined
+
+-- the locks' tables were so in such a world: as a call found them, or as it left them
 pub record LocksWere {D : Type 0} (z : SharedState D) (s : SeatState) (So : LockTables → Type 0) : Type 0 where
   pub world : World
-  pub actor : Actor
-  pub there : IsAt (place_at z s.by) actor world
-  pub participant : actor.participant ≡ s.knows.participant
+  pub stood : StoodWithLocks z s world
   pub so_is : So world.locks
 
 -- the name is not live, and no key is held for its transaction
@@ -59,7 +65,7 @@ pub record FindsWhere {D : Type 0} (Stood : World → Type 0) (z : SharedState D
 
 -- the tables as the call found them
 abbrev pub Finds : {D : Type 0} → SharedState D → SeatState → SeatState → Option (List ℕ) → Holder → Type 0
-Finds z old new key holder = FindsWhere (Stands z old) z old new key holder
+Finds z old new key holder = FindsWhere (StoodWithLocks z old) z old new key holder
 
 -- a transaction of this name is gone from the seat, which knows no more about it
 abbrev pub GivesUp : {D : Type 0} → SharedState D → SeatState → SeatState → List ℕ → Type 0
@@ -156,7 +162,7 @@ Tells z old label (Err other) new = ⊥
 -- The board, as the call found it, had no such label. The seat never told it nor heard it.
 pub record IsSilent {D : Type 0} (z : SharedState D) (old : SeatState) (label : List ℕ) : Type 0 where
   pub world : World
-  pub stood : Stands z old world
+  pub stood : StoodWithLocks z old world
   pub none : finite.get world.locks.labels label ≡ None
   pub not_told : (n : ℕ) → IsIn (told label n) old.knows.participant.past → ⊥
   pub not_heard : (n : ℕ) → IsIn (heard label n) old.knows.participant.past → ⊥

@@ -19,6 +19,12 @@ pub record PreparedState : Type 0 where
   pub number : ℕ
   pub batch : List Change
 
+-- the seat has a transaction of this name, which locked just the keys that these changes change
+pub record HasLocked (s : SeatState) (name : List ℕ) (batch : List Change) : Type 0 where
+  pub transaction : Transaction
+  pub has : finite.get s.knows.participant.transactions name ≡ Some transaction
+  pub keys : (key : List ℕ) → set.contains transaction.locked key ≡ is_changed batch key
+
 -- The seat has a transaction of this name with these changes, which locked just the keys that they change. No undecided prepare
 -- has the name.
 pub record HasOpen (s : SeatState) (name : List ℕ) (batch : List Change) : Type 0 where

@@ -1,5 +1,5 @@
 -- What the calls answer that make entries, and what they leave of the seat.
-use Rattle.std.specs.Prelude.{◌≡◌, ◌⊎◌, ℕ, ◌+◌, ◌<◌, ◌≤◌, true, false, List, [], ◌∷◌, ◌++◌, length, Some, None, Result, Ok, Err}
+use Rattle.std.specs.Prelude.{◌≡◌, ◌⊎◌, ℕ, ◌+◌, ◌<◌, ◌≤◌, true, false, List, [], ◌∷◌, ◌++◌, filter, length, Some, None, Result, Ok, Err}
 use Rattle.std.specs.FinMap as finite
 use Rattle.wp_model.specs.declared.change.Change.{Change}
 use Rattle.wp_model.specs.declared.entry.Entry.{Entry}
@@ -11,7 +11,8 @@ use Rattle.wp_core.specs.Sound.Actors.{StartsWith}
 use Rattle.wp_core.specs.Sound.Views.{guarded_by}
 use Rattle.wp_core.specs.Tables.{WriteTable}
 use Rattle.wp_core.specs.Lists.{IsIn}
-use Rattle.wp_core.specs.Views.{Fact, has_left, locked, stopped}
+use Rattle.wp_core.specs.Sound.Pasts.{is_log_fault}
+use Rattle.wp_core.specs.Views.{Event, Fact, has_left, locked, log_failed, stopped}
 use Rattle.wp_core.specs.World.{Participant}
 use Rattle.wp_parts.specs.Log.{LogState, IsLog}
 use Rattle.wp_parts.specs.Parts.{log_first}
@@ -70,6 +71,31 @@ Refuses z old new needed Asks found after LogFault =
     × ((entries : List Entry) × Asks entries × Continues z old new (failing entries after) × IsLegal (new.knows.participant.seen ++ entries) × HadFault z found_log.world.writes entries)
 Refuses z old new needed Asks found after other = ⊥
 
+-- ---- the log's device
+
+-- the appends of its own that failed
+abbrev pub failed_appends : Participant → List Event
+failed_appends p = filter is_log_fault p.past
+
+-- Between the two the seat made no append. Each one leaves its mark: who appends holds the write turn, and can give it only with nothing
+-- pending. By then a record whose append answered Ok is in the history, under numbers of the seat's own; and one whose append failed is
+-- in its past.
+pub record MadeNoAppend (old new : Participant) : Type 0 where
+  pub own : new.own ≡ old.own
+  pub failed : failed_appends new ≡ failed_appends old
+
+-- Between the two it made one append, which failed.
+pub record FailedOnce (old new : Participant) : Type 0 where
+  pub own : new.own ≡ old.own
+  pub entries : List Entry
+  pub failed : failed_appends new ≡ failed_appends old ++ log_failed entries ∷ []
+
+-- What a refused call did with the log's device. Where it says that the device failed, it made one append, which failed. Where it says
+-- anything else, want of memory too, it made none. So behind an append that answered Ok the call answers Ok.
+abbrev pub RefusesBeforeLog : SeatState → TxnError → SeatState → Type 0
+RefusesBeforeLog old LogFault new = FailedOnce old.knows.participant new.knows.participant
+RefusesBeforeLog old other new = MadeNoAppend old.knows.participant new.knows.participant
+
 -- ---- a direct write
 
 -- the participant, which locked the key for its direct write and freed it again
@@ -111,7 +137,7 @@ Ends z old name entries n new =
 abbrev pub CommitsNow : {D : Type 0} → SharedState D → SeatState → OpenState → ℕ → SeatState → Type 0
 CommitsNow z old txn n new = Ends z old txn.name (Write txn.batch ∷ []) n new
 
--- ... and it noted that no prepared table has its number any more
+-- ... and it noted that its number left the prepared heap and the delayed set, for good
 abbrev pub Commits : {D : Type 0} → SharedState D → SeatState → PreparedState → ℕ → SeatState → Type 0
 Commits z old txn n new = Ends z old txn.name (Commit txn.number ∷ []) n new × IsIn (has_left txn.number) new.knows.notes
 

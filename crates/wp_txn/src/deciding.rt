@@ -1,13 +1,12 @@
 //! A prepared transaction is committed, and one that is decided ends.
-ghost use Rattle.std.specs.Prelude.{◌≡◌, ℕ, true, is_some, Some, IfOk, IfErr};
-ghost use Rattle.std.specs.FinMap as finite;
+ghost use Rattle.std.specs.Prelude.{◌≡◌, ℕ, Some, IfOk, IfErr};
 ghost use Rattle.wp_model.specs.Decision.{decision_of};
 ghost use Rattle.wp_core.specs.Lists.{IsIn};
 ghost use Rattle.wp_core.specs.Views.{has_left, unprepared};
 ghost use Rattle.wp_shared.specs.Seats.{IsFree};
 ghost use Rattle.wp_txn.specs.Recording.{Frees};
-ghost use Rattle.wp_txn.specs.Txn.{HasPrepared};
-ghost use Rattle.wp_txn.specs.Writes.{Commits, AsksCommit, RefusesPrepared};
+ghost use Rattle.wp_txn.specs.Txn.{HasLocked, HasPrepared};
+ghost use Rattle.wp_txn.specs.Writes.{RefusesBeforeLog, Commits, AsksCommit, RefusesPrepared};
 
 use crate::error::Refused;
 use crate::locking::free;
@@ -28,7 +27,7 @@ pub(crate) fn end<D: Disk + Drop, R: Wait>(
     txn: PreparedTxn,
 )
     requires free { IsFree store.now.table seat.old }
-    requires has { is_some (finite.get seat.old.knows.participant.transactions txn.name) ≡ true }
+    requires has { HasLocked seat.old txn.name txn.batch }
     requires noted { IsIn (unprepared txn.name) seat.old.knows.notes }
     requires decided { (c : ℕ) × (decision_of seat.old.knows.participant.seen txn.number ≡ Some c) }
     ensures frees { Frees store.now seat.old seat.new txn.name }
@@ -37,9 +36,9 @@ pub(crate) fn end<D: Disk + Drop, R: Wait>(
     let PreparedTxn {
         name,
         number,
-        batch: _batch,
+        batch,
     } = txn;
-    free(store, rt, seat, name);
+    free(store, rt, seat, name, batch);
     forget_prepared(store, rt, seat, number);
 }
 
@@ -55,6 +54,7 @@ pub fn commit<D: Disk + Drop, R: Wait>(
     requires prepared { HasPrepared seat.old txn.name txn.number txn.batch }
     ensures ok { IfOk result (λ n. Commits store.now seat.old txn n seat.new) }
     ensures refused { IfErr result (λ r. RefusesPrepared store.now seat.old txn 1 AsksCommit r.txn r.why seat.new) }
+    ensures before_log { IfErr result (λ r. RefusesBeforeLog seat.old r.why seat.new) }
 {
     match record_commit(store, rt, alloc, seat, &txn) {
         Ok(number) => {

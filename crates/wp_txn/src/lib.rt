@@ -18,7 +18,8 @@
 //! A transaction is a value that has to be spent: it is handed to the call that ends it, and comes back where that is refused. The
 //! calls wait for turns, and else for the log's device alone. `abandon`, `leave` and `hear` take no memory; all others may be
 //! refused for want of it, and then leave the transaction as it was, and the seat but for what it has seen. A direct write may
-//! then also have locked its key and freed it again, which the seat remembers.
+//! then also have locked its key and freed it again, which the seat remembers. Who makes an entry takes all its memory before the
+//! entry's append: so behind that nothing but the log's device refuses (`RefusesBeforeLog`).
 #![tactic(auto)]
 
 mod board;

@@ -1,19 +1,19 @@
 //! What locks and frees have in common, of transactions and of direct writes.
-ghost use Rattle.std.specs.Prelude.{◌≡◌, [], true, is_some, OnErr};
-ghost use Rattle.std.specs.FinMap as finite;
+ghost use Rattle.std.specs.Prelude.{[], OnErr};
 ghost use Rattle.wp_core.specs.Lists.{IsIn};
 ghost use Rattle.wp_core.specs.Tables.{locks};
 ghost use Rattle.wp_core.specs.Views.{unprepared};
 ghost use Rattle.wp_shared.specs.Seats.{IsFree};
 ghost use Rattle.wp_shared.specs.Turns.{HoldsTurn};
 ghost use Rattle.wp_txn.specs.Recording.{Frees};
+ghost use Rattle.wp_txn.specs.Txn.{HasLocked};
 ghost use Rattle.wp_txn.specs.Under.{LocksFor};
 
 use crate::error::TxnError;
 use crate::steps::{find_holder, free_transaction};
 use std::sync::Wait;
 use wp_locks::{LockError, Locks};
-use wp_model::{Holder, Key, Name};
+use wp_model::{Batch, Holder, Key, Name};
 use wp_outside::Disk;
 use wp_shared::{Seat, Shared};
 
@@ -40,21 +40,23 @@ pub(crate) fn lock_for<D: Disk + Drop>(
     }
 }
 
-/// Frees the name of a transaction that is no undecided prepare, and its keys. It takes no memory.
+/// Frees the name of a transaction that is no undecided prepare, and its keys, which are those that its batch changes. It takes no
+/// memory.
 pub(crate) fn free<D: Disk + Drop, R: Wait>(
     store: &Shared<D>,
     rt: &R,
     seat: &mut Seat<D>,
     name: Name,
+    batch: Batch,
 )
     requires free { IsFree store.now.table seat.old }
-    requires has { is_some (finite.get seat.old.knows.participant.transactions name) ≡ true }
+    requires has { HasLocked seat.old name batch }
     requires noted { IsIn (unprepared name) seat.old.knows.notes }
     ensures { Frees store.now seat.old seat.new name }
 {
     let mut tables = store.take_turn::<Locks, R>(rt, seat);
     free_transaction(store, seat, &tables, &name);
     tables.free_name(&name);
-    tables.unlock_all(&Holder::Txn(name));
+    tables.unlock_all(batch.changes());
     store.give_turn(seat, tables);
 }

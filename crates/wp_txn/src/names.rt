@@ -76,9 +76,6 @@ pub fn abandon<D: Disk + Drop, R: Wait>(store: &Shared<D>, rt: &R, seat: &mut Se
     ensures gives_up { GivesUp store.now seat.old seat.new txn.name }
     ensures freed { LocksWere store.now seat.new (IsFreeName txn.name) }
 {
-    let OpenTxn {
-        name,
-        batch: _batch,
-    } = txn;
-    free(store, rt, seat, name);
+    let OpenTxn { name, batch } = txn;
+    free(store, rt, seat, name, batch);
 }

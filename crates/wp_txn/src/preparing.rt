@@ -3,7 +3,7 @@ ghost use Rattle.std.specs.Prelude.{◌≡◌, IfOk, IfErr};
 ghost use Rattle.wp_shared.specs.Seats.{IsFree};
 ghost use Rattle.wp_txn.specs.Txn.{HasOpen};
 ghost use Rattle.wp_model.specs.declared.entry.Entry.TheVariants.{Write, Prepare};
-ghost use Rattle.wp_txn.specs.Writes.{Prepares, CommitsNow, RefusesOpen};
+ghost use Rattle.wp_txn.specs.Writes.{RefusesBeforeLog, Prepares, CommitsNow, RefusesOpen};
 
 use crate::error::Refused;
 use crate::locking::free;
@@ -28,6 +28,7 @@ pub fn prepare<D: Disk + Drop, R: Wait>(
     requires open { HasOpen seat.old txn.name txn.batch }
     ensures ok { IfOk result (λ r. Prepares store.now seat.old txn r.0 r.1 seat.new) }
     ensures refused { IfErr result (λ r. RefusesOpen store.now seat.old txn (Prepare txn.name txn.batch) r.txn r.why seat.new) }
+    ensures before_log { IfErr result (λ r. RefusesBeforeLog seat.old r.why seat.new) }
 {
     match record_prepare(store, rt, alloc, seat, &txn) {
         Ok(number) => {
@@ -55,15 +56,13 @@ pub fn commit_now<D: Disk + Drop, R: Wait>(
     requires open { HasOpen seat.old txn.name txn.batch }
     ensures ok { IfOk result (λ n. CommitsNow store.now seat.old txn n seat.new) }
     ensures refused { IfErr result (λ r. RefusesOpen store.now seat.old txn (Write txn.batch) r.txn r.why seat.new) }
+    ensures before_log { IfErr result (λ r. RefusesBeforeLog seat.old r.why seat.new) }
 {
     shows_batch(&txn.batch);
     match record_write(store, rt, alloc, seat, &txn.batch) {
         Ok(number) => {
-            let OpenTxn {
-                name,
-                batch: _batch,
-            } = txn;
-            free(store, rt, seat, name);
+            let OpenTxn { name, batch } = txn;
+            free(store, rt, seat, name, batch);
             Ok(number)
         }
         Err(why) => Err(Refused { txn, why }),

@@ -8,7 +8,7 @@ ghost use Rattle.wp_model.specs.declared.holder.Holder.TheVariants.{Txn, Client}
 ghost use Rattle.wp_model.specs.History.{named};
 ghost use Rattle.wp_model.specs.LockTables.{LockTables};
 ghost use Rattle.wp_locks.specs.Locks.{is_free_for};
-ghost use Rattle.wp_core.specs.Changes.{with_name, without_key, without_transaction};
+ghost use Rattle.wp_core.specs.Changes.{is_held_by, with_name, without_key, without_transaction};
 ghost use Rattle.wp_core.specs.Lists.{IsIn};
 ghost use Rattle.wp_core.specs.Sound.Actors.{StartsWith};
 ghost use Rattle.wp_core.specs.Tables.{writes, locks};
@@ -127,7 +127,8 @@ pub(crate) fn set_batch<D: Disk + Drop>(
     store.make_about::<Brand, (&Name, &Batch)>(seat, &(name, batch));
 }
 
-/// The seat freed its transaction, which was never prepared, with its name and its keys.
+/// The seat freed its transaction, which is no undecided prepare, with its name and its keys. The tables had just those keys for it
+/// that it locked.
 pub(crate) fn free_transaction<D: Disk + Drop>(
     store: &Shared<D>,
     seat: &mut Seat<D>,
@@ -139,6 +140,7 @@ pub(crate) fn free_transaction<D: Disk + Drop>(
     requires has { is_some (finite.get seat.old.knows.participant.transactions name.now) ≡ true }
     requires noted { IsIn (unprepared name.now) seat.old.knows.notes }
     ensures without { IsWithout seat.old seat.new (without_transaction tables.now name.now) name.now }
+    ensures keys { (key : List ℕ) → is_held_by tables.now (Txn name.now) key ≡ set.contains (transaction_in seat.old.knows.participant name.now).locked key }
     ensures stands { (w : World) × Stands store.now seat.new w }
 {
     store.make_about::<Brand, Name>(seat, name);

@@ -1,4 +1,4 @@
-use Rattle.std.proofs.Common.{◌≡◌, ℕ, suc, ◌+◌, ◌<◌, List, ◌∷◌, ◌++◌, length, take, drop, refl, sym, subst, ap, ◌∙◌, Some, arith}
+use Rattle.std.proofs.Common.{◌≡◌, ℕ, suc, ◌+◌, ◌<◌, List, [], ◌∷◌, ◌++◌, length, take, drop, refl, sym, subst, ap, ◌∙◌, Some, arith}
 use Rattle.std.specs.Prelude.{slice_get}
 use Rattle.std.proofs.lemmas.Option.{slice_get_read}
 use Rattle.wp_model.specs.declared.entry.Entry.{Entry}
@@ -13,9 +13,9 @@ use Rattle.wp_commits.specs.declared.way.Way.{Way}
 use Rattle.wp_commits.specs.declared.way.Way.TheVariants.{InWord}
 use Rattle.wp_commits.specs.Bound.{bound_with, bound_for}
 use Rattle.wp_commits.specs.Notes.{is_of_words}
-use Rattle.wp_commits.specs.Ways.{way_of, ways_of, IsInWord, IsReadyFor, AreReady}
+use Rattle.wp_commits.specs.Ways.{way_of, ways_of, IsInWord, RisesFor, IsClearedFor, AreCleared}
 use Rattle.wp_commits.proofs.Clears.{err_any}
-use Rattle.wp_commits.proofs.Ways.{keeps_ready, are_ready_still, bound_for_last, ready_last, next_taken, taken_apart, in_word, all_taken, pair_in, pair_of_way}
+use Rattle.wp_commits.proofs.Ways.{keeps_ready, are_cleared_still, bound_for_more, cleared_last, next_taken, taken_apart, in_word, all_taken, pair_in, pair_of_way}
 use Rattle.wp_commits.proofs.clear.clear_all.Goals as goal
 
 pub clear-requires-clause-seat : goal.clear-requires-clause-seat
@@ -60,12 +60,12 @@ loop-entry-preserved g c =
       goes = subst (λ (h : List Content). GoesOn is_of_words h s.turns s u) (sym c.requires.held) (then_still is_of_words s t u _ _ s.turns k.goes c.clear.ensures.seat);
       bound = λ bound words there. subst (λ (b : ℕ). Noted u.knows (words_stay b words))
           (ap (bound_with z.cells (length d.history) (bound_for z.cells (length d.history) bound words (take i ways)) words) way
-          ∙ (sym (bound_for_last z.cells (length d.history) bound words (take i ways) (way_of (pair_by (suc (length d.history) + i) here))) ∙ ap (bound_for z.cells (length d.history) bound words) (sym more)))
+          ∙ (sym (bound_for_more z.cells (length d.history) bound words (take i ways) (way_of (pair_by (suc (length d.history) + i) here) ∷ [])) ∙ ap (bound_for z.cells (length d.history) bound words) (sym more)))
           (c.clear.ensures.bound (bound_for z.cells (length d.history) bound words (take i ways)) words (k.bound bound words there));
-      ready = subst (AreReady u.knows z.cells (length d.history)) (sym more)
-          (ready_last u.knows z.cells (length d.history) (take i ways) (way_of (pair_by (suc (length d.history) + i) here))
-          (are_ready_still t.knows u.knows z.cells (length d.history) (length d.history) keeps (omega arith) (take i ways) k.ready)
-          (subst (IsReadyFor u.knows z.cells (length d.history)) way c.in_ok-clear.ensures.ready));
+      cleared = subst (AreCleared u.knows z.cells) (sym more)
+          (cleared_last u.knows z.cells (take i ways) (way_of (pair_by (suc (length d.history) + i) here))
+          (are_cleared_still t.knows u.knows keeps z.cells (take i ways) k.cleared)
+          (subst (IsClearedFor u.knows z.cells) way c.in_ok-clear.ensures.cleared));
     }
 
 pub returns-in_err-clear-clause-seat : goal.returns-in_err-clear-clause-seat
@@ -92,18 +92,18 @@ returns-in_err-clear-clause-refused g c =
       drop (suc i) ways,
       taken_apart (suc (length d.history)) i d.pending here got ∙ ap (λ (w : Way). take i ways ++ w ∷ drop (suc i) ways) is.2,
       λ bound words there. subst (λ (b : ℕ). Noted u.knows (words_stay b words))
-          (ap (bound_with z.cells (length d.history) (bound_for z.cells (length d.history) bound words (take i ways)) words) kept ∙ sym (bound_for_last z.cells (length d.history) bound words (take i ways) (InWord is.0 is.1)))
+          (ap (bound_with z.cells (length d.history) (bound_for z.cells (length d.history) bound words (take i ways)) words) kept ∙ sym (bound_for_more z.cells (length d.history) bound words (take i ways) (InWord is.0 is.1 ∷ [])))
           (c.clear.ensures.bound (bound_for z.cells (length d.history) bound words (take i ways)) words (k.bound bound words there)),
     )
 
 pub returns-clause-bound : goal.returns-clause-bound
-returns-clause-bound g c bound words there =
+returns-clause-bound g c =
     let d = c.args.log.now.table in let all : c.loop-entry.entry-index ≡ length c.pending-entries.result.now = omega arith in
     let whole = ap (λ (m : ℕ). take m (ways_of (suc (length d.history)) d.pending)) all ∙ (ap (λ (e : List Entry). take (length e) (ways_of (suc (length d.history)) d.pending)) c.pending-entries.ensures ∙ all_taken (suc (length d.history)) d.pending) in
-    subst (λ w. Noted c.loop-entry.seat.knows (words_stay (bound_for c.args.store.now.cells (length d.history) bound words w) words)) whole (c.loop-entry.invariant.bound bound words there)
+    subst (RisesFor c.args.store.now.cells (length d.history) c.args.seat.now.knows c.loop-entry.seat.knows) whole c.loop-entry.invariant.bound
 
-pub returns-clause-ready : goal.returns-clause-ready
-returns-clause-ready g c =
+pub returns-clause-cleared : goal.returns-clause-cleared
+returns-clause-cleared g c =
     let d = c.args.log.now.table in let all : c.loop-entry.entry-index ≡ length c.pending-entries.result.now = omega arith in
     let whole = ap (λ (m : ℕ). take m (ways_of (suc (length d.history)) d.pending)) all ∙ (ap (λ (e : List Entry). take (length e) (ways_of (suc (length d.history)) d.pending)) c.pending-entries.ensures ∙ all_taken (suc (length d.history)) d.pending) in
-    subst (AreReady c.loop-entry.seat.knows c.args.store.now.cells (length d.history)) whole c.loop-entry.invariant.ready
+    subst (AreCleared c.loop-entry.seat.knows c.args.store.now.cells) whole c.loop-entry.invariant.cleared

@@ -19,5 +19,8 @@ fit_delayed_flag-requires-clause-held g c = record {
 pub returns-clause-seat : goal.returns-clause-seat
 returns-clause-seat g c = left_goes c.args.seat.now c.forget_prepared_by.new.seat c.fit_delayed_flag.new.seat (prepared c.remove.new.self ∷ []) c.args.p c.forget_prepared_by.ensures c.fit_delayed_flag.ensures.seat
 
+pub returns-clause-left : goal.returns-clause-left
+returns-clause-left g c = λ i. record { heap = c.remove.ensures.heap i; delayed = c.remove.ensures.delayed i; delayed_commits = c.remove.ensures.delayed_commits i }
+
 pub returns-clause-gone : goal.returns-clause-gone
 returns-clause-gone g c = c.fit_delayed_flag.ensures.seat.noted (has_left c.args.p) refl (subst (λ (x : SeatState). IsIn (has_left c.args.p) x.knows.notes) (sym c.forget_prepared_by.ensures) (inl refl))

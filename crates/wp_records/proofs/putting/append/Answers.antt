@@ -1,4 +1,4 @@
-use Rattle.std.proofs.Common.{true, List, refl, subst, ap, ◌∙◌}
+use Rattle.std.proofs.Common.{true, List, [], refl, subst, ap, ◌∙◌}
 use Rattle.wp_model.specs.declared.entry.Entry.{Entry}
 use Rattle.wp_core.specs.Tables.{WriteTable}
 use Rattle.wp_parts.specs.Log.{LogState}
@@ -27,7 +27,7 @@ take_back-requires-clause-holds g c =
 pub returns-in_default : goal.returns-in_default
 returns-in_default g c =
     let failed = ap (λ (t : WriteTable). t.failed) c.in_default.ensures.err in (
-      subst (λ (entries : List Entry). IsNotPut c.args.store.now c.args.seat.now c.args.log.now true (failing entries c.args.seat.now.knows.participant) c.take_back.new.seat c.take_back.new.log) failed
+      subst (λ (entries : List Entry). IsNotPut c.args.store.now c.args.seat.now c.args.log.now [] true (failing entries c.args.seat.now.knows.participant) c.take_back.new.seat c.take_back.new.log) failed
           (failed_put c.args.store.now c.args.seat.now c.take_back.new.seat c.args.log.now c.take_back.new.log c.take_back.ensures.holds c.close_log.new.seat c.append.new.self.table c.append.new.self.table.failed c.close_log.ensures c.take_back.ensures.seat
           (ap (λ (x : LogState). x.table.history) c.take_back.ensures.log ∙ ap (λ (t : WriteTable). t.history) c.in_default.ensures.err)
           (ap (λ (x : LogState). x.table.closed) c.take_back.ensures.log ∙ ap (λ (t : WriteTable). t.closed) c.in_default.ensures.err)),

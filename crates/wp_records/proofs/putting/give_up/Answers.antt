@@ -3,7 +3,7 @@ use Rattle.wp_parts.specs.Log.{LogState}
 use Rattle.wp_records.proofs.Puts.{not_put}
 use Rattle.wp_records.proofs.putting.give_up.Goals as goal
 
-pub returns : goal.returns
-returns g c =
+pub returns-clause-back : goal.returns-clause-back
+returns-clause-back g c =
     not_put c.args.store.now c.args.seat.now c.take_back.new.seat c.args.log.now c.take_back.new.log c.take_back.ensures.holds _ _ c.take_back.ensures.seat (ap (λ (x : LogState). x.table.history) c.take_back.ensures.log)
     (ap (λ (x : LogState). x.table.closed) c.take_back.ensures.log ∙ c.requires.running)

@@ -3,7 +3,7 @@ use Rattle.wp_model.specs.declared.entry.Entry.{Entry}
 use Rattle.wp_core.specs.Views.{versions_in_memory}
 use Rattle.wp_parts.specs.Log.{LogState}
 use Rattle.wp_shared.specs.Seats.{SeatState}
-use Rattle.wp_records.specs.Records.{IsPut}
+use Rattle.wp_records.specs.Records.{IsPutWith}
 use Rattle.wp_records.proofs.Joined.{split, noted_join}
 use Rattle.wp_records.proofs.Puts.{put_none, others_pending, put_first, put_noted}
 use Rattle.wp_records.proofs.putting.publish_all.Goals as goal
@@ -53,4 +53,4 @@ pub returns : goal.returns
 returns g c =
     let z = c.args.store.now in let s = c.loop-seat.seat in let log = c.loop-seat.log in let inv = c.loop-seat.invariant in
     let empty : log.table.pending ≡ [] = search rules in
-    inv.puts s log (subst (λ (e : List Entry). IsPut z s log e s log) (sym empty) (put_none z s log inv.holds empty inv.running inv.learned))
+    inv.puts s log (subst (λ (e : List Entry). IsPutWith z s log [] e s log) (sym empty) (put_none z s log inv.holds empty inv.running inv.learned))

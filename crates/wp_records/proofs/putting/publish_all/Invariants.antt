@@ -1,7 +1,7 @@
 use Rattle.std.proofs.Common.{◌≡◌, false, [], length}
 use Rattle.wp_parts.specs.Log.{LogState}
 use Rattle.wp_shared.specs.Seats.{SeatState}
-use Rattle.wp_records.specs.Records.{IsPut}
+use Rattle.wp_records.specs.Records.{IsPutWith}
 use Rattle.wp_records.specs.Stages.{HoldsPending, AreBehind, MayJoin}
 use Rattle.wp_records.proofs.putting.publish_all.Given as goal
 
@@ -12,7 +12,7 @@ invariant-loop-seat g l = record {
   behind : AreBehind l.log.table.pending;
   running : l.log.table.closed ≡ false;
   learned : l.seat.knows.learned ≡ [];
-  puts : (new : SeatState) (left : LogState) → IsPut l.store l.seat l.log l.log.table.pending new left → IsPut l.store l.fn.seat l.fn.log l.fn.log.table.pending new left;
+  puts : (new : SeatState) (left : LogState) → IsPutWith l.store l.seat l.log [] l.log.table.pending new left → IsPutWith l.store l.fn.seat l.fn.log [] l.fn.log.table.pending new left;
 }
 
 abbrev pub decreases-loop-seat : goal.decreases-loop-seat

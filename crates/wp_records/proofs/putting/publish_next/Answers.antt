@@ -28,8 +28,7 @@ publish-requires-clause-next g c =
 
 pub returns-clause-joined : goal.returns-clause-joined
 returns-clause-joined g c entry others pending =
-    let z = c.args.store.now in let s = c.args.seat.now in let t = c.enter.new.seat in let w = c.requires.holds.words in
-    joined z s t c.publish.new.seat c.args.log.now c.publish.new.log entry others c.requires.holds pending c.requires.may c.enter.ensures.seat (c.publish.ensures entry others pending) _ w.words w.are_published (c.enter.ensures.words w.bound w.words w.noted)
+    joined c.args.store.now c.args.seat.now c.enter.new.seat c.publish.new.seat c.args.log.now c.publish.new.log entry others c.requires.holds pending c.requires.may c.enter.ensures.seat (c.publish.ensures entry others pending) c.enter.ensures.words
 
 pub returns-clause-may : goal.returns-clause-may
 returns-clause-may g c =

@@ -1,12 +1,13 @@
-use Rattle.std.proofs.Common.{◌≡◌, true, suc, length, refl, arith}
+use Rattle.std.proofs.Common.{◌≡◌, true, suc, [], ◌∷◌, ◌++◌, length, append_assoc, append-nil, refl, sym, ◌∙◌, arith}
 use Rattle.wp_model.specs.History.{is_prepare}
 use Rattle.wp_core.specs.Entries.{next_of}
 use Rattle.wp_core.specs.Views.{versions_in_memory, versions_nowhere, number_in_heap, number_not_in_heap, words_stay}
 use Rattle.wp_rule.specs.Knows.{Noted}
 use Rattle.wp_commits.specs.Notes.{is_of_words}
-use Rattle.wp_commits.specs.Ways.{ways_of}
-use Rattle.wp_commits.proofs.Clears.{on_ok}
-use Rattle.wp_commits.proofs.Ways.{keeps_ready, are_ready_still}
+use Rattle.wp_commits.specs.declared.way.Way.TheVariants.{InWord}
+use Rattle.wp_commits.specs.Ways.{ways_of, RisesFor}
+use Rattle.wp_commits.proofs.Clears.{on_ok, err_any}
+use Rattle.wp_commits.proofs.Ways.{keeps_ready, are_ready_still, cleared_ready}
 use Rattle.wp_records.specs.Stages.{is_guarded, is_of_number, is_of_versions, IsReadied}
 use Rattle.wp_records.proofs.Facts.{and_still, not_words, not_versions, not_number}
 use Rattle.wp_records.proofs.Readied.{cleared_holds}
@@ -57,6 +58,29 @@ returns-clause-ok g c =
     (λ number. record {
       versions = c.put_number.ensures.seat.noted versions_in_memory refl c.in_ok-put_versions.ensures.ok;
       number = number;
-      pairs = are_ready_still u.knows v.knows cells n n two (omega arith) ways (are_ready_still t.knows u.knows cells n n one (omega arith) ways c.in_ok-clear_all.ensures.ready);
+      pairs = are_ready_still u.knows v.knows cells n n two (omega arith) ways (are_ready_still t.knows u.knows cells n n one (omega arith) ways (cleared_ready t.knows cells n ways c.in_ok-clear_all.ensures.cleared));
     })
     c.put_number.ensures.ok
+
+-- the versions and the number leave the words as they are
+pub returns-in_err-clear_all-clause-refused : goal.returns-in_err-clear_all-clause-refused
+returns-in_err-clear_all-clause-refused g c =
+    let r = c.in_err-clear_all.ensures.refused in err_any c.from_residual.result _ (r.0 ++ InWord r.1 r.2 ∷ [], r.3, r.4 ∙ sym (append_assoc r.0 (InWord r.1 r.2 ∷ []) r.3), r.5)
+
+pub returns-in_err-put_versions-clause-refused : goal.returns-in_err-put_versions-clause-refused
+returns-in_err-put_versions-clause-refused g c =
+    let d = c.args.log.now.table in let ways = ways_of (suc (length d.history)) d.pending in
+    err_any c.from_residual-in_err-put_versions.result _ (ways, [], sym (append-nil ways), λ bound words there. c.put_versions.ensures.seat.noted (words_stay _ words) refl (c.in_ok-clear_all.ensures.bound bound words there))
+
+pub returns-clause-bound : goal.returns-clause-bound
+returns-clause-bound g c =
+    let d = c.args.log.now.table in
+    on_ok c.put_number.result _ (RisesFor c.args.store.now.cells (length d.history) c.args.seat.now.knows c.put_number.new.seat.knows (ways_of (suc (length d.history)) d.pending))
+    (λ number bound words there. c.put_number.ensures.seat.noted (words_stay _ words) refl (c.put_versions.ensures.seat.noted (words_stay _ words) refl (c.in_ok-clear_all.ensures.bound bound words there)))
+    c.put_number.ensures.ok
+
+pub returns-clause-refused : goal.returns-clause-refused
+returns-clause-refused g c =
+    let d = c.args.log.now.table in let ways = ways_of (suc (length d.history)) d.pending in
+    err_any c.put_number.result _
+    (ways, [], sym (append-nil ways), λ bound words there. c.put_number.ensures.seat.noted (words_stay _ words) refl (c.put_versions.ensures.seat.noted (words_stay _ words) refl (c.in_ok-clear_all.ensures.bound bound words there)))

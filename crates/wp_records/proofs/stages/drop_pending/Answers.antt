@@ -1,6 +1,6 @@
 use Rattle.std.proofs.Common.{ap}
 use Rattle.wp_parts.specs.Log.{LogState}
-use Rattle.wp_records.proofs.Begun.{words_before, dropped_holds, dropped_goes}
+use Rattle.wp_records.proofs.Begun.{words_before, dropped_holds}
 use Rattle.wp_records.proofs.stages.drop_pending.Goals as goal
 
 pub drop_pending-requires-2-clause-held : goal.drop_pending-requires-2-clause-held
@@ -11,6 +11,3 @@ drop_pending-requires-2-clause-words g c = words_before c.args.store.now c.args.
 
 pub returns-clause-holds : goal.returns-clause-holds
 returns-clause-holds g c = dropped_holds c.args.store.now c.args.seat.now c.drop_pending-2.new.seat c.args.log.now c.drop_pending.new.self c.requires.holds c.drop_pending.ensures.table c.drop_pending-2.ensures
-
-pub returns-clause-seat : goal.returns-clause-seat
-returns-clause-seat g c = dropped_goes c.args.store.now c.args.seat.now c.drop_pending-2.new.seat c.args.log.now c.drop_pending.new.self c.requires.holds c.drop_pending.ensures.table c.drop_pending-2.ensures

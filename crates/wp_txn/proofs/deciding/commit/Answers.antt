@@ -1,9 +1,10 @@
-use Rattle.std.proofs.Common.{[], ◌∷◌, inl, refl}
+use Rattle.std.proofs.Common.{◌≡◌, [], ◌∷◌, inl, refl}
 use Rattle.wp_model.specs.declared.entry.Entry.TheVariants.{Commit}
 use Rattle.wp_core.specs.Views.{unprepared}
 use Rattle.wp_txn.specs.Writes.{AsksCommit}
 use Rattle.wp_shared.proofs.Onward.{continues_none}
-use Rattle.wp_txn.proofs.Ends.{ended, has_until, there_before, commit_is_of, commit_decides, refuses_prepared}
+use Rattle.wp_txn.proofs.BeforeLog.{refused_txn_before}
+use Rattle.wp_txn.proofs.Ends.{ended, locked_until, prepared_locked, commit_is_of, commit_decides, refuses_prepared}
 use Rattle.wp_txn.proofs.deciding.commit.Goals as goal
 
 pub end-requires-clause-free : goal.end-requires-clause-free
@@ -12,8 +13,8 @@ end-requires-clause-free g c = (c.in-Ok.ensures {u = tt}).1.1.put.goes_on.free
 pub end-requires-clause-has : goal.end-requires-clause-has
 end-requires-clause-has g c =
     let z = c.args.store.now in let s = c.args.seat.now in let x = c.args.txn in let r = c.in-Ok.ensures {u = tt} in let h = c.requires.prepared in
-    has_until z s s c.record_commit.new.seat s x.name (Commit x.number ∷ []) (λ n. unprepared x.name ∷ []) c.in-Ok.number (continues_none z s c.requires.free) r (commit_is_of z s c.record_commit.new.seat x.name x.number x.batch h (λ n. unprepared x.name ∷ []) c.in-Ok.number r)
-    (there_before z s s x.name x.number x.batch h)
+    locked_until z s s c.record_commit.new.seat s x.name (Commit x.number ∷ []) (λ n. unprepared x.name ∷ []) c.in-Ok.number (continues_none z s c.requires.free) r (commit_is_of z s c.record_commit.new.seat x.name x.number x.batch h (λ n. unprepared x.name ∷ []) c.in-Ok.number r)
+    x.batch (prepared_locked s x.name x.number x.batch h)
 
 pub end-requires-clause-noted : goal.end-requires-clause-noted
 end-requires-clause-noted g c = (c.in-Ok.ensures {u = tt}).2 (unprepared c.args.txn.name) (inl refl)
@@ -31,3 +32,6 @@ returns-in-Ok-clause-ok g c =
 
 pub returns-in-Err-clause-refused : goal.returns-in-Err-clause-refused
 returns-in-Err-clause-refused g c = refuses_prepared c.args.store.now c.args.seat.now c.record_commit.new.seat c.args.txn 1 AsksCommit c.in-Err.why c.requires.prepared (c.in-Err.ensures {u = tt})
+
+pub returns-in-Err-clause-before_log : goal.returns-in-Err-clause-before_log
+returns-in-Err-clause-before_log g c = refused_txn_before c.args.store.now c.args.seat.now c.record_commit.new.seat 1 (λ asked. asked ≡ Commit c.args.txn.number ∷ []) c.in-Err.why (c.in-Err.ensures {u = tt})

@@ -1,10 +1,13 @@
-use Rattle.std.proofs.Common.{subst}
+use Rattle.std.proofs.Common.{sym, subst}
 use Rattle.wp_core.specs.Lists.{IsIn}
 use Rattle.wp_core.specs.Views.{has_left}
 use Rattle.wp_txn.specs.Recording.{Frees}
-use Rattle.wp_txn.specs.Txn.{PreparedState}
+use Rattle.wp_txn.specs.Txn.{PreparedState, HasLocked}
 use Rattle.wp_txn.proofs.Ends.{freed_then}
 use Rattle.wp_txn.proofs.deciding.end.Goals as goal
+
+pub free-requires-clause-has : goal.free-requires-clause-has
+free-requires-clause-has g c = subst (λ (txn : PreparedState). HasLocked c.args.seat.now txn.name txn.batch) (sym c.txn.view_is) c.requires.has
 
 pub returns-clause-frees : goal.returns-clause-frees
 returns-clause-frees g c =

@@ -6,6 +6,7 @@ use Rattle.wp_core.specs.World.{Participant}
 use Rattle.wp_records.specs.Records.{MayPut}
 use Rattle.wp_txn.specs.Recording.{Records, HasDirect, EndsDirect}
 use Rattle.wp_txn.proofs.MayPut.{may_write_direct}
+use Rattle.wp_txn.proofs.BeforeLog.{written_before}
 use Rattle.wp_txn.proofs.DirectWrites.{free_after, direct_after, written}
 use Rattle.wp_txn.proofs.direct.write.Goals as goal
 
@@ -28,9 +29,12 @@ pub give_back-requires-clause-has : goal.give_back-requires-clause-has
 give_back-requires-clause-has g c = let held = c.in_ok-hold.ensures {u = tt} in
     direct_after c.args.store.now c.hold.new.seat c.record_write-outcome.new.seat (Write c.in_ok-batch.batch ∷ []) (λ n. []) c.record_write-outcome.result c.record_write-outcome.ensures ∙ ap (λ (p : Participant). p.direct) held.goes_on.participant
 
-pub returns : goal.returns
-returns g c =
+pub returns-clause-answers : goal.returns-clause-answers
+returns-clause-answers g c =
     let held = c.in_ok-hold.ensures {u = tt} in let is = c.in_ok-batch.ensures {u = tt} in let mid = c.hold.new.seat in let left = c.record_write-outcome.new.seat in
     let key_is = first_key c.args.change c.index-changes-0.result c.key-key.result.now c.changes.result.now c.in_ok-batch.batch c.changes.ensures.value is c.index-changes-0.is c.key-key.ensures in
     written c.args.store.now c.args.seat.now mid left c.give_back.new.seat c.args.change c.requires.none (subst (λ (key : List ℕ). HasDirect c.args.store.now c.args.seat.now mid key) key_is held) (subst (λ (key : List ℕ). EndsDirect c.args.store.now left c.give_back.new.seat key) key_is c.give_back.ensures) c.record_write-outcome.result
     (subst (λ (b : List Change). Records c.args.store.now mid (Write b ∷ []) (λ n. []) c.record_write-outcome.result left) is c.record_write-outcome.ensures)
+
+pub returns-clause-before_log : goal.returns-clause-before_log
+returns-clause-before_log g c = written_before c.args.store.now c.args.seat.now c.give_back.new.seat c.args.change c.record_write-outcome.result (returns-clause-answers g c)

@@ -1,9 +1,10 @@
-use Rattle.std.proofs.Common.{[], ◌∷◌, Ok, subst, sym}
+use Rattle.std.proofs.Common.{◌≡◌, [], ◌∷◌, Ok, subst, sym}
 use Rattle.wp_model.specs.declared.entry.Entry.TheVariants.{Prepare}
 use Rattle.wp_core.specs.Views.{undecided_at}
 use Rattle.wp_txn.specs.Recording.{Records}
 use Rattle.wp_txn.specs.Txn.{OpenState, HasOpen}
 use Rattle.wp_txn.specs.Writes.{Prepares}
+use Rattle.wp_txn.proofs.BeforeLog.{refused_txn_before}
 use Rattle.wp_txn.proofs.Ends.{prepares, refuses_open}
 use Rattle.wp_txn.proofs.preparing.prepare.Goals as goal
 
@@ -17,3 +18,6 @@ returns-in-Ok-clause-ok g c =
 
 pub returns-in-Err-clause-refused : goal.returns-in-Err-clause-refused
 returns-in-Err-clause-refused g c = refuses_open c.args.store.now c.args.seat.now c.record_prepare.new.seat c.args.txn (Prepare c.args.txn.name c.args.txn.batch) c.in-Err.why c.requires.open (c.in-Err.ensures {u = tt})
+
+pub returns-in-Err-clause-before_log : goal.returns-in-Err-clause-before_log
+returns-in-Err-clause-before_log g c = refused_txn_before c.args.store.now c.args.seat.now c.record_prepare.new.seat 1 (λ asked. asked ≡ Prepare c.args.txn.name c.args.txn.batch ∷ []) c.in-Err.why (c.in-Err.ensures {u = tt})

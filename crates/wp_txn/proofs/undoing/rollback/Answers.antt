@@ -3,9 +3,10 @@ use Rattle.wp_model.specs.declared.entry.Entry.{Entry}
 use Rattle.wp_model.specs.declared.entry.Entry.TheVariants.{Undo, Close}
 use Rattle.wp_core.specs.Views.{unprepared}
 use Rattle.wp_txn.specs.Writes.{AsksRollback}
+use Rattle.wp_txn.proofs.BeforeLog.{refused_txn_before}
 use Rattle.wp_txn.proofs.Ends.{refuses_prepared, refused_from}
 use Rattle.wp_txn.proofs.Goes.{refused_still}
-use Rattle.wp_txn.proofs.RollsBack.{prepared_since, asks_prior, rolled_back_decides, rolled_back}
+use Rattle.wp_txn.proofs.RollsBack.{prepared_since, asks_prior, locked_still, rolled_back_decides, rolled_back}
 use Rattle.wp_txn.specs.declared.error.TxnError.TheVariants.{Memory}
 use Rattle.wp_txn.proofs.undoing.rollback.Goals as goal
 
@@ -14,6 +15,12 @@ returns-in_default-clause-refused g c = refuses_prepared c.args.store.now c.args
 
 pub record_rollback-requires-clause-prepared : goal.record_rollback-requires-clause-prepared
 record_rollback-requires-clause-prepared g c = let x = c.args.txn in prepared_since c.args.store.now c.args.seat.now c.prior_now.new.seat x.name x.number x.batch c.prior_now.ensures.seat c.requires.prepared
+
+pub end-requires-clause-has : goal.end-requires-clause-has
+end-requires-clause-has g c =
+    let z = c.args.store.now in let s = c.args.seat.now in let t = c.prior_now.new.seat in let x = c.args.txn in let begins = c.prior_now.ensures.seat in
+    locked_still z s t c.record_rollback.new.seat x.name x.number x.batch c.in-Ok.prior begins (prepared_since z s t x.name x.number x.batch begins c.requires.prepared) (λ n. unprepared x.name ∷ []) c.in-Ok-record_rollback.number
+    (c.in-Ok-record_rollback.ensures {u = tt})
 
 pub end-requires-clause-noted : goal.end-requires-clause-noted
 end-requires-clause-noted g c = (c.in-Ok-record_rollback.ensures {u = tt}).2 (unprepared c.args.txn.name) (inl refl)
@@ -40,3 +47,13 @@ returns-clause-refused g c =
     refuses_prepared z s new x 2 AsksRollback why c.requires.prepared
     (refused_from z s c.prior_now.new.seat new 2 Asks (AsksRollback new.knows.participant.seen x) (λ asked is legal. asks_prior z s new x.name x.number x.batch found asked c.requires.prepared still.seen is legal) c.prior_now.ensures.seat why
     (c.in-Err.ensures {u = tt}))
+
+pub returns-in_default-clause-before_log : goal.returns-in_default-clause-before_log
+returns-in_default-clause-before_log g c = refused_txn_before c.args.store.now c.args.seat.now c.prior_now.new.seat 2 (λ asked. Unit {0}) Memory c.prior_now.ensures.seat
+
+pub returns-clause-before_log : goal.returns-clause-before_log
+returns-clause-before_log g c =
+    let z = c.args.store.now in let s = c.args.seat.now in let new = c.record_rollback.new.seat in let why = c.in-Err.why in let x = c.args.txn in
+    let Asks : List Entry → Type 0 = λ asked. asked ≡ Undo x.number c.in-Ok.prior ∷ Close x.number ∷ [] in
+    let Any : List Entry → Type 0 = λ asked. Unit {0} in
+    refused_txn_before z s new 2 Any why (refused_from z s c.prior_now.new.seat new 2 Asks Any (λ asked is legal. tt) c.prior_now.ensures.seat why (c.in-Err.ensures {u = tt}))

@@ -9,19 +9,6 @@ use Rattle.wp_shared.proofs.shared.Shared.open.Goals as goal
 pub new-requires-clause-opened : goal.new-requires-clause-opened
 new-requires-clause-opened g c = (c.args.id, g.D.Disk.moments c.args.disks.log, g.D.Disk.moments c.args.disks.manifest, g.D.Disk.moments c.args.disks.tables, c.in-Ok.ensures.opened)
 
-pub returns-in-Err-clause-refused : goal.returns-in-Err-clause-refused
-returns-in-Err-clause-refused g c = let e = c.in-Err.ensures in record {
-  cause = e.cause;
-  only = e.only;
-  left = e.left;
-  log_survives = e.log_survives;
-  log_durable = e.log_durable;
-  manifest_durable = e.manifest_durable;
-  log_later = e.log_later;
-  manifest_later = e.manifest_later;
-  tables_later = e.tables_later;
-}
-
 pub returns-in-Ok-new-clause-opened : goal.returns-in-Ok-new-clause-opened
 returns-in-Ok-new-clause-opened g c =
     let e = c.in-Ok.ensures in let parts = c.in-Ok.parts in
@@ -37,18 +24,18 @@ returns-in-Ok-new-clause-opened g c =
       set_is = c.in-Ok-new.ensures.set;
       last_is = c.in-Ok-new.ensures.last_edit;
       parts = subst (λ (h : List Entry). PartsOpened c.args.id old.log old.manifest old.tables parts.wal h parts.manifest tables parts.store) same e.opened;
-      opens = subst (λ (h : List Entry). AllKnown old.log old.manifest old.tables (OpensTo parts.wal.id h (installed_of parts.manifest.edit parts.store.tables))) same e.opens;
-      log_survives = e.log_survives;
-      manifest_survives = e.manifest_survives;
-      log_durable = e.log_durable;
-      manifest_durable = e.manifest_durable;
-      log_later = e.log_later;
-      manifest_later = e.manifest_later;
-      tables_later = e.tables_later;
+      opens = subst (λ (h : List Entry). AllKnown old.log old.manifest old.tables (OpensTo parts.wal.id h (installed_of parts.manifest.edit parts.store.tables))) same e.found.opens;
+      log_survives = e.found.log.survives;
+      manifest_survives = e.found.manifest.survives;
+      log_durable = e.found.log.durable;
+      manifest_durable = e.found.manifest.durable;
+      log_later = e.found.log.later;
+      manifest_later = e.found.manifest.later;
+      tables_later = e.found.tables_later;
     }
 
 pub returns-in-Err-new-clause-refused : goal.returns-in-Err-new-clause-refused
 returns-in-Err-new-clause-refused g c =
     let e = c.in-Ok.ensures in let parts = c.in-Ok.parts in
     refused_late _ _ c.args.id (devices_of g.D.Disk.moments g.D.Disk.faults c.args.disks) _ parts.wal parts.history.entries parts.manifest (g.D.Disk.moments parts.tables) (g.D.Disk.faults parts.tables) parts.store
-    c.in-Err-new.ensures.refused e.opened e.log_survives e.manifest_survives e.log_durable e.manifest_durable e.log_later e.manifest_later e.tables_later
+    c.in-Err-new.ensures.refused e.opened e.found
