@@ -1,3 +1,4 @@
+pub mod Throughout
 pub mod Found
 pub mod Made
 pub mod Versions

@@ -4,7 +4,7 @@ use Rattle.std.specs.Prelude.{Err, IfSome}
 use Rattle.std.specs.List.{list_all}
 use Rattle.wp_model.specs.declared.entry.Entry.{Entry}
 use Rattle.wp_model.specs.declared.version.Version.{Version}
-use Rattle.wp_model.specs.Flushed.{InstalledEdit, later_versions}
+use Rattle.wp_model.specs.Flushed.{InstalledEdit, IsEditCovered, later_versions}
 use Rattle.wp_model.specs.Versions.{AreInOrder}
 use Rattle.wp_merge.specs.Merge.{joined, sorted_of}
 use Rattle.wp_replies.specs.Tables.{retained, after_compaction}
@@ -34,6 +34,7 @@ use Rattle.wp_maint.specs.Holding.{is_of_flushed, is_of_tables, HoldsEdits}
 use Rattle.wp_maint.specs.Installs.{HasInstalled, NotInstalled}
 use Rattle.wp_maint.proofs.Onward.{changed_seat, held_left, found_later, flushed_free, tables_free, goes_remembering}
 use Rattle.wp_maint.proofs.Replaces.{in_one_is}
+use Rattle.wp_maint.proofs.Throughout.{opens_throughout}
 use Rattle.wp_maint.proofs.Versions.{sorted_same}
 
 -- ---- one table, or none
@@ -53,6 +54,9 @@ module _ {D : Type 0} (z : SharedState D) (s u : SeatState) (e left : EditsState
 
   abbrev numbers : List ℕ
   numbers = numbers_of live
+
+  next_covered : IsEditCovered s.knows.participant.seen (after_compaction (take floor s.knows.participant.seen) numbers e.table.last) → IsEditCovered s.knows.participant.seen next
+  next_covered covers = subst (IsEditCovered s.knows.participant.seen) (sym (in_one_is (take floor s.knows.participant.seen) numbers e.table.last kept kept_is)) covers
 
   module _ (k : HasInstalled z s e next true u left) where
     seen : u.knows.participant.seen ≡ s.knows.participant.seen
@@ -85,9 +89,9 @@ module _ {D : Type 0} (z : SharedState D) (s u : SeatState) (e left : EditsState
       left_kept ∙ kept_is ∙ ap (λ (h : List Entry). retained (take floor h) numbers e.table.last) (sym seen),
     )
 
-    pub has_compacted : HoldsEdits z s e → HasAlone kept e left → (v : SeatState) (turns : List ℕ) → GoesOn is_of_tables (installed left.table ∷ []) turns u v → e.table.halted ≡ false → SeveralTables e.table.last → length kept ≤ length (later_versions (take floor s.knows.participant.seen) 0) → (n : ℕ) → n ≡ length kept
+    pub has_compacted : HoldsEdits z s e → HasAlone kept e left → (v : SeatState) (turns : List ℕ) → GoesOn is_of_tables (installed left.table ∷ []) turns u v → e.table.halted ≡ false → SeveralTables e.table.last → IsEditCovered s.knows.participant.seen (after_compaction (take floor s.knows.participant.seen) numbers e.table.last) → length kept ≤ length (later_versions (take floor s.knows.participant.seen) 0) → (n : ℕ) → n ≡ length kept
         → HasCompacted (GoesOnAs s v) (IsPin floor numbers) z s v e.table (record { at = floor; versions = n })
-    has_compacted holds parts v turns put running several few n counted =
+    has_compacted holds parts v turns put running several covers few n counted =
         let then : v.knows.participant.seen ≡ s.knows.participant.seen = ap (λ (x : SeatState). x.knows.participant.seen) put.same ∙ seen in
         let named : next ≡ after_compaction (take floor v.knows.participant.seen) numbers e.table.last = in_one_is (take floor s.knows.participant.seen) numbers e.table.last kept kept_is ∙ ap (λ (h : List Entry). after_compaction (take floor h) numbers e.table.last) (sym then) in
         let found = found_later z s u v e.table (starts_equal u.knows.participant.seen v.knows.participant.seen (ap (λ (x : SeatState). x.knows.participant.seen) put.same)) k.changes.found in
@@ -116,6 +120,7 @@ module _ {D : Type 0} (z : SharedState D) (s u : SeatState) (e left : EditsState
             so = parts ∙ ap (λ (l : List Version). compacted_parts l) (kept_is ∙ ap (λ (h : List Entry). retained (take floor h) numbers e.table.last) (sym then));
           };
           survives = subst (SurvivesInstall e left) named k.survives;
+          throughout = opens_throughout s.knows.participant.seen v.knows.participant.seen e left next (after_compaction (take floor v.knows.participant.seen) numbers e.table.last) k.edits running k.survives (next_covered covers) then named;
           goes_on = subst (λ (edit : InstalledEdit). GoesOnAs s v (after edit)) named (goes_still s u v (after next) first second);
         }
 
@@ -130,9 +135,9 @@ module _ {D : Type 0} (z : SharedState D) (s u : SeatState) (e left : EditsState
     edit_is = k ∙ in_one_is (take floor s.knows.participant.seen) numbers e.table.last kept kept_is ∙ ap (λ (h : List Entry). after_compaction (take floor h) numbers e.table.last) (sym same);
   }
 
-  pub not_compacted : HoldsEdits z s e → (why : MaintError) → NotInstalled z s e next why u left → e.table.halted ≡ false → SeveralTables e.table.last → CompactsFrom (GoesOnAs s u) (IsPin floor numbers) z s e.table (Err why) u
-  not_compacted holds Memory k running several = subst (λ (x : SeatState). GoesOnAs s x s.knows.participant) (sym k.0) (goes_none s)
-  not_compacted holds TableFault k running several =
+  pub not_compacted : HoldsEdits z s e → (why : MaintError) → NotInstalled z s e next why u left → e.table.halted ≡ false → SeveralTables e.table.last → IsEditCovered s.knows.participant.seen (after_compaction (take floor s.knows.participant.seen) numbers e.table.last) → CompactsFrom (GoesOnAs s u) (IsPin floor numbers) z s e.table (Err why) u
+  not_compacted holds Memory k running several covers = subst (λ (x : SeatState). GoesOnAs s x s.knows.participant) (sym k.0) (goes_none s)
+  not_compacted holds TableFault k running several covers =
       let same : u.knows.participant.seen ≡ s.knows.participant.seen = ap (λ (x : SeatState). x.knows.participant.seen) k.changes.goes.same in record {
         found = k.changes.found;
         running = running;
@@ -142,8 +147,8 @@ module _ {D : Type 0} (z : SharedState D) (s u : SeatState) (e left : EditsState
         left = held_left z s u u (with_failed e.table left.table.failed) k.stands (changed_seat z s u e.table left.table k.changes) same refl
             (subst (λ (t : Installed). IsIn (installed t) u.knows.held) k.table (subst (IsIn (installed left.table)) (sym k.holds.turn.held) (inl refl)));
         fault = record { before = e; after = left; of_store = holds.of_store; still_of_store = k.holds.of_store; before_is = refl; after_is = k.table; edits = k.edits; still_edits = k.still_edits; so = k.fault };
-        survives = (next, asked_so (Some next) refl same, k.survives);
+        survives = (next, asked_so (Some next) refl same, k.survives, opens_throughout s.knows.participant.seen u.knows.participant.seen e left next next k.edits running k.survives (next_covered covers) same refl);
         goes_on = goes_remembering s u (found_by z s u e.table k.changes.found ∷ tables_failed e.table.last left.table.failed ∷ []) no_fact (installed left.table ∷ []) s.turns k.changes.goes loose_none;
       }
-  not_compacted holds Nothing k running several = absurd k
-  not_compacted holds (TablesStopped flushed) k running several = absurd k
+  not_compacted holds Nothing k running several covers = absurd k
+  not_compacted holds (TablesStopped flushed) k running several covers = absurd k

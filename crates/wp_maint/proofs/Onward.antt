@@ -29,6 +29,8 @@ use Rattle.wp_maint.specs.Calls.{HeldTables, SawWhole, Finds, HasNothing, Flushe
 use Rattle.wp_maint.specs.Compaction.{EndsRoundFrom}
 use Rattle.wp_maint.specs.Finding.{Remembers, Changes}
 use Rattle.wp_maint.specs.Holding.{is_of_flushed, is_of_tables, HoldsEdits}
+use Rattle.wp_maint.specs.Moments.{OpensThroughout}
+use Rattle.wp_maint.proofs.Throughout.{throughout_between}
 
 -- ---- which facts stay
 
@@ -147,6 +149,9 @@ module _ {D : Type 0} (First Last : Participant → Type 0) (z : SharedState D) 
   remembers_so k events first =
       subst (λ (past : List Event). Last (remembering (found_edit e.last.flushed e.last.tables (tables_due k.world.first_edit past) e.halted ∷ events) s.knows.participant)) same_past (more (found_by z t u e k ∷ events) first)
 
+  throughout_so : (old new : EditsState) (next edit : InstalledEdit) → next ≡ edit → OpensThroughout t.knows.participant.seen u.knows.participant.seen old new next → OpensThroughout s.knows.participant.seen v.knows.participant.seen old new edit
+  throughout_so old new next edit is k = throughout_between s.knows.participant.seen t.knows.participant.seen u.knows.participant.seen v.knows.participant.seen old new next edit starts grown is k
+
   nothing_so : (Idle : InstalledEdit → Type 0) → HasNothing First z t u e Idle → HasNothing Last z s v e Idle
   nothing_so Idle k = record { found = found_so k.found; running = k.running; idle = k.idle; goes_on = remembers_so k.found [] k.goes_on }
 
@@ -174,6 +179,7 @@ module _ {D : Type 0} (First Last : Participant → Type 0) (z : SharedState D) 
       so = k.table.so ∙ ap (λ (h : List Entry). sorted_of (unflushed h e.last) ∷ k.table.before.parts) seen;
     };
     survives = subst (λ (h : List Entry). SurvivesInstall k.table.before k.table.after (after_flush h e.last)) seen k.survives;
+    throughout = throughout_so k.table.before k.table.after (after_flush u.knows.participant.seen e.last) (after_flush v.knows.participant.seen e.last) (ap (λ (h : List Entry). after_flush h e.last) seen) k.throughout;
     goes_on = remembers_so k.found (event.installed (after_flush v.knows.participant.seen e.last) false ∷ [])
         (subst (λ (h : List Entry). First (remembering (found_by z t u e k.found ∷ event.installed (after_flush h e.last) false ∷ []) t.knows.participant)) seen k.goes_on);
   }
@@ -189,7 +195,7 @@ module _ {D : Type 0} (First Last : Participant → Type 0) (z : SharedState D) 
       next = subst (λ (h : List Entry). IfSome k.asked (λ edit. edit ≡ after_flush h e.last)) seen k.next;
       left = holds_so _ k.left;
       fault = k.fault;
-      survives = (k.survives.0, k.survives.1 ∙ ap (λ (h : List Entry). after_flush h e.last) seen, k.survives.2);
+      survives = (k.survives.0, k.survives.1 ∙ ap (λ (h : List Entry). after_flush h e.last) seen, k.survives.2, throughout_so k.fault.before k.fault.after k.survives.0 k.survives.0 refl k.survives.3);
       goes_on = remembers_so k.found (tables_failed e.last k.asked ∷ []) k.goes_on;
     },
   )
@@ -226,6 +232,7 @@ module _ {D : Type 0} (First Last : Participant → Type 0) (z : SharedState D) 
         so = k.table.so ∙ ap (λ (h : List Entry). compacted_parts (retained h k.live e.last)) p.1;
       };
       survives = subst (λ (h : List Entry). SurvivesInstall k.table.before k.table.after (after_compaction h k.live e.last)) p.1 k.survives;
+      throughout = throughout_so k.table.before k.table.after (after_compaction (take done.at u.knows.participant.seen) k.live e.last) (after_compaction (take done.at v.knows.participant.seen) k.live e.last) (ap (λ (h : List Entry). after_compaction h k.live e.last) p.1) k.throughout;
       goes_on = remembers_so k.found (event.installed (after_compaction (take done.at v.knows.participant.seen) k.live e.last) true ∷ [])
           (subst (λ (h : List Entry). First (remembering (found_by z t u e k.found ∷ event.installed (after_compaction h k.live e.last) true ∷ []) t.knows.participant)) p.1 k.goes_on);
     }
@@ -239,7 +246,7 @@ module _ {D : Type 0} (First Last : Participant → Type 0) (z : SharedState D) 
       next = next_so k.asked k.next;
       left = holds_so _ k.left;
       fault = k.fault;
-      survives = (k.survives.0, edit_so k.survives.0 k.survives.1, k.survives.2);
+      survives = (k.survives.0, edit_so k.survives.0 k.survives.1, k.survives.2, throughout_so k.fault.before k.fault.after k.survives.0 k.survives.0 refl k.survives.3);
       goes_on = remembers_so k.found (tables_failed e.last k.asked ∷ []) k.goes_on;
     }
     compacts_so (Err (TablesStopped flushed)) k = record { found = found_so k.found; halted = k.halted; flushed_is = k.flushed_is; goes_on = remembers_so k.found [] k.goes_on }

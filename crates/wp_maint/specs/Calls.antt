@@ -24,6 +24,7 @@ use Rattle.wp_shared.specs.Calls.{Continues, remembering}
 use Rattle.wp_shared.specs.Notes.{seeing}
 use Rattle.wp_shared.specs.Seats.{SharedState, SeatState, place_at}
 use Rattle.wp_read.specs.Registers.{IsPinned, numbers_of}
+use Rattle.wp_maint.specs.Moments.{OpensThroughout}
 use Rattle.wp_maint.specs.declared.done.Done.{Done}
 use Rattle.wp_maint.specs.declared.error.MaintError.{MaintError}
 use Rattle.wp_maint.specs.declared.error.MaintError.TheVariants.{Memory, Nothing, TableFault, TablesStopped}
@@ -112,7 +113,8 @@ pub record HasNothing {D : Type 0} (Goes : Participant → Type 0) (z : SharedSt
 
 -- A device failed where there was something to do, as `Busy` says. The last edit stays; a later opening may find the one that was
 -- to be installed, where the manifest was called for it. As `TablesBecame` says, of two states: a device's count rose, and at each
--- moment between them a crash left the edits up to the last one, or those and that one, and their tables.
+-- moment between them a crash left the edits up to the last one, or those and that one, and their tables; and what a crash left of all
+-- three devices opened to the history that the log spelled.
 pub record HasFailed {D : Type 0} (Goes : Participant → Type 0) (z : SharedState D) (old new : SeatState) (e : Installed) (Busy : Type 0) (IsNext : InstalledEdit → Type 0) : Type 0 where
   pub found : Finds z old new e
   pub running : e.halted ≡ false
@@ -121,7 +123,7 @@ pub record HasFailed {D : Type 0} (Goes : Participant → Type 0) (z : SharedSta
   pub next : IfSome asked IsNext
   pub left : HeldTables z old new new.knows.participant.past (with_failed e asked)
   pub fault : TablesBecame z e (with_failed e asked) HasFault
-  pub survives : (edit : InstalledEdit) × IsNext edit × SurvivesInstall fault.before fault.after edit
+  pub survives : (edit : InstalledEdit) × IsNext edit × SurvivesInstall fault.before fault.after edit × OpensThroughout old.knows.participant.seen new.knows.participant.seen fault.before fault.after edit
   pub goes_on : Goes (remembering (found_by z old new e found ∷ tables_failed e.last asked ∷ []) old.knows.participant)
 
 -- ---- a flush
@@ -132,7 +134,8 @@ NoneInMemory seen edit = (n : ℕ) → unflushed (take n seen) edit ≡ []
 
 -- All that stood in memory is in one table more, up to the number that was published in a world that the seat was in. The last edit
 -- names that table. As `TablesBecame` says, of two states: a table with just these versions came before those that were there, and
--- at each moment between them a crash left the edits before that one, or those and it, and their tables.
+-- at each moment between them a crash left the edits before that one, or those and it, and their tables; and what a crash left of all
+-- three devices opened to the history that the log spelled.
 pub record HasFlushed {D : Type 0} (Goes : Participant → Type 0) (z : SharedState D) (old new : SeatState) (e : Installed) (done : Done) : Type 0 where
   pub found : Finds z old new e
   pub running : e.halted ≡ false
@@ -143,6 +146,7 @@ pub record HasFlushed {D : Type 0} (Goes : Participant → Type 0) (z : SharedSt
   pub left : HeldTables z old new new.knows.participant.past (record e { last = after_flush new.knows.participant.seen e.last })
   pub table : TablesBecame z e (record e { last = after_flush new.knows.participant.seen e.last }) (HasNewest (sorted_of (unflushed new.knows.participant.seen e.last)))
   pub survives : SurvivesInstall table.before table.after (after_flush new.knows.participant.seen e.last)
+  pub throughout : OpensThroughout old.knows.participant.seen new.knows.participant.seen table.before table.after (after_flush new.knows.participant.seen e.last)
   pub goes_on : Goes (remembering (found_by z old new e found ∷ event.installed (after_flush new.knows.participant.seen e.last) false ∷ []) old.knows.participant)
 
 -- What it answers and leaves where it finds these tables. Where there was nothing to flush, or a device failed, the seat had seen
@@ -183,7 +187,8 @@ pub record HasPinned {D : Type 0} (z : SharedState D) (old new : SeatState) (flo
 -- Which floor and which live numbers it was, `Pinned` says. Of the tables' versions those stay that a reader at the floor needs,
 -- or at a number that was live; they are no more than the history had up to the floor. The last edit names their table alone. As
 -- `TablesBecame` says, of two states: a table with just these versions took the place of all, and at each moment between them a
--- crash left the edits before that one, or those and it, and their tables.
+-- crash left the edits before that one, or those and it, and their tables; and what a crash left of all three devices opened to the
+-- history that the log spelled.
 pub record HasCompacted {D : Type 0} (Goes : Participant → Type 0) (Pinned : ℕ → List ℕ → Type 0) (z : SharedState D) (old new : SeatState) (e : Installed) (done : Done) : Type 0 where
   pub found : Finds z old new e
   pub running : e.halted ≡ false
@@ -195,6 +200,7 @@ pub record HasCompacted {D : Type 0} (Goes : Participant → Type 0) (Pinned : �
   pub left : HeldTables z old new new.knows.participant.past (record e { last = after_compaction (take done.at new.knows.participant.seen) live e.last })
   pub table : TablesBecame z e (record e { last = after_compaction (take done.at new.knows.participant.seen) live e.last }) (HasAlone (retained (take done.at new.knows.participant.seen) live e.last))
   pub survives : SurvivesInstall table.before table.after (after_compaction (take done.at new.knows.participant.seen) live e.last)
+  pub throughout : OpensThroughout old.knows.participant.seen new.knows.participant.seen table.before table.after (after_compaction (take done.at new.knows.participant.seen) live e.last)
   pub goes_on : Goes (remembering (found_by z old new e found ∷ event.installed (after_compaction (take done.at new.knows.participant.seen) live e.last) true ∷ []) old.knows.participant)
 
 -- the edit is that of a compaction of these tables at a floor with these live numbers

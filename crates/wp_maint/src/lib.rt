@@ -22,6 +22,7 @@ mod done;
 mod error;
 mod flushing;
 mod frozen;
+pub mod laws;
 mod merging;
 mod pins;
 mod steps;

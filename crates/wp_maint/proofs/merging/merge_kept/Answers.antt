@@ -41,7 +41,7 @@ put_tables-requires-clause-tables g c =
 pub returns-in-Ok-clause-says : goal.returns-in-Ok-clause-says
 returns-in-Ok-clause-says g c =
     rw c.number.ensures
-    (has_compacted c.args.store.now c.args.seat.now c.install.new.seat c.args.edits.now c.install.new.edits c.args.pinned.now.floor.number c.args.pinned.now.live.items c.args.kept c.requires.kept c.in-Ok.ensures.installed c.requires.holds c.in-Ok.ensures.parts c.put_tables.new.seat _ c.put_tables.ensures.goes c.requires.running c.requires.several (subst (λ (l : List Version). length l ≤ length (later_versions (take c.args.pinned.now.floor.number c.args.seat.now.knows.participant.seen) 0)) (sym c.requires.kept) c.requires.may.few)
+    (has_compacted c.args.store.now c.args.seat.now c.install.new.seat c.args.edits.now c.install.new.edits c.args.pinned.now.floor.number c.args.pinned.now.live.items c.args.kept c.requires.kept c.in-Ok.ensures.installed c.requires.holds c.in-Ok.ensures.parts c.put_tables.new.seat _ c.put_tables.ensures.goes c.requires.running c.requires.several c.requires.may.covered (subst (λ (l : List Version). length l ≤ length (later_versions (take c.args.pinned.now.floor.number c.args.seat.now.knows.participant.seen) 0)) (sym c.requires.kept) c.requires.may.few)
     (length c.as_slice.result.now) (ap (λ (l : List Version). length l) c.as_slice.ensures.value))
 
 pub returns-clause-settled : goal.returns-clause-settled
@@ -51,4 +51,4 @@ returns-clause-settled g c =
 
 pub returns-clause-says : goal.returns-clause-says
 returns-clause-says g c =
-    not_compacted c.args.store.now c.args.seat.now c.install.new.seat c.args.edits.now c.install.new.edits c.args.pinned.now.floor.number c.args.pinned.now.live.items c.args.kept c.requires.kept c.requires.holds c.in-Err.why c.in-Err.ensures.refused c.requires.running c.requires.several
+    not_compacted c.args.store.now c.args.seat.now c.install.new.seat c.args.edits.now c.install.new.edits c.args.pinned.now.floor.number c.args.pinned.now.live.items c.args.kept c.requires.kept c.requires.holds c.in-Err.why c.in-Err.ensures.refused c.requires.running c.requires.several c.requires.may.covered

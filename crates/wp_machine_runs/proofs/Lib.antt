@@ -1,0 +1,5 @@
+mod Leading
+mod Legal
+mod Tables
+mod Writers
+mod Runs

@@ -1,0 +1,51 @@
+-- What a crash leaves of the three devices at each moment of an install, while others go on.
+use Rattle.std.specs.Prelude.{◌≡◌, ◌⊎◌, ℕ, ◌<◌, ◌^◌, List, ◌++◌}
+use Rattle.wp_model.specs.declared.entry.Entry.{Entry}
+use Rattle.wp_model.specs.Flushed.{InstalledEdit}
+use Rattle.wp_outside.specs.Disk.{Moment, images}
+use Rattle.wp_wal.specs.Spelling.{IsLogOf}
+use Rattle.wp_open.specs.Opens.{OpensTo}
+use Rattle.wp_core.specs.Images.{MaySpell}
+use Rattle.wp_core.specs.Runs.{Reaches}
+use Rattle.wp_core.specs.Sound.Actors.{StartsWith}
+use Rattle.wp_core.specs.Tables.{WriteTable}
+use Rattle.wp_core.specs.World.{World, history}
+use Rattle.wp_parts.specs.Edits.{EditsState}
+
+-- ---- the devices
+
+-- a crash leaves these bytes at the newest of the old moments, or at one that came after it
+abbrev pub LeftSince : List Moment → List Moment → List ℕ → Type 0
+LeftSince old new bytes = (later since : List Moment) × (new ≡ later ++ (since ++ old)) × images (since ++ old) bytes
+
+-- First the tables' device is called, and the manifest's is as it was; once that is done the manifest's is called. That the code
+-- calls them so, no clause tells: each device shows its own moments.
+abbrev pub LeftInInstall : EditsState → EditsState → (manifest tables : List ℕ) → Type 0
+LeftInInstall old new manifest tables =
+    (images old.set.manifest.log.moments manifest × LeftSince old.set.moments new.set.moments tables)
+    ⊎ (LeftSince old.set.manifest.log.moments new.set.manifest.log.moments manifest × images new.set.moments tables)
+
+-- What the log spells at a moment of such a world: what it may have between two steps; or that and the pending record, whole, where a
+-- crash falls into its append.
+abbrev pub MaySpellAmid : WriteTable → List Entry → Type 0
+MaySpellAmid t entries = MaySpell t entries ⊎ (entries ≡ t.history ++ t.pending)
+
+-- ---- all three
+
+-- In each reached world with the old tables, whose history begins with these entries: whatever a crash in the install leaves, the three
+-- devices open to just the entries that the log spells, and to the last edit or the next one.
+abbrev pub OpensFrom : List Entry → EditsState → EditsState → InstalledEdit → Type 0
+OpensFrom seen old new next =
+    old.set.manifest.log.id < 2 ^ 32
+    → (w : World) → Reaches w → w.installed ≡ old.table → StartsWith (history w) seen
+    → (entries : List Entry) → MaySpellAmid w.writes entries
+    → (log manifest tables : List ℕ) → IsLogOf old.set.manifest.log.id entries log → LeftInInstall old new manifest tables
+    → (edit : InstalledEdit) × ((edit ≡ old.table.last) ⊎ (edit ≡ next)) × OpensTo old.set.manifest.log.id entries edit log manifest tables
+
+-- ... of what a seat had seen as the install began, between what it had seen before the call and after it. So that is so of each world
+-- in which the seat was in the midst of the install.
+pub record OpensThroughout (before after : List Entry) (old new : EditsState) (next : InstalledEdit) : Type 0 where
+  pub seen : List Entry
+  pub later : StartsWith seen before
+  pub within : StartsWith after seen
+  pub opens : OpensFrom seen old new next
