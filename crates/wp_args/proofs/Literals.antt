@@ -4,11 +4,11 @@ use Rattle.std.proofs.lemmas.Fmt.{decimal-digits_value}
 use Rattle.clap.specs.Words.{Row, Text, first_of}
 use Rattle.clap.specs.declared.error.kind.ErrorKind.TheVariants as kind
 use Rattle.clap.proofs.OnLiterals.{clap_on_literals}
-use Rattle.wp_args.specs.Choice.{HasEntries, HasNumber, IsChoice, IsTaken, command_name}
+use Rattle.wp_args.specs.Choice.{HasEntries, HasMaking, HasNumber, HasNumbers, IsChoice, IsTaken, command_name}
 use Rattle.wp_args.specs.declared.choice.Action.{Action}
-use Rattle.wp_args.specs.declared.choice.Action.TheVariants.{Run, Show}
+use Rattle.wp_args.specs.declared.choice.Action.TheVariants.{Run, Show, Make}
 use Rattle.wp_args.proofs.Entries.{one_number}
-use Rattle.wp_args.proofs.Numerals.{own}
+use Rattle.wp_args.proofs.Numerals.{first_byte, own}
 
 ten : codes "10" ≡ decimal 10
 ten = sym (decimal-digits_value own (codes "10") (search rules) (omega arith) (λ zero. omega arith) (omega arith))
@@ -25,21 +25,56 @@ seventeen = sym (decimal-digits_value own (codes "17") (search rules) (omega ari
 nought : codes "0" ≡ decimal 0
 nought = sym (decimal-digits_value own (codes "0") (search rules) (omega arith) (λ zero. refl) (omega arith))
 
+seven : codes "7" ≡ decimal 7
+seven = sym (decimal-digits_value own (codes "7") (search rules) (omega arith) (λ zero. omega arith) (omega arith))
+
+eight : codes "8" ≡ decimal 8
+eight = sym (decimal-digits_value own (codes "8") (search rules) (omega arith) (λ zero. omega arith) (omega arith))
+
+thousand : codes "1000" ≡ decimal 1000
+thousand = sym (decimal-digits_value own (codes "1000") (search rules) (omega arith) (λ zero. omega arith) (omega arith))
+
+-- an entry that spells a number of its range
+has_number : (entries : List Row) (argument text : Text) (least most number : ℕ) → text ≡ decimal number → least ≤ number → number ≤ most → first_of argument entries ≡ Some text → HasNumber entries argument least most number
+has_number entries argument text least most number is low high entry = record { spelled = entry ∙ ap Some is; low = low; high = high }
+
 -- the defaults are in range
-has_defaults : (name : Text) (entries : List Row) (action : Action) → name ≡ command_name action → first_of (codes "bits") entries ≡ Some (codes "10")
+has_defaults : (name : Text) (entries : List Row) (action : Action) → name ≡ command_name action → HasNumbers entries action → (bits : ℕ) → HasNumber entries (codes "bits") 0 16 bits
     → first_of (codes "limit") entries ≡ Some (codes "4294967295") → first_of (codes "id") entries ≡ Some (codes "1")
-    → HasEntries name entries (record { action = action; bits = 10; limit = 4294967295; id = 1 })
-has_defaults name entries action named bits limit id = record {
+    → HasEntries name entries (record { action = action; bits = bits; limit = 4294967295; id = 1 })
+has_defaults name entries action named numbers bits has_bits limit id = record {
   action = named;
-  bits = record { spelled = bits ∙ ap Some ten; low = omega arith; high = omega arith };
-  limit = record { spelled = limit ∙ ap Some largest; low = omega arith; high = omega arith };
-  id = record { spelled = id ∙ ap Some one; low = omega arith; high = omega arith };
+  numbers = numbers;
+  bits = has_bits;
+  limit = has_number entries (codes "limit") (codes "4294967295") 1 4294967295 4294967295 largest (omega arith) (omega arith) limit;
+  id = has_number entries (codes "id") (codes "1") 1 4294967295 1 one (omega arith) (omega arith) id;
 }
 
-pub command_alone : (action : Action) → IsChoice (codes "wp" ∷ command_name action ∷ []) (record { action = action; bits = 10; limit = 4294967295; id = 1 })
+default_bits : (entries : List Row) → first_of (codes "bits") entries ≡ Some (codes "10") → HasNumber entries (codes "bits") 0 16 10
+default_bits entries = has_number entries (codes "bits") (codes "10") 0 16 10 ten (omega arith) (omega arith)
+
+pub run_alone : IsChoice (codes "wp" ∷ codes "run" ∷ []) (record { action = Run; bits = 10; limit = 4294967295; id = 1 })
 unfolding clap_on_literals
-command_alone Run = record { accepted = refl; entered = has_defaults _ _ Run refl refl refl refl }
-command_alone Show = record { accepted = refl; entered = has_defaults _ _ Show refl refl refl refl }
+run_alone = record { accepted = refl; entered = has_defaults _ _ Run refl tt 10 (default_bits _ refl) refl refl }
+
+pub show_alone : IsChoice (codes "wp" ∷ codes "show" ∷ []) (record { action = Show; bits = 10; limit = 4294967295; id = 1 })
+unfolding clap_on_literals
+show_alone = record { accepted = refl; entered = has_defaults _ _ Show refl tt 10 (default_bits _ refl) refl refl }
+
+has_making : (entries : List Row) → first_of (codes "SEED") entries ≡ Some (codes "7") → first_of (codes "CLIENTS") entries ≡ Some (codes "8") → first_of (codes "LINES") entries ≡ Some (codes "1000") → HasMaking entries 7 8 1000
+has_making entries seed clients lines = record {
+  seed_is = has_number entries (codes "SEED") (codes "7") 0 4294967295 7 seven (omega arith) (omega arith) seed;
+  clients_are = has_number entries (codes "CLIENTS") (codes "8") 1 16 8 eight (omega arith) (omega arith) clients;
+  lines_are = has_number entries (codes "LINES") (codes "1000") 1 1000 1000 thousand (omega arith) (omega arith) lines;
+}
+
+pub make_alone : IsChoice (codes "wp" ∷ codes "make" ∷ codes "7" ∷ codes "8" ∷ codes "1000" ∷ []) (record { action = Make 7 8 1000; bits = 10; limit = 4294967295; id = 1 })
+unfolding clap_on_literals
+make_alone = record { accepted = refl; entered = has_defaults _ _ (Make 7 8 1000) refl (has_making _ refl refl refl) 10 (default_bits _ refl) refl refl }
+
+pub make_beside : IsChoice (codes "wp" ∷ codes "make" ∷ codes "7" ∷ codes "--bits" ∷ codes "0" ∷ codes "8" ∷ codes "1000" ∷ []) (record { action = Make 7 8 1000; bits = 0; limit = 4294967295; id = 1 })
+unfolding clap_on_literals
+make_beside = record { accepted = refl; entered = has_defaults _ _ (Make 7 8 1000) refl (has_making _ refl refl refl) 0 (has_number _ (codes "bits") (codes "0") 0 16 0 nought (omega arith) (omega arith) refl) refl refl }
 
 pub help_refused : ¬ IsTaken (codes "wp" ∷ codes "--help" ∷ [])
 unfolding clap_on_literals
@@ -59,3 +94,17 @@ many_bits_refused = λ taken. out_of_range _ (codes "bits") (codes "17") 0 16 17
 pub no_limit_refused : ¬ IsTaken (codes "wp" ∷ codes "run" ∷ codes "--limit" ∷ codes "0" ∷ [])
 unfolding clap_on_literals
 no_limit_refused = λ taken. out_of_range _ (codes "limit") (codes "0") 1 4294967295 0 taken.0.limit (omega arith) (omega arith) nought (λ low. omega arith) refl taken.1.entered.limit
+
+-- the entries of a script that is made of too many clients
+crowded : (entries : List Row) (action : Action) → codes "make" ≡ command_name action → first_of (codes "CLIENTS") entries ≡ Some (codes "17") → HasNumbers entries action → ⊥
+crowded entries Run named entry has = let first : ◌≡◌ {A = ℕ} 109 114 = ap first_byte named in omega arith
+crowded entries Show named entry has = let first : ◌≡◌ {A = ℕ} 109 115 = ap first_byte named in omega arith
+crowded entries (Make seed clients lines) named entry has = out_of_range entries (codes "CLIENTS") (codes "17") 1 16 17 clients (omega arith) (omega arith) seventeen (λ low. omega arith) entry has.clients_are
+
+pub many_clients_refused : ¬ IsTaken (codes "wp" ∷ codes "make" ∷ codes "7" ∷ codes "17" ∷ codes "1" ∷ [])
+unfolding clap_on_literals
+many_clients_refused = λ taken. crowded _ taken.0.action taken.1.entered.action refl taken.1.entered.numbers
+
+pub no_lines_refused : ¬ IsTaken (codes "wp" ∷ codes "make" ∷ codes "7" ∷ codes "8" ∷ [])
+unfolding clap_on_literals
+no_lines_refused = λ taken. let missing : kind.MissingRequiredArgument ∷ [] ≡ [] = taken.1.accepted in cc

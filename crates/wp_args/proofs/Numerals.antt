@@ -6,6 +6,9 @@ use Rattle.std.proofs.lemmas.Bool.{cases_lt}
 use Rattle.std.proofs.lemmas.Str.Parse.{IsNumeralModel, digit_at, numerals_by_value, parse_plain, tells_digits}
 use Rattle.std.proofs.lemmas.Fmt.{decimal-digits_value, decimal_digit, decimal_is_IsNumeral, decimal_nonempty, first_decimal, parse-decimal}
 
+abbrev pub first_byte : List ℕ → ℕ
+first_byte text = get_or text 0 0
+
 -- not empty, no plus sign, and a leading zero only where it is the whole text
 pub record IsPlain (text : List ℕ) : Type 0 where
   pub some : 0 < length text

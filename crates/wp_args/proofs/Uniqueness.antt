@@ -1,27 +1,37 @@
 -- Words choose one thing at most.
-use Rattle.std.proofs.Common.{arith, refl, sym, ◌∙◌, ◌≡◌, ◌<◌, ◌^◌, ℕ, List, Option, Some, None}
+use Rattle.std.proofs.Common.{arith, ap, refl, sym, ◌∙◌, ◌≡◌, ◌<◌, ◌^◌, ℕ, List, Option, Some, None}
 use Rattle.clap.specs.Words.{Row, Text, subcommand_of}
-use Rattle.wp_args.specs.Choice.{HasNumber, IsChoice, IsEntered, command_name}
+use Rattle.wp_args.specs.Choice.{HasNumber, HasNumbers, IsChoice, IsEntered, command_name}
 use Rattle.wp_args.specs.CommandSet.{command_set}
 use Rattle.wp_args.specs.declared.choice.Action.{Action}
-use Rattle.wp_args.specs.declared.choice.Action.TheVariants.{Run, Show}
+use Rattle.wp_args.specs.declared.choice.Action.TheVariants.{Run, Show, Make}
 use Rattle.wp_args.specs.declared.choice.Choice.{Choice}
 use Rattle.wp_args.proofs.Entries.{one_number}
+use Rattle.wp_args.proofs.Numerals.{first_byte}
 
-same_command : (one other : Action) → command_name one ≡ command_name other → one ≡ other
-same_command Run Run is = refl
-same_command Run Show is = cc
-same_command Show Run is = cc
-same_command Show Show is = refl
-
-same_number : {entries : List Row} {option : Text} {least most : ℕ} {one other : ℕ} → most < 2 ^ 64 → HasNumber entries option least most one → HasNumber entries option least most other
+same_number : {entries : List Row} {argument : Text} {least most : ℕ} {one other : ℕ} → most < 2 ^ 64 → HasNumber entries argument least most one → HasNumber entries argument least most other
     → one ≡ other
-same_number {entries} {option} {least} {most} {one} {other} fits a b = one_number entries option least most one other fits (omega (arith, b.high)) b.spelled a
+same_number {entries} {argument} {least} {most} {one} {other} fits a b = one_number entries argument least most one other fits (omega (arith, b.high)) b.spelled a
+
+one_action : (entries : List Row) (one other : Action) → command_name one ≡ command_name other → HasNumbers entries one → HasNumbers entries other → one ≡ other
+one_action entries Run Run is a b = refl
+one_action entries Show Show is a b = refl
+one_action entries (Make seed clients lines) (Make seed-2 clients-2 lines-2) is a b =
+    let seed-is = same_number (omega arith) a.seed_is b.seed_is in
+    let clients-are = same_number (omega arith) a.clients_are b.clients_are in
+    let lines-are = same_number (omega arith) a.lines_are b.lines_are in
+    λ i. Make (seed-is i) (clients-are i) (lines-are i)
+one_action entries Run Show is a b = let first : ◌≡◌ {A = ℕ} 114 115 = ap first_byte is in absurd (omega arith)
+one_action entries Run (Make seed clients lines) is a b = let first : ◌≡◌ {A = ℕ} 114 109 = ap first_byte is in absurd (omega arith)
+one_action entries Show Run is a b = let first : ◌≡◌ {A = ℕ} 115 114 = ap first_byte is in absurd (omega arith)
+one_action entries Show (Make seed clients lines) is a b = let first : ◌≡◌ {A = ℕ} 115 109 = ap first_byte is in absurd (omega arith)
+one_action entries (Make seed clients lines) Run is a b = let first : ◌≡◌ {A = ℕ} 109 114 = ap first_byte is in absurd (omega arith)
+one_action entries (Make seed clients lines) Show is a b = let first : ◌≡◌ {A = ℕ} 109 115 = ap first_byte is in absurd (omega arith)
 
 one_entered : (entered : Option (Text × List Row)) (one other : Choice) → IsEntered entered one → IsEntered entered other → one ≡ other
 one_entered None one other a b = absurd a
 one_entered (Some entered) one other a b =
-    let action = same_command one.action other.action (sym a.action ∙ b.action) in
+    let action = one_action entered.1 one.action other.action (sym a.action ∙ b.action) a.numbers b.numbers in
     let bits = same_number (omega arith) a.bits b.bits in
     let limit = same_number (omega arith) a.limit b.limit in
     let id = same_number (omega arith) a.id b.id in

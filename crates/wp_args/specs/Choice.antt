@@ -3,24 +3,37 @@ use Rattle.std.specs.Prelude.{◌≡◌, ◌≤◌, ℕ, List, [], Option, Some,
 use Rattle.clap.specs.Words.{Row, Text, fault_of, first_of, subcommand_of}
 use Rattle.wp_args.specs.CommandSet.{command_set}
 use Rattle.wp_args.specs.declared.choice.Action.{Action}
-use Rattle.wp_args.specs.declared.choice.Action.TheVariants.{Run, Show}
+use Rattle.wp_args.specs.declared.choice.Action.TheVariants.{Run, Show, Make}
 use Rattle.wp_args.specs.declared.choice.Choice.{Choice}
 
 -- the word that names the command
 abbrev pub command_name : Action → Text
 command_name Run = codes "run"
 command_name Show = codes "show"
+command_name (Make seed clients lines) = codes "make"
 
--- the option's entry is the number in decimal digits, with no sign and no leading zero, and the number is in
+-- the argument's entry is the number in decimal digits, with no sign and no leading zero, and the number is in
 -- its range
-pub record HasNumber (entries : List Row) (option : Text) (least most number : ℕ) : Type 0 where
-  pub spelled : first_of option entries ≡ Some (decimal number)
+pub record HasNumber (entries : List Row) (argument : Text) (least most number : ℕ) : Type 0 where
+  pub spelled : first_of argument entries ≡ Some (decimal number)
   pub low : least ≤ number
   pub high : number ≤ most
+
+-- the numbers of the script that is made
+pub record HasMaking (entries : List Row) (seed clients lines : ℕ) : Type 0 where
+  pub seed_is : HasNumber entries (codes "SEED") 0 4294967295 seed
+  pub clients_are : HasNumber entries (codes "CLIENTS") 1 16 clients
+  pub lines_are : HasNumber entries (codes "LINES") 1 1000 lines
+
+-- the numbers of a command that has some
+abbrev pub HasNumbers : List Row → Action → Type 0
+HasNumbers entries (Make seed clients lines) = HasMaking entries seed clients lines
+HasNumbers entries other = Unit {0}
 
 -- the command's name and the entries of its matches are the choice's
 pub record HasEntries (name : Text) (entries : List Row) (choice : Choice) : Type 0 where
   pub action : name ≡ command_name choice.action
+  pub numbers : HasNumbers entries choice.action
   pub bits : HasNumber entries (codes "bits") 0 16 choice.bits
   pub limit : HasNumber entries (codes "limit") 1 4294967295 choice.limit
   pub id : HasNumber entries (codes "id") 1 4294967295 choice.id

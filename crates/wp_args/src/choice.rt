@@ -1,8 +1,8 @@
 //! What a command line chooses.
 
-ghost use Rattle.std.specs.Prelude.{◌≡◌, ℕ, IfNone, IfOk, IfSome, map, string_bytes};
+ghost use Rattle.std.specs.Prelude.{◌≡◌, ℕ, IfNone, IfOk, IfSome, codes, map, string_bytes};
 ghost use Rattle.clap.specs.Words.{found_of, rows_of, subcommand_rows_of};
-ghost use Rattle.wp_args.specs.Choice.{HasNumber, IsChoice, IsEntered, IsTaken, command_name};
+ghost use Rattle.wp_args.specs.Choice.{HasMaking, HasNumber, HasNumbers, IsChoice, IsEntered, IsTaken, command_name};
 
 use crate::command_set::command_set;
 use crate::number::number_of;
@@ -17,6 +17,15 @@ pub enum Action {
     Run,
     /// Show the store, as a run of the empty script does.
     Show,
+    /// Run the script that is made of these numbers, and print its summary.
+    Make {
+        /// 0 to 4294967295.
+        seed: u32,
+        /// How many clients the script has; 1 to 16.
+        clients: u32,
+        /// How many turns each client makes; 1 to 1000.
+        lines: u32,
+    },
 }
 
 /// A command with the numbers of its options, given or default.
@@ -51,25 +60,41 @@ fn choice_in(matches: &ArgMatches<'_>) -> Option<Choice>
 {
     let (name, entries) = matches.subcommand()?;
     Some(Choice {
-        action: action_of(name)?,
+        action: action_of(name, entries)?,
         bits: number_in(entries, "bits", 0, 16)? as u32,
         limit: number_in(entries, "limit", 1, 4_294_967_295)?,
         id: number_in(entries, "id", 1, 4_294_967_295)? as u32,
     })
 }
 
-fn action_of(name: &str) -> Option<Action>
+/// The command of that name, with its numbers.
+fn action_of(name: &str, entries: &ArgMatches<'_>) -> Option<Action>
     ensures named { IfSome result (λ action. name.now ≡ command_name action) }
-    ensures none { IfNone result ((action : _) → ¬ (name.now ≡ command_name action)) }
+    ensures numbers { IfSome result (HasNumbers (rows_of (found_of entries.now))) }
+    ensures none { IfNone result ((action : _) → name.now ≡ command_name action → ¬ HasNumbers (rows_of (found_of entries.now)) action) }
 {
     match name {
         "run" => Some(Action::Run),
         "show" => Some(Action::Show),
+        "make" => making_in(entries),
         _ => None,
     }
 }
 
-/// The number of an option's entry, if it is one and lies in its range.
+/// The numbers of the script that is to be made.
+fn making_in(entries: &ArgMatches<'_>) -> Option<Action>
+    ensures named { IfSome result (λ action. codes "make" ≡ command_name action) }
+    ensures numbers { IfSome result (HasNumbers (rows_of (found_of entries.now))) }
+    ensures none { IfNone result ((seed clients lines : ℕ) → ¬ HasMaking (rows_of (found_of entries.now)) seed clients lines) }
+{
+    Some(Action::Make {
+        seed: number_in(entries, "SEED", 0, 4_294_967_295)? as u32,
+        clients: number_in(entries, "CLIENTS", 1, 16)? as u32,
+        lines: number_in(entries, "LINES", 1, 1000)? as u32,
+    })
+}
+
+/// The number of an argument's entry, if it is one and lies in its range.
 fn number_in(entries: &ArgMatches<'_>, name: &str, least: u64, most: u64) -> Option<u64>
     ensures number { IfSome result (HasNumber (rows_of (found_of entries.now)) name.now least most) }
     ensures none { IfNone result ((number : ℕ)

@@ -14,13 +14,23 @@ pub fn commands_alone_are_taken()
         (record { action = Action.Show; bits = 10; limit = 4294967295; id = 1 }) }
 {}
 
-/// Words without a command, a request for help and a number out of its range are refused.
+/// A script is made of the numbers that are given, which may stand beside options.
+pub fn numbers_make_a_script()
+    ensures alone { IsChoice (codes "wp" ∷ codes "make" ∷ codes "7" ∷ codes "8" ∷ codes "1000" ∷ [])
+        (record { action = Action.Make 7 8 1000; bits = 10; limit = 4294967295; id = 1 }) }
+    ensures beside { IsChoice (codes "wp" ∷ codes "make" ∷ codes "7" ∷ codes "--bits" ∷ codes "0" ∷ codes "8" ∷ codes "1000" ∷ [])
+        (record { action = Action.Make 7 8 1000; bits = 0; limit = 4294967295; id = 1 }) }
+{}
+
+/// Words without a command, a request for help and a number out of its range or missing are refused.
 pub fn other_words_are_refused()
     ensures no_words { ¬ IsTaken [] }
     ensures no_command { ¬ IsTaken (codes "wp" ∷ []) }
     ensures help { ¬ IsTaken (codes "wp" ∷ codes "--help" ∷ []) }
     ensures many_bits { ¬ IsTaken (codes "wp" ∷ codes "run" ∷ codes "--bits" ∷ codes "17" ∷ []) }
     ensures no_limit { ¬ IsTaken (codes "wp" ∷ codes "run" ∷ codes "--limit" ∷ codes "0" ∷ []) }
+    ensures many_clients { ¬ IsTaken (codes "wp" ∷ codes "make" ∷ codes "7" ∷ codes "17" ∷ codes "1" ∷ []) }
+    ensures no_lines { ¬ IsTaken (codes "wp" ∷ codes "make" ∷ codes "7" ∷ codes "8" ∷ []) }
 {}
 
 /// Words choose one thing at most.

@@ -1,6 +1,6 @@
 //! The command line of `wp`: which command a list of words chooses, with its numbers, or that they are refused.
 //!
-//! The commands are `run` and `show`, and each takes `--bits`, `--limit` and `--id`. `clap` decides which
+//! The commands are `run`, `show` and `make SEED CLIENTS LINES`, and each takes `--bits`, `--limit` and `--id`. `clap` decides which
 //! words these commands take. The numbers are read here: decimal digits with no sign and no leading zero. The
 //! program has no help and no version. The crate is apart from the program's run, because what rests on
 //! `clap` takes long to check.
@@ -12,4 +12,6 @@ mod laws;
 mod number;
 
 pub use choice::{Action, Choice, choice_of};
-pub use laws::{commands_alone_are_taken, other_words_are_refused, words_choose_once};
+pub use laws::{
+    commands_alone_are_taken, numbers_make_a_script, other_words_are_refused, words_choose_once,
+};

@@ -1,4 +1,4 @@
-//! The numbers of options.
+//! The numbers of arguments.
 
 ghost use Rattle.std.specs.Prelude.{◌≡◌, ◌<◌, ◌^◌, ℕ, IfNone, IfSome, decimal};
 

@@ -6,7 +6,7 @@ use Rattle.wp_outside.specs.Disk.{Moment, images}
 use Rattle.wp_core.specs.Lists.{one_if}
 use Rattle.wp_core.specs.Tables.{WriteTable, Installed}
 use Rattle.wp_replies.specs.Known.{StoredState}
-use Rattle.wp_replies.specs.Replies.{Failed}
+use Rattle.wp_replies.specs.Replies.{Untaken}
 use Rattle.wp_shared.specs.Ended.{OpensAsLeft}
 use Rattle.wp_run.specs.Crash.{MayBeSpelled, MayBeLast, CrashOpens}
 
@@ -23,7 +23,7 @@ module _ (writes : WriteTable) (edits : Installed) (history : List Entry) where
   abbrev left : StoredState
   left = record { history = history; edit = edits.last }
 
-  abbrev failed : Failed
+  abbrev failed : Untaken
   failed = record { entries = writes.failed; edit = edits.failed }
 
   named : (halted : Bool) (edit : InstalledEdit) → (halted ≡ false → edits.failed ≡ None) → (edit ≡ edits.last) ⊎ (edits.failed ≡ Some edit) → MayBeLast (one_if halted) left failed edit

@@ -2,7 +2,7 @@
 use Rattle.std.specs.Prelude.{Result, Ok, Err, IfOk, OnErr}
 use Rattle.std.specs.Global.{Vec}
 use Rattle.std.specs.declared.alloc.AllocError.{AllocError}
-use Rattle.std.proofs.Common.{◌≡◌, ℕ, ◌≤◌, ◌<◌, ◌^◌, Bool, true, false, List, [], ◌∷◌, Option, Some, None, refl, sym, subst, inl, inr, ap, ◌∙◌, arith}
+use Rattle.std.proofs.Common.{◌≡◌, ℕ, ◌≤◌, ◌<◌, ◌^◌, Bool, true, false, List, [], ◌∷◌, length, Option, Some, None, refl, sym, subst, inl, inr, ap, ◌∙◌, arith}
 use Rattle.wp_model.specs.declared.entry.Entry.{Entry}
 use Rattle.wp_open.specs.declared.opening.OpenError.{OpenError}
 use Rattle.wp_open.specs.declared.opening.OpenError.TheVariants as open_error
@@ -10,25 +10,28 @@ use Rattle.wp_open.specs.Opens.{installed_of}
 use Rattle.wp_text.specs.declared.script.Part.{Part}
 use Rattle.wp_text.specs.declared.reply.Reply.{Reply}
 use Rattle.wp_core.specs.Lists.{one_if}
+use Rattle.wp_core.specs.World.{Actor}
+use Rattle.wp_rule.specs.Words.{SawAll}
 use Rattle.wp_rule.proofs.Knows.{one_was_first}
 use Rattle.wp_parts.specs.Parts.{content}
 use Rattle.wp_replies.specs.Exact.{IsExact}
 use Rattle.wp_replies.specs.Explains.{Faults, Explains}
 use Rattle.wp_replies.specs.Kind.{is_fault, is_tables_fault}
 use Rattle.wp_shared.specs.OpenedFrom.{IsOpenedFrom}
-use Rattle.wp_shared.specs.Seats.{SharedState, SeatState}
+use Rattle.wp_shared.specs.Seats.{SharedState, SeatState, place_at}
 use Rattle.wp_threads.specs.Explained.{found_in, left_in, failed_in, faults_in, HaveRun}
 use Rattle.wp_threads.specs.New.{first_seat, IsFirst}
 use Rattle.wp_threads.specs.Over.{Answered, replies_of}
-use Rattle.wp_args.specs.Choice.{IsEntered, IsChoice}
+use Rattle.wp_args.specs.Choice.{IsEntered, IsChoice, HasNumbers}
 use Rattle.wp_args.specs.declared.choice.Action.{Action}
 use Rattle.wp_args.specs.declared.choice.Action.TheVariants as action
 use Rattle.wp_args.specs.declared.choice.Choice.{Choice}
 use Rattle.wp_run.specs.declared.status.Status.{Status}
 use Rattle.wp_run.specs.declared.status.Status.TheVariants as status
-use Rattle.wp_run.specs.Run.{Call, IsChosen, IsUnread, IsReadAs, IsServed, Ends}
+use Rattle.wp_run.specs.Run.{Call, CanMake, IsChosen, IsUnread, IsReadAs, IsServed, Ends}
 use Rattle.wp_run.specs.Seating.{IsFirstClient}
 use Rattle.wp_run.specs.Headline.{Serving, Headline}
+use Rattle.wp_run.specs.Met.{SharesWords}
 use Rattle.wp_run.specs.Serving.{nothing_more, exactly, AnswersScript, LacksMemory, faults_of, Serves, ServesExactly, are_whole, one_fails, IsWritten, HasEnded}
 use Rattle.wp_run.specs.Unopened.{IsUnopened}
 use Rattle.wp_run.specs.Status.{IsStatusOf}
@@ -39,10 +42,21 @@ use Rattle.wp_run.proofs.Whole.{all_ran, fails_as_counted}
 
 -- ---- how a script was served
 
-module _ {D : Type 0} (z : SharedState D) (s : Serving) (answered : List Answered) (history : List Entry) (limit : z.limit ≡ s.limit) (opened : IsOpenedFrom s.id (before s.disks) z) (run : HaveRun z s.script answered history (after s.disks)) where
+module _ {D : Type 0} (z : SharedState D) (s : Serving) (answered : List Answered) (history : List Entry) (cells : z.cells ≡ 2 ^ s.bits) (limit : z.limit ≡ s.limit) (first : Actor) (stands : SawAll (place_at z 0) first (length z.opened)) (seen : first.participant.seen ≡ z.opened) (opened : IsOpenedFrom s.id (before s.disks) z) (run : HaveRun z s.script answered history (after s.disks)) where
   -- the store was opened to one last edit
   same_edit : run.ended.first_edit ≡ installed_of opened.edits.edit opened.versions.tables
   same_edit = one_was_first content z.first run.ended.first_edit (installed_of opened.edits.edit opened.versions.tables) run.ended.first_is opened.last_is
+
+  shares_words : SharesWords (2 ^ s.bits) (found_in run.ended)
+  shares_words =
+      let there = stands.there in record {
+        world = stands.world;
+        reached = there.reached;
+        opened = there.opened;
+        history = stands.seen ∙ seen;
+        edit = one_was_first content z.first stands.world.first_edit run.ended.first_edit there.first_edit run.ended.first_is;
+        cache = there.cells ∙ cells;
+      }
 
   abbrev replies : List (List Reply)
   replies = replies_of answered
@@ -55,6 +69,7 @@ module _ {D : Type 0} (z : SharedState D) (s : Serving) (answered : List Answere
           id = run.ended.opened.wal.id;
           found = found_in run.ended;
           opened = was_opened s opened run.ended same_edit;
+          words = shares_words;
           left = left_in run.ended;
           legal = e.legal;
           begins = e.begins;
@@ -74,10 +89,10 @@ module _ {D : Type 0} (z : SharedState D) (s : Serving) (answered : List Answere
   lacks : LacksMemory s (exactly s)
   lacks = let h = headline run.run refl in record { faults = faults_in run.ended; run = run.run; first = run.first; headline = h.0; also = h.1 }
 
-  answers : are_whole answered ≡ true → AnswersScript s (exactly s) (faults_in run.ended) (text_of s.script replies history)
+  answers : are_whole answered ≡ true → AnswersScript s (exactly s) (faults_in run.ended) (text_of s.action s.script replies history)
   answers whole =
       let h = headline s.script (all_ran s.script run.run answered run.whole whole) in
-      record { headline = h.0; transcript = λ i. text_of s.script (sym h.2 i) (sym h.3 i); also = h.1 }
+      record { headline = h.0; text_is = λ i. text_of s.action s.script (sym h.2 i) (sym h.3 i); also = h.1 }
 
   -- the faults are those that a client was answered
   log_as_told : one_fails is_fault answered ≡ run.ended.writes.closed
@@ -86,15 +101,15 @@ module _ {D : Type 0} (z : SharedState D) (s : Serving) (answered : List Answere
   tables_as_told : one_fails is_tables_fault answered ≡ run.ended.edits.halted
   tables_as_told = fails_as_counted is_tables_fault answered run.ended.edits.halted run.explained.tables_failed
 
-  answers_as : (stopped halted : Bool) → run.ended.writes.closed ≡ stopped → run.ended.edits.halted ≡ halted → are_whole answered ≡ true → AnswersScript s (exactly s) (faults_of (one_if stopped) (one_if halted)) (text_of s.script (replies_of answered) history)
-  answers_as stopped halted a b whole = subst (λ (x : Bool × Bool). AnswersScript s (exactly s) (faults_of (one_if x.0) (one_if x.1)) (text_of s.script (replies_of answered) history)) (λ i. (a i, b i)) (answers whole)
+  answers_as : (stopped halted : Bool) → run.ended.writes.closed ≡ stopped → run.ended.edits.halted ≡ halted → are_whole answered ≡ true → AnswersScript s (exactly s) (faults_of (one_if stopped) (one_if halted)) (text_of s.action s.script (replies_of answered) history)
+  answers_as stopped halted a b whole = subst (λ (x : Bool × Bool). AnswersScript s (exactly s) (faults_of (one_if x.0) (one_if x.1)) (text_of s.action s.script (replies_of answered) history)) (λ i. (a i, b i)) (answers whole)
 
-  pub serves_run : (end : Status) → HasEnded s.script answered history s.sink end → ServesExactly s end
+  pub serves_run : (end : Status) → HasEnded s.action s.script answered history s.sink end → ServesExactly s end
   serves_run status.Memory h = inr lacks
-  serves_run status.Ok h = (text_of s.script (replies_of answered) history, answers_as false false (sym log_as_told ∙ h.1.0) (sym tables_as_told ∙ h.1.1) h.0, h.1.2)
-  serves_run status.LogFault h = (one_if run.ended.edits.halted, text_of s.script (replies_of answered) history, answers_as true run.ended.edits.halted (sym log_as_told ∙ h.1.0) refl h.0, h.1.1)
-  serves_run status.TableFault h = (text_of s.script (replies_of answered) history, answers_as false true (sym log_as_told ∙ h.1.0) (sym tables_as_told ∙ h.1.1) h.0, h.1.2)
-  serves_run status.SinkFault h = (h.1.0, faults_in run.ended, text_of s.script (replies_of answered) history, answers h.0, h.1.1)
+  serves_run status.Ok h = (text_of s.action s.script (replies_of answered) history, answers_as false false (sym log_as_told ∙ h.1.0) (sym tables_as_told ∙ h.1.1) h.0, h.1.2)
+  serves_run status.LogFault h = (one_if run.ended.edits.halted, text_of s.action s.script (replies_of answered) history, answers_as true run.ended.edits.halted (sym log_as_told ∙ h.1.0) refl h.0, h.1.1)
+  serves_run status.TableFault h = (text_of s.action s.script (replies_of answered) history, answers_as false true (sym log_as_told ∙ h.1.0) (sym tables_as_told ∙ h.1.1) h.0, h.1.2)
+  serves_run status.SinkFault h = (h.1.0, faults_in run.ended, text_of s.action s.script (replies_of answered) history, answers h.0, h.1.1)
   serves_run status.Words h = absurd h.1
   serves_run status.SourceFault h = absurd h.1
   serves_run (status.Script fault) h = absurd h.1
@@ -108,7 +123,7 @@ serves_refused (open_error.Contents damage) end s is refused = rw is refused
 
 -- ... with nothing more
 answers_only : (s : Serving) (faults : Faults) (text : List ℕ) → AnswersScript s (exactly s) faults text → AnswersScript s (nothing_more s) faults text
-answers_only s faults text a = record { headline = a.headline; transcript = a.transcript; also = tt }
+answers_only s faults text a = record { headline = a.headline; text_is = a.text_is; also = tt }
 
 pub serves_only : (s : Serving) (end : Status) → ServesExactly s end → Serves s end
 serves_only s status.Ok h = (h.0, answers_only s _ h.0 h.1, h.2)
@@ -129,16 +144,16 @@ is_first z [] client first is own = (client, is)
 is_first z (part ∷ parts) client first is own = is ∙ ap (first_seat z) own
 
 -- the text was written, or what could be of it; or there was none
-pub text_ends : (script : List Part) (answered : List Answered) (history : List Entry) (text : Result (Vec ℕ) AllocError) (stopped halted : Bool) (sink : SinkUse) (end : Status)
-    → IfOk text (λ t. are_whole answered ≡ true) → IfOk text (λ t. t.items ≡ text_of script (replies_of answered) history) → stopped ≡ one_fails is_fault answered → halted ≡ one_fails is_tables_fault answered
-    → IfOk text (λ t. IsWritten stopped halted sink t.items end) → OnErr text (end ≡ status.Memory) → HasEnded script answered history sink end
-text_ends script answered history (Ok text) stopped halted sink end whole is stopped-is halted-is written none =
+pub text_ends : (asked : Action) (script : List Part) (answered : List Answered) (history : List Entry) (text : Result (Vec ℕ) AllocError) (stopped halted : Bool) (sink : SinkUse) (end : Status)
+    → IfOk text (λ t. are_whole answered ≡ true) → IfOk text (λ t. t.items ≡ text_of asked script (replies_of answered) history) → stopped ≡ one_fails is_fault answered → halted ≡ one_fails is_tables_fault answered
+    → IfOk text (λ t. IsWritten stopped halted sink t.items end) → OnErr text (end ≡ status.Memory) → HasEnded asked script answered history sink end
+text_ends asked script answered history (Ok text) stopped halted sink end whole is stopped-is halted-is written none =
     has_ended end (subst (λ (x : (Bool × Bool) × List ℕ). IsWritten x.0.0 x.0.1 sink x.1 end) (λ i. ((stopped-is i, halted-is i), is i)) written)
   where
-    has_ended : (e : Status) → IsWritten (one_fails is_fault answered) (one_fails is_tables_fault answered) sink (text_of script (replies_of answered) history) e → HasEnded script answered history sink e
+    has_ended : (e : Status) → IsWritten (one_fails is_fault answered) (one_fails is_tables_fault answered) sink (text_of asked script (replies_of answered) history) e → HasEnded asked script answered history sink e
     has_ended status.Memory w = tt
     has_ended other w = (whole, w)
-text_ends script answered history (Err e) stopped halted sink end whole is stopped-is halted-is written none = rw none tt
+text_ends asked script answered history (Err e) stopped halted sink end whole is stopped-is halted-is written none = rw none tt
 
 -- a choice whose script was served
 pub served_ends : (call : Call) (end : Status) → IsServed ServesExactly call end → Ends ServesExactly call end
@@ -177,6 +192,19 @@ in_ranges words choice is = by _ is.entered
     by None none = absurd none
     by (Some x) has = let high = has.limit.high in (has.bits.high, has.limit.low, omega (arith, high))
 
+-- so are those of the script that it makes
+pub can_make : (words : List (List ℕ)) (choice : Choice) → IsChoice words choice → CanMake choice.action
+can_make words choice is = by _ is.entered
+  where
+    of : (entries : List _) (chosen : Action) → HasNumbers entries chosen → CanMake chosen
+    of entries action.Run none = tt
+    of entries action.Show none = tt
+    of entries (action.Make seed clients lines) has = ((has.clients_are.low, has.clients_are.high), (has.lines_are.low, has.lines_are.high))
+
+    by : (entered : Option (List ℕ × List _)) → IsEntered entered choice → CanMake choice.action
+    by None none = absurd none
+    by (Some x) has = of x.1 choice.action has.numbers
+
 -- ---- no script
 
 unread_ends : (call : Call) (end : Status) → IsChosen call.words action.Run → AreUncalled call.disks → IsUnread call.source end → Ends ServesExactly call end
@@ -189,3 +217,4 @@ unread_ends call other chosen same why = absurd why
 pub scriptless_ends : (call : Call) (chosen : Action) (end : Status) → IsChosen call.words chosen → AreUncalled call.disks → IsReadAs chosen call.source (Err end) → Ends ServesExactly call end
 scriptless_ends call action.Run end is same why = unread_ends call end is same why
 scriptless_ends call action.Show end is same why = rw why.1 (inl same)
+scriptless_ends call (action.Make seed clients lines) end is same why = rw why.1 (inl same)

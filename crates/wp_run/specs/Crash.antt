@@ -6,7 +6,7 @@ use Rattle.wp_outside.specs.Disk.{Moment, images}
 use Rattle.wp_open.specs.Opens.{OpensTo}
 use Rattle.wp_replies.specs.Explains.{Faults}
 use Rattle.wp_replies.specs.Known.{StoredState}
-use Rattle.wp_replies.specs.Replies.{Failed}
+use Rattle.wp_replies.specs.Replies.{Untaken}
 
 -- the history that is left; or, once the log has failed, it or it and what the log failed to take
 abbrev pub MayBeSpelled : (faults : ℕ) → (left failed history : List Entry) → Type 0
@@ -14,12 +14,12 @@ MayBeSpelled zero left failed history = history ≡ left
 MayBeSpelled (suc faults) left failed history = (history ≡ left) ⊎ (history ≡ left ++ failed)
 
 -- the edit that is left; or, once a device of the tables has failed, it or the one that they failed to take
-abbrev pub MayBeLast : (faults : ℕ) → StoredState → Failed → InstalledEdit → Type 0
+abbrev pub MayBeLast : (faults : ℕ) → StoredState → Untaken → InstalledEdit → Type 0
 MayBeLast zero left failed edit = edit ≡ left.edit
 MayBeLast (suc faults) left failed edit = (edit ≡ left.edit) ⊎ (failed.edit ≡ Some edit)
 
 -- the bytes of the three devices open to such a history, and to such an edit as the last one
-pub record OpensAs (faults : Faults) (id : ℕ) (left : StoredState) (failed : Failed) (log manifest tables : List ℕ) : Type 0 where
+pub record OpensAs (faults : Faults) (id : ℕ) (left : StoredState) (failed : Untaken) (log manifest tables : List ℕ) : Type 0 where
   pub history : List Entry
   pub edit : InstalledEdit
   pub spelled : MayBeSpelled faults.log left.history failed.entries history
@@ -27,5 +27,5 @@ pub record OpensAs (faults : Faults) (id : ℕ) (left : StoredState) (failed : F
   pub opens : OpensTo id history edit log manifest tables
 
 -- whichever image each of the devices is left with, they open so
-abbrev pub CrashOpens : Faults → (id : ℕ) → StoredState → Failed → (log manifest tables : List Moment) → Type 0
+abbrev pub CrashOpens : Faults → (id : ℕ) → StoredState → Untaken → (log manifest tables : List Moment) → Type 0
 CrashOpens faults id left failed log manifest tables = (l m t : List ℕ) → images log l → images manifest m → images tables t → OpensAs faults id left failed l m t

@@ -1,22 +1,25 @@
 -- The headline: what comes of a script that is served over a store, for any number of clients and however their steps fall.
-use Rattle.std.specs.Prelude.{◌≡◌, ℕ, ◌<◌, ◌≤◌, ◌==◌, List, [], ◌++◌, length, count_by}
+use Rattle.std.specs.Prelude.{◌≡◌, ℕ, ◌<◌, ◌≤◌, ◌==◌, ◌^◌, List, [], ◌++◌, length, count_by}
 use Rattle.std.specs.List.{flat_map}
 use Rattle.wp_model.specs.declared.entry.Entry.{Entry}
 use Rattle.wp_model.specs.Legal.{IsLegal}
+use Rattle.wp_args.specs.declared.choice.Action.{Action}
 use Rattle.wp_text.specs.declared.script.Part.{Part}
 use Rattle.wp_text.specs.declared.reply.Reply.{Reply}
 use Rattle.wp_open.specs.Opens.{AllKnown, OpensTo}
 use Rattle.wp_replies.specs.Explains.{Faults, AreSessions, all_replies}
 use Rattle.wp_replies.specs.Kind.{acknowledged}
 use Rattle.wp_replies.specs.Known.{StoredState}
-use Rattle.wp_replies.specs.Replies.{Failed}
+use Rattle.wp_replies.specs.Replies.{Untaken}
 use Rattle.wp_run.specs.Crash.{CrashOpens}
-use Rattle.wp_run.specs.Met.{IsStored, AreMet}
+use Rattle.wp_run.specs.Met.{SharesWords, IsStored, AreMet}
 use Rattle.wp_run.specs.Transcript.{text_of}
 use Rattle.wp_run.specs.Use.{DisksUse, SinkUse}
 
--- a script, the limits and the devices that it was served with
+-- a command with its script, the limits and the devices that it was served with
 pub record Serving : Type 1 where
+  pub action : Action  -- which says what text it prints
+  pub bits : ℕ  -- the commit cache has two to this power words
   pub limit : ℕ  -- the greatest number of an entry
   pub id : ℕ  -- that a new store gets
   pub script : List Part
@@ -31,13 +34,15 @@ pub record Headline (s : Serving) (faults : Faults) (run : List Part) : Type 0 w
   pub id : ℕ
   pub found : StoredState
   pub opened : AllKnown s.disks.log.before s.disks.manifest.before s.disks.tables.before (OpensTo id found.history found.edit)
+  -- With these, and as many words in the commit cache as were asked for, there is a world of the machine: that of the opened store.
+  pub words : SharesWords (2 ^ s.bits) found
   -- The history that is left is legal, and begins with that one.
   pub left : StoredState
   pub legal : IsLegal left.history
   pub begins : (added : List Entry) × (left.history ≡ found.history ++ added)
   -- Each client's replies to its commands are a session that the table of replies allows over the one history that is left: what is
   -- read is what its first n entries leave, what is acknowledged is an entry of it, and the numbers of fresh replies never fall.
-  pub failed : Failed  -- the record, or the edit, that a device failed to take
+  pub failed : Untaken  -- the record, or the edit, that a device failed to take
   pub replies : List (List Reply)
   pub sessions : AreSessions left s.limit failed found [] s.script run replies
   -- Each new entry is acknowledged by exactly one reply, an Undo together with its Close.
@@ -50,6 +55,7 @@ pub record Headline (s : Serving) (faults : Faults) (run : List Part) : Type 0 w
   -- The replies tell of just these faults, and of the last edit.
   pub met : AreMet found.edit left.edit faults (all_replies replies)
 
--- All commands of the script ran, and the text is its transcript: each client's replies, and the history.
-abbrev pub IsTranscript : (s : Serving) → (faults : Faults) → Headline s faults s.script → List ℕ → Type 0
-IsTranscript s faults headline text = text ≡ text_of s.script headline.replies headline.left.history
+-- All commands of the script ran, and the text is of just these replies and this history: the transcript, or the summary of a made
+-- script.
+abbrev pub IsText : (s : Serving) → (faults : Faults) → Headline s faults s.script → List ℕ → Type 0
+IsText s faults headline text = text ≡ text_of s.action s.script headline.replies headline.left.history

@@ -1,9 +1,10 @@
 -- What a call of the program's top call did, by the status that it ended with.
-use Rattle.std.specs.Prelude.{◌≡◌, ◌⊎◌, ℕ, ◌+◌, List, [], Result, Ok, Err}
+use Rattle.std.specs.Prelude.{◌≡◌, ◌≤◌, ◌⊎◌, ℕ, ◌+◌, List, [], Result, Ok, Err}
 use Rattle.wp_outside.specs.Faults.{Rose}
 use Rattle.wp_text.specs.declared.fault.Fault.{Fault}
 use Rattle.wp_text.specs.declared.script.Part.{Part}
 use Rattle.wp_text.specs.Grammar.{IsScript}
+use Rattle.wp_make.specs.Generator.{made_script}
 use Rattle.wp_text.specs.Faults.{IsFault}
 use Rattle.wp_args.specs.declared.choice.Action.{Action}
 use Rattle.wp_args.specs.declared.choice.Action.TheVariants as action
@@ -28,11 +29,17 @@ most_read = MOST_BYTES + 1
 abbrev pub IsScriptIn : SourceUse → List Part → Type 0
 IsScriptIn source script = (bytes : List ℕ) × AreBytesRead most_read source.before source.after bytes × IsScript bytes script
 
--- The script that a choice runs: that which the source held; or none, where the store is only shown and the source is
--- not called.
+-- The script that a choice runs: that which the source held; or none, where the store is only shown, or the one that is made, and
+-- the source is not called.
 abbrev pub IsScriptOf : Action → SourceUse → List Part → Type 0
 IsScriptOf action.Run source script = IsScriptIn source script
 IsScriptOf action.Show source script = source.uncalled × (script ≡ [])
+IsScriptOf (action.Make seed clients lines) source script = source.uncalled × (script ≡ made_script seed clients lines)
+
+-- the numbers of a script that is to be made are in their ranges
+abbrev pub CanMake : Action → Type 0
+CanMake (action.Make seed clients lines) = ((1 ≤ clients) × (clients ≤ 16)) × ((1 ≤ lines) × (lines ≤ 1000))
+CanMake other = Unit {0}
 
 -- the bytes read are no script, and this is their first fault
 abbrev pub IsOutsideGrammar : SourceUse → Fault → Type 0
@@ -45,11 +52,11 @@ IsUnread source status.SourceFault = Rose source.faults_before source.faults_aft
 IsUnread source (status.Script fault) = IsOutsideGrammar source fault
 IsUnread source other = ⊥
 
--- What reading the script of a choice gave. Where the store is only shown, nothing but memory can be wanting.
+-- What reading the script of a choice gave. Where the source is not called, nothing but memory can be wanting.
 abbrev pub IsReadAs : Action → SourceUse → Result (List Part) Status → Type 0
 IsReadAs chosen source (Ok script) = IsScriptOf chosen source script
 IsReadAs action.Run source (Err end) = IsUnread source end
-IsReadAs action.Show source (Err end) = source.uncalled × (end ≡ status.Memory)
+IsReadAs other source (Err end) = source.uncalled × (end ≡ status.Memory)
 
 -- the words of a call, and what it did to each device
 pub record Call : Type 1 where
@@ -67,7 +74,7 @@ pub record IsServed (Serves : Serving → Status → Type 0) (call : Call) (end 
   pub chosen : IsChoice call.words choice
   pub script : List Part
   pub read : IsScriptOf choice.action call.source script
-  pub served : Serves (record { limit = choice.limit; id = choice.id; script = script; disks = call.disks; sink = call.sink }) end
+  pub served : Serves (record { action = choice.action; bits = choice.bits; limit = choice.limit; id = choice.id; script = script; disks = call.disks; sink = call.sink }) end
 
 -- How a call ended, and why, where a script is served so. Want of memory came before a device was called, or as the script of a
 -- choice was served.

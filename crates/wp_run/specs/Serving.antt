@@ -6,6 +6,7 @@ use Rattle.wp_model.specs.declared.entry.Entry.{Entry}
 use Rattle.wp_outside.specs.Faults.{Rose}
 use Rattle.wp_outside.specs.Sink.{AppendsPrefix}
 use Rattle.wp_open.specs.declared.opening.OpenError.TheVariants as open_error
+use Rattle.wp_args.specs.declared.choice.Action.{Action}
 use Rattle.wp_text.specs.declared.script.Part.{Part}
 use Rattle.wp_text.specs.declared.reply.Reply.{Reply}
 use Rattle.wp_replies.specs.Exact.{IsExact}
@@ -14,7 +15,7 @@ use Rattle.wp_replies.specs.Kind.{is_fault, is_tables_fault}
 use Rattle.wp_threads.specs.Over.{Answered, replies_of}
 use Rattle.wp_run.specs.declared.status.Status.{Status}
 use Rattle.wp_run.specs.declared.status.Status.TheVariants as status
-use Rattle.wp_run.specs.Headline.{Serving, Headline, IsTranscript}
+use Rattle.wp_run.specs.Headline.{Serving, Headline, IsText}
 use Rattle.wp_run.specs.Transcript.{text_of}
 use Rattle.wp_run.specs.Unopened.{IsUnopened}
 use Rattle.wp_run.specs.Use.{SinkUse}
@@ -37,7 +38,7 @@ exactly s faults run headline = IsExact s.limit headline.found headline.left hea
 -- The text answers the script, with these faults.
 pub record AnswersScript (s : Serving) (more : More s) (faults : Faults) (text : List ℕ) : Type 0 where
   pub headline : Headline s faults s.script
-  pub transcript : IsTranscript s faults headline text
+  pub text_is : IsText s faults headline text
   pub also : more faults s.script headline
 
 -- Memory was wanting once the store was open. The first commands of each client had their replies, and these explain what
@@ -89,6 +90,6 @@ IsWritten stopped halted sink text other = ⊥
 
 -- What became of the replies: with the history they were written, or what could be of them; or memory was wanting for that, or in
 -- a session.
-abbrev pub HasEnded : List Part → List Answered → List Entry → SinkUse → Status → Type 0
-HasEnded script answered history sink status.Memory = Unit {0}
-HasEnded script answered history sink end = (are_whole answered ≡ true) × IsWritten (one_fails is_fault answered) (one_fails is_tables_fault answered) sink (text_of script (replies_of answered) history) end
+abbrev pub HasEnded : Action → List Part → List Answered → List Entry → SinkUse → Status → Type 0
+HasEnded action script answered history sink status.Memory = Unit {0}
+HasEnded action script answered history sink end = (are_whole answered ≡ true) × IsWritten (one_fails is_fault answered) (one_fails is_tables_fault answered) sink (text_of action script (replies_of answered) history) end

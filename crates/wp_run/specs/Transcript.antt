@@ -1,10 +1,13 @@
--- A transcript: the text of all clients' replies and of the history that explains them.
+-- The text that a command prints: a transcript, which has all clients' replies and the history that explains them; or a summary.
 use Rattle.std.specs.Prelude.{ℕ, List, [], ◌∷◌, ◌++◌, length, codes}
 use Rattle.std.specs.List.{flat_map}
 use Rattle.wp_model.specs.declared.entry.Entry.{Entry}
 use Rattle.wp_model.specs.History.{undecided}
 use Rattle.wp_text.specs.declared.script.Part.{Part}
 use Rattle.wp_text.specs.declared.reply.Reply.{Reply}
+use Rattle.wp_args.specs.declared.choice.Action.{Action}
+use Rattle.wp_args.specs.declared.choice.Action.TheVariants as action
+use Rattle.wp_make.specs.Summary.{summary_of}
 use Rattle.wp_text.specs.Lines.{client_line, reply_line, entry_lines, end_line, line_end}
 
 -- one client's replies, below its name
@@ -16,6 +19,11 @@ client_lines [] sessions = []
 client_lines (part ∷ parts) [] = []
 client_lines (part ∷ parts) (answers ∷ others) = client_text part answers ++ client_lines parts others
 
--- the text: each client's replies, then every entry, then the end
-abbrev pub text_of : List Part → List (List Reply) → List Entry → List ℕ
-text_of script sessions history = client_lines script sessions ++ codes "history" ++ line_end ++ entry_lines 1 history ++ end_line (length history) (length (undecided history))
+-- the transcript: each client's replies, then every entry, then the end
+abbrev pub transcript_of : List Part → List (List Reply) → List Entry → List ℕ
+transcript_of script sessions history = client_lines script sessions ++ codes "history" ++ line_end ++ entry_lines 1 history ++ end_line (length history) (length (undecided history))
+
+-- the text of a command: of a script that it made the summary, else the transcript
+abbrev pub text_of : Action → List Part → List (List Reply) → List Entry → List ℕ
+text_of (action.Make seed clients lines) script sessions history = summary_of seed clients lines sessions history
+text_of other script sessions history = transcript_of script sessions history

@@ -12,7 +12,7 @@ use crate::text::{log_failed, tables_failed, text_of, write_text};
 use std::alloc::Global;
 use std::sync::Wait;
 use std::thread::Threads;
-use wp_args::Choice;
+use wp_args::{Action, Choice};
 use wp_open::{OpenError, OpenRefused};
 use wp_outside::{Disk, Disks, Gate, Sink};
 use wp_shared::Shared;
@@ -25,16 +25,18 @@ pub(crate) struct Served<D> {
     pub(crate) disks: Disks<D>,
 }
 
-/// Writes what the clients were answered, and the history. The text is built whole before its first byte is written.
+/// Writes what the clients were answered, and the history, as the command tells them. The text is built whole before its
+/// first byte is written.
 fn finish<D: Drop, K: Sink>(
     alloc: Global,
+    action: Action,
     parts: &[Part],
     run: ScriptRun<D>,
     sink: &mut K,
 ) -> Served<D>
     requires { length parts.now ≡ length run.answers.items }
     ensures disks { result.disks ≡ run.disks }
-    ensures ended { HasEnded parts.now run.answers.items run.history.entries (sink_use K.contents K.faults sink.old sink.new) result.status }
+    ensures ended { HasEnded action parts.now run.answers.items run.history.entries (sink_use K.contents K.faults sink.old sink.new) result.status }
     ensures silent { IsBeforeSink (stage_of result.status) → sink.new ≡ sink.old }
     ensures sink_later { K.faults sink.old ≤ K.faults sink.new }
 {
@@ -43,7 +45,7 @@ fn finish<D: Drop, K: Sink>(
         history,
         disks,
     } = run;
-    let text = text_of(alloc, parts, &answers, &history);
+    let text = text_of(alloc, action, parts, &answers, &history);
     let stopped = log_failed(&answers);
     let halted = tables_failed(&answers);
     let status = write_text(sink, text, stopped, halted);
@@ -81,6 +83,8 @@ pub(crate) fn serve<R: Threads + Wait + Sync, D: Disk + Drop + Send, K: Sink, G:
     requires ranges { (choice.bits ≤ 16) × (1 ≤ choice.limit) × (choice.limit < 2 ^ 32) }
     requires seating { IsSeating parts.now seating.client seating.room }
     ensures serves { ServesExactly (record {
+      action = choice.action;
+      bits = choice.bits;
       limit = choice.limit;
       id = choice.id;
       script = parts.now;
@@ -96,7 +100,7 @@ pub(crate) fn serve<R: Threads + Wait + Sync, D: Disk + Drop + Send, K: Sink, G:
     match Shared::open(alloc, client, disks, choice.bits, choice.limit, choice.id) {
         Ok((store, first)) => {
             let run = run_script(rt, alloc, store, first, gate, parts, room);
-            finish(alloc, parts, run, sink)
+            finish(alloc, choice.action, parts, run, sink)
         }
         Err(OpenRefused { disks, why }) => {
             let status = status_of(why);

@@ -1,6 +1,7 @@
-//! The text of what the clients were answered.
-ghost use Rattle.std.specs.Prelude.{◌≡◌, ◌≤◌, true, length, IfOk, OnErr};
+//! The text of what the clients were answered: the transcript, or the summary of a made script.
+ghost use Rattle.std.specs.Prelude.{◌≡◌, ◌≤◌, true, length, map, IfOk, OnErr};
 ghost use Rattle.std.specs.List.{list_any};
+ghost use Rattle.wp_make.specs.Summary.{summary_of};
 ghost use Rattle.wp_replies.specs.Kind.{is_fault, is_tables_fault};
 ghost use Rattle.wp_threads.specs.Over.{replies_of};
 ghost use Rattle.wp_run.specs.Serving.{are_whole, one_fails, IsWritten};
@@ -11,7 +12,9 @@ ghost use Rattle.wp_run.specs.Use.{sink_use};
 use crate::status::Status;
 use crate::transcript::transcript;
 use std::alloc::{AllocError, Global};
+use wp_args::Action;
 use wp_history::History;
+use wp_make::summary;
 use wp_outside::{Failed, Sink, write_all};
 use wp_text::{Part, Reply};
 use wp_threads::Answered;
@@ -64,21 +67,53 @@ pub(crate) fn tables_failed(answers: &[Answered]) -> bool
     answers.iter().any(|answered| tells_tables_fault(answered))
 }
 
-/// The text, where no session broke off.
+fn replies_of<'a>(alloc: Global, answers: &'a [Answered]) -> Result<Vec<&'a [Reply]>, AllocError>
+    ensures { IfOk result (λ sessions. map (λ replies. replies.now) sessions.items ≡ replies_of answers.now) }
+{
+    let mut sessions = Vec::new(alloc);
+    for answered in answers {
+        sessions.push(answered.replies())?;
+    }
+    Ok(sessions)
+}
+
+fn summary_of(
+    alloc: Global,
+    seed: u32,
+    clients: u32,
+    lines: u32,
+    answers: &[Answered],
+    history: &History,
+) -> Result<Vec<u8>, AllocError>
+    ensures { IfOk result (λ text. text.items ≡ summary_of seed clients lines (replies_of answers.now) history.now.entries) }
+{
+    let sessions = replies_of(alloc, answers)?;
+    summary(alloc, seed, clients, lines, &sessions, history)
+}
+
+/// The text of the command, where no session broke off.
 pub(crate) fn text_of(
     alloc: Global,
+    action: Action,
     parts: &[Part],
     answers: &[Answered],
     history: &History,
 ) -> Result<Vec<u8>, AllocError>
     requires { length parts.now ≡ length answers.now }
     ensures whole { IfOk result (λ text. are_whole answers.now ≡ true) }
-    ensures text { IfOk result (λ text. text.items ≡ text_of parts.now (replies_of answers.now) history.now.entries) }
+    ensures text { IfOk result (λ text. text.items ≡ text_of action parts.now (replies_of answers.now) history.now.entries) }
 {
     if !are_whole(answers) {
         return Err(AllocError);
     }
-    transcript(alloc, parts, answers, history)
+    match action {
+        Action::Make {
+            seed,
+            clients,
+            lines,
+        } => summary_of(alloc, seed, clients, lines, answers, history),
+        Action::Run | Action::Show => transcript(alloc, parts, answers, history),
+    }
 }
 
 /// Writes the text, where there is one. The status says whether it was written whole, and else what failed before: the log, or the

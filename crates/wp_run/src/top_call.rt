@@ -1,7 +1,7 @@
-ghost use Rattle.std.specs.Prelude.{◌≡◌, ◌≤◌, map};
+ghost use Rattle.std.specs.Prelude.{◌≡◌, ◌≤◌, ℕ, map};
 ghost use Rattle.std.specs.String.{string_bytes};
 ghost use Rattle.wp_run.specs.Limits.{LimitsAre};
-ghost use Rattle.wp_run.specs.Run.{call_of, Ends, IsChosen, IsReadAs};
+ghost use Rattle.wp_run.specs.Run.{call_of, CanMake, Ends, IsChosen, IsReadAs};
 ghost use Rattle.wp_run.specs.Serving.{Serves, ServesExactly};
 ghost use Rattle.wp_run.specs.Use.{IsDurable, disks_use, source_use, sink_use};
 ghost use Rattle.wp_run.specs.Status.{LeavesUncalled, stage_of};
@@ -13,6 +13,7 @@ use std::alloc::{AllocError, Global};
 use std::sync::Wait;
 use std::thread::Threads;
 use wp_args::{Action, choice_of, words_choose_once};
+use wp_make::make_script;
 use wp_outside::{Disk, Disks, Gate, ReadError, Sink, Source, read_all};
 use wp_text::{MOST_BYTES, Script, ScriptError, read_script};
 
@@ -39,14 +40,20 @@ fn script_in<S: Source>(alloc: Global, source: &mut S) -> Result<Script, Status>
     }
 }
 
-/// The script that is to be run. To show a store is to run none, and the source is not called.
+/// The script that is to be run. To show a store is to run none. The source is not called then, nor where the script is made.
 fn script_of<S: Source>(alloc: Global, action: Action, source: &mut S) -> Result<Script, Status>
+    requires { CanMake action }
     ensures read { IsReadAs action (source_use S.left S.faults source.old source.new) result }
     ensures later { S.faults source.old ≤ S.faults source.new }
 {
     match action {
         Action::Run => script_in(alloc, source),
         Action::Show => Ok(Script::new(Vec::new(alloc))),
+        Action::Make {
+            seed,
+            clients,
+            lines,
+        } => make_script(alloc, seed, clients, lines).map_err(|_| Status::Memory),
     }
 }
 
@@ -70,6 +77,7 @@ pub fn run<R: Threads + Wait + Sync, D: Disk + Drop + Send, S: Source, K: Sink, 
     ensures durable { IsDurable (disks_use D.moments D.faults disks result.disks) }
     ensures uncalled { LeavesUncalled (stage_of result.status) (source.new ≡ source.old) (result.disks ≡ disks) (sink.new ≡ sink.old) }
     ensures shown { IsChosen (map string_bytes words.now) Action.Show → source.new ≡ source.old }
+    ensures made { (seed clients lines : ℕ) → IsChosen (map string_bytes words.now) (Action.Make seed clients lines) → source.new ≡ source.old }
     ensures source_later { S.faults source.old ≤ S.faults source.new }
     ensures sink_later { K.faults sink.old ≤ K.faults sink.new }
     ensures limits { LimitsAre }

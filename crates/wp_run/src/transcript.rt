@@ -2,7 +2,7 @@ ghost use Rattle.std.specs.Prelude.{◌≡◌, ◌++◌, ◌≤◌, ◌<◌, ◌
 ghost use Rattle.std.specs.List.{flat_map};
 ghost use Rattle.wp_text.specs.Lines as text;
 ghost use Rattle.wp_threads.specs.Over.{replies_of};
-ghost use Rattle.wp_run.specs.Transcript.{client_text, client_lines, text_of};
+ghost use Rattle.wp_run.specs.Transcript.{client_text, client_lines, transcript_of};
 
 use std::alloc::{AllocError, Global};
 use wp_history::History;
@@ -53,7 +53,7 @@ pub(crate) fn transcript(
     history: &History,
 ) -> Result<Vec<u8>, AllocError>
     requires { length parts.now ≡ length sessions.now }
-    ensures { IfOk result (λ text. text.items ≡ text_of parts.now (replies_of sessions.now) history.now.entries) }
+    ensures { IfOk result (λ text. text.items ≡ transcript_of parts.now (replies_of sessions.now) history.now.entries) }
 {
     let mut out = Vec::new(alloc);
     push_clients(&mut out, parts, sessions)?;

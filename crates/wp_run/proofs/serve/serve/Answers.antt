@@ -1,6 +1,7 @@
 use Rattle.std.proofs.Common.{sym, subst, ap}
 use Rattle.wp_outside.specs.declared.disk.Disks.{Disks}
 use Rattle.wp_parts.specs.Devices.{devices_of}
+use Rattle.wp_shared.specs.Seats.{SeatState}
 use Rattle.wp_threads.specs.Explained.{HaveRun}
 use Rattle.wp_run.proofs.Opened.{refused_fronts}
 use Rattle.wp_run.proofs.Stored.{is_durable}
@@ -18,7 +19,8 @@ pub returns-in-Ok-clause-serves : goal.returns-in-Ok-clause-serves
 returns-in-Ok-clause-serves g c =
     let left = c.run_script-run.result in
     let ran = subst (λ (ds : Disks g.row.D.Denot). HaveRun c.in-Ok.store c.args.parts.now left.answers.items left.history.entries (devices_of g.D.Disk.moments g.D.Disk.faults ds)) (sym c.finish.ensures.disks) c.run_script-run.ensures in
-    serves_run c.in-Ok.store _ left.answers.items left.history.entries c.in-Ok.ensures.store.1 c.in-Ok.ensures.opened ran c.finish.result.status c.finish.ensures.ended
+    serves_run c.in-Ok.store _ left.answers.items left.history.entries c.in-Ok.ensures.store.0 c.in-Ok.ensures.store.1
+    c.in-Ok.first.knows c.in-Ok.ensures.stands (ap (λ (seat : SeatState). seat.knows.participant.seen) c.in-Ok.ensures.seat) c.in-Ok.ensures.opened ran c.finish.result.status c.finish.ensures.ended
 
 pub returns-in-Ok-clause-durable : goal.returns-in-Ok-clause-durable
 returns-in-Ok-clause-durable g c =

@@ -1,5 +1,5 @@
 use Rattle.std.proofs.Common.{refl}
-use Rattle.wp_run.proofs.TopLemmas.{scriptless_ends, served_ends, ends_only, in_ranges}
+use Rattle.wp_run.proofs.TopLemmas.{scriptless_ends, served_ends, ends_only, in_ranges, can_make}
 use Rattle.wp_run.proofs.top_call.run.Goals as goal
 
 pub returns-in-Err-script_of-clause-alone : goal.returns-in-Err-script_of-clause-alone
@@ -10,6 +10,9 @@ returns-in-Err-script_of-clause-alone g c =
 
 pub returns-in-Err-script_of-clause-ends : goal.returns-in-Err-script_of-clause-ends
 returns-in-Err-script_of-clause-ends g c = ends_only _ _ (returns-in-Err-script_of-clause-alone g c)
+
+pub script_of-requires : goal.script_of-requires
+script_of-requires g c = let is = rw c.in-Ok-Some.field-0-is at c.in-Ok-Some.ensures.taken in can_make _ c.in-Ok-Some.choice is
 
 pub serve-status-requires-clause-ranges : goal.serve-status-requires-clause-ranges
 serve-status-requires-clause-ranges g c κs within = let is = rw c.in-Ok-Some.field-0-is at c.in-Ok-Some.ensures.taken in in_ranges _ c.in-Ok-Some.choice is

@@ -1,0 +1,4 @@
+pub mod WordLemmas
+pub mod GeneratorLemmas
+pub mod TotalLemmas
+pub mod Apart
