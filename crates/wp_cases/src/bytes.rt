@@ -1,10 +1,13 @@
-//! Bytes as cases write them: in hexadecimal, by a name, and with one of them in another's place.
+//! Bytes as cases write them: in hexadecimal, by a name, many of one, and with one of them in another's place.
 
 ghost use Rattle.std.specs.Prelude.{◌<◌, IfSome};
 
-use crate::trouble::Trouble;
+use crate::trouble::{Trouble, number};
 use std::alloc::Global;
 use std::collections::BTreeMap;
+
+/// The three devices, in the order in which everything is said of them.
+pub(crate) const DEVICES: [&str; 3] = ["log", "manifest", "tables"];
 
 /// Bytes by the names that a file gives them.
 pub(crate) type Names = BTreeMap<String, Vec<u8>>;
@@ -34,31 +37,24 @@ fn push_hex(bytes: &mut Vec<u8>, word: &str) -> Result<(), Trouble> {
     Ok(())
 }
 
-/// Puts the byte in the place of the one there.
-pub(crate) fn put_at(bytes: &mut [u8], place: &str, byte: u8) -> Result<(), Trouble> {
-    let place = place.parse::<usize>().map_err(|_| Trouble::Unclear)?;
-    *bytes.get_mut(place).ok_or(Trouble::Unclear)? = byte;
-    Ok(())
-}
-
-/// Does to the bytes what the word says: `..20` keeps the first 20, `9=07` puts 07 in the place 9, and a name or hexadecimal digits
-/// are put behind them.
+/// Does to the bytes what the word says: `..20` keeps the first 20, `9=07` puts 07 in the place 9; and behind them `20*07` puts 07
+/// twenty times, and a name or hexadecimal digits put what they say.
 fn push_word(bytes: &mut Vec<u8>, names: &Names, word: &str) -> Result<(), Trouble> {
     if let Some(name) = word.strip_prefix("$") {
         bytes.extend_from_slice(names.get(name).ok_or(Trouble::Unclear)?)?;
-        return Ok(());
-    }
-    if let Some(len) = word.strip_prefix("..") {
-        bytes.truncate(len.parse::<usize>().map_err(|_| Trouble::Unclear)?);
-        return Ok(());
-    }
-    match word.split_once('=') {
-        Some((place, hex)) => {
-            let byte = byte(hex.as_bytes()).ok_or(Trouble::Unclear)?;
-            put_at(bytes, place, byte)
+    } else if let Some(len) = word.strip_prefix("..") {
+        bytes.truncate(number(len)?);
+    } else if let Some((place, hex)) = word.split_once('=') {
+        let place = bytes.get_mut(number(place)?).ok_or(Trouble::Unclear)?;
+        *place = byte(hex.as_bytes()).ok_or(Trouble::Unclear)?;
+    } else if let Some((times, hex)) = word.split_once('*') {
+        for _ in 0..number(times)? {
+            push_hex(bytes, hex)?;
         }
-        None => push_hex(bytes, word),
+    } else {
+        push_hex(bytes, word)?;
     }
+    Ok(())
 }
 
 /// The bytes that the words say.

@@ -12,38 +12,22 @@ pub(crate) struct Clause {
 }
 
 impl Clause {
-    fn new(alloc: Global, line: usize, head: &str) -> Result<Clause, AllocError> {
-        Ok(Clause {
-            line,
-            head: head.to_string(alloc)?,
-            block: String::new(alloc),
-        })
-    }
-
-    fn push_line(&mut self, line: &str) -> Result<(), AllocError> {
-        self.block.push_str(line)?;
-        self.block.push('\n')
-    }
-
     pub(crate) fn head(&self) -> &str {
         self.head.as_str()
     }
 
-    /// Its first word.
-    pub(crate) fn verb(&self) -> &str {
+    /// Its first word, and what is after that.
+    pub(crate) fn words(&self) -> (&str, &str) {
         match self.head.split_once(' ') {
-            Some((verb, _)) => verb,
-            None => self.head.as_str(),
+            Some(words) => words,
+            None => (self.head.as_str(), ""),
         }
     }
+}
 
-    /// What is after its first word.
-    pub(crate) fn rest(&self) -> &str {
-        match self.head.split_once(' ') {
-            Some((_, rest)) => rest,
-            None => "",
-        }
-    }
+pub(crate) fn push_line(text: &mut String, line: &str) -> Result<(), AllocError> {
+    text.push_str(line)?;
+    text.push('\n')
 }
 
 /// The clauses of a text. Lines that are empty or begin with `#` are passed over.
@@ -56,24 +40,28 @@ pub(crate) fn clauses_of(alloc: Global, text: &str) -> Result<Vec<Clause>, Alloc
         if let Some(under) = line.strip_prefix("  ")
             && let Some(clause) = clauses.last_mut()
         {
-            clause.push_line(under)?;
+            push_line(&mut clause.block, under)?;
         } else {
-            clauses.push(Clause::new(alloc, index.saturating_add(1), line)?)?;
+            clauses.push(Clause {
+                line: index.saturating_add(1),
+                head: line.to_string(alloc)?,
+                block: String::new(alloc),
+            })?;
         }
     }
     Ok(clauses)
 }
 
-/// The clauses in groups, each of which but the first begins with a clause of that verb.
+/// The clauses in groups, each of which but the first begins with a clause of that first word.
 pub(crate) fn groups<'a>(
     alloc: Global,
     clauses: &'a [Clause],
-    verb: &str,
+    first: &str,
 ) -> Result<Vec<&'a [Clause]>, AllocError> {
     let mut groups = Vec::new(alloc);
     let mut start = 0;
     for (place, clause) in clauses.iter().enumerate() {
-        if clause.verb() == verb {
+        if clause.words().0 == first {
             groups.push(clauses.get(start..place).unwrap_or(&[]))?;
             start = place;
         }

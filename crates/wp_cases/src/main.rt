@@ -5,14 +5,11 @@
 mod bytes;
 mod case;
 mod clause;
-mod device;
+mod crash;
 mod disk;
-mod given;
-mod images;
 mod judge;
 mod play;
 mod run;
-mod script;
 mod stages;
 mod sweep;
 mod trouble;

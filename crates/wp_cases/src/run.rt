@@ -1,45 +1,74 @@
 //! What a case says of one run, clause by clause.
 
-use crate::bytes::{Names, bytes_of};
-use crate::clause::Clause;
-use crate::device::{DeviceSaid, number};
-use crate::given::ROOM;
-use crate::script::{HistorySaid, push_script};
-use crate::trouble::Trouble;
+use crate::bytes::{DEVICES, Names, bytes_of};
+use crate::clause::{Clause, push_line};
+use crate::crash::images;
+use crate::play::Call;
+use crate::trouble::{Trouble, number};
 use std::alloc::{AllocError, Global};
 use wp_memory::{Hold, Until};
 
 /// The client as which a device comes to the gate, with its line 1.
 const DEVICE: usize = 17;
 
-/// How many calls an opening makes of each device, and a line for what is before the first record of the run and after each.
+/// What a case says of a device. Where there are several bytes or calls, the run is made with each in turn.
 #[derive(Drop)]
-pub(crate) struct SweepSaid {
-    pub(crate) log: u64,
-    pub(crate) manifest: u64,
-    pub(crate) tables: u64,
-    pub(crate) stages: String,
+pub(crate) struct DeviceSaid {
+    /// The bytes that it begins with; those that the run before left where there are none.
+    pub(crate) images: Vec<Vec<u8>>,
+    /// The calls that fail, counted from 1.
+    pub(crate) fails: Vec<usize>,
+    /// The call before which it comes to the gate; 0 for none.
+    pub(crate) comes: usize,
+    /// The bytes that it has to end with.
+    pub(crate) due: Option<Vec<u8>>,
+}
+
+impl DeviceSaid {
+    fn new(alloc: Global) -> DeviceSaid {
+        DeviceSaid {
+            images: Vec::new(alloc),
+            fails: Vec::new(alloc),
+            comes: 0,
+            due: None,
+        }
+    }
+
+    /// Reads `fails at 10`, `fails at 10 to 13`, `comes at 10`, `is BYTES`, `from BYTES to BYTES` or `BYTES`.
+    fn read(&mut self, alloc: Global, names: &Names, words: &str) -> Result<(), Trouble> {
+        if let Some(calls) = words.strip_prefix("fails at ") {
+            let (first, last) = calls.split_once(" to ").unwrap_or((calls, calls));
+            for call in number(first)?..=number(last)? {
+                self.fails.push(call)?;
+            }
+        } else if let Some(call) = words.strip_prefix("comes at ") {
+            self.comes = number(call)?;
+        } else if let Some(due) = words.strip_prefix("is ") {
+            self.due = Some(bytes_of(alloc, names, due)?);
+        } else if let Some(range) = words.strip_prefix("from ") {
+            let (old, new) = range.split_once(" to ").ok_or(Trouble::Unclear)?;
+            let (old, new) = (bytes_of(alloc, names, old)?, bytes_of(alloc, names, new)?);
+            self.images = images(alloc, &old, &new, 1)?;
+        } else {
+            self.images.push(bytes_of(alloc, names, words)?)?;
+        }
+        Ok(())
+    }
 }
 
 #[derive(Drop)]
 pub(crate) struct Run {
     pub(crate) line: usize,
-    /// The command line.
-    pub(crate) words: String,
-    pub(crate) script: Vec<u8>,
-    pub(crate) source_fails: bool,
-    /// How many bytes of text are taken.
-    pub(crate) room: u64,
-    pub(crate) log: DeviceSaid,
-    pub(crate) manifest: DeviceSaid,
-    pub(crate) tables: DeviceSaid,
-    pub(crate) holds: Vec<Hold>,
+    pub(crate) call: Call,
+    pub(crate) devices: [DeviceSaid; 3],
     /// The status, and its line on standard error.
     pub(crate) code: u8,
     pub(crate) why: String,
     /// The replies, with the lines that begin each client's.
     pub(crate) replies: String,
-    pub(crate) history: HistorySaid,
+    /// A line for each entry of the history, and the line that ends the transcript.
+    pub(crate) entries: String,
+    end: String,
     /// Other texts that are as good.
     pub(crate) others: Vec<String>,
     /// Whether the devices have to end with the bytes that they began with.
@@ -48,18 +77,17 @@ pub(crate) struct Run {
     pub(crate) opens: Vec<String>,
     /// The name under which the bytes of the devices are kept; none where it is empty.
     pub(crate) kept: String,
-    pub(crate) sweep: Option<SweepSaid>,
+    /// The command whose answer tells how far a swept script came, and a line for what is before the first record and after each;
+    /// without lines there is no sweep.
+    pub(crate) probe: String,
+    pub(crate) stages: String,
 }
 
 fn client_of(word: &str) -> Result<usize, Trouble> {
     if word == "device" {
         return Ok(DEVICE);
     }
-    line_of(word)
-}
-
-fn line_of(word: &str) -> Result<usize, Trouble> {
-    word.parse::<usize>().map_err(|_| Trouble::Unclear)
+    number(word)
 }
 
 /// Reads `2 1 until 1 3 comes` or `2 1 until 1 3 is answered`, each a client and a line of it.
@@ -68,10 +96,10 @@ fn hold_of(alloc: Global, words: &str) -> Result<Hold, Trouble> {
     let [client, line, "until", other, other_line, end @ ..] = words.as_slice() else {
         return Err(Trouble::Unclear);
     };
-    let (other, other_line) = (client_of(other)?, line_of(other_line)?);
+    let (other, other_line) = (client_of(other)?, number(other_line)?);
     Ok(Hold {
         client: client_of(client)?,
-        line: line_of(line)?,
+        line: number(line)?,
         until: match end {
             ["comes"] => Until::Arrived(other, other_line),
             ["is", "answered"] => Until::Answered(other, other_line),
@@ -86,34 +114,19 @@ fn push_order(holds: &mut Vec<Hold>, alloc: Global, words: &str) -> Result<(), T
     let clients: Vec<&str> = words.split_whitespace().collect(alloc)?;
     let mut before = None;
     for (place, word) in clients.iter().enumerate() {
-        let client = line_of(word)?;
+        let client = number(word)?;
         let earlier = clients.iter().take(place).filter(|other| *other == word);
         let line = earlier.count().saturating_add(1);
-        if let Some((other, other_line)) = before {
-            let until = Until::Answered(other, other_line);
+        if let Some(until) = before {
             holds.push(Hold {
                 client,
                 line,
                 until,
             })?;
         }
-        before = Some((client, line));
+        before = Some(Until::Answered(client, line));
     }
     Ok(())
-}
-
-/// Reads `log 9 manifest 9 tables 2`.
-fn sweep_of(alloc: Global, words: &str, stages: &str) -> Result<SweepSaid, Trouble> {
-    let words: Vec<&str> = words.split_whitespace().collect(alloc)?;
-    let ["log", log, "manifest", manifest, "tables", tables] = words.as_slice() else {
-        return Err(Trouble::Unclear);
-    };
-    Ok(SweepSaid {
-        log: number(log)?,
-        manifest: number(manifest)?,
-        tables: number(tables)?,
-        stages: stages.to_string(alloc)?,
-    })
 }
 
 impl Run {
@@ -121,23 +134,23 @@ impl Run {
     pub(crate) fn new(alloc: Global, line: usize, words: &str) -> Result<Run, AllocError> {
         Ok(Run {
             line,
-            words: words.to_string(alloc)?,
-            script: Vec::new(alloc),
-            source_fails: false,
-            room: ROOM,
-            log: DeviceSaid::new(alloc),
-            manifest: DeviceSaid::new(alloc),
-            tables: DeviceSaid::new(alloc),
-            holds: Vec::new(alloc),
+            call: Call::new(alloc, words, "")?,
+            devices: [
+                DeviceSaid::new(alloc),
+                DeviceSaid::new(alloc),
+                DeviceSaid::new(alloc),
+            ],
             code: 0,
             why: "wp: ok".to_string(alloc)?,
             replies: String::new(alloc),
-            history: HistorySaid::new(alloc),
+            entries: String::new(alloc),
+            end: String::new(alloc),
             others: Vec::new(alloc),
             stays: false,
             opens: Vec::new(alloc),
             kept: String::new(alloc),
-            sweep: None,
+            probe: String::new(alloc),
+            stages: String::new(alloc),
         })
     }
 
@@ -149,33 +162,60 @@ impl Run {
         Ok(())
     }
 
-    /// Reads `to it`, or `to more` or `to` with lines of a history.
+    /// Reads the history of these entries and of what the lines say after them.
+    fn read_history(
+        &mut self,
+        alloc: Global,
+        entries: &str,
+        lines: &str,
+    ) -> Result<(), AllocError> {
+        self.entries = entries.to_string(alloc)?;
+        for line in lines.lines() {
+            let is_end = line.starts_with("end ");
+            push_line(
+                if is_end {
+                    &mut self.end
+                } else {
+                    &mut self.entries
+                },
+                line,
+            )?;
+        }
+        Ok(())
+    }
+
+    /// What shows the history.
+    pub(crate) fn history(&self, alloc: Global) -> Result<String, AllocError> {
+        let Run { entries, end, .. } = self;
+        format!(in alloc; "history\n{entries}{end}")
+    }
+
+    /// Reads `to it`, or `to more` or `to` with the lines that end a history.
     fn read_opens(&mut self, alloc: Global, words: &str, lines: &str) -> Result<(), Trouble> {
         let text = match words {
-            "to it" => self.history.text(alloc)?,
-            "to more" => HistorySaid::after(alloc, &self.history.entries, lines)?.text(alloc)?,
-            "to" => HistorySaid::after(alloc, "", lines)?.text(alloc)?,
+            "to it" => self.history(alloc)?,
+            "to more" => format!(in alloc; "history\n{}{lines}", self.entries)?,
+            "to" => format!(in alloc; "history\n{lines}")?,
             _ => return Err(Trouble::Unclear),
         };
         self.opens.push(text)?;
         Ok(())
     }
 
-    /// Reads a script's lines, `bytes BYTES`, or `1000 empty lines`.
-    fn read_script(
-        &mut self,
-        alloc: Global,
-        names: &Names,
-        words: &str,
-        lines: &str,
-    ) -> Result<(), Trouble> {
-        if words.is_empty() {
-            push_script(&mut self.script, &mut self.replies, lines)?;
-        } else if let Some(bytes) = words.strip_prefix("bytes ") {
-            self.script = bytes_of(alloc, names, bytes)?;
-        } else {
-            let count = words.strip_suffix(" empty lines").ok_or(Trouble::Unclear)?;
-            self.script.resize(line_of(count)?, b'\n')?;
+    /// Reads lines such as `put k 1 -> put @1`. A line that begins a client stands in the transcript too; one without a reply has
+    /// none.
+    fn read_script(&mut self, lines: &str) -> Result<(), AllocError> {
+        for line in lines.lines() {
+            let (command, reply) = match line.split_once(" -> ") {
+                Some((command, reply)) => (command, Some(reply)),
+                None if line.starts_with("client ") => (line, Some(line)),
+                None => (line, None),
+            };
+            self.call.script.extend_from_slice(command.as_bytes())?;
+            self.call.script.push(b'\n')?;
+            if let Some(reply) = reply {
+                push_line(&mut self.replies, reply)?;
+            }
         }
         Ok(())
     }
@@ -188,24 +228,31 @@ impl Run {
         before: &str,
         clause: &Clause,
     ) -> Result<(), Trouble> {
-        let (rest, lines) = (clause.rest(), clause.block.as_str());
-        match (clause.verb(), rest) {
-            ("log", said) => self.log.read(alloc, names, said)?,
-            ("manifest", said) => self.manifest.read(alloc, names, said)?,
-            ("tables", said) => self.tables.read(alloc, names, said)?,
-            ("source", "fails") => self.source_fails = true,
-            ("room", count) => self.room = number(count)?,
-            ("hold", hold) => self.holds.push(hold_of(alloc, hold)?)?,
-            ("order", clients) => push_order(&mut self.holds, alloc, clients)?,
-            ("script", script) => self.read_script(alloc, names, script, lines)?,
+        let (verb, rest) = clause.words();
+        let lines = clause.block.as_str();
+        for (said, device) in self.devices.iter_mut().zip(DEVICES) {
+            if verb == device {
+                return said.read(alloc, names, rest);
+            }
+        }
+        match (verb, rest) {
+            ("source", "fails") => self.call.source_fails = true,
+            ("room", count) => self.call.room = number(count)?,
+            ("hold", hold) => self.call.holds.push(hold_of(alloc, hold)?)?,
+            ("order", clients) => push_order(&mut self.call.holds, alloc, clients)?,
+            ("script", "") => self.read_script(lines)?,
+            ("script", bytes) => self.call.script = bytes_of(alloc, names, bytes)?,
             ("status", status) => self.read_status(alloc, status)?,
-            ("history", "") => self.history = HistorySaid::after(alloc, "", lines)?,
-            ("more", "history") => self.history = HistorySaid::after(alloc, before, lines)?,
+            ("history", "") => self.read_history(alloc, "", lines)?,
+            ("more", "history") => self.read_history(alloc, before, lines)?,
             ("or", "text") => self.others.push(lines.to_string(alloc)?)?,
             ("devices", "stay") => self.stays = true,
             ("opens", opens) => self.read_opens(alloc, opens, lines)?,
             ("keep", name) => self.kept = name.to_string(alloc)?,
-            ("sweep", opening) => self.sweep = Some(sweep_of(alloc, opening, lines)?),
+            ("sweep", command) => {
+                self.probe = command.to_string(alloc)?;
+                self.stages = lines.to_string(alloc)?;
+            }
             _ => return Err(Trouble::Unclear),
         }
         Ok(())

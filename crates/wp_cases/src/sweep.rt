@@ -1,226 +1,207 @@
-//! A run made again and again: each call of each device fails in turn, or is the first that is not answered. What is left, as it is
-//! and as a crash may leave it, opens to what was acknowledged, and works on.
+//! A run made again and again, each time with devices that go wrong at other calls. What is left, as it is and as a crash may leave
+//! it, opens to what was acknowledged, and works on.
 
-use crate::given::{CALLS, Given, Stored};
-use crate::images::{RESTS, Rest, image};
-use crate::judge::{text_of, wrong};
-use crate::play::{Left, Outcome, play};
-use crate::run::{Run, SweepSaid};
-use crate::stages::{Stage, open_to, shown, stages_after, stages_of};
+ghost use Rattle.std.specs.Prelude.{◌<◌};
+
+use crate::crash::images;
+use crate::disk::{Faults, Left, SOUND};
+use crate::judge::wrong;
+use crate::play::{Outcome, Stored, play, show};
+use crate::run::Run;
+use crate::stages::Stages;
 use crate::trouble::Trouble;
 use std::alloc::{AllocError, AllocGlobal, Global};
 use std::sync::Wait;
 use std::thread::Threads;
-use wp_outside::Device;
 
-const DEVICES: [Device; 3] = [Device::Log, Device::Manifest, Device::Tables];
+/// How many bytes are between the places at which a crash tears what was not synced.
+const APART: usize = 9;
 
-/// No script has so many calls of a device.
-const MOST_CALLS: u64 = 100;
+/// The status where the device is the first to go wrong, as it is opened or later, and its line.
+const IN_OPENING: [(u8, &str); 3] = [
+    (10, "wp: opening failed: log"),
+    (10, "wp: opening failed: manifest"),
+    (10, "wp: opening failed: tables"),
+];
 
-/// The lengths at which a crash tears what was not synced.
-const WRITTEN: [usize; 3] = [0, 9, 1000];
+const LATER: [(u8, &str); 3] = [
+    (7, "wp: log fault"),
+    (8, "wp: table fault"),
+    (8, "wp: table fault"),
+];
 
-/// A run without fault, how many calls its opening makes, and its stages.
-#[derive(Clone, Copy)]
-struct Swept<'a> {
-    given: &'a Given<'a>,
-    run: &'a Run,
-    said: &'a SweepSaid,
-    stages: &'a [Stage],
+/// How devices go wrong in a run, and the status that it ends with, with its line.
+#[derive(Drop)]
+struct Trial {
+    faults: [Faults; 3],
+    end: (u8, &'static str),
 }
 
-/// How a device goes wrong at a call: it answers all others, or none from there on.
-#[derive(Clone, Copy)]
-enum Fault {
-    Fails,
-    Stops,
-}
-
-/// The status of a run in which that call of the device is the first to fail, and its line.
-fn end_of(
-    alloc: Global,
-    said: &SweepSaid,
-    device: Device,
-    call: u64,
-) -> Result<(u8, String), AllocError> {
-    let (opening, code, line) = match device {
-        Device::Log => (said.log, 7, "wp: log fault"),
-        Device::Manifest => (said.manifest, 8, "wp: table fault"),
-        Device::Tables => (said.tables, 8, "wp: table fault"),
-    };
-    if call <= opening {
-        return Ok((10, format!(in alloc; "wp: opening failed: {device}")?));
+fn fails_at(call: usize) -> Faults {
+    Faults {
+        fails: call,
+        ..SOUND
     }
-    Ok((code, line.to_string(alloc)?))
 }
 
-/// Whether the run ended as one does in which that call of the device is the first to fail: with its text whole, up to the history
-/// of the first of these stages, or none where the opening failed.
-fn ended_so(
-    alloc: Global,
-    swept: Swept<'_>,
-    outcome: &Outcome,
-    device: Device,
-    call: u64,
-) -> Result<bool, AllocError> {
-    let (code, line) = end_of(alloc, swept.said, device, call)?;
-    let is_whole = match stages_after(swept.stages, outcome).first() {
-        Some(stage) if code != 10 => outcome.text.ends_with(shown(alloc, stage)?.as_bytes()),
-        _ => code == 10 && outcome.text.is_empty(),
-    };
-    Ok(is_whole && outcome.code == code && outcome.line.as_slice() == line.as_bytes())
+fn stops_at(call: usize) -> Faults {
+    Faults {
+        stops: call,
+        ..SOUND
+    }
 }
 
-/// The run with this script, in which the device goes wrong at that call.
-fn faulty<'a>(
-    given: &Given<'a>,
-    script: &'a [u8],
-    device: Device,
-    fault: Fault,
-    call: u64,
-) -> Given<'a> {
-    let (fails, calls) = match fault {
-        Fault::Fails => (call, CALLS),
-        Fault::Stops => (0, call.saturating_sub(1)),
-    };
-    let mut faulty = Given { script, ..*given };
-    let disk = match device {
-        Device::Log => &mut faulty.log,
-        Device::Manifest => &mut faulty.manifest,
-        Device::Tables => &mut faulty.tables,
-    };
-    disk.fails = fails;
-    disk.calls = calls;
-    faulty
+/// How the run ends where the device goes wrong first, at that call.
+fn end_of(device: usize, place: usize, opening: &[Left; 3]) -> (u8, &'static str)
+    requires { device < 3 }
+{
+    if place < opening[device].calls.len() {
+        IN_OPENING[device]
+    } else {
+        LATER[device]
+    }
 }
 
-fn image_of(alloc: Global, left: &Left, written: usize, rest: Rest) -> Result<Vec<u8>, AllocError> {
-    image(alloc, &left.synced, &left.bytes, written, rest)
+/// The device stops at its first call that is not before that moment.
+fn stops_from(left: &Left, moment: u64) -> Faults {
+    let before = left.calls.iter().filter(|call| **call < moment);
+    stops_at(before.count().saturating_add(1))
 }
 
-/// Whether this image of each device opens to one of the stages and works on.
-fn image_opens<R: Threads + Wait + Sync + AllocGlobal>(
-    rt: &R,
-    outcome: &Outcome,
-    written: usize,
-    rest: Rest,
-    stages: &[Stage],
-) -> Result<bool, AllocError> {
-    let alloc = rt.alloc();
-    let log = image_of(alloc, &outcome.log, written, rest)?;
-    let manifest = image_of(alloc, &outcome.manifest, written, rest)?;
-    let tables = image_of(alloc, &outcome.tables, written, rest)?;
-    let stored = Stored {
-        log: &log,
-        manifest: &manifest,
-        tables: &tables,
-    };
-    open_to(rt, stored, stages)
+/// At each call of each device: it fails, or it is the first that is not answered while the other devices go on.
+fn push_alone(
+    trials: &mut Vec<Trial>,
+    opening: &[Left; 3],
+    whole: &[Left; 3],
+) -> Result<(), AllocError> {
+    for device in 0..3 {
+        for place in 0..whole[device].calls.len() {
+            let end = end_of(device, place, opening);
+            let call = place.saturating_add(1);
+            for fault in [fails_at(call), stops_at(call)] {
+                let mut faults = [SOUND; 3];
+                faults[device] = fault;
+                trials.push(Trial { faults, end })?;
+            }
+        }
+    }
+    Ok(())
 }
 
-fn is_synced(left: &Left) -> bool {
-    left.bytes == left.synced
+/// At each call of each device no device answers from there on. Where the log has calls left, it fails too.
+fn push_together(
+    trials: &mut Vec<Trial>,
+    opening: &[Left; 3],
+    whole: &[Left; 3],
+) -> Result<(), AllocError> {
+    let [log, manifest, tables] = whole;
+    for device in 0..3 {
+        for (place, moment) in whole[device].calls.iter().enumerate() {
+            let faults = [
+                stops_from(log, *moment),
+                stops_from(manifest, *moment),
+                stops_from(tables, *moment),
+            ];
+            let is_last = faults[0].stops > log.calls.len();
+            let end = match end_of(device, place, opening) {
+                (8, _) if !is_last => LATER[0],
+                end => end,
+            };
+            trials.push(Trial { faults, end })?;
+        }
+    }
+    Ok(())
 }
 
-/// Whether the images that a crash may leave of the devices open to one of the stages and work on.
+/// After the opening the log stops at each of its calls, and another device at each of its own.
+fn push_pairs(
+    trials: &mut Vec<Trial>,
+    opening: &[Left; 3],
+    whole: &[Left; 3],
+) -> Result<(), AllocError> {
+    for call in opening[0].calls.len()..whole[0].calls.len() {
+        for other in 1..3 {
+            for also in opening[other].calls.len()..whole[other].calls.len() {
+                let mut faults = [stops_at(call.saturating_add(1)), SOUND, SOUND];
+                faults[other] = stops_at(also.saturating_add(1));
+                trials.push(Trial {
+                    faults,
+                    end: LATER[0],
+                })?;
+            }
+        }
+    }
+    Ok(())
+}
+
+fn images_of(alloc: Global, left: &Left) -> Result<Vec<Vec<u8>>, AllocError> {
+    images(alloc, &left.synced, &left.bytes, APART)
+}
+
+/// Whether whatever a crash may leave of the devices opens to what the run acknowledged.
 fn images_open<R: Threads + Wait + Sync + AllocGlobal>(
     rt: &R,
+    stages: &Stages,
     outcome: &Outcome,
-    stages: &[Stage],
 ) -> Result<bool, AllocError> {
-    if is_synced(&outcome.log) && is_synced(&outcome.manifest) && is_synced(&outcome.tables) {
-        return open_to(rt, outcome.left(), stages);
-    }
-    for written in WRITTEN {
-        for rest in RESTS {
-            if !image_opens(rt, outcome, written, rest, stages)? {
-                return Ok(false);
+    let [log, manifest, tables] = &outcome.left;
+    let manifests = images_of(rt.alloc(), manifest)?;
+    let all_tables = images_of(rt.alloc(), tables)?;
+    for log in &images_of(rt.alloc(), log)? {
+        for manifest in &manifests {
+            for tables in &all_tables {
+                if !stages.open(rt, outcome, &[log, manifest, tables])? {
+                    return Ok(false);
+                }
             }
         }
     }
     Ok(true)
 }
 
-/// The script's first lines.
-fn first_lines(script: &[u8], count: usize) -> &[u8] {
-    let ends = script
-        .iter()
-        .enumerate()
-        .filter(|(_, letter)| **letter == b'\n');
-    match ends.map(|(place, _)| place).nth(count) {
-        Some(end) => script.get(..end).unwrap_or(script),
-        None => script,
-    }
-}
-
-/// Lets the device go wrong at that call and at each later one, until the script comes to a run without fault. Answers the call at
-/// which it does.
-fn first_unreached<R: Threads + Wait + Sync + AllocGlobal>(
+/// Whether the run with these faults ends with the status that is due, and with its whole text, or none where the opening failed; and
+/// whether what it leaves opens.
+fn succeeds<R: Threads + Wait + Sync + AllocGlobal>(
     rt: &R,
-    swept: Swept<'_>,
-    script: &[u8],
-    device: Device,
-    fault: Fault,
-    from: u64,
-) -> Result<u64, Trouble> {
-    let alloc = rt.alloc();
-    for call in from..MOST_CALLS {
-        let outcome = play(rt, &faulty(swept.given, script, device, fault, call))?;
-        if outcome.code == 0 {
-            return Ok(call);
-        }
-        let stages = stages_after(swept.stages, &outcome);
-        if !ended_so(alloc, swept, &outcome, device, call)? || !images_open(rt, &outcome, stages)? {
-            let what = format!(in alloc;
-                "the {device} goes wrong at its call {call}, and the end is another"
-            )?;
-            return wrong(swept.run, what);
-        }
-    }
-    wrong(
-        swept.run,
-        format!(in alloc; "the {device} has too many calls")?,
-    )
+    run: &Run,
+    stages: &Stages,
+    stored: &Stored<'_>,
+    trial: &Trial,
+) -> Result<bool, AllocError> {
+    let outcome = play(rt, &run.call, stored, &trial.faults)?;
+    let (code, line) = trial.end;
+    let is_whole = if code == 10 {
+        outcome.text.is_empty()
+    } else {
+        stages.end(&outcome)
+    };
+    let is_so = outcome.code == code && outcome.line.as_slice() == line.as_bytes();
+    Ok(is_whole && is_so && images_open(rt, stages, &outcome)?)
 }
 
-/// Lets the device go wrong at each call. The script is run as far as these lines, and then as far as each line after them, the
-/// device going wrong at each call that is new there. A script that ends with the command in which a device stops calls no other
-/// device after that, so that all three stop there.
-fn sweep_device<R: Threads + Wait + Sync + AllocGlobal>(
-    rt: &R,
-    swept: Swept<'_>,
-    device: Device,
-    fault: Fault,
-    lines: usize,
-) -> Result<(), Trouble> {
-    let script = swept.given.script;
-    let mut from = 1;
-    for count in lines..=text_of(script).lines().count() {
-        from = first_unreached(rt, swept, first_lines(script, count), device, fault, from)?;
-    }
-    Ok(())
-}
-
-/// Lets each call of each device fail, each device stop while the others go on, and all stop.
+/// Lets devices go wrong at each call that the run makes of them. `whole` is what it leaves where none does.
 pub(crate) fn sweep<R: Threads + Wait + Sync + AllocGlobal>(
     rt: &R,
     run: &Run,
-    said: &SweepSaid,
-    given: &Given<'_>,
+    stored: &Stored<'_>,
+    whole: &[Left; 3],
 ) -> Result<(), Trouble> {
-    let stages = stages_of(rt.alloc(), &run.history.entries, &said.stages)?;
-    let swept = Swept {
-        given,
-        run,
-        said,
-        stages: &stages,
-    };
-    let all = text_of(given.script).lines().count();
-    for device in DEVICES {
-        sweep_device(rt, swept, device, Fault::Fails, all)?;
-        sweep_device(rt, swept, device, Fault::Stops, all)?;
-        sweep_device(rt, swept, device, Fault::Stops, 1)?;
+    let alloc = rt.alloc();
+    let opening = show(rt, stored)?.left;
+    let stages = Stages::new(alloc, run)?;
+    let mut trials = Vec::new(alloc);
+    push_alone(&mut trials, &opening, whole)?;
+    push_together(&mut trials, &opening, whole)?;
+    push_pairs(&mut trials, &opening, whole)?;
+    for trial in &trials {
+        if !succeeds(rt, run, &stages, stored, trial)? {
+            let [log, manifest, tables] = &trial.faults;
+            let what = format!(in alloc;
+                "calls that fail: {}, {}, {}; that are not answered: {}, {}, {}; the end is another",
+                log.fails, manifest.fails, tables.fails, log.stops, manifest.stops, tables.stops
+            )?;
+            return wrong(run, what);
+        }
     }
     Ok(())
 }

@@ -8,9 +8,22 @@ pub(crate) enum Trouble {
     /// A clause says nothing that is known.
     #[error("not understood")]
     Unclear,
-    /// This is wrong with the clause of that line, or with the run that it begins.
+    /// So it is with the clause of that line.
+    #[error("line {0} is not understood")]
+    UnclearAt(usize),
+    /// This is wrong with the run that begins at that line.
     #[error("line {line}: {what}")]
     Wrong { line: usize, what: String },
+}
+
+impl Trouble {
+    /// Says of what is unclear where it is.
+    pub(crate) fn at(self, line: usize) -> Trouble {
+        match self {
+            Trouble::Unclear => Trouble::UnclearAt(line),
+            other => other,
+        }
+    }
 }
 
 impl From<AllocError> for Trouble {
@@ -23,4 +36,9 @@ impl<T: Drop> From<AllocFailed<T>> for Trouble {
     fn from(_error: AllocFailed<T>) -> Trouble {
         Trouble::Memory
     }
+}
+
+/// The number that a case writes there.
+pub(crate) fn number(word: &str) -> Result<usize, Trouble> {
+    word.parse::<usize>().map_err(|_| Trouble::Unclear)
 }

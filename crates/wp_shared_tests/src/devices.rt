@@ -10,7 +10,7 @@ use wp_open::{Parts, open_parts};
 use wp_outside::{Disk, Disks};
 
 /// The log, with the put of `1` under `k`.
-pub(super) const LOG: &[u8; 32] =
+const LOG: &[u8; 32] =
     b"\x01WPLG\x01\0\0\0\x01\x01\0\0\0\0\0\0\0\x0c\0\0\0\x01\x01\x01\x01\x01k\0\x011\0";
 
 /// The manifest, with one edit: the entries up to 1 are in one table of 53 bytes at place 0.

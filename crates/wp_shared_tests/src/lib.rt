@@ -1,4 +1,4 @@
-//! Tests of a store as it is opened, over devices in memory: what lies behind its turns, and the seats of the clients.
+//! Tests of a store as it is opened, over devices in memory: what lies behind its turns, and what its first seat loads.
 //!
 //! The crate has tests alone. They stand above what they test, so that a check of the tests proves nothing of it again.
 #![tactic(auto)]

@@ -4,29 +4,21 @@ use std::alloc::{AllocError, Global};
 
 /// What stands in the places that a crash tore: what was there before, other bytes, or no bytes behind the shorter end.
 #[derive(Clone, Copy, Drop)]
-pub(crate) enum Rest {
+enum Rest {
     Old,
     Other,
     Nothing,
 }
 
-pub(crate) const RESTS: [Rest; 3] = [Rest::Old, Rest::Other, Rest::Nothing];
-
-/// How many bytes both begin with.
-pub(crate) fn common(old: &[u8], new: &[u8]) -> usize {
-    old.iter().zip(new).take_while(|(a, b)| a == b).count()
-}
-
-/// What a crash may leave of a device that was synced with the bytes `old` and reads `new`: of the places from the first in which
-/// these differ so many are as in `new`.
-pub(crate) fn image(
+/// What a crash may leave of a device that was synced with the bytes `old` and reads `new`: these, up to the place where the crash
+/// tore them.
+fn image(
     alloc: Global,
     old: &[u8],
     new: &[u8],
-    written: usize,
+    torn: usize,
     rest: Rest,
 ) -> Result<Vec<u8>, AllocError> {
-    let torn = common(old, new).saturating_add(written);
     let shorter = old.len().min(new.len());
     let mut bytes = Vec::new(alloc);
     for place in 0..old.len().max(new.len()) {
@@ -46,18 +38,24 @@ pub(crate) fn image(
     Ok(bytes)
 }
 
-/// Puts each of these there, torn at each length.
-pub(crate) fn push_images(
-    images: &mut Vec<Vec<u8>>,
+/// What a crash may leave of a device that was synced with the bytes `old` and reads `new`: these, and torn at each place, or at
+/// each that is so many bytes behind another, from the first one on where they differ.
+pub(crate) fn images(
     alloc: Global,
     old: &[u8],
     new: &[u8],
-) -> Result<(), AllocError> {
-    let most = old.len().max(new.len()).saturating_sub(common(old, new));
-    for written in 0..=most {
-        for rest in RESTS {
-            images.push(image(alloc, old, new, written, rest)?)?;
+    apart: usize,
+) -> Result<Vec<Vec<u8>>, AllocError> {
+    let same = old.iter().zip(new).take_while(|(a, b)| a == b).count();
+    let mut images = Vec::new(alloc);
+    images.push(new.to_vec(alloc)?)?;
+    for torn in (same..old.len().max(new.len())).step_by(apart.max(1)) {
+        for rest in [Rest::Old, Rest::Other, Rest::Nothing] {
+            let image = image(alloc, old, new, torn, rest)?;
+            if !images.contains(&image) {
+                images.push(image)?;
+            }
         }
     }
-    Ok(())
+    Ok(images)
 }
