@@ -140,6 +140,7 @@ def known_by(part):
 class Evidence:
     """What a client's replies are judged by."""
 
+    opened: int  # so many entries the store was opened with
     history: History
     found: Edit
     limit: int
@@ -181,12 +182,16 @@ class Judge:
     def is_anothers(self, name):
         return any(name in other.names for other in self.others())
 
-    def busy_txn(self, name, key):
+    def had_key(self, last, name, key):
+        """A prepare of that name that was undecided after some number of entries, from `last` on, has the key."""
         history = self.evidence.history
-        if any(has(history.batch(p), key) for p in self.undecided(name)):
+        return any(has(history.batch(p), key) for p in history.undecided_since(last, name))
+
+    def busy_txn(self, name, key):
+        if self.had_key(self.last, name, key):
             return True
-        prepared = any(it.kind == "prepare" and it.name == name and has(it.batch, key) for it in history.entries)
-        return any((name, key) in other.staged or name in other.taken and prepared for other in self.others())
+        had = self.had_key(self.evidence.opened, name, key)
+        return any((name, key) in other.staged or name in other.taken and had for other in self.others())
 
     def allow(self, command, answer):
         """Raises the rule that the reply breaks, where it breaks one."""

@@ -76,7 +76,7 @@ def check(script, transcript, limit=MOST_NUMBER, found=None, left=None, status=N
     failed = []
     for part in parts:
         others = {client: it for client, it in known.items() if client != part.client}
-        failed += check_session(Evidence(history, edit, limit, others, list(known.values()), flushed, faults), part, opened)
+        failed += check_session(Evidence(len(opened), history, edit, limit, others, list(known.values()), flushed, faults), part, opened)
     check_pairing(history, opened, answers)
     last = check_flushes(history, edit, answers)
     check_board(parts, len(opened))

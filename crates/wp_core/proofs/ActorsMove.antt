@@ -39,7 +39,7 @@ actors_move row place w actors by a at m k s =
       registrations = registered_moved row place w.writes.history w.actors actors m w.snapshots s.registrations;
       viewed = viewed_moved row place w.writes.history w.actors actors m s.viewed;
     })
-    (locked_moved row place w.writes.history w.actors actors m w.locks s.locks) (record {
+    (locked_moved row place w.writes.history w.actors actors m w.opened w.locks s.locks) (record {
       holders = holders_moved row place w.writes.history w.actors actors m w.opened w.locks s.holders;
       board = board_moved row place w.writes.history w.actors actors m (world.published w) w.locks s.board;
       faults = faults_moved row place w.writes.history w.actors actors m w.writes w.installed.halted s.faults;

@@ -76,7 +76,7 @@ abbrev pub ViewsOf : World → List Actor → Type 0
 ViewsOf w actors = ViewParts w.opened w.writes.history w.snapshots actors
 
 abbrev pub LocksOf : World → List Actor → Type 0
-LocksOf w actors = AreLocked w.writes.history w.locks (map (participants_of owner_of) actors)
+LocksOf w actors = AreLocked w.opened w.writes.history w.locks (map (participants_of owner_of) actors)
 
 abbrev pub PastsOf : World → List Actor → Type 0
 PastsOf w actors = PastParts w.opened w.writes w.locks w.first_edit w.installed actors
@@ -175,7 +175,7 @@ module _ (w : World) (by : ℕ) (a b : Actor) (at : get_elem? w.actors by ≡ so
   views_still same s = views_kept w.opened w.writes.history w.snapshots same (views_of w s)
 
   pub locks_still : participants_of owner_of b ≡ participants_of owner_of a → IsSound w → LocksOf w (set w.actors by b)
-  locks_still same s = kept_part (participants_of owner_of) (AreLocked w.writes.history w.locks) same s.locks
+  locks_still same s = kept_part (participants_of owner_of) (AreLocked w.opened w.writes.history w.locks) same s.locks
 
   pub pasts_still : participants_of past_of b ≡ participants_of past_of a → IsSound w → PastsOf w (set w.actors by b)
   pasts_still same s = pasts_kept w.opened w.writes w.locks w.first_edit w.installed same (pasts_of w s)
@@ -226,5 +226,5 @@ pub quiet_step : (w v : World) (by : ℕ) (a b : Actor) → get_elem? w.actors b
 quiet_step w v by a b at same tables views locks pasts turns readers notes idle s =
     all_parts v (set w.actors by b) tables
     (views_kept w by a b at v.opened v.writes.history v.snapshots (λ i. (people_same seen_of a b same i, people_same own_of a b same i, people_same registered_of a b same i, people_same view_of a b same i, (same i).1)) views)
-    (kept_part w by a b at (participants_of owner_of) (AreLocked v.writes.history v.locks) (people_same owner_of a b same) locks)
+    (kept_part w by a b at (participants_of owner_of) (AreLocked v.opened v.writes.history v.locks) (people_same owner_of a b same) locks)
     (pasts_kept w by a b at v.opened v.writes v.locks v.first_edit v.installed (people_same past_of a b same) pasts) turns readers notes (led_still w by a b at (λ i. (same i).2) s) idle

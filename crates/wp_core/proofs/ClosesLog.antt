@@ -77,7 +77,7 @@ module _ (w : World) (by : ℕ) (a : Actor) (at : get_elem? w.actors by ≡ some
   log_closes =
       all_parts (with_content w e) (set w.actors by b)
       (record { history = history_closed; cache = s.cache; decided = s.decided; undecided = s.undecided; delayed = s.delayed; flags = s.flags; versions = s.versions; settled = s.settled; pending = λ free. absurd (not_free w.holders write_turn by n.0 free) })
-      (views_still w by a b at refl s) (past_locked w.actors by a b failure at refl refl w.writes.history w.locks s.locks) (record {
+      (views_still w by a b at refl s) (past_locked w.actors by a b failure at refl refl w.opened w.writes.history w.locks s.locks) (record {
         holders = holders_still w.actors by a b failure at refl refl w.opened w.writes.history w.locks tt s.holders;
         board = board_still w.actors by a b failure at refl refl (world.published w) w.locks tt s.board;
         faults = faults_closed;

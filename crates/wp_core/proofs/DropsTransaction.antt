@@ -54,7 +54,7 @@ module _ (w : World) (by : ℕ) (a : Actor) (name : List ℕ) (x0 : Transaction)
   has_still : (n : List ℕ) (y : Transaction) → (n ≡ name → ⊥) → finite.get a.participant.transactions n ≡ Some y → finite.get p.transactions n ≡ Some y
   has_still n y ne h = else_removed a.participant.transactions name n ne ∙ h
 
-  own_owner : IsOwner w.writes.history t (owner_of p)
+  own_owner : IsOwner w.opened w.writes.history t (owner_of p)
   own_owner =
       let old = s.locks.had by 0 (owner_of a.participant) (mine owner_of w.actors by a a at refl) in
       record {
@@ -85,11 +85,11 @@ module _ (w : World) (by : ℕ) (a : Actor) (name : List ℕ) (x0 : Transaction)
       (λ (q : n ≡ name). ap (λ (z : List ℕ). is_changed (batch_of_name w.writes.history z) k) q ∙ d.left_keys k (ap (finite.get t.names) (sym q) ∙ h) (held ∙ ap (λ (z : List ℕ). Some (Txn z)) q))
       (λ (ne : n ≡ name → ⊥). s.locks.keys_left k n (sym (d.others.names n ne) ∙ h) (d.transactions_were k n held)) (is_word_same n name)
 
-  locked_part : AreLocked w.writes.history t after
+  locked_part : AreLocked w.opened w.writes.history t after
   locked_part = record {
     prepared_names = d.prepared_names;
     prepared_keys = d.prepared_keys;
-    had = each_apart owner_of w.actors by a b at refl (IsOwner w.writes.history t) own_owner (others_own w by a name x0 at has s t d.others);
+    had = each_apart owner_of w.actors by a b at refl (IsOwner w.opened w.writes.history t) own_owner (others_own w by a name x0 at has s t d.others);
     apart = owners_apart w.actors by a b at refl (λ n x h. inl (x, (had_name n x h).1)) (λ c h. inl h) s.locks.apart;
     names_had = names_had;
     names_left = names_left;

@@ -31,7 +31,7 @@ pub record Gains (w : World) (name : List ℕ) (x1 : Transaction) (start : Event
   pub keys : (k : List ℕ) → words.contains x1.locked k ≡ true → finite.get w.locks.keys k ≡ Some (Txn name)
   pub known : (k : List ℕ) → finite.get w.locks.keys k ≡ Some (Txn name) → words.contains x1.locked k ≡ true
   pub begins : (start ≡ claimed name) ⊎ (start ≡ took name)
-  pub came : (k : List ℕ) → words.contains x1.locked k ≡ true → (start ≡ took name) × PrepareHas w.writes.history name k
+  pub came : (k : List ℕ) → words.contains x1.locked k ≡ true → (start ≡ took name) × PrepareHas w.opened w.writes.history name k
 
 module _ (w : World) (by : ℕ) (a : Actor) (name : List ℕ) (x1 : Transaction) (start : Event) (step : Step) (at : get_elem? w.actors by ≡ some a) (d : Gains w name x1 start) (s : IsSound w) where
   abbrev pub t : LockTables
@@ -57,10 +57,10 @@ module _ (w : World) (by : ℕ) (a : Actor) (name : List ℕ) (x1 : Transaction)
   has_now : (n : List ℕ) (x : Transaction) → finite.get p.transactions n ≡ Some x → ((n ≡ name) × (x1 ≡ x)) ⊎ ((n ≡ name → ⊥) × (finite.get a.participant.transactions n ≡ Some x))
   has_now n x h = now_inserted a.participant.transactions name x1 x n h
 
-  came_now : (n key : List ℕ) → n ≡ name → (start ≡ took name) × PrepareHas w.writes.history name key → CameToKey w.writes.history p.past n key
-  came_now n key same (q, has) = subst (λ (z : List ℕ). CameToKey w.writes.history p.past z key) (sym same) (inr (subst (λ (x : Event). IsIn x p.past) q (in_last start a.participant.past), has))
+  came_now : (n key : List ℕ) → n ≡ name → (start ≡ took name) × PrepareHas w.opened w.writes.history name key → CameToKey w.opened w.writes.history p.past n key
+  came_now n key same (q, has) = subst (λ (z : List ℕ). CameToKey w.opened w.writes.history p.past z key) (sym same) (inr (subst (λ (x : Event). IsIn x p.past) q (in_last start a.participant.past), has))
 
-  own_owner : IsOwner w.writes.history t (owner_of p)
+  own_owner : IsOwner w.opened w.writes.history t (owner_of p)
   own_owner =
       let old = s.locks.had by 0 (owner_of a.participant) (mine owner_of w.actors by a a at refl) in
       record {
@@ -73,10 +73,10 @@ module _ (w : World) (by : ℕ) (a : Actor) (name : List ℕ) (x1 : Transaction)
         direct = old.direct;
         came = λ n x key h held. ⊎_elim
             (λ (u : (n ≡ name) × (x1 ≡ x)). came_now n key u.0 (d.came key (subst (λ (z : Transaction). words.contains z.locked key ≡ true) (sym u.1) held)))
-            (λ (u : (n ≡ name → ⊥) × (finite.get a.participant.transactions n ≡ Some x)). came_still w.writes.history a.participant.past p.past (λ e k. in_front e a.participant.past (start ∷ []) k) n key (old.came n x key u.1 held)) (has_now n x h);
+            (λ (u : (n ≡ name → ⊥) × (finite.get a.participant.transactions n ≡ Some x)). came_still w.opened w.writes.history a.participant.past p.past (λ e k. in_front e a.participant.past (start ∷ []) k) n key (old.came n x key u.1 held)) (has_now n x h);
       }
 
-  other_owner : (o : Owner) → IsOwner w.writes.history w.locks o → IsOwner w.writes.history t o
+  other_owner : (o : Owner) → IsOwner w.opened w.writes.history w.locks o → IsOwner w.opened w.writes.history t o
   other_owner o k = record { names = λ n x h. live_still n o.client (k.names n x h); keys = k.keys; direct = k.direct; came = k.came }
 
   -- nobody had the name
@@ -129,11 +129,11 @@ module _ (w : World) (by : ℕ) (a : Actor) (name : List ℕ) (x1 : Transaction)
       (has_now n x (subst (λ (z : Owner). Has z n x) g.2 has)))
       (λ (g : IsParticipantAt (participants owner_of w) j i o). s.locks.keys_known key n h j i o g x has) (was owner_of w.actors by a b at refl j i o there)
 
-  locked_part : AreLocked w.writes.history t after
+  locked_part : AreLocked w.opened w.writes.history t after
   locked_part = record {
     prepared_names = λ q u. some_inserted w.locks.names name (Some a.participant.client) _ (s.locks.prepared_names q u);
     prepared_keys = s.locks.prepared_keys;
-    had = each_apart owner_of w.actors by a b at refl (IsOwner w.writes.history t) own_owner (λ j i o elsewhere there. other_owner o (s.locks.had j i o there));
+    had = each_apart owner_of w.actors by a b at refl (IsOwner w.opened w.writes.history t) own_owner (λ j i o elsewhere there. other_owner o (s.locks.had j i o there));
     apart = owners_apart w.actors by a b at refl had_or_new (λ c h. inl h) s.locks.apart;
     names_had = names_had;
     names_left = names_left;

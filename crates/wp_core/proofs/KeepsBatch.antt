@@ -66,7 +66,7 @@ sets_batch w by a name t batch at needs s =
     let live = owner_lives w by a name t at has s in
     let is = same_owner_after a.participant name t batch has in
     let b : Actor = record (forgets w.writes.history (length w.cache) (set_batch name t batch) a) { participant = after a.participant name t batch has } in
-    all_parts w (set w.actors by b) (tables_of w s) (views_still w by a b at refl s) (locked_still w.actors by a b at refl is w.writes.history w.locks s.locks) (pasts_still w by a b at refl s) (turns_still w by a b at refl s)
+    all_parts w (set w.actors by b) (tables_of w s) (views_still w by a b at refl s) (locked_still w.actors by a b at refl is w.opened w.writes.history w.locks s.locks) (pasts_still w by a b at refl s) (turns_still w by a b at refl s)
     (readers_still w by a b at refl s)
     (notes_stay w by a b at (set_batch name t batch) w.holders (SoIn w) refl (λ fact left m. record { guarded = m.guarded; is_so = so_same w a.participant (after a.participant name t batch has) is fact m.is_so }) (λ j x fact ne there m. m) s)
     (led_still w by a b at refl s) (idle_set w by a b at (λ dead. absurd (live dead)) s)

@@ -59,12 +59,12 @@ module _ (w : World) (by : ℕ) (a : Actor) (key : List ℕ) (at : get_elem? w.a
       let same = s.locks.apart.direct j i by 0 o (owner_of a.participant) key there (mine owner_of w.actors by a a at refl) (h ∙ ap (λ (z : List ℕ). Some z) q) has in
       ⊎_elim (λ (ne : j ≢ by). ne same.0) (λ (ne : i ≢ 0). ne same.1) elsewhere
 
-  other_owner : (j i : ℕ) (o : Owner) → ((j ≢ by) ⊎ (i ≢ 0)) → IsParticipantAt (participants owner_of w) j i o → IsOwner w.writes.history t o
+  other_owner : (j i : ℕ) (o : Owner) → ((j ≢ by) ⊎ (i ≢ 0)) → IsParticipantAt (participants owner_of w) j i o → IsOwner w.opened w.writes.history t o
   other_owner j i o elsewhere there =
       let k = s.locks.had j i o there in
       record { names = k.names; keys = λ name x c h held. txn_still c name (k.keys name x c h held); direct = λ c h. else_removed w.locks.keys key c (not_theirs j i o c elsewhere there h) ∙ k.direct c h; came = k.came }
 
-  own_owner : IsOwner w.writes.history t (owner_of p)
+  own_owner : IsOwner w.opened w.writes.history t (owner_of p)
   own_owner =
       let old = s.locks.had by 0 (owner_of a.participant) (mine owner_of w.actors by a a at refl) in
       record { names = old.names; keys = λ name x c h held. txn_still c name (old.keys name x c h held); direct = λ c h. absurd cc; came = old.came }
@@ -82,11 +82,11 @@ module _ (w : World) (by : ℕ) (a : Actor) (key : List ℕ) (at : get_elem? w.a
   direct_still : (k c : List ℕ) → (k ≡ key → ⊥) → IsDirectOf (participants owner_of w) k c → IsDirectOf after k c
   direct_still k c ne d = direct_kept w.actors by a b at refl refl (λ x k. k) k c (λ h. absurd (ne (other_key k h))) d
 
-  locked_part : AreLocked w.writes.history t after
+  locked_part : AreLocked w.opened w.writes.history t after
   locked_part = record {
     prepared_names = s.locks.prepared_names;
     prepared_keys = λ q k u h. txn_still k (name_at w.writes.history q) (s.locks.prepared_keys q k u h);
-    had = each_apart owner_of w.actors by a b at refl (IsOwner w.writes.history t) own_owner other_owner;
+    had = each_apart owner_of w.actors by a b at refl (IsOwner w.opened w.writes.history t) own_owner other_owner;
     apart = owners_apart w.actors by a b at refl (λ n x h. inl (x, h)) (λ c h. inl (had_direct c h)) s.locks.apart;
     names_had = λ n c h. name_still n c (s.locks.names_had n c h);
     names_left = s.locks.names_left;

@@ -48,10 +48,10 @@ module _ (w : World) (by : ℕ) (a : Actor) (key : List ℕ) (at : get_elem? w.a
   own_after : IsParticipantAt after by 0 (owner_of p)
   own_after = mine_now owner_of w.actors by a b at refl
 
-  own_owner : IsOwner w.writes.history t (owner_of p)
+  own_owner : IsOwner w.opened w.writes.history t (owner_of p)
   own_owner =
       let old = s.locks.had by 0 (owner_of a.participant) (mine owner_of w.actors by a a at refl) in
-      record { names = old.names; keys = λ name x c h held. held_still w key (Client client) free c (Txn name) (old.keys name x c h held); direct = λ c h. let same : key ≡ c = cc in at_inserted w.locks.keys key (Client client) c (sym same); came = λ name x c h held. came_still w.writes.history a.participant.past p.past (λ x k. in_front x a.participant.past (e ∷ []) k) name c (old.came name x c h held) }
+      record { names = old.names; keys = λ name x c h held. held_still w key (Client client) free c (Txn name) (old.keys name x c h held); direct = λ c h. let same : key ≡ c = cc in at_inserted w.locks.keys key (Client client) c (sym same); came = λ name x c h held. came_still w.opened w.writes.history a.participant.past p.past (λ x k. in_front x a.participant.past (e ∷ []) k) name c (old.came name x c h held) }
 
   none_had : (j i : ℕ) (o : Owner) (k : List ℕ) → IsParticipantAt (participants owner_of w) j i o → o.direct ≡ Some k → k ≡ key → ⊥
   none_had j i o k there h q = let f : None ≡ Some (Client o.client) = sym free ∙ ap (finite.get w.locks.keys) (sym q) ∙ (s.locks.had j i o there).direct k h in absurd cc
@@ -76,11 +76,11 @@ module _ (w : World) (by : ℕ) (a : Actor) (key : List ℕ) (at : get_elem? w.a
   txn_held : (k n : List ℕ) → finite.get t.keys k ≡ Some (Txn n) → finite.get w.locks.keys k ≡ Some (Txn n)
   txn_held k n h = ⊎_elim (λ (g : (k ≡ key) × (Client client ≡ Txn n)). let f = g.1 in absurd cc) (λ (g : (k ≡ key → ⊥) × (finite.get w.locks.keys k ≡ Some (Txn n))). g.1) (held_now w key (Client client) free k (Txn n) h)
 
-  locked_part : AreLocked w.writes.history t after
+  locked_part : AreLocked w.opened w.writes.history t after
   locked_part = record {
     prepared_names = s.locks.prepared_names;
     prepared_keys = λ q k u h. held_still w key (Client client) free k (Txn (name_at w.writes.history q)) (s.locks.prepared_keys q k u h);
-    had = each_apart owner_of w.actors by a b at refl (IsOwner w.writes.history t) own_owner (λ j i o elsewhere there. owner_locked w key (Client client) free w.writes.history o (s.locks.had j i o there));
+    had = each_apart owner_of w.actors by a b at refl (IsOwner w.opened w.writes.history t) own_owner (λ j i o elsewhere there. owner_locked w key (Client client) free w.opened w.writes.history o (s.locks.had j i o there));
     apart = owners_apart w.actors by a b at refl (λ n x h. inl (x, h)) (λ c h. inr (is_new c h)) s.locks.apart;
     names_had = λ n c h. name_still n c (s.locks.names_had n c h);
     names_left = s.locks.names_left;

@@ -86,14 +86,14 @@ module _ (w : World) (by : ℕ) (a : Actor) (name : List ℕ) (x0 : Transaction)
   keeps_others : KeepsOthers w name t
   keeps_others = record { names = λ n ne. refl; transactions = txn_still; directs = direct_held }
 
-  own_owner : IsOwner w.writes.history t (owner_of p)
+  own_owner : IsOwner w.opened w.writes.history t (owner_of p)
   own_owner =
       let old = s.locks.had by 0 (owner_of a.participant) (mine owner_of w.actors by a a at refl) in
       record {
         names = λ n x h. let y = had_name w by a name x0 x1 at has n x h in old.names n y.0 y.1;
         keys = each_key w by a name x0 x1 at has (λ n c. finite.get t.keys c ≡ Some (Txn n)) (λ c in_it. let g = was_in x0.locked key c in_it in other_still c (Txn name) g.0 (old.keys name x0 c has g.1)) (λ n x c ne h held. txn_still c n ne (old.keys n x c h held));
         direct = λ c h. direct_held c client (old.direct c h);
-        came = each_key w by a name x0 x1 at has (λ n c. CameToKey w.writes.history p.past n c) (λ c in_it. old.came name x0 c has (was_in x0.locked key c in_it).1) (λ n x c ne h held. old.came n x c h held);
+        came = each_key w by a name x0 x1 at has (λ n c. CameToKey w.opened w.writes.history p.past n c) (λ c in_it. old.came name x0 c has (was_in x0.locked key c in_it).1) (λ n x c ne h held. old.came n x c h held);
       }
 
   name_still : (n c : List ℕ) → IsNameOf (participants owner_of w) n c → IsNameOf after n c
@@ -116,11 +116,11 @@ module _ (w : World) (by : ℕ) (a : Actor) (name : List ℕ) (x0 : Transaction)
   prepared_keys : (q : ℕ) (k : List ℕ) → is_undecided w.writes.history q ≡ true → is_changed (batch_at w.writes.history q) k ≡ true → finite.get t.keys k ≡ Some (Txn (name_at w.writes.history q))
   prepared_keys q k u h = txn_still k (name_at w.writes.history q) (λ same. none_named w.writes.history name q unprepared_one u same) (s.locks.prepared_keys q k u h)
 
-  locked_part : AreLocked w.writes.history t after
+  locked_part : AreLocked w.opened w.writes.history t after
   locked_part = record {
     prepared_names = s.locks.prepared_names;
     prepared_keys = prepared_keys;
-    had = each_apart owner_of w.actors by a b at refl (IsOwner w.writes.history t) own_owner (others_own w by a name x0 at has s t keeps_others);
+    had = each_apart owner_of w.actors by a b at refl (IsOwner w.opened w.writes.history t) own_owner (others_own w by a name x0 at has s t keeps_others);
     apart = owners_apart w.actors by a b at refl (λ n x h. inl (had_name w by a name x0 x1 at has n x h)) (λ c h. inl h) s.locks.apart;
     names_had = λ n c h. name_still n c (s.locks.names_had n c h);
     names_left = s.locks.names_left;

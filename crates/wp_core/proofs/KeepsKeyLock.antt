@@ -67,9 +67,9 @@ module _ (w : World) (by : ℕ) (a : Actor) (name : List ℕ) (x0 : Transaction)
   abbrev after : List (List Owner)
   after = owners_after w by a (lock_key name x0 key) p t
 
-  own_owner : IsOwner w.writes.history t (owner_of p)
+  own_owner : IsOwner w.opened w.writes.history t (owner_of p)
   own_owner =
-      let still = came_still w.writes.history a.participant.past p.past (λ x k. in_front x a.participant.past (e ∷ []) k) in
+      let still = came_still w.opened w.writes.history a.participant.past p.past (λ x k. in_front x a.participant.past (e ∷ []) k) in
       let old = s.locks.had by 0 (owner_of a.participant) (mine owner_of w.actors by a a at refl) in
       record {
         names = λ n x h. let y = had_name w by a name x0 x1 at has n x h in old.names n y.0 y.1;
@@ -79,7 +79,7 @@ module _ (w : World) (by : ℕ) (a : Actor) (name : List ℕ) (x0 : Transaction)
             (λ (ne : c ≡ key → ⊥). held_still w key (Txn name) free c (Txn name) (old.keys name x0 c has (was_in x0.locked key c ne in_it))) (is_word_same c key))
             (λ n x c ne h held. held_still w key (Txn name) free c (Txn n) (old.keys n x c h held));
         direct = λ c h. held_still w key (Txn name) free c (Client a.participant.client) (old.direct c h);
-        came = each_key w by a name x0 x1 at has (λ n c. CameToKey w.writes.history p.past n c)
+        came = each_key w by a name x0 x1 at has (λ n c. CameToKey w.opened w.writes.history p.past n c)
             (λ c in_it. ⊎_elim
             (λ (q : c ≡ key). inl (subst (λ (z : List ℕ). IsIn (locked z (Txn name)) p.past) (sym q) (in_last e a.participant.past)))
             (λ (ne : c ≡ key → ⊥). still name c (old.came name x0 c has (was_in x0.locked key c ne in_it))) (is_word_same c key))
@@ -132,11 +132,11 @@ module _ (w : World) (by : ℕ) (a : Actor) (name : List ℕ) (x0 : Transaction)
       (λ (g : (k ≡ key) × (Txn name ≡ Client c)). let f = g.1 in absurd cc)
       (λ (g : (k ≡ key → ⊥) × (finite.get w.locks.keys k ≡ Some (Client c))). direct_still k c (s.locks.keys_direct k c g.1)) (held_now w key (Txn name) free k (Client c) h)
 
-  locked_part : AreLocked w.writes.history t after
+  locked_part : AreLocked w.opened w.writes.history t after
   locked_part = record {
     prepared_names = s.locks.prepared_names;
     prepared_keys = λ q k u h. held_still w key (Txn name) free k (Txn (name_at w.writes.history q)) (s.locks.prepared_keys q k u h);
-    had = each_apart owner_of w.actors by a b at refl (IsOwner w.writes.history t) own_owner (λ j i o elsewhere there. owner_locked w key (Txn name) free w.writes.history o (s.locks.had j i o there));
+    had = each_apart owner_of w.actors by a b at refl (IsOwner w.opened w.writes.history t) own_owner (λ j i o elsewhere there. owner_locked w key (Txn name) free w.opened w.writes.history o (s.locks.had j i o there));
     apart = owners_apart w.actors by a b at refl (λ n x h. inl (had_name w by a name x0 x1 at has n x h)) (λ c h. inl h) s.locks.apart;
     names_had = λ n c h. name_still n c (s.locks.names_had n c h);
     names_left = s.locks.names_left;

@@ -1,5 +1,6 @@
 -- Taking the name of an undecided prepare keeps every part of a sound world.
-use Rattle.std.proofs.Common.{◌≡◌, ◌&&◌, ℕ, Bool, true, false, true≢false, List, length, inr, refl, sym, ap, ◌∙◌, Option, Some, None, is_some}
+use Rattle.std.proofs.Common.{◌≡◌, ◌&&◌, ℕ, Bool, true, false, true≢false, List, length, inr, refl, sym, subst, ap, ◌∙◌, arith, Option, Some, None, is_some}
+use Rattle.std.proofs.Math.Seq.{take-length}
 use mathlib.Core.Option.{some}
 use lib.ListN.{get_elem?}
 use Rattle.std.specs.Prelude.{unwrap_or}
@@ -14,13 +15,12 @@ use Rattle.std.proofs.lemmas.Cmp.{nat_list_cmp_total}
 use Rattle.std.proofs.lemmas.Map.Views.{any-filter_same}
 use Rattle.std.proofs.lemmas.Slice.Eq.{bytes_eq-Decides}
 use Rattle.wp_model.specs.Batch.{key_cmp}
-use Rattle.wp_model.specs.History.{is_changed, name_at, batch_at, named}
+use Rattle.wp_model.specs.declared.entry.Entry.{Entry}
+use Rattle.wp_model.specs.History.{is_changed, batch_at, named}
 use Rattle.wp_model.specs.Holder.{is_same}
 use Rattle.wp_model.specs.declared.holder.Holder.{Holder}
 use Rattle.wp_model.specs.declared.holder.Holder.TheVariants.{Txn, Client}
 use Rattle.wp_model.specs.LockTables.{LockTables}
-use Rattle.wp_model.proofs.Entries.{undecided_within}
-use Rattle.wp_model.proofs.Found.{found_named}
 use Rattle.wp_model.proofs.Words.{same_word}
 use Rattle.wp_core.specs.Views.{took}
 use Rattle.wp_core.specs.World.{Transaction, Actor, World}
@@ -29,8 +29,9 @@ use Rattle.wp_core.specs.Changes.{is_held_by, keys_of_holder}
 use Rattle.wp_core.specs.Effects.{done}
 use Rattle.wp_core.specs.Needs.{Needs}
 use Rattle.wp_core.specs.Notes.{forgets}
-use Rattle.wp_core.specs.Sound.Locks.{PrepareHas}
+use Rattle.wp_core.specs.Sound.Locks.{HasKeyAt, PrepareHas}
 use Rattle.wp_core.specs.IsSound.{IsSound}
+use Rattle.wp_core.proofs.KeepsSeen.{shorter}
 use Rattle.wp_core.proofs.LocksChange.{locks_change}
 use Rattle.wp_core.proofs.GainsTransaction.{Gains, p, t, gained_parts}
 use Rattle.wp_core.proofs.Tests.{both}
@@ -71,14 +72,12 @@ taken_one w name q left s = record {
 }
   where
     -- a key that is held for it is the undecided prepare's
-    prepare_has : (k : List ℕ) → finite.get w.locks.keys k ≡ Some (Txn name) → (o : Option ℕ) → named w.writes.history name ≡ o → PrepareHas w.writes.history name k
+    prepare_has : (k : List ℕ) → finite.get w.locks.keys k ≡ Some (Txn name) → (o : Option ℕ) → named w.writes.history name ≡ o → PrepareHas w.opened w.writes.history name k
     prepare_has k held None is = absurd (true≢false (sym (s.locks.names_left name left) ∙ ap is_some is))
-    prepare_has k held (Some p) is = let found = found_named w.writes.history name p is in (
-      p,
-      (undecided_within w.writes.history p found.0).1,
-      (bytes_eq-Decides (name_at w.writes.history p) name).0 found.1,
-      ap (λ (o : Option ℕ). is_changed (batch_at w.writes.history (unwrap_or o 0)) k) (sym is) ∙ s.locks.keys_left k name left held,
-    )
+    prepare_has k held (Some p) is =
+        let changed : is_changed (batch_at w.writes.history p) k ≡ true = ap (λ (o : Option ℕ). is_changed (batch_at w.writes.history (unwrap_or o 0)) k) (sym is) ∙ s.locks.keys_left k name left held in
+        let now = subst (λ (h : List Entry). (q : ℕ) × (named h name ≡ Some q) × HasKeyAt h q (Some k)) (sym (take-length w.writes.history)) (p, is, changed) in
+        (length w.writes.history, (shorter w.writes.history w.opened s.history.grown, omega arith, now))
 
 pub takes_name : (w : World) (by : ℕ) (a : Actor) (name : List ℕ) (q : ℕ) → get_elem? w.actors by ≡ some a → Needs w by a (take_name name q) → IsSound w
     → IsSound (done w by (forgets w.writes.history (length w.cache) (take_name name q) a) (take_name name q))

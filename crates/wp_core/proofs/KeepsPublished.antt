@@ -70,7 +70,7 @@ module _ (w : World) (by : ℕ) (a : Actor) (entry : Entry) (others : List Entry
   in_memory key value q = n.versions key value (ap (λ (z : List Entry). version_in (next_of z) key) n.pending ∙ q)
 
   opened_within : length w.opened ≤ length w.writes.history
-  opened_within = let g = s.history.grown in let l = length-append w.opened g.0 in let q : length w.writes.history ≡ length (w.opened ++ g.0) = ap length g.1 in omega (arith, l, q)
+  opened_within = shorter w.writes.history w.opened s.history.grown
 
   now_sound : IsSound (done w by (forgets w.writes.history (length w.cache) (store_published entry others) a) (store_published entry others))
   now_sound =
@@ -92,8 +92,8 @@ module _ (w : World) (by : ℕ) (a : Actor) (entry : Entry) (others : List Entry
         registrations = kept_part w by a b at (participants_of registered_of) (AreRegistered grown w.snapshots) refl (registered_part w.writes.history entry n.legal w.snapshots (participants registered_of w) s.registrations);
         viewed = each_person_set view_of HasSeen w.actors by a b at (λ r h. let low = s.viewed by 0 (view_of a.participant) (mine view_of w.actors by a a at refl) r h in let more = shorter w.writes.history a.participant.seen (s.seen by 0 a.participant.seen (mine seen_of w.actors by a a at refl)) in let l = length-append w.writes.history (entry ∷ []) in omega (arith, low, more, l)) refl s.viewed;
       })
-      (kept_part w by a b at (participants_of owner_of) (AreLocked grown w.locks) refl
-      (locks_part w.writes.history entry n.legal w.locks (participants owner_of w) (λ name of. transaction_live w by a entry others at n s name of) (λ name batch key is changed. prepares_held w by a entry others at n s name batch key is changed) s.locks))
+      (kept_part w by a b at (participants_of owner_of) (AreLocked w.opened grown w.locks) refl
+      (locks_part w.writes.history entry n.legal w.opened w.locks (participants owner_of w) (λ name of. transaction_live w by a entry others at n s name of) (λ name batch key is changed. prepares_held w by a entry others at n s name batch key is changed) s.locks))
       (pasts_kept w by a b at w.opened (with_entry w.writes entry others) w.locks w.first_edit w.installed refl (record {
         holders = holders_part w.writes.history entry n.legal w.opened w.locks (participants past_of w) s.holders;
         board = board_part w.writes.history entry n.legal w.locks (participants past_of w) s.board;

@@ -20,8 +20,8 @@ use Rattle.wp_core.specs.Needs.{Needs}
 use Rattle.wp_core.specs.Conditions.{Accounts, IsHolder, IsSelf}
 use Rattle.wp_core.specs.Notes.{forgets}
 use Rattle.wp_core.specs.Sound.Actors.{seen_of, participants_of, IsParticipantAt}
-use Rattle.wp_core.specs.Sound.Locks.{Owner, owner_of, Has, PrepareHas}
-use Rattle.wp_core.specs.Sound.Pasts.{past_of, IsPast, HasDone, HasKeyAt, HasBegun, MadeHolder, IsAccounted, WasInstalled, tables_due, OtherCompacts}
+use Rattle.wp_core.specs.Sound.Locks.{Owner, owner_of, Has, HasKeyAt, PrepareHas}
+use Rattle.wp_core.specs.Sound.Pasts.{past_of, IsPast, HasDone, HasBegun, MadeHolder, IsAccounted, WasInstalled, tables_due, OtherCompacts}
 use Rattle.wp_core.specs.Sound.Views.{noter_of}
 use Rattle.wp_core.specs.IsSound.{IsSound, participants}
 use Rattle.wp_core.proofs.Frames.{at_map}
@@ -42,7 +42,7 @@ so_past w a past fact k = k
 
 -- what an event has to meet that is only remembered, by its kind
 abbrev pub MayRemember : World → ℕ → Event → Type 0
-MayRemember w by (found key holder seen account) = IsAccounted w.writes.history (participants past_of w) by 0 key holder seen account
+MayRemember w by (found key holder seen account) = IsAccounted w.opened w.writes.history (participants past_of w) by 0 key holder seen account
 MayRemember w by (heard label n) = (is_some (finite.get w.locks.labels label) ≡ true) × IsPast (participants past_of w) (told label n)
 MayRemember w by (stopped n) = (w.writes.closed ≡ true) × (n ≡ length w.writes.history)
 MayRemember w by (found_edit n tables due halted) = WasInstalled w.first_edit (participants past_of w) n × (tables < due → OtherCompacts (participants past_of w) by 0) × (halted ≡ true → (w.installed.halted ≡ true) × (n ≡ w.installed.last.flushed))
@@ -61,7 +61,7 @@ remembering w by a e step at live may s =
     let b : Actor = remembers (forgets w.writes.history (length w.cache) step a) e in
     let quiet = remembered_quietly w by e may in
     let is : (x : Event) → e ≡ x → MayRemember w by x = λ x q. subst (MayRemember w by) q may in
-    all_parts w (set w.actors by b) (tables_of w s) (views_still w by a b at refl s) (past_locked w.actors by a b e at refl refl w.writes.history w.locks s.locks) (record {
+    all_parts w (set w.actors by b) (tables_of w s) (views_still w by a b at refl s) (past_locked w.actors by a b e at refl refl w.opened w.writes.history w.locks s.locks) (record {
       holders = holders_more w.actors by a b e at refl refl w.opened w.writes.history w.locks (λ key holder seen account q. is (found key holder seen account) q) s.holders;
       board = board_more w.actors by a b e at refl refl (world.published w) w.locks
           (λ label n q. ⊎_elim (λ (r : e ≡ told label n). absurd (is (told label n) r)) (λ (r : e ≡ heard label n). (is (heard label n) r).0) q) (λ label n q. (is (heard label n) q).1) (λ label n q. is (told label n) q) s.board;
@@ -125,13 +125,13 @@ begun_by w j i o name x s there has =
 
 -- ... and locked each key that is held for it, or took it with a prepare that has the key; and one that has a direct write of the
 -- key locked it
-self_made : (w : World) (j i : ℕ) (o : Owner) (key : Option (List ℕ)) (holder : Holder) → IsSound w → IsHolder w key holder → IsParticipantAt (participants owner_of w) j i o → IsSelf o key holder → MadeHolder w.writes.history (participants past_of w) j i key holder
+self_made : (w : World) (j i : ℕ) (o : Owner) (key : Option (List ℕ)) (holder : Holder) → IsSound w → IsHolder w key holder → IsParticipantAt (participants owner_of w) j i o → IsSelf o key holder → MadeHolder w.opened w.writes.history (participants past_of w) j i key holder
 self_made w j i o None (Txn name) s held there is = begun_by w j i o name is.0 s there is.1
 self_made w j i o (Some key) (Txn name) s held there is =
     let past = past_there w.actors j i o there in
     ⊎_elim
     (λ (k : IsIn (locked key (Txn name)) o.past). inl (begun_by w j i o name is.0 s there is.1, (o.past, past, k)))
-    (λ (k : IsIn (took name) o.past × PrepareHas w.writes.history name key). inr ((o.past, past, k.0), k.1))
+    (λ (k : IsIn (took name) o.past × PrepareHas w.opened w.writes.history name key). inr ((o.past, past, k.0), k.1))
     ((s.locks.had j i o there).came name is.0 key is.1 (s.locks.keys_known key name held j i o there is.0 is.1))
 self_made w j i o (Some key) (Client client) s held there is =
     let its = (s.locks.had j i o there).direct key is.1 in
@@ -148,7 +148,7 @@ left_key : (w : World) (key : Option (List ℕ)) (name : List ℕ) (p : ℕ) →
 left_key w None name p left is held s = tt
 left_key w (Some key) name p left is held s = ap (λ (o : Option ℕ). is_changed (batch_at w.writes.history (unwrap_or o 0)) key) (sym is) ∙ s.locks.keys_left key name left held
 
-accounts : (w : World) (by : ℕ) (a : Actor) (key : Option (List ℕ)) (holder : Holder) (account : Account) → get_elem? w.actors by ≡ some a → IsHolder w key holder → IsSound w → Accounts w by a key holder account → IsAccounted w.writes.history (participants past_of w) by 0 key holder (length a.participant.seen) account
+accounts : (w : World) (by : ℕ) (a : Actor) (key : Option (List ℕ)) (holder : Holder) (account : Account) → get_elem? w.actors by ≡ some a → IsHolder w key holder → IsSound w → Accounts w by a key holder account → IsAccounted w.opened w.writes.history (participants past_of w) by 0 key holder (length a.participant.seen) account
 accounts w by a key holder own at is s k = self_made w by 0 (owner_of a.participant) key holder s is (mine owner_of w.actors by a a at refl) k
 accounts w by a key holder another at is s k = (k.at, k.place, k.apart, self_made w k.at k.place k.participant key holder s is k.there k.is)
 accounts w by a key (Txn name) (prepare_at n) at is s k =

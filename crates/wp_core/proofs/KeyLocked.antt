@@ -29,8 +29,8 @@ module _ (w : World) (key : List ℕ) (holder : Holder) (free : finite.get w.loc
   pub held_now : (k : List ℕ) (h : Holder) → finite.get t.keys k ≡ Some h → ((k ≡ key) × (holder ≡ h)) ⊎ ((k ≡ key → ⊥) × (finite.get w.locks.keys k ≡ Some h))
   held_now k h is = now_inserted w.locks.keys key holder h k is
 
-  pub owner_locked : (history : List Entry) (o : Owner) → IsOwner history w.locks o → IsOwner history t o
-  owner_locked history o k = record { names = k.names; keys = λ n x c h is. held_still c (Txn n) (k.keys n x c h is); direct = λ c h. held_still c (Client o.client) (k.direct c h); came = k.came }
+  pub owner_locked : (opened history : List Entry) (o : Owner) → IsOwner opened history w.locks o → IsOwner opened history t o
+  owner_locked opened history o k = record { names = k.names; keys = λ n x c h is. held_still c (Txn n) (k.keys n x c h is); direct = λ c h. held_still c (Client o.client) (k.direct c h); came = k.came }
 
   pub so_locked : (q : Participant) (fact : Fact) → SoIn w q fact → SoWith w t q fact
   so_locked q (undecided_at n m) k = (k.0, k.1, k.2, λ c h. held_still c (Txn n) (k.3 c h))

@@ -44,7 +44,7 @@ module _ (w : World) (by : ℕ) (a : Actor) (step : Step) (p : Participant) (t :
   owners_after = map (participants_of owner_of) actors_after
 
   pub record LocksParts : Type 0 where
-    pub locks_part : AreLocked w.writes.history t owners_after
+    pub locks_part : AreLocked w.opened w.writes.history t owners_after
     pub pasts_part : PastParts w.opened w.writes t w.first_edit w.installed actors_after
     pub mine : (fact : Fact) → not (ends w.writes.history (length w.cache) step fact) ≡ true → SoIn w a.participant fact → SoWith w t (record a.participant { transactions = p.transactions; direct = p.direct; past = p.past }) fact
     pub others : (j : ℕ) (q : Participant) (fact : Fact) → j ≢ by → IsParticipantAt (participants owner_of w) j 0 (owner_of q) → SoIn w q fact → SoWith w t q fact

@@ -215,7 +215,7 @@ module _ (opened : List Entry) (cache : List ℕ) (flag : ℕ) (logged : Bool) (
     locks = record {
       prepared_names = is_live;
       prepared_keys = λ p key u changed. locks.keys key ∙ ap (prepare_holding opened) (holder_is opened legal p key u changed);
-      had = λ j i o at. subst (IsOwner opened t) (one_participant (owner_of (new_participant client opened)) j i o at)
+      had = λ j i o at. subst (IsOwner opened opened t) (one_participant (owner_of (new_participant client opened)) j i o at)
           record { names = λ name x e. absurd (no_transaction name x e); keys = λ name x key e _. absurd (no_transaction name x e); direct = λ key e. let q : None ≡ Some key = e in absurd (cc); came = λ name x key e _. absurd (no_transaction name x e) };
       apart = record {
         names = λ j i k l o p name x y at _ e _. absurd (no_transaction name x (ap (λ (z : Owner). finite.get z.transactions name) (one_participant (owner_of (new_participant client opened)) j i o at) ∙ e));

@@ -28,7 +28,7 @@ module _ (w : World) (by : ℕ) (a : Actor) (name : List ℕ) (x0 : Transaction)
       ⊎_elim (λ (ne : j ≢ by). ne same.0) (λ (ne : i ≢ 0). ne same.1) elsewhere
 
   module _ (t : LockTables) (k : KeepsOthers w name t) where
-    pub others_own : (j i : ℕ) (o : Owner) → ((j ≢ by) ⊎ (i ≢ 0)) → IsParticipantAt (participants owner_of w) j i o → IsOwner w.writes.history t o
+    pub others_own : (j i : ℕ) (o : Owner) → ((j ≢ by) ⊎ (i ≢ 0)) → IsParticipantAt (participants owner_of w) j i o → IsOwner w.opened w.writes.history t o
     others_own j i o elsewhere there =
         let was = s.locks.had j i o there in
         record {

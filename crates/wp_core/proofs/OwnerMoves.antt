@@ -13,9 +13,9 @@ use Rattle.wp_core.specs.Sound.Locks.{Owner, owner_of, Has, Began, IsNameOf, IsD
 use Rattle.wp_core.proofs.AllParticipants.{still, at_after, who_was, still_apart}
 
 -- how one came to a key stays so as its past grows
-pub came_still : (history : List Entry) (past more : List Event) → ((e : Event) → IsIn e past → IsIn e more) → (name key : List ℕ) → CameToKey history past name key → CameToKey history more name key
-came_still history past more grew name key (inl k) = inl (grew (locked key (Txn name)) k)
-came_still history past more grew name key (inr (k, has)) = inr (grew (took name) k, has)
+pub came_still : (opened history : List Entry) (past more : List Event) → ((e : Event) → IsIn e past → IsIn e more) → (name key : List ℕ) → CameToKey opened history past name key → CameToKey opened history more name key
+came_still opened history past more grew name key (inl k) = inl (grew (locked key (Txn name)) k)
+came_still opened history past more grew name key (inr (k, has)) = inr (grew (took name) k, has)
 
 module _ (xs : List Actor) (by : ℕ) (a b : Actor) (at : get_elem? xs by ≡ some a) (same : b.joined ≡ a.joined) where
   abbrev before : List (List Owner)

@@ -38,12 +38,12 @@ module _ (xs : List Actor) (by : ℕ) (a b : Actor) (at : get_elem? xs by ≡ so
   abbrev after : List (List Owner)
   after = map (participants_of owner_of) (set xs by b)
 
-  owner_still : (history : List Entry) (t : LockTables) (o p : Owner) → IsSameOwner o p → IsOwner history t o → IsOwner history t p
-  owner_still history t o p q k = record {
+  owner_still : (opened history : List Entry) (t : LockTables) (o p : Owner) → IsSameOwner o p → IsOwner opened history t o → IsOwner opened history t p
+  owner_still opened history t o p q k = record {
     names = λ name x h. let u = q.had name x h in k.names name u.0 u.1 ∙ ap (λ (c : List ℕ). Some (Some c)) (sym q.client);
     keys = λ name x key h held. let u = q.had name x h in k.keys name u.0 key u.1 (subst (λ (z : set_of.FinSet key_cmp). set_of.contains z key ≡ true) (sym u.2) held);
     direct = λ key h. k.direct key (sym q.direct ∙ h) ∙ ap (λ (c : List ℕ). Some (Client c)) (sym q.client);
-    came = λ name x key h held. let u = q.had name x h in came_still history o.past p.past q.past name key (k.came name u.0 key u.1 (subst (λ (z : set_of.FinSet key_cmp). set_of.contains z key ≡ true) (sym u.2) held));
+    came = λ name x key h held. let u = q.had name x h in came_still opened history o.past p.past q.past name key (k.came name u.0 key u.1 (subst (λ (z : set_of.FinSet key_cmp). set_of.contains z key ≡ true) (sym u.2) held));
   }
 
   was_there : (j i : ℕ) (p : Owner) → IsParticipantAt after j i p → (o : Owner) × IsParticipantAt before j i o × IsSameOwner o p
@@ -55,11 +55,11 @@ module _ (xs : List Actor) (by : ℕ) (a b : Actor) (at : get_elem? xs by ≡ so
       let o = was_there j i p there in let u = o.2.had name x has in
       subst (λ (z : set_of.FinSet key_cmp). set_of.contains z key ≡ true) u.2 (k j i o.0 o.1 u.0 u.1)
 
-  pub locked_still : (history : List Entry) (t : LockTables) → AreLocked history t before → AreLocked history t after
-  locked_still history t k = record {
+  pub locked_still : (opened history : List Entry) (t : LockTables) → AreLocked opened history t before → AreLocked opened history t after
+  locked_still opened history t k = record {
     prepared_names = k.prepared_names;
     prepared_keys = k.prepared_keys;
-    had = λ j i p there. let o = was_there j i p there in owner_still history t o.0 p o.2 (k.had j i o.0 o.1);
+    had = λ j i p there. let o = was_there j i p there in owner_still opened history t o.0 p o.2 (k.had j i o.0 o.1);
     apart = owners_apart xs by a b at same (λ name x h. let y = is.had name x h in inl (y.0, y.1)) (λ key h. inl (sym is.direct ∙ h)) k.apart;
     names_had = λ name client h. name_kept xs by a b at same is.client is.past name client (λ y q. let x = is.has name y q in (x.0, x.1)) (k.names_had name client h);
     names_left = k.names_left;
@@ -70,8 +70,8 @@ module _ (xs : List Actor) (by : ℕ) (a b : Actor) (at : get_elem? xs by ≡ so
   }
 
 -- one that has the same of names and keys remembers one event more
-pub past_locked : (xs : List Actor) (by : ℕ) (a b : Actor) (e : Event) → get_elem? xs by ≡ some a → b.joined ≡ a.joined → owner_of b.participant ≡ owner_of (record a.participant { past = a.participant.past ++ e ∷ [] }) → (history : List Entry) (t : LockTables)
-    → AreLocked history t (map (participants_of owner_of) xs) → AreLocked history t (map (participants_of owner_of) (set xs by b))
-past_locked xs by a b e at same is history t k =
+pub past_locked : (xs : List Actor) (by : ℕ) (a b : Actor) (e : Event) → get_elem? xs by ≡ some a → b.joined ≡ a.joined → owner_of b.participant ≡ owner_of (record a.participant { past = a.participant.past ++ e ∷ [] }) → (opened history : List Entry) (t : LockTables)
+    → AreLocked opened history t (map (participants_of owner_of) xs) → AreLocked opened history t (map (participants_of owner_of) (set xs by b))
+past_locked xs by a b e at same is opened history t k =
     let grown = same_transactions (owner_of a.participant) (a.participant.past ++ e ∷ []) (λ x there. in_front x a.participant.past (e ∷ []) there) in
-    locked_still xs by a b at same (subst (IsSameOwner (owner_of a.participant)) (sym is) grown) history t k
+    locked_still xs by a b at same (subst (IsSameOwner (owner_of a.participant)) (sym is) grown) opened history t k

@@ -37,8 +37,8 @@ none_has p name x none h =
 none_direct : (p : Participant) (key : List ℕ) → IsNone p → p.direct ≡ Some key → ⊥
 none_direct p key none h = let q : None ≡ Some key = sym (ap (λ (z : Participant). z.direct) none) ∙ h in absurd (cc)
 
-none_owner : (history : List Entry) (t : LockTables) (p : Participant) → IsNone p → IsOwner history t (owner_of p)
-none_owner history t p none = record {
+none_owner : (opened history : List Entry) (t : LockTables) (p : Participant) → IsNone p → IsOwner opened history t (owner_of p)
+none_owner opened history t p none = record {
   names = λ name x h. absurd (none_has p name x none h);
   keys = λ name x key h held. absurd (none_has p name x none h);
   direct = λ key h. absurd (none_direct p key none h);
@@ -137,13 +137,13 @@ module _ (row place : ℕ → ℕ → ℕ) (history : List Entry) (xs ys : List 
   both_places j i k l o p c d same =
       (sym c.row_is ∙ ((λ u. row (same.0 u) (same.1 u)) ∙ d.row_is), sym c.place_is ∙ ((λ u. place (same.0 u) (same.1 u)) ∙ d.place_is))
 
-  pub locked_moved : (t : LockTables) → AreLocked history t (owners xs) → AreLocked history t (owners ys)
-  locked_moved t k = record {
+  pub locked_moved : (opened : List Entry) (t : LockTables) → AreLocked opened history t (owners xs) → AreLocked opened history t (owners ys)
+  locked_moved opened t k = record {
     prepared_names = k.prepared_names;
     prepared_keys = k.prepared_keys;
     had = λ j i o there. ⊎_elim
         (λ (c : CameOwner j i o). k.had c.at c.at_place o c.there)
-        (λ (n : NoneOwner o). subst (IsOwner history t) n.0.has (none_owner history t n.0.person n.0.none))
+        (λ (n : NoneOwner o). subst (IsOwner opened history t) n.0.has (none_owner opened history t n.0.person n.0.none))
         (came_from row place history xs ys m owner_of j i o there);
     apart = record {
       names = λ j i l n o p name x y here there first second.
@@ -209,18 +209,18 @@ module _ (row place : ℕ → ℕ → ℕ) (history : List Entry) (xs ys : List 
   begun_moved j i name (inl k) = inl (done_moved j i (claimed name) k)
   begun_moved j i name (inr k) = inr (done_moved j i (took name) k)
 
-  made_moved : (j i : ℕ) (key : Option (List ℕ)) (holder : Holder) → MadeHolder history (pasts xs) j i key holder → MadeHolder history (pasts ys) (row j i) (place j i) key holder
-  made_moved j i None (Txn name) k = begun_moved j i name k
-  made_moved j i (Some key) (Txn name) (inl (begun, k)) = inl (begun_moved j i name begun, done_moved j i (locked key (Txn name)) k)
-  made_moved j i (Some key) (Txn name) (inr (k, has)) = inr (done_moved j i (took name) k, has)
-  made_moved j i (Some key) (Client client) k = done_moved j i (locked key (Client client)) k
-  made_moved j i None (Client client) none = absurd none
+  made_moved : (opened : List Entry) (j i : ℕ) (key : Option (List ℕ)) (holder : Holder) → MadeHolder opened history (pasts xs) j i key holder → MadeHolder opened history (pasts ys) (row j i) (place j i) key holder
+  made_moved opened j i None (Txn name) k = begun_moved j i name k
+  made_moved opened j i (Some key) (Txn name) (inl (begun, k)) = inl (begun_moved j i name begun, done_moved j i (locked key (Txn name)) k)
+  made_moved opened j i (Some key) (Txn name) (inr (k, has)) = inr (done_moved j i (took name) k, has)
+  made_moved opened j i (Some key) (Client client) k = done_moved j i (locked key (Client client)) k
+  made_moved opened j i None (Client client) none = absurd none
 
-  accounted_moved : (j i : ℕ) (key : Option (List ℕ)) (holder : Holder) (seen : ℕ) (account : Account) → IsAccounted history (pasts xs) j i key holder seen account → IsAccounted history (pasts ys) (row j i) (place j i) key holder seen account
-  accounted_moved j i key holder seen own k = made_moved j i key holder k
-  accounted_moved j i key holder seen another (l, n, apart, k) = (row l n, place l n, apart_still row place history xs ys m j i l n apart, made_moved l n key holder k)
-  accounted_moved j i key (Txn name) seen (prepare_at n) k = k
-  accounted_moved j i key (Client name) seen (prepare_at n) k = k
+  accounted_moved : (opened : List Entry) (j i : ℕ) (key : Option (List ℕ)) (holder : Holder) (seen : ℕ) (account : Account) → IsAccounted opened history (pasts xs) j i key holder seen account → IsAccounted opened history (pasts ys) (row j i) (place j i) key holder seen account
+  accounted_moved opened j i key holder seen own k = made_moved opened j i key holder k
+  accounted_moved opened j i key holder seen another (l, n, apart, k) = (row l n, place l n, apart_still row place history xs ys m j i l n apart, made_moved opened l n key holder k)
+  accounted_moved opened j i key (Txn name) seen (prepare_at n) k = k
+  accounted_moved opened j i key (Client name) seen (prepare_at n) k = k
 
   key_moved : (opened : List Entry) (key : List ℕ) (holder : Holder) → WasLocked opened (pasts xs) key holder → WasLocked opened (pasts ys) key holder
   key_moved opened key holder (inl k) = inl (past_moved _ k)
@@ -234,8 +234,8 @@ module _ (row place : ℕ → ℕ → ℕ) (history : List Entry) (xs ys : List 
     keys = λ key holder h. key_moved opened key holder (k.keys key holder h);
     found = λ j i key holder seen account h.
         let o = done_was j i (found key holder seen account) h in
-        let is = accounted_moved o.at o.at_place key holder seen account (k.found o.at o.at_place key holder seen account o.done) in
-        subst (λ (n : ℕ). IsAccounted history (pasts ys) n i key holder seen account) o.row_is (subst (λ (n : ℕ). IsAccounted history (pasts ys) (row o.at o.at_place) n key holder seen account) o.place_is is);
+        let is = accounted_moved opened o.at o.at_place key holder seen account (k.found o.at o.at_place key holder seen account o.done) in
+        subst (λ (n : ℕ). IsAccounted opened history (pasts ys) n i key holder seen account) o.row_is (subst (λ (n : ℕ). IsAccounted opened history (pasts ys) (row o.at o.at_place) n key holder seen account) o.place_is is);
   }
 
   pub board_moved : (published : ℕ) (t : LockTables) → IsBoard published t (pasts xs) → IsBoard published t (pasts ys)

@@ -18,8 +18,8 @@ use Rattle.wp_core.specs.Entries.{transaction_of}
 use Rattle.wp_core.specs.Tables.{WriteTable}
 use Rattle.wp_core.specs.Views.{Account, own, another, prepare_at, Event}
 use Rattle.wp_core.specs.Effects.{with_entry}
-use Rattle.wp_core.specs.Sound.Locks.{Owner, PrepareHas, CameToKey, AreLocked}
-use Rattle.wp_core.specs.Sound.Pasts.{HasKeyAt, MadeHolder, IsAccounted, AreHolders, IsBoard, AreFaults}
+use Rattle.wp_core.specs.Sound.Locks.{Owner, HasKeyAt, WasPrepared, PrepareHas, CameToKey, AreLocked}
+use Rattle.wp_core.specs.Sound.Pasts.{MadeHolder, IsAccounted, AreHolders, IsBoard, AreFaults}
 use Rattle.wp_core.proofs.HistoryLaws.{is_equal}
 use Rattle.wp_core.proofs.HistoryGrows.{at_next, grown_length, named_stays, name_at_old, batch_at_grown, undecided_before_or_now}
 use Rattle.wp_core.proofs.Tests.{some_there}
@@ -76,18 +76,23 @@ module _ (history : List Entry) (entry : Entry) (legal : IsLegal (history ++ ent
         named_stays history entry legal name x.0 x.1 (not_decided history entry name x.0 x.1 (λ of. let l = live name of in let q : Some None ≡ Some (Some l.0) = sym left ∙ l.1 in absurd cc)),
       )
 
-  prepare_grows : (name key : List ℕ) → PrepareHas history name key → PrepareHas grown name key
-  prepare_grows name key (p, low, named, changed) = let l = grown_length history entry legal in
-      (p, omega (arith, low, l), name_at_old history entry legal p low ∙ named, ap (λ (z : List Change). is_changed z key) (batch_at_grown history entry legal p low) ∙ changed)
+  -- a prepare that was undecided at a moment was so
+  was_grows : (from n : ℕ) (name : List ℕ) (key : Option (List ℕ)) → WasPrepared history from n name key → WasPrepared grown from n name key
+  was_grows from n name key k =
+      let low = k.1 in let l = grown_length history entry legal in
+      (k.0, omega (arith, low, l), subst (λ (h : List Entry). (p : ℕ) × (named h name ≡ Some p) × HasKeyAt h p key) (sym (take-append-le n history (entry ∷ []) low)) k.2)
 
-  came_grows : (past : List Event) (name key : List ℕ) → CameToKey history past name key → CameToKey grown past name key
-  came_grows past name key (inl k) = inl k
-  came_grows past name key (inr (k, has)) = inr (k, prepare_grows name key has)
+  prepare_grows : (opened : List Entry) (name key : List ℕ) → PrepareHas opened history name key → PrepareHas opened grown name key
+  prepare_grows opened name key (n, was) = (n, was_grows (length opened) n name (Some key) was)
 
-  pub locks_part : (t : LockTables) (owners : List (List Owner)) → ((name : List ℕ) → transaction_of history entry ≡ Some name → (client : List ℕ) × (finite.get t.names name ≡ Some (Some client)))
+  came_grows : (opened : List Entry) (past : List Event) (name key : List ℕ) → CameToKey opened history past name key → CameToKey opened grown past name key
+  came_grows opened past name key (inl k) = inl k
+  came_grows opened past name key (inr (k, has)) = inr (k, prepare_grows opened name key has)
+
+  pub locks_part : (opened : List Entry) (t : LockTables) (owners : List (List Owner)) → ((name : List ℕ) → transaction_of history entry ≡ Some name → (client : List ℕ) × (finite.get t.names name ≡ Some (Some client)))
       → ((name : List ℕ) (batch : List Change) (key : List ℕ) → entry ≡ Prepare name batch → is_changed batch key ≡ true → finite.get t.keys key ≡ Some (Txn name))
-      → AreLocked history t owners → AreLocked grown t owners
-  locks_part t owners live held k = record {
+      → AreLocked opened history t owners → AreLocked opened grown t owners
+  locks_part opened t owners live held k = record {
     prepared_names = λ p u. ⊎_elim
         (λ o. ap (λ (x : List ℕ). is_some (finite.get t.names x)) (name_at_old history entry legal p o.0) ∙ k.prepared_names p o.1)
         (λ (o : (p ≡ next) × (is_prepare (Some entry) ≡ true)).
@@ -101,7 +106,7 @@ module _ (history : List Entry) (entry : Entry) (legal : IsLegal (history ++ ent
         let x = prepare_of entry o.1 in
         held x.name x.batch key x.is (ap (λ (z : List Change). is_changed z key) (sym (ap (batch_at grown) o.0 ∙ batch_new x.name x.batch x.is)) ∙ changed) ∙ ap (λ (z : List ℕ). Some (Txn z)) (sym (ap (name_at grown) o.0 ∙ name_new x.name x.batch x.is)))
         (undecided_before_or_now history entry legal p u);
-    had = λ j i o there. let c = k.had j i o there in record { names = c.names; keys = c.keys; direct = c.direct; came = λ name x key h held. came_grows o.past name key (c.came name x key h held) };
+    had = λ j i o there. let c = k.had j i o there in record { names = c.names; keys = c.keys; direct = c.direct; came = λ name x key h held. came_grows opened o.past name key (c.came name x key h held) };
     apart = k.apart;
     names_had = k.names_had;
     names_left = λ name e. ap is_some (still_left t live name e (k.names_left name e)).2;
@@ -117,23 +122,21 @@ module _ (history : List Entry) (entry : Entry) (legal : IsLegal (history ++ ent
 
   -- ---- the pasts
 
-  made_grows : (pasts : List (List (List Event))) (j i : ℕ) (key : Option (List ℕ)) (holder : Holder) → MadeHolder history pasts j i key holder → MadeHolder grown pasts j i key holder
-  made_grows pasts j i None (Txn name) k = k
-  made_grows pasts j i (Some key) (Txn name) (inl k) = inl k
-  made_grows pasts j i (Some key) (Txn name) (inr (k, has)) = inr (k, prepare_grows name key has)
-  made_grows pasts j i (Some key) (Client client) k = k
-  made_grows pasts j i None (Client client) none = absurd none
+  made_grows : (opened : List Entry) (pasts : List (List (List Event))) (j i : ℕ) (key : Option (List ℕ)) (holder : Holder) → MadeHolder opened history pasts j i key holder → MadeHolder opened grown pasts j i key holder
+  made_grows opened pasts j i None (Txn name) k = k
+  made_grows opened pasts j i (Some key) (Txn name) (inl k) = inl k
+  made_grows opened pasts j i (Some key) (Txn name) (inr (k, has)) = inr (k, prepare_grows opened name key has)
+  made_grows opened pasts j i (Some key) (Client client) k = k
+  made_grows opened pasts j i None (Client client) none = absurd none
 
-  accounted_grows : (pasts : List (List (List Event))) (j i : ℕ) (key : Option (List ℕ)) (holder : Holder) (seen : ℕ) (account : Account) → IsAccounted history pasts j i key holder seen account → IsAccounted grown pasts j i key holder seen account
-  accounted_grows pasts j i key holder seen own k = made_grows pasts j i key holder k
-  accounted_grows pasts j i key holder seen another (l, m, apart, k) = (l, m, apart, made_grows pasts l m key holder k)
-  accounted_grows pasts j i key (Txn name) seen (prepare_at n) k =
-      let low = k.1 in let l = grown_length history entry legal in
-      (k.0, omega (arith, low, l), subst (λ (h : List Entry). (p : ℕ) × (named h name ≡ Some p) × HasKeyAt h p key) (sym (take-append-le n history (entry ∷ []) low)) k.2)
-  accounted_grows pasts j i key (Client name) seen (prepare_at n) k = k
+  accounted_grows : (opened : List Entry) (pasts : List (List (List Event))) (j i : ℕ) (key : Option (List ℕ)) (holder : Holder) (seen : ℕ) (account : Account) → IsAccounted opened history pasts j i key holder seen account → IsAccounted opened grown pasts j i key holder seen account
+  accounted_grows opened pasts j i key holder seen own k = made_grows opened pasts j i key holder k
+  accounted_grows opened pasts j i key holder seen another (l, m, apart, k) = (l, m, apart, made_grows opened pasts l m key holder k)
+  accounted_grows opened pasts j i key (Txn name) seen (prepare_at n) k = was_grows seen n name key k
+  accounted_grows opened pasts j i key (Client name) seen (prepare_at n) k = k
 
   pub holders_part : (opened : List Entry) (t : LockTables) (pasts : List (List (List Event))) → AreHolders opened history t pasts → AreHolders opened grown t pasts
-  holders_part opened t pasts k = record { names = k.names; keys = k.keys; found = λ j i key holder seen account h. accounted_grows pasts j i key holder seen account (k.found j i key holder seen account h) }
+  holders_part opened t pasts k = record { names = k.names; keys = k.keys; found = λ j i key holder seen account h. accounted_grows opened pasts j i key holder seen account (k.found j i key holder seen account h) }
 
   pub board_part : (t : LockTables) (pasts : List (List (List Event))) → IsBoard (length history) t pasts → IsBoard (length grown) t pasts
   board_part t pasts k = record { labels = k.labels; numbers = k.numbers; heard = k.heard; told = λ label n p. let low = k.told label n p in let l = grown_length history entry legal in omega (arith, low, l) }

@@ -87,7 +87,7 @@ module _ (w : World) (by : ℕ) (a : Actor) (entry : Entry) (others : List Entry
   commits_apart (Undo q batch) is k p key u changed other = refl
   commits_apart (Close q) is k p key u changed other = refl
 
-  module _ (q : Participant) (owner : IsOwner w.writes.history w.locks (owner_of q)) where
+  module _ (q : Participant) (owner : IsOwner w.opened w.writes.history w.locks (owner_of q)) where
     undecided_grows : (name : List ℕ) (p : ℕ) → (transaction_of history entry ≡ Some name → ⊥) → SoIn w q (undecided_at name p) → SoPending w d q (undecided_at name p)
     undecided_grows name p other k =
         let low = (undecided_within history p (found_named history name p k.1).0).1 in
@@ -130,7 +130,7 @@ module _ (w : World) (by : ℕ) (a : Actor) (entry : Entry) (others : List Entry
   abbrev pub publisher : Participant
   publisher = record a.participant { seen = grown; own = a.participant.own ++ suc (length history) ∷ [] }
 
-  own_owner : IsOwner w.writes.history w.locks (owner_of a.participant)
+  own_owner : IsOwner w.opened w.writes.history w.locks (owner_of a.participant)
   own_owner = s.locks.had by 0 (owner_of a.participant) own_there
 
   not_its : (name : List ℕ) → not (is_name (transaction_of history entry) name) ≡ true → transaction_of history entry ≡ Some name → ⊥
@@ -156,7 +156,7 @@ module _ (w : World) (by : ℕ) (a : Actor) (entry : Entry) (others : List Entry
   -- ---- the others' notes
 
   module _ (j : ℕ) (q : Participant) (ne : j ≢ by) (there : IsParticipantAt (participants owner_of w) j 0 (owner_of q)) where
-    theirs : IsOwner w.writes.history w.locks (owner_of q)
+    theirs : IsOwner w.opened w.writes.history w.locks (owner_of q)
     theirs = s.locks.had j 0 (owner_of q) there
 
     not_theirs_now : (name : List ℕ) → Owns q name → transaction_of history entry ≡ Some name → ⊥

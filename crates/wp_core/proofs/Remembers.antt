@@ -48,24 +48,24 @@ module _ (xs : List Actor) (by : ℕ) (a b : Actor) (e : Event) (at : get_elem? 
   begun_still j i name (inl k) = inl (done_still xs by a b e at same grown j i (claimed name) k)
   begun_still j i name (inr k) = inr (done_still xs by a b e at same grown j i (took name) k)
 
-  made_still : (history : List Entry) (j i : ℕ) (key : Option (List ℕ)) (holder : Holder) → MadeHolder history before j i key holder → MadeHolder history after j i key holder
-  made_still history j i None (Txn name) k = begun_still j i name k
-  made_still history j i (Some key) (Txn name) (inl (begun, k)) = inl (begun_still j i name begun, done_still xs by a b e at same grown j i (locked key (Txn name)) k)
-  made_still history j i (Some key) (Txn name) (inr (k, has)) = inr (done_still xs by a b e at same grown j i (took name) k, has)
-  made_still history j i (Some key) (Client client) k = done_still xs by a b e at same grown j i (locked key (Client client)) k
-  made_still history j i None (Client client) none = absurd none
+  made_still : (opened history : List Entry) (j i : ℕ) (key : Option (List ℕ)) (holder : Holder) → MadeHolder opened history before j i key holder → MadeHolder opened history after j i key holder
+  made_still opened history j i None (Txn name) k = begun_still j i name k
+  made_still opened history j i (Some key) (Txn name) (inl (begun, k)) = inl (begun_still j i name begun, done_still xs by a b e at same grown j i (locked key (Txn name)) k)
+  made_still opened history j i (Some key) (Txn name) (inr (k, has)) = inr (done_still xs by a b e at same grown j i (took name) k, has)
+  made_still opened history j i (Some key) (Client client) k = done_still xs by a b e at same grown j i (locked key (Client client)) k
+  made_still opened history j i None (Client client) none = absurd none
 
-  accounted_still : (history : List Entry) (j i : ℕ) (key : Option (List ℕ)) (holder : Holder) (seen : ℕ) (account : Account) → IsAccounted history before j i key holder seen account → IsAccounted history after j i key holder seen account
-  accounted_still history j i key holder seen own k = made_still history j i key holder k
-  accounted_still history j i key holder seen another (l, m, apart, k) = (l, m, apart, made_still history l m key holder k)
-  accounted_still history j i key (Txn name) seen (prepare_at n) k = k
-  accounted_still history j i key (Client name) seen (prepare_at n) k = k
+  accounted_still : (opened history : List Entry) (j i : ℕ) (key : Option (List ℕ)) (holder : Holder) (seen : ℕ) (account : Account) → IsAccounted opened history before j i key holder seen account → IsAccounted opened history after j i key holder seen account
+  accounted_still opened history j i key holder seen own k = made_still opened history j i key holder k
+  accounted_still opened history j i key holder seen another (l, m, apart, k) = (l, m, apart, made_still opened history l m key holder k)
+  accounted_still opened history j i key (Txn name) seen (prepare_at n) k = k
+  accounted_still opened history j i key (Client name) seen (prepare_at n) k = k
 
   key_still : (opened : List Entry) (key : List ℕ) (holder : Holder) → WasLocked opened before key holder → WasLocked opened after key holder
   key_still opened key holder (inl k) = inl (past_still xs by a b e at same grown (locked key holder) k)
   key_still opened key holder (inr k) = inr k
 
-  pub holders_more : (opened history : List Entry) (t : LockTables) → ((key : Option (List ℕ)) (holder : Holder) (seen : ℕ) (account : Account) → e ≡ found key holder seen account → IsAccounted history before by 0 key holder seen account)
+  pub holders_more : (opened history : List Entry) (t : LockTables) → ((key : Option (List ℕ)) (holder : Holder) (seen : ℕ) (account : Account) → e ≡ found key holder seen account → IsAccounted opened history before by 0 key holder seen account)
       → AreHolders opened history t before → AreHolders opened history t after
   holders_more opened history t new k = record {
     names = λ name h. ⊎_elim
@@ -73,10 +73,10 @@ module _ (xs : List Actor) (by : ℕ) (a b : Actor) (e : Event) (at : get_elem? 
         (λ c. inr c) (k.names name h);
     keys = λ key holder h. key_still opened key holder (k.keys key holder h);
     found = λ j i key holder seen account h. ⊎_elim
-        (λ c. accounted_still history j i key holder seen account (k.found j i key holder seen account c))
+        (λ c. accounted_still opened history j i key holder seen account (k.found j i key holder seen account c))
         (λ (c : (j ≡ by) × (i ≡ 0) × (e ≡ found key holder seen account)).
-        let is : IsAccounted history after by 0 key holder seen account = accounted_still history by 0 key holder seen account (new key holder seen account c.2) in
-        subst (λ (n : ℕ). IsAccounted history after n i key holder seen account) (sym c.0) (subst (λ (n : ℕ). IsAccounted history after by n key holder seen account) (sym c.1) is))
+        let is : IsAccounted opened history after by 0 key holder seen account = accounted_still opened history by 0 key holder seen account (new key holder seen account c.2) in
+        subst (λ (n : ℕ). IsAccounted opened history after n i key holder seen account) (sym c.0) (subst (λ (n : ℕ). IsAccounted opened history after by n key holder seen account) (sym c.1) is))
         (done_before xs by a b e at same grown j i (found key holder seen account) h);
   }
 

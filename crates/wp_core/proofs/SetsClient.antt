@@ -44,19 +44,19 @@ module _ (xs : List Actor) (by : ℕ) (a b : Actor) (at : get_elem? xs by ≡ so
   none_writes : (o : Owner) (key : List ℕ) → o ≡ owner_of b.participant → o.direct ≡ Some key → ⊥
   none_writes o key e h = no_direct b.participant.transactions b.participant.direct key after_none (subst (λ (z : Owner). z.direct ≡ Some key) e h)
 
-  none_owner : (history : List Entry) (t : LockTables) → IsOwner history t (owner_of b.participant)
-  none_owner history t = record {
+  none_owner : (opened history : List Entry) (t : LockTables) → IsOwner opened history t (owner_of b.participant)
+  none_owner opened history t = record {
     names = λ name x h. absurd (none_now (owner_of b.participant) name x refl h);
     keys = λ name x key h held. absurd (none_now (owner_of b.participant) name x refl h);
     direct = λ key h. absurd (none_writes (owner_of b.participant) key refl h);
     came = λ name x key h held. absurd (none_now (owner_of b.participant) name x refl h);
   }
 
-  pub locked_none : (history : List Entry) (t : LockTables) → AreLocked history t before → AreLocked history t after
-  locked_none history t k = record {
+  pub locked_none : (opened history : List Entry) (t : LockTables) → AreLocked opened history t before → AreLocked opened history t after
+  locked_none opened history t k = record {
     prepared_names = k.prepared_names;
     prepared_keys = k.prepared_keys;
-    had = each_apart owner_of xs by a b at same (IsOwner history t) (none_owner history t) (λ j i o elsewhere there. k.had j i o there);
+    had = each_apart owner_of xs by a b at same (IsOwner opened history t) (none_owner opened history t) (λ j i o elsewhere there. k.had j i o there);
     apart = owners_apart xs by a b at same (λ name x h. absurd (none_now (owner_of b.participant) name x refl h)) (λ key h. absurd (none_writes (owner_of b.participant) key refl h)) k.apart;
     names_had = λ name client h.
         let o = k.names_had name client h in
@@ -88,7 +88,7 @@ sets_client w by a client at needs s =
     let c : Actor = forgets w.writes.history (length w.cache) (set_client client) a in
     let b : Actor = record c { participant = record c.participant { client = client } } in
     let nothing : HasNothing a.participant.transactions a.participant.direct = record { none = needs.1; not_writing = needs.2 } in
-    all_parts w (set w.actors by b) (tables_of w s) (views_still w by a b at refl s) (locked_none w.actors by a b at refl nothing nothing w.writes.history w.locks s.locks) (pasts_still w by a b at refl s) (turns_still w by a b at refl s)
+    all_parts w (set w.actors by b) (tables_of w s) (views_still w by a b at refl s) (locked_none w.actors by a b at refl nothing nothing w.opened w.writes.history w.locks s.locks) (pasts_still w by a b at refl s) (turns_still w by a b at refl s)
     (readers_still w by a b at refl s)
     (notes_stay w by a b at (set_client client) w.holders (SoIn w) refl (λ fact left m. record { guarded = m.guarded; is_so = so_client w a.participant client fact nothing m.is_so }) (λ j x fact ne there m. m) s)
     (led_still w by a b at refl s) (idle_set w by a b at (λ dead. absurd (true≢false (sym needs.0 ∙ dead))) s)

@@ -35,7 +35,7 @@ pub record IsSound (w : World) : Type 0 where
   pub versions : IsStored w.writes.history w.writes.pending w.snapshots w.store w.installed
   pub settled : IsSettled w.holders.tables w.store w.installed.last
   -- names and keys, and the pasts
-  pub locks : AreLocked w.writes.history w.locks (participants owner_of w)
+  pub locks : AreLocked w.opened w.writes.history w.locks (participants owner_of w)
   pub holders : AreHolders w.opened w.writes.history w.locks (participants past_of w)
   pub board : IsBoard (world.published w) w.locks (participants past_of w)
   pub faults : AreFaults w.writes w.installed.halted (participants past_of w)

@@ -144,7 +144,7 @@ module _ (p : Place) (a : Actor) (w : World) (k : IsAt p a w) where
   sound : IsSound w
   sound = at_sound p a w k
 
-  owner : IsOwner w.writes.history w.locks (owner_of a.participant)
+  owner : IsOwner w.opened w.writes.history w.locks (owner_of a.participant)
   owner = sound.locks.had p.by 0 (owner_of a.participant) (mine owner_of w.actors p.by a a k.there refl)
 
   -- the key of an undecided prepare is held for its transaction

@@ -92,14 +92,14 @@ module _ (w : World) (a : Actor) (others : List Actor) (is : w.actors ≡ a ∷ 
   begun_down : (j i : ℕ) (name : List ℕ) → HasBegun (participants past_of w) j i name → HasBegun (participants past_of v) j i name
   begun_down j i name k = ⊎_elim (λ q. inl (done_down j i _ q)) (λ q. inr (done_down j i _ q)) k
 
-  made_down : (j i : ℕ) (key : Option (List ℕ)) (holder : Holder) → MadeHolder w.writes.history (participants past_of w) j i key holder → MadeHolder w.writes.history (participants past_of v) j i key holder
+  made_down : (j i : ℕ) (key : Option (List ℕ)) (holder : Holder) → MadeHolder w.opened w.writes.history (participants past_of w) j i key holder → MadeHolder w.opened w.writes.history (participants past_of v) j i key holder
   made_down j i None (Txn name) k = begun_down j i name k
   made_down j i (Some key) (Txn name) (inl (begun, k)) = inl (begun_down j i name begun, done_down j i _ k)
   made_down j i (Some key) (Txn name) (inr (k, has)) = inr (done_down j i _ k, has)
   made_down j i (Some key) (Client client) k = done_down j i _ k
   made_down j i None (Client client) none = absurd none
 
-  accounted_down : (j i : ℕ) (key : Option (List ℕ)) (holder : Holder) (seen : ℕ) (account : Account) → IsAccounted w.writes.history (participants past_of w) j i key holder seen account → IsAccounted w.writes.history (participants past_of v) j i key holder seen account
+  accounted_down : (j i : ℕ) (key : Option (List ℕ)) (holder : Holder) (seen : ℕ) (account : Account) → IsAccounted w.opened w.writes.history (participants past_of w) j i key holder seen account → IsAccounted w.opened w.writes.history (participants past_of v) j i key holder seen account
   accounted_down j i key holder seen own k = made_down j i key holder k
   accounted_down j i key holder seen another k = (k.0, k.1, k.2, made_down k.0 k.1 key holder k.3)
   accounted_down j i key (Txn name) seen (prepare_at n) k = k
@@ -119,7 +119,7 @@ module _ (w : World) (a : Actor) (others : List Actor) (is : w.actors ≡ a ∷ 
       (λ new. let q : None ≡ Some key = ap (λ (o : Owner). o.direct) (sym new.2) ∙ n.has in absurd cc)
       (down owner_of n.at n.place n.owner n.there)
 
-  locks_down : AreLocked w.writes.history w.locks (participants owner_of v)
+  locks_down : AreLocked w.opened w.writes.history w.locks (participants owner_of v)
   locks_down = let k = s.locks in record {
     prepared_names = k.prepared_names;
     prepared_keys = k.prepared_keys;

@@ -1,5 +1,5 @@
 -- What is so of names and keys.
-use Rattle.std.specs.Prelude.{◌≡◌, ◌⊎◌, ℕ, ◌≤◌, true, List, length, Option, Some, None, is_some}
+use Rattle.std.specs.Prelude.{◌≡◌, ◌⊎◌, ℕ, ◌≤◌, true, List, length, take, Option, Some, None, is_some}
 use Rattle.std.specs.FinSet as set
 use Rattle.std.specs.FinMap as finite
 use Rattle.wp_model.specs.declared.entry.Entry.{Entry}
@@ -50,20 +50,29 @@ pub record IsDirectOf (owners : List (List Owner)) (key client : List ℕ) : Typ
   pub has : owner.direct ≡ Some key
   pub began : IsIn (locked key (Client client)) owner.past
 
--- a prepare of this name has the key
-abbrev pub PrepareHas : List Entry → (name key : List ℕ) → Type 0
-PrepareHas history name key = (p : ℕ) × (p ≤ length history) × (name_at history p ≡ name) × (is_changed (batch_at history p) key ≡ true)
+-- the prepare with this number changes the key, where one is given
+abbrev pub HasKeyAt : List Entry → ℕ → Option (List ℕ) → Type 0
+HasKeyAt history p None = Unit {0}
+HasKeyAt history p (Some key) = is_changed (batch_at history p) key ≡ true
+
+-- When n entries were published, which are so many or more, a prepare of this name was undecided, and had the key, where one is given.
+abbrev pub WasPrepared : List Entry → (from n : ℕ) → List ℕ → Option (List ℕ) → Type 0
+WasPrepared history from n name key = (from ≤ n) × (n ≤ length history) × ((p : ℕ) × (named (take n history) name ≡ Some p) × HasKeyAt (take n history) p key)
+
+-- a prepare of this name that has the key was undecided at a moment since the opening
+abbrev pub PrepareHas : (opened history : List Entry) → (name key : List ℕ) → Type 0
+PrepareHas opened history name key = (n : ℕ) × WasPrepared history (length opened) n name (Some key)
 
 -- how one that has the transaction of this name came to the key: it locked it, or took a prepare that has it
-abbrev pub CameToKey : List Entry → List Event → (name key : List ℕ) → Type 0
-CameToKey history past name key = IsIn (locked key (Txn name)) past ⊎ (IsIn (took name) past × PrepareHas history name key)
+abbrev pub CameToKey : (opened history : List Entry) → List Event → (name key : List ℕ) → Type 0
+CameToKey opened history past name key = IsIn (locked key (Txn name)) past ⊎ (IsIn (took name) past × PrepareHas opened history name key)
 
 -- what an owner has is in the table, and each key of its transactions it came to itself
-pub record IsOwner (history : List Entry) (t : LockTables) (o : Owner) : Type 0 where
+pub record IsOwner (opened history : List Entry) (t : LockTables) (o : Owner) : Type 0 where
   pub names : (name : List ℕ) (x : Transaction) → Has o name x → finite.get t.names name ≡ Some (Some o.client)
   pub keys : (name : List ℕ) (x : Transaction) (key : List ℕ) → Has o name x → set.contains x.locked key ≡ true → finite.get t.keys key ≡ Some (Txn name)
   pub direct : (key : List ℕ) → o.direct ≡ Some key → finite.get t.keys key ≡ Some (Client o.client)
-  pub came : (name : List ℕ) (x : Transaction) (key : List ℕ) → Has o name x → set.contains x.locked key ≡ true → CameToKey history o.past name key
+  pub came : (name : List ℕ) (x : Transaction) (key : List ℕ) → Has o name x → set.contains x.locked key ≡ true → CameToKey opened history o.past name key
 
 -- no two have the same transaction or direct key
 pub record AreApart (owners : List (List Owner)) : Type 0 where
@@ -73,10 +82,10 @@ pub record AreApart (owners : List (List Owner)) : Type 0 where
 -- Each undecided prepare has its name live and its keys held; nothing else is live, and a key is held for a live
 -- transaction or as a direct write's alone. A live name that nobody has is an undecided prepare's, and so is each key that
 -- is held for it.
-pub record AreLocked (history : List Entry) (t : LockTables) (owners : List (List Owner)) : Type 0 where
+pub record AreLocked (opened history : List Entry) (t : LockTables) (owners : List (List Owner)) : Type 0 where
   pub prepared_names : (p : ℕ) → is_undecided history p ≡ true → is_some (finite.get t.names (name_at history p)) ≡ true
   pub prepared_keys : (p : ℕ) (key : List ℕ) → is_undecided history p ≡ true → is_changed (batch_at history p) key ≡ true → finite.get t.keys key ≡ Some (Txn (name_at history p))
-  pub had : EachParticipant (IsOwner history t) owners
+  pub had : EachParticipant (IsOwner opened history t) owners
   pub apart : AreApart owners
   pub names_had : (name client : List ℕ) → finite.get t.names name ≡ Some (Some client) → IsNameOf owners name client
   pub names_left : (name : List ℕ) → finite.get t.names name ≡ Some None → is_some (named history name) ≡ true

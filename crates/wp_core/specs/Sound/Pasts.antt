@@ -1,8 +1,8 @@
 -- What is so of the actors' pasts: whom they found, what they told, which faults they met, which edits they installed.
-use Rattle.std.specs.Prelude.{◌≡◌, ◌≢◌, ◌⊎◌, ℕ, ◌+◌, ◌≤◌, ◌<◌, Bool, true, false, List, [], length, take, fold, Option, Some, None, is_some}
+use Rattle.std.specs.Prelude.{◌≡◌, ◌≢◌, ◌⊎◌, ℕ, ◌+◌, ◌≤◌, ◌<◌, Bool, true, false, List, [], length, fold, Option, Some, None, is_some}
 use Rattle.std.specs.FinMap as finite
 use Rattle.wp_model.specs.declared.entry.Entry.{Entry}
-use Rattle.wp_model.specs.History.{named, holder_of, batch_at, is_changed}
+use Rattle.wp_model.specs.History.{named, holder_of}
 use Rattle.wp_model.specs.declared.holder.Holder.{Holder}
 use Rattle.wp_model.specs.declared.holder.Holder.TheVariants.{Txn, Client}
 use Rattle.wp_core.specs.Lists.{IsIn, one_if, total}
@@ -12,7 +12,7 @@ use Rattle.wp_model.specs.Flushed.{InstalledEdit}
 use Rattle.wp_core.specs.Views.{Account, own, another, prepare_at, Event, claimed, took, locked, told, heard, installed, log_failed, tables_failed, stopped, found_edit, found}
 use Rattle.wp_core.specs.World.{Participant}
 use Rattle.wp_core.specs.Sound.Actors.{IsParticipantAt, total_participants}
-use Rattle.wp_core.specs.Sound.Locks.{PrepareHas}
+use Rattle.wp_core.specs.Sound.Locks.{WasPrepared, PrepareHas}
 use Rattle.wp_history.specs.Opened.{prepare_holding}
 
 abbrev pub past_of : Participant → List Event
@@ -38,24 +38,19 @@ HasBegun pasts j i name = HasDone pasts j i (claimed name) ⊎ HasDone pasts j i
 
 -- One of the participants made the holder one: it claimed or took the name, and locked the key under it or took it with a prepare
 -- that has the key; or it locked the key for a direct write.
-abbrev pub MadeHolder : List Entry → List (List (List Event)) → ℕ → ℕ → Option (List ℕ) → Holder → Type 0
-MadeHolder history pasts j i None (Txn name) = HasBegun pasts j i name
-MadeHolder history pasts j i (Some key) (Txn name) = (HasBegun pasts j i name × HasDone pasts j i (locked key (Txn name))) ⊎ (HasDone pasts j i (took name) × PrepareHas history name key)
-MadeHolder history pasts j i (Some key) (Client client) = HasDone pasts j i (locked key (Client client))
-MadeHolder history pasts j i None (Client client) = ⊥
-
--- the prepare with this number changes the key, where one is given
-abbrev pub HasKeyAt : List Entry → ℕ → Option (List ℕ) → Type 0
-HasKeyAt history p None = Unit {0}
-HasKeyAt history p (Some key) = is_changed (batch_at history p) key ≡ true
+abbrev pub MadeHolder : (opened history : List Entry) → List (List (List Event)) → ℕ → ℕ → Option (List ℕ) → Holder → Type 0
+MadeHolder opened history pasts j i None (Txn name) = HasBegun pasts j i name
+MadeHolder opened history pasts j i (Some key) (Txn name) = (HasBegun pasts j i name × HasDone pasts j i (locked key (Txn name))) ⊎ (HasDone pasts j i (took name) × PrepareHas opened history name key)
+MadeHolder opened history pasts j i (Some key) (Client client) = HasDone pasts j i (locked key (Client client))
+MadeHolder opened history pasts j i None (Client client) = ⊥
 
 -- How the answer of one of the participants, that this is the holder of a key or else a live name, is accounted for: by
 -- what it did itself, by what another did, or by a prepare that was undecided when it had seen so many entries, or later.
-abbrev pub IsAccounted : List Entry → List (List (List Event)) → ℕ → ℕ → Option (List ℕ) → Holder → ℕ → Account → Type 0
-IsAccounted history pasts j i key holder seen own = MadeHolder history pasts j i key holder
-IsAccounted history pasts j i key holder seen another = (k l : ℕ) × ((k ≢ j) ⊎ (l ≢ i)) × MadeHolder history pasts k l key holder
-IsAccounted history pasts j i key (Txn name) seen (prepare_at n) = (seen ≤ n) × (n ≤ length history) × ((p : ℕ) × (named (take n history) name ≡ Some p) × HasKeyAt (take n history) p key)
-IsAccounted history pasts j i key (Client name) seen (prepare_at n) = ⊥
+abbrev pub IsAccounted : (opened history : List Entry) → List (List (List Event)) → ℕ → ℕ → Option (List ℕ) → Holder → ℕ → Account → Type 0
+IsAccounted opened history pasts j i key holder seen own = MadeHolder opened history pasts j i key holder
+IsAccounted opened history pasts j i key holder seen another = (k l : ℕ) × ((k ≢ j) ⊎ (l ≢ i)) × MadeHolder opened history pasts k l key holder
+IsAccounted opened history pasts j i key (Txn name) seen (prepare_at n) = WasPrepared history seen n name key
+IsAccounted opened history pasts j i key (Client name) seen (prepare_at n) = ⊥
 
 -- the key was locked for the holder, or is one of a prepare that was undecided at the opening
 abbrev pub WasLocked : List Entry → List (List (List Event)) → List ℕ → Holder → Type 0
@@ -65,7 +60,7 @@ WasLocked opened pasts key holder = IsPast pasts (locked key holder) ⊎ (prepar
 pub record AreHolders (opened history : List Entry) (t : LockTables) (pasts : List (List (List Event))) : Type 0 where
   pub names : (name : List ℕ) → is_some (finite.get t.names name) ≡ true → (IsPast pasts (claimed name) ⊎ IsPast pasts (took name)) ⊎ (is_some (named opened name) ≡ true)
   pub keys : (key : List ℕ) (holder : Holder) → finite.get t.keys key ≡ Some holder → WasLocked opened pasts key holder
-  pub found : (j i : ℕ) (key : Option (List ℕ)) (holder : Holder) (seen : ℕ) (account : Account) → HasDone pasts j i (found key holder seen account) → IsAccounted history pasts j i key holder seen account
+  pub found : (j i : ℕ) (key : Option (List ℕ)) (holder : Holder) (seen : ℕ) (account : Account) → HasDone pasts j i (found key holder seen account) → IsAccounted opened history pasts j i key holder seen account
 
 -- ---- the board
 
