@@ -1,5 +1,6 @@
 pub mod Growth
 pub mod Undecided
+pub mod Ascending
 pub mod Undone
 pub mod Newest
 pub mod Prior

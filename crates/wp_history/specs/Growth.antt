@@ -1,9 +1,14 @@
 -- What an entry more leaves undecided, and what it undoes.
-use Rattle.std.specs.Prelude.{ℕ, ◌==◌, not, List, [], ◌∷◌, ◌++◌, Option}
-use Rattle.std.specs.List.{filter}
+use Rattle.std.specs.Prelude.{ℕ, ◌<◌, ◌==◌, not, List, [], ◌∷◌, ◌++◌, Option}
+use Rattle.std.specs.List.{AllByRecursion, filter}
 use Rattle.wp_model.specs.declared.entry.Entry.{Entry}
 use Rattle.wp_model.specs.declared.entry.Entry.TheVariants.{Write, Prepare, Commit, Undo, Close}
 use Rattle.wp_model.specs.Legal.{undone_last}
+
+-- each number is below all that follow it
+abbrev pub AreAscending : List ℕ → Type 0
+AreAscending [] = Unit {0}
+AreAscending (p ∷ ps) = AllByRecursion (λ q. p < q) ps × AreAscending ps
 
 -- the numbers but for this one
 abbrev pub without_decided : List ℕ → ℕ → List ℕ

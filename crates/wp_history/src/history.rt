@@ -1,9 +1,9 @@
-ghost use Rattle.std.specs.Prelude.{◌≡◌, ◌+◌, ◌-◌, ◌^◌, ◌<◌, ◌≤◌, [], ◌∷◌, ◌++◌, length, OnOk, vec_len};
+ghost use Rattle.std.specs.Prelude.{◌≡◌, ◌+◌, ◌-◌, ◌^◌, ◌<◌, ◌≤◌, [], ◌∷◌, ◌++◌, length, IfOk, OnOk, vec_len};
 ghost use Rattle.std.specs.Vec.{vec_capacity};
 ghost use Rattle.std.specs.Option.{option_copied};
 ghost use Rattle.wp_model.specs.History.{entry_at, undecided};
 ghost use Rattle.wp_model.specs.Legal.{IsLegal, IsLegalNext};
-ghost use Rattle.wp_history.specs.Growth.{without_decided, undecided_after};
+ghost use Rattle.wp_history.specs.Growth.{AreAscending, without_decided, undecided_after};
 
 use std::alloc::{AllocError, Global};
 use std::marker::Model;
@@ -30,17 +30,22 @@ impl Model for History {
         × (vec_len h.entries + h.room ≤ vec_capacity h.entries) × (vec_len h.undecided + h.room ≤ vec_capacity h.undecided) };
 }
 
+/// Takes the number out, which is found by halves.
 fn take_out(numbers: &mut Vec<Seq>, p: Seq)
+    requires { AreAscending numbers.old.items }
     ensures numbers { numbers.new.items ≡ without_decided numbers.old.items p }
     ensures len { vec_len numbers.new ≤ vec_len numbers.old }
     ensures capacity { vec_capacity numbers.new ≡ vec_capacity numbers.old }
 {
-    numbers.retain(|q| *q != p);
+    if let Ok(place) = numbers.binary_search(&p) {
+        numbers.remove(place);
+    }
 }
 
 /// Notes what an entry with that number leaves undecided.
 fn note_undecided(undecided: &mut Vec<Seq>, number: Seq, entry: &Entry)
-    requires { vec_len undecided.old + 1 ≤ vec_capacity undecided.old }
+    requires room { vec_len undecided.old + 1 ≤ vec_capacity undecided.old }
+    requires ascending { AreAscending undecided.old.items }
     ensures numbers { undecided.new.items ≡ undecided_after undecided.old.items number entry.now }
     ensures len { vec_len undecided.new ≤ vec_len undecided.old + 1 }
     ensures capacity { vec_capacity undecided.old ≤ vec_capacity undecided.new }
@@ -63,6 +68,17 @@ impl History {
             undecided: Vec::new(alloc),
             room: 0,
         }
+    }
+
+    /// A history without entries, with just the memory for so many.
+    pub fn with_capacity(alloc: Global, n: usize) -> Result<History, AllocError>
+        ensures { IfOk result (λ history. history.entries ≡ []) }
+    {
+        Ok(History {
+            entries: Vec::with_capacity(alloc, n)?,
+            undecided: Vec::new(alloc),
+            room: 0,
+        })
     }
 
     /// The entries, in the order of their numbers.

@@ -11,7 +11,7 @@ impl History {
     pub fn is_undecided(&self, p: Seq) -> bool
         ensures { result ≡ is_undecided self.now.entries p }
     {
-        self.undecided().contains(&p)
+        self.undecided().binary_search(&p).is_ok()
     }
 
     /// The name of an undecided prepare.

@@ -1,3 +1,4 @@
 pub mod EntriesLemmas
+mod Causes
 pub mod AppendLemmas
 pub mod LawLemmas

@@ -35,14 +35,14 @@ IsBadLog bytes index why = (IsCut MAGIC index bytes × (why ≡ Short)) ⊎ ((id
 abbrev pub IsIllegalLog : List ℕ → ℕ → Type 0
 IsIllegalLog bytes number = (id : ℕ) × (records : List (List ℕ)) × Spells bytes MAGIC id records × IsIllegal records number
 
--- Why the log was not opened: its disk's count of faults rose, or where that is known its bytes are damaged. Want of
--- memory needs no cause.
+-- Why the log was not opened: its disk's count of faults rose, or its bytes are damaged. What they are may be unknown; that
+-- the records which they spell are damaged so holds all the same. Want of memory needs no cause.
 abbrev pub IsLogCause : (rose : Type 0) → List Moment → WalError → Type 0
 IsLogCause rose moments Memory = Unit {0}
 IsLogCause rose moments DiskFault = rose
 IsLogCause rose moments BadHead = IfKnown moments (λ m. IsBadHead MAGIC m.reads)
-IsLogCause rose moments (BadRecord index why) = IfKnown moments (λ m. IsBadLog m.reads index why)
-IsLogCause rose moments (Illegal number) = IfKnown moments (λ m. IsIllegalLog m.reads number)
+IsLogCause rose moments (BadRecord index why) = (IfKnown moments (λ m. IsCut MAGIC index m.reads) × (why ≡ Short)) ⊎ ((records : List (List ℕ)) × IfKnown moments (λ m. (id : ℕ) × Spells m.reads MAGIC id records) × IsBadRecord records index why)
+IsLogCause rose moments (Illegal number) = (records : List (List ℕ)) × IfKnown moments (λ m. (id : ℕ) × Spells m.reads MAGIC id records) × IsIllegal records number
 
 -- what a refusal leaves; where the disk failed, that is left open
 abbrev pub LeavesRecords : List Moment → List Moment → WalError → Type 0

@@ -50,12 +50,12 @@ fn take_record(
     }
 }
 
-/// The history that the records spell.
+/// The history that the records spell. Most records have one entry, so it begins with room for so many.
 pub(crate) fn history_of(alloc: Global, records: &[Record]) -> Result<History, WalError>
     ensures ok { IfOk result (λ history. AreEntries 1 records.now history.entries) }
     ensures err { IfErr result (IsRecordCause records.now) }
 {
-    let mut history = History::new(alloc);
+    let mut history = History::with_capacity(alloc, records.len())?;
     for (i, record) in records.iter().enumerate() {
         take_record(alloc, &mut history, i as u64, record.bytes())?;
     }

@@ -11,6 +11,6 @@ loop-i-preserved c =
 
 pub returns-in_err-take_record-clause-err : goal.returns-in_err-take_record-clause-err
 returns-in_err-take_record-clause-err c =
-    let p = err_from_is_err_and c.from_residual.result c.from_residual.ensures.1 in
+    let p = err_from_is_err_and c.from_residual-in_err-take_record.result c.from_residual-in_err-take_record.ensures.1 in
     let refused = subst (λ (bytes : List ℕ). IsRefusedRecord c.loop-i.history.entries c.loop-i.i bytes c.in_err-take_record.field-0.0) c.bytes.ensures c.in_err-take_record.ensures.err in
     rw (p.1, p.2) (refused_cause c.args.records.now c.loop-i.i c.index-records-i.result c.loop-i.history.entries c.in_err-take_record.field-0.0 c.loop-i-test.true c.index-records-i.is c.loop-i.invariant refused)

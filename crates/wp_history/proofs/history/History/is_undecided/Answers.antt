@@ -1,7 +1,6 @@
-use Rattle.std.proofs.Common.{ap, ◌∙◌, eqb}
-use Rattle.std.specs.List.{list_any}
-use Rattle.wp_history.proofs.Undecided.{is_undecided_by_list}
+use Rattle.std.proofs.Common.{◌∙◌}
+use Rattle.wp_history.proofs.Ascending.{is_found}
 use Rattle.wp_history.proofs.history.History.is_undecided.Goals as goal
 
 pub returns : goal.returns
-returns c = c.contains.ensures.value ∙ ap (list_any (λ q. eqb q c.args.p)) c.undecided.ensures ∙ is_undecided_by_list c.args.self.now.entries c.args.p
+returns c = c.is_ok.ensures.value ∙ is_found c.args.self.now.entries c.undecided.result.now c.args.p c.binary_search.result c.undecided.ensures c.binary_search.ensures.position

@@ -1,7 +1,11 @@
 use Rattle.std.proofs.Common.{◌≡◌, ◌+◌, ◌≤◌, vec_len, ap, arith}
 use Rattle.wp_history.specs.History.{RoomyHistory}
 use Rattle.wp_history.proofs.Undecided.{grows_with}
+use Rattle.wp_history.proofs.Ascending.{numbers_ascend}
 use Rattle.wp_history.proofs.history.History.push.Goals as goal
+
+pub note_undecided-requires-clause-ascending : goal.note_undecided-requires-clause-ascending
+note_undecided-requires-clause-ascending c = numbers_ascend _ _ c.self.invariant.0
 
 pub invariant_of-self : goal.invariant_of-self
 invariant_of-self c =
