@@ -1,0 +1,209 @@
+-- The full list of a legal cut is lawful, where the versions lie below what the cut carries; and the other way round.
+use Rattle.std.proofs.Common.{◌≡◌, ℕ, zero, suc, ◌-◌, ◌<◌, ◌≤◌, Bool, true, false, List, [], ◌∷◌, ◌++◌, length, take, Option, Some, None, refl, sym, ap, ◌∙◌, subst, inl, inr, length-append, arith}
+use Rattle.std.specs.Prelude.{slice_get, is_some}
+use Rattle.std.specs.Str.{bytes_eq}
+use Rattle.std.proofs.lemmas.Bool.{cases_lt, cases_order}
+use Rattle.std.proofs.lemmas.List.{take-append-le}
+use Rattle.std.proofs.lemmas.Option.{same_Some, slice_get_within}
+use Rattle.std.proofs.lemmas.Slice.Eq.{bytes_eq-Decides}
+use Rattle.wp_model.specs.declared.change.Change.{Change}
+use Rattle.wp_model.specs.declared.entry.Entry.{Entry}
+use Rattle.wp_model.specs.declared.version.Version.{Version}
+use Rattle.wp_model.specs.Batch.{key_of}
+use Rattle.wp_model.specs.History.{prepared_name, prepared_batch, name_at, batch_at, is_undecided, named, is_changed, holder_of}
+use Rattle.wp_model.specs.Legal.{NamesUndecided, AreFree}
+use Rattle.wp_model.specs.Versions.{AreInOrder, version_at}
+use Rattle.wp_model.proofs.Entries.{slice_get_old}
+use Rattle.wp_model.proofs.Found.{found_holder, found_named}
+use Rattle.wp_history.proofs.Held.{not_free, free_key}
+use Rattle.wp_cuts.specs.Cut.{Carried, Cut, carried_at, is_carried, base_value, changes_at, front_entry_of, front_entry, full_of}
+use Rattle.wp_cuts.specs.Orderly.{IsOrderlyNext, IsLawfulNext, IsLawful}
+use Rattle.wp_cuts.specs.LegalCut.{AreNumbered, AreApart, cut_front, prepares_of, IsLegalCut, AreBelow}
+use Rattle.wp_cuts.proofs.Following.{Follow, AreNaming}
+use Rattle.wp_cuts.proofs.Alike.{orderly_alike}
+use Rattle.wp_cuts.proofs.Decided.{slice_get_behind}
+use Rattle.wp_cuts.proofs.Agreeing.{take_behind, naming_to}
+use Rattle.wp_cuts.proofs.Rows.{start_names}
+use Rattle.wp_cuts.proofs.Versions.{changes_to, changes_ascend}
+use Rattle.wp_cuts.proofs.FullList.{front, full_is, starts, front_long, front_at, front_undone, front_take, numbered_low, carried_in, carried_undecided, carried_entry, full_is_cut, full_value, settled_from, settled_parts}
+use Rattle.wp_cuts.proofs.Standing.{stands_for, restores_to}
+use Rattle.wp_cuts.proofs.LegalCuts.{cut_is_legal}
+
+-- ---- what is free
+
+free_from : (before : List Entry) (changes : List Change) → ((key : List ℕ) → is_changed changes key ≡ true → holder_of before key ≡ None) → AreFree before changes
+free_from before [] free = tt
+free_from before (change ∷ changes) free = (free (key_of change) first, free_from before changes (λ key changed. free key (others key changed)))
+  where
+    first : is_changed (change ∷ changes) (key_of change) ≡ true
+    first = rw ((bytes_eq-Decides (key_of change) (key_of change)).1 refl) refl
+
+    others : (key : List ℕ) → is_changed changes key ≡ true → is_changed (change ∷ changes) key ≡ true
+    others key changed = by (bytes_eq (key_of change) key) refl
+      where
+        by : (b : Bool) → bytes_eq (key_of change) key ≡ b → is_changed (change ∷ changes) key ≡ true
+        by true e = rw e refl
+        by false e = rw e changed
+
+unheld : (before : List Entry) (key : List ℕ) → ((p : ℕ) → is_undecided before p ≡ true → is_changed (batch_at before p) key ≡ true → ⊥) → holder_of before key ≡ None
+unheld before key none = by (holder_of before key) refl
+  where
+    by : (o : Option ℕ) → holder_of before key ≡ o → o ≡ None
+    by None e = refl
+    by (Some p) e = let found = found_holder before key p e in absurd (none p found.0 found.1)
+
+unnamed : (before : List Entry) (name : List ℕ) → ((p : ℕ) → is_undecided before p ≡ true → name_at before p ≡ name → ⊥) → named before name ≡ None
+unnamed before name none = by (named before name) refl
+  where
+    by : (o : Option ℕ) → named before name ≡ o → o ≡ None
+    by None e = refl
+    by (Some p) e = let found = found_named before name p e in absurd (none p found.0 ((bytes_eq-Decides (name_at before p) name).0 found.1))
+
+-- ---- entry by entry
+
+-- each entry of the full list may follow, where each of the front may, and each behind it
+pub follow_full : (Next : List Entry → Entry → Type 0) (c : Cut) (versions : List Version)
+    → ((n : ℕ) → n < c.base → Next (front c versions n) (front_entry c versions (suc n)))
+    → ((n : ℕ) (entry : Entry) → slice_get c.entries n ≡ Some entry → Next (front c versions c.base ++ take n c.entries) entry)
+    → Follow Next (full_of c versions)
+follow_full Next c versions below behind = subst (Follow Next) (sym (full_is c versions)) each
+  where
+    long : length (front c versions c.base) ≡ c.base
+    long = front_long c versions c.base
+
+    each : Follow Next (front c versions c.base ++ c.entries)
+    each n entry at = elim (cases_lt n c.base) [
+      | inl lt ↦
+          let there : Some (front_entry c versions (suc n)) ≡ Some entry = sym (front_at c versions c.base (suc n) (omega arith) (omega arith)) ∙ sym (slice_get_old (front c versions c.base) c.entries n (omega (arith, long))) ∙ at in
+          let its = same_Some (front_entry c versions (suc n)) entry there in
+          let before : take n (front c versions c.base ++ c.entries) ≡ front c versions n = take-append-le n (front c versions c.base) c.entries (omega (arith, long)) ∙ front_take c versions n c.base (omega arith) in
+          subst (λ (h : List Entry). Next h entry) (sym before) (subst (Next (front c versions n)) its (below n lt))
+      | inr ge ↦
+          let k = n - c.base in
+          let place : n - length (front c versions c.base) ≡ k = ap (λ (m : ℕ). n - m) long in
+          let there : slice_get c.entries k ≡ Some entry = ap (slice_get c.entries) (sym place) ∙ sym (slice_get_behind (front c versions c.base) c.entries n (omega (arith, long))) ∙ at in
+          let within = slice_get_within (front c versions c.base ++ c.entries) n entry at in
+          let before : take n (front c versions c.base ++ c.entries) ≡ front c versions c.base ++ take k c.entries =
+          take_behind (front c versions c.base) c.entries n (omega (arith, long)) (omega (arith, within)) ∙ ap (λ (m : ℕ). front c versions c.base ++ take m c.entries) place in
+          subst (λ (h : List Entry). Next h entry) (sym before) (behind k entry there)
+    ]
+
+module _ (c : Cut) (versions : List Version) (order : AreInOrder versions) (below : AreBelow c versions) (numbered : AreNumbered c) (apart : AreApart c) where
+  -- no carried prepare up to n has a key of the next Write
+  write_free : (n : ℕ) → n < c.base → is_carried c (suc n) ≡ false → AreFree (front c versions n) (changes_at versions (suc n))
+  write_free n lt other = free_from (front c versions n) (changes_at versions (suc n)) (λ key changed. unheld (front c versions n) key (λ p undecided held.
+      let it = carried_in c versions n p undecided in
+      let its : is_changed it.of.batch key ≡ true = ap (λ (o : Option Entry). is_changed (prepared_batch o) key) (sym it.there) ∙ held in
+      let above : suc n < p = at key p it.of (version_at versions key (suc n)) refl (ap is_some (sym (changes_to versions (suc n) key)) ∙ changed) it.found its in
+      let within = it.within in
+      omega (arith, above, within)))
+    where
+      at : (key : List ℕ) (p : ℕ) (x : Carried) (o : Option (Option (List ℕ))) → version_at versions key (suc n) ≡ o → is_some (version_at versions key (suc n)) ≡ true → carried_at c p ≡ Some x → is_changed x.batch key ≡ true → suc n < p
+      at key p x None is some found held = let none : is_some (version_at versions key (suc n)) ≡ false = ap is_some is in absurd cc
+      at key p x (Some value) is some found held = below key (suc n) p value x is (settled_from c (suc n) (omega arith) (omega arith) other) found held
+
+  prepare_free : (n : ℕ) (x : Carried) → carried_at c (suc n) ≡ Some x → AreFree (front c versions n) x.batch
+  prepare_free n x found = free_from (front c versions n) x.batch (λ key changed. unheld (front c versions n) key (λ p undecided held.
+      let it = carried_in c versions n p undecided in
+      let its : is_changed it.of.batch key ≡ true = ap (λ (o : Option Entry). is_changed (prepared_batch o) key) (sym it.there) ∙ held in
+      let same = apart.keys p (suc n) it.of x key it.found found its changed in
+      let within = it.within in
+      omega (arith, same, within)))
+
+  prepare_unnamed : (n : ℕ) (x : Carried) → carried_at c (suc n) ≡ Some x → named (front c versions n) x.name ≡ None
+  prepare_unnamed n x found = unnamed (front c versions n) x.name (λ p undecided has.
+      let it = carried_in c versions n p undecided in
+      let its : it.of.name ≡ x.name = ap prepared_name (sym it.there) ∙ has in
+      let same = apart.names p (suc n) it.of x it.found found its in
+      let within = it.within in
+      omega (arith, same, within))
+
+  front_lawful_by : (n : ℕ) → n < c.base → (o : Option Carried) → carried_at c (suc n) ≡ o → IsLawfulNext (front c versions n) (front_entry_of versions (suc n) o)
+  front_lawful_by n lt None is = record {
+    orderly = record {
+      ascending = changes_ascend versions (suc n) order;
+      names_undecided = tt;
+      undo_is_closed = front_undone c versions n;
+      keys_are_free = write_free n lt (ap is_some is);
+    };
+    restores_prior = tt;
+  }
+  front_lawful_by n lt (Some x) is = record {
+    orderly = record {
+      ascending = apart.ascending (suc n) x is;
+      names_undecided = tt;
+      undo_is_closed = front_undone c versions n;
+      keys_are_free = (prepare_free n x is, prepare_unnamed n x is);
+    };
+    restores_prior = tt;
+  }
+
+front_numbered : (c : Cut) (n : ℕ) → AreNumbered c → AreNumbered (cut_front c n)
+front_numbered c n numbered = record { ascend = numbered.ascend; within = numbered.within }
+
+-- the list of its prepares follows the rule that decisions find them
+prepares_naming : (c : Cut) (values : List ℕ → Option (List ℕ)) → IsLegalCut c values → AreNaming (prepares_of c)
+prepares_naming c values legal =
+    follow_full NamesUndecided c [] (λ n lt. start_names (front c [] n) (front_entry c [] (suc n)) (starts c [] (suc n)))
+    (λ n entry at. subst (λ (h : List Entry). NamesUndecided h entry) (full_is (cut_front c n) []) (legal.orderly n entry at).names_undecided)
+
+pub full_is_lawful : (c : Cut) (versions : List Version) → AreInOrder versions → AreBelow c versions → IsLegalCut c (base_value c versions) → IsLawful (full_of c versions)
+full_is_lawful c versions order below legal = record {
+  few = omega (arith, legal.few, ap length (full_is c versions), length-append (front c versions c.base) c.entries, front_long c versions c.base);
+  each = follow_full IsLawfulNext c versions (λ n lt. front_lawful_by c versions order below legal.numbered legal.apart n lt (carried_at c (suc n)) refl) behind;
+}
+  where
+    naming : (n : ℕ) → AreNaming (prepares_of (cut_front c n))
+    naming n = subst AreNaming (sym (full_is (cut_front c n) [])) (naming_to (front c [] c.base) c.entries n (subst AreNaming (full_is c []) (prepares_naming c (base_value c versions) legal)))
+
+    numbered : (n : ℕ) → AreNumbered (cut_front c n)
+    numbered n = front_numbered c n legal.numbered
+
+    behind : (n : ℕ) (entry : Entry) → slice_get c.entries n ≡ Some entry → IsLawfulNext (front c versions c.base ++ take n c.entries) entry
+    behind n entry at =
+        let d = cut_front c n in
+        let stands = stands_for (prepares_of d) d versions (naming n) (full_is_cut d [] (numbered n)) in
+        let orderly : IsOrderlyNext (full_of d versions) entry = orderly_alike (prepares_of d) (full_of d versions) entry stands.alike (legal.orderly n entry at) in
+        let P : List Entry → Type 0 = λ h. IsLawfulNext h entry in
+        subst P (full_is d versions) (record {
+          orderly = orderly;
+          restores_prior = restores_to (full_of d versions) d (base_value c versions) stands.naming (full_is_cut d versions (numbered n)) (λ key. full_value d versions key (numbered n) order) entry orderly.names_undecided (legal.restores n entry at);
+        })
+
+-- ---- the other way round
+
+pub full_is_legal_cut : (c : Cut) (versions : List Version) → AreInOrder versions → AreNumbered c → IsLawful (full_of c versions) → IsLegalCut c (base_value c versions)
+full_is_legal_cut c versions order numbered lawful = cut_is_legal (full_of c versions) c (base_value c versions) lawful (full_is_cut c versions numbered) (λ key. full_value c versions key numbered order)
+
+-- what the list has at a number up to the base may follow what it has below
+pub front_follows : (Next : List Entry → Entry → Type 0) (c : Cut) (versions : List Version) (n : ℕ) → n < c.base → Follow Next (full_of c versions) → Next (front c versions n) (front_entry c versions (suc n))
+front_follows Next c versions n lt each =
+    let long = front_long c versions c.base in
+    let all : Follow Next (front c versions c.base ++ c.entries) = subst (Follow Next) (full_is c versions) each in
+    let before : take n (front c versions c.base ++ c.entries) ≡ front c versions n = take-append-le n (front c versions c.base) c.entries (omega (arith, long)) ∙ front_take c versions n c.base (omega arith) in
+    subst (λ (h : List Entry). Next h (front_entry c versions (suc n))) before
+    (all n (front_entry c versions (suc n)) (slice_get_old (front c versions c.base) c.entries n (omega (arith, long)) ∙ front_at c versions c.base (suc n) (omega arith) (omega arith)))
+
+pub full_is_below : (c : Cut) (versions : List Version) → AreNumbered c → IsLawful (full_of c versions) → AreBelow c versions
+full_is_below c versions numbered lawful key q p value x there settled found changed =
+    elim (cases_order q p) [
+      | inl same ↦ let no = (settled_parts c q settled).other in let yes : is_carried c q ≡ true = ap (is_carried c) same ∙ ap is_some found in absurd cc
+      | inr apart ↦ elim apart [
+        | inl lt ↦ lt
+        | inr above ↦ absurd (not_above q (settled_parts c q settled).low (settled_parts c q settled).within (settled_parts c q settled).other there above)
+      ]
+    ]
+  where
+    low : 1 ≤ p
+    low = numbered_low c p x numbered found
+
+    not_above : (m : ℕ) → 1 ≤ m → m ≤ c.base → is_carried c m ≡ false → version_at versions key m ≡ Some value → p < m → ⊥
+    not_above zero first within other is above = absurd (omega arith)
+    not_above (suc n) first within other is above =
+        let after = front_follows IsLawfulNext c versions n (omega arith) lawful.each in
+        let held : is_changed (batch_at (front c versions n) p) key ≡ true = ap (λ (o : Option Entry). is_changed (prepared_batch o) key) (carried_entry c versions n p x low (omega arith) found) ∙ changed in
+        by (carried_at c (suc n)) refl after (λ free. not_free (front c versions n) key p (carried_undecided c versions n p x low (omega arith) found) held (free_key (front c versions n) (changes_at versions (suc n)) key free (ap is_some (changes_to versions (suc n) key ∙ is))))
+      where
+        by : (o : Option Carried) → carried_at c (suc n) ≡ o → IsLawfulNext (front c versions n) (front_entry_of versions (suc n) o) → (AreFree (front c versions n) (changes_at versions (suc n)) → ⊥) → ⊥
+        by None e after never = never after.orderly.keys_are_free
+        by (Some y) e after never = let yes : is_carried c (suc n) ≡ true = ap is_some e in absurd cc

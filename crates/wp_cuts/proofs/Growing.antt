@@ -1,0 +1,46 @@
+-- A cut of a list that grows, and of what a list begins with.
+use Rattle.std.proofs.Common.{◌≡◌, ℕ, ◌+◌, ◌≤◌, List, ◌++◌, length, take, drop, None, refl, sym, ap, ◌∙◌, length-append, length-drop, arith}
+use Rattle.std.proofs.lemmas.List.{take-append-le, drop-append-le, take-take, drop-take, length-take-le}
+use Rattle.wp_model.specs.declared.entry.Entry.{Entry}
+use Rattle.wp_model.specs.History.{value_at, newest}
+use Rattle.wp_model.specs.Legal.{undone_last}
+use Rattle.wp_cuts.specs.Cut.{Cut, carried_of, cut_at, IsCut}
+use Rattle.wp_cuts.specs.LegalCut.{cut_front}
+
+pub cut_carried : (history : List Entry) (c : Cut) → IsCut history c → c.carried ≡ carried_of (take c.base history)
+cut_carried history c cut = ap (λ (d : Cut). d.carried) cut.is
+
+cut_entries : (history : List Entry) (c : Cut) → IsCut history c → c.entries ≡ drop c.base history
+cut_entries history c cut = ap (λ (d : Cut). d.entries) cut.is
+
+pub cut_grows : (history more : List Entry) (c : Cut) → IsCut history c → IsCut (history ++ more) (record c { entries = c.entries ++ more })
+cut_grows history more c cut =
+    let front : take c.base (history ++ more) ≡ take c.base history = take-append-le c.base history more cut.within in
+    let carried : c.carried ≡ carried_of (take c.base (history ++ more)) = cut_carried history c cut ∙ ap carried_of (sym front) in
+    let entries : c.entries ++ more ≡ drop c.base (history ++ more) = ap (λ (h : List Entry). h ++ more) (cut_entries history c cut) ∙ sym (drop-append-le c.base history more cut.within) in
+    record {
+      within = omega (arith, cut.within, length-append history more);
+      whole = ap undone_last front ∙ cut.whole;
+      is = λ i. record { base = c.base; carried = carried i; entries = entries i };
+    }
+
+pub cut_again : (history : List Entry) (m : ℕ) → m ≤ length history → undone_last (take m history) ≡ None → IsCut history (cut_at history m)
+cut_again history m within whole = record { within = within; whole = whole; is = refl }
+
+pub entries_long : (history : List Entry) (c : Cut) → IsCut history c → length history ≡ c.base + length c.entries
+entries_long history c cut = omega (arith, cut.within, ap length (cut_entries history c cut), length-drop c.base history)
+
+pub front_is_cut : (history : List Entry) (c : Cut) (n : ℕ) → IsCut history c → n ≤ length c.entries → IsCut (take (c.base + n) history) (cut_front c n)
+front_is_cut history c n cut within =
+    let inside : c.base + n ≤ length history = omega (arith, entries_long history c cut) in
+    let front : take c.base (take (c.base + n) history) ≡ take c.base history = take-take c.base (c.base + n) history (omega arith) in
+    let carried : c.carried ≡ carried_of (take c.base (take (c.base + n) history)) = cut_carried history c cut ∙ ap carried_of (sym front) in
+    let entries : take n c.entries ≡ drop c.base (take (c.base + n) history) = ap (take n) (cut_entries history c cut) ∙ sym (drop-take c.base n history) in
+    record {
+      within = omega (arith, length-take-le (c.base + n) history inside);
+      whole = ap undone_last front ∙ cut.whole;
+      is = λ i. record { base = c.base; carried = carried i; entries = entries i };
+    }
+
+pub value_of_front : (history : List Entry) (c : Cut) (n : ℕ) (key : List ℕ) → value_at (take (c.base + n) history) key c.base ≡ value_at history key c.base
+value_of_front history c n key = ap (λ (h : List Entry). newest h key) (take-take c.base (c.base + n) history (omega arith))

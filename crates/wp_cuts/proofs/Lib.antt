@@ -1,0 +1,16 @@
+mod Following
+mod Alike
+mod Decided
+mod Agreeing
+mod Growing
+mod Rows
+mod Versions
+mod FullList
+mod Standing
+mod Distinct
+mod LegalCuts
+mod FullLegal
+mod Lawful
+mod Reopening
+mod Copying
+mod Zero

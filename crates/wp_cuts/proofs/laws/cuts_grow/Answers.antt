@@ -1,0 +1,8 @@
+use Rattle.wp_cuts.proofs.Growing.{cut_grows, cut_again}
+use Rattle.wp_cuts.proofs.laws.cuts_grow.Goals as goal
+
+pub returns-clause-more : goal.returns-clause-more
+returns-clause-more c = cut_grows
+
+pub returns-clause-again : goal.returns-clause-again
+returns-clause-again c = cut_again

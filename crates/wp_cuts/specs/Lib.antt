@@ -1,0 +1,6 @@
+pub mod Orderly
+pub mod Cut
+pub mod Agree
+pub mod LegalCut
+pub mod Reopened
+pub mod Copied
