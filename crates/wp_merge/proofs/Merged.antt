@@ -14,6 +14,10 @@ use Rattle.wp_model.specs.Versions.{AreInOrder, version_cmp, version_at}
 use Rattle.wp_model.proofs.VersionLists.{IsBefore, in_order_parts, in_order_cons, or_cond, version_total}
 use Rattle.wp_merge.specs.Merge.{first_at, choose_by_order, weave, merge_of}
 
+pub merge_none : (xs : List Version) → merge_of xs [] ≡ xs
+merge_none [] = refl
+merge_none (x ∷ xs) = ap (λ (ys : List Version). x ∷ ys) (merge_none xs)
+
 less_not_equal : Less ≡ Equal → ⊥
 less_not_equal h = absurd cc
 

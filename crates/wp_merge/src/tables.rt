@@ -69,7 +69,8 @@ fn take_next<'a>(
     }
 }
 
-/// The versions of the list and of the table, which is read where it is: what stays of it is copied.
+/// The versions of the list and of the table, which is read where it is: what stays of it is copied. More of them than a
+/// length can be are answered as want of memory, since no memory holds so many.
 pub fn merge_table(
     alloc: Global,
     mut list: VecDeque<Version>,
@@ -80,7 +81,8 @@ pub fn merge_table(
 {
     let mut rest = table.all();
     let mut next = rest.advance();
-    let mut merged = VecDeque::with_capacity(alloc, list.len())?;
+    let most = list.len().checked_add(table.count()).ok_or(AllocError)?;
+    let mut merged = VecDeque::with_capacity(alloc, most)?;
     while let Some(version) = take_next(alloc, &mut list, &mut next, &mut rest)? {
         merged.push_back(version)?;
     }

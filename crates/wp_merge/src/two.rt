@@ -36,6 +36,7 @@ fn take_next(first: &mut VecDeque<Version>, second: &mut VecDeque<Version>) -> O
     }
 }
 
+/// The versions of both lists. Where one has none the other stays in the memory that it has.
 pub fn merge_two(
     alloc: Global,
     mut first: VecDeque<Version>,
@@ -43,6 +44,12 @@ pub fn merge_two(
 ) -> Result<VecDeque<Version>, AllocError>
     ensures { IfOk result (λ merged. merged.items ≡ merge_of first.items second.items) }
 {
+    if first.is_empty() {
+        return Ok(second);
+    }
+    if second.is_empty() {
+        return Ok(first);
+    }
     let mut merged = VecDeque::with_capacity(alloc, first.len() + second.len())?;
     while let Some(version) = take_next(&mut first, &mut second) {
         merged.push_back(version)?;

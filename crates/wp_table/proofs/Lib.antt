@@ -9,6 +9,7 @@ pub mod Judged
 pub mod Halving
 pub mod Lookup
 pub mod NextBlock
+pub mod Spelled
 pub mod FieldFaults
 pub mod TableFaults
 pub mod WholeFaults

@@ -77,6 +77,11 @@ pub record IsIndexed (bytes : List ℕ) (count : ℕ) (places : List ℕ) : Type
   pub counted : count ≡ length versions
   pub placed : places ++ end ∷ [] ≡ places_from 25 (blocks_of versions)
 
+-- a table that was built: its bytes, and the versions that they have
+pub record BuiltTable : Type 0 where
+  pub bytes : List ℕ
+  pub versions : List Version
+
 -- Every version of the key stands in the block `first` or later. The block `behind` comes later, and the first key there,
 -- if there is one, is not below the key.
 pub record StandsFrom (versions : List Version) (key : List ℕ) (first behind : ℕ) : Type 0 where

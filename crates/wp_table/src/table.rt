@@ -11,7 +11,7 @@ ghost use Rattle.wp_table.specs.Errors.{table_fault};
 ghost use Rattle.wp_table.specs.Faults.{IsTableFault};
 ghost use Rattle.wp_table.specs.Reading.{table_at};
 ghost use Rattle.wp_table.specs.Table.{block_count, has_words, IsTable, table_bytes};
-ghost use Rattle.wp_table.specs.Walk.{StandsFrom};
+ghost use Rattle.wp_table.specs.Walk.{stored_versions, IsIndexed, StandsFrom};
 
 use crate::all::All;
 use crate::error::TableError;
@@ -24,7 +24,7 @@ use std::marker::{Brand, Model};
 use std::sync::ledger::{Blank, Ledger};
 use wp_model::{Key, Seq};
 
-/// A table that was judged: its bytes, and eight for each block. Threads may share it.
+/// A table that was judged or built: its bytes, and eight for each block. Threads may share it.
 #[derive(Drop)]
 pub struct Table {
     bytes: Vec<u8>,
@@ -47,6 +47,18 @@ impl Model for Table {
 }
 
 impl Table {
+    /// The table of so many versions that the bytes are, whose blocks begin at these places.
+    pub(crate) fn new(bytes: Vec<u8>, count: u64, index: Vec<u64>) -> Table
+        requires { IsIndexed bytes.items count index.items }
+        ensures { result ≡ stored_versions bytes.items count }
+    {
+        Table {
+            bytes,
+            count,
+            index,
+        }
+    }
+
     /// The table that the bytes are, in the store with that id, where the entries up to `flushed` were flushed. It reads
     /// the bytes once, and makes no list of the versions.
     pub fn of(alloc: Global, bytes: Vec<u8>, id: u32, flushed: Seq) -> Result<Table, TableError>
@@ -67,6 +79,13 @@ impl Table {
             count,
             index,
         })
+    }
+
+    /// How many versions it has.
+    pub fn count(&self) -> usize
+        ensures { result ≡ length self.now }
+    {
+        self.count as usize
     }
 
     /// How many blocks it has.

@@ -1,9 +1,11 @@
-ghost use Rattle.std.specs.Prelude.{◌≡◌, ℕ, ◌≤◌, true, ◌&&◌, ◌++◌, length, OnOk, IfOk};
+ghost use Rattle.std.specs.Prelude.{◌≡◌, ℕ, ◌≤◌, true, ◌&&◌, [], ◌∷◌, ◌++◌, length, OnOk, IfOk};
 ghost use Rattle.std.specs.List.{flat_map, list_all};
 ghost use Rattle.std.specs.Int.{w64, to_be_bytes};
 ghost use Rattle.std.specs.Option.{option_copied};
 ghost use Rattle.wp_table.specs.Table.{stored_bytes, version_bytes, block_bytes, is_numbered, is_flushed, is_stored, has_words, blocks_of, places_from, head_bytes, table_bytes, IsTable};
+ghost use Rattle.wp_table.specs.Walk.{stored_versions, IsIndexed};
 
+use crate::built::Built;
 use crate::layout::{BLOCK, DELETION, FORMAT, MAGIC, PUT, blocks_for};
 use std::alloc::{AllocError, Global};
 use wp_encoding::{push_value, push_word};
@@ -56,7 +58,7 @@ fn push_block(out: &mut Vec<u8>, block: &[Version]) -> Result<(), AllocError>
     Ok(())
 }
 
-/// Puts the blocks at the end, and where each begins, and at last where they end, behind the other places.
+/// Puts the blocks at the end, and where each begins behind the other places.
 fn push_blocks(
     out: &mut Vec<u8>,
     places: &mut Vec<u64>,
@@ -64,14 +66,13 @@ fn push_blocks(
 ) -> Result<(), AllocError>
     requires { list_all is_numbered versions.now ≡ true }
     ensures pushed { OnOk result (out.new.items ≡ out.old.items ++ flat_map block_bytes (blocks_of versions.now)) }
-    ensures placed { OnOk result (places.new.items ≡ places.old.items ++ places_from (length out.old.items) (blocks_of versions.now)) }
+    ensures placed { OnOk result (places.new.items ++ length out.new.items ∷ [] ≡ places.old.items ++ places_from (length out.old.items) (blocks_of versions.now)) }
     ensures in_range { OnOk result (list_all has_words versions.now ≡ true) }
 {
     for block in versions.chunks(BLOCK as usize) {
         places.push(out.len() as u64)?;
         push_block(out, block)?;
     }
-    places.push(out.len() as u64)?;
     Ok(())
 }
 
@@ -84,18 +85,35 @@ fn push_places(out: &mut Vec<u8>, places: &[u64]) -> Result<(), AllocError>
     Ok(())
 }
 
-/// The one spelling of the table that the versions are, for the store with that id.
-pub fn build(alloc: Global, id: u32, versions: &Versions) -> Result<Vec<u8>, AllocError>
+/// The one spelling of the table that the versions are, and where its blocks begin.
+fn spell(alloc: Global, id: u32, versions: &Versions) -> Result<(Vec<u8>, Vec<u64>), AllocError>
     requires some { 1 ≤ length versions.now }
     requires numbered { list_all is_numbered versions.now ≡ true }
-    ensures spelling { IfOk result (λ bytes. bytes.items ≡ table_bytes id versions.now) }
+    ensures bytes { IfOk result (λ spelled. spelled.0.items ≡ table_bytes id versions.now) }
+    ensures stored { IfOk result (λ spelled. stored_versions spelled.0.items (length versions.now) ≡ versions.now) }
+    ensures indexed { IfOk result (λ spelled. IsIndexed spelled.0.items (length versions.now) spelled.1.items) }
     ensures table { OnOk result ((flushed : ℕ) → list_all (is_flushed flushed) versions.now ≡ true → IsTable id flushed versions.now) }
 {
     let versions = versions.as_slice();
     let mut out = Vec::new(alloc);
-    let mut places = Vec::new(alloc);
+    let mut places = Vec::with_capacity(alloc, blocks_for(versions.len() as u64) as usize)?;
     push_head(&mut out, id, versions.len() as u64)?;
     push_blocks(&mut out, &mut places, versions)?;
+    let end = out.len() as u64;
     push_places(&mut out, &places)?;
-    Ok(out)
+    push_u64(&mut out, end)?;
+    out.shrink_to_fit();
+    Ok((out, places))
+}
+
+/// The table that the versions are, for the store with that id, in its one spelling.
+pub fn build(alloc: Global, id: u32, versions: &Versions) -> Result<Built, AllocError>
+    requires some { 1 ≤ length versions.now }
+    requires numbered { list_all is_numbered versions.now ≡ true }
+    ensures bytes { IfOk result (λ built. built.bytes ≡ table_bytes id versions.now) }
+    ensures versions { IfOk result (λ built. built.versions ≡ versions.now) }
+    ensures table { OnOk result ((flushed : ℕ) → list_all (is_flushed flushed) versions.now ≡ true → IsTable id flushed versions.now) }
+{
+    let (bytes, index) = spell(alloc, id, versions)?;
+    Ok(Built::of(bytes, versions.as_slice().len() as u64, index))
 }

@@ -8,7 +8,6 @@
 
 mod device;
 mod error;
-mod prepare;
 mod set;
 
 pub use error::TableSetError;

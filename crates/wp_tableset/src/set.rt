@@ -13,14 +13,13 @@ ghost use Rattle.wp_tableset.specs.Set.{RestsWith, StoresTables};
 
 use crate::device::write_behind;
 use crate::error::TableSetError;
-use crate::prepare::prepare;
-use std::alloc::Global;
+use std::alloc::{AllocError, Global};
 use std::marker::Model;
 use std::sync::Arc;
 use wp_manifest::{Edit, InstallError, Manifest};
 use wp_model::{Seq, Versions};
 use wp_outside::{Disk, Failed};
-use wp_table::Table;
+use wp_table::{Built, Table, build};
 
 /// The tables of a store: its manifest, and the device of its table files. Clauses see the manifest, the device's moments
 /// and faults, and whether a device has failed.
@@ -60,6 +59,13 @@ fn edit_of(flushed: Seq, table: (u64, u64), mut others: Vec<(u64, u64)>) -> Edit
         flushed,
         tables: others,
     }
+}
+
+/// The table for readers, who share it.
+fn share(alloc: Global, built: Built) -> Result<Arc<Table>, AllocError>
+    ensures { IfOk result (λ table. arc_value table ≡ built.versions) }
+{
+    Ok(Arc::new(alloc, built.into_table())?)
 }
 
 impl<D: Disk> TableSet<D> {
@@ -141,7 +147,8 @@ impl<D: Disk> TableSet<D> {
         Ok(Some(table))
     }
 
-    /// Writes a table of these versions, and then installs an edit that names it and, behind it, the other places.
+    /// Builds a table of these versions and writes it, and then installs an edit that names it and, behind it, the other
+    /// places. The table for readers keeps the bytes that were written.
     fn put(
         &mut self,
         versions: &Versions,
@@ -160,15 +167,18 @@ impl<D: Disk> TableSet<D> {
         ensures puts { Puts self.old self.new versions.now flushed places.items result }
         ensures keeps { LosesNoTable self.old self.new }
     {
-        let (table, bytes) = prepare(self.alloc, self.manifest.id(), versions, flushed)?;
-        let place = match write_behind(&mut self.tables, &bytes) {
+        let built = build(self.alloc, self.manifest.id(), versions)?;
+        let spelling = built.bytes();
+        let size = spelling.len() as u64;
+        let place = match write_behind(&mut self.tables, spelling) {
             Ok(place) => place,
             Err(Failed) => {
                 self.halted = true;
                 return Err(TableSetError::Fault);
             }
         };
-        self.install(edit_of(flushed, (place, bytes.len() as u64), places))?;
+        let table = share(self.alloc, built)?;
+        self.install(edit_of(flushed, (place, size), places))?;
         Ok(table)
     }
 
