@@ -114,6 +114,9 @@ module _ (n : ℕ) where
   pub newest-newer : (es ns : Numbered) → AreNewestFirst es → ns ≡ filter newer es → AreNewestFirst ns
   newest-newer = newest-filter (nat_lt n)
 
+  pub newest-older : (es ns : Numbered) → AreNewestFirst es → ns ≡ filter (λ e. nat_lt e.0 n) es → AreNewestFirst ns
+  newest-older = newest-filter (λ k. nat_lt k n)
+
   -- after n was taken out none has it
   pub none_is : (es : Numbered) → NonePasses (nat_eq n) (filter other es)
   none_is [] = tt

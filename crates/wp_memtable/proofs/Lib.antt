@@ -1,2 +1,3 @@
 pub mod KeyVersions
 pub mod Listed
+pub mod Between

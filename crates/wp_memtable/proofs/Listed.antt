@@ -1,11 +1,11 @@
 -- What the keys' versions are as one list.
-use Rattle.std.proofs.Common.{◌≡◌, ℕ, zero, suc, ◌+◌, ◌<◌, ◌≤◌, Bool, true, false, cond, not, ◌&&◌, ◌==◌, Less, Equal, Greater, List, [], ◌∷◌, ◌++◌, length, get_or, take, nat_eq, nat_lt, map, filter, Option, Some, None, is_some, ◌⊎◌, inl, inr, refl, sym, ap, ◌∙◌, subst, arith, length-append}
+use Rattle.std.proofs.Common.{◌≡◌, ℕ, zero, suc, ◌+◌, ◌<◌, ◌≤◌, Bool, true, false, cond, not, ◌&&◌, ◌||◌, ◌==◌, Less, Equal, Greater, List, [], ◌∷◌, ◌++◌, length, get_or, take, nat_eq, nat_lt, map, filter, Option, Some, None, is_some, ◌⊎◌, inl, inr, refl, sym, ap, ◌∙◌, subst, arith, length-append}
 use Rattle.std.specs.Option.{option_or, option_and_then}
 use Rattle.std.specs.Ordering.{nat_cmp, is_eq, ordering_then, match_ordering}
 use Rattle.std.specs.declared.cmp.Ordering.{Ordering}
 use Rattle.std.specs.Str.{bytes_eq}
 use Rattle.std.specs.Cmp.{Equal-is, eq_by_cmp_equiv, nat_eq_equiv}
-use Rattle.std.specs.List.{AllByRecursion}
+use Rattle.std.specs.List.{AllByRecursion, list_any}
 use Rattle.std.specs.List.Sorted.{IsStrictlySortedBy}
 use Rattle.std.specs.Map.{lookup, keys_of, set_value}
 use Rattle.std.specs.Map.Calls.{RetainsPairs}
@@ -220,6 +220,19 @@ version_at-put k n v es ns r w old new found put updated key m =
 
 pub length-versions_in : (e : List ℕ × RoomyVersions) (es : Places) → length (versions_in (e ∷ es)) ≡ length e.1.versions + length (versions_in es)
 length-versions_in e es = length-append (under e.0 e.1.versions) (versions_in es) ∙ ap (λ n. n + length (versions_in es)) (length-under e.0 e.1.versions)
+
+-- ---- whether one of the versions passes
+
+or_more : (x y z : Bool) → (x || (y || z)) ≡ ((x || y) || z)
+or_more true y z = refl
+or_more false y z = refl
+
+any_under : (p : ℕ → Bool) (k : List ℕ) (ps : Numbered) (rest : List Version) → list_any (λ v. p v.number) (under k ps ++ rest) ≡ (list_any (λ q. p q.0) ps || list_any (λ v. p v.number) rest)
+any_under p k [] rest = refl
+any_under p k (q ∷ ps) rest = ap (λ x. p q.0 || x) (any_under p k ps rest) ∙ or_more (p q.0) (list_any (λ e. p e.0) ps) (list_any (λ v. p v.number) rest)
+
+pub any-versions_in : (p : ℕ → Bool) (e : List ℕ × RoomyVersions) (es : Places) → list_any (λ v. p v.number) (versions_in (e ∷ es)) ≡ (list_any (λ q. p q.0) e.1.versions || list_any (λ v. p v.number) (versions_in es))
+any-versions_in p e es = any_under p e.0 e.1.versions (versions_in es)
 
 -- ---- the keys that changes change
 

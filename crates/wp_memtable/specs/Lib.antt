@@ -1,2 +1,3 @@
 pub mod KeyVersions
 pub mod Memtable
+pub mod Bounds

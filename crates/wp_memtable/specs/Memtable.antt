@@ -1,5 +1,5 @@
 -- The versions in memory: each key with its own.
-use Rattle.std.specs.Prelude.{◌≡◌, ℕ, Bool, true, false, ◌==◌, not, nat_lt, List, [], ◌∷◌, ◌++◌, is_some, if◌then◌else◌, map, filter}
+use Rattle.std.specs.Prelude.{◌≡◌, ℕ, Bool, true, false, ◌==◌, nat_lt, List, [], ◌∷◌, ◌++◌, is_some, if◌then◌else◌, map, filter}
 use Rattle.std.specs.Option.{option_or, option_map_or}
 use Rattle.std.specs.Str.{bytes_eq}
 use Rattle.std.specs.List.Sorted.{IsStrictlySortedBy}
@@ -16,9 +16,9 @@ pub record HasChanges (n : ℕ) (changes : List Change) (old new : List Version)
   pub in_order : AreInOrder new
   pub each : (key : List ℕ) (m : ℕ) → version_at new key m ≡ (if m == n then option_or (change_to changes key) (version_at old key m) else version_at old key m)
 
--- the versions but those of the number n
-abbrev pub without_number : ℕ → List Version → List Version
-without_number n versions = filter (λ v. not (v.number == n)) versions
+-- the versions with numbers below n
+abbrev pub below : ℕ → List Version → List Version
+below n versions = filter (λ v. nat_lt v.number n) versions
 
 -- the versions with numbers above n
 abbrev pub above : ℕ → List Version → List Version

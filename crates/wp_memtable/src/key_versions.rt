@@ -1,9 +1,12 @@
 ghost use Rattle.std.specs.Prelude.{◌≡◌, ℕ, ◌+◌, ◌<◌, ◌≤◌, ◌==◌, [], not, IsTrue, OnOk, Some, is_some, length, filter, nat_eq, nat_lt, if◌then◌else◌};
-ghost use Rattle.std.specs.List.{prefix_len};
+ghost use Rattle.std.specs.List.{list_any, prefix_len};
 ghost use Rattle.std.specs.Map.{lookup};
+ghost use Rattle.std.specs.VecDeque.{deque_len, deque_capacity};
 ghost use Rattle.std.specs.VecDeque.Iter.{deque_iter_rest};
+ghost use Rattle.wp_memtable.specs.Bounds.{is_between};
 ghost use Rattle.wp_memtable.specs.KeyVersions.{AreNewestFirst, has_place};
 
+use crate::bounds::Bounds;
 use std::alloc::{AllocError, Global};
 use std::collections::VecDeque;
 use std::collections::vec_deque::Iter;
@@ -44,6 +47,17 @@ fn newer_than(versions: &VecDeque<(Seq, Option<Value>)>, n: Seq) -> usize
     i
 }
 
+/// Takes room for one version more. The first one gets just that, since most keys have no other.
+fn reserve_one(versions: &mut VecDeque<(Seq, Option<Value>)>) -> Result<(), AllocError>
+    ensures ok { OnOk result (deque_len versions.new + 1 ≤ deque_capacity versions.new) }
+    ensures items { versions.new.items ≡ versions.old.items }
+{
+    if versions.is_empty() {
+        return versions.reserve_exact(1);
+    }
+    versions.reserve(1)
+}
+
 impl KeyVersions {
     pub fn new(alloc: Global) -> KeyVersions
         ensures { result.versions ≡ [] }
@@ -65,7 +79,7 @@ impl KeyVersions {
         ensures same_versions { self.new.versions ≡ self.old.versions }
         ensures newest_first { AreNewestFirst self.new.versions }
     {
-        self.newest_first.reserve(1)
+        reserve_one(&mut self.newest_first)
     }
 
     /// Puts a version under `n`, in place of one that is there. Returns how many versions more there are.
@@ -107,6 +121,23 @@ impl KeyVersions {
     {
         let newer = newer_than(&self.newest_first, n);
         self.newest_first.truncate(newer);
+    }
+
+    /// Takes the versions from `n` on out.
+    pub fn remove_from(&mut self, n: Seq)
+        ensures versions { self.new.versions ≡ filter (λ e. nat_lt e.0 n) self.old.versions }
+        ensures newest_first { AreNewestFirst self.new.versions }
+    {
+        self.newest_first.retain(|version| version.0 < n);
+    }
+
+    /// Whether one of the versions has a number between the bounds.
+    pub fn has_between(&self, bounds: Bounds) -> bool
+        ensures { result ≡ list_any (λ e. is_between bounds e.0) self.now.versions }
+    {
+        self.newest_first
+            .iter()
+            .any(|version| bounds.have(version.0))
     }
 
     pub fn iter(&self) -> Iter<'_, (Seq, Option<Value>)>

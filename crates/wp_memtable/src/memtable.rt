@@ -1,14 +1,20 @@
-ghost use Rattle.std.specs.Prelude.{◌≡◌, ◌++◌, ◌<◌, ◌^◌, [], length, IfOk, OnOk, OnErr};
+ghost use Rattle.std.specs.Prelude.{◌≡◌, ◌++◌, ◌<◌, ◌^◌, [], ◌∷◌, length, IfOk, OnOk, OnErr, MatchResult};
+ghost use Rattle.std.specs.List.{list_any};
+ghost use Rattle.std.specs.Option.{option_copied};
 ghost use Rattle.wp_model.specs.Versions.{AreInOrder};
-ghost use Rattle.wp_memtable.specs.Memtable.{HasChanges, without_number, above, numbered_of, under, versions_in};
+ghost use Rattle.wp_memtable.specs.Bounds.{is_between, between};
+ghost use Rattle.wp_memtable.specs.Memtable.{HasChanges, above, below, numbered_of, under, versions_in};
 
+use crate::bounds::Bounds;
 use crate::found::Found;
+use crate::frozen::FrozenPart;
 use crate::key_versions::KeyVersions;
 use crate::places::{copy_values, put_all, reserve_all};
 use std::alloc::{AllocError, Global};
 use std::collections::BTreeMap;
 use std::marker::Model;
-use wp_model::{Batch, Key, Seq, Version, Versions, copy_value};
+use std::sync::Arc;
+use wp_model::{Batch, Key, Seq, Value, Version, Versions, copy_value};
 
 /// The versions in memory, which the holder of the store turn changes.
 #[derive(Drop)]
@@ -17,35 +23,58 @@ pub struct Memtable {
     places: BTreeMap<Key, KeyVersions>,
     /// How many versions there are.
     count: usize,
+    /// None has a lesser number.
+    least: Seq,
+    /// None has a greater number.
+    greatest: Seq,
 }
 
 impl Model for Memtable {
     ghost use Rattle.std.specs.Prelude.{◌≡◌, List, length};
     ghost use Rattle.wp_model.specs.declared.version.Version.{Version};
+    ghost use Rattle.wp_memtable.specs.Bounds.{AreWithin};
     ghost use Rattle.wp_memtable.specs.Memtable.{versions_in, AreWellOrdered};
 
     ghost Value = { List Version };
 
     ghost view = { λ m. versions_in m.places.entries };
 
-    ghost invariant = { λ m. AreWellOrdered m.places.entries × (m.count ≡ length (versions_in m.places.entries)) };
+    ghost invariant = { λ m. AreWellOrdered m.places.entries × (m.count ≡ length (versions_in m.places.entries)) × AreWithin m.least m.greatest (versions_in m.places.entries) };
 }
 
-/// Copies the versions of a key to the end of the list.
+/// Copies the version to the end of the list, if its number lies between the bounds.
+fn copy_between(
+    alloc: Global,
+    key: &Key,
+    number: Seq,
+    value: Option<&Value>,
+    bounds: Bounds,
+    list: &mut Vec<Version>,
+) -> Result<(), AllocError>
+    ensures { OnOk result (list.new.items ≡ list.old.items ++ between bounds (record { key = key.now; number = number; value = option_copied value.entry } ∷ [])) }
+{
+    if bounds.have(number) {
+        list.push(Version {
+            key: key.copy(alloc)?,
+            number,
+            value: copy_value(value, alloc)?,
+        })?;
+    }
+    Ok(())
+}
+
+/// Copies the versions of a key with numbers between the bounds to the end of the list.
 fn copy_under(
     alloc: Global,
     key: &Key,
     versions: &KeyVersions,
+    bounds: Bounds,
     list: &mut Vec<Version>,
 ) -> Result<(), AllocError>
-    ensures { OnOk result (list.new.items ≡ list.old.items ++ under key.now versions.now.versions) }
+    ensures { OnOk result (list.new.items ≡ list.old.items ++ between bounds (under key.now versions.now.versions)) }
 {
     for (number, value) in versions.iter() {
-        list.push(Version {
-            key: key.copy(alloc)?,
-            number: *number,
-            value: copy_value(value.as_ref(), alloc)?,
-        })?;
+        copy_between(alloc, key, *number, value.as_ref(), bounds, list)?;
     }
     Ok(())
 }
@@ -70,6 +99,8 @@ impl Memtable {
             alloc,
             places: BTreeMap::new(alloc),
             count: 0,
+            least: Seq::MAX,
+            greatest: 0,
         }
     }
 
@@ -85,24 +116,30 @@ impl Memtable {
         let values = copy_values(self.alloc, changes)?;
         reserve_all(self.alloc, &mut self.places, changes)?;
         self.count += put_all(&mut self.places, n, changes, values);
+        self.least = self.least.min(n);
+        self.greatest = self.greatest.max(n);
         Ok(())
     }
 
-    /// Takes out each version of the number, in a time that grows with the number of keys.
-    pub fn remove_number(&mut self, n: Seq)
-        ensures { self.new ≡ without_number n self.old }
+    /// Takes out each version with a number from `n` on, in a time that grows with the number of keys.
+    pub fn remove_from(&mut self, n: Seq)
+        ensures { self.new ≡ below n self.old }
     {
         self.places.retain(|_, versions| {
-            versions.remove(n);
+            versions.remove_from(n);
             versions.len() > 0
         });
         self.count = count_of(&self.places);
     }
 
-    /// Takes out each version with a number up to `n`, in a time that grows with the number of keys and of later versions.
+    /// Takes out each version with a number up to `n`: at once where no version had one, else in a time that grows with the
+    /// number of keys and of later versions.
     pub fn remove_up_to(&mut self, n: Seq)
         ensures { self.new ≡ above n self.old }
     {
+        if n < self.least {
+            return;
+        }
         self.places.retain(|_, versions| {
             versions.remove_up_to(n);
             versions.len() > 0
@@ -115,9 +152,17 @@ impl Memtable {
         ensures found { result ≡ numbered_of key.now self.now }
         ensures in_order { AreInOrder self.now }
     {
+        self.versions_between(key, Bounds::none())
+    }
+
+    /// Those with numbers between the bounds.
+    pub(crate) fn versions_between(&self, key: &Key, bounds: Bounds) -> Found<'_>
+        ensures found { result ≡ numbered_of key.now (between bounds self.now) }
+        ensures in_order { AreInOrder self.now }
+    {
         match self.places.get(key) {
-            Some(versions) => Found::new(Some(versions.iter())),
-            None => Found::new(None),
+            Some(versions) => Found::new(Some(versions.iter()), bounds),
+            None => Found::new(None, bounds),
         }
     }
 
@@ -126,11 +171,45 @@ impl Memtable {
         ensures all { IfOk result (λ versions. versions ≡ self.now) }
         ensures in_order { AreInOrder self.now }
     {
+        self.all_between(Bounds::none())
+    }
+
+    /// A copy of those with numbers between the bounds.
+    pub(crate) fn all_between(&self, bounds: Bounds) -> Result<Versions, AllocError>
+        ensures all { IfOk result (λ versions. versions ≡ between bounds self.now) }
+        ensures in_order { AreInOrder self.now }
+    {
         let mut list = Vec::with_capacity(self.alloc, self.count)?;
         for (key, versions) in &self.places {
-            copy_under(self.alloc, key, versions, &mut list)?;
+            copy_under(self.alloc, key, versions, bounds, &mut list)?;
         }
         Ok(Versions::of(list))
+    }
+
+    /// Whether a version has a number between the bounds.
+    pub(crate) fn has_between(&self, bounds: Bounds) -> bool
+        ensures { result ≡ list_any (λ v. is_between bounds v.number) self.now }
+    {
+        if !bounds.may_have(self.greatest) {
+            return false;
+        }
+        for (_, versions) in &self.places {
+            if versions.has_between(bounds) {
+                return true;
+            }
+        }
+        false
+    }
+
+    /// Memory that takes no more versions. It comes back where the memory to share it is wanting.
+    pub fn freeze(self) -> Result<FrozenPart, Memtable>
+        ensures { MatchResult result (λ part. part ≡ self) (λ memory. memory ≡ self) }
+    {
+        let alloc = self.alloc;
+        match Arc::new(alloc, self) {
+            Ok(part) => Ok(FrozenPart::of(part)),
+            Err(failed) => Err(failed.value),
+        }
     }
 
     /// How many versions there are.

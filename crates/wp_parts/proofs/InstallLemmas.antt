@@ -251,6 +251,11 @@ refused_cause old new next after Fault refused = elim refused.2 [
 ]
 refused_cause old new next after Halted refused = tt
 
+pub refused_manifest : (old new : TableSetState) (next : Edit) (after : List (List Version) → List (List Version)) (why : TableSetError) → NextRefused old new next after why → why ≡ Memory → new.manifest ≡ old.manifest
+refused_manifest old new next after Memory refused is = ap (λ (s : TableSetState). s.manifest) refused.0
+refused_manifest old new next after Fault refused is = absurd cc
+refused_manifest old new next after Halted refused is = absurd cc
+
 -- ---- the table in place of all
 
 pub alone : (versions : List Version) → with_newest (one_part versions) [] ≡ compacted_parts versions

@@ -9,7 +9,7 @@ use Rattle.wp_outside.specs.declared.disk.Disk.{Ghosts}
 use Rattle.wp_model.proofs.entry.Entry.TheSendSync as entry
 use Rattle.wp_history.proofs.history.History.TheSendSync as history
 use Rattle.wp_wal.proofs.wal.Wal.TheSendSync as wal
-use Rattle.wp_store.proofs.gone.Gone.TheSendSync as gone
+use Rattle.wp_parts.proofs.gone.Gone.TheSendSync as gone
 use Rattle.wp_tableset.proofs.set.TableSet.TheSendSync as set
 use Rattle.wp_prepared.proofs.prepared.Prepared.TheSendSync as prepared
 use Rattle.wp_snaps.proofs.snaps.Snaps.TheSendSync as snaps

@@ -1,5 +1,5 @@
 -- What is so of the versions in memory and in tables.
-use Rattle.std.proofs.Common.{◌≡◌, inl, inr, ℕ, ◌≤◌, ◌==◌, ◌&&◌, nat_le, nat_lt, not, Bool, true, false, cond, Less, Equal, Greater, List, [], ◌∷◌, ◌++◌, length, map, filter, Option, Some, None, refl, sym, ap, ◌∙◌, eqb-true, arith}
+use Rattle.std.proofs.Common.{◌≡◌, inl, inr, ℕ, ◌≤◌, ◌==◌, ◌&&◌, nat_le, nat_lt, Bool, true, false, cond, Less, Equal, Greater, List, [], ◌∷◌, ◌++◌, length, map, filter, Option, Some, None, refl, sym, ap, ◌∙◌, eqb-true, arith}
 use Rattle.std.proofs.lemmas.Bool.{and_parts, cases_lt, lt-ltb, le-ltb, lt-leb, le-leb}
 use Rattle.std.specs.List.{list_all}
 use Rattle.std.specs.declared.cmp.Ordering.{Ordering}
@@ -11,7 +11,7 @@ use Rattle.wp_model.specs.declared.version.Version.{Version}
 use Rattle.wp_model.specs.Batch.{change_to}
 use Rattle.wp_model.specs.Legal.{changes_in}
 use Rattle.wp_model.specs.Versions.{version_at, version_cmp}
-use Rattle.wp_memtable.specs.Memtable.{HasChanges, without_number, above}
+use Rattle.wp_memtable.specs.Memtable.{HasChanges, above, below}
 use Rattle.wp_merge.specs.Merge.{AreMerged, first_at, joined, sorted_of, merge_of, weave, choose_by_order}
 use Rattle.wp_merge.proofs.Merged.{or_none}
 use Rattle.wp_merge.proofs.Sorted.{at_sorted, in_order_sorted, merged_sorted}
@@ -97,16 +97,18 @@ module _ (stays : ℕ → Bool) (key : List ℕ) (p : ℕ) where
       both true x y = refl
       both false x y = refl
 
-other : (b : Bool) (x : Found) → cond (not b) x None ≡ cond b None x
-other true x = refl
-other false x = refl
+below_or_from : (n p : ℕ) (x : Found) → cond (nat_lt p n) x None ≡ cond (nat_le n p) None x
+below_or_from n p x = elim (cases_lt p n) [
+  | inl lower ↦ rw (lt-ltb p n lower, lt-leb n p lower) refl
+  | inr within ↦ rw (le-ltb p n within, le-leb n p within) refl
+]
 
-pub removed : (n : ℕ) (memory : List Version) (frozen : List (List Version)) → HasVersionsAt None n (sorted_of (joined (memory ∷ frozen))) (sorted_of (joined (without_number n memory ∷ map (without_number n) frozen)))
+pub removed : (n : ℕ) (memory : List Version) (frozen : List (List Version)) (key : List ℕ) (p : ℕ) → version_at (sorted_of (joined (below n memory ∷ map (below n) frozen))) key p ≡ cond (nat_le n p) None (version_at (sorted_of (joined (memory ∷ frozen))) key p)
 removed n memory frozen key p =
-    at_parts (without_number n memory ∷ map (without_number n) frozen) key p
-    ∙ first_left (λ m. not (m == n)) key p (memory ∷ frozen)
-    ∙ other (p == n) (first_at (memory ∷ frozen) key p)
-    ∙ ap (cond (p == n) None) (sym (at_parts (memory ∷ frozen) key p))
+    at_parts (below n memory ∷ map (below n) frozen) key p
+    ∙ first_left (λ m. nat_lt m n) key p (memory ∷ frozen)
+    ∙ below_or_from n p (first_at (memory ∷ frozen) key p)
+    ∙ ap (cond (nat_le n p) None) (sym (at_parts (memory ∷ frozen) key p))
 
 -- ---- what is in memory as a whole
 

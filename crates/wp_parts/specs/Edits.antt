@@ -10,8 +10,8 @@ use Rattle.wp_manifest.specs.Edit.{Edit}
 use Rattle.wp_manifest.specs.Spelling.{MAGIC, IsManifestOf, last_edit}
 use Rattle.wp_merge.specs.Merge.{joined, sorted_of}
 use Rattle.wp_open.specs.Opens.{installed_of}
-use Rattle.wp_store.specs.declared.gone.Gone.{Gone}
-use Rattle.wp_store.specs.declared.gone.Gone.TheVariants as gone
+use Rattle.wp_parts.specs.declared.gone.Gone.{Gone}
+use Rattle.wp_parts.specs.declared.gone.Gone.TheVariants as gone
 use Rattle.wp_table.specs.File.{HasTables}
 use Rattle.wp_table.specs.Table.{is_flushed}
 use Rattle.wp_tableset.specs.Changes.{compacted_parts}

@@ -11,17 +11,18 @@ ghost use Rattle.wp_store.specs.Store.{with_newest};
 ghost use Rattle.wp_table.specs.Table.{is_flushed, is_numbered};
 ghost use Rattle.wp_tableset.specs.Changes.{compacted_parts, one_part};
 ghost use Rattle.wp_tableset.specs.Set.{StoresTables};
+ghost use Rattle.wp_tableset.specs.declared.error.TableSetError.TheVariants.{Memory};
 ghost use Rattle.wp_core.specs.Images.{ManifestTells, TablesTell};
 ghost use Rattle.wp_parts.specs.Edits.{IsEdits, IsNamed, HasTablesOf, edits_state};
 ghost use Rattle.wp_parts.specs.Installs.{with_table, in_one_table, HadCause, IsRefused, SurvivesInstall};
 
+use crate::gone::Gone;
 use crate::table_versions::TableVersions;
 use std::marker::Model;
 use std::snapshot::Snapshot;
 use std::sync::Arc;
 use wp_model::{Seq, Versions};
 use wp_outside::Disk;
-use wp_store::Gone;
 use wp_table::Table;
 use wp_tableset::{SetDisks, TableSet, TableSetError};
 
@@ -131,6 +132,7 @@ impl<D: Disk> Edits<D> {
         ensures parts { OnOk result (self.new.parts ≡ versions.now ∷ self.old.parts) }
         ensures refused { IfErr result (IsRefused self.old.table self.new.table (with_table versions.now flushed self.old.table.last)) }
         ensures cause { IfErr result (HadCause self.old.set self.new.set) }
+        ensures manifest { IfErr result (λ why. why ≡ Memory → self.new.set.manifest ≡ self.old.set.manifest) }
         ensures survives { SurvivesInstall self.old self.new (with_table versions.now flushed self.old.table.last) }
         ensures first { self.new.first ≡ self.old.first }
     {
@@ -163,6 +165,7 @@ impl<D: Disk> Edits<D> {
         ensures parts { OnOk result (self.new.parts ≡ compacted_parts versions.now) }
         ensures refused { IfErr result (IsRefused self.old.table self.new.table (in_one_table versions.now self.old.table.last)) }
         ensures cause { IfErr result (HadCause self.old.set self.new.set) }
+        ensures manifest { IfErr result (λ why. why ≡ Memory → self.new.set.manifest ≡ self.old.set.manifest) }
         ensures survives { SurvivesInstall self.old self.new (in_one_table versions.now self.old.table.last) }
         ensures uncalled { versions.now ≡ [] → (self.new.set.moments ≡ self.old.set.moments) × (self.new.set.faults ≡ self.old.set.faults) }
         ensures first { self.new.first ≡ self.old.first }

@@ -16,6 +16,7 @@
 
 mod behind_turn;
 mod edits;
+mod gone;
 mod log;
 mod opening;
 mod part;

@@ -4,7 +4,7 @@ ghost use Rattle.std.specs.Arc.{arc_value};
 ghost use Rattle.wp_model.specs.declared.entry.Entry.{Entry};
 ghost use Rattle.wp_model.specs.Legal.{changes_in};
 ghost use Rattle.wp_model.specs.Versions.{version_at};
-ghost use Rattle.wp_memtable.specs.Memtable.{HasChanges, without_number};
+ghost use Rattle.wp_memtable.specs.Memtable.{HasChanges};
 ghost use Rattle.wp_merge.specs.Merge.{joined, sorted_of};
 ghost use Rattle.wp_store.specs.Store.{newest_of};
 ghost use Rattle.wp_core.specs.Entries.{HasVersionsAt};
@@ -61,12 +61,12 @@ impl Stock {
         self.store.insert(n, batch)
     }
 
-    /// Takes each version of the number out of memory.
-    pub fn remove_number(&mut self, n: Seq)
-        ensures parts { self.new ≡ record self.old { parts = record self.old.parts { memory = without_number n self.old.parts.memory; frozen = map (without_number n) self.old.parts.frozen } } }
-        ensures none { HasVersionsAt None n (store_table self.old).memory (store_table self.new).memory }
+    /// Takes each version with a number from `n` on out of memory.
+    pub fn remove_from(&mut self, n: Seq)
+        ensures memory { (key : List ℕ) (p : ℕ) → version_at (store_table self.new).memory key p ≡ (if nat_le n p then None else version_at (store_table self.old).memory key p) }
+        ensures others { store_table self.new ≡ record (store_table self.old) { memory = (store_table self.new).memory } }
     {
-        self.store.remove_unflushed(n);
+        self.store.remove_from(n);
     }
 
     /// The newest `n` versions of the key, in memory and in tables.
@@ -90,7 +90,8 @@ impl Stock {
         ensures same { store_table self.new ≡ store_table self.old }
     {
         self.store.freeze()?;
-        self.store.in_frozen()
+        let parts = self.store.share_frozen()?;
+        parts.merged()
     }
 
     /// All versions in tables.

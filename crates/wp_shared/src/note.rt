@@ -10,7 +10,6 @@ use crate::seat::Seat;
 use crate::shared::Shared;
 use atomic_table::Badge;
 use std::marker::Model;
-use std::mem;
 use wp_model::Seq;
 use wp_outside::Disk;
 use wp_parts::Part;
@@ -44,18 +43,6 @@ impl<D: Disk + Drop> Shared<D> {
         Note {
             badge: self.words.note(&mut seat.seat).into_badge(),
         }
-    }
-
-    /// Another note of the same.
-    pub fn copy_note(&self, note: &mut Note) -> Note
-        requires { note.old.table ≡ self.now.table }
-        ensures same { note.new ≡ note.old }
-        ensures note { result ≡ note.old }
-    {
-        let mut seat: WordSeat<Part<D>> = mem::replace(&mut note.badge, Badge::blank()).into_seat();
-        let copy = self.words.note(&mut seat).into_badge();
-        note.badge = seat.into_badge();
-        Note { badge: copy }
     }
 
     /// The published number, once the seat has taken in the note: the seat has then seen what it and the note had.

@@ -31,7 +31,7 @@ either_way true x = refl
 either_way false x = refl
 
 module _ (key : List ℕ) where
-  in_order-of_key : (vs : List Version) → AreInOrder vs → AreInOrder (of_key key vs)
+  pub in_order-of_key : (vs : List Version) → AreInOrder vs → AreInOrder (of_key key vs)
   in_order-of_key vs h = IsStrictlySortedBy-filter version_cmp (λ v. bytes_eq v.key key) vs h
 
   pub in_order-newest : (n : ℕ) (vs : List Version) → AreInOrder vs → AreInOrder (newest_of n key vs)

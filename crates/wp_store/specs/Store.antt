@@ -1,20 +1,16 @@
 -- A store: the versions in memory, in frozen parts and in tables.
-use Rattle.std.specs.Prelude.{ℕ, Bool, ◌==◌, nat_lt, List, [], ◌∷◌, ◌++◌, length, take, map, filter, Option, Some, None}
+use Rattle.std.specs.Prelude.{ℕ, Bool, ◌==◌, nat_lt, List, ◌∷◌, ◌++◌, length, take, map, filter, Option, Some, None}
 use Rattle.std.specs.List.{list_all}
 use Rattle.std.specs.Str.{bytes_eq}
 use Rattle.wp_model.specs.declared.version.Version.{Version}
 use Rattle.wp_memtable.specs.Memtable.{above}
-use Rattle.wp_store.specs.declared.gone.Gone.{Gone}
-use Rattle.wp_store.specs.declared.gone.Gone.TheVariants as gone
 
 -- Where versions are: in memory, where those of new entries go; in frozen parts, which a flush is writing or a refused
--- flush left; and in tables. The newest frozen part is the first, and so is the newest table. So many more tables have
--- room in the memory that is there.
+-- flush left; and in tables. The newest frozen part is the first, and so is the newest table.
 pub record StoreParts : Type 0 where
   pub memory : List Version
   pub frozen : List (List Version)
   pub tables : List (List Version)
-  pub room : ℕ
 
 -- all parts: of two versions with one key and number the one in an earlier part counts
 abbrev pub parts_of : StoreParts → List (List Version)
@@ -40,8 +36,3 @@ parts_above n parts = filter (λ part. nat_lt 0 (length part)) (map (above n) pa
 abbrev pub with_newest : Option (List Version) → List (List Version) → List (List Version)
 with_newest None tables = tables
 with_newest (Some table) tables = table ∷ tables
-
--- after the frozen parts, or all tables, gave way to the table, if there is one
-abbrev pub replaced : Gone → Option (List Version) → StoreParts → StoreParts
-replaced gone.Frozen table s = record s { frozen = []; tables = with_newest table s.tables }
-replaced gone.Tables table s = record s { tables = with_newest table [] }

@@ -1,12 +1,29 @@
 //! The newest versions of one key in one part.
-ghost use Rattle.std.specs.Prelude.{◌≡◌, IfOk};
+ghost use Rattle.std.specs.Prelude.{◌≡◌, take, IfOk};
 ghost use Rattle.wp_model.specs.Versions.{AreInOrder};
+ghost use Rattle.wp_memtable.specs.Memtable.{under};
 ghost use Rattle.wp_store.specs.Store.{newest_of};
 
 use std::alloc::{AllocError, Global};
-use wp_memtable::Memtable;
+use wp_memtable::{Found, FrozenPart, Memtable};
 use wp_model::{Key, Version, Versions, copy_value};
 use wp_table::Table;
+
+/// A copy of at most `n` of the versions that were found under the key.
+fn copied(alloc: Global, key: &Key, found: Found<'_>, n: usize) -> Result<Versions, AllocError>
+    requires { AreInOrder (under key.now found) }
+    ensures { IfOk result (λ versions. versions ≡ take n (under key.now found.entry)) }
+{
+    let mut list = Vec::new(alloc);
+    for (number, value) in found.take(n) {
+        list.push(Version {
+            key: key.copy(alloc)?,
+            number,
+            value: copy_value(value, alloc)?,
+        })?;
+    }
+    Ok(Versions::of(list))
+}
 
 /// A copy of at most `n` versions.
 pub fn newest_in_memory(
@@ -18,15 +35,20 @@ pub fn newest_in_memory(
     ensures newest { IfOk result (λ versions. versions ≡ newest_of n key.now memory.now) }
     ensures in_order { AreInOrder memory.now }
 {
-    let mut list = Vec::new(alloc);
-    for (number, value) in memory.versions(key).take(n) {
-        list.push(Version {
-            key: key.copy(alloc)?,
-            number,
-            value: copy_value(value, alloc)?,
-        })?;
-    }
-    Ok(Versions::of(list))
+    copied(alloc, key, memory.versions(key), n)
+}
+
+/// A copy of at most `n` versions.
+pub fn newest_in_frozen(
+    alloc: Global,
+    part: &FrozenPart,
+    key: &Key,
+    n: usize,
+) -> Result<Versions, AllocError>
+    ensures newest { IfOk result (λ versions. versions ≡ newest_of n key.now part.now) }
+    ensures in_order { AreInOrder part.now }
+{
+    copied(alloc, key, part.versions(key), n)
 }
 
 /// A copy of at most `n` versions.

@@ -6,11 +6,11 @@ ghost use Rattle.wp_model.specs.Versions.{AreInOrder};
 ghost use Rattle.wp_merge.specs.Merge.{AreMerged};
 ghost use Rattle.wp_store.specs.Store.{newest_of};
 
-use crate::newest::{newest_in_memory, newest_in_table};
+use crate::newest::{newest_in_frozen, newest_in_table};
 use std::alloc::{AllocError, Global};
 use std::collections::VecDeque;
 use std::sync::Arc;
-use wp_memtable::Memtable;
+use wp_memtable::FrozenPart;
 use wp_merge::Merge;
 use wp_model::{Key, Versions};
 use wp_table::Table;
@@ -34,7 +34,7 @@ pub fn merged(alloc: Global, sources: Vec<Versions>) -> Result<Versions, AllocEr
     listed(alloc, Merge::of(alloc, sources)?)
 }
 
-/// All versions of the tables, in order. Of two with one key and number it is the earlier table's.
+/// A copy of all versions of the tables, the newest table first, in order. Of two with one key and number it is the newer table's.
 pub fn merged_tables(alloc: Global, tables: &VecDeque<Arc<Table>>) -> Result<Versions, AllocError>
     ensures { IfOk result (λ all. AreMerged (map arc_value tables.now.items) all) }
 {
@@ -43,7 +43,7 @@ pub fn merged_tables(alloc: Global, tables: &VecDeque<Arc<Table>>) -> Result<Ver
 
 pub fn push_frozen(
     sources: &mut Vec<Versions>,
-    frozen: &VecDeque<Memtable>,
+    frozen: &VecDeque<FrozenPart>,
 ) -> Result<(), AllocError>
     ensures { OnOk result (sources.new.items ≡ sources.old.items ++ frozen.now.items) }
 {
@@ -57,7 +57,7 @@ pub fn push_frozen(
 pub fn push_newest_frozen(
     alloc: Global,
     sources: &mut Vec<Versions>,
-    frozen: &VecDeque<Memtable>,
+    frozen: &VecDeque<FrozenPart>,
     key: &Key,
     n: usize,
 ) -> Result<(), AllocError>
@@ -65,7 +65,7 @@ pub fn push_newest_frozen(
     ensures in_order { OnOk result (AllByRecursion AreInOrder frozen.now.items) }
 {
     for part in frozen {
-        sources.push(newest_in_memory(alloc, part, key, n)?)?;
+        sources.push(newest_in_frozen(alloc, part, key, n)?)?;
     }
     Ok(())
 }

@@ -1,13 +1,12 @@
-ghost use Rattle.std.specs.Prelude.{◌≡◌, ◌≤◌, ◌==◌, [], ◌∷◌, List, length, map, IfOk, OnOk, OnErr};
+ghost use Rattle.std.specs.Prelude.{◌≡◌, ◌==◌, [], ◌∷◌, List, length, map, IfOk, OnOk, OnErr};
 ghost use Rattle.std.specs.Arc.{arc_value};
 ghost use Rattle.std.specs.List.{list_all};
-ghost use Rattle.std.specs.Option.{option_map};
 ghost use Rattle.wp_model.specs.declared.version.Version.{Version};
-ghost use Rattle.wp_memtable.specs.Memtable.{HasChanges, without_number, above};
+ghost use Rattle.wp_memtable.specs.Memtable.{HasChanges, above, below};
 ghost use Rattle.wp_merge.specs.Merge.{AreMerged};
-ghost use Rattle.wp_store.specs.Store.{parts_of, is_flushed, parts_above, newest_of, replaced};
+ghost use Rattle.wp_store.specs.Store.{parts_of, is_flushed, parts_above, newest_of};
 
-use crate::gone::Gone;
+use crate::frozen_parts::FrozenParts;
 use crate::newest::newest_in_memory;
 use crate::sources::{merged, merged_tables, push_frozen, push_newest_frozen, push_newest_tables};
 use std::alloc::{AllocError, Global};
@@ -15,7 +14,7 @@ use std::collections::VecDeque;
 use std::marker::Model;
 use std::mem;
 use std::sync::Arc;
-use wp_memtable::Memtable;
+use wp_memtable::{FrozenPart, Memtable};
 use wp_model::{Batch, Key, Seq, Versions};
 use wp_table::Table;
 
@@ -25,35 +24,34 @@ pub struct Store {
     alloc: Global,
     memory: Memtable,
     /// The newest first.
-    frozen: VecDeque<Memtable>,
+    frozen: VecDeque<FrozenPart>,
     /// The newest first.
     tables: VecDeque<Arc<Table>>,
 }
 
 impl Model for Store {
-    ghost use Rattle.std.specs.Prelude.{◌-◌, map};
+    ghost use Rattle.std.specs.Prelude.{map};
     ghost use Rattle.std.specs.Arc.{arc_value};
-    ghost use Rattle.std.specs.VecDeque.{deque_len, deque_capacity};
     ghost use Rattle.wp_store.specs.Store.{StoreParts};
 
     ghost Value = { StoreParts };
 
-    ghost view = { λ s. record { memory = s.memory; frozen = s.frozen.items; tables = map arc_value s.tables.items; room = deque_capacity s.tables - deque_len s.tables } };
+    ghost view = { λ s. record { memory = s.memory; frozen = s.frozen.items; tables = map arc_value s.tables.items } };
 }
 
 /// Whether no frozen part has a version.
-fn are_empty(frozen: &VecDeque<Memtable>) -> bool
+fn are_empty(frozen: &VecDeque<FrozenPart>) -> bool
     ensures { result ≡ list_all (λ part. length part == 0) frozen.now.items }
 {
-    frozen.iter().all(|part| part.count() == 0)
+    frozen.iter().all(|part| part.is_empty())
 }
 
-/// Takes each version of the number out of the parts.
-fn remove_from_all(parts: &mut VecDeque<Memtable>, n: Seq)
-    ensures { parts.new.items ≡ map (without_number n) parts.old.items }
+/// Takes each version with a number from `n` on out of the parts.
+fn remove_from_all(parts: &mut VecDeque<FrozenPart>, n: Seq)
+    ensures { parts.new.items ≡ map (below n) parts.old.items }
 {
     for i in 0..parts.len() {
-        parts[i].remove_number(n);
+        parts[i].remove_from(n);
     }
 }
 
@@ -82,30 +80,23 @@ impl Store {
         self.memory.insert(n, batch)
     }
 
-    /// Takes each version of the number out of memory.
-    pub fn remove_number(&mut self, n: Seq)
-        ensures { self.new ≡ record self.old { memory = without_number n self.old.memory } }
+    /// Takes each version with a number from `n` on out of memory and of the frozen parts.
+    pub fn remove_from(&mut self, n: Seq)
+        ensures { self.new ≡ record self.old { memory = below n self.old.memory; frozen = map (below n) self.old.frozen } }
     {
-        self.memory.remove_number(n);
-    }
-
-    /// Takes each version of the number out of memory and of the frozen parts.
-    pub fn remove_unflushed(&mut self, n: Seq)
-        ensures { self.new ≡ record self.old { memory = without_number n self.old.memory; frozen = map (without_number n) self.old.frozen } }
-    {
-        self.memory.remove_number(n);
+        self.memory.remove_from(n);
         remove_from_all(&mut self.frozen, n);
     }
 
     /// Takes each version with a number up to `n` out of memory and of the frozen parts, and drops the parts that have none
-    /// then.
+    /// then. Where what was flushed was frozen before, that takes no time that grows with the versions.
     pub fn remove_flushed(&mut self, n: Seq)
         ensures { self.new ≡ record self.old { memory = above n self.old.memory; frozen = parts_above n self.old.frozen } }
     {
         self.memory.remove_up_to(n);
         self.frozen.retain_mut(|part| {
             part.remove_up_to(n);
-            part.count() > 0
+            !part.is_empty()
         });
     }
 
@@ -137,60 +128,42 @@ impl Store {
         merged(self.alloc, sources)
     }
 
-    /// All versions of the frozen parts, which a flush writes.
-    pub fn in_frozen(&self) -> Result<Versions, AllocError>
-        ensures { IfOk result (λ all. AreMerged self.now.frozen all) }
+    /// The frozen parts, for a flush to write.
+    pub fn share_frozen(&self) -> Result<FrozenParts, AllocError>
+        ensures { IfOk result (λ parts. parts ≡ self.now.frozen) }
     {
-        let mut sources = Vec::new(self.alloc);
-        push_frozen(&mut sources, &self.frozen)?;
-        merged(self.alloc, sources)
+        FrozenParts::of(self.alloc, &self.frozen)
     }
 
-    /// All versions of the tables, which a compaction merges.
+    /// All versions of the tables.
     pub fn in_tables(&self) -> Result<Versions, AllocError>
         ensures { IfOk result (λ all. AreMerged self.now.tables all) }
     {
         merged_tables(self.alloc, &self.tables)
     }
 
-    /// Makes what is in memory the first frozen part, and leaves memory empty.
+    /// Makes what is in memory the first frozen part, and leaves memory empty. It copies no version.
     pub fn freeze(&mut self) -> Result<(), AllocError>
         ensures ok { OnOk result (self.new ≡ record self.old { memory = []; frozen = self.old.memory ∷ self.old.frozen }) }
         ensures err { OnErr result (self.new ≡ self.old) }
     {
         self.frozen.reserve(1)?;
         let memory = mem::replace(&mut self.memory, Memtable::new(self.alloc));
-        self.frozen.push_front(memory).unwrap();
-        Ok(())
-    }
-
-    /// Takes the memory for one table more.
-    pub fn reserve(&mut self) -> Result<(), AllocError>
-        ensures ok { OnOk result (1 ≤ self.new.room) }
-        ensures room { self.old.room ≤ self.new.room }
-        ensures others { self.new ≡ record self.old { room = self.new.room } }
-    {
-        self.tables.reserve(1)
-    }
-
-    /// Takes the frozen parts or all tables out, and puts the table, if there is one, before the tables that stay. It
-    /// needs the memory that `reserve` took.
-    pub fn replace(&mut self, gone: Gone, table: Option<Arc<Table>>)
-        requires { 1 ≤ self.old.room }
-        ensures { self.new ≡ record (replaced gone (option_map arc_value table) self.old) { room = self.new.room } }
-    {
-        match gone {
-            Gone::Frozen => self.frozen.clear(),
-            Gone::Tables => self.tables.clear(),
-        }
-        if let Some(table) = table {
-            self.tables.push_front(table).unwrap();
+        match memory.freeze() {
+            Ok(part) => {
+                self.frozen.push_front(part).unwrap();
+                Ok(())
+            }
+            Err(memory) => {
+                self.memory = memory;
+                Err(AllocError)
+            }
         }
     }
 
     /// Puts these tables, the newest first, in place of all tables, in the memory that they have.
     pub fn put_tables(&mut self, tables: Vec<Arc<Table>>)
-        ensures { self.new ≡ record self.old { tables = map arc_value tables.items; room = self.new.room } }
+        ensures { self.new ≡ record self.old { tables = map arc_value tables.items } }
     {
         self.tables = VecDeque::from_vec(tables);
     }
@@ -215,7 +188,6 @@ impl Store {
         }
         Ok(tables)
     }
-
     /// How many tables there are.
     pub fn table_count(&self) -> usize
         ensures { result ≡ length self.now.tables }

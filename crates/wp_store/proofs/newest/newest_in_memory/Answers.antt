@@ -1,28 +1,20 @@
-use Rattle.std.proofs.Common.{sym, ap, subst, ◌∷◌, take, ◌∙◌}
-use Rattle.std.specs.Iterator.Adapters.{take_source, take_count}
+use Rattle.std.proofs.Common.{◌≡◌, List, take, sym, ap, subst, ◌∙◌}
+use Rattle.std.proofs.lemmas.Result.{IfOk-weaker}
+use Rattle.wp_model.specs.declared.version.Version.{Version}
 use Rattle.wp_model.specs.Versions.{AreInOrder}
 use Rattle.wp_memtable.specs.Memtable.{under}
-use Rattle.wp_store.proofs.NewestOfKey.{in_order-newest}
-use Rattle.wp_store.proofs.Taken.{taken_next, taken_all, under-numbered}
+use Rattle.wp_store.specs.Store.{newest_of}
+use Rattle.wp_store.proofs.NewestOfKey.{in_order-of_key}
+use Rattle.wp_store.proofs.Taken.{under-numbered}
 use Rattle.wp_store.proofs.newest.newest_in_memory.Goals as goal
 
-pub loop-number-init : goal.loop-number-init
-loop-number-init c =
+pub copied-requires : goal.copied-requires
+copied-requires c =
     let key = c.args.key.now in
-    let begun = c.into_iter-number-iterator.ensures.into_iter_gives in
-    let source = ap take_source begun ∙ c.take-number-items.ensures.source ∙ c.versions.ensures.found in
-    let count = ap take_count begun ∙ c.take-number-items.ensures.count in
-    rw c.new-list.ensures.items (λ i. take (count i) ((ap (under key) source ∙ under-numbered key c.args.memory.now) i))
+    subst AreInOrder (sym (ap (under key) c.versions.ensures.found ∙ under-numbered key c.args.memory.now)) (in_order-of_key key c.args.memory.now c.versions.ensures.in_order)
 
-pub loop-number-preserved : goal.loop-number-preserved
-loop-number-preserved c =
+pub returns-clause-newest : goal.returns-clause-newest
+returns-clause-newest c =
     let key = c.args.key.now in
-    let step = c.in-Some.ensures.steps in
-    let more = ap (under key) step.0 ∙ (λ i. record { key = sym c.in_ok-copy.ensures i; number = c.in-Some.number; value = sym c.in_ok-copy_value.ensures i } ∷ under key (take_source c.next.new.self)) in
-    taken_next c.loop-number.list.items _ _ _ _ _ _ _ c.in_ok-push.ensures.items more step.1 c.loop-number.invariant
-
-pub of-requires : goal.of-requires
-of-requires c =
-    let key = c.args.key.now in
-    let all = taken_all c.loop-number.list.items _ _ _ (λ some. ap (under key) (c.in-None.ensures.steps some).0) c.loop-number.invariant in
-    subst AreInOrder (sym all) (in_order-newest key c.args.n c.args.memory.now c.versions.ensures.in_order)
+    IfOk-weaker c.copied.result _ (λ (versions : List Version). versions ≡ newest_of c.args.n key c.args.memory.now)
+    (λ versions is. is ∙ ap (take c.args.n) (ap (under key) c.versions.ensures.found ∙ under-numbered key c.args.memory.now)) c.copied.ensures

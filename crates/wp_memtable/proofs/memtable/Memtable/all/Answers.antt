@@ -1,18 +1,10 @@
-use Rattle.std.proofs.Common.{sym, subst, ◌∙◌, ap, ◌++◌}
-use Rattle.std.proofs.lemmas.List.{append-nil}
-use Rattle.wp_model.specs.Versions.{AreInOrder}
-use Rattle.wp_memtable.specs.Memtable.{versions_in}
-use Rattle.wp_memtable.proofs.Listed.{in_order-versions_in}
+use Rattle.std.proofs.Common.{◌≡◌, List, ◌∙◌}
+use Rattle.std.proofs.lemmas.Result.{IfOk-weaker}
+use Rattle.wp_model.specs.declared.version.Version.{Version}
+use Rattle.wp_memtable.specs.Bounds.{is_between}
+use Rattle.wp_memtable.proofs.Between.{filter_all}
 use Rattle.wp_memtable.proofs.memtable.Memtable.all.Goals as goal
 
-pub returns-in_err-list-clause-in_order : goal.returns-in_err-list-clause-in_order
-returns-in_err-list-clause-in_order c = subst AreInOrder c.self.view_is (in_order-versions_in _ c.self.invariant.0)
-
-pub returns-in_err-copy_under-clause-in_order : goal.returns-in_err-copy_under-clause-in_order
-returns-in_err-copy_under-clause-in_order c = subst AreInOrder c.self.view_is (in_order-versions_in _ c.self.invariant.0)
-
-pub of-requires : goal.of-requires
-of-requires c =
-    let none = c.in-None.ensures.steps.0 in
-    let all = sym (append-nil c.loop-key.list.items) ∙ ap (λ es. c.loop-key.list.items ++ versions_in es) (sym none) ∙ c.loop-key.invariant in
-    subst AreInOrder (sym all) (in_order-versions_in _ c.self.invariant.0)
+pub returns-clause-all : goal.returns-clause-all
+returns-clause-all c =
+    IfOk-weaker c.all_between.result _ (λ (versions : List Version). versions ≡ c.args.self.now) (λ versions is. is ∙ filter_all (is_between c.none.result) c.args.self.now c.none.ensures) c.all_between.ensures.all

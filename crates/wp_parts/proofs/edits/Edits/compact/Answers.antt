@@ -2,7 +2,7 @@ use Rattle.std.proofs.Common.{◌≡◌, List, [], Option, refl, sym, ap, ◌∙
 use Rattle.wp_model.specs.declared.version.Version.{Version}
 use Rattle.wp_tableset.specs.Changes.{compacted_edit, compacted_parts}
 use Rattle.wp_store.specs.Store.{with_newest}
-use Rattle.wp_parts.proofs.InstallLemmas.{alone, is_in_one_table, installed_edits, installed_table, nothing_called, one_flushed, refused_cause, refused_edits, refused_table, survives}
+use Rattle.wp_parts.proofs.InstallLemmas.{alone, is_in_one_table, installed_edits, installed_table, nothing_called, one_flushed, refused_cause, refused_manifest, refused_edits, refused_table, survives}
 use Rattle.wp_parts.proofs.edits.Edits.compact.Goals as goal
 
 pub invariant_of-self-in-Ok : goal.invariant_of-self-in-Ok
@@ -58,6 +58,13 @@ returns-in-Err-clause-cause g c =
     let versions = c.args.versions.now in
     let call = c.in-Err.ensures.installs in
     rw (← c.self.view_is) (refused_cause inside.set c.compact.new.self (compacted_edit inside.set versions call.0) (λ _. compacted_parts versions) c.in-Err.why call.1.refused)
+
+pub returns-in-Err-clause-manifest : goal.returns-in-Err-clause-manifest
+returns-in-Err-clause-manifest g c =
+    let inside = c.self.inside in
+    let versions = c.args.versions.now in
+    let call = c.in-Err.ensures.installs in
+    rw (← c.self.view_is) (refused_manifest inside.set c.compact.new.self (compacted_edit inside.set versions call.0) (λ _. compacted_parts versions) c.in-Err.why call.1.refused)
 
 pub returns-in-Ok-clause-survives : goal.returns-in-Ok-clause-survives
 returns-in-Ok-clause-survives g c =

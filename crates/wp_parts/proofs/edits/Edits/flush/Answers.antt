@@ -1,7 +1,7 @@
 use Rattle.std.proofs.Common.{◌≡◌, ◌∷◌, refl, sym, rules}
 use Rattle.wp_tableset.specs.Changes.{flushed_edit}
-use Rattle.wp_store.specs.declared.gone.Gone.TheVariants as gone
-use Rattle.wp_parts.proofs.InstallLemmas.{front_flushed, is_with_table, installed_edits, installed_table, nothing_called, refused_cause, refused_edits, refused_table, survives}
+use Rattle.wp_parts.specs.declared.gone.Gone.TheVariants as gone
+use Rattle.wp_parts.proofs.InstallLemmas.{front_flushed, is_with_table, installed_edits, installed_table, nothing_called, refused_cause, refused_manifest, refused_edits, refused_table, survives}
 use Rattle.wp_parts.proofs.edits.Edits.flush.Goals as goal
 
 pub invariant_of-self-in-Ok : goal.invariant_of-self-in-Ok
@@ -56,6 +56,13 @@ returns-in-Err-clause-cause g c =
     let versions = c.args.versions.now in
     let call = c.in-Err.ensures.installs in
     rw (← c.self.view_is) (refused_cause inside.set c.flush.new.self (flushed_edit inside.set versions c.args.flushed call.0) (λ parts. versions ∷ parts) c.in-Err.why call.1.refused)
+
+pub returns-in-Err-clause-manifest : goal.returns-in-Err-clause-manifest
+returns-in-Err-clause-manifest g c =
+    let inside = c.self.inside in
+    let versions = c.args.versions.now in
+    let call = c.in-Err.ensures.installs in
+    rw (← c.self.view_is) (refused_manifest inside.set c.flush.new.self (flushed_edit inside.set versions c.args.flushed call.0) (λ parts. versions ∷ parts) c.in-Err.why call.1.refused)
 
 pub returns-in-Ok-clause-survives : goal.returns-in-Ok-clause-survives
 returns-in-Ok-clause-survives g c =

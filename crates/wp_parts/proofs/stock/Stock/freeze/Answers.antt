@@ -9,5 +9,5 @@ pub returns-clause-versions : goal.returns-clause-versions
 returns-clause-versions c =
     let s = c.self.inside.store in
     let all_frozen : c.freeze.new.self.frozen ≡ s.memory ∷ s.frozen = search rules in
-    rw (← c.self.view_is) (IfOk-weaker c.in_frozen.result (λ (all : List Version). AreMerged (s.memory ∷ s.frozen) all) (λ (all : List Version). all ≡ sorted_of (joined (s.memory ∷ s.frozen)))
-    (λ all merged. merged_is_sorted (s.memory ∷ s.frozen) all merged) (rw all_frozen at c.in_frozen.ensures))
+    rw (← c.self.view_is) (IfOk-weaker c.merged.result (λ (all : List Version). AreMerged (s.memory ∷ s.frozen) all) (λ (all : List Version). all ≡ sorted_of (joined (s.memory ∷ s.frozen)))
+    (λ all merged. merged_is_sorted (s.memory ∷ s.frozen) all merged) (rw (c.in_ok-parts.ensures, all_frozen) at c.merged.ensures))

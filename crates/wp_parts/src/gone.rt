@@ -1,6 +1,6 @@
 /// What a new table takes the place of.
 #[derive(Clone, Copy, Debug, PartialEq, Eq)]
-pub enum Gone {
+pub(crate) enum Gone {
     /// The frozen parts, which a flush wrote.
     Frozen,
     /// All tables, which a compaction merged.

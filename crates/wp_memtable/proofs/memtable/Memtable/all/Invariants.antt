@@ -1,6 +1,0 @@
-use Rattle.std.proofs.Common.{◌≡◌, ◌++◌}
-use Rattle.wp_memtable.specs.Memtable.{versions_in}
-use Rattle.wp_memtable.proofs.memtable.Memtable.all.Given as goal
-
-abbrev pub invariant-loop-key : goal.invariant-loop-key
-invariant-loop-key l = l.list.items ++ versions_in l.key-iterator ≡ versions_in l.self-inside.places.entries

@@ -1,0 +1,90 @@
+ghost use Rattle.std.specs.Prelude.{◌≡◌, ◌==◌, length, IfOk};
+ghost use Rattle.std.specs.Arc.{arc_value};
+ghost use Rattle.wp_model.specs.Versions.{AreInOrder};
+ghost use Rattle.wp_memtable.specs.Memtable.{above, below, numbered_of};
+
+use crate::bounds::Bounds;
+use crate::found::Found;
+use crate::memtable::Memtable;
+use std::alloc::AllocError;
+use std::marker::Model;
+use std::sync::Arc;
+use wp_model::{Key, Seq, Versions};
+
+/// A part of memory that takes no more versions, which several hold at once. Each holder sees its versions between bounds of its
+/// own: what one takes out, the others see still. So to take some out takes no memory, and a time that doesn't grow with the part.
+#[derive(Drop)]
+pub struct FrozenPart {
+    part: Arc<Memtable>,
+    bounds: Bounds,
+}
+
+impl Model for FrozenPart {
+    ghost use Rattle.std.specs.Prelude.{List};
+    ghost use Rattle.std.specs.Arc.{arc_value};
+    ghost use Rattle.wp_model.specs.declared.version.Version.{Version};
+    ghost use Rattle.wp_memtable.specs.Bounds.{between};
+
+    ghost Value = { List Version };
+
+    ghost view = { λ f. between f.bounds (arc_value f.part) };
+}
+
+impl FrozenPart {
+    /// All of this part.
+    pub(crate) fn of(part: Arc<Memtable>) -> FrozenPart
+        ensures { result ≡ arc_value part }
+    {
+        FrozenPart {
+            part,
+            bounds: Bounds::none(),
+        }
+    }
+
+    /// The same versions, for another holder.
+    pub fn share(&self) -> Result<FrozenPart, AllocError>
+        ensures { IfOk result (λ shared. shared ≡ self.now) }
+    {
+        Ok(FrozenPart {
+            part: Arc::clone(&self.part)?,
+            bounds: self.bounds,
+        })
+    }
+
+    /// The versions of the key, the newest first.
+    pub fn versions(&self, key: &Key) -> Found<'_>
+        ensures found { result ≡ numbered_of key.now self.now }
+        ensures in_order { AreInOrder self.now }
+    {
+        self.part.versions_between(key, self.bounds)
+    }
+
+    /// A copy of all versions.
+    pub fn all(&self) -> Result<Versions, AllocError>
+        ensures all { IfOk result (λ versions. versions ≡ self.now) }
+        ensures in_order { AreInOrder self.now }
+    {
+        self.part.all_between(self.bounds)
+    }
+
+    /// Takes out each version with a number up to `n`.
+    pub fn remove_up_to(&mut self, n: Seq)
+        ensures { self.new ≡ above n self.old }
+    {
+        self.bounds.raise(n);
+    }
+
+    /// Takes out each version with a number from `n` on.
+    pub fn remove_from(&mut self, n: Seq)
+        ensures { self.new ≡ below n self.old }
+    {
+        self.bounds.lower(n);
+    }
+
+    /// Whether no version is left. It looks at one version, where all or none are seen.
+    pub fn is_empty(&self) -> bool
+        ensures { result ≡ (length self.now == 0) }
+    {
+        !self.part.has_between(self.bounds)
+    }
+}

@@ -1,8 +1,0 @@
-use Rattle.std.proofs.Common.{◌≡◌, ◌++◌, take}
-use Rattle.std.specs.Iterator.Adapters.{take_source, take_count}
-use Rattle.wp_memtable.specs.Memtable.{under}
-use Rattle.wp_store.specs.Store.{newest_of}
-use Rattle.wp_store.proofs.newest.newest_in_memory.Given as goal
-
-abbrev pub invariant-loop-number : goal.invariant-loop-number
-invariant-loop-number l = l.list.items ++ take (take_count l.number-iterator) (under l.key (take_source l.number-iterator)) ≡ newest_of l.n l.key l.memory
