@@ -1,5 +1,6 @@
 mod HistoryLemmas
 pub mod Order
+pub mod Places
 pub mod Presence
 mod Stores
 mod Shows

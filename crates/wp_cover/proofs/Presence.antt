@@ -1,11 +1,11 @@
 -- Versions that are of a history, and versions that are there.
-use Rattle.std.proofs.Common.{◌≡◌, ℕ, suc, ◌+◌, ◌-◌, ◌<◌, ◌≤◌, nat_le, get_or, drop, drop-cons, Bool, true, false, ◌||◌, cond, eqb, Less, List, [], ◌∷◌, length, Option, Some, None, refl, sym, ap, ◌∙◌, subst, arith}
+use Rattle.std.proofs.Common.{◌≡◌, ℕ, suc, ◌+◌, ◌-◌, ◌<◌, ◌≤◌, ◌++◌, ◌⊎◌, inl, inr, nat_le, get_or, drop, drop-cons, Bool, true, false, ◌||◌, cond, eqb, Less, List, [], ◌∷◌, length, Option, Some, None, refl, sym, ap, ◌∙◌, subst, arith}
 use Rattle.std.specs.Prelude.{slice_get}
 use Rattle.std.specs.Ordering.{is_lt}
 use Rattle.std.specs.Bool.{Decides}
 use Rattle.std.specs.Str.{bytes_eq}
 use Rattle.std.specs.List.{filter, list_any, range_with_len}
-use Rattle.std.proofs.lemmas.Bool.{and_parts, eqb-true}
+use Rattle.std.proofs.lemmas.Bool.{and_parts, eqb-true, cases_lt}
 use Rattle.std.proofs.lemmas.List.{drop_all}
 use Rattle.std.proofs.lemmas.Cmp.{tied_itself, nat_list_cmp_total}
 use Rattle.wp_model.specs.declared.batch.TheConstants.{MOST_KEYS}
@@ -22,16 +22,19 @@ use Rattle.wp_history.specs.Growth.{undone_by}
 use Rattle.wp_history.proofs.Above.{undecided_version}
 use Rattle.wp_history.proofs.Undecided.{is_undecided_by_list}
 use Rattle.wp_history.proofs.Undone.{undone_at_last}
-use Rattle.wp_cover.specs.Present.{ArePart, HasChanges, HasBatches, HasUndone, restored}
+use Rattle.std.specs.Option.{option_or}
+use Rattle.wp_model.specs.Flushed.{later_versions}
+use Rattle.wp_cover.specs.Present.{ArePart, AreParts, AreAllPart, HasChanges, HasBatches, HasUndone, restored}
 use Rattle.wp_cover.proofs.HistoryLemmas.{entry_at_last}
 use Rattle.wp_model.proofs.BatchLemmas.{less_from_test, ascending_rest}
 use Rattle.wp_model.proofs.VersionLists.{in_order_parts}
 use Rattle.wp_cover.proofs.Order.{same_key, key_itself, is_here, at_here, here_itself, none_behind}
+use Rattle.wp_cover.proofs.Places.{at_all, none_later, own_later}
 
 -- ---- each is that of its entry
 
 module _ (history : List Entry) where
-  pub part_at : (vs : List Version) → ArePart history vs → (key : List ℕ) (p : ℕ) (value : Option (List ℕ)) → version_at vs key p ≡ Some value → entry_version history p key ≡ Some value
+  part_at : (vs : List Version) → ArePart history vs → (key : List ℕ) (p : ℕ) (value : Option (List ℕ)) → version_at vs key p ≡ Some value → entry_version history p key ≡ Some value
   part_at [] part key p value e = absurd cc
   part_at (v ∷ vs) part key p value e = by (is_here key p v) refl e (part_at vs part.1 key p value)
     where
@@ -39,7 +42,7 @@ module _ (history : List Entry) where
       by false here is rest = rest is
       by true here is rest = let at = at_here key p v here in (λ i. entry_version history (sym at.number_is i) (sym at.key_is i)) ∙ part.0 ∙ is
 
-  pub part_from : (vs : List Version) → AreInOrder vs → ((key : List ℕ) (p : ℕ) (value : Option (List ℕ)) → version_at vs key p ≡ Some value → entry_version history p key ≡ Some value) → ArePart history vs
+  part_from : (vs : List Version) → AreInOrder vs → ((key : List ℕ) (p : ℕ) (value : Option (List ℕ)) → version_at vs key p ≡ Some value → entry_version history p key ≡ Some value) → ArePart history vs
   part_from [] order every = tt
   part_from (v ∷ vs) order every = let parts = in_order_parts v vs order in (every v.key v.number v.value (ap (λ b. cond b (Some v.value) (version_at vs v.key v.number)) (here_itself v)), part_from vs parts.1 (λ key p value e. every key p value (behind key p value (is_here key p v) refl e)))
     where
@@ -49,6 +52,80 @@ module _ (history : List Entry) where
           let at = at_here key p v here in
           let none = none_behind key p v vs (in_order_parts v vs order).0 (ap (λ k. bytes_eq k key) at.key_is ∙ key_itself key) (omega (arith, at.number_is)) in
           absurd cc
+
+-- ---- each that counts is that of its entry
+
+module _ (history : List Entry) (all : List Version) where
+  -- under the places of these versions something counts
+  abbrev pub AreWithin : List Version → Type 0
+  AreWithin vs = (key : List ℕ) (p : ℕ) (value : Option (List ℕ)) → version_at vs key p ≡ Some value → (w : Option (List ℕ)) × (version_at all key p ≡ Some w)
+
+  parts_at : (vs : List Version) → AreParts history all vs → (key : List ℕ) (p : ℕ) (value : Option (List ℕ)) → version_at vs key p ≡ Some value → (entry_version history p key ≡ Some value) ⊎ (entry_version history p key ≡ version_at all key p)
+  parts_at [] parts key p value e = absurd cc
+  parts_at (v ∷ vs) parts key p value e = by (is_here key p v) refl e (parts_at vs parts.1 key p value)
+    where
+      by : (b : Bool) → is_here key p v ≡ b → cond b (Some v.value) (version_at vs key p) ≡ Some value → (version_at vs key p ≡ Some value → (entry_version history p key ≡ Some value) ⊎ (entry_version history p key ≡ version_at all key p)) → (entry_version history p key ≡ Some value) ⊎ (entry_version history p key ≡ version_at all key p)
+      by false here is rest = rest is
+      by true here is rest =
+          let at = at_here key p v here in
+          elim parts.0 [
+            | inl own ↦ inl ((λ i. entry_version history (sym at.number_is i) (sym at.key_is i)) ∙ own ∙ is)
+            | inr same ↦ inr ((λ i. entry_version history (sym at.number_is i) (sym at.key_is i)) ∙ same ∙ (λ i. version_at all (at.key_is i) (at.number_is i)))
+          ]
+
+  parts_from : (vs : List Version) → AreWithin vs → AreAllPart history all → AreParts history all vs
+  parts_from [] within every = tt
+  parts_from (v ∷ vs) within every = (inr (first (within v.key v.number v.value (ap (λ b. cond b (Some v.value) (version_at vs v.key v.number)) (here_itself v)))), parts_from vs (λ key p value e. behind key p value (is_here key p v) refl e) every)
+    where
+      first : ((w : Option (List ℕ)) × (version_at all v.key v.number ≡ Some w)) → entry_version history v.number v.key ≡ version_at all v.key v.number
+      first k = every v.key v.number k.0 k.1 ∙ sym k.1
+
+      behind : (key : List ℕ) (p : ℕ) (value : Option (List ℕ)) (b : Bool) → is_here key p v ≡ b → version_at vs key p ≡ Some value → (w : Option (List ℕ)) × (version_at all key p ≡ Some w)
+      behind key p value false here e = within key p value (ap (λ b. cond b (Some v.value) (version_at vs key p)) here ∙ e)
+      behind key p value true here e = within key p v.value (ap (λ b. cond b (Some v.value) (version_at vs key p)) here)
+
+  pub parts_both : (xs ys : List Version) → AreParts history all xs → AreParts history all ys → AreParts history all (xs ++ ys)
+  parts_both [] ys first second = second
+  parts_both (x ∷ xs) ys first second = (first.0, parts_both xs ys first.1 second)
+
+  pub parts_split : (xs ys : List Version) → AreParts history all (xs ++ ys) → AreParts history all xs × AreParts history all ys
+  parts_split [] ys parts = (tt, parts)
+  parts_split (x ∷ xs) ys parts = let rest = parts_split xs ys parts.1 in ((parts.0, rest.0), rest.1)
+
+-- those of a list, of tables, and of the entries above a number
+module _ (history : List Entry) (list stored : List Version) (flushed : ℕ) where
+  abbrev all : List Version
+  all = list ++ (stored ++ later_versions history flushed)
+
+  later_is : (key : List ℕ) (p : ℕ) (value : Option (List ℕ)) → version_at (later_versions history flushed) key p ≡ Some value → entry_version history p key ≡ Some value
+  later_is key p value e = elim (cases_lt flushed p) [
+    | inl above ↦ sym (own_later history flushed key p above) ∙ e
+    | inr low ↦ let none = none_later history flushed key p low in absurd cc
+  ]
+
+  pub all_part : ArePart history list → AreParts history all stored → AreAllPart history all
+  all_part first second key p value e = by (version_at list key p) refl (version_at stored key p) refl (sym (at_all history list stored flushed key p) ∙ e)
+    where
+      by : (a : Option (Option (List ℕ))) → version_at list key p ≡ a → (b : Option (Option (List ℕ))) → version_at stored key p ≡ b → option_or a (option_or b (version_at (later_versions history flushed) key p)) ≡ Some value → entry_version history p key ≡ Some value
+      by (Some v) here b there is = part_at history list first key p v here ∙ is
+      by None here (Some v) there is = elim (parts_at history all stored second key p v there) [
+        | inl own ↦ own ∙ is
+        | inr same ↦ same ∙ e
+      ]
+      by None here None there is = later_is key p value is
+
+  pub list_part : AreInOrder list → AreAllPart history all → ArePart history list
+  list_part order every = part_from history list order (λ key p value e. every key p value (at_all history list stored flushed key p ∙ ap (λ (o : Option (Option (List ℕ))). option_or o (option_or (version_at stored key p) (version_at (later_versions history flushed) key p))) e))
+
+  pub stored_part : AreAllPart history all → AreParts history all stored
+  stored_part every = parts_from history all stored within every
+    where
+      within : AreWithin history all stored
+      within key p value e = by (version_at list key p) refl
+        where
+          by : (a : Option (Option (List ℕ))) → version_at list key p ≡ a → (w : Option (List ℕ)) × (version_at all key p ≡ Some w)
+          by (Some v) here = (v, at_all history list stored flushed key p ∙ ap (λ (o : Option (Option (List ℕ))). option_or o (option_or (version_at stored key p) (version_at (later_versions history flushed) key p))) here)
+          by None here = (value, at_all history list stored flushed key p ∙ (λ i. option_or (here i) (option_or (e i) (version_at (later_versions history flushed) key p))))
 
 -- ---- what changes say
 

@@ -1,37 +1,69 @@
 -- What is left under keys, and when two maps have the same.
-use Rattle.std.proofs.Common.{◌≡◌, ℕ, suc, ◌+◌, ◌<◌, Bool, true, false, ◌&&◌, cond, min, List, [], ◌∷◌, ◌++◌, length, get_or, take, drop, drop-cons, Option, Some, None, refl, sym, ap, ◌∙◌, subst, arith}
+use Rattle.std.proofs.Common.{◌≡◌, ℕ, suc, ◌+◌, ◌<◌, Bool, true, false, ◌&&◌, cond, min, List, [], ◌∷◌, ◌++◌, length, map, get_or, take, drop, drop-cons, Bor, Option, Some, None, Less, Equal, Greater, refl, sym, ap, ◌∙◌, subst, arith}
 use Rattle.std.specs.Prelude.{unwrap_or}
-use Rattle.std.specs.Option.{option_or}
+use Rattle.std.specs.List.{AllByRecursion}
+use Rattle.std.specs.List.Sorted.{IsStrictlySortedBy}
+use Rattle.std.specs.Option.{option_or, option_copied}
+use Rattle.std.specs.declared.cmp.Ordering.{Ordering}
 use Rattle.std.specs.Bool.{Decides}
 use Rattle.std.specs.Str.{bytes_eq}
+use Rattle.std.specs.Cmp.{eq_by_cmp_equiv, tied_itself}
 use Rattle.std.specs.Cmp.Lexicographic.{pointwise}
-use Rattle.std.specs.Ordering.{nat_cmp}
-use Rattle.std.specs.Map.{lookup}
-use Rattle.std.specs.BTreeMap.{BTreeMap, IsOrdered, is_at, get}
+use Rattle.std.specs.Ordering.{nat_cmp, is_eq, eq_by_cmp, ordering_reverse}
+use Rattle.std.specs.Map.{lookup, keys_of}
+use Rattle.std.specs.BTreeMap.{BTreeMap, IsOrdered, UpdatesBy, is_at, get}
+use Rattle.std.proofs.lemmas.Bool.{and_parts, and_from}
 use Rattle.std.proofs.lemmas.Cmp.{nat_list_cmp_total}
 use Rattle.std.proofs.lemmas.List.{take_more, length-take-le, length-take, get_or-take}
-use Rattle.std.proofs.lemmas.Map.Lookups.{btree_map_from_get, btree_map_eq-Decides, exact_bytes}
-use Rattle.std.proofs.lemmas.Map.Text.{is_eq-slice_cmp}
-use Rattle.std.proofs.lemmas.Slice.Eq.{bytes_eq-Decides}
+use Rattle.std.proofs.lemmas.Map.{lookup-none}
+use Rattle.std.proofs.lemmas.Map.Keys.{sorted_tail, IsDistinct-from_sorted}
+use Rattle.std.proofs.lemmas.Map.Entries.{lookup_head, lookup_tail, none_past_head, none_below_head}
+use Rattle.std.proofs.lemmas.Map.Lookups.{exact_bytes}
+use Rattle.std.proofs.lemmas.Map.Text.{btree_map_updates_str}
+use Rattle.std.proofs.lemmas.Slice.Eq.{bytes_eq-Decides, slice_eq-Decides}
 use Rattle.wp_model.specs.declared.change.Change.{Change}
 use Rattle.wp_model.specs.declared.entry.Entry.{Entry}
 use Rattle.wp_model.specs.Batch.{key_cmp, key_of, value_of, change_to}
 use Rattle.wp_model.specs.History.{changes_of, value_at, decides}
 use Rattle.wp_model.specs.Legal.{IsLegal}
 use Rattle.wp_cover.specs.Decisions.{decider_of, HasDeciders}
-use Rattle.wp_cover.specs.Store.{Store, IsStore, Leaves, LeavesChanges}
+use Rattle.wp_cover.specs.Store.{Store, IsStore, Leaves, LeavesChanges, under}
 use Rattle.wp_cover.proofs.HistoryLemmas.{decider_next, value_more}
 
 -- ---- one key more
 
-pub leaves : (key : List ℕ) (value : Option (List ℕ)) (old new : Store) → ((q : List ℕ) → get key_cmp new q ≡ cond (is_at (key_cmp key) q) value (get key_cmp old q)) → IsOrdered key_cmp new → Leaves key value old new
-leaves key value old new updates ordered values had = record { ordered = ordered; each = λ q. updates q ∙ (λ i. cond (is_eq-slice_cmp key q i) value (had.each q i)) }
+-- as their keys compare
+abbrev pub borrowed_cmp : Bor (List ℕ) → Bor (List ℕ) → Ordering
+borrowed_cmp k q = key_cmp k.now q.now
+
+copied_cond : (b : Bool) (v o : Option (Bor (List ℕ))) → option_copied (cond b v o) ≡ cond b (option_copied v) (option_copied o)
+copied_cond true v o = refl
+copied_cond false v o = refl
+
+pub leaves : (key : List ℕ) (value : Option (Bor (List ℕ))) (old new : Store) → UpdatesBy borrowed_cmp (λ k. key_cmp key k.now) old new value → IsOrdered borrowed_cmp new → Leaves key (option_copied value) old new
+leaves key value old new updates ordered values had = record {
+  ordered = ordered;
+  each = λ other.
+      ap option_copied (btree_map_updates_str key old new value updates other)
+      ∙ copied_cond (bytes_eq key other) value (under old other)
+      ∙ ap (cond (bytes_eq key other) (option_copied value)) (had.each other);
+}
 
 pub leaves_same : (k key : List ℕ) (w value : Option (List ℕ)) (old new : Store) → k ≡ key → w ≡ value → Leaves k w old new → Leaves key value old new
 leaves_same k key w value old new keys values left = subst (λ (v : Option (List ℕ)). Leaves key v old new) values (subst (λ (q : List ℕ). Leaves q w old new) keys left)
 
 pub as_values : (f g : List ℕ → Option (List ℕ)) (store : Store) → ((key : List ℕ) → f key ≡ g key) → IsStore f store → IsStore g store
 as_values f g store same had = record { ordered = had.ordered; each = λ key. had.each key ∙ same key }
+
+nothing_ordered : IsStrictlySortedBy borrowed_cmp []
+unfolding IsStrictlySortedBy
+nothing_ordered = tt
+
+pub none_left : (store : Store) → store.entries ≡ [] → IsStore (λ key. None) store
+none_left store none = record {
+  ordered = subst (λ (es : List (Bor (List ℕ) × Bor (List ℕ))). IsStrictlySortedBy borrowed_cmp (keys_of es)) (sym none) nothing_ordered;
+  each = λ key. ap (λ (es : List (Bor (List ℕ) × Bor (List ℕ))). option_copied (lookup (is_at (λ (k : Bor (List ℕ)). key_cmp key k.now)) es)) none;
+}
 
 -- ---- the changes of a batch, the last one first
 
@@ -62,16 +94,98 @@ store_next history first m i here changes store new legal front lt is its had le
     let same : here ≡ get_or history i here = is ∙ ap (λ (h : List Entry). get_or h i here) front ∙ get_or-take m history i here (omega arith) in
     store_more history i here changes store new legal (omega arith) same its had left
 
--- ---- two maps
+-- ---- two maps, by the entries that they borrow
 
-same_get : (f g : List ℕ → Option (List ℕ)) (a b : Store) → IsStore f a → IsStore g b → a.entries ≡ b.entries → (key : List ℕ) → f key ≡ g key
-same_get f g a b first second e key = sym (first.each key) ∙ ap (λ (es : List (List ℕ × List ℕ)). lookup (is_at (key_cmp key)) es) e ∙ second.each key
+abbrev Pair : Type 0
+Pair = Bor (List ℕ) × Bor (List ℕ)
 
-pub same_stores : (f g : List ℕ → Option (List ℕ)) (a b : Store) (r : Bool) → IsStore f a → IsStore g b → r ≡ pointwise (λ (p q : List ℕ × List ℕ). bytes_eq p.0 q.0 && bytes_eq p.1 q.1) a.entries b.entries → Decides r ((key : List ℕ) → f key ≡ g key)
+abbrev Seen : Type 0
+Seen = List ℕ × List ℕ
+
+abbrev see : Pair → Seen
+see e = (e.0.now, e.1.now)
+
+abbrev find : List Seen → List ℕ → Option (List ℕ)
+find es q = lookup (is_at (key_cmp q)) es
+
+seen_get : (es : List Pair) (key : List ℕ) → find (map see es) key ≡ option_copied (lookup (is_at (λ (k : Bor (List ℕ)). key_cmp key k.now)) es)
+seen_get [] key = refl
+seen_get (e ∷ es) key =
+    ap (cond (is_at (key_cmp key) e.0.now) (Some e.1.now)) (seen_get es key)
+    ∙ sym (copied_cond (is_at (key_cmp key) e.0.now) (Some e.1) (lookup (is_at (λ (k : Bor (List ℕ)). key_cmp key k.now)) es))
+
+seen_behind : (k : Bor (List ℕ)) (es : List Pair) → AllByRecursion (λ q. borrowed_cmp k q ≡ Less) (keys_of es) → AllByRecursion (λ q. key_cmp k.now q ≡ Less) (keys_of (map see es))
+seen_behind k [] behind = tt
+seen_behind k (e ∷ es) behind = (behind.0, seen_behind k es behind.1)
+
+seen_ordered : (es : List Pair) → IsStrictlySortedBy borrowed_cmp (keys_of es) → IsStrictlySortedBy key_cmp (keys_of (map see es))
+unfolding IsStrictlySortedBy
+seen_ordered [] ordered = tt
+seen_ordered (e ∷ es) ordered = (seen_behind e.0 es ordered.0, seen_ordered es ordered.1)
+
+seen_equal : (es fs : List Pair) → pointwise (λ (p q : Pair). bytes_eq p.0.now q.0.now && bytes_eq p.1.now q.1.now) es fs ≡ pointwise (λ (p q : Seen). bytes_eq p.0 q.0 && bytes_eq p.1 q.1) (map see es) (map see fs)
+seen_equal [] [] = refl
+seen_equal [] (f ∷ fs) = refl
+seen_equal (e ∷ es) [] = refl
+seen_equal (e ∷ es) (f ∷ fs) = ap (λ (b : Bool). (bytes_eq e.0.now f.0.now && bytes_eq e.1.now f.1.now) && b) (seen_equal es fs)
+
+pairs_decide : (p q : Seen) → Decides (bytes_eq p.0 q.0 && bytes_eq p.1 q.1) (p ≡ q)
+pairs_decide p q = (
+  λ e. let parts = and_parts (bytes_eq p.0 q.0) (bytes_eq p.1 q.1) e in λ i. ((bytes_eq-Decides p.0 q.0).0 parts.0 i, (bytes_eq-Decides p.1 q.1).0 parts.1 i),
+  λ e. and_from (bytes_eq p.0 q.0) (bytes_eq p.1 q.1) ((bytes_eq-Decides p.0 q.0).1 (ap (λ (u : Seen). u.0) e)) ((bytes_eq-Decides p.1 q.1).1 (ap (λ (u : Seen). u.1) e)),
+)
+
+-- ---- keys in order: equal look-ups give equal entries
+
+abbrev AreOrdered : List Seen → Type 0
+AreOrdered es = IsStrictlySortedBy key_cmp (keys_of es)
+
+some_none : (v : List ℕ) → Some v ≡ None → ⊥
+some_none v e = absurd cc
+
+at_head : (x : Seen) (xs : List Seen) → find (x ∷ xs) x.0 ≡ Some x.1
+at_head x xs = lookup_head (is_at (key_cmp x.0)) x xs (ap is_eq (tied_itself nat_list_cmp_total x.0))
+
+past_head : (q : List ℕ) (x : Seen) (xs : List Seen) → AreOrdered (x ∷ xs) → eq_by_cmp key_cmp q x.0 ≡ true → find xs q ≡ None
+past_head q x xs s t = lookup-none (is_at (key_cmp q)) xs (none_past_head (eq_by_cmp_equiv nat_list_cmp_total) q x xs (IsDistinct-from_sorted key_cmp (keys_of (x ∷ xs)) s) t)
+
+module _ (x y : Seen) (xs ys : List Seen) (s : AreOrdered (x ∷ xs)) (t : AreOrdered (y ∷ ys)) (h : (q : List ℕ) → find (x ∷ xs) q ≡ find (y ∷ ys) q) where
+  by_heads : (r : Ordering) → key_cmp x.0 y.0 ≡ r → key_cmp x.0 y.0 ≡ Equal
+  by_heads Less p = absurd (some_none x.1 (sym (at_head x xs) ∙ h x.0 ∙ lookup-none (is_at (key_cmp x.0)) (y ∷ ys) (none_below_head nat_list_cmp_total x.0 y ys t p)))
+  by_heads Equal p = p
+  by_heads Greater p = absurd (some_none y.1 (sym (at_head y ys) ∙ sym (h y.0) ∙ lookup-none (is_at (key_cmp y.0)) (x ∷ xs) (none_below_head nat_list_cmp_total y.0 x xs s (nat_list_cmp_total.antisymm y.0 x.0 ∙ ap ordering_reverse p))))
+
+  same_keys : x.0 ≡ y.0
+  same_keys = exact_bytes x.0 y.0 (by_heads (key_cmp x.0 y.0) refl)
+
+  same_values : x.1 ≡ y.1
+  same_values = ap (λ (u : Option (List ℕ)). unwrap_or u x.1) (sym (at_head x xs) ∙ h x.0 ∙ ap (find (y ∷ ys)) same_keys ∙ at_head y ys)
+
+  same_tails : (q : List ℕ) → find xs q ≡ find ys q
+  same_tails q = by (eq_by_cmp key_cmp q x.0) refl
+    where
+      by : (b : Bool) → eq_by_cmp key_cmp q x.0 ≡ b → find xs q ≡ find ys q
+      by true e = past_head q x xs s e ∙ sym (past_head q y ys t (ap (eq_by_cmp key_cmp q) (sym same_keys) ∙ e))
+      by false e = sym (lookup_tail (is_at (key_cmp q)) x xs e) ∙ h q ∙ lookup_tail (is_at (key_cmp q)) y ys (ap (eq_by_cmp key_cmp q) (sym same_keys) ∙ e)
+
+same_entries : (es fs : List Seen) → AreOrdered es → AreOrdered fs → ((q : List ℕ) → find es q ≡ find fs q) → es ≡ fs
+same_entries [] [] s t h = refl
+same_entries [] (y ∷ ys) s t h = absurd (some_none y.1 (sym (h y.0 ∙ at_head y ys)))
+same_entries (x ∷ xs) [] s t h = absurd (some_none x.1 (sym (at_head x xs) ∙ h x.0))
+same_entries (x ∷ xs) (y ∷ ys) s t h =
+    let rest = same_entries xs ys (sorted_tail key_cmp x.0 (keys_of xs) s) (sorted_tail key_cmp y.0 (keys_of ys) t) (same_tails x y xs ys s t h) in
+    λ i. (same_keys x y xs ys s t h i, same_values x y xs ys s t h i) ∷ rest i
+
+pub same_stores : (f g : List ℕ → Option (List ℕ)) (a b : Store) (r : Bool) → IsStore f a → IsStore g b → r ≡ pointwise (λ (p q : Bor (List ℕ) × Bor (List ℕ)). bytes_eq p.0.now q.0.now && bytes_eq p.1.now q.1.now) a.entries b.entries → Decides r ((key : List ℕ) → f key ≡ g key)
 same_stores f g a b r first second e =
-    let decides = btree_map_eq-Decides bytes_eq-Decides bytes_eq-Decides a b r e in (
-      λ yes. same_get f g a b first second (decides.0 yes),
-      λ same. decides.1 (btree_map_from_get nat_list_cmp_total a b first.ordered second.ordered (λ key. first.each key ∙ same key ∙ sym (second.each key)) exact_bytes),
+    let decides = slice_eq-Decides pairs_decide (map see a.entries) (map see b.entries) r (e ∙ seen_equal a.entries b.entries) in (
+      λ yes key.
+          sym (first.each key) ∙ sym (seen_get a.entries key)
+          ∙ ap (λ (es : List Seen). find es key) (decides.0 yes)
+          ∙ seen_get b.entries key ∙ second.each key,
+      λ same.
+          decides.1 (same_entries (map see a.entries) (map see b.entries) (seen_ordered a.entries first.ordered) (seen_ordered b.entries second.ordered)
+          (λ key. seen_get a.entries key ∙ first.each key ∙ same key ∙ sym (second.each key) ∙ sym (seen_get b.entries key))),
     )
 
 -- ---- deciders

@@ -6,8 +6,8 @@ use Rattle.wp_model.specs.declared.entry.Entry.{Entry}
 use Rattle.wp_model.specs.declared.version.Version.{Version}
 use Rattle.wp_model.specs.History.{undecided}
 use Rattle.wp_model.specs.Covered.{GivesStore, IsCovered, is_among}
-use Rattle.wp_cover.specs.Present.{ArePart, HasBatches, HasUndone}
-use Rattle.wp_cover.proofs.Presence.{part_at, undecided_there}
+use Rattle.wp_cover.specs.Present.{AreAllPart, HasBatches, HasUndone}
+use Rattle.wp_cover.proofs.Presence.{undecided_there}
 
 module _ (versions : List Version) (history : List Entry) where
   abbrev pub GivesAt : ℕ → Type 0
@@ -36,11 +36,11 @@ module _ (versions : List Version) (history : List Entry) where
 -- ---- together
 
 -- what was asked of a history that is this one
-pub covered : (history decisions : List Entry) (versions : List Version) (numbers : List ℕ) (from : ℕ) (r : Bool) → decisions ≡ history → ArePart history versions → HasBatches history versions (undecided history) → HasUndone history versions → GivesListed versions decisions numbers → Decides r (GivesLater versions decisions from) → Decides r (IsCovered versions history numbers from)
+pub covered : (history decisions : List Entry) (versions : List Version) (numbers : List ℕ) (from : ℕ) (r : Bool) → decisions ≡ history → AreAllPart history versions → HasBatches history versions (undecided history) → HasUndone history versions → GivesListed versions decisions numbers → Decides r (GivesLater versions decisions from) → Decides r (IsCovered versions history numbers from)
 covered history decisions versions numbers from r same part batches undone listed later =
     let ends = subst (λ (h : List Entry). Decides r (GivesLater versions h from)) same later in (
       λ yes. record {
-        part = part_at history versions part;
+        part = part;
         undecided = undecided_there history versions batches;
         undone = undone;
         listed = subst (λ (h : List Entry). GivesListed versions h numbers) same listed;

@@ -1,4 +1,5 @@
 pub mod Decisions
 pub mod Store
+pub mod Sources
 pub mod Shown
 pub mod Present

@@ -1,5 +1,5 @@
 -- Which versions have to be there, and which may be.
-use Rattle.std.specs.Prelude.{◌≡◌, ℕ, List, [], ◌∷◌, length, Option, Some, None}
+use Rattle.std.specs.Prelude.{◌≡◌, ◌⊎◌, ℕ, List, [], ◌∷◌, length, Option, Some, None}
 use Rattle.std.specs.declared.cmp.Ordering.{Ordering}
 use Rattle.std.specs.Ordering.{nat_cmp, ordering_then}
 use Rattle.wp_model.specs.declared.change.Change.{Change}
@@ -20,6 +20,18 @@ place_cmp key n v = ordering_then (key_cmp v.key key) (nat_cmp n v.number)
 abbrev pub ArePart : List Entry → List Version → Type 0
 ArePart history [] = Unit {0}
 ArePart history (v ∷ vs) = (entry_version history v.number v.key ≡ Some v.value) × ArePart history vs
+
+-- the version is that of its entry, or the one that counts in its place is
+abbrev pub IsPart : List Entry → List Version → Version → Type 0
+IsPart history all v = (entry_version history v.number v.key ≡ Some v.value) ⊎ (entry_version history v.number v.key ≡ version_at all v.key v.number)
+
+abbrev pub AreParts : List Entry → List Version → List Version → Type 0
+AreParts history all [] = Unit {0}
+AreParts history all (v ∷ vs) = IsPart history all v × AreParts history all vs
+
+-- each version that counts is that of its entry
+abbrev pub AreAllPart : List Entry → List Version → Type 0
+AreAllPart history all = (key : List ℕ) (p : ℕ) (value : Option (List ℕ)) → version_at all key p ≡ Some value → entry_version history p key ≡ Some value
 
 -- what the changes say of keys is there, with that number
 abbrev pub HasChanges : List Version → ℕ → List Change → Type 0

@@ -1,17 +1,23 @@
--- What a store has under its keys, as a map.
+-- What a store has under its keys, as a map whose keys and values are borrowed from where they are.
 use Rattle.std.specs.Prelude.{◌≡◌, ℕ, List, Option, unwrap_or, if◌then◌else◌}
+use Rattle.std.specs.Borrow.{Bor}
+use Rattle.std.specs.Option.{option_copied}
 use Rattle.std.specs.Str.{bytes_eq}
-use Rattle.std.specs.BTreeMap.{BTreeMap, IsOrdered, get}
+use Rattle.std.specs.BTreeMap.{BTreeMap, IsOrdered, get_by}
 use Rattle.wp_model.specs.declared.change.Change.{Change}
 use Rattle.wp_model.specs.Batch.{key_cmp, change_to}
 
 abbrev pub Store : Type 0
-Store = BTreeMap (List ℕ) (List ℕ)
+Store = BTreeMap (Bor (List ℕ)) (Bor (List ℕ))
+
+-- what such a map has under the key
+abbrev pub under : {X : Type 0} → BTreeMap (Bor (List ℕ)) X → List ℕ → Option X
+under store key = get_by (λ k. key_cmp key k.now) store
 
 -- the map has just these values
 pub record IsStore (values : List ℕ → Option (List ℕ)) (store : Store) : Type 0 where
-  pub ordered : IsOrdered key_cmp store
-  pub each : (key : List ℕ) → get key_cmp store key ≡ values key
+  pub ordered : IsOrdered (λ k q. key_cmp k.now q.now) store
+  pub each : (key : List ℕ) → option_copied (under store key) ≡ values key
 
 -- the value is left under the key, or nothing
 abbrev pub Leaves : List ℕ → Option (List ℕ) → Store → Store → Type 0

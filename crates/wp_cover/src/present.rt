@@ -1,70 +1,100 @@
 //! Versions that have to be there, and that have to be of the history.
-ghost use Rattle.std.specs.Prelude.{◌≡◌, ◌↔◌, true, Some};
+ghost use Rattle.std.specs.Prelude.{◌≡◌, ◌↔◌, true, Some, map, IfOk};
+ghost use Rattle.std.specs.Arc.{arc_value};
 ghost use Rattle.std.specs.Option.{option_map, option_copied};
 ghost use Rattle.wp_model.specs.History.{undecided};
-ghost use Rattle.wp_model.specs.Decision.{entry_version};
-ghost use Rattle.wp_model.specs.Versions.{AreInOrder, version_at};
-ghost use Rattle.wp_cover.specs.Present.{ArePart, HasChanges, HasBatches, HasUndone, place_cmp, restored};
+ghost use Rattle.wp_model.specs.Versions.{AreInOrder};
+ghost use Rattle.wp_table.specs.Borrowed.{seen};
+ghost use Rattle.wp_table.specs.Table.{has_words};
+ghost use Rattle.wp_merge.specs.Merge.{joined};
+ghost use Rattle.wp_cover.specs.Present.{ArePart, IsPart, AreParts, AreAllPart, HasChanges, HasBatches, HasUndone, restored};
+ghost use Rattle.wp_cover.specs.Sources.{all_of};
 
-use std::cmp::Ordering;
+use crate::sources::{Sources, bytes_of, entry_version};
+use std::alloc::{AllocError, Global};
 use wp_history::History;
-use wp_model::{Batch, Entry, Key, Seq, Value, Version, Versions};
+use wp_model::{Batch, Entry, Seq, Versions};
+use wp_table::{Table, VersionRef};
 
-/// The version of the key of the entry with that number.
-fn entry_version<'a>(history: &'a History, p: Seq, key: &Key) -> Option<Option<&'a Value>>
-    ensures { option_map option_copied result ≡ entry_version history.now.entries p key.now }
+/// Whether both are the same version, or neither is one.
+fn are_same(one: Option<Option<&[u8]>>, other: Option<Option<&[u8]>>) -> bool
+    ensures { (result ≡ true) ↔ (option_map option_copied one.entry ≡ option_map option_copied other.entry) }
 {
-    match history.entry_at(p)? {
-        Entry::Write(batch) | Entry::Prepare(_, batch) | Entry::Undo(_, batch) => batch.get(key),
-        Entry::Commit(_) | Entry::Close(_) => None,
-    }
+    one == other
 }
 
-/// Whether a version was found, with this value or as a deletion.
-fn is_found(found: Option<Option<&Value>>, value: Option<&Value>) -> bool
-    ensures { (result ≡ true) ↔ (option_map option_copied found.entry ≡ Some (option_copied value.entry)) }
-{
-    found == Some(value)
-}
-
-/// Whether each of the versions is that of its entry.
-pub fn are_part(history: &History, versions: &Versions) -> bool
+/// Whether each version of the list is that of its entry.
+fn is_list_part(history: &History, versions: &Versions) -> bool
     ensures part { (result ≡ true) ↔ ArePart history.now.entries versions.now }
     ensures in_order { AreInOrder versions.now }
 {
     for version in versions.as_slice() {
-        let found = entry_version(history, version.number, &version.key);
-        if !is_found(found, version.value.as_ref()) {
+        let due = entry_version(history, version.number, version.key.bytes());
+        if !are_same(due, Some(bytes_of(version.value.as_ref()))) {
             return false;
         }
     }
     true
 }
 
-/// How the version compares to the place of the key and the number.
-fn place_cmp(version: &Version, key: &Key, number: Seq) -> Ordering
-    ensures { result ≡ place_cmp key.now number version.now }
+/// Whether the version is that of its entry, or what counts in its place is.
+fn is_part(
+    alloc: Global,
+    sources: &Sources<'_>,
+    version: VersionRef<'_>,
+) -> Result<bool, AllocError>
+    requires { has_words (seen version) ≡ true }
+    ensures { IfOk result (λ yes. (yes ≡ true) ↔ IsPart sources.now.history.now.entries (all_of sources.now) (seen version.entry)) }
 {
-    version.key.cmp(key).then(number.cmp(&version.number))
+    let due = entry_version(sources.history, version.number, version.key);
+    if are_same(due, Some(version.value)) {
+        return Ok(true);
+    }
+    let copy = version.copy(alloc)?;
+    Ok(are_same(due, sources.find(&copy.key, copy.number)))
 }
 
-/// The version of the key with that number.
-fn version_at<'a>(versions: &'a Versions, key: &Key, number: Seq) -> Option<Option<&'a Value>>
-    ensures { option_map option_copied result ≡ version_at versions.now key.now number }
+fn is_table_part(alloc: Global, sources: &Sources<'_>, table: &Table) -> Result<bool, AllocError>
+    ensures { IfOk result (λ yes. (yes ≡ true) ↔ AreParts sources.now.history.now.entries (all_of sources.now) table.now) }
 {
-    let list = versions.as_slice();
-    match list.binary_search_by(|version| place_cmp(version, key, number)) {
-        Ok(i) => Some(list[i].value.as_ref()),
-        Err(_) => None,
+    for version in table.all() {
+        if !is_part(alloc, sources, version)? {
+            return Ok(false);
+        }
     }
+    Ok(true)
+}
+
+fn are_tables_part(alloc: Global, sources: &Sources<'_>) -> Result<bool, AllocError>
+    ensures { IfOk result (λ yes. (yes ≡ true) ↔ AreParts sources.now.history.now.entries (all_of sources.now) (joined (map arc_value sources.now.tables.now))) }
+{
+    for table in sources.tables {
+        if !is_table_part(alloc, sources, table)? {
+            return Ok(false);
+        }
+    }
+    Ok(true)
+}
+
+/// Whether each version that counts is that of its entry. Those of later entries are.
+pub fn are_part(alloc: Global, sources: &Sources<'_>) -> Result<bool, AllocError>
+    ensures { IfOk result (λ yes. (yes ≡ true) ↔ AreAllPart sources.now.history.now.entries (all_of sources.now)) }
+{
+    if !is_list_part(sources.history, sources.list) {
+        return Ok(false);
+    }
+    are_tables_part(alloc, sources)
 }
 
 /// Whether the version of each change is there, with that number.
-fn has_changes(versions: &Versions, number: Seq, batch: &Batch) -> bool
-    ensures { (result ≡ true) ↔ HasChanges versions.now number batch.now }
+fn has_changes<'b>(sources: &'b Sources<'_>, number: Seq, batch: &'b Batch) -> bool
+    ensures { (result ≡ true) ↔ HasChanges (all_of sources.now) number batch.now }
 {
     for change in batch.changes() {
-        if !is_found(version_at(versions, change.key(), number), change.value()) {
+        if !are_same(
+            sources.find(change.key(), number),
+            Some(bytes_of(change.value())),
+        ) {
             return false;
         }
     }
@@ -72,11 +102,11 @@ fn has_changes(versions: &Versions, number: Seq, batch: &Batch) -> bool
 }
 
 /// Whether the versions of the undecided prepares are there.
-pub fn has_undecided(history: &History, versions: &Versions) -> bool
-    ensures { (result ≡ true) ↔ HasBatches history.now.entries versions.now (undecided history.now.entries) }
+pub fn has_undecided(sources: &Sources<'_>) -> bool
+    ensures { (result ≡ true) ↔ HasBatches sources.now.history.now.entries (all_of sources.now) (undecided sources.now.history.now.entries) }
 {
-    for p in history.undecided() {
-        if !has_changes(versions, *p, history.batch_at(*p)) {
+    for p in sources.history.undecided() {
+        if !has_changes(sources, *p, sources.history.batch_at(*p)) {
             return false;
         }
     }
@@ -94,14 +124,14 @@ fn restored(entry: &Entry) -> Option<&Batch>
 }
 
 /// Whether the versions of an undo that ends the history are there.
-pub fn has_undone(history: &History, versions: &Versions) -> bool
-    ensures { (result ≡ true) ↔ HasUndone history.now.entries versions.now }
+pub fn has_undone(sources: &Sources<'_>) -> bool
+    ensures { (result ≡ true) ↔ HasUndone sources.now.history.now.entries (all_of sources.now) }
 {
-    let Some(entry) = history.entries().last() else {
+    let Some(entry) = sources.history.entries().last() else {
         return true;
     };
     let Some(batch) = restored(entry) else {
         return true;
     };
-    has_changes(versions, history.published(), batch)
+    has_changes(sources, sources.history.published(), batch)
 }

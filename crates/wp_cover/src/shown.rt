@@ -1,59 +1,188 @@
 //! What versions show a reader at a number, as a map.
-ghost use Rattle.std.specs.Prelude.{◌≡◌, ◌↔◌, ℕ, List, true, IfOk, OnOk};
+ghost use Rattle.std.specs.Prelude.{◌≡◌, ◌↔◌, ℕ, List, [], ◌∷◌, true, None, map, IfOk, OnOk};
+ghost use Rattle.std.specs.Arc.{arc_value};
 ghost use Rattle.wp_model.specs.Covered.{GivesStore};
-ghost use Rattle.wp_cover.specs.Store.{IsStore};
-ghost use Rattle.wp_cover.specs.Shown.{LeavesCommitted, shown};
+ghost use Rattle.wp_model.specs.Flushed.{later_versions, versions_under};
+ghost use Rattle.wp_model.specs.Legal.{changes_in};
+ghost use Rattle.wp_table.specs.Borrowed.{seen};
+ghost use Rattle.wp_merge.specs.Merge.{joined};
+ghost use Rattle.wp_cover.specs.Sources.{all_of};
+ghost use Rattle.wp_cover.specs.Store.{under};
+ghost use Rattle.wp_cover.specs.Shown.{is_above, newest_from, IsNewest, Notes};
 
 use crate::decisions::Decisions;
+use crate::sources::{Sources, bytes_of};
 use crate::store::{leave, store_at};
 use std::alloc::{AllocError, Global};
 use std::collections::BTreeMap;
-use wp_model::{Key, Seq, Value, Version, Versions};
+use std::sync::Arc;
+use wp_history::History;
+use wp_model::{Change, Entry, Seq, Versions};
+use wp_table::{Table, VersionRef};
 
-/// Leaves what the version has under its key, if it is committed at `n`.
-fn leave_committed(
-    alloc: Global,
-    store: &mut BTreeMap<Key, Value>,
+/// Of each key the newest version so far that is committed.
+#[derive(Drop)]
+struct Newest<'a> {
+    /// Its number.
+    numbers: BTreeMap<&'a [u8], Seq>,
+    /// Its value, if it is no deletion.
+    values: BTreeMap<&'a [u8], &'a [u8]>,
+}
+
+/// Whether the number is above the one that is noted under the key.
+fn is_above<'a>(numbers: &BTreeMap<&'a [u8], Seq>, key: &'a [u8], number: Seq) -> bool
+    ensures { result ≡ is_above (under numbers.now key.now) number }
+{
+    match numbers.get(key) {
+        Some(found) => *found < number,
+        None => true,
+    }
+}
+
+/// Notes the version, if it is committed at `n` and newer than the one of its key that is noted.
+fn note<'a>(
+    newest: &mut Newest<'a>,
     decisions: &Decisions<'_>,
-    version: &Version,
+    version: VersionRef<'a>,
     n: Seq,
 ) -> Result<(), AllocError>
-    ensures { OnOk result (LeavesCommitted decisions.now n version.now store.old store.new) }
+    ensures { OnOk result (Notes decisions.now n (seen version.entry ∷ []) newest.old newest.new) }
 {
     if !decisions.is_committed(version.number, n) {
         return Ok(());
     }
-    leave(alloc, store, &version.key, version.value.as_ref())
+    if !is_above(&newest.numbers, version.key, version.number) {
+        return Ok(());
+    }
+    newest.numbers.insert(version.key, version.number)?;
+    leave(&mut newest.values, version.key, version.value)
 }
 
-/// What a reader at `n` finds: of each key the first version that is committed there, since the newer ones come first.
-fn shown_at(
+fn note_list<'a>(
+    newest: &mut Newest<'a>,
+    decisions: &Decisions<'_>,
+    versions: &'a Versions,
+    n: Seq,
+) -> Result<(), AllocError>
+    ensures { OnOk result (Notes decisions.now n versions.now newest.old newest.new) }
+{
+    for version in versions.as_slice() {
+        note(newest, decisions, VersionRef::of(version), n)?;
+    }
+    Ok(())
+}
+
+fn note_table<'a>(
+    newest: &mut Newest<'a>,
+    decisions: &Decisions<'_>,
+    table: &'a Table,
+    n: Seq,
+) -> Result<(), AllocError>
+    ensures { OnOk result (Notes decisions.now n table.now newest.old newest.new) }
+{
+    for version in table.all() {
+        note(newest, decisions, version, n)?;
+    }
+    Ok(())
+}
+
+fn note_tables<'a>(
+    newest: &mut Newest<'a>,
+    decisions: &Decisions<'_>,
+    tables: &'a [Arc<Table>],
+    n: Seq,
+) -> Result<(), AllocError>
+    ensures { OnOk result (Notes decisions.now n (joined (map arc_value tables.now)) newest.old newest.new) }
+{
+    for table in tables {
+        note_table(newest, decisions, table, n)?;
+    }
+    Ok(())
+}
+
+/// Notes the versions of these changes, which the entry with that number makes.
+fn note_changes<'a>(
+    newest: &mut Newest<'a>,
+    decisions: &Decisions<'_>,
+    number: Seq,
+    changes: &'a [Change],
+    n: Seq,
+) -> Result<(), AllocError>
+    ensures { OnOk result (Notes decisions.now n (versions_under number changes.now) newest.old newest.new) }
+{
+    for change in changes {
+        let version = VersionRef {
+            key: change.key().bytes(),
+            number,
+            value: bytes_of(change.value()),
+        };
+        note(newest, decisions, version, n)?;
+    }
+    Ok(())
+}
+
+/// The changes of which the entry has versions.
+fn changes_in(entry: &Entry) -> &[Change]
+    ensures { result.now ≡ changes_in entry.now }
+{
+    match entry {
+        Entry::Write(batch) | Entry::Prepare(_, batch) | Entry::Undo(_, batch) => batch.changes(),
+        Entry::Commit(_) | Entry::Close(_) => &[],
+    }
+}
+
+/// Notes the versions of the entries above the flushed number.
+fn note_later<'a>(
+    newest: &mut Newest<'a>,
+    decisions: &Decisions<'_>,
+    history: &'a History,
+    flushed: Seq,
+    n: Seq,
+) -> Result<(), AllocError>
+    ensures { OnOk result (Notes decisions.now n (later_versions history.now.entries flushed) newest.old newest.new) }
+{
+    let entries = history.entries();
+    for i in flushed..history.published() {
+        note_changes(
+            newest,
+            decisions,
+            i + 1,
+            changes_in(&entries[i as usize]),
+            n,
+        )?;
+    }
+    Ok(())
+}
+
+/// Of each key the newest version that is committed at `n`.
+fn newest_at<'a>(
     alloc: Global,
     decisions: &Decisions<'_>,
-    versions: &[Version],
+    sources: &Sources<'a>,
     n: Seq,
-) -> Result<BTreeMap<Key, Value>, AllocError>
-    ensures { IfOk result (IsStore (shown decisions.now n versions.now)) }
+) -> Result<Newest<'a>, AllocError>
+    ensures { IfOk result (IsNewest (λ key. newest_from decisions.now n key None (all_of sources.now))) }
 {
-    let mut store = BTreeMap::new(alloc);
-    let mut i = versions.len();
-    while i > 0 {
-        i -= 1;
-        leave_committed(alloc, &mut store, decisions, &versions[i], n)?;
-    }
-    Ok(store)
+    let mut newest = Newest {
+        numbers: BTreeMap::new(alloc),
+        values: BTreeMap::new(alloc),
+    };
+    note_list(&mut newest, decisions, sources.list, n)?;
+    note_tables(&mut newest, decisions, sources.tables, n)?;
+    note_later(&mut newest, decisions, sources.history, sources.flushed, n)?;
+    Ok(newest)
 }
 
 /// Whether a reader at `n` finds what the store has.
-pub fn gives_store(
+pub fn gives_store<'a>(
     alloc: Global,
-    decisions: &Decisions<'_>,
-    versions: &Versions,
+    decisions: &'a Decisions<'_>,
+    sources: &Sources<'a>,
     n: Seq,
 ) -> Result<bool, AllocError>
-    ensures { IfOk result (λ yes. (yes ≡ true) ↔ ((key : List ℕ) → GivesStore versions.now decisions.now key n)) }
+    ensures { IfOk result (λ yes. (yes ≡ true) ↔ ((key : List ℕ) → GivesStore (all_of sources.now) decisions.now key n)) }
 {
     let store = store_at(alloc, decisions.history(), n)?;
-    let shown = shown_at(alloc, decisions, versions.as_slice(), n)?;
-    Ok(store == shown)
+    let newest = newest_at(alloc, decisions, sources, n)?;
+    Ok(store == newest.values)
 }

@@ -4,17 +4,17 @@ ghost use Rattle.std.specs.Option.{option_copied};
 ghost use Rattle.wp_model.specs.History.{changes_of, value_at};
 ghost use Rattle.wp_cover.specs.Store.{IsStore, Leaves, LeavesChanges};
 
+use crate::sources::bytes_of;
 use std::alloc::{AllocError, Global};
 use std::collections::BTreeMap;
 use wp_history::History;
-use wp_model::{Change, Entry, Key, Seq, Value};
+use wp_model::{Change, Entry, Seq};
 
-/// Leaves the value under the key, or nothing where there is none.
-pub fn leave(
-    alloc: Global,
-    store: &mut BTreeMap<Key, Value>,
-    key: &Key,
-    value: Option<&Value>,
+/// Leaves the value under the key, or nothing where there is none. Both are borrowed.
+pub fn leave<'a>(
+    store: &mut BTreeMap<&'a [u8], &'a [u8]>,
+    key: &'a [u8],
+    value: Option<&'a [u8]>,
 ) -> Result<(), AllocError>
     ensures { OnOk result (Leaves key.now (option_copied value.entry) store.old store.new) }
 {
@@ -22,15 +22,14 @@ pub fn leave(
         store.remove(key);
         return Ok(());
     };
-    store.insert(key.copy(alloc)?, value.copy(alloc)?)?;
+    store.insert(key, value)?;
     Ok(())
 }
 
 /// Of two changes of a key the earlier one counts, so the last one goes first.
-fn leave_changes(
-    alloc: Global,
-    store: &mut BTreeMap<Key, Value>,
-    changes: &[Change],
+fn leave_changes<'a>(
+    store: &mut BTreeMap<&'a [u8], &'a [u8]>,
+    changes: &'a [Change],
 ) -> Result<(), AllocError>
     ensures { OnOk result (LeavesChanges changes.now store.old store.new) }
 {
@@ -38,7 +37,7 @@ fn leave_changes(
     while i > 0 {
         i -= 1;
         let change = &changes[i];
-        leave(alloc, store, change.key(), change.value())?;
+        leave(store, change.key().bytes(), bytes_of(change.value()))?;
     }
     Ok(())
 }
@@ -58,17 +57,17 @@ fn changes_of<'a>(history: &'a History, entry: &'a Entry) -> &'a [Change]
 }
 
 /// What the first `n` entries leave.
-pub fn store_at(
+pub fn store_at<'a>(
     alloc: Global,
-    history: &History,
+    history: &'a History,
     n: Seq,
-) -> Result<BTreeMap<Key, Value>, AllocError>
+) -> Result<BTreeMap<&'a [u8], &'a [u8]>, AllocError>
     ensures { IfOk result (IsStore (λ key. value_at history.now.entries key n)) }
 {
     let mut store = BTreeMap::new(alloc);
     let first = &history.entries()[..n.min(history.published()) as usize];
     for entry in first {
-        leave_changes(alloc, &mut store, changes_of(history, entry))?;
+        leave_changes(&mut store, changes_of(history, entry))?;
     }
     Ok(store)
 }

@@ -13,7 +13,7 @@ use Rattle.wp_gatelog.specs.Opening.{IsFound, IsRefused, IsUntouched, IsOpened}
 use Rattle.wp_gatelog.specs.Spelling.{Gated, identity, all_gated, framed, log_of}
 use Rattle.wp_manifest.specs.declared.error.ManifestError.TheVariants.{Stranger, BadEdit}
 use Rattle.wp_manifest.specs.Errors.{manifest_error_of}
-use Rattle.wp_manifest.specs.Opening.{IsStranger, IsBadEdit, IsManifestCause, LeavesEdits}
+use Rattle.wp_manifest.specs.Opening.{IsManifestCause, LeavesEdits}
 use Rattle.wp_manifest.specs.Spelling.{MAGIC, HasHead}
 
 -- ---- the head
@@ -48,9 +48,9 @@ known : (P Q : Moment → Type 0) (moments : List Moment) → ((m : Moment) → 
 known P Q [] implies is = tt
 known P Q (m ∷ past) implies is = implies m is
 
-pub stranger_found : (asked id : ℕ) (records : List (List ℕ)) (moments : List Moment) → (id ≡ asked → ⊥) → IfKnown moments (λ m. IsFound MAGIC asked m.reads id records) → IfKnown moments (λ m. IsStranger asked asked id m.reads)
-stranger_found asked id records moments other found =
-    known (λ m. IsFound MAGIC asked m.reads id records) (λ m. IsStranger asked asked id m.reads) moments (λ m is. record { asked = refl; other = other; head = found_head asked id m.reads records is other }) found
+pub stranger_cause : (asked id : ℕ) (records : List (List ℕ)) (moments : List Moment) → (id ≡ asked → ⊥) → IfKnown moments (λ m. IsFound MAGIC asked m.reads id records) → (asked ≡ asked) × (id ≢ asked) × IfKnown moments (λ m. HasHead id m.reads)
+stranger_cause asked id records moments other found =
+    (refl, other, known (λ m. IsFound MAGIC asked m.reads id records) (λ m. HasHead id m.reads) moments (λ m is. found_head asked id m.reads records is other) found)
 
 pub refused_cause : (id before now : ℕ) (moments : List Moment) (why : LogError) → IfKnown moments (λ m. IsRefused MAGIC m.reads why) → FaultRose before now why → IsManifestCause id (Rose before now) moments (manifest_error_of id why)
 refused_cause id before now moments log.Memory refused rose = tt
@@ -60,9 +60,12 @@ refused_cause id before now moments (log.Cut index found) refused rose = by (fou
   where
     by : (same : Bool) → (found == id) ≡ same → IsManifestCause id (Rose before now) moments (if same then BadEdit index else Stranger id found)
     by true is =
-        known (λ m. (cut : IsCut MAGIC index m.reads) × (found ≡ cut.id)) (λ m. IsBadEdit id index m.reads) moments (λ m cut. inl (cut.0, sym cut.1 ∙ eqb-true found id is)) refused
-    by false is =
-        known (λ m. (cut : IsCut MAGIC index m.reads) × (found ≡ cut.id)) (λ m. IsStranger id id found m.reads) moments (λ m cut. record { asked = refl; other = λ e. apart (eq-eqb found id e) is; head = subst (λ (i : ℕ). HasHead i m.reads) (sym cut.1) (cut_head index m.reads cut.0) }) refused
+        inl (known (λ m. (cut : IsCut MAGIC index m.reads) × (found ≡ cut.id)) (λ m. (cut : IsCut MAGIC index m.reads) × (cut.id ≡ id)) moments (λ m cut. (cut.0, sym cut.1 ∙ eqb-true found id is)) refused)
+    by false is = (
+      refl,
+      λ e. apart (eq-eqb found id e) is,
+      known (λ m. (cut : IsCut MAGIC index m.reads) × (found ≡ cut.id)) (λ m. HasHead found m.reads) moments (λ m cut. subst (λ (i : ℕ). HasHead i m.reads) (sym cut.1) (cut_head index m.reads cut.0)) refused,
+    )
 
 -- ---- what is left
 

@@ -22,14 +22,17 @@ IsBadEdit id index bytes =
     ((cut : IsCut MAGIC index bytes) × (cut.id ≡ id))
     ⊎ ((records : List (List ℕ)) × Spells bytes MAGIC id records × IsBadAmong records index)
 
--- Why the manifest was not opened: its disk's count of faults rose, or where that is known its bytes are so. Want of
--- memory needs no cause.
+-- Why the manifest was not opened: its disk's count of faults rose, or what was read of it is so. Of the ids and the records that were
+-- read that is said on every disk; a bad head and a cut record are bytes that are not kept, and so are said of a disk that is known.
+-- Where it is known, all that was read is what it has. Want of memory needs no cause.
 abbrev pub IsManifestCause : ℕ → (rose : Type 0) → List Moment → ManifestError → Type 0
 IsManifestCause id rose moments Memory = Unit {0}
 IsManifestCause id rose moments DiskFault = rose
 IsManifestCause id rose moments BadHead = IfKnown moments (λ m. IsBadHead MAGIC m.reads)
-IsManifestCause id rose moments (Stranger log found) = IfKnown moments (λ m. IsStranger id log found m.reads)
-IsManifestCause id rose moments (BadEdit index) = IfKnown moments (λ m. IsBadEdit id index m.reads)
+IsManifestCause id rose moments (Stranger log found) = (log ≡ id) × (found ≢ id) × IfKnown moments (λ m. HasHead found m.reads)
+IsManifestCause id rose moments (BadEdit index) =
+    IfKnown moments (λ m. (cut : IsCut MAGIC index m.reads) × (cut.id ≡ id))
+    ⊎ ((records : List (List ℕ)) × IsBadAmong records index × IfKnown moments (λ m. Spells m.reads MAGIC id records))
 
 -- what a refusal leaves; where the disk failed, that is left open
 abbrev pub LeavesEdits : List Moment → List Moment → ManifestError → Type 0

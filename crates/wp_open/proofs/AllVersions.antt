@@ -1,5 +1,5 @@
 -- Whether tables cover a history: what is asked of all versions, and what that says of the tables'.
-use Rattle.std.proofs.Common.{◌≡◌, ◌↔◌, ℕ, ◌≤◌, Bool, true, List, [], ◌∷◌, ◌++◌, length, inl, inr, sym, ap, ◌∙◌}
+use Rattle.std.proofs.Common.{◌≡◌, ◌↔◌, ℕ, ◌≤◌, Bool, true, List, [], ◌++◌, length, inl, inr, sym, ap, ◌∙◌}
 use Rattle.std.specs.Option.{option_or}
 use Rattle.wp_model.specs.declared.entry.Entry.{Entry}
 use Rattle.wp_model.specs.declared.version.Version.{Version}
@@ -7,11 +7,10 @@ use Rattle.wp_model.specs.Covered.{GivesStore, IsCovered}
 use Rattle.wp_model.specs.Flushed.{later_versions}
 use Rattle.wp_model.specs.Versions.{version_at}
 use Rattle.wp_manifest.specs.Edit.{Edit}
-use Rattle.wp_merge.specs.Merge.{AreMerged, sorted_of}
-use Rattle.wp_merge.proofs.Merged.{or_none}
-use Rattle.wp_merge.proofs.Sorted.{at_sorted}
+use Rattle.wp_merge.specs.Merge.{AreMerged, first_at, joined, sorted_of}
+use Rattle.wp_merge.proofs.Sorted.{at_sorted, merged_sorted}
+use Rattle.wp_cover.proofs.Places.{at_append}
 use Rattle.wp_open.specs.Opens.{AreCovering}
-use Rattle.wp_open.proofs.Later.{at_append}
 
 -- ---- what covers a history hangs on look-ups alone
 
@@ -31,26 +30,28 @@ covers_same xs ys history numbers from same k = record {
   later = λ key n low high. gives_same xs ys history key n same (k.later key n low high);
 }
 
--- ---- the tables and the memory, merged
+-- ---- the tables' versions as they come, and merged
 
-module _ (history : List Entry) (edit : Edit) (parts : List (List Version)) (memory tables in_memory all : List Version) (low : edit.flushed ≤ length history) (is : memory ≡ sorted_of (later_versions history edit.flushed)) (merged : AreMerged parts tables) (one : AreMerged (memory ∷ []) in_memory) (both : AreMerged (tables ∷ in_memory ∷ []) all) where
-  in_memory_is : (key : List ℕ) (p : ℕ) → version_at in_memory key p ≡ version_at (later_versions history edit.flushed) key p
-  in_memory_is key p = one.each key p ∙ or_none key p (version_at memory key p) ∙ ap (λ (vs : List Version). version_at vs key p) is ∙ at_sorted (later_versions history edit.flushed) key p
+module _ (history : List Entry) (edit : Edit) (parts : List (List Version)) where
+  abbrev later : List Version
+  later = later_versions history edit.flushed
 
-  -- as all versions, so those of the tables and then the later ones
-  all_is : (some : List Version) → AreMerged parts some → (key : List ℕ) (p : ℕ) → version_at all key p ≡ version_at (some ++ later_versions history edit.flushed) key p
-  all_is some m key p =
-      both.each key p
-      ∙ ap (option_or (version_at tables key p)) (or_none key p (version_at in_memory key p) ∙ in_memory_is key p)
-      ∙ ap (λ o. option_or o (version_at (later_versions history edit.flushed) key p)) (merged.each key p ∙ sym (m.each key p))
-      ∙ sym (at_append some (later_versions history edit.flushed) key p)
+  joined_at : (key : List ℕ) (p : ℕ) → version_at (joined parts) key p ≡ first_at parts key p
+  joined_at key p = sym (at_sorted (joined parts) key p) ∙ (merged_sorted parts).each key p
 
-  pub covering_is : (r : Bool) → (r ≡ true) ↔ IsCovered all history [] (length history) → (r ≡ true) ↔ AreCovering history edit parts
-  covering_is r asked = (
+  -- as all versions merged, so those of the tables one after the other
+  same_at : (all : List Version) → AreMerged parts all → (key : List ℕ) (p : ℕ) → version_at (joined parts ++ later) key p ≡ version_at (all ++ later) key p
+  same_at all merged key p =
+      at_append (joined parts) later key p
+      ∙ ap (λ o. option_or o (version_at later key p)) (joined_at key p ∙ sym (merged.each key p))
+      ∙ sym (at_append all later key p)
+
+  pub covering_is : edit.flushed ≤ length history → (r : Bool) → (r ≡ true) ↔ IsCovered (joined parts ++ later_versions history edit.flushed) history [] (length history) → (r ≡ true) ↔ AreCovering history edit parts
+  covering_is low r asked = (
     λ e. record {
-      all = tables;
-      merged = merged;
-      covered = record { flushed = low; covered = covers_same all (tables ++ later_versions history edit.flushed) history [] (length history) (λ key p. sym (all_is tables merged key p)) (asked.0 e) };
+      all = sorted_of (joined parts);
+      merged = merged_sorted parts;
+      covered = record { flushed = low; covered = covers_same (joined parts ++ later) (sorted_of (joined parts) ++ later) history [] (length history) (λ key p. sym (same_at (sorted_of (joined parts)) (merged_sorted parts) key p)) (asked.0 e) };
     },
-    λ c. asked.1 (covers_same (c.all ++ later_versions history edit.flushed) all history [] (length history) (all_is c.all c.merged) c.covered.covered),
+    λ c. asked.1 (covers_same (c.all ++ later) (joined parts ++ later) history [] (length history) (same_at c.all c.merged) c.covered.covered),
   )

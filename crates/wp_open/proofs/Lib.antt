@@ -1,5 +1,6 @@
 pub mod Later
 pub mod AllVersions
+pub mod OwnVersions
 pub mod Reading
 pub mod OneWay
 pub mod Stages

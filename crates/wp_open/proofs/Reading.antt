@@ -19,9 +19,9 @@ use Rattle.wp_table.specs.Table.{IsTable, table_bytes}
 use Rattle.wp_open.specs.declared.bad.Bad.TheVariants as bad
 use Rattle.wp_open.specs.declared.opening.OpenError.{OpenError}
 use Rattle.wp_open.specs.declared.opening.OpenError.TheVariants as open_error
-use Rattle.wp_open.specs.Damage.{bytes_at, IsBadTable, IsFirstBadTable}
+use Rattle.wp_open.specs.Damage.{bytes_at, HasTableFault, IsFirstBadTable}
 use Rattle.wp_open.specs.Refused.{IsTableReason}
-use Rattle.wp_open.specs.Tables.{IsTableCause, AreTablesCause}
+use Rattle.wp_open.specs.Tables.{WasWrong, IsTableCause, IsFirstWrong, AreTablesCause}
 
 -- ---- one table
 
@@ -52,18 +52,15 @@ found_table id flushed len found placed versions moments is spelled whole read =
     table_at_place id flushed m.reads placed versions is (sym same ∙ spelled) (let size = ap length same in omega (arith, size, whole))) moments read
 
 -- a table that ends before its place does
-pub short_named : (id flushed len : ℕ) (found : List ℕ) (placed : ℕ × ℕ) (versions : List Version) (moments : List Moment) → IsTable id flushed versions → found ≡ table_bytes id versions → length found < placed.1 → IfKnown moments (λ m. len ≡ length m.reads → found ≡ bytes_at m.reads placed) → IfKnown moments (λ m. len ≡ length m.reads → IsBadTable id flushed m.reads placed table.Short)
-short_named id flushed len found placed versions moments is spelled short read =
-    known_map (λ m. len ≡ length m.reads → found ≡ bytes_at m.reads placed) (λ m. len ≡ length m.reads → IsBadTable id flushed m.reads placed table.Short)
-    (λ m there len_is. let same : found ≡ bytes_at m.reads placed = there len_is in
-    inr (versions, is, sym same ∙ spelled, (let size = ap length same in omega (arith, size, short)), refl)) moments read
+pub short_named : (id flushed len : ℕ) (found : List ℕ) (placed : ℕ × ℕ) (versions : List Version) (moments : List Moment) → IsTable id flushed versions → found ≡ table_bytes id versions → length found < placed.1 → IfKnown moments (λ m. len ≡ length m.reads → found ≡ bytes_at m.reads placed) → WasWrong id flushed placed len moments table.Short
+short_named id flushed len found placed versions moments is spelled short read = record { read = found; wrong = inr (versions, is, spelled, short, refl); known = read }
 
 pub fault_named : (id flushed len : ℕ) (placed : ℕ × ℕ) (rose : Type 0) (moments : List Moment) (found : List ℕ) (why : TableError) (error : OpenError) → IfSome (table_fault why) (λ fault. IsTableFault id flushed found fault) → IfKnown moments (λ m. len ≡ length m.reads → found ≡ bytes_at m.reads placed) → IsTableReason id placed.0 why error → IsTableCause id flushed placed len rose moments error
 fault_named id flushed len placed rose moments found table.Memory error fault read is = rw is tt
 fault_named id flushed len placed rose moments found (table.Stranger other) error fault read is =
-    rw is (refl, known_map (λ m. len ≡ length m.reads → found ≡ bytes_at m.reads placed) (λ m. len ≡ length m.reads → IsBadTable id flushed m.reads placed (table.Stranger other)) (λ m there len_is. inl (subst (λ (l : List ℕ). IsTableFault id flushed l (table.Stranger other)) (there len_is) fault)) moments read)
+    rw is (refl, record { read = found; wrong = inl fault; known = read })
 fault_named id flushed len placed rose moments found other error fault read is =
-    rw is (refl, tt, known_map (λ m. len ≡ length m.reads → found ≡ bytes_at m.reads placed) (λ m. len ≡ length m.reads → IsBadTable id flushed m.reads placed other) (λ m there len_is. inl (subst (λ (l : List ℕ). IsTableFault id flushed l other) (there len_is) fault)) moments read)
+    rw is (refl, tt, record { read = found; wrong = inl fault; known = read })
 
 -- ---- table after table
 
@@ -73,27 +70,29 @@ tables_push id flushed bytes [] (part ∷ parts) placed versions has one = absur
 tables_push id flushed bytes (place ∷ places) [] placed versions has one = absurd has
 tables_push id flushed bytes (place ∷ places) (part ∷ parts) placed versions has one = (has.0, tables_push id flushed bytes places parts placed versions has.1 one)
 
-module _ (id : ℕ) (edit : Edit) (len start mid now : ℕ) (moments : List Moment) (before after : List (ℕ × ℕ)) (placed : ℕ × ℕ) (parts : List (List Version)) (listed : edit.tables ≡ before ++ placed ∷ after) (right : IfKnown moments (λ m. HasTables id edit.flushed m.reads before parts)) (size : IfKnown moments (λ m. len ≡ length m.reads)) (later : start ≤ mid) where
-  first_bad : (why : TableError) → IfKnown moments (λ m. len ≡ length m.reads → IsBadTable id edit.flushed m.reads placed why) → IfKnown moments (λ m. IsFirstBadTable id edit.flushed m.reads edit.tables placed.0 why)
-  first_bad why wrong = by moments right size wrong
+module _ (id : ℕ) (edit : Edit) (len start mid now : ℕ) (moments : List Moment) (before after : List (ℕ × ℕ)) (placed : ℕ × ℕ) (parts : List (List Version)) (listed : edit.tables ≡ before ++ placed ∷ after) (right : IfKnown moments (λ m. HasTables id edit.flushed m.reads before parts)) (size : IfKnown moments (λ m. len ≡ length m.reads)) (as_many : length parts ≡ length before) (are : AllByRecursion (IsTable id edit.flushed) parts) (later : start ≤ mid) where
+  first_bad : (why : TableError) → WasWrong id edit.flushed placed len moments why → IsFirstWrong id edit moments placed.0 why
+  first_bad why w = record { before = before; size = placed.1; after = after; listed = listed; parts = parts; as_many = as_many; are = are; read = w.read; wrong = w.wrong; known = by moments right size w.known }
     where
-      by : (ms : List Moment) → IfKnown ms (λ m. HasTables id edit.flushed m.reads before parts) → IfKnown ms (λ m. len ≡ length m.reads) → IfKnown ms (λ m. len ≡ length m.reads → IsBadTable id edit.flushed m.reads placed why) → IfKnown ms (λ m. IsFirstBadTable id edit.flushed m.reads edit.tables placed.0 why)
-      by [] has len_is bad = tt
-      by (m ∷ past) has len_is bad = record { before = before; size = placed.1; after = after; parts = parts; listed = listed; right = has; wrong = bad len_is }
-
-  at_its_place : (place : ℕ) (why : TableError) → place ≡ placed.0 → IfKnown moments (λ m. IsFirstBadTable id edit.flushed m.reads edit.tables placed.0 why) → IfKnown moments (λ m. IsFirstBadTable id edit.flushed m.reads edit.tables place why)
-  at_its_place place why is wrong = subst (λ (p : ℕ). IfKnown moments (λ m. IsFirstBadTable id edit.flushed m.reads edit.tables p why)) (sym is) wrong
-
-  somewhere : (why : TableError) → IfKnown moments (λ m. IsFirstBadTable id edit.flushed m.reads edit.tables placed.0 why) → IfKnown moments (λ m. (place : ℕ) × IsFirstBadTable id edit.flushed m.reads edit.tables place why)
-  somewhere why wrong = known_map (λ m. IsFirstBadTable id edit.flushed m.reads edit.tables placed.0 why) (λ m. (place : ℕ) × IsFirstBadTable id edit.flushed m.reads edit.tables place why) (λ m w. (placed.0, w)) moments wrong
+      by : (ms : List Moment) → IfKnown ms (λ m. HasTables id edit.flushed m.reads before parts) → IfKnown ms (λ m. len ≡ length m.reads) → IfKnown ms (λ m. len ≡ length m.reads → w.read ≡ bytes_at m.reads placed) → IfKnown ms (λ m. IsFirstBadTable id edit.flushed m.reads edit.tables placed.0 why)
+      by [] has len_is there = tt
+      by (m ∷ past) has len_is there = record {
+        before = before;
+        size = placed.1;
+        after = after;
+        parts = parts;
+        listed = listed;
+        right = has;
+        wrong = subst (λ (read : List ℕ). HasTableFault id edit.flushed placed.1 read why) (there len_is) w.wrong;
+      }
 
   pub tables_cause : (error : OpenError) → IsTableCause id edit.flushed placed len (Rose mid now) moments error → AreTablesCause id edit (Rose start now) moments error
   tables_cause open_error.Memory cause = tt
   tables_cause (open_error.OpenFault device.Tables) cause = omega (arith, cause, later)
   tables_cause (open_error.OpenFault device.Log) cause = cause
   tables_cause (open_error.OpenFault device.Manifest) cause = cause
-  tables_cause (open_error.Contents (bad.Stranger log found)) cause = (cause.0, somewhere (table.Stranger found) (first_bad (table.Stranger found) cause.1))
-  tables_cause (open_error.Contents (bad.BadTable place why)) cause = (cause.1, at_its_place place why cause.0 (first_bad why cause.2))
+  tables_cause (open_error.Contents (bad.Stranger log found)) cause = (cause.0, placed.0, first_bad (table.Stranger found) cause.1)
+  tables_cause (open_error.Contents (bad.BadTable place why)) cause = (cause.1, subst (λ (p : ℕ). IsFirstWrong id edit moments p why) (sym cause.0) (first_bad why cause.2))
   tables_cause (open_error.Contents other) cause = absurd cause
 
 pub at_place : (items tables : List (ℕ × ℕ)) (i : ℕ) (d : ℕ × ℕ) → i < length items → items ≡ tables → tables ≡ take i items ++ get_or items i d ∷ drop (suc i) items

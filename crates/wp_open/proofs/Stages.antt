@@ -1,5 +1,6 @@
 -- What each step of an opening says of the whole: why it is refused, and what it leaves.
-use Rattle.std.proofs.Common.{◌≡◌, ◌↔◌, ℕ, ◌<◌, ◌≤◌, ◌^◌, Bool, true, false, true≢false, List, [], ◌∷◌, length, sym, subst, ◌∙◌}
+use Rattle.std.proofs.Common.{◌≡◌, ◌↔◌, ◌⊎◌, ⊎_elim, inl, inr, ℕ, ◌<◌, ◌≤◌, ◌^◌, Bool, true, false, true≢false, List, [], ◌∷◌, length, sym, subst, ◌∙◌}
+use Rattle.std.specs.List.{AllByRecursion}
 use Rattle.wp_model.specs.declared.entry.Entry.{Entry}
 use Rattle.wp_model.specs.declared.version.Version.{Version}
 use Rattle.wp_model.specs.Legal.{IsLegal}
@@ -7,6 +8,9 @@ use Rattle.wp_outside.specs.declared.disk.Device.TheVariants as device
 use Rattle.wp_outside.specs.Disk.{Moment, IfKnown, added, after_sync, images}
 use Rattle.wp_outside.proofs.Moments.{image_of_synced}
 use Rattle.wp_outside.specs.Faults.{Rose}
+use Rattle.wp_entry.specs.declared.error.RecordError.{RecordError}
+use Rattle.wp_entry.specs.declared.error.RecordError.TheVariants.{Short}
+use Rattle.wp_gatelog.specs.Damage.{IsCut}
 use Rattle.wp_gatelog.specs.Durability.{LosesNoRecord}
 use Rattle.wp_gatelog.specs.Left.{IsLeftAtRest, RestsAsSpelled}
 use Rattle.wp_gatelog.specs.Log.{IsAtRest}
@@ -14,7 +18,8 @@ use Rattle.wp_gatelog.specs.Opening.{KeepsLog}
 use Rattle.wp_gatelog.specs.Spelling.{IsUnmade, Spells}
 use Rattle.wp_wal.specs.declared.error.WalError.{WalError}
 use Rattle.wp_wal.specs.declared.error.WalError.TheVariants as wal_error
-use Rattle.wp_wal.specs.Opening.{IsLogCause}
+use Rattle.wp_wal.specs.Opening.{IsBadLog, IsLogCause}
+use Rattle.wp_wal.specs.Reading.{IsBadRecord}
 use Rattle.wp_wal.specs.Spelling.{IsLogOf}
 use Rattle.wp_wal.specs.Spelling as wal
 use Rattle.wp_wal.specs.Wal.{LeavesHistory}
@@ -22,28 +27,33 @@ use Rattle.wp_manifest.specs.declared.error.ManifestError.{ManifestError}
 use Rattle.wp_manifest.specs.declared.error.ManifestError.TheVariants as manifest_error
 use Rattle.wp_manifest.specs.Edit.{Edit}
 use Rattle.wp_manifest.specs.Manifest.{ManifestState, Opened}
-use Rattle.wp_manifest.specs.Opening.{IsManifestCause}
+use Rattle.wp_manifest.specs.Opening.{IsBadEdit, IsManifestCause}
+use Rattle.wp_manifest.specs.Reading.{IsBadAmong}
 use Rattle.wp_manifest.specs.Spelling as edits
 use Rattle.wp_table.specs.File.{HasTables}
+use Rattle.wp_table.specs.Table.{IsTable}
 use Rattle.wp_open.specs.declared.bad.Bad.{Bad}
 use Rattle.wp_open.specs.declared.bad.Bad.TheVariants as bad
 use Rattle.wp_open.specs.declared.opening.OpenError.{OpenError}
 use Rattle.wp_open.specs.declared.opening.OpenError.TheVariants as open_error
-use Rattle.wp_open.specs.Damage.{Finds, IsLogDamaged, IsManifestDamaged, IsTableNamed, IsUncovered, IsEditDamaged, log_behind, in_tables, uncovered, IsDamaged, in_log, in_manifest, in_edit}
+use Rattle.wp_open.specs.Damage.{Finds, IsLogDamaged, IsManifestDamaged, IsTableNamed, IsEditDamaged, log_behind, in_tables, uncovered, IsDamaged, in_log, in_manifest, in_edit}
 use Rattle.wp_open.specs.Devices.{DevicesLeft}
 use Rattle.wp_open.specs.Opens.{AreCovering, Opens, AllKnown}
-use Rattle.wp_open.specs.Refused.{IsCause, of_log, of_manifest, of_edit, IsOfTables, IsOutside, IsLogReason, IsManifestReason, IsLogLeft, IsManifestLeft, IsLeft, at_edit, at_tables, IsRefusedFrom}
-use Rattle.wp_open.specs.Tables.{AreTablesCause, IsStoreCause, behind, of_tables, not_covered, LeavesSynced}
+use Rattle.wp_open.specs.Refused.{WasRead, IsCause, of_log, of_manifest, of_edit, IsOfTables, IsOutside, IsLogReason, IsManifestReason, IsLogLeft, IsManifestLeft, IsLeft, at_edit, at_tables, IsRefusedFrom}
+use Rattle.wp_open.specs.Tables.{AreTablesCause, WereUncovered, IsStoreCause, behind, of_tables, not_covered, LeavesSynced}
 
 -- ---- the tables, once synced
 
 pub not_covering : (r : Bool) (P : Type 0) → (r ≡ true) ↔ P → r ≡ false → P → ⊥
 not_covering r P is e p = true≢false (sym (is.1 p) ∙ e)
 
-pub uncovered_here : (id : ℕ) (history : List Entry) (edit : Edit) (old new : List Moment) (parts : List (List Version)) → new ≡ added after_sync old → IfKnown new (λ m. HasTables id edit.flushed m.reads edit.tables parts) → (AreCovering history edit parts → ⊥) → IfKnown old (λ m. IsUncovered id history edit m.reads)
-uncovered_here id history edit [] new parts synced has none = tt
-uncovered_here id history edit (m ∷ past) new parts synced has none =
-    (parts, subst (λ (ms : List Moment). IfKnown ms (λ n. HasTables id edit.flushed n.reads edit.tables parts)) synced has, none)
+pub uncovered_here : (id : ℕ) (history : List Entry) (edit : Edit) (old new : List Moment) (parts : List (List Version)) → new ≡ added after_sync old → length parts ≡ length edit.tables → AllByRecursion (IsTable id edit.flushed) parts → IfKnown new (λ m. HasTables id edit.flushed m.reads edit.tables parts) → (AreCovering history edit parts → ⊥)
+    → WereUncovered id history edit old
+uncovered_here id history edit old new parts synced as_many are has none = record { parts = parts; as_many = as_many; are = are; uncovered = none; known = by old (subst (λ (ms : List Moment). IfKnown ms (λ n. HasTables id edit.flushed n.reads edit.tables parts)) synced has) }
+  where
+    by : (ms : List Moment) → IfKnown (added after_sync ms) (λ n. HasTables id edit.flushed n.reads edit.tables parts) → IfKnown ms (λ n. HasTables id edit.flushed n.reads edit.tables parts)
+    by [] there = tt
+    by (m ∷ past) there = there
 
 pub kept_tables : (P : List ℕ → Type 0) (old new : List Moment) → new ≡ added after_sync old → IfKnown old (λ m. P m.reads) → (image : List ℕ) → images new image → P image
 kept_tables P [] new synced has image is = absurd (subst (λ (ms : List Moment). images ms image) synced is)
@@ -55,35 +65,47 @@ kept_tables P (m ∷ past) new synced has image is =
 same_damage : (one other : Bad) → open_error.Contents one ≡ open_error.Contents other → one ≡ other
 same_damage one other same = cc
 
+bad_log : (bytes : List ℕ) (index : ℕ) (fault : RecordError) → (IsCut wal.MAGIC index bytes × (fault ≡ Short)) ⊎ ((records : List (List ℕ)) × ((id : ℕ) × Spells bytes wal.MAGIC id records) × IsBadRecord records index fault) → IsBadLog bytes index fault
+bad_log bytes index fault cause = ⊎_elim
+    (λ (cut : IsCut wal.MAGIC index bytes × (fault ≡ Short)). inl cut)
+    (λ (read : (records : List (List ℕ)) × ((id : ℕ) × Spells bytes wal.MAGIC id records) × IsBadRecord records index fault). inr (read.1.0, read.0, read.1.1, read.2))
+    cause
+
 log_damaged : (rose : Type 0) (l : Moment) (past : List Moment) (refusal : WalError) (damage : Bad) → IsLogReason refusal (open_error.Contents damage) → IsLogCause rose (l ∷ past) refusal → IsLogDamaged l.reads damage
 log_damaged rose l past wal_error.Memory damage is cause = absurd cc
 log_damaged rose l past wal_error.DiskFault damage is cause = absurd cc
 log_damaged rose l past wal_error.BadHead damage is cause = rw (same_damage damage (bad.BadHead device.Log) is) cause
-log_damaged rose l past (wal_error.BadRecord index fault) damage is cause = rw (same_damage damage (bad.BadRecord index fault) is) cause
-log_damaged rose l past (wal_error.Illegal number) damage is cause = rw (same_damage damage (bad.Illegal number) is) cause
+log_damaged rose l past (wal_error.BadRecord index fault) damage is cause = rw (same_damage damage (bad.BadRecord index fault) is) (bad_log l.reads index fault cause)
+log_damaged rose l past (wal_error.Illegal number) damage is cause = rw (same_damage damage (bad.Illegal number) is) (cause.1.0, cause.0, cause.1.1, cause.2)
+
+bad_edit : (id index : ℕ) (bytes : List ℕ) → ((cut : IsCut edits.MAGIC index bytes) × (cut.id ≡ id)) ⊎ ((records : List (List ℕ)) × IsBadAmong records index × Spells bytes edits.MAGIC id records) → IsBadEdit id index bytes
+bad_edit id index bytes cause = ⊎_elim
+    (λ (cut : (cut : IsCut edits.MAGIC index bytes) × (cut.id ≡ id)). inl cut)
+    (λ (read : (records : List (List ℕ)) × IsBadAmong records index × Spells bytes edits.MAGIC id records). inr (read.0, read.2, read.1))
+    cause
 
 manifest_damaged : (id : ℕ) (rose : Type 0) (m : Moment) (past : List Moment) (refusal : ManifestError) (damage : Bad) → IsManifestReason refusal (open_error.Contents damage) → IsManifestCause id rose (m ∷ past) refusal → IsManifestDamaged id m.reads damage
 manifest_damaged id rose m past manifest_error.Memory damage is cause = absurd cc
 manifest_damaged id rose m past manifest_error.DiskFault damage is cause = absurd cc
 manifest_damaged id rose m past manifest_error.BadHead damage is cause = rw (same_damage damage (bad.BadHead device.Manifest) is) cause
-manifest_damaged id rose m past (manifest_error.Stranger log found) damage is cause = rw (same_damage damage (bad.Stranger log found) is.1) (is.0, cause)
-manifest_damaged id rose m past (manifest_error.BadEdit index) damage is cause = rw (same_damage damage (bad.BadEdit index) is) cause
+manifest_damaged id rose m past (manifest_error.Stranger log found) damage is cause = rw (same_damage damage (bad.Stranger log found) is.1) (is.0, record { asked = cause.0; other = cause.1; head = cause.2 })
+manifest_damaged id rose m past (manifest_error.BadEdit index) damage is cause = rw (same_damage damage (bad.BadEdit index) is) (bad_edit id index m.reads cause)
 
 tables_named : (id : ℕ) (edit : Edit) (rose : Type 0) (t : Moment) (past : List Moment) (damage : Bad) → AreTablesCause id edit rose (t ∷ past) (open_error.Contents damage) → IsTableNamed id edit.flushed t.reads edit.tables damage
-tables_named id edit rose t past (bad.Stranger log found) cause = (cause.0, cause.1.0, cause.1.1)
-tables_named id edit rose t past (bad.BadTable place why) cause = cause
+tables_named id edit rose t past (bad.Stranger log found) cause = (cause.0, cause.1, cause.2.known)
+tables_named id edit rose t past (bad.BadTable place why) cause = (cause.0, cause.1.known)
 tables_named id edit rose t past other cause = absurd cause
 
 edit_damaged : (id : ℕ) (history : List Entry) (edit : Edit) (rose : Type 0) (t : Moment) (past : List Moment) (damage : Bad) → IsStoreCause id history edit rose (t ∷ past) (open_error.Contents damage) → IsEditDamaged id history edit t.reads damage
 edit_damaged id history edit rose t past damage (behind lt is) = log_behind lt (same_damage damage (bad.LogBehind edit.flushed (length history)) is)
 edit_damaged id history edit rose t past damage (of_tables low cause) = in_tables low (tables_named id edit rose t past damage cause)
-edit_damaged id history edit rose t past damage (not_covered low is none) = uncovered low none (same_damage damage bad.Uncovered is)
+edit_damaged id history edit rose t past damage (not_covered low is were) = uncovered low (were.parts, were.known, were.uncovered) (same_damage damage bad.Uncovered is)
 
 -- where all three devices are known, they are damaged as the refusal says
 damaged : (asked : ℕ) (log_rose manifest_rose tables_rose : Type 0) (l m t : Moment) (ls ms ts : List Moment) (damage : Bad) → IsCause asked log_rose manifest_rose tables_rose (l ∷ ls) (m ∷ ms) (t ∷ ts) (open_error.Contents damage) → IsDamaged asked l.reads m.reads t.reads damage
 damaged asked log_rose manifest_rose tables_rose l m t ls ms ts damage (of_log refusal is cause) = in_log (log_damaged log_rose l ls refusal damage is cause)
-damaged asked log_rose manifest_rose tables_rose l m t ls ms ts damage (of_manifest id history refusal finds is cause) = in_manifest id history finds (manifest_damaged id manifest_rose m ms refusal damage is cause)
-damaged asked log_rose manifest_rose tables_rose l m t ls ms ts damage (of_edit id history list finds spells cause) = in_edit id history list finds spells (edit_damaged id history (edits.last_edit list) tables_rose t ts damage cause)
+damaged asked log_rose manifest_rose tables_rose l m t ls ms ts damage (of_manifest id history refusal finds is cause) = in_manifest id history finds.known (manifest_damaged id manifest_rose m ms refusal damage is cause)
+damaged asked log_rose manifest_rose tables_rose l m t ls ms ts damage (of_edit id history list finds spells cause) = in_edit id history list finds.known spells.known (edit_damaged id history (edits.last_edit list) tables_rose t ts damage cause)
 
 abbrev pub OpensOrDamaged : Type 0
 OpensOrDamaged = (l m t : List ℕ) (asked id : ℕ) (history : List Entry) (damage : Bad) → (IsUnmade l → id ≡ asked) → Opens id history l m t → IsDamaged asked l m t damage → ⊥
@@ -98,9 +120,12 @@ only_outside law asked log_rose manifest_rose tables_rose (l ∷ ls) (m ∷ ms) 
 only_outside law asked log_rose manifest_rose tables_rose (l ∷ ls) (m ∷ ms) (t ∷ ts) (open_error.Contents damage) cause =
     λ found history opens asks. law l.reads m.reads t.reads asked found history damage asks opens (damaged asked log_rose manifest_rose tables_rose l m t ls ms ts damage cause)
 
-pub finds_here : (asked id : ℕ) (history : List Entry) (log : List Moment) → id < 2 ^ 32 → IsLegal history → IfKnown log (λ l. IsLogOf id history l.reads) → IfKnown log (λ l. IsUnmade l.reads → id ≡ asked) → IfKnown log (λ l. Finds asked id history l.reads)
-finds_here asked id history [] fits legal spells unmade = tt
-finds_here asked id history (l ∷ past) fits legal spells unmade = record { id_fits = fits; spelled = spells; legal = legal; unmade = unmade }
+pub was_read : (asked id : ℕ) (history : List Entry) (log : List Moment) → id < 2 ^ 32 → IsLegal history → IfKnown log (λ l. IsLogOf id history l.reads) → IfKnown log (λ l. IsUnmade l.reads → id ≡ asked) → WasRead asked id history log
+was_read asked id history log fits legal spells unmade = record { id_fits = fits; legal = legal; known = by log spells unmade }
+  where
+    by : (ls : List Moment) → IfKnown ls (λ l. IsLogOf id history l.reads) → IfKnown ls (λ l. IsUnmade l.reads → id ≡ asked) → IfKnown ls (λ l. Finds asked id history l.reads)
+    by [] is made = tt
+    by (l ∷ past) is made = record { id_fits = fits; spelled = is; legal = legal; unmade = made }
 
 -- ---- what is left of the manifest
 

@@ -50,11 +50,15 @@ IsManifestDamaged id bytes other = ⊥
 abbrev pub bytes_at : List ℕ → ℕ × ℕ → List ℕ
 bytes_at bytes placed = take placed.1 (drop placed.0 bytes)
 
--- the bytes at the place have this fault first; or they are a whole table, and fewer than the edit says
+-- these bytes, of a table of that size, have this fault first; or they are a whole table, and fewer than its size
+abbrev pub HasTableFault : ℕ → ℕ → ℕ → List ℕ → TableError → Type 0
+HasTableFault id flushed size read why =
+    IsTableFault id flushed read why
+    ⊎ ((versions : List Version) × IsTable id flushed versions × (read ≡ table_bytes id versions) × (length read < size) × (why ≡ table.Short))
+
+-- the bytes at the place have this fault
 abbrev pub IsBadTable : ℕ → ℕ → List ℕ → ℕ × ℕ → TableError → Type 0
-IsBadTable id flushed bytes placed why =
-    IsTableFault id flushed (bytes_at bytes placed) why
-    ⊎ ((versions : List Version) × IsTable id flushed versions × (bytes_at bytes placed ≡ table_bytes id versions) × (length (bytes_at bytes placed) < placed.1) × (why ≡ table.Short))
+IsBadTable id flushed bytes placed why = HasTableFault id flushed placed.1 (bytes_at bytes placed) why
 
 -- the tables before this one are right, and it has the fault
 pub record IsFirstBadTable (id flushed : ℕ) (bytes : List ℕ) (tables : List (ℕ × ℕ)) (place : ℕ) (why : TableError) : Type 0 where

@@ -2,7 +2,8 @@
 use Rattle.std.specs.Prelude.{◌≡◌, ℕ, ◌<◌, ◌≤◌, ◌^◌, List, length}
 use Rattle.wp_model.specs.declared.entry.Entry.{Entry}
 use Rattle.wp_outside.specs.declared.disk.Device.TheVariants as device
-use Rattle.wp_outside.specs.Disk.{Moment, IfKnown}
+use Rattle.wp_model.specs.Legal.{IsLegal}
+use Rattle.wp_outside.specs.Disk.{Moment, IfKnown, Each}
 use Rattle.wp_outside.specs.Faults.{Rose}
 use Rattle.wp_gatelog.specs.Durability.{LosesNoRecord}
 use Rattle.wp_gatelog.specs.Left.{IsLeftAtRest}
@@ -16,7 +17,7 @@ use Rattle.wp_wal.specs.Spelling as log_spelling
 use Rattle.wp_wal.specs.Wal.{LeavesHistory}
 use Rattle.wp_manifest.specs.declared.error.ManifestError.{ManifestError}
 use Rattle.wp_manifest.specs.declared.error.ManifestError.TheVariants as manifest_error
-use Rattle.wp_manifest.specs.Edit.{Edit}
+use Rattle.wp_manifest.specs.Edit.{Edit, IsEdit}
 use Rattle.wp_manifest.specs.Opening.{IsManifestCause, LeavesEdits}
 use Rattle.wp_manifest.specs.Spelling.{MAGIC, IsManifestOf, last_edit}
 use Rattle.wp_table.specs.declared.error.TableError.{TableError}
@@ -65,12 +66,23 @@ IsOfTables id other = ⊥
 
 -- ---- why
 
+-- This history was read of the log, under this id, and is legal. Where the device is known, it has just that.
+pub record WasRead (asked id : ℕ) (history : List Entry) (log : List Moment) : Type 0 where
+  pub id_fits : id < 2 ^ 32
+  pub legal : IsLegal history
+  pub known : IfKnown log (λ l. Finds asked id history l.reads)
+
+-- these edits were read of the manifest; where the device is known, it has just these
+pub record WereRead (id : ℕ) (list : List Edit) (manifest : List Moment) : Type 0 where
+  pub are : Each IsEdit list
+  pub known : IfKnown manifest (λ m. IsManifestOf id list m.reads)
+
 -- Why a store was not opened. The log was refused; or, after a log that is right, the manifest; or, after both, what its last
--- edit says. Each speaks of the bytes of the devices that it needs, where they are known, and of no later one.
+-- edit says. Each speaks of what was read of the devices that it needs, of their bytes where they are known, and of no later one.
 pub data IsCause (asked : ℕ) (log_rose manifest_rose tables_rose : Type 0) (log manifest tables : List Moment) (why : OpenError) : Type 0 where
   of_log : (refusal : WalError) → IsLogReason refusal why → IsLogCause log_rose log refusal → IsCause asked log_rose manifest_rose tables_rose log manifest tables why
-  of_manifest : (id : ℕ) (history : List Entry) (refusal : ManifestError) → IfKnown log (λ l. Finds asked id history l.reads) → IsManifestReason refusal why → IsManifestCause id manifest_rose manifest refusal → IsCause asked log_rose manifest_rose tables_rose log manifest tables why
-  of_edit : (id : ℕ) (history : List Entry) (edits : List Edit) → IfKnown log (λ l. Finds asked id history l.reads) → IfKnown manifest (λ m. IsManifestOf id edits m.reads) → IsStoreCause id history (last_edit edits) tables_rose tables why → IsCause asked log_rose manifest_rose tables_rose log manifest tables why
+  of_manifest : (id : ℕ) (history : List Entry) (refusal : ManifestError) → WasRead asked id history log → IsManifestReason refusal why → IsManifestCause id manifest_rose manifest refusal → IsCause asked log_rose manifest_rose tables_rose log manifest tables why
+  of_edit : (id : ℕ) (history : List Entry) (edits : List Edit) → WasRead asked id history log → WereRead id edits manifest → IsStoreCause id history (last_edit edits) tables_rose tables why → IsCause asked log_rose manifest_rose tables_rose log manifest tables why
 
 -- the contents of the devices are not what it is about
 abbrev pub IsOutside : OpenError → Type 0

@@ -1,16 +1,28 @@
 -- Why the tables of an edit, or one of them, could not be read, or are none of the history; and what that leaves of their device.
-use Rattle.std.specs.Prelude.{◌≡◌, ◌⊎◌, ℕ, ◌<◌, ◌≤◌, List, length}
+use Rattle.std.specs.Prelude.{◌≡◌, ◌⊎◌, ℕ, ◌<◌, ◌≤◌, List, ◌∷◌, ◌++◌, length}
+use Rattle.std.specs.List.{AllByRecursion}
 use Rattle.wp_model.specs.declared.entry.Entry.{Entry}
+use Rattle.wp_model.specs.declared.version.Version.{Version}
 use Rattle.wp_outside.specs.declared.disk.Device.TheVariants as device
 use Rattle.wp_outside.specs.Disk.{Moment, IfKnown, added, after_sync}
 use Rattle.wp_manifest.specs.Edit.{Edit}
+use Rattle.wp_table.specs.declared.error.TableError.{TableError}
 use Rattle.wp_table.specs.declared.error.TableError.TheVariants as table
+use Rattle.wp_table.specs.File.{HasTables}
+use Rattle.wp_table.specs.Table.{IsTable}
 use Rattle.wp_open.specs.declared.bad.Bad.TheVariants as bad
 use Rattle.wp_open.specs.declared.opening.OpenError.{OpenError}
 use Rattle.wp_open.specs.declared.opening.OpenError.TheVariants as open_error
-use Rattle.wp_open.specs.Damage.{IsBadTable, IsFirstBadTable, IsOwnFault, IsUncovered}
+use Rattle.wp_open.specs.Damage.{bytes_at, HasTableFault, IsFirstBadTable, IsOwnFault}
+use Rattle.wp_open.specs.Opens.{AreCovering}
 
 -- ---- why
+
+-- These bytes were read at that place, on a device of so many bytes, and have this fault. Where the device is known, it has them there.
+pub record WasWrong (id flushed : ℕ) (placed : ℕ × ℕ) (len : ℕ) (moments : List Moment) (why : TableError) : Type 0 where
+  pub read : List ℕ
+  pub wrong : HasTableFault id flushed placed.1 read why
+  pub known : IfKnown moments (λ m. len ≡ length m.reads → read ≡ bytes_at m.reads placed)
 
 -- the device failed, or memory ran out
 abbrev pub IsReadCause : (rose : Type 0) → OpenError → Type 0
@@ -18,28 +30,50 @@ IsReadCause rose open_error.Memory = Unit {0}
 IsReadCause rose (open_error.OpenFault device.Tables) = rose
 IsReadCause rose other = ⊥
 
--- ... or the table at that place, on a device of so many bytes, is wrong
+-- ... or the bytes that were read at that place, on a device of so many bytes, are wrong. Where the device is known, it has them there.
 abbrev pub IsTableCause : ℕ → ℕ → ℕ × ℕ → ℕ → (rose : Type 0) → List Moment → OpenError → Type 0
 IsTableCause id flushed placed len rose moments (open_error.Contents (bad.Stranger log found)) =
-    (log ≡ id) × IfKnown moments (λ m. len ≡ length m.reads → IsBadTable id flushed m.reads placed (table.Stranger found))
+    (log ≡ id) × WasWrong id flushed placed len moments (table.Stranger found)
 IsTableCause id flushed placed len rose moments (open_error.Contents (bad.BadTable place why)) =
-    (place ≡ placed.0) × IsOwnFault why × IfKnown moments (λ m. len ≡ length m.reads → IsBadTable id flushed m.reads placed why)
+    (place ≡ placed.0) × IsOwnFault why × WasWrong id flushed placed len moments why
 IsTableCause id flushed placed len rose moments other = IsReadCause rose other
+
+-- Of the edit's tables those before this one were read and are tables, and what was read at its place has the fault. Where the device is
+-- known, it has all that there.
+pub record IsFirstWrong (id : ℕ) (edit : Edit) (moments : List Moment) (place : ℕ) (why : TableError) : Type 0 where
+  pub before : List (ℕ × ℕ)
+  pub size : ℕ
+  pub after : List (ℕ × ℕ)
+  pub listed : edit.tables ≡ before ++ (place, size) ∷ after
+  pub parts : List (List Version)
+  pub as_many : length parts ≡ length before
+  pub are : AllByRecursion (IsTable id edit.flushed) parts
+  pub read : List ℕ
+  pub wrong : HasTableFault id edit.flushed size read why
+  pub known : IfKnown moments (λ m. IsFirstBadTable id edit.flushed m.reads edit.tables place why)
 
 -- ... or one of the edit's tables is, and it is the first
 abbrev pub AreTablesCause : ℕ → Edit → (rose : Type 0) → List Moment → OpenError → Type 0
 AreTablesCause id edit rose moments (open_error.Contents (bad.Stranger log found)) =
-    (log ≡ id) × IfKnown moments (λ m. (place : ℕ) × IsFirstBadTable id edit.flushed m.reads edit.tables place (table.Stranger found))
+    (log ≡ id) × (place : ℕ) × IsFirstWrong id edit moments place (table.Stranger found)
 AreTablesCause id edit rose moments (open_error.Contents (bad.BadTable place why)) =
-    IsOwnFault why × IfKnown moments (λ m. IsFirstBadTable id edit.flushed m.reads edit.tables place why)
+    IsOwnFault why × IsFirstWrong id edit moments place why
 AreTablesCause id edit rose moments other = IsReadCause rose other
+
+-- These were read as the edit's tables, and do not cover the history. Where the device is known, it has them at their places.
+pub record WereUncovered (id : ℕ) (history : List Entry) (edit : Edit) (moments : List Moment) : Type 0 where
+  pub parts : List (List Version)
+  pub as_many : length parts ≡ length edit.tables
+  pub are : AllByRecursion (IsTable id edit.flushed) parts
+  pub uncovered : AreCovering history edit parts → ⊥
+  pub known : IfKnown moments (λ m. HasTables id edit.flushed m.reads edit.tables parts)
 
 -- Why the store of an edit was not opened. The log is behind the edit; or it is not, and the tables were refused, or they
 -- do not cover the history.
 pub data IsStoreCause (id : ℕ) (history : List Entry) (edit : Edit) (rose : Type 0) (moments : List Moment) (why : OpenError) : Type 0 where
   behind : length history < edit.flushed → why ≡ open_error.Contents (bad.LogBehind edit.flushed (length history)) → IsStoreCause id history edit rose moments why
   of_tables : edit.flushed ≤ length history → AreTablesCause id edit rose moments why → IsStoreCause id history edit rose moments why
-  not_covered : edit.flushed ≤ length history → why ≡ open_error.Contents bad.Uncovered → IfKnown moments (λ m. IsUncovered id history edit m.reads) → IsStoreCause id history edit rose moments why
+  not_covered : edit.flushed ≤ length history → why ≡ open_error.Contents bad.Uncovered → WereUncovered id history edit moments → IsStoreCause id history edit rose moments why
 
 -- ---- what is left
 

@@ -4,8 +4,8 @@
 //! none. Its last edit says up to which number entries were flushed, and where the tables are. The log has to have that many
 //! entries. The tables' device is synced, also where the edit has no table, so that what was read of it stays; and each table
 //! is read, in the edit's order. The versions of the later entries go into memory. At last the tables are asked whether,
-//! with these, they show every reader what the history holds. The first fault in this order is named, and all three devices
-//! are handed back.
+//! with these, they show every reader what the history holds; not where nothing was flushed, since then memory does. The first
+//! fault in this order is named, and all three devices are handed back.
 #![tactic(auto)]
 
 mod bad;

@@ -1,7 +1,7 @@
 //! The versions that no table has, in memory.
 ghost use Rattle.std.specs.Prelude.{◌≡◌, ◌≤◌, length, IfOk, OnOk};
 ghost use Rattle.wp_model.specs.Flushed.{later_versions};
-ghost use Rattle.wp_model.specs.Legal.{changes_in};
+ghost use Rattle.wp_model.specs.Legal.{IsLegal, changes_in};
 ghost use Rattle.wp_model.specs.Versions.{AreInOrder};
 ghost use Rattle.wp_memtable.specs.Memtable.{HasChanges};
 ghost use Rattle.wp_merge.specs.Merge.{sorted_of};
@@ -27,7 +27,8 @@ fn insert_entry(memory: &mut Memtable, number: Seq, entry: &Entry) -> Result<(),
 /// The versions of the entries above the flushed number, in memory.
 pub fn later_memory(alloc: Global, history: &History, flushed: Seq) -> Result<Memtable, AllocError>
     requires { flushed ≤ length history.now.entries }
-    ensures { IfOk result (λ memory. memory ≡ sorted_of (later_versions history.now.entries flushed)) }
+    ensures memory { IfOk result (λ memory. memory ≡ sorted_of (later_versions history.now.entries flushed)) }
+    ensures legal { IsLegal history.now.entries }
 {
     let entries = history.entries();
     let mut memory = Memtable::new(alloc);

@@ -104,7 +104,7 @@ fn open_store<D: Disk>(
     let parts = read_tables(alloc, tables, id, edit)?;
     let memory = later_memory(alloc, history, edit.flushed)?;
     let store = Store::new(alloc, memory, parts);
-    if !are_covering(alloc, history, &store)? {
+    if !are_covering(alloc, history, edit.flushed, &store)? {
         return Err(OpenError::Contents(Bad::Uncovered));
     }
     Ok(store)

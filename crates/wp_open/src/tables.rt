@@ -82,6 +82,7 @@ pub fn read_tables<D: Disk>(
 ) -> Result<Vec<Arc<Table>>, OpenError>
     ensures found { IfOk result (λ parts. IfKnown (D.moments tables.old) (λ m. HasTables id edit.now.flushed m.reads edit.now.tables (map arc_value parts.items))) }
     ensures are { IfOk result (λ parts. AllByRecursion (IsTable id edit.now.flushed) (map arc_value parts.items)) }
+    ensures as_many { IfOk result (λ parts. length (map arc_value parts.items) ≡ length edit.now.tables) }
     ensures unchanged { D.moments tables.new ≡ D.moments tables.old }
     ensures cause { IfErr result (AreTablesCause id edit.now (Rose (D.faults tables.old) (D.faults tables.new)) (D.moments tables.old)) }
     ensures later { D.faults tables.old ≤ D.faults tables.new }

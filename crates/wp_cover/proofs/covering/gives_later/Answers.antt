@@ -1,5 +1,6 @@
 use Rattle.std.proofs.Common.{◌≤◌, List, ap, length, sym, ◌∙◌, arith}
 use Rattle.wp_model.specs.declared.entry.Entry.{Entry}
+use Rattle.wp_cover.specs.Sources.{all_of}
 use Rattle.wp_cover.proofs.Together.{below_more}
 use Rattle.wp_cover.proofs.covering.gives_later.Goals as goal
 
@@ -12,4 +13,4 @@ returns-then-not-branch c = (
 )
 
 pub loop-n-preserved : goal.loop-n-preserved
-loop-n-preserved c = record { from = omega (arith, c.loop-n.invariant.from); below = below_more c.args.versions.now c.args.decisions.now c.args.from c.loop-n.n (c.in_ok-gives_store.ensures.0 c.if-not-branch.false) c.loop-n.invariant.below }
+loop-n-preserved c = record { from = omega (arith, c.loop-n.invariant.from); below = below_more (all_of c.args.sources.now) c.args.decisions.now c.args.from c.loop-n.n (c.in_ok-gives_store.ensures.0 c.if-not-branch.false) c.loop-n.invariant.below }

@@ -1,7 +1,10 @@
 use Rattle.std.proofs.Common.{List, ap, take}
 use Rattle.wp_model.specs.declared.entry.Entry.{Entry}
-use Rattle.wp_cover.proofs.Stores.{store_next}
+use Rattle.wp_cover.proofs.Stores.{none_left, store_next}
 use Rattle.wp_cover.proofs.store.store_at.Goals as goal
+
+pub loop-entry-init : goal.loop-entry-init
+loop-entry-init c = none_left c.new-store.result c.new-store.ensures.empty
 
 pub loop-entry-preserved : goal.loop-entry-preserved
 loop-entry-preserved c =

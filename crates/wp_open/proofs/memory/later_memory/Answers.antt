@@ -22,8 +22,8 @@ loop-n-preserved c =
     one_taken n (n + 1) entry (drop (n + 1) entries) c.loop-n.memory c.insert_entry.new.memory (add-one n) c.in_ok-insert_entry.ensures c.loop-n.invariant.none_above all
     (subst (λ (es : List Entry). AreTaken all es n c.loop-n.memory) cut c.loop-n.invariant)
 
-pub returns : goal.returns
-returns c =
+pub returns-clause-memory : goal.returns-clause-memory
+returns-clause-memory c =
     let entries : List Entry = c.entries-entries.result.now in
     let size = ap length c.entries-entries.ensures.value in
     let le : length entries ≤ c.loop-n.n = omega (arith, size, c.published-n-end.ensures.value, c.loop-n-test.false) in

@@ -9,12 +9,11 @@ use Rattle.wp_manifest.specs.Spelling as edits
 use Rattle.wp_table.specs.File.{HasTables}
 use Rattle.wp_table.specs.Table.{IsTable}
 use Rattle.std.specs.List.{AllByRecursion}
-use Rattle.wp_open.specs.Damage.{Finds}
 use Rattle.wp_open.specs.Parts.{IsStoreOf}
-use Rattle.wp_open.specs.Refused.{of_log, of_manifest, of_edit, IsLogLeft, IsManifestLeft, at_log, at_manifest}
+use Rattle.wp_open.specs.Refused.{WasRead, of_log, of_manifest, of_edit, IsLogLeft, IsManifestLeft, at_log, at_manifest}
 use Rattle.wp_open.specs.Tables.{IsStoreCause}
 use Rattle.wp_open.proofs.Opened.{opens_to}
-use Rattle.wp_open.proofs.Stages.{refused_from, finds_here, kept_tables, manifest_rests, edit_left, log_left}
+use Rattle.wp_open.proofs.Stages.{refused_from, was_read, kept_tables, manifest_rests, edit_left, log_left}
 use Rattle.wp_open.proofs.opening.open_parts.Goals as goal
 
 -- ---- the log is refused
@@ -34,12 +33,12 @@ returns-in-Err-open-clause-refused g c =
     let wal = c.in-Ok.opened.0 in let history = c.in-Ok.opened.1.entries in
     let e = c.in-Ok.ensures in let refused = c.in-Err-open.ensures in let why = c.in-Err-open.field-0.why in
     let fits : wal.id < 2 ^ 32 = omega (arith, c.id-found.type_inv, c.id-found.ensures) in
-    let finds = subst (λ (n : ℕ). IfKnown log (λ l. Finds c.args.id n history l.reads)) (sym c.id-found.ensures)
-    (finds_here c.args.id wal.id history log fits e.opened.legal e.opened.found e.opened.made) in
+    let was = subst (λ (n : ℕ). WasRead c.args.id n history log) (sym c.id-found.ensures)
+    (was_read c.args.id wal.id history log fits e.opened.legal e.opened.found e.opened.made) in
     let left = subst (λ (n : ℕ). IsLogLeft n history log now) (sym c.id-found.ensures)
     (log_left wal.id history log now wal.moments c.into_disk.ensures.moments e.opened.found (c.into_disk.ensures.left history [] e.opened.stores e.opened.running)) in
     refused_from c.a_store_is_opened_in_one_way.ensures.opened_or_damaged c.args.id _ _ _ _ _
-    (of_manifest c.id-found.result history why finds c.manifest_reason-why.ensures refused.refused.cause)
+    (of_manifest c.id-found.result history why was c.manifest_reason-why.ensures refused.refused.cause)
     (at_manifest c.id-found.result history why left c.manifest_reason-why.ensures refused.refused.left refused.kept.survives refl)
     (rw (c.into_disk.ensures.moments, c.into_disk.ensures.faults) e.kept) refused.kept.durable refused.kept.later (omega arith)
 
@@ -91,8 +90,8 @@ returns-in-Err-open_store-clause-refused g c =
     let e = c.in-Ok.ensures in let opened = c.in-Ok-open.ensures.opened in
     let back = c.into_disk-in-Err-open_store-2.ensures.moments in
     let fits : wal.id < 2 ^ 32 = omega (arith, c.id-found.type_inv, c.id-found.ensures) in
-    let finds = subst (λ (n : ℕ). IfKnown log (λ l. Finds c.args.id n history l.reads)) (sym c.id-found.ensures)
-    (finds_here c.args.id wal.id history log fits e.opened.legal e.opened.found e.opened.made) in
+    let was = subst (λ (n : ℕ). WasRead c.args.id n history log) (sym c.id-found.ensures)
+    (was_read c.args.id wal.id history log fits e.opened.legal e.opened.found e.opened.made) in
     let left = subst (λ (n : ℕ). IsLogLeft n history log log_now) (sym c.id-found.ensures)
     (log_left wal.id history log log_now wal.moments c.into_disk-in-Err-open_store.ensures.moments e.opened.found (c.into_disk-in-Err-open_store.ensures.left history [] e.opened.stores e.opened.running)) in
     let rests : IsManifestLeft c.id-found.result opened.edits manifest (g.D.Disk.moments c.into_disk-in-Err-open_store-2.result) = record {
@@ -101,7 +100,7 @@ returns-in-Err-open_store-clause-refused g c =
       survives = subst (λ (ms : List Moment). SurvivesThrough edits.MAGIC c.id-found.result manifest ms) (sym back) c.in-Ok-open.ensures.kept.survives;
     } in
     refused_from c.a_store_is_opened_in_one_way.ensures.opened_or_damaged c.args.id _ _ _ _ _
-    (of_edit c.id-found.result history opened.edits finds opened.found
+    (of_edit c.id-found.result history opened.edits was (record { are = opened.stores.spelled.are; known = opened.found })
     (subst (λ (x : Edit). IsStoreCause c.id-found.result history x rose tables c.in-Err-open_store.why) (c.edit.ensures ∙ opened.stores.last) c.in-Err-open_store.ensures.cause))
     (edit_left _ _ _ _ _ _ _ _ _ c.id-found.result history opened.edits c.edit.result.now c.in-Err-open_store.why (c.edit.ensures ∙ opened.stores.last) left rests c.in-Err-open_store.ensures.cause c.in-Err-open_store.ensures.left)
     (rw (c.into_disk-in-Err-open_store.ensures.moments, c.into_disk-in-Err-open_store.ensures.faults) e.kept) (rw back c.in-Ok-open.ensures.kept.durable)

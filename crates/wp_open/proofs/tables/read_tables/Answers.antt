@@ -1,6 +1,6 @@
-use Rattle.std.proofs.Common.{◌≡◌, ℕ, suc, ◌<◌, List, [], ◌∷◌, ◌++◌, length, get_or, take, drop, map, subst, ap, ◌∙◌, arith, rules}
+use Rattle.std.proofs.Common.{◌≡◌, ℕ, suc, ◌<◌, List, [], ◌∷◌, ◌++◌, length, length-append, get_or, take, drop, map, sym, subst, ap, ◌∙◌, arith, rules}
 use Rattle.std.specs.Arc.{arc_value}
-use Rattle.std.proofs.lemmas.List.{map_push}
+use Rattle.std.proofs.lemmas.List.{map_push, length-take-le}
 use Rattle.std.proofs.lemmas.Result.{err_from_is_err_and}
 use Rattle.wp_outside.specs.Disk.{Moment, IfKnown}
 use Rattle.wp_outside.specs.Faults.{Rose}
@@ -27,7 +27,8 @@ returns-in_err-table-clause-cause g c =
     let cause = subst (λ (n : ℕ). IsTableCause c.args.id n (get_or items i (0, 0)) c.in-Ok.len rose moments c.in_err-table.field-0.0) flushed_is
     (subst (λ (ms : List Moment). IsTableCause c.args.id c.edit.inside.flushed (get_or items i (0, 0)) c.in-Ok.len rose ms c.in_err-table.field-0.0) c.loop-placed.invariant.unchanged c.in_err-table.ensures.cause) in
     rw (p.1, p.2) (tables_cause c.args.id edit c.in-Ok.len (g.D.Disk.faults c.args.tables.now) (g.D.Disk.faults c.loop-placed.tables) (g.D.Disk.faults c.read_table.new.tables) moments (take i items) (drop (suc i) items) (get_or items i (0, 0)) (map arc_value c.loop-placed.parts.items)
-    (at_place items edit.tables i (0, 0) lt (c.deref-placed-items.ensures.value ∙ tables_is)) c.loop-placed.invariant.there c.in-Ok.ensures.length c.loop-placed.invariant.later c.in_err-table.field-0.0 cause)
+    (at_place items edit.tables i (0, 0) lt (c.deref-placed-items.ensures.value ∙ tables_is)) c.loop-placed.invariant.there c.in-Ok.ensures.length
+    (c.loop-placed.invariant.as_many ∙ sym (length-take-le i items (omega (arith, lt)))) c.loop-placed.invariant.are c.loop-placed.invariant.later c.in_err-table.field-0.0 cause)
 
 pub loop-placed-preserved : goal.loop-placed-preserved
 loop-placed-preserved g c =
@@ -45,4 +46,5 @@ loop-placed-preserved g c =
       later = omega (arith, c.read_table.ensures.later, c.loop-placed.invariant.later);
       there = tables_more c.args.id c.args.edit.now.flushed c.in-Ok.len items i (0, 0) (map arc_value c.loop-placed.parts.items) (map arc_value c.push.new.self.items) versions moments lt is c.loop-placed.invariant.there c.in-Ok.ensures.length one;
       are = all_more (IsTable c.args.id c.args.edit.now.flushed) (map arc_value c.loop-placed.parts.items) (map arc_value c.push.new.self.items) versions is c.loop-placed.invariant.are (subst (λ (n : ℕ). IsTable c.args.id n versions) flushed_is c.in_ok-table.ensures.is);
+      as_many = (let n = length-append (map arc_value c.loop-placed.parts.items) (versions ∷ []) in let l = ap length is in let m = c.loop-placed.invariant.as_many in omega (arith, n, l, m));
     }

@@ -1,4 +1,4 @@
-use Rattle.std.proofs.Common.{◌≡◌, ◌≤◌, map, take}
+use Rattle.std.proofs.Common.{◌≡◌, ◌≤◌, length, map, take}
 use Rattle.std.specs.Arc.{arc_value}
 use Rattle.wp_outside.specs.Disk.{IfKnown}
 use Rattle.std.specs.List.{AllByRecursion}
@@ -12,4 +12,5 @@ invariant-loop-placed g l = record {
   later : g.D.Disk.faults l.fn.tables ≤ g.D.Disk.faults l.tables;
   there : IfKnown (g.D.Disk.moments l.fn.tables) (λ m. HasTables l.id l.edit.flushed m.reads (take l.placed-index l.placed-items) (map arc_value l.parts.items));
   are : AllByRecursion (IsTable l.id l.edit.flushed) (map arc_value l.parts.items);
+  as_many : length (map arc_value l.parts.items) ≡ l.placed-index;
 }

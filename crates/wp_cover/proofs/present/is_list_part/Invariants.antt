@@ -1,6 +1,6 @@
 use Rattle.std.proofs.Common.{drop}
 use Rattle.wp_cover.specs.Present.{ArePart}
-use Rattle.wp_cover.proofs.present.are_part.Given as goal
+use Rattle.wp_cover.proofs.present.is_list_part.Given as goal
 
 abbrev pub invariant-loop-version : goal.invariant-loop-version
 invariant-loop-version l = record {

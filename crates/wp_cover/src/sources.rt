@@ -1,0 +1,140 @@
+//! Versions, each read where it is.
+ghost use Rattle.std.specs.Prelude.{◌≡◌, map};
+ghost use Rattle.std.specs.Arc.{arc_value};
+ghost use Rattle.std.specs.Option.{option_map, option_copied};
+ghost use Rattle.wp_model.specs.Batch.{change_to};
+ghost use Rattle.wp_model.specs.Decision.{entry_version};
+ghost use Rattle.wp_model.specs.Flushed.{later_versions};
+ghost use Rattle.wp_model.specs.Versions.{version_at};
+ghost use Rattle.wp_merge.specs.Merge.{joined};
+ghost use Rattle.wp_cover.specs.Present.{place_cmp};
+ghost use Rattle.wp_cover.specs.Sources.{all_of};
+
+use std::cmp::Ordering;
+use std::sync::Arc;
+use wp_history::History;
+use wp_model::{Batch, Entry, Key, Seq, Value, Version, Versions};
+use wp_table::Table;
+
+/// Versions of which each is read where it is: those of a list, then those of tables, one after the other, then those of
+/// the history's entries above the flushed number. Of several with one key and number the first one counts.
+#[derive(Drop)]
+pub struct Sources<'a> {
+    pub history: &'a History,
+    pub list: &'a Versions,
+    pub tables: &'a [Arc<Table>],
+    pub flushed: Seq,
+}
+
+/// The bytes of the value, if there is one.
+pub fn bytes_of<'a>(value: Option<&'a Value>) -> Option<&'a [u8]>
+    ensures { option_copied result ≡ option_copied value.entry }
+{
+    match value {
+        Some(value) => Some(value.bytes()),
+        None => None,
+    }
+}
+
+/// What the batch says of the key.
+fn change_to<'a>(batch: &'a Batch, key: &[u8]) -> Option<Option<&'a [u8]>>
+    ensures { option_map option_copied result ≡ change_to batch.now key.now }
+{
+    for change in batch.changes() {
+        if change.key().bytes() == key {
+            return Some(bytes_of(change.value()));
+        }
+    }
+    None
+}
+
+/// The version of the key of the entry with that number.
+pub fn entry_version<'a>(history: &'a History, p: Seq, key: &[u8]) -> Option<Option<&'a [u8]>>
+    ensures { option_map option_copied result ≡ entry_version history.now.entries p key.now }
+{
+    match history.entry_at(p)? {
+        Entry::Write(batch) | Entry::Prepare(_, batch) | Entry::Undo(_, batch) => {
+            change_to(batch, key)
+        }
+        Entry::Commit(_) | Entry::Close(_) => None,
+    }
+}
+
+/// How the version compares to the place of the key and the number.
+fn place_cmp(version: &Version, key: &Key, number: Seq) -> Ordering
+    ensures { result ≡ place_cmp key.now number version.now }
+{
+    version.key.cmp(key).then(number.cmp(&version.number))
+}
+
+/// The version of the key with that number, by halves.
+fn version_at<'a>(versions: &'a Versions, key: &Key, number: Seq) -> Option<Option<&'a [u8]>>
+    ensures { option_map option_copied result ≡ version_at versions.now key.now number }
+{
+    let list = versions.as_slice();
+    match list.binary_search_by(|version| place_cmp(version, key, number)) {
+        Ok(i) => Some(bytes_of(list[i].value.as_ref())),
+        Err(_) => None,
+    }
+}
+
+/// The version of the key with that number, of which the block is found by halves.
+fn version_in_table<'a>(table: &'a Table, key: &'a Key, number: Seq) -> Option<Option<&'a [u8]>>
+    ensures { option_map option_copied result ≡ version_at table.now key.now number }
+{
+    for version in table.versions(key) {
+        if version.number == number {
+            return Some(version.value);
+        }
+    }
+    None
+}
+
+/// The version of the key with that number in the first table that has one.
+fn version_in_tables<'a>(
+    tables: &'a [Arc<Table>],
+    key: &'a Key,
+    number: Seq,
+) -> Option<Option<&'a [u8]>>
+    ensures { option_map option_copied result ≡ version_at (joined (map arc_value tables.now)) key.now number }
+{
+    for table in tables {
+        let found = version_in_table(table, key, number);
+        if found.is_some() {
+            return found;
+        }
+    }
+    None
+}
+
+/// The version of the key with that number, if it is above the flushed one.
+fn later_version<'a>(
+    history: &'a History,
+    flushed: Seq,
+    key: &Key,
+    number: Seq,
+) -> Option<Option<&'a [u8]>>
+    ensures { option_map option_copied result ≡ version_at (later_versions history.now.entries flushed) key.now number }
+{
+    if number <= flushed {
+        return None;
+    }
+    entry_version(history, number, key.bytes())
+}
+
+impl<'a> Sources<'a> {
+    /// What counts under the key and the number.
+    pub fn find<'b>(&'b self, key: &'b Key, number: Seq) -> Option<Option<&'b [u8]>>
+        ensures { option_map option_copied result ≡ version_at (all_of self.now) key.now number }
+    {
+        let listed = version_at(self.list, key, number);
+        if listed.is_some() {
+            return listed;
+        }
+        let stored = version_in_tables(self.tables, key, number);
+        if stored.is_some() {
+            return stored;
+        }
+        later_version(self.history, self.flushed, key, number)
+    }
+}
