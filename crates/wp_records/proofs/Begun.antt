@@ -10,6 +10,7 @@ use Rattle.wp_parts.specs.Log.{LogState}
 use Rattle.wp_shared.specs.Seats.{SharedState, SeatState}
 use Rattle.wp_shared.specs.Notes.{GoesOn}
 use Rattle.wp_shared.specs.Notes.{KnowsWords}
+use Rattle.wp_records.specs.Records.{IsUncalled}
 use Rattle.wp_records.specs.Writing.{HoldsWrite}
 use Rattle.wp_records.specs.Stages.{is_of_pending, HoldsPending, IsBegun}
 use Rattle.wp_records.proofs.Holding.{holds_with, as_pending, as_write, words_kept}
@@ -30,13 +31,13 @@ module _ (log left : LogState) (entries : List Entry) (is : left.table ≡ recor
   pub begins_legal : IsLegal (log.table.history ++ entries) → IsLegal (left.table.history ++ left.table.pending)
   begins_legal legal = subst (λ (x : List Entry × List Entry). IsLegal (x.0 ++ x.1)) (λ i. (sym history_is i, sym pending_is i)) legal
 
-  pub begun : {D : Type 0} (z : SharedState D) (old new : SeatState) → HoldsWrite z old log → left.first ≡ log.first → left.wal ≡ record log.wal { reserved = left.wal.reserved } → GoesOn is_of_pending (writes left.table ∷ []) old.turns old new → Noted new.knows versions_nowhere → Noted new.knows number_not_in_heap
+  pub begun : {D : Type 0} (z : SharedState D) (old new : SeatState) → HoldsWrite z old log → left.first ≡ log.first → IsUncalled log left → GoesOn is_of_pending (writes left.table ∷ []) old.turns old new → Noted new.knows versions_nowhere → Noted new.knows number_not_in_heap
       → IsBegun z old log entries new left
-  begun z old new h first wal k nowhere below = record {
+  begun z old new h first uncalled k nowhere below = record {
     holds = holds_with z old new log left (as_pending z old log h) is_of_pending k first history_is (words_kept is_of_pending old new (writes left.table ∷ []) old.turns (length log.table.history) (λ bound words. refl) k h.words);
     seat = k;
     table = is;
-    wal = wal;
+    uncalled = uncalled;
     nowhere = nowhere;
     below = below;
   }

@@ -26,7 +26,7 @@ use Rattle.wp_commits.proofs.Ways.{bound_for_more}
 use Rattle.wp_records.specs.declared.error.WriteError.{WriteError}
 use Rattle.wp_records.specs.declared.error.WriteError.TheVariants.{Memory, LogFault}
 use Rattle.wp_records.specs.Writing.{HoldsWrite}
-use Rattle.wp_records.specs.Records.{numbers_behind, putting, is_about, IsAboutNone, IsPutWith, IsPut, IsNotPut, failing, FailsAppend, Puts}
+use Rattle.wp_records.specs.Records.{numbers_behind, putting, is_about, IsAboutNone, IsPutWith, IsPut, IsNotPut, IsUncalled, failing, FailsAppend, Puts}
 use Rattle.wp_records.specs.Stages.{is_of_stage, is_guarded, may_end, holding, as_failed, HoldsPending, IsLogged, Logs, HasJoined}
 use Rattle.wp_records.proofs.Facts.{not_stage, unguarded}
 use Rattle.wp_records.proofs.Holding.{as_write}
@@ -128,7 +128,13 @@ module _ {D : Type 0} (z : SharedState D) (s t new : SeatState) (log mid left : 
 
     pub puts_before : (entries : List Entry) (answer : Result (Unit {0}) WriteError) → Puts z t mid entries answer new left → Puts z s log entries answer new left
     puts_before entries (Ok done) p = subst (λ (w : List Way). IsPutWith z s log w entries new left) (ways_are entries) (put_before [] rises (ways_of (suc (length mid.table.history)) entries) entries p)
-    puts_before entries (Err Memory) p = (p.0, p.1, sym (ways_are entries) ∙ p.2, not_put_before [] rises (λ x. x) p.0 false p.3)
+    puts_before entries (Err Memory) p = (
+      p.0,
+      p.1,
+      sym (ways_are entries) ∙ p.2,
+      not_put_before [] rises (λ x. x) p.0 false p.3,
+      p.4 ∙ ap (λ (w : WalState). record w { reserved = left.wal.reserved }) wal,
+    )
     puts_before entries (Err LogFault) p = (
       subst (λ (w : List Way). IsNotPut z s log w true (failing entries s.knows.participant) new left) (ways_are entries) (not_put_before [] rises (failing entries) (ways_of (suc (length mid.table.history)) entries) true p.0),
       fails_before entries p.1,
@@ -136,10 +142,10 @@ module _ {D : Type 0} (z : SharedState D) (s t new : SeatState) (log mid left : 
 
 -- the record was made ready before, or it was tried
 module _ {D : Type 0} (z : SharedState D) (s t new : SeatState) (log left : LogState) (k : GoesOn is_guarded s.knows.held s.turns s t) (cleared : List Way) (rises : RisesFor z.cells (length log.table.history) s.knows t.knows cleared) where
-  pub not_ready : (others : List Way) → ways_of (suc (length log.table.history)) log.table.pending ≡ cleared ++ others → (why : WriteError) → why ≡ Memory → IsNotPut z t log [] false t.knows.participant new left → Puts z s log log.table.pending (Err why) new left
-  not_ready others are why is p =
+  pub not_ready : (others : List Way) → ways_of (suc (length log.table.history)) log.table.pending ≡ cleared ++ others → (why : WriteError) → why ≡ Memory → IsNotPut z t log [] false t.knows.participant new left → IsUncalled log left → Puts z s log log.table.pending (Err why) new left
+  not_ready others are why is p uncalled =
       subst (λ (e : WriteError). Puts z s log log.table.pending (Err e) new left) (sym is)
-      (cleared, others, are, subst (λ (w : List Way). IsNotPut z s log w false s.knows.participant new left) (append-nil cleared) (not_put_before z s t new log log left _ _ k refl cleared rises (λ x. x) [] false p))
+      (cleared, others, are, subst (λ (w : List Way). IsNotPut z s log w false s.knows.participant new left) (append-nil cleared) (not_put_before z s t new log log left _ _ k refl cleared rises (λ x. x) [] false p), uncalled)
 
   pub not_logged : cleared ≡ ways_of (suc (length log.table.history)) log.table.pending → (why : WriteError) → Logs z t log (Err why) new left → Puts z s log log.table.pending (Err why) new left
   not_logged all Memory none = absurd none

@@ -50,4 +50,4 @@ module _ {D : Type 0} (z : SharedState D) (s t : SeatState) (log mid : LogState)
 
   pub begun_puts : (new : SeatState) (left : LogState) (answer : Result (Unit {0}) WriteError) → Puts z t mid mid.table.pending answer new left → Puts z s log es answer new left
   begun_puts new left answer p =
-      puts_before z s t new log mid left _ _ (wider is_of_pending s t t is_guarded _ _ not_pending b.seat) history_is (λ bound words there. b.seat.noted (words_stay bound words) refl there) (ap settled b.table) (ap unreserved b.wal) es answer (subst (λ (e : List Entry). Puts z t mid e answer new left) pending_is p)
+      puts_before z s t new log mid left _ _ (wider is_of_pending s t t is_guarded _ _ not_pending b.seat) history_is (λ bound words there. b.seat.noted (words_stay bound words) refl there) (ap settled b.table) (ap unreserved b.uncalled) es answer (subst (λ (e : List Entry). Puts z t mid e answer new left) pending_is p)

@@ -1,5 +1,6 @@
 -- The versions of the pending entry, and what lies behind the store turn.
-use Rattle.std.proofs.Common.{◌≡◌, ℕ, suc, List, [], ◌∷◌, length, sym, subst, ap, ◌∙◌, Option, Some, None}
+use Rattle.std.proofs.Common.{◌≡◌, ◌≢◌, ℕ, suc, ◌≤◌, ◌==◌, nat_le, cond, List, [], ◌∷◌, length, refl, inl, inr, sym, subst, ap, ◌∙◌, ne_eqb, Option, Some, None, arith}
+use Rattle.std.proofs.lemmas.Bool.{cases_eq, cases_lt, eq-eqb, le-leb, lt-leb}
 use Rattle.wp_model.specs.declared.change.Change.{Change}
 use Rattle.wp_model.specs.declared.entry.Entry.{Entry}
 use Rattle.wp_model.specs.declared.version.Version.{Version}
@@ -11,9 +12,11 @@ use Rattle.wp_core.specs.Tables.{WriteTable, StoreTable, Content, writes, store}
 use Rattle.wp_core.specs.Views.{versions_nowhere}
 use Rattle.wp_core.specs.Sound.Views.{IsNowhere}
 use Rattle.wp_rule.specs.Knows.{Noted}
-use Rattle.wp_rule.proofs.Knows.{noted_is}
+use Rattle.wp_core.specs.World.{World}
+use Rattle.wp_rule.specs.Words.{IsAt}
+use Rattle.wp_rule.proofs.Knows.{at_sound, noted_is}
 use Rattle.wp_parts.specs.Stock.{StockState, store_table, HasNoneAt}
-use Rattle.wp_shared.specs.Seats.{SharedState, SeatState, place_at}
+use Rattle.wp_shared.specs.Seats.{SharedState, SeatState, Stands, place_at}
 use Rattle.wp_shared.specs.Turns.{Taken}
 use Rattle.wp_shared.specs.Notes.{GoesOn}
 use Rattle.wp_shared.proofs.Goes.{stays}
@@ -48,12 +51,48 @@ module _ (s : SeatState) (d : WriteTable) (old now : StockState) (held : s.knows
         (has entry.0 entry.2 (λ key. ap (version_at (store_table old).memory key) number ∙ nowhere key)),
   )
 
-  -- those of the number are taken out
-  pub removed : (n : ℕ) → n ≡ suc (length d.history) → (store_table now).tables ≡ (store_table old).tables → now.floor ≡ old.floor → HasVersionsAt None n (store_table old).memory (store_table now).memory
-      → (t : StoreTable) × (s.knows.held ≡ store t ∷ writes d ∷ []) × (store_table now ≡ record t { memory = (store_table now).memory }) × HasVersionsAt None (suc (length d.history)) t.memory (store_table now).memory
-  removed n number tables floor has = (
-    store_table old,
-    held,
-    (λ i. record { memory = (store_table now).memory; tables = tables i; floor = floor i }),
-    subst (λ (m : ℕ). HasVersionsAt None m (store_table old).memory (store_table now).memory) number has,
-  )
+  -- those from the number on are taken out, and none is later
+  module _ {D : Type 0} (z : SharedState D) (t : SeatState) (same : t ≡ s) (at : (w : World) × Stands z t w) where
+    abbrev w : World
+    w = at.0
+
+    there : IsAt (place_at z s.by) s.knows w
+    there = subst (λ (x : SeatState). IsAt (place_at z x.by) x.knows w) same at.1
+
+    store_is : w.store ≡ store_table old
+    store_is = held_table (place_at z s.by) s.knows w (store (store_table old)) there (subst (IsIn (store (store_table old))) (sym held) (inl refl))
+
+    writes_is : w.writes ≡ d
+    writes_is = held_table (place_at z s.by) s.knows w (writes d) there (subst (IsIn (writes d)) (sym held) (inr (inl refl)))
+
+    none_later : (key : List ℕ) (p : ℕ) → suc (length d.history) ≤ p → p ≢ suc (length d.history) → version_at (store_table old).memory key p ≡ None
+    none_later key p from other = by (version_at (store_table old).memory key p) refl
+      where
+        by : (o : Option (Option (List ℕ))) → version_at (store_table old).memory key p ≡ o → o ≡ None
+        by None is = refl
+        by (Some value) is =
+            let len = ap (λ (x : WriteTable). length x.history) writes_is in
+            let last = ((at_sound (place_at z s.by) s.knows w there).versions.next key p value (omega (arith, len, from)) (ap (λ (x : StoreTable). version_at x.memory key p) store_is ∙ is)).0 in
+            absurd (other (last ∙ ap suc len))
+
+    pub removed : (n : ℕ) → n ≡ suc (length d.history) → ((key : List ℕ) (p : ℕ) → version_at (store_table now).memory key p ≡ cond (nat_le n p) None (version_at (store_table old).memory key p)) → store_table now ≡ record (store_table old) { memory = (store_table now).memory }
+        → (x : StoreTable) × (t.knows.held ≡ store x ∷ writes d ∷ []) × (store_table now ≡ record x { memory = (store_table now).memory }) × HasVersionsAt None (suc (length d.history)) x.memory (store_table now).memory
+    removed n number left others = (
+      store_table old,
+      ap (λ (x : SeatState). x.knows.held) same ∙ held,
+      others,
+      λ key p. left key p ∙ ap (λ (m : ℕ). cond (nat_le m p) None (version_at (store_table old).memory key p)) number ∙ at_number key p,
+    )
+      where
+        at_number : (key : List ℕ) (p : ℕ) → cond (nat_le (suc (length d.history)) p) None (version_at (store_table old).memory key p) ≡ cond (p == suc (length d.history)) None (version_at (store_table old).memory key p)
+        at_number key p = elim (cases_lt p (suc (length d.history))) [
+          | inl lower ↦ rw (lt-leb (suc (length d.history)) p lower, ne_eqb p (suc (length d.history)) (λ is. absurd (omega (arith, is, lower)))) refl
+          | inr from ↦ elim (cases_eq p (suc (length d.history))) [
+            | inl here ↦ rw (le-leb (suc (length d.history)) p from, eq-eqb p (suc (length d.history)) here) refl
+            | inr other ↦ rw (le-leb (suc (length d.history)) p from, ne_eqb p (suc (length d.history)) other) (sym (none_later key p from other))
+          ]
+        ]
+
+    -- the seat went on from the one that loaded
+    pub went_on : (u : SeatState) → GoesOn is_of_versions (store (store_table now) ∷ writes d ∷ []) t.turns t u → GoesOn is_of_versions (store (store_table now) ∷ writes d ∷ []) s.turns s u
+    went_on u k = subst (λ (x : SeatState). GoesOn is_of_versions (store (store_table now) ∷ writes d ∷ []) x.turns x u) same k

@@ -100,6 +100,10 @@ pub record IsNotPut {D : Type 0} (z : SharedState D) (old : SeatState) (log : Lo
 abbrev pub failing : List Entry → Participant → Participant
 failing entries p = record p { past = p.past ++ log_failed entries ∷ [] }
 
+-- The log's device was not called: its count and its moments are as they were. At most the room for a record was reserved.
+abbrev pub IsUncalled : LogState → LogState → Type 0
+IsUncalled log left = left.wal ≡ record log.wal { reserved = left.wal.reserved }
+
 -- The append of these entries failed: the count of the log's device rose, and the log is closed for good. A crash at any moment of it
 -- left the history, or it and the entries, whole, and lost nothing that was acknowledged.
 pub record FailsAppend (log : LogState) (entries : List Entry) (left : LogState) : Type 0 where
@@ -109,9 +113,9 @@ pub record FailsAppend (log : LogState) (entries : List Entry) (left : LogState)
   pub durable : LosesNothing log.wal.moments left.wal.moments
 
 -- What a call answers that puts these entries behind the history, and what it leaves. Where memory is wanting the bound rose for some
--- of the first of its ways, for none, or for all.
+-- of the first of its ways, for none, or for all; and the log's device was not called.
 abbrev pub Puts : {D : Type 0} → SharedState D → SeatState → LogState → List Entry → Result (Unit {0}) WriteError → SeatState → LogState → Type 0
 Puts z old log entries (Ok done) new left = IsPut z old log entries new left
 Puts z old log entries (Err Memory) new left =
-    (cleared : List Way) × (others : List Way) × (ways_of (suc (length log.table.history)) entries ≡ cleared ++ others) × IsNotPut z old log cleared false old.knows.participant new left
+    (cleared : List Way) × (others : List Way) × (ways_of (suc (length log.table.history)) entries ≡ cleared ++ others) × IsNotPut z old log cleared false old.knows.participant new left × IsUncalled log left
 Puts z old log entries (Err LogFault) new left = IsNotPut z old log (ways_of (suc (length log.table.history)) entries) true (failing entries old.knows.participant) new left × FailsAppend log entries left

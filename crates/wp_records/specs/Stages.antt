@@ -24,7 +24,7 @@ use Rattle.wp_shared.specs.Notes.{is_flag, GoesOn, KnowsWords}
 use Rattle.wp_commits.specs.Ways.{ways_of, AreReady, AreApart, entered}
 use Rattle.wp_records.specs.declared.error.WriteError.{WriteError}
 use Rattle.wp_records.specs.declared.error.WriteError.TheVariants.{Memory, LogFault}
-use Rattle.wp_records.specs.Records.{OwnsEntry, is_about, MayPut, IsNotPut, failing, FailsAppend}
+use Rattle.wp_records.specs.Records.{OwnsEntry, is_about, MayPut, IsNotPut, IsUncalled, failing, FailsAppend}
 
 -- ---- which facts
 
@@ -103,7 +103,7 @@ pub record IsBegun {D : Type 0} (z : SharedState D) (old : SeatState) (log : Log
   pub holds : HoldsPending z new left
   pub seat : GoesOn is_of_pending (writes left.table ∷ []) old.turns old new
   pub table : left.table ≡ record log.table { pending = entries; logged = false }
-  pub wal : left.wal ≡ record log.wal { reserved = left.wal.reserved }
+  pub uncalled : IsUncalled log left
   pub nowhere : Noted new.knows versions_nowhere
   pub below : Noted new.knows number_not_in_heap
 

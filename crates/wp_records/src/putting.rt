@@ -9,7 +9,7 @@ ghost use Rattle.wp_commits.specs.declared.way.Way.{Way};
 ghost use Rattle.wp_commits.specs.Ways.{ways_of, RisesFor, AreApart};
 ghost use Rattle.wp_records.specs.declared.error.WriteError.TheVariants.{Memory};
 ghost use Rattle.wp_records.specs.Writing.{HoldsWrite};
-ghost use Rattle.wp_records.specs.Records.{MayPut, IsPutWith, IsNotPut, Puts};
+ghost use Rattle.wp_records.specs.Records.{MayPut, IsPutWith, IsNotPut, IsUncalled, Puts};
 ghost use Rattle.wp_records.specs.Stages.{is_guarded, HoldsPending, IsUnlogged, IsReadied, Logs, AreBehind, MayJoin, HasJoined};
 
 use crate::error::WriteError;
@@ -59,6 +59,7 @@ fn give_up<D: Disk + Drop, R: Wait>(
     requires running { log.old.table.closed ≡ false }
     ensures why { result ≡ Memory }
     ensures back { IsNotPut store.now seat.old log.old [] false seat.old.knows.participant seat.new log.new }
+    ensures uncalled { IsUncalled log.old log.new }
 {
     take_back(store, rt, seat, log);
     WriteError::Memory

@@ -116,7 +116,8 @@ pub(crate) fn put_versions<D: Disk + Drop, R: Wait>(
     result
 }
 
-/// Under the store turn: takes the versions of the pending entry out of memory, if they are there.
+/// Under the store turn: takes the versions of the pending entry out of memory, if they are there. That none has a later number, each
+/// world of the store shows.
 fn remove_versions<D: Disk + Drop>(
     store: &Shared<D>,
     seat: &mut Seat<D>,
@@ -128,7 +129,8 @@ fn remove_versions<D: Disk + Drop>(
     ensures seat { GoesOn is_of_versions (table.store (store_table stock.new) ∷ writes log.now.table ∷ []) seat.old.turns seat.old seat.new }
     ensures nowhere { Noted seat.new.knows versions_nowhere }
 {
-    stock.remove_number(log.published() + 1);
+    store.shows_world(seat);
+    stock.remove_from(log.published() + 1);
     steps::take_versions(store, seat, log, stock);
 }
 

@@ -1,5 +1,5 @@
 -- A refused call made no append, or one that failed.
-use Rattle.std.proofs.Common.{◌≡◌, ⊎_elim, ℕ, List, [], ◌∷◌, ◌++◌, filter, length, Some, refl, ap, ◌∙◌, append-nil}
+use Rattle.std.proofs.Common.{◌≡◌, ◌⊎◌, ⊎_elim, inl, inr, ℕ, List, [], ◌∷◌, ◌++◌, filter, length, Some, refl, ap, ◌∙◌, append-nil}
 use Rattle.std.specs.Prelude.{Result, Ok, Err, IfErr}
 use Rattle.std.proofs.lemmas.List.Elements.{filter-append}
 use Rattle.wp_model.specs.Batch.{key_of}
@@ -10,11 +10,15 @@ use Rattle.wp_model.specs.declared.holder.Holder.TheVariants.{Client}
 use Rattle.wp_core.specs.Sound.Pasts.{is_log_fault}
 use Rattle.wp_core.specs.Views.{Event, found, locked, log_failed, stopped}
 use Rattle.wp_core.specs.World.{Participant}
+use Rattle.wp_parts.specs.Log.{LogState}
+use Rattle.wp_records.specs.declared.error.WriteError.{WriteError}
+use Rattle.wp_records.specs.declared.error.WriteError.TheVariants as write_error
+use Rattle.wp_records.specs.Records.{Puts, IsUncalled, FailsAppend}
 use Rattle.wp_rule.specs.Accounts.{account_of}
 use Rattle.wp_shared.specs.Calls.{Continues, remembering}
 use Rattle.wp_shared.specs.Seats.{SharedState, SeatState}
 use Rattle.wp_txn.specs.Calls.{Keeps}
-use Rattle.wp_txn.specs.Writes.{Refuses, failed_appends, MadeNoAppend, RefusesBeforeLog, wrote_direct, writing_direct, WritesDirect}
+use Rattle.wp_txn.specs.Writes.{Refuses, failed_appends, MadeNoAppend, FailedOnce, LeavesDevice, MayLeaveDevice, RefusesBeforeLog, wrote_direct, writing_direct, WritesDirect}
 use Rattle.wp_txn.specs.declared.error.TxnError.{TxnError}
 use Rattle.wp_txn.specs.declared.error.TxnError.TheVariants as why
 
@@ -32,21 +36,22 @@ goes_unlogged : {D : Type 0} (z : SharedState D) (old new : SeatState) (p : Part
 goes_unlogged z old new p so goes = record { own = ap (λ (x : Participant). x.own) goes.participant ∙ so.own; failed = ap failed_appends goes.participant ∙ so.failed }
 
 pub refused_before : {D : Type 0} (z : SharedState D) (old new : SeatState) (needed : ℕ) (Asks : List Entry → Type 0) (first after : Participant) (reason : TxnError) → MadeNoAppend old.knows.participant after
-    → Refuses z old new needed Asks first after reason → RefusesBeforeLog old reason new
-refused_before z old new needed Asks first after why.Memory so c = goes_unlogged z old new after so c
-refused_before z old new needed Asks first after (why.Stopped n) so c = goes_unlogged z old new (remembering (stopped n ∷ []) after) (remembers_more old.knows.participant after (stopped n ∷ []) refl so) c.2
-refused_before z old new needed Asks first after (why.NumbersFull published limit) so c = goes_unlogged z old new after so c.4
-refused_before z old new needed Asks first after why.LogFault so c =
+    → Refuses z old new needed Asks first after reason → MayLeaveDevice z first old reason new → RefusesBeforeLog z first old reason new
+refused_before z old new needed Asks first after why.Memory so c d = (goes_unlogged z old new after so c, d)
+refused_before z old new needed Asks first after (why.Stopped n) so c d = (goes_unlogged z old new (remembering (stopped n ∷ []) after) (remembers_more old.knows.participant after (stopped n ∷ []) refl so) c.2, d)
+refused_before z old new needed Asks first after (why.NumbersFull published limit) so c d = (goes_unlogged z old new after so c.4, d)
+refused_before z old new needed Asks first after why.LogFault so c d =
     let entries : List Entry = c.2.0 in let goes = c.2.2 in record {
       own = ap (λ (x : Participant). x.own) goes.participant ∙ so.own;
       entries = entries;
       failed = ap failed_appends goes.participant ∙ filter-append is_log_fault after.past (log_failed entries ∷ []) ∙ ap (λ (es : List Event). es ++ log_failed entries ∷ []) so.failed;
     }
-refused_before z old new needed Asks first after other so c = absurd c
+refused_before z old new needed Asks first after other so c d = absurd c
 
 -- of a transaction, which is as it was
-pub refused_txn_before : {D : Type 0} (z : SharedState D) (old new : SeatState) (needed : ℕ) (Asks : List Entry → Type 0) (reason : TxnError) → Refuses z old new needed Asks old.knows.participant old.knows.participant reason → RefusesBeforeLog old reason new
-refused_txn_before z old new needed Asks reason c = let p = old.knows.participant in refused_before z old new needed Asks p p reason (as_it_was p) c
+pub refused_txn_before : {D : Type 0} (z : SharedState D) (old new : SeatState) (needed : ℕ) (Asks : List Entry → Type 0) (reason : TxnError) → Refuses z old new needed Asks old.knows.participant old.knows.participant reason → MayLeaveDevice z old.knows.participant old reason new
+    → RefusesBeforeLog z old.knows.participant old reason new
+refused_txn_before z old new needed Asks reason c d = let p = old.knows.participant in refused_before z old new needed Asks p p reason (as_it_was p) c d
 
 -- of a direct write
 module _ {D : Type 0} (z : SharedState D) (old new : SeatState) (change : Change) where
@@ -56,22 +61,41 @@ module _ {D : Type 0} (z : SharedState D) (old new : SeatState) (change : Change
   abbrev wrote : Participant
   wrote = wrote_direct (key_of change) was
 
+  abbrev writing : Participant
+  writing = writing_direct (key_of change) was
+
   abbrev Asks : List Entry → Type 0
   Asks entries = entries ≡ Write (change ∷ []) ∷ []
 
   so_wrote : MadeNoAppend was wrote
   so_wrote = remembers_more was was (locked (key_of change) (Client was.client) ∷ []) refl (as_it_was was)
 
-  also_refused : (reason : TxnError) → Refuses z old new 1 Asks (writing_direct (key_of change) was) wrote reason → RefusesBeforeLog old reason new
-  also_refused reason c = refused_before z old new 1 Asks (writing_direct (key_of change) was) wrote reason so_wrote c
+  also_refused : (reason : TxnError) → Refuses z old new 1 Asks writing wrote reason → MayLeaveDevice z writing old reason new → RefusesBeforeLog z writing old reason new
+  also_refused reason c d = refused_before z old new 1 Asks writing wrote reason so_wrote c d
 
-  pub written_before : (answer : Result ℕ TxnError) → WritesDirect z old change answer new → IfErr answer (λ reason. RefusesBeforeLog old reason new)
-  written_before (Ok n) c = tt
-  written_before (Err why.Memory) c = ⊎_elim (λ (k : Keeps z old new). goes_unlogged z old new was (as_it_was was) k) (λ (k : Continues z old new wrote). goes_unlogged z old new wrote so_wrote k) c
-  written_before (Err (why.Busy holder)) c =
+  pub written_before : (answer : Result ℕ TxnError) → WritesDirect z old change answer new → IfErr answer (λ reason. MayLeaveDevice z writing old reason new) → IfErr answer (λ reason. RefusesBeforeLog z writing old reason new)
+  written_before (Ok n) c d = tt
+  written_before (Err why.Memory) c d = (⊎_elim (λ (k : Keeps z old new). goes_unlogged z old new was (as_it_was was) k) (λ (k : Continues z old new wrote). goes_unlogged z old new wrote so_wrote k) c, d)
+  written_before (Err (why.Busy holder)) c d =
       let events : List Event = found (Some (key_of change)) holder (length was.seen) (account_of was c.world.locks c.published (Some (key_of change)) holder) ∷ [] in
-      goes_unlogged z old new (remembering events was) (remembers_more was was events refl (as_it_was was)) c.goes_on
-  written_before (Err (why.Stopped n)) c = also_refused (why.Stopped n) c.0
-  written_before (Err (why.NumbersFull published limit)) c = also_refused (why.NumbersFull published limit) c.0
-  written_before (Err why.LogFault) c = also_refused why.LogFault c.0
-  written_before (Err other) c = absurd c.0
+      (goes_unlogged z old new (remembering events was) (remembers_more was was events refl (as_it_was was)) c.goes_on, d)
+  written_before (Err (why.Stopped n)) c d = also_refused (why.Stopped n) c.0 d
+  written_before (Err (why.NumbersFull published limit)) c d = also_refused (why.NumbersFull published limit) c.0 d
+  written_before (Err why.LogFault) c d = also_refused why.LogFault c.0 d
+  written_before (Err other) c d = absurd c.0
+
+-- ---- what was refused made no append, or one that failed
+
+pub refused_or_failed : {D : Type 0} (z : SharedState D) (by : Participant) (old new : SeatState) (reason : TxnError) → RefusesBeforeLog z by old reason new
+    → (MadeNoAppend old.knows.participant new.knows.participant × LeavesDevice z by old new) ⊎ ((reason ≡ why.LogFault) × FailedOnce old.knows.participant new.knows.participant)
+refused_or_failed z by old new why.LogFault r = inr (refl, r)
+refused_or_failed z by old new other r = inl r
+
+pub put_or_failed : {D : Type 0} (z : SharedState D) (old new : SeatState) (log left : LogState) (entries : List Entry) (reason : WriteError) → Puts z old log entries (Err reason) new left
+    → IsUncalled log left ⊎ ((reason ≡ write_error.LogFault) × FailsAppend log entries left)
+put_or_failed z old new log left entries write_error.Memory p = inl p.4
+put_or_failed z old new log left entries write_error.LogFault p = inr (refl, p.1)
+
+pub none_appended : {D : Type 0} (z : SharedState D) (by : Participant) (old new : SeatState) (reason : TxnError) → (new.knows.participant.own ≡ old.knows.participant.own → ⊥) → RefusesBeforeLog z by old reason new → ⊥
+none_appended z by old new why.LogFault more r = more r.own
+none_appended z by old new other more r = more r.0.own

@@ -1,6 +1,6 @@
 -- A direct write: its key is locked, the change is put into the history, and the key is freed.
 use Rattle.std.proofs.Common.{◌≡◌, inl, inr, ℕ, true, false, List, [], ◌∷◌, ◌++◌, length, refl, sym, subst, ap, ◌∙◌, append-nil, Option, Some, None}
-use Rattle.std.specs.Prelude.{Result, Ok, Err}
+use Rattle.std.specs.Prelude.{Result, Ok, Err, IfErr}
 use Rattle.std.specs.FinMap as finite
 use Rattle.wp_model.specs.Batch.{key_of}
 use Rattle.wp_model.specs.History.{holder_of}
@@ -44,9 +44,9 @@ use Rattle.wp_txn.specs.Actors.{with_direct, ending_direct}
 use Rattle.wp_txn.specs.Recording.{Records, HasDirect, HoldsDirect, EndsDirect, without_direct}
 use Rattle.wp_txn.specs.Turns.{is_of_direct, IsNoDirect, IsWithoutDirect}
 use Rattle.wp_txn.specs.Under.{LocksDirect}
-use Rattle.wp_txn.specs.Writes.{Refuses, WritesDirect, wrote_direct, writing_direct}
+use Rattle.wp_txn.specs.Writes.{Refuses, WritesDirect, wrote_direct, writing_direct, SawNoMore, LeavesDevice, MayLeaveDevice}
 use Rattle.wp_txn.proofs.GoesOn.{held_last, holds_tables, locks_found, locks_left, with_locks, under, back, back_at_once, noted_back, nothing_done, finds}
-use Rattle.wp_txn.proofs.Goes.{chain, put_within, refused_within, refused_still, refused_free}
+use Rattle.wp_txn.proofs.Goes.{chain, put_within, refused_within, refused_still, refused_free, left_within}
 use Rattle.wp_txn.proofs.Made.{all_made, locks_are, but_notes}
 
 -- ---- steps
@@ -115,17 +115,21 @@ direct_freed p so s new same t key held m =
 -- ---- the key is held, and given back
 
 module _ {D : Type 0} (z : SharedState D) (old : SeatState) (t : LockTables) (key : List ℕ) (s r : SeatState) (k : Taken z old s (locks t)) where
+  saw_no_more : (new : SeatState) → r.knows.participant.seen ≡ s.knows.participant.seen → Given z locks_turn r new [] [] → SawNoMore old new
+  saw_no_more new same gave = ap (λ (x : SeatState). x.knows.participant.seen) gave.goes.same ∙ same ∙ ap (λ (x : SeatState). x.knows.participant.seen) k.seat
+
   pub direct_held : old.knows.participant.direct ≡ None → (u : LockTables) (new : SeatState) (answer : Result (Unit {0}) TxnError) → LocksDirect t s key answer u r → Given z locks_turn r new [] [] → HoldsDirect z old key answer new
   direct_held none u new (Ok done) c gave =
       let b : Actor = with_direct t key (with_locks t old).knows in let is = under z old t s k (with_direct t key) r c.1 in
       record {
         goes_on = back_at_once z old t s k b r new is gave refl refl refl (λ fact there. inr there);
+        saw = saw_no_more new (ap (λ (x : SeatState). x.knows.participant.seen) c.1) gave;
         found = locks_found z old s t (λ l. finite.get l.keys key ≡ None) k c.2;
         noted = noted_back z old t s k b r new (direct_free key) is gave (inl refl);
         first = λ other there. some_none other (sym ((noted_is (place_at z old.by) old.knows k.world (direct_free other) k.before there).is_so).0 ∙ none);
       }
-  direct_held none u new (Err (why.Busy holder)) c gave = finds z old t s k (Some key) holder r new c.3.0 c.0 c.3.1 c.3.2 gave
-  direct_held none u new (Err why.Memory) c gave = nothing_done z old t s k r new c.1 gave
+  direct_held none u new (Err (why.Busy holder)) c gave = (finds z old t s k (Some key) holder r new c.3.0 c.0 c.3.1 c.3.2 gave, saw_no_more new (ap (λ (x : SeatState). x.knows.participant.seen) c.3.2) gave)
+  direct_held none u new (Err why.Memory) c gave = (nothing_done z old t s k r new c.1 gave, saw_no_more new (ap (λ (x : SeatState). x.knows.participant.seen) c.1) gave)
   direct_held none u new (Err other) c gave = absurd c
 
   module _ (without : IsWithoutDirect s r (without_key t key)) where
@@ -220,13 +224,25 @@ module _ {D : Type 0} (z : SharedState D) (old mid left new : SeatState) (change
 
   pub written : (answer : Result ℕ TxnError) → Records z mid (Write (change ∷ []) ∷ []) (λ m. []) answer left → WritesDirect z old change answer new
   written (Ok n) r = wrote n r
-  written (Err reason) r = not_written reason r
+  written (Err reason) r = not_written reason r.0
+
+  leaves : LeavesDevice z mid.knows.participant mid left → LeavesDevice z (writing_direct key was) old new
+  leaves d = left_within z old mid left new (writing_direct key was) held.goes_on.same_by held.goes_on.participant same_seen held.saw d
+
+  left_for : (reason : TxnError) → MayLeaveDevice z mid.knows.participant mid reason left → MayLeaveDevice z (writing_direct key was) old reason new
+  left_for why.LogFault d = tt
+  left_for other d = leaves d
+
+  -- whatever it was refused for but that the device failed, that was left alone
+  pub device_left : (answer : Result ℕ TxnError) → Records z mid (Write (change ∷ []) ∷ []) (λ m. []) answer left → IfErr answer (λ reason. MayLeaveDevice z (writing_direct key was) old reason new)
+  device_left (Ok n) r = tt
+  device_left (Err reason) r = left_for reason r.1
 
 -- behind a record the seat is free, and has the direct write that it had
 pub free_after : {D : Type 0} (z : SharedState D) (mid left : SeatState) (entries : List Entry) (facts : ℕ → List Fact) (answer : Result ℕ TxnError) → Records z mid entries facts answer left → IsFree z.table left
 free_after z mid left entries facts (Ok n) r = r.1.1.put.goes_on.free
-free_after z mid left entries facts (Err reason) r = refused_free z mid left (length entries) (λ asked. asked ≡ entries) reason r
+free_after z mid left entries facts (Err reason) r = refused_free z mid left (length entries) (λ asked. asked ≡ entries) reason r.0
 
 pub direct_after : {D : Type 0} (z : SharedState D) (mid left : SeatState) (entries : List Entry) (facts : ℕ → List Fact) (answer : Result ℕ TxnError) → Records z mid entries facts answer left → left.knows.participant.direct ≡ mid.knows.participant.direct
 direct_after z mid left entries facts (Ok n) r = ap (λ (p : Participant). p.direct) r.1.1.put.goes_on.participant
-direct_after z mid left entries facts (Err reason) r = (refused_still z mid left (length entries) (λ asked. asked ≡ entries) reason r).direct
+direct_after z mid left entries facts (Err reason) r = (refused_still z mid left (length entries) (λ asked. asked ≡ entries) reason r.0).direct

@@ -1,5 +1,5 @@
 -- A seat that goes on twice goes on.
-use Rattle.std.proofs.Common.{◌≡◌, ℕ, ◌+◌, ◌≤◌, Bool, true, false, List, [], ◌∷◌, ◌++◌, length, refl, sym, subst, ap, ◌∙◌, None, arith}
+use Rattle.std.proofs.Common.{◌≡◌, ⊎_elim, inl, inr, ℕ, ◌+◌, ◌≤◌, Bool, true, false, List, [], ◌∷◌, ◌++◌, length, refl, sym, subst, ap, ◌∙◌, None, arith}
 use Rattle.std.specs.FinMap as finite
 use Rattle.wp_model.specs.History.{entry_at}
 use Rattle.wp_model.specs.Legal.{IsLegal}
@@ -14,14 +14,14 @@ use Rattle.wp_core.specs.Sound.Views.{guarded_by}
 use Rattle.wp_core.proofs.KeepsSeen.{shorter}
 use Rattle.wp_rule.specs.Words.{IsAt}
 use Rattle.wp_records.specs.Writing.{FoundLog}
-use Rattle.wp_records.specs.Records.{numbers_behind, failing}
+use Rattle.wp_records.specs.Records.{numbers_behind, failing, IsUncalled}
 use Rattle.wp_shared.specs.Calls.{ContinuesWith, Continues, remembering}
 use Rattle.wp_shared.specs.Seats.{SharedState, SeatState, IsFree, place_at}
 use Rattle.wp_shared.proofs.Onward.{starts_on}
 use Rattle.wp_txn.specs.declared.error.TxnError.{TxnError}
 use Rattle.wp_txn.specs.declared.error.TxnError.TheVariants.{Memory, Taken, Busy, TooMany, Silent, Unknown, InUse, NumbersFull, LogFault, Stopped}
 use Rattle.wp_txn.specs.Txn.{HasOpen, HasPrepared}
-use Rattle.wp_txn.specs.Writes.{HasPut, Refuses}
+use Rattle.wp_txn.specs.Writes.{HasPut, Refuses, SawNoMore, HadLog, LeavesDevice}
 
 -- the participant that it is in the end, whatever it had seen on the way
 pub chain : {D : Type 0} (Stays First Second : Fact → Type 0) (z : SharedState D) (a b c : SeatState) (P Q R : Participant) → ((fact : Fact) → Stays fact → First fact) → ((fact : Fact) → Stays fact → Second fact)
@@ -60,6 +60,15 @@ put_within Part Stays z old mid left new found after history entries by starts i
   within = put.within;
   goes_on = goes;
 }
+
+-- the log's device was left alone by a part of a call, before which the seat saw no more, and so by the call
+pub left_within : {D : Type 0} (z : SharedState D) (old mid left new : SeatState) (found : Participant) → mid.by ≡ old.by → mid.knows.participant ≡ record found { seen = mid.knows.participant.seen } → new.knows.participant.seen ≡ left.knows.participant.seen → SawNoMore old mid
+    → LeavesDevice z mid.knows.participant mid left → LeavesDevice z found old new
+left_within z old mid left new found by is same saw d = ⊎_elim
+    (λ (e : SawNoMore mid left). inl (same ∙ e ∙ saw))
+    (λ (k : (closed : Bool) × (found_log : FoundLog z mid.by mid.knows.participant left.knows.participant.seen closed) × HadLog z found_log.world.writes IsUncalled).
+    inr (k.0, found_from z old.by mid.by found mid.knows.participant mid.knows.participant.seen left.knows.participant.seen new.knows.participant.seen k.0 by is same k.1, k.2))
+    d
 
 -- ... and what it was refused for, the call was
 module _ {D : Type 0} (z : SharedState D) (old mid left new : SeatState) (needed : ℕ) (found after : Participant) (by : mid.by ≡ old.by) (is : mid.knows.participant ≡ record found { seen = mid.knows.participant.seen })

@@ -30,9 +30,10 @@ use Rattle.wp_rule.proofs.Forgets.{EndsNothing}
 use Rattle.wp_rule.proofs.MayBeMade.{known_made}
 use Rattle.wp_shared.proofs.Tables.{held_table}
 use Rattle.wp_parts.specs.Log.{LogState, IsLog}
+use Rattle.wp_parts.specs.Parts.{log_first}
 use Rattle.wp_records.specs.declared.error.WriteError.{WriteError}
 use Rattle.wp_records.specs.declared.error.WriteError.TheVariants as write_error
-use Rattle.wp_records.specs.Records.{numbers_behind, putting, IsAboutNone, failing, MayPut, IsPut, IsNotPut}
+use Rattle.wp_records.specs.Records.{numbers_behind, putting, IsAboutNone, failing, MayPut, IsPut, IsNotPut, IsUncalled}
 use Rattle.wp_records.specs.Writing.{HoldsWrite, FoundLog}
 use Rattle.wp_shared.specs.Calls.{IsLoose, ContinuesWith, Continues, remembering}
 use Rattle.wp_shared.specs.Seats.{SharedState, SeatState, IsFree, place_at}
@@ -43,7 +44,7 @@ use Rattle.wp_shared.specs.Notes.{with_note, seat_of}
 use Rattle.wp_txn.specs.Recording.{OpensLog, notes_of, PutsNoting, Records, answer_of}
 use Rattle.wp_txn.specs.declared.recording.Noting.{Noting}
 use Rattle.wp_txn.specs.declared.recording.Noting.TheVariants as note
-use Rattle.wp_txn.specs.Writes.{HasPut, Refuses}
+use Rattle.wp_txn.specs.Writes.{HasPut, Refuses, LeavesDevice}
 use Rattle.wp_txn.specs.declared.error.TxnError.TheVariants.{NumbersFull, Stopped}
 use Rattle.wp_txn.proofs.Made.{all_made}
 use Rattle.wp_txn.proofs.OneName.{named_is, name_is_free}
@@ -119,6 +120,14 @@ module _ {D : Type 0} (z : SharedState D) (old s : SeatState) (log : LogState) (
     closed_is = ap (λ (d : WriteTable). d.closed) took.is ∙ closed;
   }
 
+  -- it was given back with its device uncalled
+  left_alone : (left : LogState) (new : SeatState) (b : Bool) → new.knows.participant.seen ≡ history → log.table.closed ≡ b → IsLog log → log_first z.first ≡ Some left.first → IsLog left → IsUncalled log left → LeavesDevice z was old new
+  left_alone left new b is closed is_log of_store still_log uncalled = inr (
+    b,
+    found_then new.knows.participant.seen b is closed,
+    record { before = log; left = left; of_store = took.of_store; still_of_store = of_store; before_is = sym took.is; log = is_log; still_log = still_log; came_about = uncalled },
+  )
+
   -- it holds this turn alone
   pub alone : IsFree z.table old → HoldsTurn z s (writes log.table) [] []
   alone free = subst (λ (x : List Content × List ℕ). HoldsTurn z s (writes log.table) x.0 x.1) (λ i. (free.held i, free.turns i)) took.holds
@@ -139,31 +148,37 @@ module _ {D : Type 0} (z : SharedState D) (old s : SeatState) (log : LogState) (
     pub alone_still : IsFree z.table old → HoldsTurn z t (writes log.table) [] []
     alone_still free = let h = alone free in subst (λ (x : SeatState). HoldsTurn z x (writes log.table) [] []) (sym found) (record { same_table = h.same_table; live = h.live; held = h.held; turns = h.turns })
 
-    pub stopped_back : (needed : ℕ) (Asks : List Entry → Type 0) → log.table.closed ≡ true → Given z write_turn t new [] [] → Refuses z old new needed Asks was was (Stopped n)
-    stopped_back needed Asks closed gives =
+    pub stopped_back : (needed : ℕ) (Asks : List Entry → Type 0) → log.table.closed ≡ true → IsLog log → Given z write_turn t new [] [] → Refuses z old new needed Asks was was (Stopped n) × LeavesDevice z was old new
+    stopped_back needed Asks closed is_log gives =
         let seen_there : t.knows.participant.seen ≡ history = ap (λ (x : SeatState). x.knows.participant.seen) found ∙ took.seen in
         let seen : new.knows.participant.seen ≡ history = ap (λ (x : SeatState). x.knows.participant.seen) gives.goes.same ∙ seen_there in (
-          number ∙ ap (λ (es : List Entry). length es) (sym seen),
-          found_then new.knows.participant.seen true seen closed,
-          given_back IsLoose z old t new (remembering (stopped n ∷ []) was) gives (ap (λ (x : SeatState). x.by) found ∙ same_by)
-              (took.grown.0, seen_there ∙ took.grown.1)
-              (ap (λ (x : SeatState). x.knows.participant) found ∙ ap (remembering (stopped (length history) ∷ [])) is_then
-              ∙ ap (λ (x : ℕ × List Entry). record (remembering (stopped x.0 ∷ []) was) { seen = x.1 }) (λ i. (sym number i, (took.seen ∙ sym seen_there) i)))
-              (λ fact loose. loose)
-              (λ fact loose there. subst (λ (x : SeatState). IsIn fact x.knows.notes) (sym found) (noted_then fact there))
-              (ap (λ (x : SeatState). x.knows.made) found ∙ made_then)
-              (ap (λ (x : SeatState). x.knows.joined) found ∙ joined_then),
+          (
+            number ∙ ap (λ (es : List Entry). length es) (sym seen),
+            found_then new.knows.participant.seen true seen closed,
+            given_back IsLoose z old t new (remembering (stopped n ∷ []) was) gives (ap (λ (x : SeatState). x.by) found ∙ same_by)
+                (took.grown.0, seen_there ∙ took.grown.1)
+                (ap (λ (x : SeatState). x.knows.participant) found ∙ ap (remembering (stopped (length history) ∷ [])) is_then
+                ∙ ap (λ (x : ℕ × List Entry). record (remembering (stopped x.0 ∷ []) was) { seen = x.1 }) (λ i. (sym number i, (took.seen ∙ sym seen_there) i)))
+                (λ fact loose. loose)
+                (λ fact loose there. subst (λ (x : SeatState). IsIn fact x.knows.notes) (sym found) (noted_then fact there))
+                (ap (λ (x : SeatState). x.knows.made) found ∙ made_then)
+                (ap (λ (x : SeatState). x.knows.joined) found ∙ joined_then),
+          ),
+          left_alone log new true seen closed is_log took.of_store is_log refl,
         )
 
-  pub full_back : (new : SeatState) (needed published limit : ℕ) (Asks : List Entry → Type 0) → log.table.closed ≡ false → published ≡ length history → limit ≡ z.limit → limit < published + needed → Given z write_turn s new [] []
-      → Refuses z old new needed Asks was was (NumbersFull published limit)
-  full_back new needed published limit Asks running number is over gives =
+  pub full_back : (new : SeatState) (needed published limit : ℕ) (Asks : List Entry → Type 0) → log.table.closed ≡ false → IsLog log → published ≡ length history → limit ≡ z.limit → limit < published + needed → Given z write_turn s new [] []
+      → Refuses z old new needed Asks was was (NumbersFull published limit) × LeavesDevice z was old new
+  full_back new needed published limit Asks running is_log number is over gives =
       let seen : new.knows.participant.seen ≡ history = ap (λ (x : SeatState). x.knows.participant.seen) gives.goes.same ∙ took.seen in (
-        number ∙ ap (λ (es : List Entry). length es) (sym seen),
-        is,
-        over,
-        found_then new.knows.participant.seen false seen running,
-        given_back IsLoose z old s new was gives same_by starts_then is_then (λ fact loose. loose) (λ fact loose there. noted_then fact there) made_then joined_then,
+        (
+          number ∙ ap (λ (es : List Entry). length es) (sym seen),
+          is,
+          over,
+          found_then new.knows.participant.seen false seen running,
+          given_back IsLoose z old s new was gives same_by starts_then is_then (λ fact loose. loose) (λ fact loose there. noted_then fact there) made_then joined_then,
+        ),
+        left_alone log new false seen running is_log took.of_store is_log refl,
       )
 
 -- ---- a record
@@ -211,27 +226,32 @@ module _ {D : Type 0} (z : SharedState D) (old s t new : SeatState) (log left : 
         (before_it, record { put = put; legal = legal }),
         λ fact there. gives.goes.noted fact (loose_under write_turn fact (loose (length left.table.history) fact there)) (p.1 fact there),
       )
-  recorded (Err write_error.Memory) p = (not_put_back p.0 false (λ (x : Participant). x) (λ es x. refl) p.3).1
+  recorded (Err write_error.Memory) p =
+      let back = not_put_back p.0 false (λ (x : Participant). x) (λ es x. refl) p.3 in
+      (back.1, left_alone z old s log o.took left new false back.0 o.running o.is_log p.3.holds.of_store still_log p.4)
   recorded (Err write_error.LogFault) p =
       let back = not_put_back _ true (failing entries) (λ es x. refl) p.0 in (
-        subst (λ (es : List Entry). length es + length entries ≤ z.limit) (sym back.0) o.within,
-        found_then z old s log o.took new.knows.participant.seen false back.0 o.running,
         (
-          entries,
-          refl,
-          back.1,
-          subst (λ (h : List Entry). IsLegal (h ++ entries)) (sym back.0) legal,
-          record {
-            before = log;
-            left = left;
-            of_store = o.holds.of_store;
-            still_of_store = p.0.holds.of_store;
-            before_is = sym o.took.is;
-            log = o.is_log;
-            still_log = still_log;
-            fails = p.1;
-          },
+          subst (λ (es : List Entry). length es + length entries ≤ z.limit) (sym back.0) o.within,
+          found_then z old s log o.took new.knows.participant.seen false back.0 o.running,
+          (
+            entries,
+            refl,
+            back.1,
+            subst (λ (h : List Entry). IsLegal (h ++ entries)) (sym back.0) legal,
+            record {
+              before = log;
+              left = left;
+              of_store = o.holds.of_store;
+              still_of_store = p.0.holds.of_store;
+              before_is = sym o.took.is;
+              log = o.is_log;
+              still_log = still_log;
+              came_about = p.1;
+            },
+          ),
         ),
+        tt,
       )
 
 -- the seat holds the write turn still, whatever the outcome

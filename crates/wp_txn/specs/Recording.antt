@@ -24,7 +24,7 @@ use Rattle.wp_txn.specs.declared.recording.Noting.TheVariants as noting
 use Rattle.wp_txn.specs.declared.error.TxnError.TheVariants.{Memory, Busy, LogFault}
 use Rattle.wp_txn.specs.Calls.{Keeps, Finds, GivesUp, LocksWere, IsFreeName, without_transaction}
 use Rattle.wp_txn.specs.Turns.{IsNoDirect}
-use Rattle.wp_txn.specs.Writes.{HasPut, Refuses, writing_direct}
+use Rattle.wp_txn.specs.Writes.{HasPut, Refuses, SawNoMore, MayLeaveDevice, writing_direct}
 
 -- what is noted of a record once it is put, where so many entries are published
 abbrev pub notes_of : Noting → ℕ → List Fact
@@ -70,11 +70,12 @@ pub record HasRecorded {D : Type 0} (z : SharedState D) (old new : SeatState) (h
   pub legal : IsLegal (history ++ entries)
 
 -- What a call answers that puts the entries into the history, and then notes these facts, which may name the number published
--- then; and what it leaves.
+-- then; and what it leaves, the log's device too.
 abbrev pub Records : {D : Type 0} → SharedState D → SeatState → List Entry → (ℕ → List Fact) → Result ℕ TxnError → SeatState → Type 0
 Records z old entries facts (Ok n) new =
     (n ≡ length new.knows.participant.seen) × ((history : List Entry) × HasRecorded z old new history entries) × ((fact : Fact) → IsIn fact (facts n) → IsIn fact new.knows.notes)
-Records z old entries facts (Err why) new = Refuses z old new (length entries) (λ asked. asked ≡ entries) old.knows.participant old.knows.participant why
+Records z old entries facts (Err why) new =
+    Refuses z old new (length entries) (λ asked. asked ≡ entries) old.knows.participant old.knows.participant why × MayLeaveDevice z old.knows.participant old why new
 
 -- these are what the keys of the batch had once the seat had seen so many entries, the prepare's number at least
 abbrev pub HadPrior : SeatState → ℕ → List Change → List Change → Type 0
@@ -97,17 +98,18 @@ abbrev pub without_direct : Participant → Participant
 without_direct p = record p { direct = None }
 
 -- The key, which nobody held, is locked for the seat's direct write, and noted as that of no undecided prepare. Before that it had
--- noted no such fact.
+-- noted no such fact. It has seen no more.
 pub record HasDirect {D : Type 0} (z : SharedState D) (old new : SeatState) (key : List ℕ) : Type 0 where
   pub goes_on : Continues z old new (writing_direct key old.knows.participant)
+  pub saw : SawNoMore old new
   pub found : LocksWere z old (λ t. finite.get t.keys key ≡ None)
   pub noted : IsIn (direct_free key) new.knows.notes
   pub first : (other : List ℕ) → IsIn (direct_free other) old.knows.notes → ⊥
 
 abbrev pub HoldsDirect : {D : Type 0} → SharedState D → SeatState → List ℕ → Result (Unit {0}) TxnError → SeatState → Type 0
 HoldsDirect z old key (Ok done) new = HasDirect z old new key
-HoldsDirect z old key (Err (Busy holder)) new = Finds z old new (Some key) holder
-HoldsDirect z old key (Err Memory) new = Keeps z old new
+HoldsDirect z old key (Err (Busy holder)) new = Finds z old new (Some key) holder × SawNoMore old new
+HoldsDirect z old key (Err Memory) new = Keeps z old new × SawNoMore old new
 HoldsDirect z old key (Err other) new = ⊥
 
 -- the direct write of the key is over, and nobody holds it; the seat has seen no more

@@ -1,5 +1,5 @@
 -- What the calls answer that make entries, and what they leave of the seat.
-use Rattle.std.specs.Prelude.{◌≡◌, ◌⊎◌, ℕ, ◌+◌, ◌<◌, ◌≤◌, true, false, List, [], ◌∷◌, ◌++◌, filter, length, Some, None, Result, Ok, Err}
+use Rattle.std.specs.Prelude.{◌≡◌, ◌⊎◌, ℕ, ◌+◌, ◌<◌, ◌≤◌, Bool, true, false, List, [], ◌∷◌, ◌++◌, filter, length, Some, None, Result, Ok, Err}
 use Rattle.std.specs.FinMap as finite
 use Rattle.wp_model.specs.declared.change.Change.{Change}
 use Rattle.wp_model.specs.declared.entry.Entry.{Entry}
@@ -17,7 +17,7 @@ use Rattle.wp_core.specs.World.{Participant}
 use Rattle.wp_parts.specs.Log.{LogState, IsLog}
 use Rattle.wp_parts.specs.Parts.{log_first}
 use Rattle.wp_records.specs.Writing.{FoundLog}
-use Rattle.wp_records.specs.Records.{numbers_behind, failing, FailsAppend}
+use Rattle.wp_records.specs.Records.{numbers_behind, failing, FailsAppend, IsUncalled}
 use Rattle.wp_shared.specs.Calls.{ContinuesWith, Continues, remembering}
 use Rattle.wp_shared.specs.Seats.{SharedState, SeatState}
 use Rattle.wp_txn.specs.declared.error.TxnError.{TxnError}
@@ -42,12 +42,11 @@ pub record HasPut {D : Type 0} (Stays : Fact → Type 0) (z : SharedState D) (ol
 abbrev pub HasPutThese : {D : Type 0} → (Fact → Type 0) → SharedState D → SeatState → SeatState → Participant → Participant → List Entry → Type 0
 HasPutThese Stays z old new found after entries = (history : List Entry) × HasPut Stays z old new found after history entries
 
--- The store's log on its device, as the call found it, with this table, and as it left it, once the append of these entries had failed.
--- Both are what the value behind the turn may be: the device has what the table says that the log spells, no fault since the opening
--- was forgotten, and what was acknowledged then is so still. No clause of a call on a shared store sees its device: that the value was
--- the one and became the other in this very call is what the append itself says, of the value that the call took out from behind the
--- turn.
-pub record HadFault {D : Type 0} (z : SharedState D) (found : WriteTable) (entries : List Entry) : Type 0 where
+-- The store's log on its device, as the call found it, with this table, and as it left it: between the two this came about. Both are
+-- what the value behind the turn may be: the device has what the table says that the log spells, no fault since the opening was
+-- forgotten, and what was acknowledged then is so still. No clause of a call on a shared store sees its device: that the value was the
+-- one and became the other in this very call is what `put` says, of the value that the call took out from behind the turn.
+pub record HadLog {D : Type 0} (z : SharedState D) (found : WriteTable) (CameAbout : LogState → LogState → Type 0) : Type 0 where
   pub before : LogState
   pub left : LogState
   pub of_store : log_first z.first ≡ Some before.first
@@ -55,7 +54,11 @@ pub record HadFault {D : Type 0} (z : SharedState D) (found : WriteTable) (entri
   pub before_is : before.table ≡ found
   pub log : IsLog before
   pub still_log : IsLog left
-  pub fails : FailsAppend before entries left
+  pub came_about : CameAbout before left
+
+-- ... the append of these entries failed
+abbrev pub HadFault : {D : Type 0} → SharedState D → WriteTable → List Entry → Type 0
+HadFault z found entries = HadLog z found (λ before left. FailsAppend before entries left)
 
 -- Why a call put no entries there, of which it needs so many, and asks for such. It was the first participant as it found the log,
 -- and is the second one but for what it remembers of that. What a log that failed was asked to take might have come next.
@@ -90,11 +93,31 @@ pub record FailedOnce (old new : Participant) : Type 0 where
   pub entries : List Entry
   pub failed : failed_appends new ≡ failed_appends old ++ log_failed entries ∷ []
 
--- What a refused call did with the log's device. Where it says that the device failed, it made one append, which failed. Where it says
--- anything else, want of memory too, it made none. So behind an append that answered Ok the call answers Ok.
-abbrev pub RefusesBeforeLog : SeatState → TxnError → SeatState → Type 0
-RefusesBeforeLog old LogFault new = FailedOnce old.knows.participant new.knows.participant
-RefusesBeforeLog old other new = MadeNoAppend old.knows.participant new.knows.participant
+-- the seat has seen no more than before
+abbrev pub SawNoMore : SeatState → SeatState → Type 0
+SawNoMore old new = new.knows.participant.seen ≡ old.knows.participant.seen
+
+-- The log's device was not called: its count and its moments are as they were. For the seat never had the write turn, and saw no more
+-- of the history; or it had the turn, as this participant, and gave the log back with its device uncalled.
+abbrev pub LeavesDevice : {D : Type 0} → SharedState D → Participant → SeatState → SeatState → Type 0
+LeavesDevice z found old new =
+    SawNoMore old new ⊎ ((closed : Bool) × (found_log : FoundLog z old.by found new.knows.participant.seen closed) × HadLog z found_log.world.writes IsUncalled)
+
+-- unless the answer is that the device failed
+abbrev pub MayLeaveDevice : {D : Type 0} → SharedState D → Participant → SeatState → TxnError → SeatState → Type 0
+MayLeaveDevice z found old LogFault new = Unit {0}
+MayLeaveDevice z found old other new = LeavesDevice z found old new
+
+-- What a refused call did with the log's device, which found the log as this participant. Where it says that the device failed, it
+-- made one append, which failed. Where it says anything else, want of memory too, it made none, and the device was not called. So
+-- behind an append that answered Ok the call answers Ok.
+abbrev pub RefusesBeforeLog : {D : Type 0} → SharedState D → Participant → SeatState → TxnError → SeatState → Type 0
+RefusesBeforeLog z found old LogFault new = FailedOnce old.knows.participant new.knows.participant
+RefusesBeforeLog z found old other new = MadeNoAppend old.knows.participant new.knows.participant × LeavesDevice z found old new
+
+-- the same of a call that read at a snapshot first, and took that back
+abbrev pub RefusesBehindRead : {D : Type 0} → SharedState D → SeatState → TxnError → SeatState → Type 0
+RefusesBehindRead z old why new = (read : SeatState) × Continues z old read old.knows.participant × RefusesBeforeLog z read.knows.participant read why new
 
 -- ---- a direct write
 

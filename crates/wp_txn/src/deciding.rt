@@ -54,7 +54,7 @@ pub fn commit<D: Disk + Drop, R: Wait>(
     requires prepared { HasPrepared seat.old txn.name txn.number txn.batch }
     ensures ok { IfOk result (λ n. Commits store.now seat.old txn n seat.new) }
     ensures refused { IfErr result (λ r. RefusesPrepared store.now seat.old txn 1 AsksCommit r.txn r.why seat.new) }
-    ensures before_log { IfErr result (λ r. RefusesBeforeLog seat.old r.why seat.new) }
+    ensures before_log { IfErr result (λ r. RefusesBeforeLog store.now seat.old.knows.participant seat.old r.why seat.new) }
 {
     match record_commit(store, rt, alloc, seat, &txn) {
         Ok(number) => {

@@ -1,12 +1,13 @@
 //! A direct write: one change, as an entry of its own.
 ghost use Rattle.std.specs.Prelude.{◌≡◌, [], Some, None, IfErr};
 ghost use Rattle.wp_core.specs.Tables.{locks};
+ghost use Rattle.wp_model.specs.Batch.{key_of};
 ghost use Rattle.wp_model.specs.declared.holder.Holder.TheVariants.{Client};
 ghost use Rattle.wp_shared.specs.Seats.{IsFree};
 ghost use Rattle.wp_shared.specs.Turns.{HoldsTurn};
 ghost use Rattle.wp_txn.specs.Recording.{HoldsDirect, EndsDirect};
 ghost use Rattle.wp_txn.specs.Under.{LocksDirect};
-ghost use Rattle.wp_txn.specs.Writes.{RefusesBeforeLog, WritesDirect};
+ghost use Rattle.wp_txn.specs.Writes.{RefusesBeforeLog, WritesDirect, writing_direct};
 
 use crate::error::TxnError;
 use crate::locking::lock_for;
@@ -81,7 +82,7 @@ pub fn write<D: Disk + Drop, R: Wait>(
     requires free { IsFree store.now.table seat.old }
     requires none { seat.old.knows.participant.direct ≡ None }
     ensures answers { WritesDirect store.now seat.old change result seat.new }
-    ensures before_log { IfErr result (λ why. RefusesBeforeLog seat.old why seat.new) }
+    ensures before_log { IfErr result (λ why. RefusesBeforeLog store.now (writing_direct (key_of change) seat.old.knows.participant) seat.old why seat.new) }
 {
     let batch = Batch::of(alloc, change)?;
     let key = batch.changes()[0].key();

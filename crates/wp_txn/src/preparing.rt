@@ -28,7 +28,7 @@ pub fn prepare<D: Disk + Drop, R: Wait>(
     requires open { HasOpen seat.old txn.name txn.batch }
     ensures ok { IfOk result (λ r. Prepares store.now seat.old txn r.0 r.1 seat.new) }
     ensures refused { IfErr result (λ r. RefusesOpen store.now seat.old txn (Prepare txn.name txn.batch) r.txn r.why seat.new) }
-    ensures before_log { IfErr result (λ r. RefusesBeforeLog seat.old r.why seat.new) }
+    ensures before_log { IfErr result (λ r. RefusesBeforeLog store.now seat.old.knows.participant seat.old r.why seat.new) }
 {
     match record_prepare(store, rt, alloc, seat, &txn) {
         Ok(number) => {
@@ -56,7 +56,7 @@ pub fn commit_now<D: Disk + Drop, R: Wait>(
     requires open { HasOpen seat.old txn.name txn.batch }
     ensures ok { IfOk result (λ n. CommitsNow store.now seat.old txn n seat.new) }
     ensures refused { IfErr result (λ r. RefusesOpen store.now seat.old txn (Write txn.batch) r.txn r.why seat.new) }
-    ensures before_log { IfErr result (λ r. RefusesBeforeLog seat.old r.why seat.new) }
+    ensures before_log { IfErr result (λ r. RefusesBeforeLog store.now seat.old.knows.participant seat.old r.why seat.new) }
 {
     shows_batch(&txn.batch);
     match record_write(store, rt, alloc, seat, &txn.batch) {

@@ -12,7 +12,7 @@ ghost use Rattle.wp_shared.specs.Seats.{IsFree, SeatState};
 ghost use Rattle.wp_shared.specs.Turns.{Given};
 ghost use Rattle.wp_txn.specs.Recording.{OpensLog, MayNote, notes_of, PutsNoting, Records, HadPrior, answer_of};
 ghost use Rattle.wp_txn.specs.Txn.{HasOpen, HasPrepared};
-ghost use Rattle.wp_txn.specs.Writes.{Refuses};
+ghost use Rattle.wp_txn.specs.Writes.{Refuses, MayLeaveDevice};
 
 use crate::error::TxnError;
 use crate::steps::{find_log_closed, note_undecided, note_unprepared};
@@ -46,9 +46,10 @@ fn open_log<D: Disk + Drop, R: Wait>(
     requires free { IsFree store.now.table seat.old }
     requires needed { needed ≤ 2 }
     ensures ok { IfOk result (λ log. OpensLog store.now seat.old seat.new log.value needed) }
-    ensures refused { IfErr result (Refuses store.now seat.old seat.new needed (λ asked. ⊥) seat.old.knows.participant seat.old.knows.participant) }
+    ensures refused { IfErr result (λ why. Refuses store.now seat.old seat.new needed (λ asked. ⊥) seat.old.knows.participant seat.old.knows.participant why × MayLeaveDevice store.now seat.old.knows.participant seat.old why seat.new) }
 {
     let log = store.take_log(rt, seat);
+    log.shows_told();
     let published = log.published();
     if log.is_closed() {
         find_log_closed(store, seat, &log);
@@ -60,7 +61,6 @@ fn open_log<D: Disk + Drop, R: Wait>(
         store.give_turn(seat, log);
         return Err(TxnError::NumbersFull { published, limit });
     }
-    log.shows_told();
     Ok(log)
 }
 

@@ -4,7 +4,7 @@ ghost use Rattle.wp_shared.specs.Calls.{Continues};
 ghost use Rattle.wp_shared.specs.Seats.{IsFree};
 ghost use Rattle.wp_txn.specs.Recording.{IsPriorSince};
 ghost use Rattle.wp_txn.specs.Txn.{HasPrepared};
-ghost use Rattle.wp_txn.specs.Writes.{RefusesBeforeLog, RollsBack, RefusesPrepared, AsksRollback};
+ghost use Rattle.wp_txn.specs.Writes.{RefusesBehindRead, RollsBack, RefusesPrepared, AsksRollback};
 
 use crate::deciding::end;
 use crate::error::{Refused, TxnError};
@@ -48,7 +48,7 @@ pub fn rollback<D: Disk + Drop, R: Wait>(
     requires prepared { HasPrepared seat.old txn.name txn.number txn.batch }
     ensures ok { IfOk result (λ n. RollsBack store.now seat.old txn n seat.new) }
     ensures refused { IfErr result (λ r. RefusesPrepared store.now seat.old txn 2 AsksRollback r.txn r.why seat.new) }
-    ensures before_log { IfErr result (λ r. RefusesBeforeLog seat.old r.why seat.new) }
+    ensures before_log { IfErr result (λ r. RefusesBehindRead store.now seat.old r.why seat.new) }
 {
     let Ok(prior) = prior_now(store, rt, alloc, seat, &txn.batch) else {
         return Err(Refused {

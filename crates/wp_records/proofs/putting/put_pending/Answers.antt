@@ -36,7 +36,7 @@ returns g c =
 pub returns-in_default : goal.returns-in_default
 returns-in_default g c =
     let r = c.in_default.ensures.refused in
-    not_ready c.args.store.now c.args.seat.now c.ready.new.seat c.give_up.new.seat c.args.log.now c.give_up.new.log c.ready.ensures.seat r.0 r.3 r.1 r.2 c.give_up.result c.give_up.ensures.why c.give_up.ensures.back
+    not_ready c.args.store.now c.args.seat.now c.ready.new.seat c.give_up.new.seat c.args.log.now c.give_up.new.log c.ready.ensures.seat r.0 r.3 r.1 r.2 c.give_up.result c.give_up.ensures.why c.give_up.ensures.back c.give_up.ensures.uncalled
 
 pub returns-in_err-append : goal.returns-in_err-append
 returns-in_err-append g c =

@@ -31,7 +31,7 @@ returns-in-Ok-clause-ok g c =
     )
 
 pub returns-in-Err-clause-refused : goal.returns-in-Err-clause-refused
-returns-in-Err-clause-refused g c = refuses_prepared c.args.store.now c.args.seat.now c.record_commit.new.seat c.args.txn 1 AsksCommit c.in-Err.why c.requires.prepared (c.in-Err.ensures {u = tt})
+returns-in-Err-clause-refused g c = refuses_prepared c.args.store.now c.args.seat.now c.record_commit.new.seat c.args.txn 1 AsksCommit c.in-Err.why c.requires.prepared (c.in-Err.ensures {u = tt}).0
 
 pub returns-in-Err-clause-before_log : goal.returns-in-Err-clause-before_log
-returns-in-Err-clause-before_log g c = refused_txn_before c.args.store.now c.args.seat.now c.record_commit.new.seat 1 (λ asked. asked ≡ Commit c.args.txn.number ∷ []) c.in-Err.why (c.in-Err.ensures {u = tt})
+returns-in-Err-clause-before_log g c = refused_txn_before c.args.store.now c.args.seat.now c.record_commit.new.seat 1 (λ asked. asked ≡ Commit c.args.txn.number ∷ []) c.in-Err.why (c.in-Err.ensures {u = tt}).0 (c.in-Err.ensures {u = tt}).1

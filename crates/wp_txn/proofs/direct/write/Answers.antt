@@ -7,7 +7,7 @@ use Rattle.wp_records.specs.Records.{MayPut}
 use Rattle.wp_txn.specs.Recording.{Records, HasDirect, EndsDirect}
 use Rattle.wp_txn.proofs.MayPut.{may_write_direct}
 use Rattle.wp_txn.proofs.BeforeLog.{written_before}
-use Rattle.wp_txn.proofs.DirectWrites.{free_after, direct_after, written}
+use Rattle.wp_txn.proofs.DirectWrites.{free_after, direct_after, written, device_left}
 use Rattle.wp_txn.proofs.direct.write.Goals as goal
 
 -- the key is that of the only change
@@ -37,4 +37,9 @@ returns-clause-answers g c =
     (subst (λ (b : List Change). Records c.args.store.now mid (Write b ∷ []) (λ n. []) c.record_write-outcome.result left) is c.record_write-outcome.ensures)
 
 pub returns-clause-before_log : goal.returns-clause-before_log
-returns-clause-before_log g c = written_before c.args.store.now c.args.seat.now c.give_back.new.seat c.args.change c.record_write-outcome.result (returns-clause-answers g c)
+returns-clause-before_log g c =
+    let held = c.in_ok-hold.ensures {u = tt} in let is = c.in_ok-batch.ensures {u = tt} in let mid = c.hold.new.seat in let left = c.record_write-outcome.new.seat in
+    let key_is = first_key c.args.change c.index-changes-0.result c.key-key.result.now c.changes.result.now c.in_ok-batch.batch c.changes.ensures.value is c.index-changes-0.is c.key-key.ensures in
+    written_before c.args.store.now c.args.seat.now c.give_back.new.seat c.args.change c.record_write-outcome.result (returns-clause-answers g c)
+    (device_left c.args.store.now c.args.seat.now mid left c.give_back.new.seat c.args.change c.requires.none (subst (λ (key : List ℕ). HasDirect c.args.store.now c.args.seat.now mid key) key_is held) (subst (λ (key : List ℕ). EndsDirect c.args.store.now left c.give_back.new.seat key) key_is c.give_back.ensures) c.record_write-outcome.result
+    (subst (λ (b : List Change). Records c.args.store.now mid (Write b ∷ []) (λ n. []) c.record_write-outcome.result left) is c.record_write-outcome.ensures))

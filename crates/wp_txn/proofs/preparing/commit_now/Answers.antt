@@ -37,7 +37,7 @@ pub returns-in-Err-clause-refused : goal.returns-in-Err-clause-refused
 returns-in-Err-clause-refused g c =
     subst (λ (y : OpenState). RefusesOpen c.args.store.now c.args.seat.now y (Write y.batch) y c.in-Err.why c.record_write.new.seat) c.txn.view_is
     (refuses_open c.args.store.now c.args.seat.now c.record_write.new.seat (record { name = c.txn.inside.name; batch = c.txn.inside.batch }) (Write c.txn.inside.batch) c.in-Err.why
-    (subst (λ (y : OpenState). HasOpen c.args.seat.now y.name y.batch) (sym c.txn.view_is) c.requires.open) (c.in-Err.ensures {u = tt}))
+    (subst (λ (y : OpenState). HasOpen c.args.seat.now y.name y.batch) (sym c.txn.view_is) c.requires.open) (c.in-Err.ensures {u = tt}).0)
 
 pub returns-in-Err-clause-before_log : goal.returns-in-Err-clause-before_log
-returns-in-Err-clause-before_log g c = refused_txn_before c.args.store.now c.args.seat.now c.record_write.new.seat 1 (λ asked. asked ≡ Write c.txn.inside.batch ∷ []) c.in-Err.why (c.in-Err.ensures {u = tt})
+returns-in-Err-clause-before_log g c = refused_txn_before c.args.store.now c.args.seat.now c.record_write.new.seat 1 (λ asked. asked ≡ Write c.txn.inside.batch ∷ []) c.in-Err.why (c.in-Err.ensures {u = tt}).0 (c.in-Err.ensures {u = tt}).1

@@ -17,7 +17,7 @@ returns-in-Ok-clause-ok g c =
     (subst (λ (y : OpenState). Records z s (Prepare y.name y.batch ∷ []) (λ m. undecided_at y.name m ∷ []) (Ok n) t) (sym c.txn.view_is) (c.in-Ok.ensures {u = tt})))
 
 pub returns-in-Err-clause-refused : goal.returns-in-Err-clause-refused
-returns-in-Err-clause-refused g c = refuses_open c.args.store.now c.args.seat.now c.record_prepare.new.seat c.args.txn (Prepare c.args.txn.name c.args.txn.batch) c.in-Err.why c.requires.open (c.in-Err.ensures {u = tt})
+returns-in-Err-clause-refused g c = refuses_open c.args.store.now c.args.seat.now c.record_prepare.new.seat c.args.txn (Prepare c.args.txn.name c.args.txn.batch) c.in-Err.why c.requires.open (c.in-Err.ensures {u = tt}).0
 
 pub returns-in-Err-clause-before_log : goal.returns-in-Err-clause-before_log
-returns-in-Err-clause-before_log g c = refused_txn_before c.args.store.now c.args.seat.now c.record_prepare.new.seat 1 (λ asked. asked ≡ Prepare c.args.txn.name c.args.txn.batch ∷ []) c.in-Err.why (c.in-Err.ensures {u = tt})
+returns-in-Err-clause-before_log g c = refused_txn_before c.args.store.now c.args.seat.now c.record_prepare.new.seat 1 (λ asked. asked ≡ Prepare c.args.txn.name c.args.txn.batch ∷ []) c.in-Err.why (c.in-Err.ensures {u = tt}).0 (c.in-Err.ensures {u = tt}).1

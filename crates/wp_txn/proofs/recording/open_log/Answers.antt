@@ -9,17 +9,17 @@ use Rattle.wp_txn.proofs.recording.open_log.Goals as goal
 pub give_turn-requires-clause-holds : goal.give_turn-requires-clause-holds
 give_turn-requires-clause-holds g c =
     let s = c.take_log-log.new.seat in
-    let number = c.published-published.ensures.value ∙ ap (λ (x : LogState). length x.table.history) c.deref.ensures in
+    let number = c.published-published.ensures.value ∙ ap (λ (x : LogState). length x.table.history) c.deref-2.ensures in
     let found = c.find_log_closed.ensures ∙ ap (λ (x : LogState). seat_of s (with_stopped (length x.table.history) s.knows)) c.deref-then-is_closed.ensures in
     ([], [], alone_still _ _ _ _ c.take_log-log.ensures c.find_log_closed.new.seat c.find_log_closed.new.seat c.published-published.result found number c.requires.free)
 
 pub returns-then-is_closed-clause-refused : goal.returns-then-is_closed-clause-refused
 returns-then-is_closed-clause-refused g c =
     let s = c.take_log-log.new.seat in let t = c.find_log_closed.new.seat in let p = c.published-published in
-    let number = p.ensures.value ∙ ap (λ (x : LogState). length x.table.history) c.deref.ensures in
+    let number = p.ensures.value ∙ ap (λ (x : LogState). length x.table.history) c.deref-2.ensures in
     let found = c.find_log_closed.ensures ∙ ap (λ (x : LogState). seat_of s (with_stopped (length x.table.history) s.knows)) c.deref-then-is_closed.ensures in
-    let closed = ap (λ (x : LogState). x.table.closed) (sym c.deref-2.ensures) ∙ sym c.is_closed.ensures ∙ c.if-is_closed.true in
-    stopped_back _ _ _ _ c.take_log-log.ensures t c.give_turn.new.seat p.result found number c.args.needed (λ asked. ⊥) closed (c.give_turn.ensures [] [] (alone_still _ _ _ _ c.take_log-log.ensures t t p.result found number c.requires.free))
+    let closed = ap (λ (x : LogState). x.table.closed) (sym c.deref-3.ensures) ∙ sym c.is_closed.ensures ∙ c.if-is_closed.true in
+    stopped_back _ _ _ _ c.take_log-log.ensures t c.give_turn.new.seat p.result found number c.args.needed (λ asked. ⊥) closed (subst IsLog c.deref.ensures c.shows_told.ensures.log) (c.give_turn.ensures [] [] (alone_still _ _ _ _ c.take_log-log.ensures t t p.result found number c.requires.free))
 
 pub give_turn-requires-then-published-needed-clause-holds : goal.give_turn-requires-then-published-needed-clause-holds
 give_turn-requires-then-published-needed-clause-holds g c = ([], [], alone _ _ _ _ c.take_log-log.ensures c.requires.free)
@@ -27,15 +27,15 @@ give_turn-requires-then-published-needed-clause-holds g c = ([], [], alone _ _ _
 pub returns-then-published-needed-clause-refused : goal.returns-then-published-needed-clause-refused
 returns-then-published-needed-clause-refused g c =
     let p = c.published-published in
-    let number = p.ensures.value ∙ ap (λ (x : LogState). length x.table.history) c.deref.ensures in
-    let running = ap (λ (x : LogState). x.table.closed) (sym c.deref-2.ensures) ∙ sym c.is_closed.ensures ∙ c.if-is_closed.false in
-    full_back _ _ _ _ c.take_log-log.ensures c.give_turn-then-published-needed.new.seat c.args.needed p.result c.limit-limit.result (λ asked. ⊥) running number c.limit-limit.ensures.0 c.if-published-needed.true
+    let number = p.ensures.value ∙ ap (λ (x : LogState). length x.table.history) c.deref-2.ensures in
+    let running = ap (λ (x : LogState). x.table.closed) (sym c.deref-3.ensures) ∙ sym c.is_closed.ensures ∙ c.if-is_closed.false in
+    full_back _ _ _ _ c.take_log-log.ensures c.give_turn-then-published-needed.new.seat c.args.needed p.result c.limit-limit.result (λ asked. ⊥) running (subst IsLog c.deref.ensures c.shows_told.ensures.log) number c.limit-limit.ensures.0 c.if-published-needed.true
     (c.give_turn-then-published-needed.ensures [] [] (alone _ _ _ _ c.take_log-log.ensures c.requires.free))
 
 pub returns-clause-ok : goal.returns-clause-ok
 returns-clause-ok g c =
     let p = c.published-published in
-    let number = p.ensures.value ∙ ap (λ (x : LogState). length x.table.history) c.deref.ensures in
-    let running = ap (λ (x : LogState). x.table.closed) (sym c.deref-2.ensures) ∙ sym c.is_closed.ensures ∙ c.if-is_closed.false in
+    let number = p.ensures.value ∙ ap (λ (x : LogState). length x.table.history) c.deref-2.ensures in
+    let running = ap (λ (x : LogState). x.table.closed) (sym c.deref-3.ensures) ∙ sym c.is_closed.ensures ∙ c.if-is_closed.false in
     opened _ _ _ _ c.take_log-log.ensures c.requires.free c.args.needed p.result running number (subst (λ (n : ℕ). p.result + c.args.needed ≤ n) c.limit-limit.ensures.0 c.if-published-needed.false)
-    (subst (λ (n : ℕ). n < 2 ^ 32) c.limit-limit.ensures.0 c.limit-limit.ensures.2) (subst IsLog c.deref-3.ensures c.shows_told.ensures.log)
+    (subst (λ (n : ℕ). n < 2 ^ 32) c.limit-limit.ensures.0 c.limit-limit.ensures.2) (subst IsLog c.deref.ensures c.shows_told.ensures.log)

@@ -13,8 +13,10 @@ use Rattle.wp_txn.proofs.recording.record_entries.Goals as goal
 
 pub returns-in_err-log : goal.returns-in_err-log
 returns-in_err-log g c = let p = err_from_is_err_and c.from_residual.result c.from_residual.ensures.1 in let z = c.args.store.now in let s = c.args.seat.now in let new = c.open_log.new.seat in let was = s.knows.participant in
-    subst (λ (r : Result ℕ TxnError). Records z s c.args.entries (notes_of c.args.noting) r new) (sym (p.1 ∙ ap Err p.2))
-    (refused_for z s new (length c.args.entries) (λ asked. asked ≡ c.args.entries) was was c.in_err-log.field-0.0 (subst (λ (n : ℕ). Refuses z s new n (λ asked. ⊥) was was c.in_err-log.field-0.0) c.len.ensures c.in_err-log.ensures.refused))
+    subst (λ (r : Result ℕ TxnError). Records z s c.args.entries (notes_of c.args.noting) r new) (sym (p.1 ∙ ap Err p.2)) (
+      refused_for z s new (length c.args.entries) (λ asked. asked ≡ c.args.entries) was was c.in_err-log.field-0.0 (subst (λ (n : ℕ). Refuses z s new n (λ asked. ⊥) was was c.in_err-log.field-0.0) c.len.ensures c.in_err-log.ensures.refused.0),
+      c.in_err-log.ensures.refused.1,
+    )
 
 pub put_noting-outcome-requires-clause-holds : goal.put_noting-outcome-requires-clause-holds
 put_noting-outcome-requires-clause-holds g c = subst (HoldsWrite c.args.store.now c.open_log.new.seat) (sym c.deref_mut.ensures.value) c.in_ok-log.ensures.ok.holds

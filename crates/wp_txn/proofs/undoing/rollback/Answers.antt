@@ -3,6 +3,7 @@ use Rattle.wp_model.specs.declared.entry.Entry.{Entry}
 use Rattle.wp_model.specs.declared.entry.Entry.TheVariants.{Undo, Close}
 use Rattle.wp_core.specs.Views.{unprepared}
 use Rattle.wp_txn.specs.Writes.{AsksRollback}
+use Rattle.wp_shared.proofs.Onward.{continues_none}
 use Rattle.wp_txn.proofs.BeforeLog.{refused_txn_before}
 use Rattle.wp_txn.proofs.Ends.{refuses_prepared, refused_from}
 use Rattle.wp_txn.proofs.Goes.{refused_still}
@@ -43,17 +44,18 @@ returns-clause-refused g c =
     let x = c.args.txn in let found = c.in-Ok.prior in
     let Asks : List Entry → Type 0 = λ asked. asked ≡ Undo x.number found ∷ Close x.number ∷ [] in
     let Any : List Entry → Type 0 = λ asked. Unit {0} in
-    let still = refused_still z s new 2 Any why (refused_from z s c.prior_now.new.seat new 2 Asks Any (λ asked is legal. tt) c.prior_now.ensures.seat why (c.in-Err.ensures {u = tt})) in
+    let still = refused_still z s new 2 Any why (refused_from z s c.prior_now.new.seat new 2 Asks Any (λ asked is legal. tt) c.prior_now.ensures.seat why (c.in-Err.ensures {u = tt}).0) in
     refuses_prepared z s new x 2 AsksRollback why c.requires.prepared
     (refused_from z s c.prior_now.new.seat new 2 Asks (AsksRollback new.knows.participant.seen x) (λ asked is legal. asks_prior z s new x.name x.number x.batch found asked c.requires.prepared still.seen is legal) c.prior_now.ensures.seat why
-    (c.in-Err.ensures {u = tt}))
+    (c.in-Err.ensures {u = tt}).0)
 
 pub returns-in_default-clause-before_log : goal.returns-in_default-clause-before_log
-returns-in_default-clause-before_log g c = refused_txn_before c.args.store.now c.args.seat.now c.prior_now.new.seat 2 (λ asked. Unit {0}) Memory c.prior_now.ensures.seat
+returns-in_default-clause-before_log g c =
+    let z = c.args.store.now in let read = c.prior_now.new.seat in let begins = c.prior_now.ensures.seat in
+    (read, begins, refused_txn_before z read read 2 (λ asked. Unit {0}) Memory (continues_none z read begins.free) (inl refl))
 
 pub returns-clause-before_log : goal.returns-clause-before_log
 returns-clause-before_log g c =
-    let z = c.args.store.now in let s = c.args.seat.now in let new = c.record_rollback.new.seat in let why = c.in-Err.why in let x = c.args.txn in
+    let z = c.args.store.now in let read = c.prior_now.new.seat in let why = c.in-Err.why in let x = c.args.txn in let r = c.in-Err.ensures {u = tt} in
     let Asks : List Entry → Type 0 = λ asked. asked ≡ Undo x.number c.in-Ok.prior ∷ Close x.number ∷ [] in
-    let Any : List Entry → Type 0 = λ asked. Unit {0} in
-    refused_txn_before z s new 2 Any why (refused_from z s c.prior_now.new.seat new 2 Asks Any (λ asked is legal. tt) c.prior_now.ensures.seat why (c.in-Err.ensures {u = tt}))
+    (read, c.prior_now.ensures.seat, refused_txn_before z read c.record_rollback.new.seat 2 Asks why r.0 r.1)
