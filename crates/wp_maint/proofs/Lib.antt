@@ -5,6 +5,7 @@ pub mod Versions
 pub mod Retained
 pub mod Memory
 pub mod Onward
+pub mod BeforeInstall
 pub mod Freezes
 pub mod Covering
 pub mod Decisions

@@ -1,5 +1,5 @@
 -- A seat that goes on, from one stage to the next.
-use Rattle.std.proofs.Common.{◌≡◌, ℕ, ◌≤◌, Bool, false, true, List, [], ◌∷◌, length, take, refl, sym, subst, ap, ◌∙◌, Option, Some, None}
+use Rattle.std.proofs.Common.{◌≡◌, inl, inr, ℕ, ◌≤◌, Bool, false, true, List, [], ◌∷◌, length, take, refl, sym, subst, ap, ◌∙◌, Option, Some, None}
 use Rattle.std.specs.Prelude.{Result, Ok, Err, IfSome}
 use Rattle.wp_model.specs.declared.entry.Entry.{Entry}
 use Rattle.wp_model.specs.declared.version.Version.{Version}
@@ -8,7 +8,7 @@ use Rattle.wp_merge.specs.Merge.{sorted_of}
 use Rattle.wp_replies.specs.Tables.{unflushed, retained, after_flush, after_compaction}
 use Rattle.wp_core.specs.Lists.{IsIn}
 use Rattle.wp_core.specs.Sound.Actors.{StartsWith}
-use Rattle.wp_core.specs.Tables.{Content, Installed, installed}
+use Rattle.wp_core.specs.Tables.{Content, Installed, store, installed}
 use Rattle.wp_core.specs.Sound.Pasts.{tables_due}
 use Rattle.wp_core.specs.Views.{Fact, Event, tables_failed, found_edit, tables_stay, nothing_flushed, frozen_stay}
 use Rattle.wp_core.specs.Views as event
@@ -25,8 +25,8 @@ use Rattle.wp_shared.proofs.Onward.{starts_on, starts_equal, starts_same, goes_s
 use Rattle.wp_maint.specs.declared.done.Done.{Done}
 use Rattle.wp_maint.specs.declared.error.MaintError.{MaintError}
 use Rattle.wp_maint.specs.declared.error.MaintError.TheVariants.{Memory, Nothing, TableFault, TablesStopped}
-use Rattle.wp_maint.specs.Calls.{HeldTables, SawWhole, Finds, HasNothing, FlushesFrom, NoneInMemory, FewTables, CompactsFrom, IsCompactionOf, found_by}
-use Rattle.wp_maint.specs.Compaction.{EndsRoundFrom}
+use Rattle.wp_maint.specs.Calls.{HeldContent, HeldTables, SawWhole, Finds, HasNothing, FlushesFrom, NoneInMemory, FewTables, CompactsFrom, IsCompactionOf, found_by}
+use Rattle.wp_maint.specs.Compaction.{HadVersions, IsPassed, IsOvertaken, BeginsAgain, EndsRoundFrom}
 use Rattle.wp_maint.specs.Finding.{Remembers, Changes}
 use Rattle.wp_maint.specs.Holding.{is_of_flushed, is_of_tables, HoldsEdits}
 use Rattle.wp_maint.specs.Moments.{OpensThroughout}
@@ -87,24 +87,29 @@ settled_on s u test held turns gone named k edit settled =
 
 -- ---- the tables that it held
 
--- a seat that stood with the tables held them, and the one behind has seen and remembers no more
-pub held_left : {D : Type 0} (z : SharedState D) (s u v : SeatState) (t : Installed) → (w : World) × Stands z u w → IsSeat s u → u.knows.participant.seen ≡ s.knows.participant.seen → v.knows.participant ≡ u.knows.participant → IsIn (installed t) u.knows.held
-    → HeldTables z s v v.knows.participant.past t
-held_left z s u v t stands same seen still held = record {
+-- a seat that stood with a table held it, and the one behind has seen and remembers no more
+pub held_then : {D : Type 0} (z : SharedState D) (s u v : SeatState) (table : Content) → (w : World) × Stands z u w → IsSeat s u → StartsWith u.knows.participant.seen s.knows.participant.seen → v.knows.participant ≡ u.knows.participant → IsIn table u.knows.held
+    → HeldContent z s v v.knows.participant.past table
+held_then z s u v table stands same seen still held = record {
   world = stands.0;
   actor = u.knows;
   there = subst (λ (b : ℕ). IsAt (place_at z b) u.knows stands.0) same.0 stands.1;
   held = held;
   past_is = sym (ap (λ (p : Participant). p.past) still);
-  seen_is = starts_equal s.knows.participant.seen u.knows.participant.seen seen;
+  seen_is = seen;
   within = starts_equal u.knows.participant.seen v.knows.participant.seen (ap (λ (p : Participant). p.seen) still);
   made = same.1;
   joined = same.2;
 }
 
--- a seat held the tables between two others, and so between two that are further apart
-abbrev pub held_between : {D : Type 0} (z : SharedState D) (s t u v : SeatState) (past last : List Event) (e : Installed) → IsSeat s t → StartsWith t.knows.participant.seen s.knows.participant.seen → StartsWith v.knows.participant.seen u.knows.participant.seen → past ≡ last → HeldTables z t u past e → HeldTables z s v last e
-held_between z s t u v past last e same starts grown is k = record {
+-- ... the tables
+pub held_left : {D : Type 0} (z : SharedState D) (s u v : SeatState) (t : Installed) → (w : World) × Stands z u w → IsSeat s u → u.knows.participant.seen ≡ s.knows.participant.seen → v.knows.participant ≡ u.knows.participant → IsIn (installed t) u.knows.held
+    → HeldTables z s v v.knows.participant.past t
+held_left z s u v t stands same seen still held = held_then z s u v (installed t) stands same (starts_equal s.knows.participant.seen u.knows.participant.seen seen) still held
+
+-- a seat held it between two others, and so between two that are further apart
+abbrev pub held_between : {D : Type 0} (z : SharedState D) (s t u v : SeatState) (past last : List Event) (table : Content) → IsSeat s t → StartsWith t.knows.participant.seen s.knows.participant.seen → StartsWith v.knows.participant.seen u.knows.participant.seen → past ≡ last → HeldContent z t u past table → HeldContent z s v last table
+held_between z s t u v past last table same starts grown is k = record {
   world = k.world;
   actor = k.actor;
   there = subst (λ (b : ℕ). IsAt (place_at z b) k.actor k.world) same.0 k.there;
@@ -118,7 +123,23 @@ held_between z s t u v past last e same starts grown is k = record {
 
 -- it found them, and one that has seen more found them too
 abbrev pub found_later : {D : Type 0} (z : SharedState D) (s u v : SeatState) (e : Installed) → StartsWith v.knows.participant.seen u.knows.participant.seen → Finds z s u e → Finds z s v e
-found_later z s u v e grown k = held_between z s s u v s.knows.participant.past s.knows.participant.past e (refl, refl, refl) (starts_same s.knows.participant.seen) grown refl k
+found_later z s u v e grown k = held_between z s s u v s.knows.participant.past s.knows.participant.past (installed e) (refl, refl, refl) (starts_same s.knows.participant.seen) grown refl k
+
+-- ... the store turn, as the versions in tables were these, or as what was decided of them was overtaken
+module _ {D : Type 0} (z : SharedState D) (s t u v : SeatState) (same : IsSeat s t) (past : t.knows.participant.past ≡ s.knows.participant.past) (starts : StartsWith t.knows.participant.seen s.knows.participant.seen) (grown : StartsWith v.knows.participant.seen u.knows.participant.seen) where
+  had_between : (table : Content) → HeldContent z t u t.knows.participant.past table → HeldContent z s v s.knows.participant.past table
+  had_between table k = held_between z s t u v t.knows.participant.past s.knows.participant.past table same starts grown past k
+
+  pub versions_between : (versions : List Version) → HadVersions z t u versions → HadVersions z s v versions
+  versions_between versions k = (k.0, had_between (store k.0) k.1, k.2)
+
+  pub passed_between : (floor : ℕ) (e : Installed) → IsPassed z t u floor e → IsPassed z s v floor e
+  passed_between floor e (inl flushed) = inl flushed
+  passed_between floor e (inr k) = inr (k.0, had_between (store k.0) k.1, k.2)
+
+  pub overtaken_between : (floor : ℕ) (versions : List Version) (e : Installed) → IsOvertaken z t u floor versions e → IsOvertaken z s v floor versions e
+  overtaken_between floor versions e (inl passed) = inl (passed_between floor e passed)
+  overtaken_between floor versions e (inr others) = inr others
 
 -- the seat before it saw the whole history too
 pub saw_so : {D : Type 0} (z : SharedState D) (s t : SeatState) (history seen : List Entry) → IsSeat s t → t.knows.participant.past ≡ s.knows.participant.past → history ≡ seen → SawWhole z t history → SawWhole z s seen
@@ -139,10 +160,10 @@ saw_so z s t history seen same past is k = record {
 module _ {D : Type 0} (First Last : Participant → Type 0) (z : SharedState D) (s t u v : SeatState) (e : Installed) (same : IsSeat s t) (same_past : t.knows.participant.past ≡ s.knows.participant.past) (starts : StartsWith t.knows.participant.seen s.knows.participant.seen) (past : u.knows.participant.past ≡ v.knows.participant.past) (grown : StartsWith v.knows.participant.seen u.knows.participant.seen)
     (more : (events : List Event) → First (remembering events t.knows.participant) → Last (remembering events s.knows.participant)) (still : First t.knows.participant → Last s.knows.participant) where
   holds_so : (left : Installed) → HeldTables z t u u.knows.participant.past left → HeldTables z s v v.knows.participant.past left
-  holds_so left k = held_between z s t u v u.knows.participant.past v.knows.participant.past left same starts grown past k
+  holds_so left k = held_between z s t u v u.knows.participant.past v.knows.participant.past (installed left) same starts grown past k
 
   abbrev found_so : Finds z t u e → Finds z s v e
-  found_so k = held_between z s t u v t.knows.participant.past s.knows.participant.past e same starts grown same_past k
+  found_so k = held_between z s t u v t.knows.participant.past s.knows.participant.past (installed e) same starts grown same_past k
 
   -- what is remembered of the tables that were found, and then of these events
   remembers_so : (k : Finds z t u e) (events : List Event) → First (remembering (found_by z t u e k ∷ events) t.knows.participant) → Last (remembering (found_by z s v e (found_so k) ∷ events) s.knows.participant)
@@ -251,9 +272,23 @@ module _ {D : Type 0} (First Last : Participant → Type 0) (z : SharedState D) 
     }
     compacts_so (Err (TablesStopped flushed)) k = record { found = found_so k.found; halted = k.halted; flushed_is = k.flushed_is; goes_on = remembers_so k.found [] k.goes_on }
 
+    again_so : BeginsAgain First First_pinned z t u e → BeginsAgain Last Last_pinned z s v e
+    again_so k = record {
+      found = found_so k.found;
+      running = k.running;
+      several = k.several;
+      floor = k.floor;
+      live = k.live;
+      pinned = (pins k.floor k.live k.pinned).0;
+      versions = k.versions;
+      decided = versions_between z s t u v same same_past starts grown k.versions k.decided;
+      overtaken = overtaken_between z s t u v same same_past starts grown k.floor k.versions e k.overtaken;
+      goes_on = still k.goes_on;
+    }
+
     pub ends_so : (result : Option (Result Done MaintError)) → EndsRoundFrom First First_pinned z t e result u → EndsRoundFrom Last Last_pinned z s e result v
     ends_so (Some result) k = compacts_so result k
-    ends_so None k = still k
+    ends_so None k = again_so k
 
 -- ---- there is nothing to do
 

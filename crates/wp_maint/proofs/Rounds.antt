@@ -21,17 +21,17 @@ use Rattle.wp_shared.specs.Calls.{GoesOnAs, Continues, remembering}
 use Rattle.wp_shared.specs.Notes.{no_fact, is_under, seeing}
 use Rattle.wp_shared.specs.Seats.{SharedState, SeatState, IsFree, place_at}
 use Rattle.wp_shared.specs.Turns.{Taken, Given}
-use Rattle.wp_shared.proofs.Onward.{starts_on, starts_same, loose_none, loose_under, goes_same, goes_still, goes_free, goes_of, continues_then, continues_still}
+use Rattle.wp_shared.proofs.Onward.{starts_on, starts_equal, starts_same, loose_none, loose_under, goes_same, goes_still, goes_free, goes_of, continues_then, continues_still}
 use Rattle.wp_read.specs.Registers.{IsPinned, numbers_of}
 use Rattle.wp_maint.specs.declared.done.Done.{Done}
 use Rattle.wp_maint.specs.declared.error.MaintError.{MaintError}
 use Rattle.wp_maint.specs.declared.error.MaintError.TheVariants.{Memory, Nothing, TableFault, TablesStopped}
 use Rattle.wp_maint.specs.Calls.{CompactsFrom, Compacts, FewTables, HasPinned, found_by}
-use Rattle.wp_maint.specs.Compaction.{HasDecided, IsPin, KnowsLive, EndsRoundFrom, EndsRound}
+use Rattle.wp_maint.specs.Compaction.{HadVersions, HasDecided, IsPin, KnowsLive, EndsRoundFrom, EndsRound}
 use Rattle.wp_maint.specs.Decided.{ArePinned, Decides, version_numbers}
 use Rattle.wp_maint.specs.Finding.{Remembers}
 use Rattle.wp_maint.proofs.Decisions.{decided_same}
-use Rattle.wp_maint.proofs.Onward.{goes_more, goes_is, IsSeat, seat_still, compacts_so, ends_so}
+use Rattle.wp_maint.proofs.Onward.{goes_more, goes_is, IsSeat, seat_still, versions_between, compacts_so, ends_so}
 use Rattle.wp_maint.proofs.Pinning.{in_middle, pinned_low, take_seen, grown_length}
 use Rattle.wp_maint.proofs.Replaces.{length_front}
 use Rattle.wp_maint.proofs.Retained.{retained_same}
@@ -101,6 +101,13 @@ module _ {D : Type 0} {z : SharedState D} {s d t : SeatState} {e : Installed} (f
   pub decided_taken : d.knows.participant ≡ s.knows.participant → (floor : Registration) (live : List Registration) (versions : List Version) (pairs : List Pair) → HasDecided s.knows floor live versions pairs → HasDecided t.knows floor live versions pairs
   decided_taken same floor live versions pairs k = decided_still s.knows t.knows floor live versions pairs (ap (λ (x : SeatState). x.knows.participant) taken.goes.same ∙ same) goes_taken.notes k
 
+  pub versions_taken : d.knows.participant ≡ s.knows.participant → (versions : List Version) → HadVersions z s d versions → HadVersions z t t versions
+  versions_taken same versions k =
+      let then : t.knows.participant ≡ d.knows.participant = ap (λ (x : SeatState). x.knows.participant) taken.goes.same in
+      let back : s.knows.participant ≡ t.knows.participant = sym (then ∙ same) in
+      let seat = seat_still s t s.knows.participant goes_taken in
+      versions_between z t s d t (sym seat.0, sym seat.1, sym seat.2) (ap (λ (p : Participant). p.past) back) (starts_equal t.knows.participant.seen s.knows.participant.seen (ap (λ (p : Participant). p.seen) back)) (starts_equal d.knows.participant.seen t.knows.participant.seen (ap (λ (p : Participant). p.seen) then)) versions k
+
   -- the turn is given, with what was told of these tables
   pub ends_given : (told : Installed) (u v : SeatState) → Given z tables_turn u v [] [] → (floor : ℕ) (live : List ℕ) (result : Option (Result Done MaintError)) → EndsRoundFrom (GoesOnAs t u) (IsPin floor live) z t told result u → EndsRound (Continues z s v) (IsPin floor live) z s result v
   ends_given told u v given floor live result k =
@@ -133,7 +140,7 @@ module _ {D : Type 0} (Goes : Participant → Type 0) (Pinned : ℕ → List ℕ
 
   ends_somehow : (result : Option (Result Done MaintError)) → EndsRoundFrom Goes Pinned z s e result u → Somehow Goes s.knows.participant
   ends_somehow (Some result) k = compacts_somehow result k
-  ends_somehow None k = without k
+  ends_somehow None k = without k.goes_on
 
 -- what was pinned by one seat was by another in its place
 pinned_by : {D : Type 0} (z : SharedState D) (a b : SeatState) (history : List Entry) (floor : Registration) (live : List Registration) → IsSeat a b → b.knows.participant ≡ a.knows.participant → IsPinned z a history floor live → IsPinned z b history floor live

@@ -18,7 +18,7 @@ use Rattle.wp_core.specs.Sound.Store.{NoneFlushed}
 use Rattle.wp_core.specs.Sound.Views.{guarded_by}
 use Rattle.wp_core.specs.Tables.{Content, StoreTable, Installed, store, installed}
 use Rattle.wp_core.specs.Turns.{store_turn}
-use Rattle.wp_core.specs.Views.{Fact, tables_stay, live_listed, nothing_flushed}
+use Rattle.wp_core.specs.Views.{Event, Fact, tables_stay, live_listed, nothing_flushed}
 use Rattle.wp_core.specs.World.{Participant, Actor, World}
 use Rattle.wp_rule.specs.Knows.{Noted, KnowsTables}
 use Rattle.wp_rule.proofs.Knows.{at_sound, noted_is}
@@ -28,13 +28,16 @@ use Rattle.wp_shared.specs.Notes.{no_fact, is_under, noting_only, seeing, GoesOn
 use Rattle.wp_shared.specs.Seats.{SharedState, SeatState, place_at}
 use Rattle.wp_shared.specs.Turns.{HoldsTurn, Taken, Given}
 use Rattle.wp_shared.proofs.Goes.{then, wider, none_under_store}
+use Rattle.wp_shared.proofs.Onward.{starts_equal}
 use Rattle.wp_shared.proofs.Tables.{held_table}
 use Rattle.wp_read.specs.Registers.{numbers_of}
 use Rattle.wp_keep.specs.declared.pair.Pair.{Pair}
-use Rattle.wp_maint.specs.Compaction.{HasDecided, KnowsLive, MayMerge, MayReplace}
+use Rattle.wp_maint.specs.Calls.{HeldContent, HeldTables, Finds}
+use Rattle.wp_maint.specs.Compaction.{HasDecided, IsOvertaken, KnowsLive, MayMerge, MayReplace}
 use Rattle.wp_maint.specs.Decided.{Decides, version_numbers}
 use Rattle.wp_maint.specs.Holding.{HoldsEdits}
 use Rattle.wp_maint.proofs.Covering.{kept_is_covered, kept_few, versions_numbered}
+use Rattle.wp_maint.proofs.Onward.{held_then, overtaken_between}
 use Rattle.wp_maint.proofs.Pinning.{take_grown}
 use Rattle.wp_maint.proofs.Puts.{holds_taken}
 use Rattle.wp_maint.proofs.Replaces.{length_front, front_starts, number_of}
@@ -48,6 +51,13 @@ saw_more {s = s} {u = u} k =
 
 pub saw_grown : {D : Type 0} {z : SharedState D} {s u : SeatState} → SawHistory z s u → StartsWith u.knows.participant.seen s.knows.participant.seen
 saw_grown {s = s} k = subst (λ (x : SeatState). StartsWith x.knows.participant.seen s.knows.participant.seen) (sym k.seat) k.grown
+
+-- it held the turn that it took last in the world that it saw
+pub saw_holding : {D : Type 0} {z : SharedState D} {s u : SeatState} {table : Content} {others : List Content} {beneath : List ℕ} → SawHistory z s u → HoldsTurn z s table others beneath → HeldContent z s u s.knows.participant.past table
+saw_holding {z = z} {s = s} {u = u} {table = table} k holds =
+    subst (λ (past : List Event). HeldContent z s u past table) (ap (λ (x : SeatState). x.knows.participant.past) k.seat)
+    (held_then z s u u table (k.world, k.stands) (ap (λ (x : SeatState). x.by) k.seat, ap (λ (x : SeatState). x.knows.made) k.seat, ap (λ (x : SeatState). x.knows.joined) k.seat) (saw_grown k) refl
+    (subst (IsIn table) (sym (ap (λ (x : SeatState). x.knows.held) k.seat ∙ holds.held)) (inl refl)))
 
 -- what is live is known still, when more was seen
 pub live_later : (s u : Actor) (floor : ℕ) (live : List Registration) → KnowsLive s floor live → u.participant ≡ record s.participant { seen = u.participant.seen } → StartsWith u.participant.seen s.participant.seen → Noted u (live_listed floor (numbers_of live)) → KnowsLive u floor live
@@ -206,6 +216,19 @@ module _ {D : Type 0} {z : SharedState D} {s t u : SeatState} {e : EditsState} {
 
     pub grown_looked : StartsWith u.knows.participant.seen t.knows.participant.seen → StartsWith v.knows.participant.seen s.knows.participant.seen
     grown_looked grown = subst (λ (x : Participant × Participant). StartsWith x.0.seen x.1.seen) (λ i. (sym same_looked i, ap (λ (x : SeatState). x.knows.participant) first.goes.same i)) grown
+
+    pub found_looked : StartsWith u.knows.participant.seen t.knows.participant.seen → Finds z s v e.table
+    found_looked grown =
+        let same = looked.same in
+        subst (λ (past : List Event). HeldTables z s v past e.table) (ap (λ (x : SeatState). x.knows.participant.past) same)
+        (held_then z s v v (installed e.table) third.stands (ap (λ (x : SeatState). x.by) same, ap (λ (x : SeatState). x.knows.made) same, ap (λ (x : SeatState). x.knows.joined) same) (grown_looked grown) refl
+        (subst (IsIn (installed e.table)) (sym (ap (λ (x : SeatState). x.knows.held) same)) (inl refl)))
+
+    pub overtaken_looked : (floor : ℕ) (versions : List Version) → IsOvertaken z t u floor versions e.table → IsOvertaken z s v floor versions e.table
+    overtaken_looked floor versions k =
+        let same = first.goes.same in
+        overtaken_between z s t u v (ap (λ (x : SeatState). x.by) same, ap (λ (x : SeatState). x.knows.made) same, ap (λ (x : SeatState). x.knows.joined) same) (ap (λ (x : SeatState). x.knows.participant.past) same)
+        (starts_equal s.knows.participant.seen t.knows.participant.seen (ap (λ (x : SeatState). x.knows.participant.seen) same)) (starts_equal u.knows.participant.seen v.knows.participant.seen (ap (λ (p : Participant). p.seen) same_looked)) floor versions e.table k
 
 -- a seat that goes on with the tables turn alone holds the same tables still
 pub still_edits : {D : Type 0} {z : SharedState D} {s u : SeatState} {test : Fact → Bool} {e : EditsState} {h : List Entry} → HoldsEdits z s e → GoesOn test (installed e.table ∷ []) s.turns (seeing h s) u → HoldsEdits z u e

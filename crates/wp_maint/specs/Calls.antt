@@ -1,5 +1,5 @@
 -- What a flush and a compaction answer, and what they leave of the seat.
-use Rattle.std.specs.Prelude.{◌≡◌, ℕ, ◌≤◌, ◌<◌, true, false, List, [], ◌∷◌, length, take, Option, Some, IfSome, Result, Ok, Err}
+use Rattle.std.specs.Prelude.{◌≡◌, ℕ, ◌≤◌, ◌<◌, Bool, true, false, List, [], ◌∷◌, ◌++◌, filter, length, take, Option, Some, IfSome, Result, Ok, Err}
 use Rattle.wp_model.specs.declared.entry.Entry.{Entry}
 use Rattle.wp_model.specs.declared.version.Version.{Version}
 use Rattle.wp_model.specs.Flushed.{InstalledEdit, later_versions}
@@ -12,7 +12,7 @@ use Rattle.wp_core.specs.Lists.{IsIn}
 use Rattle.wp_core.specs.Reading.{Registration}
 use Rattle.wp_core.specs.Sound.Actors.{StartsWith}
 use Rattle.wp_core.specs.Sound.Pasts.{tables_due}
-use Rattle.wp_core.specs.Tables.{Installed, writes, installed}
+use Rattle.wp_core.specs.Tables.{Content, Installed, writes, installed}
 use Rattle.wp_core.specs.Views.{Event, tables_failed, found_edit}
 use Rattle.wp_core.specs.Views as event
 use Rattle.wp_core.specs.World.{Actor, Participant, World}
@@ -31,18 +31,22 @@ use Rattle.wp_maint.specs.declared.error.MaintError.TheVariants.{Memory, Nothing
 
 -- ---- what the seat held
 
--- In a reached world of the store the seat held the tables turn, with this table. It had this past then, had seen no less than
+-- In a reached world of the store the seat held a turn, with this table. It had this past then, had seen no less than
 -- before the call and no more than after it, and had made and taken in as many others.
-pub record HeldTables {D : Type 0} (z : SharedState D) (old new : SeatState) (past : List Event) (e : Installed) : Type 0 where
+pub record HeldContent {D : Type 0} (z : SharedState D) (old new : SeatState) (past : List Event) (table : Content) : Type 0 where
   pub world : World
   pub actor : Actor
   pub there : IsAt (place_at z old.by) actor world
-  pub held : IsIn (installed e) actor.held
+  pub held : IsIn table actor.held
   pub past_is : actor.participant.past ≡ past
   pub seen_is : StartsWith actor.participant.seen old.knows.participant.seen
   pub within : StartsWith new.knows.participant.seen actor.participant.seen
   pub made : actor.made ≡ old.knows.made
   pub joined : actor.joined ≡ old.knows.joined
+
+-- ... the tables turn, with this one
+abbrev pub HeldTables : {D : Type 0} → SharedState D → SeatState → SeatState → List Event → Installed → Type 0
+HeldTables z old new past e = HeldContent z old new past (installed e)
 
 -- In a reached world of the store this was the whole history, and the seat, which held the write turn, had seen it. It had the past
 -- then that it had before the call, and had made and taken in as many others.
@@ -220,3 +224,24 @@ CompactsFrom Goes Pinned z old e (Err (TablesStopped flushed)) new = IsStopped G
 -- what a compaction answers and leaves, where the tables were so as it found them
 abbrev pub Compacts : {D : Type 0} → SharedState D → SeatState → Result Done MaintError → SeatState → Type 0
 Compacts z old result new = (e : Installed) × CompactsFrom (Continues z old new) (HasPinned z old new) z old e result new
+
+-- ---- the manifest's device
+
+-- an edit was installed, or a device failed
+abbrev pub is_of_install : Event → Bool
+is_of_install (event.installed edit compacts) = true
+is_of_install (tables_failed last asked) = true
+is_of_install other = false
+
+-- the installs of its own, and those that failed
+abbrev pub installs_of : Participant → List Event
+installs_of p = filter is_of_install p.past
+
+-- What a refused call did with the manifest's device. Each append of an edit leaves its mark: who installs holds the tables turn, and
+-- can give it only with the tables as the machine has them. By then an edit whose append answered Ok is in its past, and so is a
+-- device that failed. Where the call says that one failed, it made no more than that install, and it is in its past; it says so too where
+-- the table could not be written, and the manifest was not called. Where it says anything else, want of memory too, it appended no edit.
+-- So behind an install that answered Ok the call answers Ok.
+abbrev pub RefusesBeforeInstall : SeatState → MaintError → SeatState → Type 0
+RefusesBeforeInstall old TableFault new = (last : InstalledEdit) × (asked : Option InstalledEdit) × (installs_of new.knows.participant ≡ installs_of old.knows.participant ++ tables_failed last asked ∷ [])
+RefusesBeforeInstall old other new = installs_of new.knows.participant ≡ installs_of old.knows.participant

@@ -1,5 +1,5 @@
 -- What a compaction knows before it installs its edit, and what one round of it answers.
-use Rattle.std.specs.Prelude.{◌≡◌, ℕ, ◌≤◌, true, List, [], ◌∷◌, length, take, Option, Some, None, Result}
+use Rattle.std.specs.Prelude.{◌≡◌, ◌⊎◌, ℕ, ◌≤◌, ◌<◌, true, false, List, [], ◌∷◌, length, take, Option, Some, None, Result}
 use Rattle.std.specs.List.{list_all}
 use Rattle.wp_model.specs.declared.version.Version.{Version}
 use Rattle.wp_model.specs.Flushed.{IsEditCovered, later_versions}
@@ -9,7 +9,7 @@ use Rattle.wp_replies.specs.Tables.{retained, after_compaction}
 use Rattle.wp_table.specs.Table.{is_numbered, is_flushed}
 use Rattle.wp_core.specs.Lists.{IsIn}
 use Rattle.wp_core.specs.Reading.{Registration}
-use Rattle.wp_core.specs.Tables.{Installed}
+use Rattle.wp_core.specs.Tables.{StoreTable, Installed, store}
 use Rattle.wp_core.specs.Views.{tables_stay, live_listed, nothing_flushed}
 use Rattle.wp_core.specs.World.{Participant, Actor}
 use Rattle.wp_rule.specs.Knows.{Noted}
@@ -17,7 +17,7 @@ use Rattle.wp_shared.specs.Seats.{SharedState, SeatState}
 use Rattle.wp_read.specs.Registers.{numbers_of}
 use Rattle.wp_maint.specs.declared.done.Done.{Done}
 use Rattle.wp_maint.specs.declared.error.MaintError.{MaintError}
-use Rattle.wp_maint.specs.Calls.{CompactsFrom}
+use Rattle.wp_maint.specs.Calls.{HeldContent, Finds, SeveralTables, CompactsFrom}
 use Rattle.wp_maint.specs.Decided.{Decides, version_numbers}
 
 -- ---- what is pinned
@@ -61,10 +61,36 @@ pub record MayMerge (a : Actor) (e : Installed) (floor : ℕ) (live : List Regis
 
 -- ---- one round
 
+-- the store's tables had these versions, in a world in which the seat held the store turn
+abbrev pub HadVersions : {D : Type 0} → SharedState D → SeatState → SeatState → List Version → Type 0
+HadVersions z old new versions = (t : StoreTable) × HeldContent z old new old.knows.participant.past (store t) × (t.tables ≡ versions)
+
+-- A flush put versions above the floor into these tables; or a compaction from a later floor replaced others by them, as a world says
+-- in which the seat held the store turn.
+abbrev pub IsPassed : {D : Type 0} → SharedState D → SeatState → SeatState → ℕ → Installed → Type 0
+IsPassed z old new floor e = (floor < e.last.flushed) ⊎ ((t : StoreTable) × HeldContent z old new old.knows.participant.past (store t) × (floor < t.floor))
+
+-- what was decided of these versions at the floor is overtaken: that was so, or the tables have other versions
+abbrev pub IsOvertaken : {D : Type 0} → SharedState D → SeatState → SeatState → ℕ → List Version → Installed → Type 0
+IsOvertaken z old new floor versions e = IsPassed z old new floor e ⊎ (versions ≡ e.last.versions → ⊥)
+
+-- It has to begin again: no device had failed and there were several tables, but others than those that were decided.
+pub record BeginsAgain {D : Type 0} (Goes : Participant → Type 0) (Pinned : ℕ → List ℕ → Type 0) (z : SharedState D) (old new : SeatState) (e : Installed) : Type 0 where
+  pub found : Finds z old new e
+  pub running : e.halted ≡ false
+  pub several : SeveralTables e.last
+  pub floor : ℕ
+  pub live : List ℕ
+  pub pinned : Pinned floor live
+  pub versions : List Version
+  pub decided : HadVersions z old new versions
+  pub overtaken : IsOvertaken z old new floor versions e
+  pub goes_on : Goes old.knows.participant
+
 -- what it answers where it finds these tables, or that it has to begin again
 abbrev pub EndsRoundFrom : {D : Type 0} → (Participant → Type 0) → (ℕ → List ℕ → Type 0) → SharedState D → SeatState → Installed → Option (Result Done MaintError) → SeatState → Type 0
 EndsRoundFrom Goes Pinned z old e (Some result) new = CompactsFrom Goes Pinned z old e result new
-EndsRoundFrom Goes Pinned z old e None new = Goes old.knows.participant
+EndsRoundFrom Goes Pinned z old e None new = BeginsAgain Goes Pinned z old new e
 
 -- what it answers, or that it has to begin again, whatever tables it finds
 abbrev pub EndsRound : {D : Type 0} → (Participant → Type 0) → (ℕ → List ℕ → Type 0) → SharedState D → SeatState → Option (Result Done MaintError) → SeatState → Type 0

@@ -1,12 +1,12 @@
 //! A compaction of all tables.
-ghost use Rattle.std.specs.Prelude.{◌≡◌, false, length};
+ghost use Rattle.std.specs.Prelude.{◌≡◌, false, length, IfErr};
 ghost use Rattle.wp_core.specs.Lists.{IsIn};
 ghost use Rattle.wp_rule.specs.Knows.{KnowsTables};
 ghost use Rattle.wp_shared.specs.Calls.{Continues, GoesOnAs};
 ghost use Rattle.wp_shared.specs.Seats.{IsFree};
 ghost use Rattle.wp_read.specs.Registers.{numbers_of};
-ghost use Rattle.wp_maint.specs.Calls.{Compacts, HasPinned, SeveralTables};
-ghost use Rattle.wp_maint.specs.Compaction.{HasDecided, IsPin, KnowsLive, EndsRoundFrom, EndsRound};
+ghost use Rattle.wp_maint.specs.Calls.{Compacts, HasPinned, RefusesBeforeInstall, SeveralTables};
+ghost use Rattle.wp_maint.specs.Compaction.{HadVersions, HasDecided, IsPin, KnowsLive, EndsRoundFrom, EndsRound};
 ghost use Rattle.wp_maint.specs.Holding.{HoldsEdits};
 
 use crate::decided::{Decided, decide_tables};
@@ -38,6 +38,7 @@ fn compact_several<D: Disk + Drop, R: Wait>(
     requires running { edits.old.table.halted ≡ false }
     requires several { SeveralTables edits.old.table.last }
     requires decided { HasDecided seat.old.knows pinned.now.floor pinned.now.live.items decided.now.versions decided.now.committed.items }
+    requires tabled { HadVersions store.now seat.old seat.old decided.now.versions }
     ensures holds { HoldsEdits store.now seat.new edits.new }
     ensures settled { KnowsTables seat.new.knows edits.new.table.last }
     ensures says { EndsRoundFrom (GoesOnAs seat.old seat.new) (IsPin pinned.now.floor.number (numbers_of pinned.now.live.items)) store.now seat.old edits.old.table result seat.new }
@@ -63,6 +64,7 @@ fn compact_running<D: Disk + Drop, R: Wait>(
     requires settled { KnowsTables seat.old.knows edits.old.table.last }
     requires running { edits.old.table.halted ≡ false }
     requires decided { HasDecided seat.old.knows pinned.now.floor pinned.now.live.items decided.now.versions decided.now.committed.items }
+    requires tabled { HadVersions store.now seat.old seat.old decided.now.versions }
     ensures holds { HoldsEdits store.now seat.new edits.new }
     ensures settled { KnowsTables seat.new.knows edits.new.table.last }
     ensures says { EndsRoundFrom (GoesOnAs seat.old seat.new) (IsPin pinned.now.floor.number (numbers_of pinned.now.live.items)) store.now seat.old edits.old.table result seat.new }
@@ -87,6 +89,7 @@ fn compact_in<D: Disk + Drop, R: Wait>(
     requires holds { HoldsEdits store.now seat.old edits.old }
     requires settled { KnowsTables seat.old.knows edits.old.table.last }
     requires decided { HasDecided seat.old.knows pinned.now.floor pinned.now.live.items decided.now.versions decided.now.committed.items }
+    requires tabled { HadVersions store.now seat.old seat.old decided.now.versions }
     ensures holds { HoldsEdits store.now seat.new edits.new }
     ensures settled { KnowsTables seat.new.knows edits.new.table.last }
     ensures says { EndsRoundFrom (GoesOnAs seat.old seat.new) (IsPin pinned.now.floor.number (numbers_of pinned.now.live.items)) store.now seat.old edits.old.table result seat.new }
@@ -149,7 +152,8 @@ pub fn compact<D: Disk + Drop, R: Wait>(
     seat: &mut Seat<D>,
 ) -> Result<Done, MaintError>
     requires { IsFree store.now.table seat.old }
-    ensures { Compacts store.now seat.old result seat.new }
+    ensures answers { Compacts store.now seat.old result seat.new }
+    ensures before_install { IfErr result (λ why. RefusesBeforeInstall seat.old why seat.new) }
 {
     for _ in rt.forever() {
         if let Some(result) = try_compact(store, rt, alloc, seat) {

@@ -6,6 +6,7 @@ ghost use Rattle.wp_core.specs.Sound.Snapshots.{has_versions_at};
 ghost use Rattle.wp_shared.specs.Calls.{Continues};
 ghost use Rattle.wp_shared.specs.Seats.{IsFree};
 ghost use Rattle.wp_read.specs.Registers.{numbers_of};
+ghost use Rattle.wp_maint.specs.Compaction.{HadVersions};
 ghost use Rattle.wp_maint.specs.Decided.{ArePinned, AreSeen, Decides, version_numbers};
 
 use std::alloc::{AllocError, Global};
@@ -35,6 +36,7 @@ fn tabled<D: Disk + Drop, R: Wait>(
     ensures continues { Continues store.now seat.old seat.new seat.old.knows.participant }
     ensures same { seat.new.knows.participant ≡ seat.old.knows.participant }
     ensures seen { IfOk result (AreSeen seat.old.knows.participant.seen) }
+    ensures tabled { IfOk result (HadVersions store.now seat.old seat.new) }
 {
     let stock = store.take_turn::<Stock, R>(rt, seat);
     let versions = stock.in_tables();
@@ -157,6 +159,7 @@ pub(crate) fn decide_tables<D: Disk + Drop, R: Wait>(
     ensures continues { Continues store.now seat.old seat.new seat.old.knows.participant }
     ensures same { seat.new.knows.participant ≡ seat.old.knows.participant }
     ensures decided { IfOk result (λ d. Decides seat.old.knows.participant.seen (version_numbers d.versions) (numbers_of (pinned.now.floor ∷ pinned.now.live.items)) [] d.committed.items) }
+    ensures tabled { IfOk result (λ d. HadVersions store.now seat.old seat.new d.versions) }
 {
     let versions = tabled(store, rt, seat)?;
     let committed = decide_each(store, rt, alloc, seat, versions.as_slice(), pinned)?;

@@ -7,7 +7,7 @@ ghost use Rattle.wp_rule.specs.Knows.{KnowsTables};
 ghost use Rattle.wp_shared.specs.Calls.{GoesOnAs};
 ghost use Rattle.wp_shared.specs.Notes.{GoesOn};
 ghost use Rattle.wp_shared.specs.Seats.{IsFree};
-ghost use Rattle.wp_maint.specs.Calls.{Flushes, FlushesFrom, HasNewest, SawWhole};
+ghost use Rattle.wp_maint.specs.Calls.{Flushes, FlushesFrom, HasNewest, RefusesBeforeInstall, SawWhole};
 ghost use Rattle.wp_maint.specs.Flush.{HasFrozen, MayPut};
 ghost use Rattle.wp_maint.specs.Installs.{HasInstalled, NotInstalled};
 ghost use Rattle.wp_maint.specs.Holding.{is_of_tables, HoldsEdits};
@@ -169,7 +169,8 @@ pub fn flush<D: Disk + Drop, R: Wait>(
     seat: &mut Seat<D>,
 ) -> Result<Done, MaintError>
     requires { IsFree store.now.table seat.old }
-    ensures { Flushes store.now seat.old result seat.new }
+    ensures answers { Flushes store.now seat.old result seat.new }
+    ensures before_install { IfErr result (λ why. RefusesBeforeInstall seat.old why seat.new) }
 {
     let mut edits = store.take_turn::<Edits<D>, R>(rt, seat);
     let result = flush_in(store, rt, seat, &mut edits);

@@ -1,5 +1,5 @@
 //! Whether the tables are still those that were decided.
-ghost use Rattle.std.specs.Prelude.{◌≡◌, ◌↔◌, true, [], ◌∷◌, IfOk};
+ghost use Rattle.std.specs.Prelude.{◌≡◌, ◌↔◌, true, false, [], ◌∷◌, IfOk};
 ghost use Rattle.wp_core.specs.Sound.Actors.{StartsWith};
 ghost use Rattle.wp_core.specs.Tables.{installed};
 ghost use Rattle.wp_core.specs.Tables as table;
@@ -7,7 +7,8 @@ ghost use Rattle.wp_parts.specs.Stock.{store_table};
 ghost use Rattle.wp_rule.specs.Knows.{KnowsTables};
 ghost use Rattle.wp_shared.specs.Notes.{no_fact, seeing, GoesOn};
 ghost use Rattle.wp_shared.specs.Turns.{HoldsTurn};
-ghost use Rattle.wp_maint.specs.Compaction.{HasDecided, MayMerge};
+ghost use Rattle.wp_maint.specs.Calls.{Finds};
+ghost use Rattle.wp_maint.specs.Compaction.{HasDecided, IsOvertaken, MayMerge};
 ghost use Rattle.wp_maint.specs.Holding.{HoldsEdits};
 
 use crate::decided::Decided;
@@ -27,7 +28,7 @@ fn is_equal(version: &Version, other: &Version) -> bool
 
 /// Whether both are the same list.
 fn are_equal(versions: &[Version], others: &[Version]) -> bool
-    ensures { result ≡ true → versions.now ≡ others.now }
+    ensures { (result ≡ true) ↔ (versions.now ≡ others.now) }
 {
     if versions.len() != others.len() {
         return false;
@@ -57,6 +58,7 @@ fn is_unchanged<D: Disk + Drop>(
     ensures grown { StartsWith seat.new.knows.participant.seen seat.old.knows.participant.seen }
     ensures same { IfOk result (λ same. same ≡ true → decided.now.versions ≡ edits.now.table.last.versions) }
     ensures may { IfOk result (λ same. same ≡ true → MayMerge seat.new.knows edits.now.table pinned.now.floor.number pinned.now.live.items) }
+    ensures overtaken { IfOk result (λ same. same ≡ false → IsOvertaken store.now seat.old seat.new pinned.now.floor.number decided.now.versions edits.now.table) }
 {
     let floor = pinned.floor.number();
     store.shows_history(seat);
@@ -84,8 +86,10 @@ pub(crate) fn are_unchanged<D: Disk + Drop, R: Wait>(
     requires decided { HasDecided seat.old.knows pinned.now.floor pinned.now.live.items decided.now.versions decided.now.committed.items }
     ensures goes { GoesOn no_fact (installed edits.now.table ∷ []) seat.old.turns (seeing seat.new.knows.participant.seen seat.old) seat.new }
     ensures grown { StartsWith seat.new.knows.participant.seen seat.old.knows.participant.seen }
+    ensures found { Finds store.now seat.old seat.new edits.now.table }
     ensures same { IfOk result (λ same. same ≡ true → decided.now.versions ≡ edits.now.table.last.versions) }
     ensures may { IfOk result (λ same. same ≡ true → MayMerge seat.new.knows edits.now.table pinned.now.floor.number pinned.now.live.items) }
+    ensures overtaken { IfOk result (λ same. same ≡ false → IsOvertaken store.now seat.old seat.new pinned.now.floor.number decided.now.versions edits.now.table) }
 {
     let stock = store.take_turn::<Stock, R>(rt, seat);
     let same = is_unchanged(store, seat, edits, &stock, pinned, decided);

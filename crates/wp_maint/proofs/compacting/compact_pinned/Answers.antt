@@ -4,7 +4,7 @@ use Rattle.wp_parts.specs.Edits.{EditsState}
 use Rattle.wp_shared.proofs.Onward.{holds_alone}
 use Rattle.wp_read.specs.Registers.{numbers_of}
 use Rattle.wp_maint.specs.Holding.{HoldsEdits}
-use Rattle.wp_maint.proofs.Rounds.{no_tables, are_pinned, has_decided, decided_taken, ends_given}
+use Rattle.wp_maint.proofs.Rounds.{no_tables, are_pinned, has_decided, decided_taken, versions_taken, ends_given}
 use Rattle.wp_maint.proofs.compacting.compact_pinned.Goals as goal
 
 pub decide_tables-requires-clause-pinned : goal.decide_tables-requires-clause-pinned
@@ -21,6 +21,9 @@ compact_in-result-requires-clause-decided g c =
     let p = c.args.pinned.now in let d = c.in-Ok.decided in
     decided_taken c.requires.free c.decide_tables.ensures.continues c.take_turn-edits.ensures.taken c.decide_tables.ensures.same p.floor p.live.items d.versions d.committed.items
     (has_decided c.args.seat.now.knows p.floor p.live.items d.versions d.committed.items c.requires.floor.1 c.requires.live c.in-Ok.ensures.decided)
+
+pub compact_in-result-requires-clause-tabled : goal.compact_in-result-requires-clause-tabled
+compact_in-result-requires-clause-tabled g c = versions_taken c.requires.free c.decide_tables.ensures.continues c.take_turn-edits.ensures.taken c.decide_tables.ensures.same c.in-Ok.decided.versions c.in-Ok.ensures.tabled
 
 pub give_turn-requires-clause-holds : goal.give_turn-requires-clause-holds
 give_turn-requires-clause-holds g c = ([], [], c.compact_in-result.ensures.holds.turn)

@@ -1,10 +1,10 @@
 use Rattle.std.proofs.Common.{[], ◌∷◌, Some, refl}
 use Rattle.wp_core.specs.Tables.{installed}
 use Rattle.wp_shared.specs.Notes.{no_fact, seeing}
-use Rattle.wp_shared.proofs.Onward.{loose_none}
+use Rattle.wp_shared.proofs.Onward.{starts_same, loose_none}
 use Rattle.wp_read.specs.Registers.{numbers_of}
 use Rattle.wp_maint.specs.Compaction.{IsPin}
-use Rattle.wp_maint.proofs.Onward.{goes_saw, settled_on}
+use Rattle.wp_maint.proofs.Onward.{goes_saw, settled_on, versions_between}
 use Rattle.wp_maint.proofs.Rounds.{ends_then}
 use Rattle.wp_maint.proofs.StillTabled.{still_edits, decided_looked}
 use Rattle.wp_maint.proofs.compacting.compact_several.Goals as goal
@@ -32,8 +32,18 @@ returns-in-Ok-false-clause-settled g c =
 
 pub returns-in-Ok-false-clause-says : goal.returns-in-Ok-false-clause-says
 returns-in-Ok-false-clause-says g c =
-    let s = c.args.seat.now in let u = c.are_unchanged.new.seat in
-    goes_saw s u no_fact (installed c.args.edits.now.table ∷ []) s.turns c.are_unchanged.ensures.goes c.are_unchanged.ensures.grown loose_none
+    let s = c.args.seat.now in let u = c.are_unchanged.new.seat in let p = c.args.pinned.now in let versions = c.args.decided.now.versions in record {
+      found = c.are_unchanged.ensures.found;
+      running = c.requires.running;
+      several = c.requires.several;
+      floor = p.floor.number;
+      live = numbers_of p.live.items;
+      pinned = (refl, refl);
+      versions = versions;
+      decided = versions_between c.args.store.now s s s u (refl, refl, refl) refl (starts_same s.knows.participant.seen) c.are_unchanged.ensures.grown versions c.requires.tabled;
+      overtaken = c.in-Ok-false.ensures.overtaken c.in-Ok-false.field-0-test;
+      goes_on = goes_saw s u no_fact (installed c.args.edits.now.table ∷ []) s.turns c.are_unchanged.ensures.goes c.are_unchanged.ensures.grown loose_none;
+    }
 
 pub returns-in-Err-clause-holds : goal.returns-in-Err-clause-holds
 returns-in-Err-clause-holds g c = still_edits c.requires.holds c.are_unchanged.ensures.goes

@@ -1,10 +1,11 @@
-use Rattle.std.proofs.Common.{◌≤◌, List, [], ◌∷◌, length, sym, subst, ◌∙◌}
+use Rattle.std.proofs.Common.{◌≤◌, List, [], ◌∷◌, length, refl, sym, subst, ap, ◌∙◌}
 use Rattle.wp_model.specs.declared.version.Version.{Version}
 use Rattle.wp_core.specs.Lists.{IsIn}
 use Rattle.wp_core.specs.World.{Participant}
 use Rattle.wp_read.specs.Registers.{numbers_of}
 use Rattle.wp_maint.specs.Decided.{AreSeen, Decides, version_numbers}
-use Rattle.wp_shared.proofs.Onward.{continues_still}
+use Rattle.wp_shared.proofs.Onward.{starts_equal, starts_same, continues_still}
+use Rattle.wp_maint.proofs.Onward.{versions_between}
 use Rattle.wp_maint.proofs.decided.decide_tables.Goals as goal
 
 pub decide_each-requires-clause-free : goal.decide_each-requires-clause-free
@@ -31,3 +32,8 @@ returns-clause-same g c = c.decide_each.ensures.same ∙ c.tabled.ensures.same
 pub returns-clause-decided : goal.returns-clause-decided
 returns-clause-decided g c =
     subst (λ (y : Participant × List Version). Decides y.0.seen (version_numbers y.1) (numbers_of (c.args.pinned.now.floor ∷ c.args.pinned.now.live.items)) [] c.in_ok-committed.committed.items) (λ j. (c.tabled.ensures.same j, c.as_slice.ensures.value j)) c.in_ok-committed.ensures.decided
+
+pub returns-clause-tabled : goal.returns-clause-tabled
+returns-clause-tabled g c =
+    let s = c.args.seat.now in let t = c.tabled.new.seat in let v = c.decide_each.new.seat in
+    versions_between c.args.store.now s s t v (refl, refl, refl) refl (starts_same s.knows.participant.seen) (starts_equal t.knows.participant.seen v.knows.participant.seen (ap (λ (p : Participant). p.seen) c.decide_each.ensures.same)) _ c.in_ok-versions.ensures.tabled

@@ -5,8 +5,9 @@ use Rattle.wp_merge.proofs.Sorted.{in_order_sorted}
 use Rattle.wp_parts.specs.Stock.{StockState, store_table}
 use Rattle.wp_shared.proofs.Onward.{holds_alone}
 use Rattle.wp_read.proofs.Seated.{looked_on, same_look}
+use Rattle.wp_maint.specs.Compaction.{HadVersions}
 use Rattle.wp_maint.specs.Decided.{AreSeen}
-use Rattle.wp_maint.proofs.Tabled.{are_seen}
+use Rattle.wp_maint.proofs.Tabled.{are_seen, had_versions}
 use Rattle.wp_maint.proofs.decided.tabled.Goals as goal
 
 pub give_turn-requires-clause-holds : goal.give_turn-requires-clause-holds
@@ -22,3 +23,9 @@ pub returns-clause-seen : goal.returns-clause-seen
 returns-clause-seen g c =
     IfOk-weaker c.in_tables-versions.result _ _ (λ versions is. subst (AreSeen c.args.seat.now.knows.participant.seen) (sym (is ∙ ap (λ (x : StockState). (store_table x).tables) c.deref.ensures))
     (are_seen c.take_turn-stock.ensures.taken (in_order_sorted (joined c.take_turn-stock.result.value.parts.tables)))) c.in_tables-versions.ensures
+
+pub returns-clause-tabled : goal.returns-clause-tabled
+returns-clause-tabled g c =
+    let k = c.take_turn-stock.ensures.taken in let v = c.give_turn.new.seat in
+    IfOk-weaker c.in_tables-versions.result _ _ (λ versions is. subst (HadVersions c.args.store.now c.args.seat.now v) (sym (is ∙ ap (λ (x : StockState). (store_table x).tables) c.deref.ensures))
+    (had_versions k v (same_look k (c.give_turn.ensures [] [] (holds_alone c.requires k))))) c.in_tables-versions.ensures

@@ -9,6 +9,7 @@ use Rattle.wp_shared.specs.Notes.{no_fact, is_under}
 use Rattle.wp_shared.specs.Seats.{SeatState}
 use Rattle.wp_shared.proofs.Onward.{loose_none, loose_under, goes_same, goes_still, goes_free, holds_alone}
 use Rattle.wp_maint.specs.Holding.{HoldsEdits}
+use Rattle.wp_maint.proofs.BeforeInstall.{flushed_before}
 use Rattle.wp_maint.proofs.Onward.{goes_more, flushes_so}
 use Rattle.wp_maint.proofs.flushing.flush.Goals as goal
 
@@ -21,8 +22,8 @@ flush_in-result-requires-clause-settled g c = subst (λ (e : EditsState). KnowsT
 pub give_turn-requires-clause-holds : goal.give_turn-requires-clause-holds
 give_turn-requires-clause-holds g c = ([], [], c.flush_in-result.ensures.holds.turn)
 
-pub returns : goal.returns
-returns g c =
+pub returns-clause-answers : goal.returns-clause-answers
+returns-clause-answers g c =
     let z = c.args.store.now in let s = c.args.seat.now in let t = c.take_turn-edits.new.seat in let u = c.flush_in-result.new.seat in let v = c.give_turn.new.seat in
     let e = c.deref_mut.result.now.table in let p : Participant = s.knows.participant in
     let first : GoesOnAs s t p = goes_same s t no_fact (installed c.take_turn-edits.result.value.table ∷ s.knows.held) (5 ∷ s.turns) loose_none c.take_turn-edits.ensures.taken.goes in
@@ -34,3 +35,6 @@ returns g c =
           (λ events k. goes_free z s v (remembering events p) freed (goes_still s u v (remembering events p) (goes_more s t u p first events k) last))
           (λ k. goes_free z s v p freed (goes_still s u v p (goes_still s t u p first k) last)) (sym (ap (λ (x : SeatState). x.knows.participant.seen) same)) c.flush_in-result.result c.flush_in-result.ensures.says,
     )
+
+pub returns-clause-before_install : goal.returns-clause-before_install
+returns-clause-before_install g c = flushed_before c.args.store.now c.args.seat.now c.give_turn.new.seat c.flush_in-result.result (returns-clause-answers g c)

@@ -7,7 +7,7 @@ use Rattle.wp_shared.specs.Seats.{SeatState}
 use Rattle.wp_shared.proofs.Goes.{none_under_store}
 use Rattle.wp_maint.proofs.Onward.{settled_on}
 use Rattle.wp_maint.proofs.Puts.{holds_lent}
-use Rattle.wp_maint.proofs.StillTabled.{decided_still, may_merge_still, holds_seen, looked, same_looked, grown_looked}
+use Rattle.wp_maint.proofs.StillTabled.{decided_still, may_merge_still, holds_seen, looked, same_looked, grown_looked, found_looked, overtaken_looked}
 use Rattle.wp_maint.proofs.unchanged.are_unchanged.Goals as goal
 
 pub is_unchanged-same-requires-clause-holds : goal.is_unchanged-same-requires-clause-holds
@@ -41,3 +41,13 @@ returns-clause-may g c =
     let h = c.requires.holds in let one = c.take_turn-stock.ensures.taken in let two = c.is_unchanged-same.ensures.goes in let three = c.give_turn.ensures (installed c.args.edits.now.table ∷ []) (5 ∷ []) (holds_seen h one two) in
     let e = c.args.edits.now.table in let p = c.args.pinned.now in
     IfOk-weaker c.is_unchanged-same.result _ _ (λ same may are. may_merge_still c.is_unchanged-same.new.seat.knows c.give_turn.new.seat.knows e p.floor.number p.live.items (same_looked h one two three) (λ fact there. three.goes.noted fact (none_under_store fact) there) (may are)) c.is_unchanged-same.ensures.may
+
+pub returns-clause-found : goal.returns-clause-found
+returns-clause-found g c =
+    let h = c.requires.holds in let one = c.take_turn-stock.ensures.taken in let two = c.is_unchanged-same.ensures.goes in
+    found_looked h one two (c.give_turn.ensures (installed c.args.edits.now.table ∷ []) (5 ∷ []) (holds_seen h one two)) c.is_unchanged-same.ensures.grown
+
+pub returns-clause-overtaken : goal.returns-clause-overtaken
+returns-clause-overtaken g c =
+    let h = c.requires.holds in let one = c.take_turn-stock.ensures.taken in let two = c.is_unchanged-same.ensures.goes in let three = c.give_turn.ensures (installed c.args.edits.now.table ∷ []) (5 ∷ []) (holds_seen h one two) in
+    IfOk-weaker c.is_unchanged-same.result _ _ (λ same k other. overtaken_looked h one two three c.args.pinned.now.floor.number c.args.decided.now.versions (k other)) c.is_unchanged-same.ensures.overtaken
