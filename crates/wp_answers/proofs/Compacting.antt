@@ -41,9 +41,9 @@ use Rattle.wp_answers.specs.Answers.{IsExplained, Answers, BreaksOff, IsDue, IsA
 use Rattle.wp_answers.specs.declared.holdings.HeldSnapshot.{HeldSnapshot}
 use Rattle.wp_answers.specs.Holdings.{HoldingsState, txn_of, labelled, client_of, snapshot_of, times_registered, Holds}
 use Rattle.wp_answers.specs.Replies.{tables_refusal}
-use Rattle.wp_answers.proofs.Growing.{taken_old}
+use Rattle.wp_answers.proofs.Growing.{of_two, taken_old}
 use Rattle.wp_answers.proofs.Labelled.{is_registered, times_there}
-use Rattle.wp_answers.proofs.Maintaining.{of_two, compaction_is, tables_answers, halted_answers, nothing_answers, failed_answers}
+use Rattle.wp_answers.proofs.Maintaining.{compaction_is, tables_answers, halted_answers, nothing_answers, failed_answers}
 use Rattle.wp_answers.proofs.Staying.{holds_still, keeps_holds, broke_off}
 
 -- ---- the client's snapshots are among those that were live

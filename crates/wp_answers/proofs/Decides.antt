@@ -41,9 +41,9 @@ use Rattle.wp_answers.specs.declared.holdings.HeldTxn.TheVariants as held
 use Rattle.wp_answers.specs.Answers.{Answers, BreaksOff, IsDue, IsAnswered}
 use Rattle.wp_answers.specs.Holdings.{HoldsTxn, HoldsFrom}
 use Rattle.wp_answers.specs.Replies.{refusal}
-use Rattle.wp_answers.proofs.Fitting.{Fits, else_answers, one_answers, last_entry}
+use Rattle.wp_answers.proofs.Fitting.{Fits, else_answers, one_answers, last_entry, last_within}
 use Rattle.wp_answers.proofs.Clients.{having, holds_from}
-use Rattle.wp_answers.proofs.Growing.{progress_still}
+use Rattle.wp_answers.proofs.Growing.{of_two, progress_still}
 use Rattle.wp_answers.proofs.Reading.{keeps_answers}
 use Rattle.wp_answers.proofs.Refused.{IsLogged, none_before, by_refusal, refused_answers, refused_holds, refused_memory}
 use Rattle.wp_answers.proofs.Staying.{in_place, broke_off_after, none_left, has_now, holds_now}
@@ -159,6 +159,7 @@ module _ {D : Type 0} (z : SharedState D) (old new : SeatState) (txn : PreparedS
       let grown : new.knows.participant.past ≡ old.knows.participant.past ++ [] = ap (λ (p : Participant). p.past) goes.participant ∙ sym (append-nil old.knows.participant.past) in record {
         stays = in_place _ z old new _ goes refl;
         own = ap (λ (p : Participant). p.own) goes.participant ∙ ap (λ (ns : List ℕ). old.knows.participant.own ++ ns) own_two;
+        within = let last = last_within z old new k.1.1 n k.0 in of_two (λ (m : ℕ). m ≤ z.limit) (n - 1) n (omega (arith, last)) last;
         events = [];
         past = grown;
         explained = λ event there. absurd there;

@@ -30,7 +30,7 @@ use Rattle.wp_answers.specs.Agrees.{Agrees}
 use Rattle.wp_sole_client.specs.Alone.{log_faults, tables_faults}
 use Rattle.wp_answers.specs.Answers.{IsProgress, IsExplained, findings, IsRemembered, Answers}
 use Rattle.wp_answers.proofs.Staying.{in_place}
-use Rattle.wp_answers.proofs.Growing.{progress_by, last_still}
+use Rattle.wp_answers.proofs.Growing.{of_one, progress_by, last_still}
 
 -- The reply acknowledges these numbers, and the client, in this state of its transaction, came to these events by it. It says of
 -- tables what they do, and nothing of labels.
@@ -64,6 +64,10 @@ own_number front seen entry n ends is =
     let size : length seen ≡ length front + 1 = ap (λ (l : List Entry). length l) ends ∙ length_next front entry in
     let same : suc (length front) ≡ n = omega (arith, size, is) in ap (λ (m : ℕ). m ∷ []) same
 
+-- what was put ends within the limit
+pub last_within : {D : Type 0} (z : SharedState D) (old new : SeatState) {Kept : Fact → Type 0} {found after : Participant} {history entries : List Entry} → HasPut Kept z old new found after history entries → (n : ℕ) → n ≡ length new.knows.participant.seen → n ≤ z.limit
+last_within z old new put n is = let size = ap (λ (l : List Entry). length l) put.seen in let within = put.within in omega (arith, is, size, within)
+
 -- ---- replies
 
 module _ {D : Type 0} (z : SharedState D) (old new : SeatState) where
@@ -79,6 +83,7 @@ module _ {D : Type 0} (z : SharedState D) (old new : SeatState) where
   else_answers Kept after events was now c r number goes client own past k is low allowed = let grown : new.knows.participant.past ≡ it.past ++ events = ap (λ (p : Participant). p.past) goes.participant ∙ past in record {
     stays = in_place Kept z old new after goes client;
     own = ap (λ (p : Participant). p.own) goes.participant ∙ (own ∙ (sym (append-nil it.own) ∙ ap (λ (ns : List ℕ). it.own ++ ns) (sym k.acknowledges)));
+    within = λ n there. absurd (subst (IsIn n) k.acknowledges there);
     events = events;
     past = grown;
     explained = k.explained;
@@ -104,6 +109,7 @@ module _ {D : Type 0} (z : SharedState D) (old new : SeatState) where
         stays = in_place Kept z old new _ goes client;
         own = ap (λ (p : Participant). p.own) goes.participant ∙ (ap (λ (ns : List ℕ). ns ++ numbers_behind (length history) (entry ∷ [])) own
             ∙ ap (λ (ns : List ℕ). it.own ++ ns) (own_number history new.knows.participant.seen entry n put.seen is ∙ sym k.acknowledges));
+        within = λ m there. of_one (λ (k : ℕ). k ≤ z.limit) n (last_within z old new put n is) m (subst (IsIn m) k.acknowledges there);
         events = events;
         past = grown;
         explained = k.explained;

@@ -6,9 +6,11 @@ use Rattle.wp_text.specs.declared.reply.Reply.{Reply}
 use Rattle.wp_text.specs.declared.reply.Reply.TheVariants as reply
 use Rattle.wp_core.proofs.Tests.{same_some}
 use Rattle.wp_shared.specs.Seats.{SharedState, SeatState}
+use Rattle.wp_maint.specs.declared.error.MaintError.{MaintError}
+use Rattle.wp_maint.specs.declared.error.MaintError.TheVariants.{Memory, Nothing, TableFault, TablesStopped}
 use Rattle.wp_replies.specs.Plan.{read_reply}
 use Rattle.wp_answers.specs.Fresh.{WasPublished, NamesPublished}
-use Rattle.wp_answers.specs.Replies.{own_reply}
+use Rattle.wp_answers.specs.Replies.{own_reply, tables_refusal}
 
 module _ {D : Type 0} (z : SharedState D) (old new : SeatState) where
   -- the client's own transaction answers
@@ -27,3 +29,10 @@ module _ {D : Type 0} (z : SharedState D) (old new : SeatState) where
   label_names label true full r is = subst (NamesPublished z old new (command.Snap label)) (same_some (reply.Taken label) r is) tt
   label_names label false true r is = subst (NamesPublished z old new (command.Snap label)) (same_some reply.TooMany r is) tt
   label_names label false false r is = absurd cc
+
+-- what is so of each reply that the tables' refusals come to
+pub tables_refused : (P : Reply → Type 0) → P reply.Nothing → P reply.FaultTables → ((flushed : ℕ) → P (reply.Halted flushed)) → (why : MaintError) (r : Reply) → tables_refusal why ≡ Some r → P r
+tables_refused P nothing failed halted Memory r is = absurd cc
+tables_refused P nothing failed halted Nothing r is = subst P (same_some reply.Nothing r is) nothing
+tables_refused P nothing failed halted TableFault r is = subst P (same_some reply.FaultTables r is) failed
+tables_refused P nothing failed halted (TablesStopped flushed) r is = subst P (same_some (reply.Halted flushed) r is) (halted flushed)

@@ -27,6 +27,11 @@ pub of_one : {X : Type 0} (P : X → Type 0) (x : X) → P x → (y : X) → IsI
 of_one P x holds y (inl same) = subst P same holds
 of_one P x holds y (inr none) = absurd none
 
+-- what is so of the only two
+pub of_two : {X : Type 0} (P : X → Type 0) (x y : X) → P x → P y → (z : X) → IsIn z (x ∷ y ∷ []) → P z
+of_two P x y first second z (inl same) = subst P same first
+of_two P x y first second z (inr there) = of_one P y second z there
+
 -- so many entries of the history are the first ones of what was seen, where that has so many
 pub taken_old : (history seen : List Entry) (n : ℕ) → StartsWith history seen → n ≤ length seen → take n history ≡ take n seen
 taken_old history seen n starts low = ap (take n) starts.1 ∙ take-append-le n seen starts.0 low

@@ -57,6 +57,7 @@ module _ {D : Type 0} (z : SharedState D) (old new : SeatState) (label : List �
   told_beside n (is, goes, were, was) = record {
     stays = in_place _ z old new _ goes refl;
     own = same_own (told label n ∷ []) goes;
+    within = λ k there. absurd there;
     events = told label n ∷ [];
     past = ap (λ (p : Participant). p.past) goes.participant;
     explained = of_one (IsExplained it.client client.txn (command.Tell label) (Some (reply.Told n))) (told label n) (tells_itself label n);
@@ -75,6 +76,7 @@ module _ {D : Type 0} (z : SharedState D) (old new : SeatState) (label : List �
   heard_beside n (is, (m, low_m, goes, were, was)) = record {
     stays = in_place _ z old new _ goes refl;
     own = same_own (heard label m ∷ []) goes;
+    within = λ k there. absurd there;
     events = heard label m ∷ [];
     past = ap (λ (p : Participant). p.past) goes.participant;
     explained = of_one (IsExplained it.client client.txn (command.Hear label) (Some (reply.Heard n))) (heard label m) tt;
@@ -101,6 +103,7 @@ module _ {D : Type 0} (z : SharedState D) (old new : SeatState) (label : List �
   silent_answers silent goes = record {
     stays = in_place _ z old new _ goes refl;
     own = ap (λ (p : Participant). p.own) goes.participant ∙ sym (append-nil it.own);
+    within = λ k there. absurd there;
     events = [];
     past = ap (λ (p : Participant). p.past) goes.participant ∙ sym (append-nil it.past);
     explained = λ event there. absurd there;

@@ -36,13 +36,8 @@ use Rattle.wp_answers.specs.Answers.{IsProgress, IsExplained, Answers, BreaksOff
 use Rattle.wp_answers.specs.Holdings.{HoldingsState, Holds}
 use Rattle.wp_answers.specs.Replies.{tables_refusal}
 use Rattle.wp_answers.proofs.Fitting.{Fits, else_answers}
-use Rattle.wp_answers.proofs.Growing.{in_back, of_one, taken_old, seen_taken, last_still}
+use Rattle.wp_answers.proofs.Growing.{in_back, of_one, of_two, taken_old, seen_taken, last_still}
 use Rattle.wp_answers.proofs.Staying.{holds_still, keeps_holds, broke_off}
-
--- what is so of the only two
-pub of_two : {X : Type 0} (P : X → Type 0) (x y : X) → P x → P y → (z : X) → IsIn z (x ∷ y ∷ []) → P z
-of_two P x y first second z (inl same) = subst P same first
-of_two P x y first second z (inr there) = of_one P y second z there
 
 -- the command is no other than a flush or a compaction, as far as the client is concerned
 pub record IsOfTables (c : Command) : Type 0 where

@@ -39,8 +39,8 @@ IsOfLog reply.FaultLog = Unit {0}
 IsOfLog (reply.Stopped n) = Unit {0}
 IsOfLog other = ⊥
 
--- The command asks the log for so many entries, and such, which the client's own state does not refuse. Its replies have nothing of
--- labels.
+-- The command asks the log for so many entries, and such, which the client's own state does not refuse. Its replies have nothing
+-- of labels.
 pub record IsLogged (client : Client) (c : Command) (needs : ℕ) (Asks : List Entry → Type 0) : Type 0 where
   pub free : refusal_of client c ≡ None
   pub some : 1 ≤ needs
@@ -49,7 +49,8 @@ pub record IsLogged (client : Client) (c : Command) (needs : ℕ) (Asks : List E
   pub fresh : (r : Reply) → fresh_in c r ≡ number_in r
   pub labels : (before : List (List ℕ)) (r : Reply) → heard_after before c r ≡ before
 
--- these events have nothing of faults and edits, nor of what was found, and are explained by the command, unless it was taken by the log
+-- these events have nothing of faults and edits, nor of what was found, and are explained by the command, unless it was taken by
+-- the log
 pub record ComesBefore (client : Client) (c : Command) (name : List ℕ) (front : List Event) : Type 0 where
   pub log_failed : log_faults front ≡ 0
   pub tables_failed : tables_faults front ≡ 0

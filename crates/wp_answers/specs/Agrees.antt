@@ -4,16 +4,16 @@ use Rattle.wp_model.specs.declared.holder.Holder.{Holder}
 use Rattle.wp_model.specs.declared.holder.Holder.TheVariants as holder
 use Rattle.wp_core.specs.Lists.{IsIn}
 use Rattle.wp_core.specs.Sound.Actors.{StartsWith}
-use Rattle.wp_core.specs.Sound.Pasts.{HasKeyAt}
+use Rattle.wp_core.specs.Sound.Locks.{HasKeyAt}
 use Rattle.wp_core.specs.Views.{Account, own, another, prepare_at, Event, heard, log_failed, tables_failed, stopped, found_edit, found}
 use Rattle.wp_core.specs.World.{Participant}
 use Rattle.wp_shared.specs.Seats.{SharedState}
-use Rattle.wp_replies.specs.Replies.{HasName, HasTaken, HasKey, WritesKey, WasTold, LogFailed, WasFlushed, OtherCompacted, Evidence, IsKnown, WasUndecided, IsPrepared, IsHaltedAt}
+use Rattle.wp_replies.specs.Replies.{HasName, HasTaken, HasKey, WritesKey, WasTold, LogFailed, WasFlushed, OtherCompacted, Evidence, IsKnown, WasUndecided, HadKey, IsHaltedAt}
 
 -- another client has the transaction of this name, and the key in it, where one is given; or it writes the key at once
 abbrev pub IsAnother : Evidence → Option (List ℕ) → Holder → Type 0
 IsAnother e None (holder.Txn name) = IsKnown e (HasName name)
-IsAnother e (Some key) (holder.Txn name) = IsKnown e (HasKey name key) ⊎ (IsKnown e (HasTaken name) × IsPrepared e.history name key)
+IsAnother e (Some key) (holder.Txn name) = IsKnown e (HasKey name key) ⊎ (IsKnown e (HasTaken name) × HadKey e.history e.opened name key)
 IsAnother e (Some key) (holder.Client name) = IsKnown e (WritesKey name key)
 IsAnother e None (holder.Client name) = Unit {0}
 

@@ -87,12 +87,13 @@ pub record Stays (old new : SeatState) : Type 0 where
   pub client : new.knows.participant.client ≡ old.knows.participant.client
   pub seen : StartsWith new.knows.participant.seen old.knows.participant.seen
 
--- The client that was so is answered this, and is so now. Its seat published just what the reply acknowledges, and what its past
--- has more is explained by the reply; it found at most once what a reply may speak of. Whatever agrees with what the seat then knows allows the reply, where the client knows of the
--- tables by the last edit of the store as it was opened.
+-- The client that was so is answered this, and is so now. Its seat published just what the reply acknowledges, within the limit,
+-- and what its past has more is explained by the reply; it found at most once what a reply may speak of. Whatever agrees with
+-- what the seat then knows allows the reply, where the client knows of the tables by the last edit of the store as it was opened.
 pub record Answers {D : Type 0} (z : SharedState D) (old new : SeatState) (was now : Client) (command : Command) (answer : Reply) : Type 0 where
   pub stays : Stays old new
   pub own : new.knows.participant.own ≡ old.knows.participant.own ++ acknowledged answer
+  pub within : (n : ℕ) → IsIn n (acknowledged answer) → n ≤ z.limit
   pub events : List Event
   pub past : new.knows.participant.past ≡ old.knows.participant.past ++ events
   pub explained : (event : Event) → IsIn event events → IsExplained old.knows.participant.client was.txn command (Some answer) event
@@ -105,8 +106,8 @@ pub record Answers {D : Type 0} (z : SharedState D) (old new : SeatState) (was n
   pub progress : (first : InstalledEdit) → WasLast content z.first first → (before : Progress) → IsProgress first old.knows.participant before → IsProgress first new.knows.participant (progress_after before command answer)
   pub allowed : (first : InstalledEdit) → WasLast content z.first first → (before : Progress) → IsProgress first old.knows.participant before → (e : Evidence) → Agrees e z new.knows.participant → Allows e before was number command answer
 
--- Memory was wanting, so that the command has no reply. The seat published nothing, met no fault and found nothing, and what its past has more is
--- explained by the command alone: the key of a direct write was locked, and is free again.
+-- Memory was wanting, so that the command has no reply. The seat published nothing, met no fault and found nothing, and what its
+-- past has more is explained by the command alone: the key of a direct write was locked, and is free again.
 pub record BreaksOff (old new : SeatState) (was : Client) (command : Command) : Type 0 where
   pub stays : Stays old new
   pub own : new.knows.participant.own ≡ old.knows.participant.own
@@ -117,8 +118,8 @@ pub record BreaksOff (old new : SeatState) (was : Client) (command : Command) : 
   pub tables_failed : tables_faults events ≡ 0
   pub none_found : findings events ≡ 0
 
--- Where the seat is the only one, and stands in a world of the store now, the reply is the one that is due from the store as it was,
--- or a fault, and the store is as it is to be then.
+-- Where the seat is the only one, and stands in a world of the store now, the reply is the one that is due from the store as it
+-- was, or a fault, and the store is as it is to be then.
 abbrev pub IsDue : {D : Type 0} → SharedState D → SeatState → SeatState → Client → Client → Command → Reply → Type 0
 IsDue z old new was now command answer =
     (world : World) → Stands z new world → IsOnly old → (first : InstalledEdit) → WasLast content z.first first → (store : Store) → IsStoreOf z first old.knows.participant store → AnswersAlone z first old new was now command answer store

@@ -1,5 +1,6 @@
--- That a fresh read, a snapshot, and a number that is told or heard are of the store as it was while the command ran.
-use Rattle.std.specs.Prelude.{◌≡◌, ℕ, List, length}
+-- That a fresh read, a snapshot, a number that is told or heard, and what was flushed or compacted are of the store as it was
+-- while the command ran.
+use Rattle.std.specs.Prelude.{◌≡◌, ℕ, List, length, Ok}
 use Rattle.wp_model.specs.declared.entry.Entry.{Entry}
 use Rattle.wp_text.specs.declared.script.Command.{Command}
 use Rattle.wp_text.specs.declared.script.Command.TheVariants as command
@@ -10,6 +11,7 @@ use Rattle.wp_core.specs.Sound.Actors.{StartsWith}
 use Rattle.wp_read.specs.Registers.{IsTaken}
 use Rattle.wp_shared.specs.Seats.{SharedState, SeatState}
 use Rattle.wp_txn.specs.Calls.{WasHistory}
+use Rattle.wp_maint.specs.Calls.{Flushes, Compacts}
 
 -- The number was published in a world of the store in which the seat took a snapshot with it, and had done no more than before.
 -- What was published then it has seen now.
@@ -25,11 +27,14 @@ pub record WasPublished {D : Type 0} (z : SharedState D) (old new : SeatState) (
 abbrev pub CountsPublished : {D : Type 0} → SharedState D → SeatState → SeatState → ℕ → Type 0
 CountsPublished z old new n = (n ≡ length new.knows.participant.seen) × WasHistory z old new.knows.participant.seen
 
--- a fresh read and a snapshot have such a number, and what is told and heard is one; of other replies nothing is asked
+-- A fresh read and a snapshot have such a number, and what is told and heard is one. A flush and a compaction have the number and
+-- the count of versions of the call that made the table. Of other replies nothing is asked.
 abbrev pub NamesPublished : {D : Type 0} → SharedState D → SeatState → SeatState → Command → Reply → Type 0
 NamesPublished z old new (command.Get key) (reply.Got value n) = WasPublished z old new n
 NamesPublished z old new (command.Get key) (reply.Missing n) = WasPublished z old new n
 NamesPublished z old new (command.Snap label) (reply.Snapped n) = WasPublished z old new n
 NamesPublished z old new (command.Tell label) (reply.Told n) = CountsPublished z old new n
 NamesPublished z old new (command.Hear label) (reply.Heard n) = CountsPublished z old new n
+NamesPublished z old new command.Flush (reply.Flushed n versions) = Flushes z old (Ok (record { at = n; versions = versions })) new
+NamesPublished z old new command.Compact (reply.Compacted n versions) = Compacts z old (Ok (record { at = n; versions = versions })) new
 NamesPublished z old new command answer = Unit {0}

@@ -2,10 +2,8 @@
 ghost use Rattle.std.specs.Prelude.{◌≡◌, true, IfOk, OnErr};
 ghost use Rattle.wp_answers.specs.declared.holdings.HeldTxn.TheVariants as held;
 ghost use Rattle.wp_model.specs.Flushed.{InstalledEdit};
-ghost use Rattle.wp_core.specs.World.{World};
 ghost use Rattle.wp_rule.specs.Shows.{WasLast};
 ghost use Rattle.wp_parts.specs.Parts.{content};
-ghost use Rattle.wp_shared.specs.Seats.{Stands};
 ghost use Rattle.wp_replies.specs.Due.{Store};
 ghost use Rattle.wp_sole_client.specs.Alone.{IsOnly, IsStoreOf, AnswersAlone};
 ghost use Rattle.wp_answers.specs.Answers.{Answers, IsAnswered, AnswersFrom, BreaksOff, BreaksOffFrom};
@@ -133,15 +131,6 @@ fn obey<D: Disk + Drop, R: Wait>(
     }
 }
 
-/// For the proof alone: the seat stands in a world of the store.
-fn shows_world<D: Disk + Drop>(store: &Shared<D>, seat: &mut Seat<D>)
-    requires { seat.old.table ≡ store.now.table }
-    ensures same { seat.new ≡ seat.old }
-    ensures stands { (w : World) × Stands store.now seat.new w }
-{
-    store.max(seat);
-}
-
 /// Answers a command. Want of memory is no answer.
 pub fn answer<D: Disk + Drop, R: Wait>(
     store: &Shared<D>,
@@ -161,6 +150,6 @@ pub fn answer<D: Disk + Drop, R: Wait>(
     ensures kept { OnErr result (held.new ≡ held.old) }
 {
     let outcome = obey(store, rt, alloc, seat, held, command);
-    shows_world(store, seat);
+    store.shows_world(seat);
     outcome
 }

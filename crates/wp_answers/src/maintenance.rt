@@ -4,6 +4,7 @@ ghost use Rattle.wp_text.specs.declared.script.Command.TheVariants.{Flush, Compa
 ghost use Rattle.wp_replies.specs.Client.{Client};
 ghost use Rattle.wp_shared.specs.Seats.{IsFree};
 ghost use Rattle.wp_answers.specs.Answers.{BreaksOff, IsAnswered};
+ghost use Rattle.wp_answers.specs.Fresh.{NamesPublished};
 ghost use Rattle.wp_answers.specs.Holdings.{HoldingsState, client_of, Holds};
 ghost use Rattle.wp_answers.specs.Replies.{tables_refusal};
 
@@ -36,6 +37,7 @@ pub(crate) fn flush<D: Disk + Drop, R: Wait>(
     requires { IsFree store.now.table seat.old }
     ensures holds { (h : HoldingsState) → Holds store.now seat.old h → Holds store.now seat.new h }
     ensures answered { IfOk result (λ answer. (client : Client) → IsAnswered store.now seat.old seat.new client client Flush answer) }
+    ensures published { IfOk result (NamesPublished store.now seat.old seat.new Flush) }
     ensures err { OnErr result ((client : Client) → BreaksOff seat.old seat.new client Flush) }
 {
     match wp_maint::flush(store, rt, seat) {
@@ -57,6 +59,7 @@ pub(crate) fn compact<D: Disk + Drop, R: Wait>(
     requires { IsFree store.now.table seat.old }
     ensures holds { (h : HoldingsState) → Holds store.now seat.old h → Holds store.now seat.new h }
     ensures answered { IfOk result (λ answer. (h : HoldingsState) → Holds store.now seat.old h → IsAnswered store.now seat.old seat.new (client_of h) (client_of h) Compact answer) }
+    ensures published { IfOk result (NamesPublished store.now seat.old seat.new Compact) }
     ensures err { OnErr result ((client : Client) → BreaksOff seat.old seat.new client Compact) }
 {
     match wp_maint::compact(store, rt, alloc, seat) {

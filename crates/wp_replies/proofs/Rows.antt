@@ -7,8 +7,8 @@ use Rattle.wp_model.specs.declared.holder.Holder.{Holder}
 use Rattle.wp_model.specs.declared.holder.Holder.TheVariants as holder
 use Rattle.wp_model.specs.Batch.{change_to}
 use Rattle.wp_model.specs.Flushed.{later_versions}
-use Rattle.wp_model.specs.History.{entry_at, prepared_name, name_at, batch_at, is_undecided, is_changed, named, newest}
-use Rattle.wp_model.proofs.Entries.{entry_at_old, batch_at_old}
+use Rattle.wp_model.specs.History.{entry_at, name_at, batch_at, is_undecided, is_changed, named, newest}
+use Rattle.wp_model.proofs.Entries.{batch_at_old}
 use Rattle.wp_text.specs.declared.script.Command.{Command}
 use Rattle.wp_text.specs.declared.script.Command.TheVariants as command
 use Rattle.wp_text.specs.declared.reply.Reply.{Reply}
@@ -18,7 +18,7 @@ use Rattle.wp_replies.specs.declared.client.Txn.TheVariants.{Idle, Open, Prepare
 use Rattle.wp_replies.specs.Client.{Client}
 use Rattle.wp_replies.specs.After.{labels_after, after_reply}
 use Rattle.wp_replies.specs.Progress.{Progress, progress_after}
-use Rattle.wp_replies.specs.Replies.{Claim, Evidence, IsKnown, HasName, HasTaken, HasKey, WritesKey, WasTold, LogFailed, WasFlushed, TablesFailed, OtherCompacted, refusal_of, IsFresh, IsLoggedAt, WasUndecided, IsPrepared, IsBusy, IsNameTaken, OwnSays, PreparesAt, CommitsAt, RollsBackAt, IsFlushCount, HasNothingToFlush, HasNothingToMerge, FailsFlush, FailsCompaction, IsHaltedAt, Row, UnlessRefused}
+use Rattle.wp_replies.specs.Replies.{Claim, Evidence, IsKnown, HasName, HasTaken, HasKey, WritesKey, WasTold, LogFailed, WasFlushed, TablesFailed, OtherCompacted, refusal_of, IsFresh, IsLoggedAt, WasUndecided, HadKey, IsBusy, IsNameTaken, OwnSays, PreparesAt, CommitsAt, RollsBackAt, IsFlushCount, HasNothingToFlush, HasNothingToMerge, FailsFlush, FailsCompaction, IsHaltedAt, Row, UnlessRefused}
 use Rattle.wp_replies.specs.Session.{IsSession}
 use Rattle.wp_replies.specs.Tables.{unflushed, after_flush, after_compaction}
 
@@ -56,9 +56,9 @@ was_more h more last name p w = record {
   named = front_more (λ f. name_at f p ≡ name) h more w.at w.fresh.1 w.named;
 }
 
-prepared_more : (h more : List Entry) (name key : List ℕ) → IsPrepared h name key → IsPrepared (h ++ more) name key
-prepared_more h more name key (p, low, named, changed) =
-    (p, longer h more p low, ap prepared_name (entry_at_old h more p low) ∙ named, ap (λ b. is_changed b key) (batch_at_old h more p low) ∙ changed)
+had_more : (h more : List Entry) (from : ℕ) (name key : List ℕ) → HadKey h from name key → HadKey (h ++ more) from name key
+unfolding was_more
+had_more h more from name key (p, was, changed) = (p, was_more h more from name p was, front_more (λ f. is_changed (batch_at f p) key ≡ true) h more was.at was.fresh.1 changed)
 
 -- the history with more entries, and with more known of the others
 abbrev grown : Evidence → List Entry → (Claim → Bool) → Evidence
@@ -68,10 +68,9 @@ abbrev KnowsMore : Evidence → (Claim → Bool) → Type 0
 KnowsMore e later = (claim : Claim) → IsKnown e claim → later claim ≡ true
 
 busy_more : (e : Evidence) (more : List Entry) (later : Claim → Bool) → KnowsMore e later → (last : ℕ) (key : List ℕ) (by : Holder) → IsBusy e last key by → IsBusy (grown e more later) last key by
-unfolding was_more
-busy_more e more later f last key (holder.Txn name) (inl (p, was, changed)) = inl (p, was_more e.history more last name p was, front_more (λ f. is_changed (batch_at f p) key ≡ true) e.history more was.at was.fresh.1 changed)
+busy_more e more later f last key (holder.Txn name) (inl had) = inl (had_more e.history more last name key had)
 busy_more e more later f last key (holder.Txn name) (inr (inl claim)) = inr (inl (f (HasKey name key) claim))
-busy_more e more later f last key (holder.Txn name) (inr (inr (claim, has))) = inr (inr (f (HasTaken name) claim, prepared_more e.history more name key has))
+busy_more e more later f last key (holder.Txn name) (inr (inr (claim, has))) = inr (inr (f (HasTaken name) claim, had_more e.history more e.opened name key has))
 busy_more e more later f last key (holder.Client name) claim = f (WritesKey name key) claim
 
 taken_more : (e : Evidence) (more : List Entry) (later : Claim → Bool) → KnowsMore e later → (last : ℕ) (name : List ℕ) → IsNameTaken e last name → IsNameTaken (grown e more later) last name

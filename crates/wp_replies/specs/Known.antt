@@ -98,4 +98,4 @@ is_said history found all others OtherCompacted = list_any is_compacted (answers
 
 -- what a client's replies are judged by: what is left, what was found, the dialogues of all clients, and those of the others
 abbrev pub evidence_of : (left : StoredState) → ℕ → Untaken → (found : StoredState) → List Dialogue → List Dialogue → Evidence
-evidence_of left limit failed found all others = record { history = left.history; installed = left.edit; limit = limit; failed = failed; known = is_said left.history found all others }
+evidence_of left limit failed found all others = record { opened = length found.history; history = left.history; installed = left.edit; limit = limit; failed = failed; known = is_said left.history found all others }

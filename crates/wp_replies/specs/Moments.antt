@@ -23,9 +23,10 @@ pub record Devices : Type 0 where
 abbrev pub store_at : Evidence → Devices → ℕ → Store
 store_at evidence devices at = record { history = take at evidence.history; stopped = devices.stopped; limit = evidence.limit; installed = devices.installed; halted = devices.halted; board = devices.board }
 
--- What is known of the others fits the devices when so many entries were published: what has failed, and which number
--- the edit has, which is the last one once the tables' devices failed. The edit has as many tables as the client knows of, unless another client made them one, and no more
--- versions than these entries. What is on the board was told, and each label is there that the client knows.
+-- What is known of the others fits the devices when so many entries were published: what has failed, and which number the edit
+-- has, which is the last one once the tables' devices failed. The edit has as many tables as the client knows of, unless another
+-- client made them one, and no more versions than these entries. What is on the board was told, and each label is there that the
+-- client knows.
 pub record AreKnown (evidence : Evidence) (at : ℕ) (progress : Progress) (devices : Devices) : Type 0 where
   pub stopped : devices.stopped ≡ true → IsKnown evidence (LogFailed at)
   pub halted : devices.halted ≡ true → (devices.installed.flushed ≡ evidence.installed.flushed) × IsKnown evidence TablesFailed

@@ -44,6 +44,7 @@ pub record Untaken : Type 0 where
 
 -- what a reply is judged by
 pub record Evidence : Type 0 where
+  pub opened : ℕ  -- so many entries the store was opened with
   pub history : List Entry
   pub installed : InstalledEdit  -- the last edit of the tables
   pub limit : ℕ  -- the greatest number that an entry may have
@@ -121,17 +122,17 @@ pub record WasUndecided (history : List Entry) (last : ℕ) (name : List ℕ) (p
   pub undecided : is_undecided (take at history) p ≡ true
   pub named : name_at (take at history) p ≡ name
 
--- a prepare of this name has the key
-abbrev pub IsPrepared : List Entry → (name key : List ℕ) → Type 0
-IsPrepared history name key = (p : ℕ) × (p ≤ length history) × (name_at history p ≡ name) × (is_changed (batch_at history p) key ≡ true)
+-- A prepare of that name was undecided, with the key in its batch, when so many entries were published, or more.
+abbrev pub HadKey : List Entry → ℕ → (name key : List ℕ) → Type 0
+HadKey history from name key = (p : ℕ) × (was : WasUndecided history from name p) × (is_changed (batch_at (take was.at history) p) key ≡ true)
 
--- The transaction was undecided, with the key in its batch; or it is another client's, which has the key in it, or took it with a
--- prepare that has the key. Or the other client writes the key.
+-- The transaction was undecided, with the key in its batch; or it is another client's, which has the key in it, or took the name,
+-- of which a prepare with the key was undecided at a moment since the opening. Or the other client writes the key.
 abbrev pub IsBusy : Evidence → ℕ → List ℕ → Holder → Type 0
 IsBusy evidence last key (holder.Txn name) =
-    ((p : ℕ) × (was : WasUndecided evidence.history last name p) × (is_changed (batch_at (take was.at evidence.history) p) key ≡ true))
+    HadKey evidence.history last name key
     ⊎ IsKnown evidence (HasKey name key)
-    ⊎ (IsKnown evidence (HasTaken name) × IsPrepared evidence.history name key)
+    ⊎ (IsKnown evidence (HasTaken name) × HadKey evidence.history evidence.opened name key)
 IsBusy evidence last key (holder.Client name) = IsKnown evidence (WritesKey name key)
 
 -- the name was that of an undecided prepare, or it is another client's

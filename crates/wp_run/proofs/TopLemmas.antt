@@ -77,6 +77,7 @@ module _ {D : Type 0} (z : SharedState D) (s : Serving) (answered : List Answere
           replies = replies;
           sessions = e.answered;
           once = e.paired;
+          within = λ n low high. subst (λ (m : ℕ). n ≤ m) limit (run.within n low high);
           crash = crash_leaves s opened run.ended;
           stored = is_stored s opened run.ended;
           met = record { log_failed = e.log_failed; stopped = e.stopped; tables_failed = e.tables_failed; halted = e.halted; edit = e.edit };

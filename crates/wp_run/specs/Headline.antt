@@ -13,7 +13,6 @@ use Rattle.wp_replies.specs.Known.{StoredState}
 use Rattle.wp_replies.specs.Replies.{Untaken}
 use Rattle.wp_run.specs.Crash.{CrashOpens}
 use Rattle.wp_run.specs.Met.{SharesWords, IsStored, AreMet}
-use Rattle.wp_run.specs.Transcript.{text_of}
 use Rattle.wp_run.specs.Use.{DisksUse, SinkUse}
 
 -- a command with its script, the limits and the devices that it was served with
@@ -27,35 +26,31 @@ pub record Serving : Type 1 where
   pub sink : SinkUse
 
 -- The store ran these commands of each client, of which the script's parts begin with them. So often a call of the log's device
--- failed under a command, and so often one of the tables' two devices. The bytes of devices, and what a crash leaves of them, are
--- spoken of as far as they are known: of a device that tells nothing of its bytes, nothing is said.
+-- failed under a command, and so often one of the tables' two devices. Of a device that tells nothing of its bytes, nothing is
+-- said of these, nor of what a crash leaves of them. All else is said of it too.
 pub record Headline (s : Serving) (faults : Faults) (run : List Part) : Type 0 where
   -- The bytes of the three devices opened to the history and the last edit of the manifest that were found.
   pub id : ℕ
   pub found : StoredState
   pub opened : AllKnown s.disks.log.before s.disks.manifest.before s.disks.tables.before (OpensTo id found.history found.edit)
-  -- With these, and as many words in the commit cache as were asked for, there is a world of the machine: that of the opened store.
+  -- With these, and as many words in the commit cache as were asked for, there is a world of the machine: the opened store's.
   pub words : SharesWords (2 ^ s.bits) found
   -- The history that is left is legal, and begins with that one.
   pub left : StoredState
   pub legal : IsLegal left.history
   pub begins : (added : List Entry) × (left.history ≡ found.history ++ added)
-  -- Each client's replies to its commands are a session that the table of replies allows over the one history that is left: what is
-  -- read is what its first n entries leave, what is acknowledged is an entry of it, and the numbers of fresh replies never fall.
+  -- Each client's replies to its commands are a session that the table of replies allows over the one history that is left. What
+  -- is read is what its first n entries leave, what is acknowledged is an entry of it, and fresh numbers never fall.
   pub failed : Untaken  -- the record, or the edit, that a device failed to take
   pub replies : List (List Reply)
   pub sessions : AreSessions left s.limit failed found [] s.script run replies
-  -- Each new entry is acknowledged by exactly one reply, an Undo together with its Close.
+  -- Each new entry is acknowledged by exactly one reply, an Undo together with its Close. No number of one is above the limit.
   pub once : (n : ℕ) → length found.history < n → n ≤ length left.history → count_by (λ m. m == n) (flat_map acknowledged (all_replies replies)) ≡ 1
-  -- Whatever a crash leaves of the three devices then opens to the history that is left and to its last edit. Where the log's device
-  -- failed, it may be the history with the one record behind it; where a device of the tables failed, the edit may be the failed one.
+  pub within : (n : ℕ) → length found.history < n → n ≤ length left.history → n ≤ s.limit
+  -- Whatever a crash leaves of the three devices then opens to the history that is left and to its last edit. Where the log failed,
+  -- it may be the history with the one record behind it; where a device of the tables failed, the edit may be the failed one.
   pub crash : CrashOpens faults id left failed s.disks.log.after s.disks.manifest.after s.disks.tables.after
-  -- Of the log: the id that a new one got, and that the history is acknowledged there. Each fault was a device's, whose count rose.
+  -- Of the log: the id that a new one got, and that the history is acknowledged there. For each fault a device's count rose.
   pub stored : IsStored s.disks s.id id found left failed faults
   -- The replies tell of just these faults, and of the last edit.
   pub met : AreMet found.edit left.edit faults (all_replies replies)
-
--- All commands of the script ran, and the text is of just these replies and this history: the transcript, or the summary of a made
--- script.
-abbrev pub IsText : (s : Serving) → (faults : Faults) → Headline s faults s.script → List ℕ → Type 0
-IsText s faults headline text = text ≡ text_of s.action s.script headline.replies headline.left.history

@@ -15,7 +15,7 @@ use Rattle.wp_replies.specs.Kind.{is_fault, is_tables_fault}
 use Rattle.wp_threads.specs.Over.{Answered, replies_of}
 use Rattle.wp_run.specs.declared.status.Status.{Status}
 use Rattle.wp_run.specs.declared.status.Status.TheVariants as status
-use Rattle.wp_run.specs.Headline.{Serving, Headline, IsText}
+use Rattle.wp_run.specs.Headline.{Serving, Headline}
 use Rattle.wp_run.specs.Transcript.{text_of}
 use Rattle.wp_run.specs.Unopened.{IsUnopened}
 use Rattle.wp_run.specs.Use.{SinkUse}
@@ -34,6 +34,11 @@ abbrev pub exactly : (s : Serving) → More s
 exactly s faults run headline = IsExact s.limit headline.found headline.left headline.failed run headline.replies
 
 -- ---- how serving ended
+
+-- All commands of the script ran, and the text is of just these replies and this history: the transcript, or the summary of a
+-- made script.
+abbrev pub IsText : (s : Serving) → (faults : Faults) → Headline s faults s.script → List ℕ → Type 0
+IsText s faults headline text = text ≡ text_of s.action s.script headline.replies headline.left.history
 
 -- The text answers the script, with these faults.
 pub record AnswersScript (s : Serving) (more : More s) (faults : Faults) (text : List ℕ) : Type 0 where

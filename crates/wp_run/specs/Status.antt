@@ -1,5 +1,6 @@
--- The ways to end: the exit status of each, and how far the call came.
-use Rattle.std.specs.Prelude.{◌≡◌, ℕ}
+-- The ways to end: the exit status of each, the line that names it, and how far the call came.
+use Rattle.std.specs.Prelude.{◌≡◌, ℕ, List, codes}
+use mathlib.Core.List.{IsPrefix}
 use Rattle.wp_open.specs.declared.opening.OpenError.{OpenError}
 use Rattle.wp_open.specs.declared.opening.OpenError.TheVariants as open_error
 use Rattle.wp_run.specs.declared.status.Status.{Status}
@@ -16,6 +17,26 @@ code_of status.LogFault = 7
 code_of status.TableFault = 8
 code_of (status.Contents bad) = 9
 code_of (status.OpenFault device) = 10
+
+-- The text that names a status. Behind that of a fault of the script, of the devices' bytes or of a device comes its own text.
+abbrev pub own_text : Status → List ℕ
+own_text status.Ok = codes "wp: ok"
+own_text status.Words = codes "wp: words not accepted"
+own_text status.Memory = codes "wp: out of memory"
+own_text status.SourceFault = codes "wp: script could not be read"
+own_text status.SinkFault = codes "wp: output could not be written"
+own_text (status.Script fault) = codes "wp: "
+own_text status.LogFault = codes "wp: log fault"
+own_text status.TableFault = codes "wp: table fault"
+own_text (status.Contents bad) = codes "wp: contents: "
+own_text (status.OpenFault device) = codes "wp: opening failed: "
+
+-- The line of a status is its text; or it begins with that, where a fault's own text follows, which no contract has.
+abbrev pub IsLine : Status → List ℕ → Type 0
+IsLine (status.Script fault) line = IsPrefix (own_text (status.Script fault)) line
+IsLine (status.Contents bad) line = IsPrefix (own_text (status.Contents bad)) line
+IsLine (status.OpenFault device) line = IsPrefix (own_text (status.OpenFault device)) line
+IsLine end line = line ≡ own_text end
 
 -- The last that a call may have come to: its words, the source, the disks or the sink.
 pub data Stage : Type 0 where

@@ -1,7 +1,10 @@
-ghost use Rattle.std.specs.Prelude.{◌≡◌};
-ghost use Rattle.wp_run.specs.Status.{code_of};
+ghost use mathlib.Core.List.{IsPrefix};
+ghost use Rattle.std.specs.Prelude.{◌≡◌, IfOk};
+ghost use Rattle.std.specs.String.{string_bytes};
+ghost use Rattle.wp_run.specs.Status.{code_of, IsLine};
 
 use std::alloc::{AllocError, Global};
+use std::fmt::Display;
 use wp_open::Bad;
 use wp_outside::Device;
 use wp_text::Fault;
@@ -33,6 +36,15 @@ pub enum Status {
     OpenFault(Device),
 }
 
+/// The text, and behind it that of a fault.
+fn naming<F: Display>(alloc: Global, text: &str, fault: &F) -> Result<String, AllocError>
+    ensures { IfOk result (λ line. IsPrefix text.now (string_bytes line)) }
+{
+    let mut line = text.to_string(alloc)?;
+    line.push_str(&fault.to_string(alloc)?)?;
+    Ok(line)
+}
+
 impl Status {
     /// The exit status of the program: 0 for `Ok`, else 2 to 10.
     pub fn code(&self) -> u8
@@ -53,18 +65,20 @@ impl Status {
     }
 
     /// The line, without its end, that names a status other than `Ok` on standard error. That of `Ok` is never shown.
-    pub fn line(&self, alloc: Global) -> Result<Vec<u8>, AllocError> {
+    pub fn line(&self, alloc: Global) -> Result<Vec<u8>, AllocError>
+        ensures { IfOk result (λ line. IsLine self.now line.items) }
+    {
         let text = match self {
             Status::Ok => "wp: ok".to_string(alloc)?,
             Status::Words => "wp: words not accepted".to_string(alloc)?,
             Status::Memory => "wp: out of memory".to_string(alloc)?,
             Status::SourceFault => "wp: script could not be read".to_string(alloc)?,
             Status::SinkFault => "wp: output could not be written".to_string(alloc)?,
-            Status::Script(fault) => format!(in alloc; "wp: {fault}")?,
+            Status::Script(fault) => naming(alloc, "wp: ", fault)?,
             Status::LogFault => "wp: log fault".to_string(alloc)?,
             Status::TableFault => "wp: table fault".to_string(alloc)?,
-            Status::Contents(bad) => format!(in alloc; "wp: contents: {bad}")?,
-            Status::OpenFault(device) => format!(in alloc; "wp: opening failed: {device}")?,
+            Status::Contents(bad) => naming(alloc, "wp: contents: ", bad)?,
+            Status::OpenFault(device) => naming(alloc, "wp: opening failed: ", device)?,
         };
         Ok(text.into_bytes())
     }

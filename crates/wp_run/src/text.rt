@@ -116,8 +116,8 @@ pub(crate) fn text_of(
     }
 }
 
-/// Writes the text, where there is one. The status says whether it was written whole, and else what failed before: the log, or the
-/// tables.
+/// Writes the text, where there is one. The status says whether it was written whole, and else what failed before: the log, or
+/// the tables.
 pub(crate) fn write_text<K: Sink>(
     sink: &mut K,
     text: Result<Vec<u8>, AllocError>,

@@ -57,8 +57,8 @@ fn script_of<S: Source>(alloc: Global, action: Action, source: &mut S) -> Result
     }
 }
 
-/// Runs the program on the words of its command line, of which the first is its name. Each client of the script runs on a thread of its
-/// own where one can be made, and passes the gate before each of its commands.
+/// Runs the program on the words of its command line, of which the first is its name. Each client of the script runs on a thread
+/// of its own where one can be made, and passes the gate before each of its commands.
 pub fn run<R: Threads + Wait + Sync, D: Disk + Drop + Send, S: Source, K: Sink, G: Gate + Sync>(
     rt: &R,
     alloc: Global,

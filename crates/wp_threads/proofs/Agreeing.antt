@@ -19,6 +19,7 @@ use Rattle.wp_text.specs.declared.reply.Reply.{Reply}
 use Rattle.wp_text.specs.declared.reply.Reply.TheVariants as reply
 use Rattle.wp_core.specs.Lists.{IsIn}
 use Rattle.wp_core.specs.Sound.Actors.{seen_of}
+use Rattle.wp_core.specs.Sound.Locks.{WasPrepared}
 use Rattle.wp_core.specs.Sound.Pasts.{HasDone, IsPast, MadeHolder, IsAccounted, WasInstalled, past_of}
 use Rattle.wp_core.specs.Views.{Account, own, another, prepare_at, Event, claimed, took, locked, told, heard, installed, log_failed, tables_failed, stopped, found_edit, found}
 use Rattle.wp_core.specs.World.{Participant}
@@ -75,7 +76,7 @@ module _ {D : Type 0} {z : SharedState D} {seats : List SeatState} {history : Li
 
   -- another one than this made the holder
   abbrev MadeByOther : Option (List ℕ) → Holder → Type 0
-  MadeByOther key holder = (k l : ℕ) × ((k ≢ 0) ⊎ (l ≢ length before)) × MadeHolder history (of_seats past_of seats) k l key holder
+  MadeByOther key holder = (k l : ℕ) × ((k ≢ 0) ⊎ (l ≢ length before)) × MadeHolder z.opened history (of_seats past_of seats) k l key holder
 
   elsewhere : (k l : ℕ) → k ≡ 0 → (k ≢ 0) ⊎ (l ≢ length before) → l ≢ length before
   elsewhere k l same (inl ne) = absurd (ne same)
@@ -85,21 +86,25 @@ module _ {D : Type 0} {z : SharedState D} {seats : List SeatState} {history : Li
   other_came : (k l : ℕ) (event : Event) → (k ≢ 0) ⊎ (l ≢ length before) → HasDone (of_seats past_of seats) k l event → (d : Did all l event) × ((p : Dialogue → Bool) → p d.own ≡ true → list_any p (before ++ after) ≡ true)
   other_came k l event ne h = let d = done_by k l event h in (d.1, λ p is. other_did p l d.1.own d.1.there (elsewhere k l d.0 ne) is)
 
+  -- the undecided prepare of a name was undecided, and is of that name
+  is_prepared : (from n : ℕ) (name : List ℕ) (key : Option (List ℕ)) → WasPrepared history from n name key → IsPrepares evidence key (Txn name) from
+  is_prepared from n name key (low, high, (p, is, has)) =
+      let f = found_named (take n history) name p is in
+      (p, record { at = n; fresh = (low, high); undecided = f.0; named = (bytes_eq-Decides (name_at (take n history) p) name).0 f.1 }, has)
+
   is_another : (key : Option (List ℕ)) (holder : Holder) → MadeByOther key holder → IsAnother evidence key holder
   is_another None (Txn name) (k, l, ne, inl h) = let o = other_came k l (claimed name) ne h in o.1 (λ (x : Dialogue). comes_to (gets_name name) new_client x.part.commands x.answers) o.0.told
   is_another None (Txn name) (k, l, ne, inr h) = let o = other_came k l (took name) ne h in o.1 (λ (x : Dialogue). comes_to (gets_name name) new_client x.part.commands x.answers) (took_name all l name o.0)
   is_another (Some key) (Txn name) (k, l, ne, inl (begun, h)) = let o = other_came k l (locked key (Txn name)) ne h in inl (o.1 (λ (x : Dialogue). comes_to (stages_key name key) new_client x.part.commands x.answers) o.0.told)
-  is_another (Some key) (Txn name) (k, l, ne, inr (h, has)) = let o = other_came k l (took name) ne h in inr (o.1 (λ (x : Dialogue). comes_to (takes_name name) new_client x.part.commands x.answers) o.0.told, has)
+  is_another (Some key) (Txn name) (k, l, ne, inr (h, (n, has))) = let o = other_came k l (took name) ne h in inr (o.1 (λ (x : Dialogue). comes_to (takes_name name) new_client x.part.commands x.answers) o.0.told, is_prepared (length z.opened) n name (Some key) has)
   is_another (Some key) (Client name) (k, l, ne, h) =
       let o = other_came k l (locked key (Client name)) ne h in
       any_filter (λ (x : Dialogue). comes_to (writes_key key) new_client x.part.commands x.answers) (λ (x : Dialogue). bytes_eq x.part.client name) (before ++ after)
       (o.1 (λ (x : Dialogue). bytes_eq x.part.client name && comes_to (writes_key key) new_client x.part.commands x.answers) (wrote_key all l key name o.0))
   is_another None (Client name) made = tt
 
-  is_prepares : (i : ℕ) (key : Option (List ℕ)) (holder : Holder) (seen n : ℕ) → IsAccounted history (of_seats past_of seats) 0 i key holder seen (prepare_at n) → IsPrepares evidence key holder seen
-  is_prepares i key (Txn name) seen n (low, high, (p, is, has)) =
-      let f = found_named (take n history) name p is in
-      (p, record { at = n; fresh = (low, high); undecided = f.0; named = (bytes_eq-Decides (name_at (take n history) p) name).0 f.1 }, has)
+  is_prepares : (i : ℕ) (key : Option (List ℕ)) (holder : Holder) (seen n : ℕ) → IsAccounted z.opened history (of_seats past_of seats) 0 i key holder seen (prepare_at n) → IsPrepares evidence key holder seen
+  is_prepares i key (Txn name) seen n was = is_prepared seen n name key was
   is_prepares i key (Client name) seen n none = tt
 
   -- ---- the tables

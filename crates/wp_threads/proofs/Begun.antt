@@ -1,10 +1,11 @@
 -- A session begins at a new seat.
-use Rattle.std.proofs.Common.{◌≡◌, ℕ, true, List, [], length, Option, None, refl, sym, subst, ap, arith}
+use Rattle.std.proofs.Common.{◌≡◌, ℕ, ◌≤◌, true, List, [], length, Option, None, refl, sym, subst, ap, arith}
 use Rattle.std.specs.Prelude.{is_some}
 use Rattle.std.specs.FinMap as finite
 use Rattle.std.specs.FinMap.{get-empty}
 use Rattle.wp_model.specs.declared.entry.Entry.{Entry}
 use Rattle.wp_model.specs.Batch.{key_cmp}
+use Rattle.wp_core.specs.Lists.{IsIn}
 use Rattle.wp_core.specs.World.{Actor, Participant, new_participant}
 use Rattle.wp_core.proofs.KeepsSeen.{whole}
 use Rattle.wp_shared.specs.Seats.{SharedState, SeatState}
@@ -57,6 +58,7 @@ module _ {D : Type 0} (z : SharedState D) (found : StoredState) (is_found : IsFo
     holds = holds_new z name s new;
     client = ap (λ (p : Participant). p.client) (is_new z name s new);
     own = ap (λ (p : Participant). p.own) (is_new z name s new);
+    within = of_new z name s new (λ p. (n : ℕ) → IsIn n p.own → n ≤ z.limit) (λ n there. absurd there);
     session = of_new z name s new (λ p. IsSessionTo z found [] [] p new_client) (record {
       progress = known_at_first found;
       is_progress = record { last = let same : length found.history ≡ length z.opened = ap (λ (h : List Entry). length h) is_found.history in omega (arith, same); tables = refl; labels = λ label known. absurd cc };

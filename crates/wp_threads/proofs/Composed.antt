@@ -1,5 +1,5 @@
 -- What all sessions say of the history that is left.
-use Rattle.std.proofs.Common.{◌≡◌, ℕ, suc, ◌+◌, ◌≤◌, Bool, true, List, [], ◌∷◌, ◌++◌, length, length-append, map, refl, sym, subst, ap, ◌∙◌, append_assoc, arith}
+use Rattle.std.proofs.Common.{◌≡◌, ℕ, suc, ◌+◌, ◌<◌, ◌≤◌, Bool, true, List, [], ◌∷◌, ◌++◌, length, length-append, map, refl, sym, subst, ap, ◌∙◌, append_assoc, arith}
 use Rattle.std.specs.Prelude.{count_by}
 use Rattle.std.specs.List.{list_any}
 use mathlib.Core.List.{append-nil}
@@ -26,7 +26,7 @@ use Rattle.wp_answers.specs.Answers.{IsRemembered}
 use Rattle.wp_threads.specs.Explained.{found_in, left_in, failed_in, faults_in, AreWholeParts, HaveRun}
 use Rattle.wp_threads.specs.Over.{Answered, AreOver, replies_of}
 use Rattle.wp_threads.proofs.Agreeing.{agrees}
-use Rattle.wp_threads.proofs.Counted.{once_after, same_replies, weighed, acknowledged_as_owned, remembers}
+use Rattle.wp_threads.proofs.Counted.{once_after, same_replies, weighed, acknowledged_as_owned, published_within, remembers}
 use Rattle.wp_threads.proofs.Exact.{exact}
 use Rattle.wp_threads.proofs.LastEdit.{last_edit}
 use Rattle.wp_threads.proofs.Lists.{count_any}
@@ -127,6 +127,9 @@ module _ {D : Type 0} {z : SharedState D} {seats : List SeatState} {history : Li
     edit = let first = first_past seats all in last_edit ended parts answered over first.0 first.1;
   }
 
+  new_within : (n : ℕ) → length z.opened < n → n ≤ length history → n ≤ z.limit
+  new_within n low high = let owned = ended.owned n in let once = once_after z.opened history n low high in published_within z (found_in ended) n parts answered seats over (omega (arith, owned, once))
+
   -- the sessions of a script, all of whose seats were handed in
   pub have_run : AreAll seats → HaveRun z parts answered history left
   have_run all = record {
@@ -136,5 +139,6 @@ module _ {D : Type 0} {z : SharedState D} {seats : List SeatState} {history : Li
     first = are_first z (found_in ended) parts answered seats over;
     whole = all_ran z (found_in ended) parts answered seats over;
     explained = explains all;
+    within = new_within;
     exact = exact_of parts answered seats ended over all;
   }

@@ -1,8 +1,8 @@
 -- The replies of all clients, counted over the seats.
-use Rattle.std.proofs.Common.{◌≡◌, inl, inr, ℕ, suc, ◌+◌, ◌≤◌, ◌<◌, Bool, true, List, [], ◌∷◌, ◌++◌, length, map, refl, sym, ap, ◌∙◌, arith}
+use Rattle.std.proofs.Common.{◌≡◌, ◌⊎◌, inl, inr, ℕ, zero, suc, ◌+◌, ◌≤◌, ◌<◌, Bool, true, List, [], ◌∷◌, ◌++◌, length, map, refl, sym, subst, ap, ◌∙◌, arith}
 use Rattle.std.specs.Prelude.{◌==◌, ◌||◌, count_by}
 use Rattle.std.specs.List.{flat_map, list_any}
-use Rattle.std.proofs.lemmas.Bool.{or_cases}
+use Rattle.std.proofs.lemmas.Bool.{or_cases, eqb-true}
 use Rattle.std.proofs.lemmas.Bool.Decides.{nat_tests}
 use Rattle.std.proofs.lemmas.List.Concat.{flat_map-cons, flat_map-append}
 use Rattle.std.proofs.lemmas.List.Folds.{list_any-append}
@@ -22,10 +22,14 @@ use Rattle.wp_replies.specs.Kind.{acknowledged}
 use Rattle.wp_replies.specs.Known.{StoredState, Dialogue, answers_in}
 use Rattle.wp_answers.specs.Answers.{IsRemembered}
 use Rattle.wp_threads.specs.Over.{Answered, IsOver, AreOver, replies_of}
-use Rattle.wp_threads.proofs.Lists.{count_append, count_times, any_in}
+use Rattle.wp_threads.proofs.Lists.{count_append, count_times, any_in, counted_in}
 
 pub once_after : (opened history : List Entry) (n : ℕ) → length opened < n → n ≤ length history → once opened history n ≡ 1
 once_after opened history n low high = grind (arith, nat_tests)
+
+none_or_some : (n : ℕ) → (n ≡ 0) ⊎ (1 ≤ n)
+none_or_some zero = inl refl
+none_or_some (suc n) = inr (omega arith)
 
 one_more : (answers : List Reply) (others : List (List Reply)) → all_replies (answers ∷ others) ≡ answers ++ all_replies others
 one_more answers others = flat_map-cons (λ (xs : List Reply). xs) answers others
@@ -60,6 +64,17 @@ module _ {D : Type 0} (z : SharedState D) (found : StoredState) where
       ∙ (ap (λ (k : ℕ). k + count_by (λ m. m == n) (flat_map acknowledged (all_replies (replies_of answered)))) mine
       ∙ ap (λ (k : ℕ). times n s.knows.participant.own + k) (acknowledged_as_owned n parts answered seats over.1))))
   acknowledged_as_owned n _ _ _ over = absurd over
+
+  -- what a seat published is within the limit
+  pub published_within : (n : ℕ) (parts : List Part) (answered : List Answered) (seats : List SeatState) → AreOver z found parts answered seats → 1 ≤ total (times n) (map own_of (map participant_of seats)) → n ≤ z.limit
+  published_within n [] [] [] over some_there = absurd (omega (arith, some_there))
+  published_within n (p ∷ parts) (a ∷ answered) (s ∷ seats) over some_there =
+      let whole : total (times n) (map own_of (map participant_of (s ∷ seats))) ≡ times n s.knows.participant.own + total (times n) (map own_of (map participant_of seats)) = refl in
+      elim (none_or_some (times n s.knows.participant.own)) [
+        | inl none ↦ published_within n parts answered seats over.1 (omega (arith, some_there, whole, none))
+        | inr mine ↦ let k = counted_in (λ m. m == n) s.knows.participant.own mine in subst (λ (m : ℕ). m ≤ z.limit) (eqb-true k.0 n k.2) (over.0.within k.0 k.1)
+      ]
+  published_within n _ _ _ over some_there = absurd over
 
   -- a reply of a kind, with the past that remembers what it speaks of
   pub record Remembers (seats : List SeatState) (p : Reply → Bool) : Type 0 where

@@ -130,6 +130,7 @@ module _ {D : Type 0} (z : SharedState D) (found : StoredState) (part : Part) (a
     holds = holds;
     client = ends.stays.client ∙ g.client;
     own = ends.own ∙ g.own;
+    within = λ n there. g.within n (subst (IsIn n) ends.own there);
     done = done;
     rest = rest;
     commands = commands;

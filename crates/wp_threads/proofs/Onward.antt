@@ -132,6 +132,7 @@ goes_more z found is_found name done answers c r s t h k g a holds alone = recor
   holds = holds;
   client = a.stays.client ∙ g.client;
   own = a.own ∙ (ap (λ (ns : List ℕ). ns ++ acknowledged r) g.own ∙ sym (flat_map-append acknowledged answers (r ∷ []) ∙ ap (λ (ns : List ℕ). flat_map acknowledged answers ++ ns) (flat_map-cons acknowledged r [] ∙ append-nil (acknowledged r))));
+  within = λ n there. ⊎_elim (g.within n) (a.within n) (in_parts n s.knows.participant.own (acknowledged r) (subst (IsIn n) a.own there));
   session = session_more z found is_found name done answers c r s t (client_of h) (client_of k) a g.session;
   explained = explained_more z found is_found name done answers c r s t (client_of h) (client_of k) a g.client g.explained;
   log_failed = counted_more is_fault is_log_fault answers s.knows.participant.past a.events t.knows.participant.past r a.past g.log_failed a.log_failed;

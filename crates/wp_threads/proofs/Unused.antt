@@ -1,5 +1,5 @@
 -- A store that was ended with its first seat alone, at which nothing was done.
-use Rattle.std.proofs.Common.{◌≡◌, inl, inr, ℕ, zero, suc, List, [], ◌∷◌, length, refl, sym, subst, ap, ◌∙◌, arith}
+use Rattle.std.proofs.Common.{◌≡◌, inl, inr, ℕ, zero, suc, ◌<◌, ◌≤◌, List, [], ◌∷◌, length, refl, sym, subst, ap, ◌∙◌, arith}
 use mathlib.Core.Option.{some-injective, some-ne-none}
 use lib.ListN.{get_elem?}
 use Rattle.wp_model.specs.declared.entry.Entry.{Entry}
@@ -44,12 +44,15 @@ module _ {D : Type 0} {z : SharedState D} (client : List ℕ) {history : List En
   none_published : (n : ℕ) → 0 ≡ once z.opened history n
   none_published n = ended.owned n
 
+  none_new : (n : ℕ) → length z.opened < n → n ≤ length history → ⊥
+  none_new n low high = let none = none_published n in let one = once_after z.opened history n low high in omega (arith, none, one)
+
   explains_none : Explains z.limit (faults_in ended) [] [] (found_in ended) (left_in ended) (failed_in ended) []
   explains_none = record {
     legal = ended.legal;
     begins = ended.grown;
     answered = tt;
-    paired = λ n low high. let none = none_published n in let one = once_after z.opened history n low high in absurd (omega (arith, none, one));
+    paired = λ n low high. absurd (none_new n low high);
     log_failed = not_closed;
     stopped = λ said. absurd cc;
     tables_failed = not_halted;
@@ -63,7 +66,16 @@ module _ {D : Type 0} {z : SharedState D} (client : List ℕ) {history : List En
   }
 
   none_ran : HaveRun z [] [] history left
-  none_ran = record { seats = first_seat z client ∷ []; ended = ended; run = []; first = tt; whole = tt; explained = explains_none; exact = tt }
+  none_ran = record {
+    seats = first_seat z client ∷ [];
+    ended = ended;
+    run = [];
+    first = tt;
+    whole = tt;
+    explained = explains_none;
+    within = λ n low high. absurd (none_new n low high);
+    exact = tt;
+  }
 
 -- so nothing of a script without parts ran, and that is all of it
 pub unused_run : {D : Type 0} (z : SharedState D) (client : List ℕ) (seats : List SeatState) (history : List Entry) (left : DevicesLeft) → seats ≡ first_seat z client ∷ [] → IsEnded z seats history left → HaveRun z [] [] history left

@@ -1,5 +1,5 @@
 -- What the sessions of a script leave: replies, a history and devices, and that the one history explains the replies.
-use Rattle.std.specs.Prelude.{◌≡◌, true, List, [], ◌∷◌}
+use Rattle.std.specs.Prelude.{◌≡◌, ℕ, ◌<◌, ◌≤◌, true, List, [], ◌∷◌, length}
 use Rattle.wp_model.specs.declared.entry.Entry.{Entry}
 use Rattle.wp_text.specs.declared.script.Part.{Part}
 use Rattle.wp_core.specs.Lists.{one_if}
@@ -34,7 +34,8 @@ AreWholeParts (part ∷ parts) (first ∷ firsts) (a ∷ answered) = (a.whole �
 AreWholeParts parts firsts answered = ⊥
 
 -- The store ended, with all its seats handed in. The clients were answered so, each to the first of its commands, which are all
--- where its answers are whole; and the history and the devices that are left explain the replies. With one client they are just what is due.
+-- where its answers are whole; and the history and the devices that are left explain the replies. With one client they are just
+-- what is due. No entry since the opening has a number above the limit.
 pub record HaveRun {D : Type 0} (z : SharedState D) (script : List Part) (answered : List Answered) (history : List Entry) (left : DevicesLeft) : Type 0 where
   pub seats : List SeatState
   pub ended : IsEnded z seats history left
@@ -42,4 +43,5 @@ pub record HaveRun {D : Type 0} (z : SharedState D) (script : List Part) (answer
   pub first : AreFirstParts script run
   pub whole : AreWholeParts script run answered
   pub explained : Explains z.limit (faults_in ended) script run (found_in ended) (left_in ended) (failed_in ended) (replies_of answered)
+  pub within : (n : ℕ) → length z.opened < n → n ≤ length history → n ≤ z.limit
   pub exact : IsExact z.limit (found_in ended) (left_in ended) (failed_in ended) run (replies_of answered)

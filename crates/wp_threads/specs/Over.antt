@@ -61,6 +61,7 @@ pub record IsOver {D : Type 0} (z : SharedState D) (found : StoredState) (part :
   pub holds : Holds z s no_holdings
   pub client : s.knows.participant.client ≡ part.client
   pub own : s.knows.participant.own ≡ flat_map acknowledged answered.replies
+  pub within : (n : ℕ) → IsIn n s.knows.participant.own → n ≤ z.limit
   pub done : List Command
   pub rest : List Command
   pub commands : part.commands ≡ done ++ rest

@@ -1,5 +1,5 @@
 -- How far a client's session has come at its seat.
-use Rattle.std.specs.Prelude.{◌≡◌, ℕ, Bool, true, List, ◌++◌, Option, Some, IfSome, count_by}
+use Rattle.std.specs.Prelude.{◌≡◌, ℕ, ◌≤◌, Bool, true, List, ◌++◌, Option, Some, IfSome, count_by}
 use Rattle.std.specs.List.{flat_map}
 use Rattle.wp_model.specs.declared.entry.Entry.{Entry}
 use Rattle.wp_model.specs.Flushed.{InstalledEdit}
@@ -62,12 +62,14 @@ pub record RanAlone {D : Type 0} (z : SharedState D) (found : StoredState) (done
   pub asked : (entries : List Entry) → IsIn (log_failed entries) p.past → FaultAsks is_fault (AsksLog entries) (opened_store z.limit found) new_client done answers
   pub asked_edit : (last edit : InstalledEdit) → IsIn (tables_failed last (Some edit)) p.past → FaultAsks is_tables_fault (AsksTables edit) (opened_store z.limit found) new_client done answers
 
--- So far the client of this name was answered so, at this seat, and has this. Its seat published just what the replies acknowledge,
--- met as many faults as they tell, and remembers what they speak of. If it is the only seat, each reply was due.
+-- So far the client of this name was answered so, at this seat, and has this. Its seat published just what the replies
+-- acknowledge, within the limit, met as many faults as they tell, and remembers what they speak of. If it is the only seat, each
+-- reply was due.
 pub record IsSessionSoFar {D : Type 0} (z : SharedState D) (found : StoredState) (name : List ℕ) (done : List Command) (answers : List Reply) (s : SeatState) (h : HoldingsState) : Type 0 where
   pub holds : Holds z s h
   pub client : s.knows.participant.client ≡ name
   pub own : s.knows.participant.own ≡ flat_map acknowledged answers
+  pub within : (n : ℕ) → IsIn n s.knows.participant.own → n ≤ z.limit
   pub session : IsSessionTo z found done answers s.knows.participant (client_of h)
   pub explained : IsExplainedTo name done answers s.knows.participant.past (client_of h)
   pub log_failed : count_by is_fault answers ≡ log_faults s.knows.participant.past

@@ -82,8 +82,8 @@ fn answer_next<D: Disk + Drop, R: Wait>(
     }
 }
 
-/// Answers the commands in their order, as far as memory is left. Where it is wanting for one, the gate is told of no reply to it: who waits
-/// there for that reply waits as long as the gate lets it.
+/// Answers the commands in their order, as far as memory is left. Where it is wanting for one, the gate is told of no reply to
+/// it: who waits there for that reply waits as long as the gate lets it.
 fn answer_all<D: Disk + Drop, G: Gate, R: Wait>(
     store: &Shared<D>,
     rt: &R,

@@ -2,26 +2,36 @@ use Rattle.std.proofs.Common.{◌≡◌, Ok, Err, Some}
 use Rattle.std.proofs.lemmas.Result.{IfOk-weaker, on_err_weaker}
 use Rattle.wp_text.specs.declared.script.Command.TheVariants as command
 use Rattle.wp_answers.specs.Answers.{IsAnswered}
+use Rattle.wp_answers.specs.Fresh.{NamesPublished}
 use Rattle.wp_answers.specs.Holdings.{HoldingsState, client_of, Holds}
 use Rattle.wp_answers.specs.Replies.{tables_refusal}
 use Rattle.wp_answers.proofs.Compacting.{compacted_answers, not_compacted_answers, not_compacted_breaks, compaction_holds}
+use Rattle.wp_answers.proofs.Fresh.{tables_refused}
 use Rattle.wp_answers.proofs.maintenance.compact.Goals as goal
 
 pub returns-in-Ok-clause-holds : goal.returns-in-Ok-clause-holds
-returns-in-Ok-clause-holds g c = compaction_holds c.args.store.now c.args.seat.now c.compact.new.seat (Ok c.in-Ok.done) (c.in-Ok.ensures {u = tt})
+returns-in-Ok-clause-holds g c = compaction_holds c.args.store.now c.args.seat.now c.compact.new.seat (Ok c.in-Ok.done) ((c.in-Ok.ensures {u = tt}).answers)
 
 pub returns-in-Ok-clause-answered : goal.returns-in-Ok-clause-answered
-returns-in-Ok-clause-answered g c = λ h has. compacted_answers c.args.store.now c.args.seat.now c.compact.new.seat h has c.in-Ok.done (c.in-Ok.ensures {u = tt})
+returns-in-Ok-clause-answered g c = λ h has. compacted_answers c.args.store.now c.args.seat.now c.compact.new.seat h has c.in-Ok.done ((c.in-Ok.ensures {u = tt}).answers)
+
+pub returns-in-Ok-clause-published : goal.returns-in-Ok-clause-published
+returns-in-Ok-clause-published g c = (c.in-Ok.ensures {u = tt}).answers
 
 pub returns-in-Err-clause-holds : goal.returns-in-Err-clause-holds
-returns-in-Err-clause-holds g c = compaction_holds c.args.store.now c.args.seat.now c.compact.new.seat (Err c.in-Err.why) (c.in-Err.ensures {u = tt})
+returns-in-Err-clause-holds g c = compaction_holds c.args.store.now c.args.seat.now c.compact.new.seat (Err c.in-Err.why) ((c.in-Err.ensures {u = tt}).answers)
 
 pub returns-in-Err-clause-answered : goal.returns-in-Err-clause-answered
 returns-in-Err-clause-answered g c =
     let z = c.args.store.now in let s = c.args.seat.now in let t = c.compact.new.seat in let why = c.in-Err.why in
     IfOk-weaker c.tables_refusal.result (λ r. tables_refusal why ≡ Some r) (λ r. (h : HoldingsState) → Holds z s h → IsAnswered z s t (client_of h) (client_of h) command.Compact r)
-    (λ r is h has. not_compacted_answers z s t h has why r is (c.in-Err.ensures {u = tt})) c.tables_refusal.ensures.answered
+    (λ r is h has. not_compacted_answers z s t h has why r is ((c.in-Err.ensures {u = tt}).answers)) c.tables_refusal.ensures.answered
+
+pub returns-in-Err-clause-published : goal.returns-in-Err-clause-published
+returns-in-Err-clause-published g c =
+    let names = NamesPublished c.args.store.now c.args.seat.now c.compact.new.seat command.Compact in let why = c.in-Err.why in
+    IfOk-weaker c.tables_refusal.result (λ r. tables_refusal why ≡ Some r) names (tables_refused names tt tt (λ flushed. tt) why) c.tables_refusal.ensures.answered
 
 pub returns-in-Err-clause-err : goal.returns-in-Err-clause-err
 returns-in-Err-clause-err g c =
-    on_err_weaker c.tables_refusal.result (λ none client. not_compacted_breaks c.args.store.now c.args.seat.now c.compact.new.seat client c.in-Err.why none (c.in-Err.ensures {u = tt})) c.tables_refusal.ensures.err
+    on_err_weaker c.tables_refusal.result (λ none client. not_compacted_breaks c.args.store.now c.args.seat.now c.compact.new.seat client c.in-Err.why none ((c.in-Err.ensures {u = tt}).answers)) c.tables_refusal.ensures.err
