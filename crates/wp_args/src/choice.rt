@@ -11,7 +11,7 @@ use clap::error::ErrorKind;
 use std::alloc::{AllocError, Global};
 
 /// What the program is asked to do.
-#[derive(Clone, Copy, Debug, Drop, PartialEq, Eq)]
+#[derive(Clone, Copy, Drop)]
 pub enum Action {
     /// Run the script on standard input.
     Run,
@@ -29,7 +29,7 @@ pub enum Action {
 }
 
 /// A command with the numbers of its options, given or default.
-#[derive(Clone, Copy, Debug, Drop, PartialEq, Eq)]
+#[derive(Clone, Copy, Drop)]
 pub struct Choice {
     pub action: Action,
     /// The commit cache has two to this power places; 0 to 16.

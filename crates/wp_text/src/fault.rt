@@ -55,7 +55,7 @@ pub enum ScriptError {
 }
 
 /// Why a line could not be read.
-#[derive(Clone, Copy, Debug, PartialEq, Eq)]
+#[derive(Clone, Copy, PartialEq, Eq)]
 pub enum LineError {
     Memory,
     Wrong(Why),

@@ -14,7 +14,7 @@ use wp_model::{Name, Word};
 pub const MOST_LINE_BYTES: usize = 400;
 
 /// What a line says.
-#[derive(Debug, Drop)]
+#[derive(Drop)]
 pub enum Statement {
     /// A client's part begins.
     Client(Name),

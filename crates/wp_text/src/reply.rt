@@ -1,7 +1,7 @@
 use wp_model::{Holder, Name, Seq, Value};
 
 /// What a client is answered for one command. Each number is that of an entry of the one history, 0 before the first.
-#[derive(Debug, Drop)]
+#[derive(Drop)]
 pub enum Reply {
     /// The value is in the history, as the entry with this number.
     Put(Seq),

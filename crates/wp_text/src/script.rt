@@ -3,7 +3,7 @@ use std::marker::Model;
 use wp_model::{Key, Name, Value};
 
 /// One command of a client.
-#[derive(Debug, Drop)]
+#[derive(Drop)]
 pub enum Command {
     /// Write the value under the key.
     Put(Key, Value),
@@ -40,7 +40,7 @@ pub enum Command {
 }
 
 /// The commands of one client, in order.
-#[derive(Debug, Drop)]
+#[derive(Drop)]
 pub struct Commands {
     items: Vec<Command>,
 }
@@ -82,14 +82,14 @@ impl Commands {
 }
 
 /// What one client does.
-#[derive(Debug, Drop)]
+#[derive(Drop)]
 pub struct Part {
     pub client: Name,
     pub commands: Commands,
 }
 
 /// The parts of all clients, in the order of the text.
-#[derive(Debug, Drop)]
+#[derive(Drop)]
 pub struct Script {
     parts: Vec<Part>,
 }
