@@ -1,6 +1,7 @@
 -- Where in the bytes the first fault of a record is, and which it is.
 use Rattle.std.specs.Prelude.{◌≡◌, ◌≢◌, ℕ, ◌+◌, ◌^◌, ◌<◌, ◌≤◌, true, List, [], ◌∷◌, ◌++◌, length, ◌⊎◌}
 use Rattle.std.specs.Int.{w32, to_be_bytes}
+use Rattle.wp_model.specs.Legal.{log_end}
 use Rattle.wp_model.specs.declared.word.TheConstants.{MOST_NAME_BYTES}
 use Rattle.wp_model.specs.declared.entry.Entry.{Entry}
 use Rattle.wp_model.specs.Word.{is_name}
@@ -34,9 +35,9 @@ pub data IsEntriesFault (due kind : ℕ) (bytes : List ℕ) (fault : EncodingErr
   prepare_name : kind ≡ 2 → IsWordFault MOST_NAME_BYTES bytes fault → IsEntriesFault due kind bytes fault
   prepare_batch : (name rest : List ℕ) → kind ≡ 2 → HasName bytes name rest → IsBatchFault rest fault → IsEntriesFault due kind bytes fault
   commit_number : kind ≡ 3 → IsEarlierFault due bytes fault → IsEntriesFault due kind bytes fault
-  no_number_for_close : kind ≡ 4 → 2 ^ 32 ≤ due + 1 → fault ≡ encoding.Word → IsEntriesFault due kind bytes fault
-  undo_number : kind ≡ 4 → due + 1 < 2 ^ 32 → IsEarlierFault due bytes fault → IsEntriesFault due kind bytes fault
-  undo_batch : (p : ℕ) (rest : List ℕ) → kind ≡ 4 → due + 1 < 2 ^ 32 → HasNumberField bytes p rest → IsEarlier due p → IsBatchFault rest fault → IsEntriesFault due kind bytes fault
+  no_number_for_close : kind ≡ 4 → log_end ≤ due + 1 → fault ≡ encoding.Word → IsEntriesFault due kind bytes fault
+  undo_number : kind ≡ 4 → due + 1 < log_end → IsEarlierFault due bytes fault → IsEntriesFault due kind bytes fault
+  undo_batch : (p : ℕ) (rest : List ℕ) → kind ≡ 4 → due + 1 < log_end → HasNumberField bytes p rest → IsEarlier due p → IsBatchFault rest fault → IsEntriesFault due kind bytes fault
 
 -- the number that is due and a kind are there, and what comes after them has the fault
 pub record IsFaultAfterKind (due : ℕ) (bytes : List ℕ) (fault : EncodingError) : Type 0 where

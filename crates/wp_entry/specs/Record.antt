@@ -1,7 +1,8 @@
 -- The records of the log: which lists of entries are one record, and the one spelling of each.
-use Rattle.std.specs.Prelude.{◌≡◌, ℕ, ◌+◌, ◌<◌, ◌≤◌, ◌^◌, Bool, true, ◌&&◌, List, [], ◌∷◌, ◌++◌}
+use Rattle.std.specs.Prelude.{◌≡◌, ℕ, ◌+◌, ◌<◌, ◌≤◌, Bool, true, ◌&&◌, List, [], ◌∷◌, ◌++◌}
 use Rattle.std.specs.Int.{w32, to_be_bytes}
 use Rattle.std.specs.List.{list_all}
+use Rattle.wp_model.specs.Legal.{log_end}
 use Rattle.wp_model.specs.declared.entry.Entry.{Entry}
 use Rattle.wp_model.specs.declared.entry.Entry.TheVariants.{Write, Prepare, Commit, Undo, Close}
 use Rattle.wp_model.specs.Word.{is_name}
@@ -42,14 +43,14 @@ pub record IsEarlier (first p : ℕ) : Type 0 where
 pub record IsRollback (first p q : ℕ) : Type 0 where
   pub same : p ≡ q
   pub earlier : IsEarlier first p
-  pub small : first + 1 < 2 ^ 32
+  pub small : first + 1 < log_end
 
 -- These entries share one record in a log, where the first has that number: one Write, one Prepare, one Commit, or an
 -- Undo with its Close. All numbers fit in four bytes.
 abbrev pub FormRecord : ℕ → List Entry → Type 0
-FormRecord first (Write batch ∷ []) = first < 2 ^ 32
-FormRecord first (Prepare name batch ∷ []) = first < 2 ^ 32
-FormRecord first (Commit p ∷ []) = IsEarlier first p × (first < 2 ^ 32)
+FormRecord first (Write batch ∷ []) = first < log_end
+FormRecord first (Prepare name batch ∷ []) = first < log_end
+FormRecord first (Commit p ∷ []) = IsEarlier first p × (first < log_end)
 FormRecord first (Undo p batch ∷ Close q ∷ []) = IsRollback first p q
 FormRecord first others = ⊥
 

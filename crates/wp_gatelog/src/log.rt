@@ -20,7 +20,7 @@ use std::marker::Model;
 use wp_outside::{Disk, Failed};
 
 /// Why a record was not acknowledged.
-#[derive(Clone, Copy, Debug, PartialEq, Eq)]
+#[derive(Clone, Copy, PartialEq, Eq)]
 pub enum AppendError {
     /// The disk failed, so the record may be in the log or not. The log is closed from now on: open it again.
     DiskFault,

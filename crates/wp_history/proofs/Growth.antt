@@ -1,5 +1,5 @@
 -- How legal histories grow by an entry, and what is at the old numbers.
-use Rattle.std.proofs.Common.{◌≡◌, ℕ, ◌+◌, ◌^◌, ◌<◌, Bool, true, false, ◌||◌, List, [], ◌∷◌, ◌++◌, length, take, Some, refl, sym, ap, ◌∙◌, subst, ⊎_elim, inl, inr, append_assoc, add-one, length-append, arith}
+use Rattle.std.proofs.Common.{◌≡◌, ℕ, ◌+◌, ◌<◌, Bool, true, false, ◌||◌, List, [], ◌∷◌, ◌++◌, length, take, Some, refl, sym, ap, ◌∙◌, subst, ⊎_elim, inl, inr, append_assoc, add-one, length-append, arith}
 use Rattle.std.specs.Prelude.{slice_get}
 use Rattle.std.specs.List.{list_any}
 use Rattle.std.proofs.Math.Seq.{take-append_seam}
@@ -10,7 +10,7 @@ use Rattle.std.proofs.lemmas.Option.{slice_get_within}
 use Rattle.wp_model.specs.declared.entry.Entry.{Entry}
 use Rattle.wp_model.specs.declared.entry.Entry.TheVariants.{Write, Prepare, Commit, Undo, Close}
 use Rattle.wp_model.specs.History.{entry_at, is_prepare, decides, is_undecided}
-use Rattle.wp_model.specs.Legal.{IsLegal, IsLegalNext, NamesUndecided}
+use Rattle.wp_model.specs.Legal.{IsLegal, IsLegalNext, NamesUndecided, log_end}
 use Rattle.wp_model.proofs.Entries.{entry_at_old, prepared_within, undecided_prepared, slice_get_old, slice_get_next}
 
 -- ---- what is at a number
@@ -52,7 +52,7 @@ legal_at history entry legal after n other at =
           subst P front (subst Q its after)
     ]
 
-pub legal_next : (history : List Entry) (entry : Entry) → IsLegal history → IsLegalNext history entry → length history + 1 < 2 ^ 32 → IsLegal (history ++ entry ∷ [])
+pub legal_next : (history : List Entry) (entry : Entry) → IsLegal history → IsLegalNext history entry → length history + 1 < log_end → IsLegal (history ++ entry ∷ [])
 legal_next history entry legal after few = record {
   few = rw length_next few;
   each = legal_at history entry legal after;

@@ -1,8 +1,8 @@
-ghost use Rattle.std.specs.Prelude.{◌≡◌, ◌+◌, ◌-◌, ◌^◌, ◌<◌, ◌≤◌, [], ◌∷◌, ◌++◌, length, IfOk, OnOk, vec_len};
+ghost use Rattle.std.specs.Prelude.{◌≡◌, ◌+◌, ◌-◌, ◌<◌, ◌≤◌, [], ◌∷◌, ◌++◌, length, IfOk, OnOk, vec_len};
 ghost use Rattle.std.specs.Vec.{vec_capacity};
 ghost use Rattle.std.specs.Option.{option_copied};
 ghost use Rattle.wp_model.specs.History.{entry_at, undecided};
-ghost use Rattle.wp_model.specs.Legal.{IsLegal, IsLegalNext};
+ghost use Rattle.wp_model.specs.Legal.{IsLegal, IsLegalNext, log_end};
 ghost use Rattle.wp_history.specs.Growth.{AreAscending, without_decided, undecided_after};
 
 use std::alloc::{AllocError, Global};
@@ -92,7 +92,7 @@ impl History {
     /// The number of the last entry.
     pub fn published(&self) -> Seq
         ensures value { result ≡ length self.now.entries }
-        ensures few { result < 2 ^ 32 }
+        ensures few { result < log_end }
     {
         self.entries.len() as Seq
     }
@@ -127,7 +127,7 @@ impl History {
     /// Adds an entry, in memory that was taken before.
     pub fn push(&mut self, entry: Entry)
         requires legal { IsLegalNext self.old.entries entry }
-        requires few { length self.old.entries + 1 < 2 ^ 32 }
+        requires few { length self.old.entries + 1 < log_end }
         requires room { 1 ≤ self.old.room }
         ensures entries { self.new.entries ≡ self.old.entries ++ entry ∷ [] }
         ensures room { self.new.room ≡ self.old.room - 1 }

@@ -1,17 +1,17 @@
 //! How legal histories grow, and what the store has under a key, over plain lists.
-ghost use Rattle.std.specs.Prelude.{◌≡◌, ◌⊎◌, ℕ, ◌+◌, ◌^◌, ◌<◌, ◌≤◌, true, None, List, [], ◌∷◌, ◌++◌, length};
+ghost use Rattle.std.specs.Prelude.{◌≡◌, ◌⊎◌, ℕ, ◌+◌, ◌<◌, ◌≤◌, true, None, List, [], ◌∷◌, ◌++◌, length};
 ghost use Rattle.wp_model.specs.declared.change.Change.{Change};
 ghost use Rattle.wp_model.specs.declared.entry.Entry.{Entry};
 ghost use Rattle.wp_model.specs.declared.entry.Entry.TheVariants.{Prepare, Undo, Close};
 ghost use Rattle.wp_model.specs.Decision.{IsNewestCommitted, HasNoneCommitted};
 ghost use Rattle.wp_model.specs.History.{undecided, is_undecided, name_at, batch_at, value_at};
-ghost use Rattle.wp_model.specs.Legal.{IsLegal, IsLegalNext, undone_last};
+ghost use Rattle.wp_model.specs.Legal.{IsLegal, IsLegalNext, undone_last, log_end};
 ghost use Rattle.wp_history.specs.Growth.{undecided_after};
 
 /// A legal history grows by each entry that may follow it.
 pub fn legal_grows()
     ensures { (history : List Entry) (entry : Entry) → IsLegal history → IsLegalNext history entry
-        → length history + 1 < 2 ^ 32 → IsLegal (history ++ entry ∷ []) }
+        → length history + 1 < log_end → IsLegal (history ++ entry ∷ []) }
 {}
 
 /// What a legal history begins with is legal.

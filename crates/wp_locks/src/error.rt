@@ -5,7 +5,7 @@ use std::alloc::{AllocError, AllocFailed};
 use wp_model::{Holder, Name};
 
 /// Why a name or a key was not given.
-#[derive(Debug, Drop)]
+#[derive(Drop)]
 pub enum LockError {
     /// Out of memory.
     Memory,
@@ -20,7 +20,7 @@ pub enum LockError {
 }
 
 /// What was handed in with a name that was not given: the client, and in `why` the name.
-#[derive(Debug, Drop)]
+#[derive(Drop)]
 pub struct TakeRefused {
     pub client: Name,
     pub why: LockError,

@@ -2,6 +2,7 @@
 use Rattle.std.specs.Prelude.{◌≡◌, ℕ, ◌<◌, ◌≤◌, ◌^◌, List, [], ◌∷◌, ◌++◌, length}
 use Rattle.std.specs.Int.{w32, w64, to_be_bytes}
 use Rattle.std.specs.List.{flat_map}
+use Rattle.wp_model.specs.Legal.{log_end}
 
 -- the number up to which entries are in tables, and of each table its place and its length, the newest first
 pub record Edit : Type 0 where
@@ -30,7 +31,7 @@ ArePlaces (table ∷ tables) = (table.0 < 2 ^ 64) × (table.1 < 2 ^ 64) × ArePl
 
 -- its numbers fit, and it has no more tables than flushed entries
 pub record IsEdit (edit : Edit) : Type 0 where
-  pub flushed : edit.flushed < 2 ^ 32
+  pub flushed : edit.flushed < log_end
   pub count : length edit.tables ≤ edit.flushed
   pub places : ArePlaces edit.tables
 

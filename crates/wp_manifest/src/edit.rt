@@ -6,7 +6,7 @@ use std::marker::Model;
 use wp_model::Seq;
 
 /// What the tables of a store are. Clauses see the number and the list of tables.
-#[derive(Debug, Drop)]
+#[derive(Drop)]
 pub struct Edit {
     /// The versions of all entries up to this number are in the tables, as far as they are needed; 0 where none is.
     pub flushed: Seq,

@@ -9,7 +9,7 @@ use std::alloc::AllocError;
 use wp_gatelog::AppendError;
 
 /// Why a manifest could not be opened.
-#[derive(Clone, Copy, Debug, PartialEq, Eq)]
+#[derive(Clone, Copy, PartialEq, Eq)]
 pub enum ManifestError {
     /// Out of memory.
     Memory,
@@ -24,7 +24,7 @@ pub enum ManifestError {
 }
 
 /// Why an edit was not installed. The last edit is still the one that was installed before.
-#[derive(Clone, Copy, Debug, PartialEq, Eq)]
+#[derive(Clone, Copy, PartialEq, Eq)]
 pub enum InstallError {
     /// Out of memory. The device was not called.
     Memory,

@@ -2,6 +2,7 @@
 
 ghost use Rattle.std.specs.Prelude.{◌≡◌, ◌<◌, ◌≤◌, ◌^◌, ◌++◌, length, IfOk, OnOk};
 ghost use Rattle.wp_manifest.specs.Edit.{ArePlaces, IsEdit, edit_bytes, place_bytes, places_bytes};
+ghost use Rattle.wp_model.specs.Legal.{log_end};
 
 use crate::edit::Edit;
 use std::alloc::{AllocError, Global};
@@ -30,7 +31,7 @@ fn push_places(out: &mut Vec<u8>, tables: &[(u64, u64)]) -> Result<(), AllocErro
 
 /// Puts the edit's bytes at the end.
 fn push_edit(out: &mut Vec<u8>, edit: &Edit) -> Result<(), AllocError>
-    requires flushed { edit.now.flushed < 2 ^ 32 }
+    requires flushed { edit.now.flushed < log_end }
     requires count { length edit.now.tables ≤ edit.now.flushed }
     ensures pushed { OnOk result (out.new.items ≡ out.old.items ++ edit_bytes edit.now) }
     ensures edit { OnOk result (IsEdit edit.now) }
@@ -42,7 +43,7 @@ fn push_edit(out: &mut Vec<u8>, edit: &Edit) -> Result<(), AllocError>
 
 /// The record that the edit is, as it is written.
 pub(crate) fn frame_edit(alloc: Global, edit: &Edit) -> Result<Frame, AllocError>
-    requires flushed { edit.now.flushed < 2 ^ 32 }
+    requires flushed { edit.now.flushed < log_end }
     requires count { length edit.now.tables ≤ edit.now.flushed }
     ensures spelling { IfOk result (λ frame. frame ≡ edit_bytes edit.now) }
     ensures edit { IfOk result (λ _. IsEdit edit.now) }

@@ -4,7 +4,7 @@ ghost use Rattle.wp_memtable.specs.Bounds.{is_above, is_below, is_between};
 use wp_model::Seq;
 
 /// Numbers between which versions are seen.
-#[derive(Clone, Copy, Debug)]
+#[derive(Clone, Copy)]
 pub(crate) struct Bounds {
     /// Those up to this one are not seen.
     pub above: Option<Seq>,

@@ -76,7 +76,11 @@ pub record IsLegalNext (before : List Entry) (entry : Entry) : Type 0 where
 abbrev pub AreLegal : List Entry → Type 0
 AreLegal history = (n : ℕ) (entry : Entry) → slice_get history n ≡ Some entry → IsLegalNext (take n history) entry
 
+-- each number of an entry is below this: the log has four bytes for it
+abbrev pub log_end : ℕ
+log_end = 2 ^ 32
+
 -- A legal history: few enough entries for their numbers, and each may follow those before it.
 pub record IsLegal (history : List Entry) : Type 0 where
-  pub few : length history < 2 ^ 32
+  pub few : length history < log_end
   pub each : AreLegal history

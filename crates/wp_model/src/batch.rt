@@ -14,7 +14,7 @@ use std::marker::Model;
 pub const MOST_KEYS: usize = 64;
 
 /// Why a change was not taken into a batch.
-#[derive(Clone, Copy, Debug, PartialEq, Eq)]
+#[derive(Clone, Copy, PartialEq, Eq)]
 pub enum SetError {
     /// Out of memory.
     Memory,
@@ -39,7 +39,7 @@ impl<T: Drop> From<AllocFailed<T>> for SetError {
 }
 
 /// The changes of one transaction: at most 64, one for each key, in the order of the keys.
-#[derive(Debug, Drop)]
+#[derive(Drop)]
 pub struct Batch {
     changes: Vec<Change>,
 }

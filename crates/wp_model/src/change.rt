@@ -6,7 +6,7 @@ use crate::word::{Key, Value};
 use std::alloc::{AllocError, Global};
 
 /// What a transaction does to one key.
-#[derive(Debug, Drop)]
+#[derive(Drop)]
 pub enum Change {
     /// The key has the value from now on.
     Put(Key, Value),

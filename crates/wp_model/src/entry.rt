@@ -6,7 +6,7 @@ use crate::word::Name;
 use std::alloc::{AllocError, Global};
 
 /// One entry of a history. The n-th has the number n, from 1 on.
-#[derive(Debug, Drop)]
+#[derive(Drop)]
 pub enum Entry {
     /// A transaction that was written at once: its batch is committed.
     Write(Batch),

@@ -5,7 +5,7 @@ use crate::version::Version;
 use std::marker::Model;
 
 /// A list of versions in the order of their keys, of one key the newest first. No two have the same key and number.
-#[derive(Debug, Drop)]
+#[derive(Drop)]
 pub struct Versions {
     versions: Vec<Version>,
 }

@@ -5,7 +5,7 @@ use wp_outside::Device;
 use wp_table::TableError;
 
 /// What is wrong with the bytes of a store's devices: the first fault.
-#[derive(Debug, Drop, PartialEq, Eq)]
+#[derive(Drop, PartialEq, Eq)]
 pub enum Bad {
     /// The device has no whole head, or one of another magic or version.
     BadHead(Device),

@@ -25,7 +25,7 @@ use wp_store::Store;
 use wp_wal::Wal;
 
 /// Why a store was not opened.
-#[derive(Debug, Drop)]
+#[derive(Drop)]
 pub enum OpenError {
     /// Out of memory.
     Memory,

@@ -64,7 +64,7 @@ pub struct Disks<D> {
 }
 
 /// Names one of a store's devices.
-#[derive(Clone, Copy, Debug, PartialEq, Eq)]
+#[derive(Clone, Copy, PartialEq, Eq)]
 pub enum Device {
     Log,
     Manifest,

@@ -9,7 +9,7 @@ pub trait Gate {
 }
 
 /// Holds nobody back.
-#[derive(Clone, Copy, Debug, PartialEq, Eq)]
+#[derive(Clone, Copy, PartialEq, Eq)]
 pub struct OpenGate;
 
 impl Gate for OpenGate {

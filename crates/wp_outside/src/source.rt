@@ -5,7 +5,7 @@ ghost use Rattle.wp_outside.specs.Source.{Reads};
 use crate::failed::Failed;
 
 /// What a read of a source gave: so many bytes at the front of the buffer, or the end.
-#[derive(Clone, Copy, Debug, PartialEq, Eq)]
+#[derive(Clone, Copy, PartialEq, Eq)]
 pub enum Got {
     Some(usize),
     End,

@@ -12,7 +12,7 @@ use std::alloc::{AllocError, Global};
 const PIECE: usize = 4096;
 
 /// Why a source could not be read to its end.
-#[derive(Debug, Drop)]
+#[derive(Drop)]
 pub enum ReadError {
     /// Out of memory.
     Memory,

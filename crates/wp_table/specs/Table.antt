@@ -2,6 +2,7 @@
 use Rattle.std.specs.Prelude.{◌≡◌, ℕ, zero, suc, ◌+◌, ◌<◌, ◌≤◌, ◌^◌, Bool, true, ◌&&◌, nat_le, nat_lt, List, [], ◌∷◌, ◌++◌, length, take, drop, codes, Option, Some, None}
 use Rattle.std.specs.Int.{w16, w32, w64, to_be_bytes, div_ceil}
 use Rattle.std.specs.List.{flat_map, list_all}
+use Rattle.wp_model.specs.Legal.{log_end}
 use Rattle.wp_model.specs.declared.version.Version.{Version}
 use Rattle.wp_model.specs.Versions.{AreInOrder}
 use Rattle.wp_model.specs.Word.{is_key, is_value}
@@ -54,7 +55,7 @@ table_bytes id versions =
 
 -- the number is from 1 on and fits in four bytes
 abbrev pub is_numbered : Version → Bool
-is_numbered v = nat_le 1 v.number && nat_lt v.number (2 ^ 32)
+is_numbered v = nat_le 1 v.number && nat_lt v.number log_end
 
 -- the entry with the version's number was flushed
 abbrev pub is_flushed : ℕ → Version → Bool

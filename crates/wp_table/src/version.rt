@@ -10,7 +10,7 @@ use std::cmp::Ordering;
 use wp_model::{Seq, Value, Version, Word, WordError};
 
 /// A version in a table, borrowed from its bytes.
-#[derive(Clone, Copy, Debug)]
+#[derive(Clone, Copy)]
 pub struct VersionRef<'a> {
     /// The bytes of the key.
     pub key: &'a [u8],

@@ -1,5 +1,6 @@
 -- What the two devices store while a table is written and an edit is installed.
-use Rattle.std.proofs.Common.{◌≡◌, ◌⊎◌, inl, inr, ℕ, ◌≤◌, ◌<◌, ◌^◌, Bool, true, false, List, [], ◌∷◌, ◌++◌, length, Result, Ok, Err, refl, sym, ap, subst, le_refl, arith}
+use Rattle.std.proofs.Common.{◌≡◌, ◌⊎◌, inl, inr, ℕ, ◌≤◌, ◌<◌, Bool, true, false, List, [], ◌∷◌, ◌++◌, length, Result, Ok, Err, refl, sym, ap, subst, le_refl, arith}
+use Rattle.wp_model.specs.Legal.{log_end}
 use Rattle.wp_model.specs.declared.version.Version.{Version}
 use Rattle.wp_outside.specs.Disk.{Moment, IsImage, IfKnown, Each, Passes, synced, added, after_write, after_sync}
 use Rattle.wp_outside.specs.Faults.{Rose}
@@ -285,7 +286,7 @@ not_asked set edit = record {
 -- ---- the set as it is made
 
 -- the last edit's numbers fit
-last_fits : (edits : List Edit) → Each IsEdit edits → ((last_edit edits).flushed < 2 ^ 32) × (length (last_edit edits).tables ≤ (last_edit edits).flushed)
+last_fits : (edits : List Edit) → Each IsEdit edits → ((last_edit edits).flushed < log_end) × (length (last_edit edits).tables ≤ (last_edit edits).flushed)
 last_fits [] each = (omega arith, omega arith)
 last_fits (edit ∷ []) each = (each.0.flushed, each.0.count)
 last_fits (edit ∷ second ∷ others) each = last_fits (second ∷ others) each.1

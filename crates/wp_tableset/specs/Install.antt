@@ -1,5 +1,6 @@
 -- The parts of a call: a table is written, and then an edit is installed.
-use Rattle.std.specs.Prelude.{◌≡◌, ◌≤◌, ◌<◌, ◌^◌, ℕ, Bool, true, false, List, [], ◌∷◌, ◌++◌, length, Result, OnOk, IfErr}
+use Rattle.std.specs.Prelude.{◌≡◌, ◌≤◌, ◌<◌, ℕ, Bool, true, false, List, [], ◌∷◌, ◌++◌, length, Result, OnOk, IfErr}
+use Rattle.wp_model.specs.Legal.{log_end}
 use Rattle.wp_model.specs.declared.version.Version.{Version}
 use Rattle.wp_outside.specs.Disk.{IfKnown, Passes}
 use Rattle.wp_outside.specs.Faults.{Rose}
@@ -17,7 +18,7 @@ use Rattle.wp_tableset.specs.declared.error.TableSetError.TheVariants.{Memory, F
 -- a set that is not halted may install a further edit, and its last edit has numbers that fit
 pub record IsReady (manifest : ManifestState) (halted : Bool) : Type 0 where
   pub running : halted ≡ false → manifest.log.closed ≡ false
-  pub fits : manifest.edit.flushed < 2 ^ 32
+  pub fits : manifest.edit.flushed < log_end
   pub count : length manifest.edit.tables ≤ manifest.edit.flushed
 
 -- ---- the edit

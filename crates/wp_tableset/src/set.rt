@@ -1,7 +1,8 @@
-ghost use Rattle.std.specs.Prelude.{◌≡◌, ◌≤◌, ◌<◌, ◌^◌, ℕ, true, false, [], ◌∷◌, ◌++◌, List, length, vec_capacity, IfOk, IfErr, OnOk};
+ghost use Rattle.std.specs.Prelude.{◌≡◌, ◌≤◌, ◌<◌, ℕ, true, false, [], ◌∷◌, ◌++◌, List, length, vec_capacity, IfOk, IfErr, OnOk};
 ghost use Rattle.std.specs.Arc.{arc_value};
 ghost use Rattle.std.specs.List.{list_all};
 ghost use Rattle.std.specs.Option.{option_map};
+ghost use Rattle.wp_model.specs.Legal.{log_end};
 ghost use Rattle.wp_model.specs.declared.version.Version.{Version};
 ghost use Rattle.wp_outside.specs.Disk.{IfKnown};
 ghost use Rattle.wp_manifest.specs.Edit.{Edit, no_edit};
@@ -90,7 +91,7 @@ impl<D: Disk> TableSet<D> {
     pub fn edit(&self) -> &Edit
         ensures edit { result.now ≡ self.now.manifest.edit }
         ensures count { length self.now.manifest.edit.tables ≤ self.now.manifest.edit.flushed }
-        ensures fits { self.now.manifest.edit.flushed < 2 ^ 32 }
+        ensures fits { self.now.manifest.edit.flushed < log_end }
     {
         self.manifest.edit()
     }
@@ -109,7 +110,7 @@ impl<D: Disk> TableSet<D> {
         requires numbered { list_all is_numbered versions.now ≡ true }
         requires flushed { list_all (is_flushed flushed) versions.now ≡ true }
         requires later { self.old.manifest.edit.flushed < flushed }
-        requires fits { flushed < 2 ^ 32 }
+        requires fits { flushed < log_end }
         ensures table { IfOk result (λ table. arc_value table ≡ versions.now) }
         ensures installs { (place : ℕ) × Installs self.old self.new (flushed_edit self.old versions.now flushed place) (λ parts. versions.now ∷ parts) result }
         ensures keeps { LosesNoTable self.old self.new }
@@ -159,7 +160,7 @@ impl<D: Disk> TableSet<D> {
         requires some { 1 ≤ length versions.now }
         requires numbered { list_all is_numbered versions.now ≡ true }
         requires flushed { list_all (is_flushed flushed) versions.now ≡ true }
-        requires fits { flushed < 2 ^ 32 }
+        requires fits { flushed < log_end }
         requires count { length places.items < flushed }
         requires room { length places.items < vec_capacity places }
         requires remain { (after : List (List Version) → List (List Version)) × Remain self.old.manifest.edit flushed places.items after }
@@ -185,7 +186,7 @@ impl<D: Disk> TableSet<D> {
     /// Makes the edit the last one.
     fn install(&mut self, edit: Edit) -> Result<(), TableSetError>
         requires running { self.old.halted ≡ false }
-        requires fits { edit.flushed < 2 ^ 32 }
+        requires fits { edit.flushed < log_end }
         requires count { length edit.tables ≤ edit.flushed }
         requires there { LeavesNext self.old edit }
         ensures { InstallsEdit self.old self.new edit result }

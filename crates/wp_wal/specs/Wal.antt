@@ -1,5 +1,6 @@
 -- An open log that stores a history, and what an append makes of it.
-use Rattle.std.specs.Prelude.{◌≡◌, ℕ, ◌+◌, ◌^◌, ◌≤◌, Bool, true, false, List, [], ◌++◌, length, Option, Some, None, Result, OnOk, OnErr}
+use Rattle.std.specs.Prelude.{◌≡◌, ℕ, ◌+◌, ◌≤◌, Bool, true, false, List, [], ◌++◌, length, Option, Some, None, Result, OnOk, OnErr}
+use Rattle.wp_model.specs.Legal.{log_end}
 use Rattle.wp_model.specs.declared.entry.Entry.{Entry}
 use Rattle.wp_outside.specs.Disk.{Moment, IfKnown, Passes}
 use Rattle.wp_outside.specs.Faults.{Rose}
@@ -47,8 +48,8 @@ wal_state log due reserved = record {
 
 -- the numbers before the next one fit in four bytes, those of the entries that are reserved too
 abbrev pub HasNumbers : ℕ → Option Reserved → Type 0
-HasNumbers due None = due ≤ 2 ^ 32
-HasNumbers due (Some reserved) = due + reserved.count ≤ 2 ^ 32
+HasNumbers due None = due ≤ log_end
+HasNumbers due (Some reserved) = due + reserved.count ≤ log_end
 
 -- each image of the moment spells the history, and has it acknowledged
 abbrev pub LeavesHistory : ℕ → List Entry → Moment → Type 0

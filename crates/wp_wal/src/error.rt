@@ -9,7 +9,7 @@ use wp_gatelog::LogError;
 use wp_model::Seq;
 
 /// Why a log could not be opened.
-#[derive(Debug, Drop, PartialEq, Eq)]
+#[derive(Drop, PartialEq, Eq)]
 pub enum WalError {
     /// Out of memory.
     Memory,

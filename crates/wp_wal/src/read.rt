@@ -1,6 +1,7 @@
 //! Reading the history that records spell.
-ghost use Rattle.std.specs.Prelude.{◌≡◌, ◌+◌, ◌≤◌, ◌<◌, ◌^◌, ◌++◌, length, IfOk, IfErr, OnOk};
+ghost use Rattle.std.specs.Prelude.{◌≡◌, ◌+◌, ◌≤◌, ◌<◌, ◌++◌, length, IfOk, IfErr, OnOk};
 ghost use Rattle.wp_entry.specs.Record.{IsRecord};
+ghost use Rattle.wp_model.specs.Legal.{log_end};
 ghost use Rattle.wp_wal.specs.Spelling.{AreEntries};
 ghost use Rattle.wp_wal.specs.Reading.{IsRecordCause, IsRefusedRecord, IsIllegalAmong, TakesRecord};
 
@@ -13,7 +14,7 @@ use wp_model::{Entry, Seq};
 
 /// Puts the entries after the history, up to the first that may not come there: the error is its number.
 fn take_entries(history: &mut History, entries: Vec<Entry>) -> Result<(), Seq>
-    requires few { length history.old.entries + length entries.items < 2 ^ 32 }
+    requires few { length history.old.entries + length entries.items < log_end }
     requires room { length entries.items ≤ history.old.room }
     ensures ok { OnOk result (history.new.entries ≡ history.old.entries ++ entries.items) }
     ensures err { IfErr result (IsIllegalAmong history.old.entries entries.items) }
