@@ -1,5 +1,5 @@
 -- One version more of those that remain, the oldest first.
-use Rattle.std.proofs.Common.{◌≡◌, ℕ, Bool, true, false, ◌&&◌, ◌||◌, not, cond, List, [], ◌∷◌, ◌++◌, reverse, refl, sym, ap, ◌∙◌, subst, append_assoc}
+use Rattle.std.proofs.Common.{◌≡◌, ℕ, Bool, true, false, ◌&&◌, ◌||◌, not, cond, List, [], ◌∷◌, ◌++◌, reverse, refl, sym, ap, ◌∙◌, subst, append_assoc, append-nil}
 use Rattle.std.specs.List.{filter}
 use Rattle.std.specs.Str.{bytes_eq}
 use Rattle.std.proofs.lemmas.Bool.{or_parts}
@@ -61,3 +61,9 @@ module _ (committed : ℕ → ℕ → Bool) (all : List Version) (floor : ℕ) w
       by : (c : Bool) → c ≡ remains committed all floor v → reverse (cond c (retained ++ v ∷ []) retained) ≡ cond (remains committed all floor v) (v ∷ filter (remains committed all floor) had.back) (filter (remains committed all floor) had.back)
       by true e = reverse-append retained (v ∷ []) ∙ ap (λ vs. v ∷ vs) had.remaining ∙ ap (λ c. cond c (v ∷ filter (remains committed all floor) had.back) (filter (remains committed all floor) had.back)) e
       by false e = had.remaining ∙ ap (λ c. cond c (v ∷ filter (remains committed all floor) had.back) (filter (remains committed all floor) had.back)) e
+
+  -- ... of a version that stays, or does not
+  pub remaining_chosen : (front rest retained next : List Version) (v : Version) (stays b : Bool) → AreInOrder all → front ≡ rest ++ cond stays (v ∷ []) [] → b ≡ (says v || starts_with_key (reverse retained) v.key) → next ≡ cond (stays && b) (retained ++ v ∷ []) retained → HasRemaining front retained → HasRemaining rest next
+  remaining_chosen front rest retained next v true b order popped test pushed had = remaining_more front rest retained next v b order popped test pushed had
+  remaining_chosen front rest retained next v false b order popped test pushed had =
+      record { back = had.back; split = had.split ∙ ap (λ vs. vs ++ had.back) (popped ∙ append-nil rest); remaining = ap reverse pushed ∙ had.remaining }

@@ -6,3 +6,4 @@ mod Ends
 mod Lookups
 mod Undone
 pub mod Covers
+pub mod Choosing

@@ -1,12 +1,10 @@
 -- One version more of those that are passed, the newest first.
-use Rattle.std.proofs.Common.{◌≡◌, ℕ, suc, ◌+◌, ◌<◌, Bool, true, false, ◌&&◌, ◌||◌, Less, cond, List, [], ◌∷◌, ◌++◌, length, take, drop, get_or, Option, Some, None, refl, sym, ap, ◌∙◌, subst, drop-cons}
-use Rattle.std.proofs.lemmas.List.{take_more, take-append-drop, append-nil}
-use Rattle.std.specs.List.{filter}
+use Rattle.std.proofs.Common.{◌≡◌, ℕ, suc, ◌+◌, ◌<◌, Bool, true, false, ◌&&◌, ◌||◌, Less, cond, List, [], ◌∷◌, ◌++◌, length, map, take, drop, get_or, Option, Some, None, refl, sym, ap, ◌∙◌, subst, drop-cons}
+use Rattle.std.proofs.lemmas.List.{take_more, take-append-drop, map-append}
 use Rattle.std.specs.Str.{bytes_eq}
 use Rattle.std.specs.Ordering.{nat_cmp}
-use Rattle.std.specs.FinMap as map
+use Rattle.std.specs.FinMap as finite
 use Rattle.std.proofs.lemmas.List.Folds.{list_any-append}
-use Rattle.std.proofs.lemmas.List.Elements.{filter-append}
 use Rattle.std.proofs.lemmas.Slice.Eq.{bytes_eq-Decides}
 use Rattle.wp_model.specs.declared.version.Version.{Version}
 use Rattle.wp_model.specs.Versions.{AreInOrder, version_cmp}
@@ -17,7 +15,7 @@ use Rattle.wp_keep.proofs.Order.{IsAfter, placed_version, after_parts}
 use Rattle.wp_keep.proofs.Any.{any_of, any_newer, none_passed}
 
 abbrev pub Commits : Type 0
-Commits = map.FinMap nat_cmp ℕ
+Commits = finite.FinMap nat_cmp ℕ
 
 -- what is noted tells of each version after these which newer ones are committed
 pub record HasNoted (commits : Commits) (front : List Version) (noted : Option (List ℕ × ℕ)) : Type 0 where
@@ -40,7 +38,7 @@ and_nothing true b = refl
 and_nothing false true = refl
 and_nothing false false = refl
 
-pub noted_more : (commits : Commits) (front : List Version) (v : Version) (noted next : Option (List ℕ × ℕ)) (commit : Option ℕ) → commit ≡ map.get commits v.number → IsNotedKey noted v.key commit next → IsAfter v front → HasNoted commits front noted → HasNoted commits (front ++ v ∷ []) next
+pub noted_more : (commits : Commits) (front : List Version) (v : Version) (noted next : Option (List ℕ × ℕ)) (commit : Option ℕ) → commit ≡ finite.get commits v.number → IsNotedKey noted v.key commit next → IsAfter v front → HasNoted commits front noted → HasNoted commits (front ++ v ∷ []) next
 noted_more commits front v noted next commit is note after had = record { each = each }
   where
     each : (u : Version) → IsAfter u (front ++ v ∷ []) → (n : ℕ) → is_above next u.key n ≡ any_of u.key (λ w. by_commits commits w.number n) (front ++ v ∷ [])
@@ -68,7 +66,7 @@ noted_more commits front v noted next commit is note after had = record { each =
 
 -- ---- whether the version stays
 
-pub stays_by : (commits : Commits) (all front : List Version) (v : Version) (back : List Version) (snapshots : List ℕ) (floor : ℕ) (noted : Option (List ℕ × ℕ)) (commit above : Option ℕ) → all ≡ front ++ v ∷ back → AreInOrder all → HasNoted commits front noted → commit ≡ map.get commits v.number → ((n : ℕ) → is_by above n ≡ is_above noted v.key n) → is_needed (is_by commit) (is_by above) snapshots floor ≡ stays (by_commits commits) all snapshots floor v
+pub stays_by : (commits : Commits) (all front : List Version) (v : Version) (back : List Version) (snapshots : List ℕ) (floor : ℕ) (noted : Option (List ℕ × ℕ)) (commit above : Option ℕ) → all ≡ front ++ v ∷ back → AreInOrder all → HasNoted commits front noted → commit ≡ finite.get commits v.number → ((n : ℕ) → is_by above n ≡ is_above noted v.key n) → is_needed (is_by commit) (is_by above) snapshots floor ≡ stays (by_commits commits) all snapshots floor v
 stays_by commits all front v back snapshots floor noted commit above split order had is tells =
     let place = placed_version front v back (subst AreInOrder split order) in
     let newer : (n : ℕ) → is_by above n ≡ has_newer (by_commits commits) all v n = λ n.
@@ -87,21 +85,17 @@ split_at all i v within is =
 take_next : (all : List Version) (i : ℕ) (v : Version) → i < length all → v ≡ get_or all i v → take (i + 1) all ≡ take i all ++ v ∷ []
 take_next all i v within is = take_more all i v within ∙ ap (λ w. take i all ++ w ∷ []) (sym is)
 
-pub noted_at : (commits : Commits) (all : List Version) (i : ℕ) (v : Version) (noted next : Option (List ℕ × ℕ)) (commit : Option ℕ) → AreInOrder all → i < length all → v ≡ get_or all i v → commit ≡ map.get commits v.number → IsNotedKey noted v.key commit next → HasNoted commits (take i all) noted → HasNoted commits (take (i + 1) all) next
+pub noted_at : (commits : Commits) (all : List Version) (i : ℕ) (v : Version) (noted next : Option (List ℕ × ℕ)) (commit : Option ℕ) → AreInOrder all → i < length all → v ≡ get_or all i v → commit ≡ finite.get commits v.number → IsNotedKey noted v.key commit next → HasNoted commits (take i all) noted → HasNoted commits (take (i + 1) all) next
 noted_at commits all i v noted next commit order within is own note had =
     let split = split_at all i v within is in
     let place = placed_version (take i all) v (drop (suc i) all) (subst AreInOrder split order) in
     subst (λ vs. HasNoted commits vs next) (sym (take_next all i v within is)) (noted_more commits (take i all) v noted next commit own note place.after had)
 
--- the versions so far, and this one where it is needed
-pub retained_at : (commits : Commits) (all : List Version) (i : ℕ) (v : Version) (snapshots : List ℕ) (floor : ℕ) (noted : Option (List ℕ × ℕ)) (commit above : Option ℕ) (needed : Bool) (retained next : List Version) → AreInOrder all → i < length all → v ≡ get_or all i v → HasNoted commits (take i all) noted → commit ≡ map.get commits v.number → ((n : ℕ) → is_by above n ≡ is_above noted v.key n) → needed ≡ is_needed (is_by commit) (is_by above) snapshots floor → retained ≡ filter (stays (by_commits commits) all snapshots floor) (take i all) → next ≡ cond needed (retained ++ v ∷ []) retained → next ≡ filter (stays (by_commits commits) all snapshots floor) (take (i + 1) all)
-retained_at commits all i v snapshots floor noted commit above needed retained next order within is had own tells test before pushed =
+-- whether the versions so far stay, and whether this one does
+pub stay_at : (commits : Commits) (all : List Version) (i : ℕ) (v : Version) (snapshots : List ℕ) (floor : ℕ) (noted : Option (List ℕ × ℕ)) (commit above : Option ℕ) (needed : Bool) (stay next : List Bool) → AreInOrder all → i < length all → v ≡ get_or all i v → HasNoted commits (take i all) noted → commit ≡ finite.get commits v.number → ((n : ℕ) → is_by above n ≡ is_above noted v.key n) → needed ≡ is_needed (is_by commit) (is_by above) snapshots floor → stay ≡ map (stays (by_commits commits) all snapshots floor) (take i all) → next ≡ stay ++ needed ∷ [] → next ≡ map (stays (by_commits commits) all snapshots floor) (take (i + 1) all)
+stay_at commits all i v snapshots floor noted commit above needed stay next order within is had own tells test before pushed =
+    let this : needed ≡ stays (by_commits commits) all snapshots floor v = test ∙ stays_by commits all (take i all) v (drop (suc i) all) snapshots floor noted commit above (split_at all i v within is) order had own tells in
     pushed
-    ∙ by needed (test ∙ stays_by commits all (take i all) v (drop (suc i) all) snapshots floor noted commit above (split_at all i v within is) order had own tells)
-    ∙ ap (λ vs. vs ++ filter (stays (by_commits commits) all snapshots floor) (v ∷ [])) before
-    ∙ sym (filter-append (stays (by_commits commits) all snapshots floor) (take i all) (v ∷ []))
-    ∙ ap (filter (stays (by_commits commits) all snapshots floor)) (sym (take_next all i v within is))
-  where
-    by : (b : Bool) → b ≡ stays (by_commits commits) all snapshots floor v → cond b (retained ++ v ∷ []) retained ≡ retained ++ cond (stays (by_commits commits) all snapshots floor v) (v ∷ []) []
-    by true e = ap (λ c. retained ++ cond c (v ∷ []) []) e
-    by false e = sym (append-nil retained) ∙ ap (λ c. retained ++ cond c (v ∷ []) []) e
+    ∙ (λ j. before j ++ this j ∷ [])
+    ∙ sym (map-append (stays (by_commits commits) all snapshots floor) (take i all) (v ∷ []))
+    ∙ ap (map (stays (by_commits commits) all snapshots floor)) (sym (take_next all i v within is))

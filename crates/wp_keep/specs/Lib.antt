@@ -1,3 +1,4 @@
 pub mod Keep
 pub mod Newer
 pub mod MayGo
+pub mod Chosen

@@ -1,5 +1,6 @@
-ghost use Rattle.std.specs.Prelude.{◌≡◌, ◌||◌, not, ◌++◌, ◌∷◌, [], IfOk, OnOk, reverse, if◌then◌else◌};
+ghost use Rattle.std.specs.Prelude.{◌≡◌, ◌≤◌, ◌||◌, ◌&&◌, not, ◌++◌, ◌∷◌, [], length, IfOk, OnOk, reverse, if◌then◌else◌};
 ghost use Rattle.wp_model.specs.Versions.{AreInOrder};
+ghost use Rattle.wp_keep.specs.Chosen.{chosen};
 ghost use Rattle.wp_keep.specs.Keep.{by_commits, is_settled_deletion, remaining};
 ghost use Rattle.wp_keep.specs.Newer.{starts_with_key};
 
@@ -29,15 +30,19 @@ fn ends_with_key(versions: &[Version], key: &Key) -> bool
     }
 }
 
-/// Puts a version after those that remain, the last of which is next to it, where it remains too.
+/// Puts a version, if it stays, after those that remain, the last of which is next to it, where it remains too.
 fn push_lasting(
     retained: &mut Vec<Version>,
     version: Version,
+    stays: bool,
     commits: &Commits,
     floor: Seq,
 ) -> Result<(), AllocError>
-    ensures { OnOk result (retained.new.items ≡ (if not (is_settled_deletion (by_commits commits.now) floor version) || starts_with_key (reverse retained.old.items) version.key then retained.old.items ++ version ∷ [] else retained.old.items)) }
+    ensures { OnOk result (retained.new.items ≡ (if stays && (not (is_settled_deletion (by_commits commits.now) floor version) || starts_with_key (reverse retained.old.items) version.key) then retained.old.items ++ version ∷ [] else retained.old.items)) }
 {
+    if !stays {
+        return Ok(());
+    }
     if is_settled_deletion(&version, commits, floor) && !ends_with_key(retained, &version.key) {
         return Ok(());
     }
@@ -45,19 +50,23 @@ fn push_lasting(
     Ok(())
 }
 
-/// Leaves out the deletions that are committed at the floor and have nothing else of their key after them.
+/// Of the versions that stay leaves out the deletions that are committed at the floor and have nothing else of their key after them.
+/// Each version is moved.
 pub fn remaining(
     alloc: Global,
     mut versions: Vec<Version>,
+    stay: &[bool],
     commits: &Commits,
     floor: Seq,
 ) -> Result<Vec<Version>, AllocError>
-    requires { AreInOrder versions.items }
-    ensures { IfOk result (λ retained. retained.items ≡ remaining (by_commits commits.now) versions.items floor) }
+    requires each { length versions.items ≤ length stay.now }
+    requires in_order { AreInOrder (chosen versions.items stay.now) }
+    ensures { IfOk result (λ retained. retained.items ≡ remaining (by_commits commits.now) (chosen versions.items stay.now) floor) }
 {
-    let mut retained = Vec::with_capacity(alloc, versions.len())?;
+    let mut retained = Vec::new(alloc);
     while let Some(version) = versions.pop() {
-        push_lasting(&mut retained, version, commits, floor)?;
+        let last = versions.len();
+        push_lasting(&mut retained, version, stay[last], commits, floor)?;
     }
     retained.reverse();
     Ok(retained)

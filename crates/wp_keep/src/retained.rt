@@ -8,19 +8,19 @@ use crate::staying::staying;
 use std::alloc::{AllocError, Global};
 use wp_model::{Seq, Versions};
 
-/// The versions that stay once no reader without a snapshot goes below the floor. `committed` has the pair of each
-/// number that is committed, at least up to the floor.
+/// The versions that stay once no reader without a snapshot goes below the floor. Each of them is moved, and none copied. `committed`
+/// has the pair of each number that is committed, at least up to the floor.
 pub fn keep(
     alloc: Global,
-    versions: &Versions,
+    versions: Versions,
     committed: &[Pair],
     snapshots: &[Seq],
     floor: Seq,
 ) -> Result<Versions, AllocError>
-    ensures retained { IfOk result (λ retained. retained ≡ retained_of (is_committed committed.now) versions.now snapshots.now floor) }
+    ensures retained { IfOk result (λ retained. retained ≡ retained_of (is_committed committed.now) versions snapshots.now floor) }
 {
     let commits = Commits::of(alloc, committed)?;
-    let staying = staying(alloc, versions.as_slice(), &commits, snapshots, floor)?;
-    let retained = remaining(alloc, staying, &commits, floor)?;
+    let stay = staying(alloc, versions.as_slice(), &commits, snapshots, floor)?;
+    let retained = remaining(alloc, versions.into_vec(), &stay, &commits, floor)?;
     Ok(Versions::of(retained))
 }

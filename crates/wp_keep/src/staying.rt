@@ -1,7 +1,7 @@
-ghost use Rattle.std.specs.Prelude.{◌≡◌, ◌&&◌, not, Some, IfOk};
+ghost use Rattle.std.specs.Prelude.{◌≡◌, ◌&&◌, not, Some, map, IfOk};
 ghost use Rattle.std.specs.List.{list_any};
 ghost use Rattle.wp_model.specs.Versions.{AreInOrder};
-ghost use Rattle.wp_keep.specs.Keep.{is_needed, by_commits, staying};
+ghost use Rattle.wp_keep.specs.Keep.{is_needed, by_commits, stays};
 ghost use Rattle.wp_model.specs.Decision.{is_by};
 
 use crate::commits::Commits;
@@ -44,26 +44,24 @@ fn is_needed(commit: Option<Seq>, newer: Option<Seq>, snapshots: &[Seq], floor: 
     is_newest_at_any(commit, newer, snapshots)
 }
 
-/// The versions that are not committed at the floor, and those that are the newest of their key there or at a snapshot.
+/// Which of the versions are not committed at the floor, or are the newest of their key there or at a snapshot.
 pub fn staying(
     alloc: Global,
     versions: &[Version],
     commits: &Commits,
     snapshots: &[Seq],
     floor: Seq,
-) -> Result<Vec<Version>, AllocError>
+) -> Result<Vec<bool>, AllocError>
     requires { AreInOrder versions.now }
-    ensures { IfOk result (λ retained. retained.items ≡ staying (by_commits commits.now) versions.now snapshots.now floor) }
+    ensures { IfOk result (λ stay. stay.items ≡ map (stays (by_commits commits.now) versions.now snapshots.now floor) versions.now) }
 {
-    let mut retained = Vec::new(alloc);
+    let mut stay = Vec::with_capacity(alloc, versions.len())?;
     let mut newer = None;
     for version in versions {
         let commit = commits.commit_of(version.number);
         let above = commit_above(&newer, &version.key);
-        if is_needed(commit, above, snapshots, floor) {
-            retained.push(version.copy(alloc)?)?;
-        }
+        stay.push(is_needed(commit, above, snapshots, floor))?;
         newer = note(newer, &version.key, commit);
     }
-    Ok(retained)
+    Ok(stay)
 }

@@ -118,16 +118,6 @@ impl Store {
         Ok(Versions::of(found))
     }
 
-    /// All versions in memory, those of the frozen parts too.
-    pub fn in_memory(&self) -> Result<Versions, AllocError>
-        ensures { IfOk result (λ all. AreMerged (self.now.memory ∷ self.now.frozen) all) }
-    {
-        let mut sources = Vec::new(self.alloc);
-        sources.push(self.memory.all()?)?;
-        push_frozen(&mut sources, &self.frozen)?;
-        merged(self.alloc, sources)
-    }
-
     /// The frozen parts, for a flush to write.
     pub fn share_frozen(&self) -> Result<FrozenParts, AllocError>
         ensures { IfOk result (λ parts. parts ≡ self.now.frozen) }
