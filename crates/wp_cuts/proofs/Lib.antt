@@ -11,6 +11,8 @@ mod Distinct
 mod LegalCuts
 mod FullLegal
 mod Lawful
+mod Settled
 mod Reopening
 mod Copying
 mod Zero
+mod Keeping

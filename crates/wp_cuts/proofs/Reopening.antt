@@ -1,33 +1,30 @@
 -- What covers a history and has the base in its list is enough to open its cut.
-use Rattle.std.proofs.Common.{◌≡◌, ℕ, zero, suc, ◌≤◌, true, false, not, List, ◌++◌, length, take, Option, Some, None, refl, sym, ap, ◌∙◌, subst, inl, inr, arith}
+use Rattle.std.proofs.Common.{◌≡◌, ℕ, zero, suc, ◌≤◌, true, false, List, length, take, Option, Some, None, refl, sym, ap, ◌∙◌, inl, inr, arith}
 use Rattle.std.specs.Prelude.{is_some}
-use Rattle.std.specs.List.{list_any}
-use Rattle.std.proofs.lemmas.Bool.{cases_lt, cases_order, cases_Bool, and_parts, leb-true, false_from_ne_true}
+use Rattle.std.proofs.lemmas.Bool.{cases_lt, cases_Bool, leb-true}
 use Rattle.std.proofs.lemmas.List.{take_all}
 use Rattle.wp_model.specs.declared.entry.Entry.{Entry}
-use Rattle.wp_model.specs.declared.entry.Entry.TheVariants.{Write, Prepare, Commit, Undo, Close}
 use Rattle.wp_model.specs.declared.version.Version.{Version}
-use Rattle.wp_model.specs.History.{entry_at, is_prepare, decides, is_undecided, is_changed, value_at}
+use Rattle.wp_model.specs.History.{is_undecided, value_at}
 use Rattle.wp_model.specs.Legal.{IsLegal, undone_last}
-use Rattle.wp_model.specs.Decision.{version_in, entry_version, decision_in, decision_of, is_by, is_committed, IsCommittedAt}
+use Rattle.wp_model.specs.Decision.{version_in, entry_version, decision_of, is_by, is_committed, IsCommittedAt}
 use Rattle.wp_model.specs.Versions.{AreInOrder, version_at}
 use Rattle.wp_model.specs.Covered.{GivesStore, IsCovered}
-use Rattle.wp_history.proofs.Growth.{legal_before}
-use Rattle.wp_history.proofs.Counting.{counts, counts_within, counts_from, decided_any, entry_version_old}
-use Rattle.wp_history.proofs.Above.{Holds, legal_none_above, none_above}
+use Rattle.wp_history.proofs.Counting.{entry_version_old}
 use Rattle.wp_cuts.specs.Cut.{Carried, Cut, IsCut, carried_at, is_carried, is_settled, base_value, front_entry_of, full_of}
 use Rattle.wp_cuts.specs.Orderly.{IsLawful}
-use Rattle.wp_cuts.specs.LegalCut.{AreNumbered, IsLegalCut, AreBelow}
+use Rattle.wp_cuts.specs.LegalCut.{AreNumbered, IsLegalCut}
 use Rattle.wp_cuts.specs.Agree.{AgreeFrom}
 use Rattle.wp_cuts.specs.Reopened.{AreFromBase, IsReopened}
 use Rattle.wp_cuts.proofs.Lawful.{legal_lawful}
-use Rattle.wp_cuts.proofs.Decided.{undecided_not_decided, by_committed, settled_counts}
-use Rattle.wp_cuts.proofs.Agreeing.{lawful_naming, cut_front_long, cut_whole, cuts_agree}
+use Rattle.wp_cuts.proofs.Decided.{by_committed}
+use Rattle.wp_cuts.proofs.Agreeing.{lawful_naming, cuts_agree}
 use Rattle.wp_cuts.proofs.Versions.{changes_to}
 use Rattle.wp_cuts.proofs.FullList.{settled_parts, settled_from, front, full_is, front_long, front_at, full_is_cut, full_value, base_newest, base_none}
 use Rattle.wp_cuts.proofs.Standing.{cut_numbered, stands_for}
-use Rattle.wp_cuts.proofs.LegalCuts.{carries, carried_is, cut_is_legal}
+use Rattle.wp_cuts.proofs.LegalCuts.{cut_is_legal}
 use Rattle.wp_cuts.proofs.FullLegal.{full_is_lawful}
+use Rattle.wp_cuts.proofs.Settled.{is_carried_is, settled_committed, committed_settled, below}
 
 -- ---- what is committed
 
@@ -38,18 +35,6 @@ committed_by history p n h = by (decision_of history p) refl h
     by None e is = absurd cc
     by (Some d) e is = record { by = d; decided = e; within = leb-true d n is }
 
-undecided_uncounted_in : (history : List Entry) (p : ℕ) (at : Option Entry) → is_prepare at ≡ true → list_any (decides p) history ≡ false → is_some (decision_in history p at) ≡ false
-undecided_uncounted_in history p None is none = refl
-undecided_uncounted_in history p (Some (Write batch)) is none = absurd cc
-undecided_uncounted_in history p (Some (Prepare name batch)) is none = decided_any history p ∙ none
-undecided_uncounted_in history p (Some (Commit q)) is none = refl
-undecided_uncounted_in history p (Some (Undo q batch)) is none = absurd cc
-undecided_uncounted_in history p (Some (Close q)) is none = refl
-
-undecided_uncounted : (history : List Entry) (p : ℕ) → is_undecided history p ≡ true → counts history p ≡ false
-undecided_uncounted history p undecided_p =
-    undecided_uncounted_in history p (entry_at history p) (and_parts (is_prepare (entry_at history p)) (not (list_any (decides p) history)) undecided_p).0 (undecided_not_decided history p undecided_p)
-
 module _ (history : List Entry) (c : Cut) (versions : List Version) (legal : IsLegal history) (cut : IsCut history c) (order : AreInOrder versions) where
   abbrev before : List Entry
   before = take c.base history
@@ -57,53 +42,13 @@ module _ (history : List Entry) (c : Cut) (versions : List Version) (legal : IsL
   abbrev full : List Entry
   full = full_of c versions
 
-  whole : history ≡ before ++ c.entries
-  whole = cut_whole history c cut
-
-  long : length before ≡ c.base
-  long = cut_front_long history c cut
-
   lawful : IsLawful history
   lawful = legal_lawful history legal
-
-  legal_whole : IsLegal (before ++ c.entries)
-  legal_whole = subst IsLegal whole legal
 
   numbered : AreNumbered c
   numbered = cut_numbered history c cut
 
-  carried_undecided_at : (p : ℕ) (x : Carried) → carried_at c p ≡ Some x → is_undecided before p ≡ true
-  carried_undecided_at p x found = (carried_is history c p x cut found).0
-
-  is_carried_is : (p : ℕ) → is_carried c p ≡ is_undecided before p
-  is_carried_is p = by (carried_at c p) refl
-    where
-      by : (o : Option Carried) → carried_at c p ≡ o → is_some (carried_at c p) ≡ is_undecided before p
-      by (Some x) e = ap is_some e ∙ sym (carried_undecided_at p x e)
-      by None e = ap is_some e ∙ sym (false_from_ne_true (is_undecided before p) (λ h. let some : is_some (carried_at c p) ≡ true = ap is_some (carries history c p cut h) in let none : is_some (carried_at c p) ≡ false = ap is_some e in absurd cc))
-
   module _ (numbers : List ℕ) (from : ℕ) (far : AreFromBase history c.base numbers from) (covered : IsCovered versions history numbers from) where
-    -- ---- of the versions up to the base just the settled ones are committed there
-
-    settled_committed : (key : List ℕ) (p : ℕ) (value : Option (List ℕ)) → is_settled c p ≡ true → version_at versions key p ≡ Some value → IsCommittedAt history p c.base
-    settled_committed key p value settled there =
-        let s = settled_parts c p settled in
-        let within = s.within in
-        let its : entry_version (before ++ c.entries) p key ≡ Some value = ap (λ (h : List Entry). entry_version h p key) (sym whole) ∙ covered.part key p value there in
-        let at = settled_counts before c.entries key p value (omega (arith, within, long)) (sym (is_carried_is p) ∙ s.other) its in
-        subst (λ (h : List Entry). IsCommittedAt h p c.base) (sym whole) (subst (IsCommittedAt (before ++ c.entries) p) long at)
-
-    committed_settled : (key : List ℕ) (p : ℕ) (value : Option (List ℕ)) → version_at versions key p ≡ Some value → IsCommittedAt history p c.base → is_settled c p ≡ true
-    committed_settled key p value there committed =
-        let at : IsCommittedAt (before ++ c.entries) p (length before) = subst (IsCommittedAt (before ++ c.entries) p) (sym long) (subst (λ (h : List Entry). IsCommittedAt h p c.base) whole committed) in
-        let counted = counts_from before c.entries p legal_whole at in
-        let within = counts_within before p counted in
-        settled_from c p (low p (covered.part key p value there)) (omega (arith, within, long)) (is_carried_is p ∙ false_from_ne_true (is_undecided before p) (λ h. let un = undecided_uncounted before p h in absurd cc))
-      where
-        low : (q : ℕ) → entry_version history q key ≡ Some value → 1 ≤ q
-        low zero e = absurd cc
-        low (suc n) e = omega arith
-
     -- ---- the values at the base
 
     none_settled : (key : List ℕ) (q : ℕ) → is_settled c q ≡ true → (IsCommittedAt history q c.base → version_at versions key q ≡ None) → version_at versions key q ≡ None
@@ -111,7 +56,7 @@ module _ (history : List Entry) (c : Cut) (versions : List Version) (legal : IsL
       where
         by : (o : Option (Option (List ℕ))) → version_at versions key q ≡ o → version_at versions key q ≡ None
         by None e = e
-        by (Some value) e = none (settled_committed key q value settled e)
+        by (Some value) e = none (settled_committed history c versions legal cut covered.part key q value settled e)
 
     base_is : (key : List ℕ) → value_at history key c.base ≡ base_value c versions key
     base_is key = by (covered.listed key c.base far.listed)
@@ -119,29 +64,11 @@ module _ (history : List Entry) (c : Cut) (versions : List Version) (legal : IsL
         by : GivesStore versions history key c.base → value_at history key c.base ≡ base_value c versions key
         by (inl g) =
             g.stored ∙ sym (base_newest c versions key g.number g.value order (record {
-              passing = committed_settled key g.number g.value g.there g.committed;
+              passing = committed_settled history c versions legal cut covered.part key g.number g.value g.there g.committed;
               there = g.there;
               newest = λ q lt settled. none_settled key q settled (g.newest q lt);
             }))
         by (inr g) = g.missing ∙ sym (base_none c versions key order (λ q settled. none_settled key q settled (g.none q)))
-
-    -- ---- below what is carried
-
-    below : AreBelow c versions
-    below key q p value x there settled found changed =
-        elim (cases_order q p) [
-          | inl same ↦ let no = (settled_parts c q settled).other in let yes : is_carried c q ≡ true = ap (is_carried c) same ∙ ap is_some found in absurd cc
-          | inr apart ↦ elim apart [
-            | inl lt ↦ lt
-            | inr above ↦
-                let from_cut = carried_is history c p x cut found in
-                let holds : Holds before key p = record { undecided = from_cut.0; changed = ap (λ (y : Carried). is_changed y.batch key) (sym from_cut.1) ∙ changed } in
-                let none = none_above before key p q (legal_none_above before (legal_before before c.entries legal_whole)) cut.whole holds above in
-                let within = (settled_parts c q settled).within in
-                let some : entry_version before q key ≡ Some value = sym (entry_version_old before c.entries q key (omega (arith, within, long))) ∙ ap (λ (h : List Entry). entry_version h q key) (sym whole) ∙ covered.part key q value there in
-                absurd cc
-          ]
-        ]
 
     -- ---- the full list
 
@@ -149,7 +76,7 @@ module _ (history : List Entry) (c : Cut) (versions : List Version) (legal : IsL
     legal_cut = cut_is_legal history c (base_value c versions) lawful cut base_is
 
     full_lawful : IsLawful full
-    full_lawful = full_is_lawful c versions order below legal_cut
+    full_lawful = full_is_lawful c versions order (below history c versions legal cut covered.part) legal_cut
 
     agree : AgreeFrom history full c.base
     agree = cuts_agree history full c (lawful_naming history lawful.each) (lawful_naming full full_lawful.each) cut (full_is_cut c versions numbered) (λ key. base_is key ∙ sym (full_value c versions key numbered order))
@@ -172,7 +99,7 @@ module _ (history : List Entry) (c : Cut) (versions : List Version) (legal : IsL
     part key p value there = elim (cases_lt c.base p) [
       | inl behind ↦ ap (λ (o : Option Entry). version_in o key) (sym (agree.entries p behind)) ∙ covered.part key p value there
       | inr le ↦ elim (cases_Bool (is_carried c p)) [
-        | inl carried ↦ ap (λ (o : Option Entry). version_in o key) (sym (agree.carried p (sym (is_carried_is p) ∙ carried))) ∙ covered.part key p value there
+        | inl carried ↦ ap (λ (o : Option Entry). version_in o key) (sym (agree.carried p (sym (is_carried_is history c versions legal cut covered.part p) ∙ carried))) ∙ covered.part key p value there
         | inr other ↦ settled_version key p (settled_from c p (low p (covered.part key p value there)) le other) ∙ there
       ]
     ]
@@ -235,7 +162,7 @@ module _ (history : List Entry) (c : Cut) (versions : List Version) (legal : IsL
     pub reopened : IsReopened history c versions numbers from
     reopened = record {
       legal = legal_cut;
-      below = below;
+      below = below history c versions legal cut covered.part;
       lawful = full_lawful;
       values = base_is;
       agree = agree;

@@ -50,7 +50,7 @@ changes_to (v ∷ vs) p key = by (v.number == p) refl (changes_to vs p key)
 -- ---- by the order
 
 -- of two versions of a key the one that is first has the greater number
-lesser_number : (v w : Version) → version_cmp v w ≡ Less → v.key ≡ w.key → w.number < v.number
+pub lesser_number : (v w : Version) → version_cmp v w ≡ Less → v.key ≡ w.key → w.number < v.number
 lesser_number v w less same =
     let tied : key_cmp v.key w.key ≡ Equal = ap (λ k. key_cmp k w.key) same ∙ tied_itself nat_list_cmp_total w.key in
     ranked w.number v.number Less (sym less ∙ ap (λ o. ordering_then o (nat_cmp w.number v.number)) tied)

@@ -1,14 +1,16 @@
 //! Which lists have a cut, which agree from its base on, and which cuts are legal, over plain lists.
-ghost use Rattle.std.specs.Prelude.{◌≡◌, ◌↔◌, ℕ, ◌≤◌, None, List, [], ◌∷◌, ◌++◌, length, take};
+ghost use Rattle.std.specs.Prelude.{◌≡◌, ◌↔◌, ℕ, ◌+◌, ◌≤◌, None, List, [], ◌∷◌, ◌++◌, length, take};
 ghost use Rattle.wp_model.specs.declared.entry.Entry.{Entry};
 ghost use Rattle.wp_model.specs.declared.version.Version.{Version};
 ghost use Rattle.wp_model.specs.Covered.{IsCovered};
+ghost use Rattle.wp_model.specs.Flushed.{later_versions};
 ghost use Rattle.wp_model.specs.History.{value_at};
 ghost use Rattle.wp_model.specs.Legal.{IsLegal, undone_last};
 ghost use Rattle.wp_model.specs.Versions.{AreInOrder};
 ghost use Rattle.wp_cuts.specs.Agree.{HaveSameValues, AgreeFrom};
 ghost use Rattle.wp_cuts.specs.Copied.{AreNewest};
 ghost use Rattle.wp_cuts.specs.Cut.{Cut, cut_at, IsCut, base_value, full_of};
+ghost use Rattle.wp_cuts.specs.Kept.{carried_versions, HasKeysAt, AreKept};
 ghost use Rattle.wp_cuts.specs.LegalCut.{AreNumbered, prepares_of, IsLegalCut, AreBelow};
 ghost use Rattle.wp_cuts.specs.Orderly.{IsOrderlyNext, IsLawful};
 ghost use Rattle.wp_cuts.specs.Reopened.{AreFromBase, IsReopened};
@@ -75,4 +77,12 @@ pub fn covered_cut_reopens()
 pub fn zero_is_covered()
     ensures { (versions : List Version) (history : List Entry) (numbers : List ℕ) (from : ℕ)
         → IsCovered versions history numbers from → IsCovered versions history (0 ∷ numbers) from }
+{}
+
+/// What is kept of a store's versions from a base on is no more than the keys that have a value there, what is carried, and what the
+/// entries from there to the floor have.
+pub fn kept_versions_are_few()
+    ensures { (history : List Entry) (c : Cut) (kept : List Version) (keys : List (List ℕ)) (floor : ℕ) → IsLegal history → IsCut history c
+        → c.base ≤ floor → AreKept history c.base floor kept → HasKeysAt history c.base keys
+        → length kept ≤ length keys + (length (carried_versions c.carried) + length (later_versions (take floor history) c.base)) }
 {}
