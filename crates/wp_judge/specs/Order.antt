@@ -1,5 +1,5 @@
 -- In which order a reader loads, and what it concludes. Each definition has the rest of the order after one load.
-use Rattle.std.specs.Prelude.{ℕ, nat_lt, nat_le, ◌==◌, Bool, true, false, not, Option, Some, None, if◌then◌else◌}
+use Rattle.std.specs.Prelude.{ℕ, ◌^◌, nat_lt, nat_le, ◌==◌, Bool, true, false, not, Option, Some, None, if◌then◌else◌}
 use Rattle.wp_judge.specs.declared.observed.Observed.{Observed}
 use Rattle.wp_judge.specs.declared.observed.Load.TheVariants.{FirstWord, FirstMax, DelayedFlag, SecondWord, SecondMax, OldFlag, IsOldCommit}
 use Rattle.wp_judge.specs.declared.observed.Load.TheVariants as load
@@ -32,7 +32,7 @@ ask_second_max r (Some m) = if nat_lt m r.snapshot then Answer true else ask_old
 -- the pair may have come into the cache since the first look
 abbrev pub ask_second_word : Observed → Option ℕ → Asked
 ask_second_word r None = Load SecondWord
-ask_second_word r (Some word) = answered_by (decision_in_word r.version word) r.snapshot (ask_second_max r r.second_max)
+ask_second_word r (Some word) = answered_by (decision_in_word (2 ^ r.bits) r.version word) r.snapshot (ask_second_max r r.second_max)
 
 -- what is delayed and not committed is invisible
 abbrev pub ask_in_prepared : Observed → Option InPrepared → Asked
@@ -53,7 +53,7 @@ ask_first_max r (Some m) = if nat_lt m r.version then Answer false else ask_dela
 
 abbrev pub ask_first_word : Observed → Option ℕ → Asked
 ask_first_word r None = Load FirstWord
-ask_first_word r (Some word) = answered_by (decision_in_word r.version word) r.snapshot (ask_first_max r r.first_max)
+ask_first_word r (Some word) = answered_by (decision_in_word (2 ^ r.bits) r.version word) r.snapshot (ask_first_max r r.first_max)
 
 -- by the snapshot alone, where that decides, and else by what was loaded
 abbrev pub ask : Observed → Asked

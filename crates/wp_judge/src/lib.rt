@@ -9,10 +9,11 @@
 //! That the answer is right, whatever others do between two loads, is what the machine of `wp_core` is for.
 #![tactic(auto)]
 
+pub mod laws;
 mod observed;
 mod order;
 mod words;
 
 pub use observed::{Asked, InPrepared, Load, Observed};
 pub use order::ask;
-pub use words::{pack, unpack};
+pub use words::{LAST_SEQ, count_words, fits, pack, unpack};

@@ -1,7 +1,7 @@
 use wp_model::Seq;
 
 /// What the prepared tables say of a version.
-#[derive(Clone, Copy, Debug, PartialEq, Eq)]
+#[derive(Clone, Copy, PartialEq, Eq)]
 pub enum InPrepared {
     /// Neither the delayed set nor the delayed commits have it.
     Absent,
@@ -12,7 +12,7 @@ pub enum InPrepared {
 }
 
 /// What a reader loads, one at a time.
-#[derive(Clone, Copy, Debug, PartialEq, Eq)]
+#[derive(Clone, Copy, PartialEq, Eq)]
 pub enum Load {
     /// The word at the version's place in the commit cache.
     FirstWord,
@@ -33,7 +33,7 @@ pub enum Load {
 }
 
 /// What a reader is to do by what it loaded.
-#[derive(Clone, Copy, Debug, PartialEq, Eq)]
+#[derive(Clone, Copy, PartialEq, Eq)]
 pub enum Asked {
     /// Make this load.
     Load(Load),
@@ -42,8 +42,10 @@ pub enum Asked {
 }
 
 /// What a reader of one version has loaded so far, as far as it needed to. A word is as it was loaded.
-#[derive(Clone, Copy, Debug, PartialEq, Eq)]
+#[derive(Clone, Copy, PartialEq, Eq)]
 pub struct Observed {
+    /// How many bits a place of the commit cache has: at most 16. By them a word is read.
+    pub bits: u32,
     /// The number of the version.
     pub version: Seq,
     /// The snapshot's number.

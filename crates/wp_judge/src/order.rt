@@ -1,9 +1,9 @@
-ghost use Rattle.std.specs.Prelude.{◌≡◌};
+ghost use Rattle.std.specs.Prelude.{◌≡◌, ◌≤◌, ◌^◌};
 ghost use Rattle.wp_judge.specs.Order as order;
 ghost use Rattle.wp_judge.specs.Words.{decision_in_word};
 
 use crate::observed::{Asked, InPrepared, Load, Observed};
-use crate::words::unpack;
+use crate::words::{count_words, unpack};
 use wp_model::Seq;
 
 /// The next load of a reader, or its answer.
@@ -13,6 +13,7 @@ use wp_model::Seq;
 /// flag says that something is; then the word and the bound once more; and last the old commit map, where its flag says
 /// that it has something.
 pub fn ask(seen: &Observed) -> Asked
+    requires { seen.now.bits ≤ 16 }
     ensures { result ≡ order.ask seen.now }
 {
     if seen.snapshot < seen.version {
@@ -24,7 +25,7 @@ pub fn ask(seen: &Observed) -> Asked
     let Some(word) = seen.first_word else {
         return Asked::Load(Load::FirstWord);
     };
-    match decision_in(word, seen.version) {
+    match decision_in(seen.bits, word, seen.version) {
         Some(c) => Asked::Answer(c <= seen.snapshot),
         None => ask_bound(seen),
     }
@@ -32,6 +33,7 @@ pub fn ask(seen: &Observed) -> Asked
 
 /// After a first word that is another's.
 fn ask_bound(seen: &Observed) -> Asked
+    requires { seen.now.bits ≤ 16 }
     ensures { result ≡ order.ask_first_max seen.now seen.now.first_max }
 {
     let Some(max) = seen.first_max else {
@@ -49,6 +51,7 @@ fn ask_bound(seen: &Observed) -> Asked
 
 /// Where something is delayed.
 fn ask_delayed(seen: &Observed) -> Asked
+    requires { seen.now.bits ≤ 16 }
     ensures { result ≡ order.ask_in_prepared seen.now seen.now.in_prepared }
 {
     match seen.in_prepared {
@@ -61,12 +64,13 @@ fn ask_delayed(seen: &Observed) -> Asked
 
 /// Where the version is not delayed.
 fn ask_again(seen: &Observed) -> Asked
+    requires { seen.now.bits ≤ 16 }
     ensures { result ≡ order.ask_second_word seen.now seen.now.second_word }
 {
     let Some(word) = seen.second_word else {
         return Asked::Load(Load::SecondWord);
     };
-    match decision_in(word, seen.version) {
+    match decision_in(seen.bits, word, seen.version) {
         Some(c) => Asked::Answer(c <= seen.snapshot),
         None => ask_bound_again(seen),
     }
@@ -99,11 +103,13 @@ fn ask_old_commits(seen: &Observed) -> Asked
     }
 }
 
-/// The number that decides the version, if the word is the version's.
-fn decision_in(word: u64, version: Seq) -> Option<Seq>
-    ensures { result ≡ decision_in_word version word }
+/// The number that decides the version, if the word at its place is the version's.
+fn decision_in(bits: u32, word: u64, version: Seq) -> Option<Seq>
+    requires { bits ≤ 16 }
+    ensures { result ≡ decision_in_word (2 ^ bits) version word }
 {
-    match unpack(word) {
+    let place = (version % count_words(bits)) as usize;
+    match unpack(bits, place, word) {
         Some((p, c)) if p == version => Some(c),
         _ => None,
     }

@@ -1,32 +1,23 @@
 -- Numbers in ascending order, and what a search among them finds.
-use Rattle.std.proofs.Common.{◌≡◌, ℕ, ◌+◌, ◌-◌, ◌<◌, ◌≤◌, cond, false, inl, inr, List, ◌∷◌, length, get_or, Result, Ok, Err, sym, ap, ◌∙◌, subst, arith}
+use Rattle.std.proofs.Common.{◌≡◌, ℕ, ◌+◌, ◌-◌, ◌<◌, cond, false, inl, inr, List, ◌∷◌, length, get_or, Result, Ok, Err, sym, ap, ◌∙◌, arith}
 use Rattle.std.specs.Cmp.{unsigned_tied, nat_cmp_total}
 use Rattle.std.specs.Ordering.{nat_cmp, eq_by_cmp}
-use Rattle.std.specs.Result.{MatchResult, is_ok}
-use Rattle.std.specs.List.Sorted.{IsStrictlyIncreasing, IsBinarySearchResult}
+use Rattle.std.specs.Result.{is_ok}
+use Rattle.std.specs.List.Sorted.{IsStrictlyIncreasing}
 use Rattle.std.specs.List.{insert, remove, IsDistinct}
 use Rattle.std.specs.FinSet as set
 use Rattle.std.specs.FinSet.{contains-from_list}
 use Rattle.std.proofs.lemmas.Bool.{eq-eqb, ne_eqb, cases_lt, cases_order}
-use Rattle.std.proofs.lemmas.List.Edits.{length-insert, get_or-insert_below, get_or-insert_at, get_or-insert_above}
+use Rattle.std.proofs.lemmas.List.Edits.{length-insert, get_or-insert_below, get_or-insert_at, get_or-insert_above, length-remove, get_or-remove_below, get_or-remove_above}
 use Rattle.std.proofs.lemmas.Grind.{get_or_default_zero}
 use Rattle.std.proofs.lemmas.List.Folds.{list_any_at, list_any_none}
-use Rattle.std.proofs.lemmas.List.Sorted.{searched, list_any-IsPermutation, IsPermutation-insert, IsPermutation-remove}
-use Rattle.std.proofs.lemmas.Map.Keys.{sorted_from_strictly_increasing, non_decreasing_from_sorted, IsDistinct-from_sorted, IsDistinct-head, IsDistinct-IsPermutation}
+use Rattle.std.proofs.lemmas.List.Sorted.{list_any-IsPermutation, IsPermutation-insert, IsPermutation-remove}
+use Rattle.std.proofs.lemmas.Map.Keys.{sorted_from_strictly_increasing, IsDistinct-from_sorted, IsDistinct-head, IsDistinct-IsPermutation}
+use Rattle.wp_prepared.specs.DelayedSet.{IsPlace}
 use Rattle.wp_prepared.proofs.Sets.{has, set_of_numbers, same_either_way, from_list_same, from_list_inserted, from_list_removed, has_none, has-tail, has_settled}
 
-distinct_from_rising : (xs : List ℕ) → IsStrictlyIncreasing xs → IsDistinct (eq_by_cmp nat_cmp) xs
+pub distinct_from_rising : (xs : List ℕ) → IsStrictlyIncreasing xs → IsDistinct (eq_by_cmp nat_cmp) xs
 distinct_from_rising xs rising = IsDistinct-from_sorted nat_cmp xs (sorted_from_strictly_increasing xs rising)
-
--- p is at i, or belongs there
-abbrev pub IsPlace : List ℕ → ℕ → Result ℕ ℕ → Type 0
-IsPlace xs p r =
-    MatchResult r (λ i. (i < length xs) × (get_or xs i 0 ≡ p)) (λ i. (i ≤ length xs) × ((k : ℕ) → k < i → get_or xs k 0 < p) × ((k : ℕ) → i ≤ k → k < length xs → p < get_or xs k 0))
-
--- what a search for p in the slice ys answered, where ys is xs and the answer was matched as s
-pub place_of : (xs : List ℕ) (p : ℕ) (ys : List ℕ) (r s : Result ℕ ℕ) → IsStrictlyIncreasing xs → ys ≡ xs → IsBinarySearchResult (λ y. nat_cmp y p) ys r → r ≡ s → IsPlace xs p s
-place_of xs p ys r s rising same found is =
-    subst (IsPlace xs p) is (searched xs p r (rw same at found) (λ i j. non_decreasing_from_sorted xs (sorted_from_strictly_increasing xs rising) i j 0))
 
 -- a search answers Ok exactly for a number that is there
 pub is_ok-place : (xs : List ℕ) (p : ℕ) (r : Result ℕ ℕ) → IsPlace xs p r → is_ok r ≡ has xs p
@@ -59,6 +50,27 @@ rising-insert xs p i place rising k fits =
             let here = get_or-insert_above xs i p 0 (k - 1) (omega arith) place.0 in
             let next = get_or-insert_above xs i p 0 k (omega arith) place.0 in
             omega (arith, rising (k - 1) (omega arith), ap (λ j. get_or (insert xs i p) j 0) before, ap (λ j. get_or xs j 0) before)
+      ]
+    ]
+
+-- without one the others are in order
+pub rising-remove : (xs : List ℕ) (i : ℕ) → i < length xs → IsStrictlyIncreasing xs → IsStrictlyIncreasing (remove xs i)
+rising-remove xs i lt rising k fits =
+    let long = length-remove xs i lt in
+    elim (cases_lt (k + 1) i) [
+      | inl before ↦
+          let here = get_or-remove_below xs i 0 k (omega arith) lt in
+          let next = get_or-remove_below xs i 0 (k + 1) before lt in
+          omega (arith, rising k (omega arith))
+      | inr rest ↦ elim (cases_lt k i) [
+        | inl below ↦
+            let here = get_or-remove_below xs i 0 k below lt in
+            let next = get_or-remove_above xs i 0 (k + 1) (omega arith) lt in
+            omega (arith, rising k (omega arith), rising (k + 1) (omega arith))
+        | inr above ↦
+            let here = get_or-remove_above xs i 0 k above lt in
+            let next = get_or-remove_above xs i 0 (k + 1) (omega arith) lt in
+            omega (arith, rising (k + 1) (omega arith))
       ]
     ]
 

@@ -1,7 +1,9 @@
 pub mod Ascending
+pub mod Commits
 pub mod Firsts
 pub mod Maps
 pub mod Members
 pub mod Moves
+pub mod Numbered
 pub mod Queues
 pub mod Sets

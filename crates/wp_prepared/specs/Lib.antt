@@ -1,3 +1,4 @@
 pub mod DelayedSet
 pub mod Least
+pub mod Passed
 pub mod Queue

@@ -1,40 +1,38 @@
-ghost use Rattle.std.specs.Prelude.{◌≡◌, ℕ, ◌≤◌, ◌&&◌, ◌||◌, nat_lt, nat_le, false, IsOk, IfOk, OnOk, OnErr, MatchOption, IsTrue, ◌↔◌};
+ghost use Rattle.std.specs.Prelude.{◌≡◌, ℕ, ◌≤◌, ◌&&◌, ◌||◌, nat_lt, nat_le, true, false, IfOk, OnOk, OnErr, MatchOption, IsTrue, ◌↔◌};
 ghost use Rattle.std.specs.FinSet as set;
 ghost use Rattle.std.specs.FinMap as map;
 ghost use Rattle.std.specs.List.Sorted.{IsStrictlyIncreasing};
-ghost use Rattle.wp_model.specs.PreparedTables.{nothing_prepared, is_prepared, commits_with, NonePrepared, IsSmallest, NoneDelayed};
+ghost use Rattle.wp_model.specs.PreparedTables.{nothing_prepared, commits_with, NonePrepared, IsSmallest, NoneDelayed};
 ghost use Rattle.wp_prepared.specs.Least.{AreBelow};
+ghost use Rattle.wp_prepared.specs.Passed.{NonePassed, IsFirstPassed};
 
 use crate::delayed::DelayedSet;
 use crate::heap::PreparedHeap;
 use std::alloc::{AllocError, Global};
-use std::collections::BTreeMap;
 use std::marker::Model;
 use wp_model::Seq;
 
 /// The prepared heap, the delayed set and the delayed commits, which the holder of the prepared turn changes.
 ///
-/// A delayed commit (p, c) tells a reader who finds p's word gone that p is committed as c. The delayed set has
-/// memory for each number of the heap at all times: the bound may have to pass numbers whose entries are logged, and
-/// there want of memory can't be answered any more.
+/// A delayed commit (p, c) tells a reader who finds no word of p that p is committed as c. The delayed set has memory for each number
+/// of the heap at all times, and for a commit of each number that it has: the bound may have to pass numbers whose entries are logged,
+/// and a pair may be too wide for its word, where want of memory can't be answered any more.
 #[derive(Drop)]
 pub struct Prepared {
     heap: PreparedHeap,
     delayed: DelayedSet,
-    delayed_commits: BTreeMap<Seq, Seq>,
 }
 
 impl Model for Prepared {
     ghost use Rattle.std.specs.Prelude.{◌≤◌};
     ghost use Rattle.std.specs.FinSet as set;
-    ghost use Rattle.std.specs.FinMap as map;
     ghost use Rattle.wp_model.specs.PreparedTables.{PreparedTables, prepared_tables_code};
 
     ghost Value = { PreparedTables };
 
     ghost coded = { prepared_tables_code };
 
-    ghost view = { λ t. record { heap = t.heap; delayed = t.delayed.numbers; delayed_commits = map.from_entries t.delayed_commits.entries } };
+    ghost view = { λ t. record { heap = t.heap; delayed = t.delayed.numbers; delayed_commits = t.delayed.commits } };
 
     ghost invariant = { λ t. set.len t.heap ≤ t.delayed.room };
 }
@@ -46,7 +44,6 @@ impl Prepared {
         Prepared {
             heap: PreparedHeap::new(alloc),
             delayed: DelayedSet::new(alloc),
-            delayed_commits: BTreeMap::new(alloc),
         }
     }
 
@@ -61,7 +58,6 @@ impl Prepared {
         Ok(Prepared {
             heap: PreparedHeap::new(alloc),
             delayed,
-            delayed_commits: BTreeMap::new(alloc),
         })
     }
 
@@ -88,17 +84,30 @@ impl Prepared {
         }
     }
 
-    /// Keeps the pair (`p`, `c`), which is about to leave its word of the commit cache, where `p` is still
-    /// here. Only then does it take memory.
-    pub fn note_evicted(&mut self, p: Seq, c: Seq) -> Result<(), AllocError>
-        ensures ok { OnOk result (self.new ≡ record self.old { delayed_commits = commits_with self.old p c }) }
-        ensures err { OnErr result (self.new ≡ self.old) }
-        ensures elsewhere { is_prepared self.old p ≡ false → IsOk result }
+    /// Keeps the pair (`p`, `c`), which is about to leave its word of the commit cache, where `p` is still here. The bound has passed
+    /// `c` before, so `p` is in the heap no more. It takes no memory.
+    pub fn note_evicted(&mut self, p: Seq, c: Seq)
+        requires { set.contains self.old.heap p ≡ false }
+        ensures { self.new ≡ record self.old { delayed_commits = commits_with self.old p c } }
     {
-        if self.is_prepared(p) {
-            self.delayed_commits.insert(p, c)?;
+        if self.delayed.contains(p) {
+            self.delayed.add_commit(p, c);
         }
-        Ok(())
+    }
+
+    /// Keeps the pair (`p`, `c`), which is too wide for a word of the commit cache: the bound has passed `p` before. It takes no memory.
+    pub fn add_commit(&mut self, p: Seq, c: Seq)
+        requires { set.contains self.old.delayed p ≡ true }
+        ensures { self.new ≡ record self.old { delayed_commits = map.insert self.old.delayed_commits p c } }
+    {
+        self.delayed.add_commit(p, c);
+    }
+
+    /// Of the delayed commits that are at most `m` the one of the least number. Where none is, it takes constant time.
+    pub fn passed(&self, m: Seq) -> Option<(Seq, Seq)>
+        ensures { MatchOption result (NonePassed self.now.delayed_commits m) (IsFirstPassed self.now.delayed_commits m) }
+    {
+        self.delayed.passed(m)
     }
 
     /// Takes out the number of a transaction that is decided, with its delayed commit.
@@ -109,14 +118,13 @@ impl Prepared {
     {
         self.heap.remove(p);
         self.delayed.remove(p);
-        self.delayed_commits.remove(&p);
     }
 
     /// Whether the delayed set and the delayed commits are both empty, in constant time.
     pub fn none_delayed(&self) -> bool
         ensures { IsTrue result ↔ NoneDelayed self.now }
     {
-        self.delayed.is_empty() && self.delayed_commits.is_empty()
+        self.delayed.is_empty()
     }
 
     /// Whether the number is in the delayed set.
@@ -126,17 +134,11 @@ impl Prepared {
         self.delayed.contains(p)
     }
 
-    /// The commit number of the pair of `p` that was evicted while `p` was here.
+    /// The number that decides `p`, where that is a delayed commit.
     pub fn commit_of(&self, p: Seq) -> Option<Seq>
         ensures { result ≡ map.get self.now.delayed_commits p }
     {
-        self.delayed_commits.get(&p).copied()
-    }
-
-    fn is_prepared(&self, p: Seq) -> bool
-        ensures { result ≡ is_prepared self.now p }
-    {
-        self.heap.contains(p) || self.delayed.contains(p)
+        self.delayed.commit_of(p)
     }
 
     /// The least number that is in the heap or in the delayed set.

@@ -24,6 +24,6 @@ loop-p-preserved c =
           ∙ ap (λ s. set.contains (set.insert d c.in-Some.p) q || (set.contains s q && nat_le q m)) e.popped
           ∙ delayed_grows h d c.in-Some.p m e.was_there e.up_to q
           ∙ c.loop-p.invariant.delayed q;
-      delayed_commits = c.loop-p.invariant.delayed_commits;
+      delayed_commits = c.insert.ensures.commits ∙ c.loop-p.invariant.delayed_commits;
       room = omega (arith, len-without _ _ e.was_there, ap set.len e.popped);
     }

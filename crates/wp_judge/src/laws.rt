@@ -1,0 +1,11 @@
+//! Words of some pairs.
+ghost use Rattle.std.specs.Prelude.{◌≡◌, ◌-◌, ◌^◌, Some};
+ghost use Rattle.wp_judge.specs.Words.{word_of, pair_of};
+
+/// In caches of one word, of 2^10 and of 2^16, where the last pair has the greatest number.
+pub fn some_pairs_have_these_words()
+    ensures least { word_of (2 ^ 0) (record { number = 2; decision = 3 }) ≡ 514 }
+    ensures packed { word_of (2 ^ 10) (record { number = 1026; decision = 1030 }) ≡ 262149 }
+    ensures unpacked { pair_of (2 ^ 10) 2 262149 ≡ Some (record { number = 1026; decision = 1030 }) }
+    ensures greatest { word_of (2 ^ 16) (record { number = 2 ^ 56 - 1; decision = 2 ^ 56 - 1 }) ≡ 18446744073692774401 }
+{}
