@@ -24,7 +24,7 @@ pub record ActorParts (w : World) (actors : List Actor) : Type 0 where
   pub learned : AreLearned w.writes.history (map learned_of actors)
   pub held : EachAt (AreHeld w.holders (content_of w)) (map held_of actors)
   pub have : HoldersHave w.holders (map held_of actors)
-  pub readers : AreReaders w.writes.history w.max_evicted w.cache (map reader_of actors)
+  pub readers : AreReaders w.writes.history w.max_evicted w.cache w.prepared.delayed_commits w.snapshots (map reader_of actors)
   pub judged : AreJudged w.writes.history (map reader_of actors)
   pub noted : AreNoted w.holders (SoIn w) (map noter_of actors)
   pub led : AreLed (map role_of actors)

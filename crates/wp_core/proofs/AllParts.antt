@@ -3,6 +3,8 @@
 use Rattle.std.proofs.Common.{◌≡◌, ◌≢◌, ℕ, true, false, not, List, ◌∷◌, length, map, set, sym, subst}
 use mathlib.Core.Option.{some}
 use lib.ListN.{get_elem?}
+use Rattle.std.specs.Ordering.{nat_cmp}
+use Rattle.std.specs.FinMap as finite
 use Rattle.wp_model.specs.declared.entry.Entry.{Entry}
 use Rattle.wp_model.specs.LockTables.{LockTables}
 use Rattle.wp_model.specs.PreparedTables.{PreparedTables}
@@ -36,9 +38,9 @@ use Rattle.wp_core.proofs.Changed.{others_hold, holds_changed, have_changed}
 pub record TableParts (opened : List Entry) (d : WriteTable) (max delayed_flag old_flag : ℕ) (words : List ℕ) (t : PreparedTables) (m : Snapshots) (st : StoreTable) (e : Installed) (h : Holders) : Type 0 where
   pub history : IsHistory opened d max
   pub cache : IsCache d.history d.pending words
-  pub decided : AreDecided d.history words max m
+  pub decided : AreDecided d.history words t.delayed_commits max m
   pub undecided : AreUndecided d.history d.pending t max
-  pub delayed : AreDelayed d.history t words
+  pub delayed : AreDelayed d.history d.pending t words
   pub flags : AreFlags delayed_flag old_flag t m h.prepared h.snapshots
   pub versions : IsStored d.history d.pending m st e
   pub settled : IsSettled h.tables st e.last
@@ -64,8 +66,8 @@ pub record TurnParts (h : Holders) (contents : Turn → Content) (actors : List 
   pub held : EachAt (AreHeld h contents) (map held_of actors)
   pub have : HoldersHave h (map held_of actors)
 
-pub record ReaderParts (history : List Entry) (max : ℕ) (words : List ℕ) (actors : List Actor) : Type 0 where
-  pub readers : AreReaders history max words (map reader_of actors)
+pub record ReaderParts (history : List Entry) (max : ℕ) (words : List ℕ) (commits : finite.FinMap nat_cmp ℕ) (m : Snapshots) (actors : List Actor) : Type 0 where
+  pub readers : AreReaders history max words commits m (map reader_of actors)
   pub judged : AreJudged history (map reader_of actors)
 
 -- the groups of a world, whoever its actors are
@@ -85,7 +87,7 @@ abbrev pub TurnsOf : World → List Actor → Type 0
 TurnsOf w actors = TurnParts w.holders (content_of w) actors
 
 abbrev pub ReadersOf : World → List Actor → Type 0
-ReadersOf w actors = ReaderParts w.writes.history w.max_evicted w.cache actors
+ReadersOf w actors = ReaderParts w.writes.history w.max_evicted w.cache w.prepared.delayed_commits w.snapshots actors
 
 -- what is noted in a world
 abbrev pub SoIn : World → Participant → Fact → Type 0
@@ -167,8 +169,8 @@ module _ (w : World) (by : ℕ) (a b : Actor) (at : get_elem? w.actors by ≡ so
     edits = kept_part (participants_of past_of) (AreEdits first e) same k.edits;
   }
 
-  pub readers_kept : (history : List Entry) (max : ℕ) (words : List ℕ) → reader_of b ≡ reader_of a → ReaderParts history max words w.actors → ReaderParts history max words (set w.actors by b)
-  readers_kept history max words same k = record { readers = kept_part reader_of (AreReaders history max words) same k.readers; judged = kept_part reader_of (AreJudged history) same k.judged }
+  pub readers_kept : (history : List Entry) (max : ℕ) (words : List ℕ) (commits : finite.FinMap nat_cmp ℕ) (m : Snapshots) → reader_of b ≡ reader_of a → ReaderParts history max words commits m w.actors → ReaderParts history max words commits m (set w.actors by b)
+  readers_kept history max words commits m same k = record { readers = kept_part reader_of (AreReaders history max words commits m) same k.readers; judged = kept_part reader_of (AreJudged history) same k.judged }
 
   -- the same of the groups of this world
   pub views_still : viewer_of b ≡ viewer_of a → IsSound w → ViewsOf w (set w.actors by b)
@@ -181,7 +183,7 @@ module _ (w : World) (by : ℕ) (a b : Actor) (at : get_elem? w.actors by ≡ so
   pasts_still same s = pasts_kept w.opened w.writes w.locks w.first_edit w.installed same (pasts_of w s)
 
   pub readers_still : reader_of b ≡ reader_of a → IsSound w → ReadersOf w (set w.actors by b)
-  readers_still same s = readers_kept w.writes.history w.max_evicted w.cache same (readers_of w s)
+  readers_still same s = readers_kept w.writes.history w.max_evicted w.cache w.prepared.delayed_commits w.snapshots same (readers_of w s)
 
   pub turns_still : b.held ≡ a.held → IsSound w → TurnsOf w (set w.actors by b)
   turns_still same s = record { held = kept_part held_of (EachAt (AreHeld w.holders (content_of w))) same s.held; have = kept_part held_of (HoldersHave w.holders) same s.have }

@@ -5,7 +5,7 @@ use lib.ListN.{get_elem?}
 use Rattle.wp_core.specs.Lists.{one_if}
 use Rattle.wp_core.specs.Tables.{Content, WriteTable, writes}
 use Rattle.wp_core.specs.Turns.{write_turn}
-use Rattle.wp_core.specs.Views.{Event, log_failed, stopped, found_edit, Fact}
+use Rattle.wp_core.specs.Views.{Event, log_failed, stopped, Fact}
 use Rattle.wp_core.specs.World.{Participant, Actor, World, content_of, with_content}
 use Rattle.wp_core.specs.World as world
 use Rattle.wp_core.specs.Steps.{close_log}

@@ -1,5 +1,5 @@
 -- Dropping an entry of which nothing is left keeps a world sound.
-use Rattle.std.proofs.Common.{◌≡◌, ◌≢◌, ⊎_elim, inl, inr, ℕ, suc, ◌≤◌, ◌||◌, eq-eqb, Bool, true, false, true≢false, cond, List, [], ◌∷◌, ◌++◌, length, slice_index, refl, sym, subst, ap, ◌∙◌, Some, None, append-nil, length-append, arith}
+use Rattle.std.proofs.Common.{◌≡◌, ◌≢◌, ⊎_elim, inl, inr, ℕ, suc, ◌||◌, eq-eqb, Bool, true, false, true≢false, cond, List, [], ◌∷◌, ◌++◌, length, refl, sym, subst, ap, ◌∙◌, Some, None, append-nil, length-append, arith}
 use Rattle.std.proofs.lemmas.Bool.{cases_lt}
 use mathlib.Core.Option.{some}
 use lib.ListN.{get_elem?}
@@ -19,29 +19,29 @@ use Rattle.wp_core.specs.Effects.{done}
 use Rattle.wp_core.specs.Needs.{Needs}
 use Rattle.wp_core.specs.Notes.{forgets}
 use Rattle.wp_core.specs.Sound.History.{IsHistory, logged_part}
-use Rattle.wp_core.specs.Sound.Prepared.{IsCache, AreUndecided}
+use Rattle.wp_core.specs.Sound.Prepared.{IsCache, AreUndecided, AreDelayed}
 use Rattle.wp_core.specs.Sound.Store.{IsStored}
-use Rattle.wp_core.specs.Sound.Views.{IsNowhere}
+use Rattle.wp_core.specs.Sound.Views.{IsNowhere, IsUndelayed}
 use Rattle.wp_core.specs.IsSound.{IsSound}
 use Rattle.wp_model.proofs.Entries.{entry_at_old, prepared_within}
-use Rattle.wp_core.proofs.HistoryLaws.{decision_was, decision_within, decided_by_last}
-use Rattle.wp_core.proofs.ReaderFacts.{pair_ordered}
+use Rattle.wp_core.proofs.HistoryLaws.{decision_was, decision_within, decided_by_last, first_legal, decided_late}
 use Rattle.wp_core.proofs.PendingSteps.{with_pending, pending_changes, none_logged, so_pending}
 use Rattle.wp_core.proofs.Tests.{either, none_some}
 use Rattle.wp_core.proofs.Quiet.{notes_by}
 
 -- ---- the cache has pairs of the history alone
 
--- what the cache has is decided without the pending entry, whose pair it has not
-decided_without : (history pending : List Entry) (cache : List ℕ) (p c : ℕ) → ((pair : CommitPair) → pending_pair history pending ≡ Some pair → cached cache pair.number ≢ Some pair.decision) → cached cache p ≡ Some c → p ≤ c → decision_of (extended history pending) p ≡ Some c
-    → decision_of history p ≡ Some c
-decided_without history [] cache p c gone there low e = e
-decided_without history (entry ∷ others) cache p c gone there low e =
+-- what is decided with the pending entry, and is not its pair, is decided without it
+decided_without : (history pending : List Entry) (p c : ℕ) → IsLegal (history ++ pending) → (pending_pair history pending ≡ Some (record { number = p; decision = c }) → ⊥) → decision_of (extended history pending) p ≡ Some c → decision_of history p ≡ Some c
+decided_without history [] p c legal apart e = e
+decided_without history (entry ∷ others) p c legal apart e =
+    let one = first_legal history entry others legal in
     let most = decision_within (history ++ entry ∷ []) p c e in
+    let low = decided_late (history ++ entry ∷ []) p c one e in
     elim (cases_lt (length history) c) [
       | inl past ↦
           let is : c ≡ suc (length history) = omega (arith, length-append history (entry ∷ [])) in
-          absurd (gone (record { number = p; decision = suc (length history) }) (decided_by_last history entry p (e ∙ ap Some is)) (there ∙ ap Some is))
+          absurd (apart (decided_by_last history entry p (e ∙ ap Some is) ∙ ap (λ (d : ℕ). Some (record { number = p; decision = d })) (sym is)))
       | inr within ↦ decision_was history (entry ∷ []) p c (omega arith) within e
     ]
 
@@ -53,10 +53,16 @@ cache_dropped w gone s = record {
   some = s.cache.some;
   empty = s.cache.empty;
   pairs = λ i q lt there. let k = s.cache.pairs i q lt there in
-      record { placed = k.placed; decided = decided_without w.writes.history w.writes.pending w.cache q.number q.decision gone (cached_at w i q k.placed there) (pair_ordered (slice_index w.cache i) q there).1 k.decided };
+      record { placed = k.placed; decided = decided_without w.writes.history w.writes.pending q.number q.decision s.history.legal_next (λ is. gone q is (cached_at w i q k.placed there)) k.decided };
 }
 
 -- ---- the prepared tables have numbers of the history alone
+
+delayed_dropped : (w : World) → IsUndelayed w.writes w.prepared → IsSound w → AreDelayed w.writes.history [] w.prepared w.cache
+delayed_dropped w gone s = record {
+  found = s.delayed.found;
+  commits = λ p c e. decided_without w.writes.history w.writes.pending p c s.history.legal_next (λ is. gone (record { number = p; decision = c }) is e) (s.delayed.commits p c e);
+}
 
 prepare_without : (history pending : List Entry) (p : ℕ) → p ≢ suc (length history) → is_prepare (entry_at (extended history pending) p) ≡ true → is_prepare (entry_at history p) ≡ true
 prepare_without history [] p ne is = is
@@ -110,6 +116,6 @@ stored_dropped w nowhere s =
 
 pub drops_pending : (w : World) (by : ℕ) (a : Actor) → get_elem? w.actors by ≡ some a → Needs w by a drop_pending → IsSound w → IsSound (done w by (forgets w.writes.history (length w.cache) drop_pending a) drop_pending)
 drops_pending w by a at n s =
-    pending_changes w by a drop_pending [] w.writes.logged w.writes.log at n.0 (history_dropped w n.1 s) (cache_dropped w n.2 s) (undecided_dropped w n.4 s) (stored_dropped w n.3 s)
+    pending_changes w by a drop_pending [] w.writes.logged w.writes.log at n.0 (history_dropped w n.1 s) (cache_dropped w n.2 s) (undecided_dropped w n.5 s) (delayed_dropped w n.3 s) (stored_dropped w n.4 s)
     (record { log = s.faults.log; tables = s.faults.tables; not_logged = λ closed. inl refl; stopped = s.faults.stopped; failed = s.faults.failed })
-    (notes_by w by drop_pending write_turn _ n.0 (so_pending w drop_pending [] w.writes.log w.writes.logged refl)) s
+    (notes_by w by drop_pending write_turn _ n.0 (so_pending w drop_pending [] w.writes.log w.writes.logged refl refl refl)) s

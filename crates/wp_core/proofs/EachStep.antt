@@ -3,7 +3,7 @@ use Rattle.std.proofs.Common.{◌≡◌, ℕ, length, sym, subst}
 use mathlib.Core.Option.{some}
 use lib.ListN.{get_elem?}
 use Rattle.wp_core.specs.World.{Actor, World}
-use Rattle.wp_core.specs.Steps.{Step, load_published, register, begin_reading, load, end_reading, store_published, store_max_evicted, store_word, store_delayed_flag, store_old_flag, take_turn, give_turn, make_pending, log_pending, close_log, find_log_closed, drop_pending, add_prepared, take_pending_prepared, add_delayed_commit, take_out, register_again, release, add_old_commit, add_versions, take_versions, move_versions, replace_versions, install, halt, find_edit, claim_name, take_name, leave_name, free_transaction, lock_key, free_key, lock_direct, free_direct, find_holder, tell, hear, set_batch, note, make_note, make_seat, set_client, learn, join_seat}
+use Rattle.wp_core.specs.Steps.{Step, load_published, register, begin_reading, load, end_reading, store_published, store_max_evicted, store_word, store_delayed_flag, store_old_flag, take_turn, give_turn, make_pending, log_pending, close_log, find_log_closed, drop_pending, add_prepared, take_pending_prepared, add_delayed_commit, delay_pending, take_out, register_again, release, add_old_commit, add_versions, take_versions, move_versions, replace_versions, install, halt, find_edit, claim_name, take_name, leave_name, free_transaction, lock_key, free_key, lock_direct, free_direct, find_holder, tell, hear, set_batch, note, make_note, make_seat, set_client, learn, join_seat}
 use Rattle.wp_core.specs.Effects.{done}
 use Rattle.wp_core.specs.Needs.{Needs}
 use Rattle.wp_core.specs.Notes.{forgets}
@@ -24,7 +24,7 @@ use Rattle.wp_core.proofs.ClosesLog.{closes_log}
 use Rattle.wp_core.proofs.KeepsRemembered.{finds_log_closed, finds_edit, hears, finds_holder}
 use Rattle.wp_core.proofs.DropsPending.{drops_pending}
 use Rattle.wp_core.proofs.PendingPrepared.{adds_prepared, takes_pending_prepared}
-use Rattle.wp_core.proofs.PreparedSteps.{takes_out, adds_delayed_commit}
+use Rattle.wp_core.proofs.PreparedSteps.{takes_out, adds_delayed_commit, delays_pending_pair}
 use Rattle.wp_core.proofs.OldCommits.{releases_one, notes_old_commit}
 use Rattle.wp_core.proofs.PendingVersions.{adds_versions, takes_versions}
 use Rattle.wp_core.proofs.MovesVersions.{moves_versions, replaces_versions}
@@ -49,7 +49,7 @@ use Rattle.wp_core.proofs.Opened.{opening_is_sound}
 kept : (w : World) (by : ℕ) (a : Actor) (step : Step) → get_elem? w.actors by ≡ some a → Needs w by a step → IsSound w → IsSound (done w by (forgets w.writes.history (length w.cache) step a) step)
 kept w by a load_published at needs s = loads_published w by a at s
 kept w by a (register smallest) at needs s = registers_now w by a smallest at needs s
-kept w by a (begin_reading p snapshot) at needs s = begins_reading w by a p snapshot at needs s
+kept w by a (begin_reading bits p snapshot) at needs s = begins_reading w by a bits p snapshot at needs s
 kept w by a (load which) at needs s = load_keeps w by a which at needs s
 kept w by a end_reading at needs s = ends_reading w by a at s
 kept w by a (store_published entry others) at needs s = stores_published w by a entry others at needs s
@@ -67,6 +67,7 @@ kept w by a drop_pending at needs s = drops_pending w by a at needs s
 kept w by a add_prepared at needs s = adds_prepared w by a at needs s
 kept w by a take_pending_prepared at needs s = takes_pending_prepared w by a at needs s
 kept w by a (add_delayed_commit pair) at needs s = adds_delayed_commit w by a pair at needs s
+kept w by a (delay_pending pair) at needs s = delays_pending_pair w by a pair at needs s
 kept w by a (take_out p) at needs s = takes_out w by a p at needs s
 kept w by a (register_again n) at needs s = registers_again w by a n at needs s
 kept w by a (release front r back) at needs s = releases_one w by a front back r at needs s

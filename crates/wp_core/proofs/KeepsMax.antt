@@ -23,12 +23,14 @@ use Rattle.std.specs.FinMap as finite
 use Rattle.wp_core.specs.Cache.{cached}
 use Rattle.wp_core.specs.Reading.{Registration}
 use Rattle.wp_judge.specs.declared.observed.Observed.{Observed}
-use Rattle.wp_core.specs.Views.{passed, apart, words_stay, has_left, number_in_heap, number_not_in_heap}
+use Rattle.wp_judge.specs.Words.{CommitPair}
+use Rattle.wp_core.specs.Views.{passed, apart, words_stay, has_left, none_waits, number_in_heap, number_not_in_heap}
 use Rattle.wp_model.specs.PreparedTables.{PreparedTables, is_prepared, NoneDelayed}
+use Rattle.wp_model.specs.Snapshots.{is_old_commit}
 use Rattle.wp_core.specs.Tables.{with_moved}
 use Rattle.wp_core.specs.Sound.History.{IsHistory}
-use Rattle.wp_core.specs.Sound.Prepared.{AreDecided, AreUndecided, AreDelayed, IsPassed}
-use Rattle.wp_core.specs.Sound.Reader.{IsPassedBy, IsReader}
+use Rattle.wp_core.specs.Sound.Prepared.{AreDecided, AreUndecided, AreDelayed, IsPassed, IsWide, IsEntered}
+use Rattle.wp_core.specs.Sound.Reader.{IsPassedBy, IsReachedBy, AnswersFor, IsReader}
 use Rattle.wp_core.proofs.Tests.{both, either}
 
 -- ---- the moved numbers
@@ -65,6 +67,12 @@ above_is p m lt = grind (arith, nat_tests)
 
 -- ---- parts
 
+-- a pair is where it was
+entered_after : (w : World) (m : ℕ) → w.max_evicted ≤ m → (pair : CommitPair) → IsEntered w.cache w.prepared.delayed_commits w.max_evicted pair → IsEntered w.cache w.prepared.delayed_commits m pair
+entered_after w m le pair e =
+    ⊎_elim (λ (there : cached w.cache pair.number ≡ Some pair.decision). inl there)
+    (λ (x : IsWide (length w.cache) w.prepared.delayed_commits w.max_evicted pair). inr (record { wide = x.wide; delayed = x.delayed; reached = le_trans x.reached le })) e
+
 undecided_after : (w : World) (m : ℕ) → w.max_evicted ≤ m → AreUndecided w.writes.history w.writes.pending w.prepared w.max_evicted → AreUndecided w.writes.history w.writes.pending (with_moved w.prepared m) m
 undecided_after w m le u = record {
   found = λ p open_at. same_prepared w.prepared m p ∙ u.found p open_at;
@@ -74,12 +82,14 @@ undecided_after w m le u = record {
   known = λ p there. u.known p (sym (same_prepared w.prepared m p) ∙ there);
 }
 
-delayed_after : (w : World) (m : ℕ) → AreDelayed w.writes.history w.prepared w.cache → AreDelayed w.writes.history (with_moved w.prepared m) w.cache
+delayed_after : (w : World) (m : ℕ) → AreDelayed w.writes.history w.writes.pending w.prepared w.cache → AreDelayed w.writes.history w.writes.pending (with_moved w.prepared m) w.cache
 delayed_after w m d = record { found = λ p c there decided. d.found p c (sym (same_prepared w.prepared m p) ∙ there) decided; commits = d.commits }
 
-decided_after : (w : World) (m : ℕ) → w.max_evicted ≤ m → AreDecided w.writes.history w.cache w.max_evicted w.snapshots → AreDecided w.writes.history w.cache m w.snapshots
+decided_after : (w : World) (m : ℕ) → w.max_evicted ≤ m → AreDecided w.writes.history w.cache w.prepared.delayed_commits w.max_evicted w.snapshots → AreDecided w.writes.history w.cache w.prepared.delayed_commits m w.snapshots
 decided_after w m le d = record {
-  found = λ p c decided. ⊎_elim (λ (e : cached w.cache p ≡ Some c). inl e) (λ (e : IsPassed w.max_evicted w.snapshots p c). inr (le_trans e.0 le, e.1)) (d.found p c decided);
+  found = λ p c decided. ⊎_elim
+      (λ (e : IsEntered w.cache w.prepared.delayed_commits w.max_evicted (record { number = p; decision = c })). inl (entered_after w m le (record { number = p; decision = c }) e))
+      (λ (e : IsPassed w.max_evicted w.snapshots p c). inr (le_trans e.0 le, e.1)) (d.found p c decided);
   kept = d.kept;
 }
 
@@ -108,15 +118,29 @@ flags_after w m by mine may f = record {
 passed_after : (w : World) (m : ℕ) (p : ℕ) → w.max_evicted ≤ m → IsPassedBy w.writes.history w.max_evicted w.cache p → IsPassedBy w.writes.history m w.cache p
 passed_after w m p le k = record { by = k.by; decided = k.decided; within = le_trans k.within le; gone = k.gone }
 
-reader_after : (w : World) (m : ℕ) (rs : List Registration) (r : Observed) → w.max_evicted ≤ m → IsReader w.writes.history w.max_evicted w.cache rs r → IsReader w.writes.history m w.cache rs r
+reached_after : (w : World) (m : ℕ) (p : ℕ) → w.max_evicted ≤ m → IsReachedBy w.writes.history w.max_evicted w.cache w.prepared.delayed_commits p → IsReachedBy w.writes.history m w.cache w.prepared.delayed_commits p
+reached_after w m p le k = record {
+  by = k.by;
+  decided = k.decided;
+  reached = le_trans k.reached le;
+  elsewhere = ⊎_elim (λ (low : k.by ≤ w.max_evicted). inl (le_trans low le)) (λ (e : finite.get w.prepared.delayed_commits p ≡ Some k.by). inr e) k.elsewhere;
+  gone = k.gone;
+}
+
+answers_after : (w : World) (m s p c : ℕ) → w.max_evicted ≤ m → AnswersFor w.max_evicted w.cache w.snapshots s p c → AnswersFor m w.cache w.snapshots s p c
+answers_after w m s p c le k =
+    ⊎_elim (λ (there : cached w.cache p ≡ Some c). inl there) (λ (x : (c ≤ w.max_evicted) × (s < c → is_old_commit w.snapshots s p ≡ true)). inr (le_trans x.0 le, x.1)) k
+
+reader_after : (w : World) (m : ℕ) (rs : List Registration) (r : Observed) → w.max_evicted ≤ m → IsReader w.writes.history w.max_evicted w.cache w.prepared.delayed_commits w.snapshots rs r → IsReader w.writes.history m w.cache w.prepared.delayed_commits w.snapshots rs r
 reader_after w m rs r le k = record {
+  words = k.words;
   registered_at = k.registered_at;
   in_order = k.in_order;
   knows = λ low. let o = k.knows low in record {
     version = o.version;
-    first_word = λ word e another is. passed_after w m r.version le (o.first_word word e another is);
+    first_word = λ word e another is. reached_after w m r.version le (o.first_word word e another is);
     first_max = λ n e. le_trans (o.first_max n e) le;
-    not_in_prepared = o.not_in_prepared;
+    not_in_prepared = λ n. let d = o.not_in_prepared n in (d.0, d.1, answers_after w m r.snapshot r.version d.0 le d.2);
     second_word = λ word e another. passed_after w m r.version le (o.second_word word e another);
     second_max = o.second_max;
   };
@@ -129,6 +153,7 @@ so_after : (w : World) (m : ℕ) (a : Participant) (fact : Fact) → w.max_evict
 so_after w m a (passed place pair) le low stays k = record { place_within = k.place_within; there = k.there; published_by = k.published_by; so = le_trans k.so le }
 so_after w m a (apart place pair) le low stays k = record { place_within = k.place_within; there = k.there; published_by = k.published_by; so = ⊎_elim (λ (e : is_prepared w.prepared pair.number ≡ false). inl (same_prepared w.prepared m pair.number ∙ e)) (λ (e : finite.get w.prepared.delayed_commits pair.number ≡ Some pair.decision). inr e) k.so }
 so_after w m a (words_stay max cache) le low stays k = absurd (stays_not write_turn stays)
+so_after w m a none_waits le low stays k = absurd (stays_not write_turn stays)
 so_after w m a (has_left p) le low stays k = (k.0, same_prepared w.prepared m p ∙ k.1)
 so_after w m a number_in_heap le low stays k = let n : ℕ = suc (length w.writes.history) in in_heap w.prepared m n ∙ (λ i. k i && not (above_is n m (omega arith) i))
 so_after w m a number_not_in_heap le low stays k = let n : ℕ = suc (length w.writes.history) in in_heap w.prepared m n ∙ (λ i. k i && not (nat_le n m))

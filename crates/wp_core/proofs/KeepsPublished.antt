@@ -77,9 +77,9 @@ module _ (w : World) (by : ℕ) (a : Actor) (entry : Entry) (others : List Entry
       all_parts (with_content w e) (set w.actors by b) (record {
         history = history_part w.opened w.writes w.max_evicted entry others n.pending n.logged open_log n.legal s.history;
         cache = cache_part w.writes.history entry others n.legal w.writes.pending w.cache n.pending s.cache;
-        decided = decided_part w.writes.history entry others n.legal w.cache w.max_evicted w.snapshots n.pair s.decided;
+        decided = decided_part w.writes.history entry others n.legal w.cache w.prepared.delayed_commits w.max_evicted w.snapshots n.pair s.decided;
         undecided = undecided_part w.writes.history entry others n.legal w.writes.pending w.prepared w.max_evicted n.pending n.number s.undecided;
-        delayed = delayed_part w.writes.history entry others n.legal w.prepared w.cache n.pair s.delayed;
+        delayed = delayed_part w.writes.history entry others n.legal w.writes.pending w.prepared w.cache w.max_evicted n.pending n.pair s.delayed;
         flags = s.flags;
         versions = stored_part w.writes.history entry n.legal w.writes.pending others w.snapshots w.store w.installed n.pending live_within in_memory s.versions;
         settled = s.settled;
@@ -101,9 +101,9 @@ module _ (w : World) (by : ℕ) (a : Actor) (entry : Entry) (others : List Entry
         edits = s.edits;
       }))
       (turns_changed w by a b at e n.turn refl s)
-      (readers_kept w by a b at grown w.max_evicted w.cache refl (record {
-        readers = readers_part w.writes.history entry n.legal w.snapshots w.max_evicted w.cache w.actors s.registrations s.readers;
-        judged = judged_part w.writes.history entry n.legal w.snapshots w.max_evicted w.cache w.actors s.registrations s.readers s.judged;
+      (readers_kept w by a b at grown w.max_evicted w.cache w.prepared.delayed_commits w.snapshots refl (record {
+        readers = readers_part w.writes.history entry n.legal w.snapshots w.max_evicted w.cache w.prepared.delayed_commits w.actors s.registrations s.readers;
+        judged = judged_part w.writes.history entry n.legal w.snapshots w.max_evicted w.cache w.prepared.delayed_commits w.actors s.registrations s.readers s.judged;
       }))
       (notes_stay w by a b at (store_published entry others) w.holders (SoPending w (with_entry w.writes entry others)) refl (λ fact left m. record { guarded = m.guarded; is_so = mine_grows w by a entry others at n s fact left m.is_so })
       (λ j x fact ne there m. record { guarded = m.guarded; is_so = others_grow w by a entry others at n s j x.0 ne (noter_there w j x there) fact m.guarded m.is_so }) s)

@@ -1,5 +1,5 @@
 -- Each load of a reader keeps a world sound: what it knows then is so, and where it needs no more its answer is right.
-use Rattle.std.proofs.Common.{◌≡◌, ◌≢◌, ◌⊎◌, inl, inr, ⊎_elim, ℕ, ◌<◌, ◌≤◌, nat_le, nat_lt, ◌==◌, eq-eqb, Bool, true, false, not, cond, true≢false, length, refl, sym, subst, ap, ◌∙◌, Option, Some, None, option_map, le_trans, arith}
+use Rattle.std.proofs.Common.{◌≡◌, ◌≢◌, ◌⊎◌, inl, inr, ⊎_elim, ℕ, ◌^◌, ◌<◌, ◌≤◌, nat_le, nat_lt, ◌==◌, eq-eqb, Bool, true, false, not, cond, true≢false, length, refl, sym, subst, ap, ◌∙◌, Option, Some, None, option_map, le_trans, arith}
 use Rattle.std.proofs.lemmas.Bool.Decides.{nat_tests}
 use mathlib.Core.Option.{some}
 use lib.ListN.{get_elem?}
@@ -28,13 +28,13 @@ use Rattle.wp_core.specs.Effects.{done}
 use Rattle.wp_core.specs.Needs.{Needs}
 use Rattle.wp_core.specs.Notes.{forgets, ends}
 use Rattle.wp_core.specs.Sound.Snapshots.{has_versions_at}
-use Rattle.wp_core.specs.Sound.Reader.{ReaderKnows, IsInOrder, IsReader, IsRight, reader_of, OnlyAfter, IsPassedBy, NotInPrepared}
+use Rattle.wp_core.specs.Sound.Reader.{ReaderKnows, IsInOrder, IsReader, IsRight, reader_of, OnlyAfter, IsPassedBy, IsReachedBy, AnswersFor, NotInPrepared}
 use Rattle.wp_core.specs.IsSound.{IsSound}
 use Rattle.wp_core.proofs.Frames.{at_map}
 use Rattle.wp_core.proofs.HistoryLaws.{decided_late}
 use Rattle.wp_core.proofs.Registered.{registered_live}
 use Rattle.wp_core.proofs.ReaderOrder.{NotDelayed, MissedAgain, At, asked, from_begun, from_missed, from_flag, from_not_delayed, from_missed_again, from_bounded_again, from_old}
-use Rattle.wp_core.proofs.ReaderFacts.{decided_unless_delayed, gone_by, decided_right, word_right, old_right, delayed_right}
+use Rattle.wp_core.proofs.ReaderFacts.{decided_unless_delayed, answers_now, reached_by, passed_by, extended_right, word_right, old_right, delayed_right}
 use Rattle.wp_core.proofs.Looks.{leaves_most, looks}
 use Rattle.wp_core.proofs.Tests.{same_some, some_none, none_some}
 
@@ -66,9 +66,19 @@ same_reading w r SecondMax = refl
 same_reading w r OldFlag = refl
 same_reading w r IsOldCommit = refl
 
+same_bits : (w : World) (r : Observed) (which : loads.Load) → (loaded w which r).bits ≡ r.bits
+same_bits w r FirstWord = refl
+same_bits w r FirstMax = refl
+same_bits w r DelayedFlag = refl
+same_bits w r variant.InPrepared = refl
+same_bits w r SecondWord = refl
+same_bits w r SecondMax = refl
+same_bits w r OldFlag = refl
+same_bits w r IsOldCommit = refl
+
 -- ---- what a sound world says of a reader
 
-module _ (w : World) (r : Observed) (s : IsSound w) (live : (r.snapshot ≤ length w.writes.history)) (order : IsInOrder r) (knows : r.version ≤ r.snapshot → ReaderKnows w.writes.history w.max_evicted w.cache r) where
+module _ (w : World) (r : Observed) (s : IsSound w) (live : (r.snapshot ≤ length w.writes.history)) (order : IsInOrder r) (knows : r.version ≤ r.snapshot → ReaderKnows w.writes.history w.max_evicted w.cache w.prepared.delayed_commits w.snapshots r) (bits : 2 ^ r.bits ≡ length w.cache) (is_live : IsLive w.snapshots r.snapshot) where
   abbrev next : loads.Load → Observed
   next which = loaded w which r
 
@@ -138,20 +148,21 @@ module _ (w : World) (r : Observed) (s : IsSound w) (live : (r.snapshot ≤ leng
   -- ---- what is known, part by part
 
   abbrev Knows : Type 0
-  Knows = ReaderKnows w.writes.history w.max_evicted w.cache r
+  Knows = ReaderKnows w.writes.history w.max_evicted w.cache w.prepared.delayed_commits w.snapshots r
 
   is_absent : InPrepared → Bool
   is_absent Absent = true
   is_absent other = false
 
-  found_absent : (b : Bool) (o : Option ℕ) → found_in b o ≡ Absent → b ≡ false
+  found_absent : (b : Bool) (o : Option ℕ) → found_in b o ≡ Absent → (b ≡ false) × (o ≡ None)
   unfolding is_absent
-  found_absent false o e = refl
+  found_absent false None e = (refl, refl)
+  found_absent false (Some c) e = let t : is_absent (Decided c) ≡ is_absent Absent = ap is_absent e in absurd (true≢false (sym t))
   found_absent true None e = let t : is_absent Delayed ≡ is_absent Absent = ap is_absent e in absurd (true≢false (sym t))
   found_absent true (Some c) e = let t : is_absent (Decided c) ≡ is_absent Absent = ap is_absent e in absurd (true≢false (sym t))
 
   -- once it is found not to be delayed, it is decided
-  decided_by_now : ReaderKnows w.writes.history w.max_evicted w.cache r → NotDelayed r.version r.snapshot r.smallest r.first_word r.first_max r.delayed_flag r.in_prepared → (c : ℕ) × (decision_of w.writes.history r.version ≡ Some c)
+  decided_by_now : Knows → NotDelayed r.bits r.version r.snapshot r.smallest r.first_word r.first_max r.delayed_flag r.in_prepared → (c : ℕ) × (decision_of w.writes.history r.version ≡ Some c) × AnswersFor w.max_evicted w.cache w.snapshots r.snapshot r.version c
   decided_by_now k n = k.not_in_prepared (record { bound = n.bounded.max; loaded = n.bounded.loaded; within = bound n.bounded.max n.bounded.within; found = by_found n.found })
     where
       bound : (m : ℕ) → nat_lt m r.version ≡ false → r.version ≤ m
@@ -161,53 +172,59 @@ module _ (w : World) (r : Observed) (s : IsSound w) (live : (r.snapshot ≤ leng
       by_found (inl is) = inr (n.loaded ∙ ap Some (zero_is n.flag is))
       by_found (inr is) = inl is.1
 
-  -- a version that is another's in the cache as it is now is passed
-  passed_now : (c word : ℕ) → decision_of w.writes.history r.version ≡ Some c → Some (cached_word w.cache r.version) ≡ Some word → decision_in_word r.version word ≡ None → IsPassedBy w.writes.history w.max_evicted w.cache r.version
-  passed_now c word decided e another = gone_by w.writes.history w.cache w.max_evicted w.snapshots r.version c s.decided decided (ap (decision_in_word r.version) (same_some (cached_word w.cache r.version) word e) ∙ another)
+  -- what the word as it is now has for the version
+  word_now : (word : ℕ) → Some (cached_word w.cache r.version) ≡ Some word → decision_in_word (2 ^ r.bits) r.version word ≡ None → cached w.cache r.version ≡ None
+  word_now word e another = ap (λ (n : ℕ). decision_in_word n r.version (cached_word w.cache r.version)) (sym bits) ∙ (ap (decision_in_word (2 ^ r.bits) r.version) (same_some (cached_word w.cache r.version) word e) ∙ another)
 
-  known_first_word : (which : loads.Load) → Knows → (word : ℕ) → (next which).first_word ≡ Some word → decision_in_word (next which).version word ≡ None → IsCommittedAt w.writes.history (next which).version (next which).snapshot → IsPassedBy w.writes.history w.max_evicted w.cache (next which).version
-  known_first_word FirstWord k word e another is = passed_now is.by word is.decided e another
+  known_first_word : (which : loads.Load) → Knows → (word : ℕ) → (next which).first_word ≡ Some word → decision_in_word (2 ^ (next which).bits) (next which).version word ≡ None → IsCommittedAt w.writes.history (next which).version (next which).snapshot → IsReachedBy w.writes.history w.max_evicted w.cache w.prepared.delayed_commits (next which).version
+  known_first_word FirstWord k word e another is =
+      reached_by w.writes.history w.cache w.prepared.delayed_commits w.max_evicted w.snapshots r.version is.by s.decided is.decided (decided_late w.writes.history r.version is.by s.history.legal is.decided) (word_now word e another)
   known_first_word which k word e another is = k.first_word word e another is
 
   known_first_max : (which : loads.Load) → Knows → (m : ℕ) → (next which).first_max ≡ Some m → m ≤ w.max_evicted
   known_first_max FirstMax k m e = let q : w.max_evicted ≡ m = same_some w.max_evicted m e in omega arith
   known_first_max which k m e = k.first_max m e
 
-  below_bound : ReaderKnows w.writes.history w.max_evicted w.cache r → (n : ℕ) → r.first_max ≡ Some n → r.version ≤ n → r.version ≤ w.max_evicted
+  below_bound : Knows → (n : ℕ) → r.first_max ≡ Some n → r.version ≤ n → r.version ≤ w.max_evicted
   below_bound k n e le = le_trans le (k.first_max n e)
 
-  known_not_in_prepared : (which : loads.Load) → At r which → Knows → NotInPrepared (next which).version (next which).first_max (next which).delayed_flag (next which).in_prepared → (c : ℕ) × (decision_of w.writes.history (next which).version ≡ Some c)
-  known_not_in_prepared FirstMax at k n =
+  -- a decided version that no prepared table has is answered for
+  answered : r.version ≤ r.snapshot → (c : ℕ) × (decision_of w.writes.history r.version ≡ Some c) → finite.get w.prepared.delayed_commits r.version ≡ None
+      → (c : ℕ) × (decision_of w.writes.history r.version ≡ Some c) × AnswersFor w.max_evicted w.cache w.snapshots r.snapshot r.version c
+  answered le d none = (d.0, d.1, answers_now w.writes.history w.cache w.prepared.delayed_commits w.max_evicted w.snapshots r.snapshot r.version d.0 s.decided d.1 none is_live le)
+
+  known_not_in_prepared : (which : loads.Load) → At r which → r.version ≤ r.snapshot → Knows → NotInPrepared (next which).version (next which).first_max (next which).delayed_flag (next which).in_prepared → (c : ℕ) × (decision_of w.writes.history (next which).version ≡ Some c) × AnswersFor w.max_evicted w.cache w.snapshots (next which).snapshot (next which).version c
+  known_not_in_prepared FirstMax at le k n =
       let flag : r.delayed_flag ≡ None = order.delayed_flag at.1 in
       ⊎_elim (λ (t : r.in_prepared ≡ Some Absent). absurd (none_some r.in_prepared Absent (order.in_prepared flag) t)) (λ (t : r.delayed_flag ≡ Some 0). absurd (none_some r.delayed_flag 0 flag t)) n.found
-  known_not_in_prepared DelayedFlag at k n =
+  known_not_in_prepared DelayedFlag at le k n =
       ⊎_elim (λ (t : r.in_prepared ≡ Some Absent). absurd (none_some r.in_prepared Absent (order.in_prepared at.1) t))
       (λ (t : Some w.delayed_flag ≡ Some 0).
       let nothing = s.flags.none_delayed (same_some w.delayed_flag 0 t) in
-      decided_unless_delayed w.writes.history w.writes.pending w.prepared w.max_evicted r.version s.undecided k.version (below_bound k n.bound n.loaded n.within) (nothing.0 r.version))
+      answered le (decided_unless_delayed w.writes.history w.writes.pending w.prepared w.max_evicted r.version s.undecided k.version (below_bound k n.bound n.loaded n.within) (nothing.0 r.version)) (nothing.1 r.version))
       n.found
-  known_not_in_prepared variant.InPrepared at k n =
+  known_not_in_prepared variant.InPrepared at le k n =
       ⊎_elim
       (λ (t : Some (found_in (set.contains w.prepared.delayed r.version) (finite.get w.prepared.delayed_commits r.version)) ≡ Some Absent).
       let none = found_absent (set.contains w.prepared.delayed r.version) (finite.get w.prepared.delayed_commits r.version) (same_some _ Absent t) in
-      decided_unless_delayed w.writes.history w.writes.pending w.prepared w.max_evicted r.version s.undecided k.version (below_bound k n.bound n.loaded n.within) none)
+      answered le (decided_unless_delayed w.writes.history w.writes.pending w.prepared w.max_evicted r.version s.undecided k.version (below_bound k n.bound n.loaded n.within) none.0) none.1)
       (λ (t : r.delayed_flag ≡ Some 0). k.not_in_prepared (record { bound = n.bound; loaded = n.loaded; within = n.within; found = inr t })) n.found
-  known_not_in_prepared which at k n = k.not_in_prepared n
+  known_not_in_prepared which at le k n = k.not_in_prepared n
 
-  known_second_word : (which : loads.Load) → At r which → Knows → (word : ℕ) → (next which).second_word ≡ Some word → decision_in_word (next which).version word ≡ None → IsPassedBy w.writes.history w.max_evicted w.cache (next which).version
-  known_second_word SecondWord at k word e another = let d = decided_by_now k at.0 in passed_now d.0 word d.1 e another
+  known_second_word : (which : loads.Load) → At r which → Knows → (word : ℕ) → (next which).second_word ≡ Some word → decision_in_word (2 ^ (next which).bits) (next which).version word ≡ None → IsPassedBy w.writes.history w.max_evicted w.cache (next which).version
+  known_second_word SecondWord at k word e another = let d = decided_by_now k at.0 in passed_by w.writes.history w.cache w.max_evicted w.snapshots r.snapshot r.version d.0 d.1 d.2 (word_now word e another)
   known_second_word which at k word e another = k.second_word word e another
 
   known_second_max : (which : loads.Load) → At r which → Knows → (m : ℕ) → (next which).second_max ≡ Some m → (c : ℕ) × (decision_of w.writes.history (next which).version ≡ Some c) × (c ≤ m)
   known_second_max SecondMax at k m e = let p = k.second_word at.0.word at.0.loaded at.0.another in let low = p.within in let q : w.max_evicted ≡ m = same_some w.max_evicted m e in (p.by, p.decided, omega arith)
   known_second_max which at k m e = k.second_max m e
 
-  knows_load : (which : loads.Load) → At r which → Knows → ReaderKnows w.writes.history w.max_evicted w.cache (next which)
-  knows_load which at k = record {
+  knows_load : (which : loads.Load) → At r which → r.version ≤ r.snapshot → Knows → ReaderKnows w.writes.history w.max_evicted w.cache w.prepared.delayed_commits w.snapshots (next which)
+  knows_load which at le k = record {
     version = subst (λ (p : ℕ). has_versions_at w.writes.history p ≡ true) (λ i. (sym (same_reading w r which) i).0) k.version;
     first_word = known_first_word which k;
     first_max = known_first_max which k;
-    not_in_prepared = known_not_in_prepared which at k;
+    not_in_prepared = known_not_in_prepared which at le k;
     second_word = known_second_word which at k;
     second_max = known_second_max which at k;
   }
@@ -217,7 +234,7 @@ module _ (w : World) (r : Observed) (s : IsSound w) (live : (r.snapshot ≤ leng
   right_first_word : (visible : Bool) → At r FirstWord → judgement (loaded w FirstWord r) ≡ Some visible → IsRight w.writes.history r.version r.snapshot visible
   right_first_word visible at e =
       let now : Observed = loaded w FirstWord r in
-      let asks : ask now ≡ answered_by (cached w.cache r.version) r.snapshot (Load FirstMax) = from_begun now at.0 ∙ (λ i. answered_by (cached w.cache r.version) r.snapshot (ask_first_max now (order.first_max at.1 i))) in
+      let asks : ask now ≡ answered_by (cached w.cache r.version) r.snapshot (Load FirstMax) = from_begun now at.0 ∙ (λ i. answered_by (decision_in_word (bits i) r.version (cached_word w.cache r.version)) r.snapshot (ask_first_max now (order.first_max at.1 i))) in
       let a = answered_word (cached w.cache r.version) r.snapshot visible FirstMax (sym (ap answer_of asks) ∙ e) in
       word_right w.writes.history w.writes.pending w.cache r.version r.snapshot a.0 visible s.cache (within_snapshot _ refl at.0.within) live a.1 a.2
 
@@ -230,7 +247,7 @@ module _ (w : World) (r : Observed) (s : IsSound w) (live : (r.snapshot ≤ leng
       subst (IsRight w.writes.history r.version r.snapshot) a.1
       (λ (is : IsCommittedAt w.writes.history r.version r.snapshot).
       let passed = k.first_word at.0.word at.0.loaded at.0.another is in
-      let low = passed.within in let high = decided_late w.writes.history r.version passed.by s.history.legal passed.decided in
+      let low = passed.reached in
       let lt : nat_lt w.max_evicted r.version ≡ true = a.0 in let below : w.max_evicted < r.version = grind (arith, nat_tests) in absurd (omega arith))
 
   not_by_flag : (now : Observed) (b visible : Bool) → now.second_word ≡ None → now.in_prepared ≡ None → answer_of (cond b (ask_second_word now now.second_word) (ask_in_prepared now now.in_prepared)) ≡ Some visible → ⊥
@@ -246,28 +263,28 @@ module _ (w : World) (r : Observed) (s : IsSound w) (live : (r.snapshot ≤ leng
   raised_flag : (flag : ℕ) → (flag == 0) ≡ false → flag ≢ 0
   raised_flag flag e q = true≢false (sym (eq-eqb flag 0 q) ∙ e)
 
-  by_prepared : (now : Observed) (visible b : Bool) (o : Option ℕ) → now.version ≡ r.version → now.snapshot ≡ r.snapshot → now.second_word ≡ None
+  by_prepared : (now : Observed) (visible b : Bool) (o : Option ℕ) → r.version ≤ r.snapshot → now.version ≡ r.version → now.snapshot ≡ r.snapshot → now.second_word ≡ None
       → set.contains w.prepared.delayed r.version ≡ b → finite.get w.prepared.delayed_commits r.version ≡ o → (IsCommittedAt w.writes.history r.version r.snapshot → cached w.cache r.version ≡ None)
       → answer_of (ask_in_prepared now (Some (found_in b o))) ≡ Some visible → IsRight w.writes.history r.version r.snapshot visible
-  by_prepared now visible b (Some c) v sn second there commit gone e =
-      decided_right w.writes.history r.version r.snapshot c visible (same_some (nat_le c r.snapshot) visible (sym (ap (λ n. Some (nat_le c n)) sn) ∙ e)) (s.delayed.commits r.version c commit)
-  by_prepared now visible true None v sn second there commit gone e =
-      subst (IsRight w.writes.history r.version r.snapshot) (same_some false visible e) (delayed_right w.writes.history w.prepared w.cache r.version r.snapshot s.delayed there commit gone)
-  by_prepared now visible false None v sn second there commit gone e = absurd (not_answered (ask_second_word now now.second_word) SecondWord visible (ap (ask_second_word now) second) e)
+  by_prepared now visible b (Some c) le v sn second there commit gone e =
+      extended_right w.writes.history w.writes.pending r.version r.snapshot c visible le live (s.delayed.commits r.version c commit) (same_some (nat_le c r.snapshot) visible (sym (ap (λ n. Some (nat_le c n)) sn) ∙ e))
+  by_prepared now visible true None le v sn second there commit gone e =
+      subst (IsRight w.writes.history r.version r.snapshot) (same_some false visible e) (delayed_right w.writes.history w.writes.pending w.prepared w.cache r.version r.snapshot s.delayed there commit gone)
+  by_prepared now visible false None le v sn second there commit gone e = absurd (not_answered (ask_second_word now now.second_word) SecondWord visible (ap (ask_second_word now) second) e)
 
   right_in_prepared : (visible : Bool) → At r variant.InPrepared → judgement (loaded w variant.InPrepared r) ≡ Some visible → IsRight w.writes.history r.version r.snapshot visible
   right_in_prepared visible at e =
       let now : Observed = loaded w variant.InPrepared r in
       let asks = from_flag now at.0 at.1.0 false at.1.1 at.1.2 in
       let k = knows (within_snapshot _ refl at.0.missed.begun.within) in
-      by_prepared now visible (set.contains w.prepared.delayed r.version) (finite.get w.prepared.delayed_commits r.version) refl refl (order.looked at.1.0 at.1.1 (raised_flag at.1.0 at.1.2) at.2) refl refl
+      by_prepared now visible (set.contains w.prepared.delayed r.version) (finite.get w.prepared.delayed_commits r.version) (within_snapshot _ refl at.0.missed.begun.within) refl refl (order.looked at.1.0 at.1.1 (raised_flag at.1.0 at.1.2) at.2) refl refl
       (λ is. (k.first_word at.0.missed.word at.0.missed.loaded at.0.missed.another is).gone)
       (sym (ap answer_of asks) ∙ e)
 
   right_second_word : (visible : Bool) → At r SecondWord → judgement (loaded w SecondWord r) ≡ Some visible → IsRight w.writes.history r.version r.snapshot visible
   right_second_word visible at e =
       let now : Observed = loaded w SecondWord r in
-      let asks : ask now ≡ answered_by (cached w.cache r.version) r.snapshot (Load SecondMax) = from_not_delayed now at.0 ∙ (λ i. answered_by (cached w.cache r.version) r.snapshot (ask_second_max now (order.second_max at.1 i))) in
+      let asks : ask now ≡ answered_by (cached w.cache r.version) r.snapshot (Load SecondMax) = from_not_delayed now at.0 ∙ (λ i. answered_by (decision_in_word (bits i) r.version (cached_word w.cache r.version)) r.snapshot (ask_second_max now (order.second_max at.1 i))) in
       let a = answered_word (cached w.cache r.version) r.snapshot visible SecondMax (sym (ap answer_of asks) ∙ e) in
       word_right w.writes.history w.writes.pending w.cache r.version r.snapshot a.0 visible s.cache (within_snapshot _ refl at.0.bounded.missed.begun.within) live a.1 a.2
 
@@ -281,34 +298,35 @@ module _ (w : World) (r : Observed) (s : IsSound w) (live : (r.snapshot ≤ leng
       let lt : nat_lt w.max_evicted r.snapshot ≡ true = a.0 in let below : w.max_evicted < r.snapshot = grind (arith, nat_tests) in
       subst (IsRight w.writes.history r.version r.snapshot) a.1 (record { by = p.by; decided = p.decided; within = omega arith })
 
-  -- once its word is gone, the old commit map decides at a live snapshot
-  old_decides : (b : Bool) → IsLive w.snapshots r.snapshot → MissedAgain r.version r.snapshot r.smallest r.first_word r.first_max r.delayed_flag r.in_prepared r.second_word → is_old_commit w.snapshots r.snapshot r.version ≡ b → IsRight w.writes.history r.version r.snapshot (not b)
-  old_decides b is_live n there =
+  -- once its word is gone, the old commit map decides
+  old_decides : (b : Bool) → MissedAgain r.bits r.version r.snapshot r.smallest r.first_word r.first_max r.delayed_flag r.in_prepared r.second_word → is_old_commit w.snapshots r.snapshot r.version ≡ b → IsRight w.writes.history r.version r.snapshot (not b)
+  old_decides b n there =
       let le = within_snapshot _ refl n.not_delayed.bounded.missed.begun.within in
-      let p = (knows le).second_word n.word n.loaded n.another in old_right w.writes.history w.cache w.max_evicted w.snapshots r.version r.snapshot p.by b s.decided p.decided p.gone is_live le there
+      let p = (knows le).second_word n.word n.loaded n.another in let d = decided_by_now (knows le) n.not_delayed in
+      old_right w.writes.history w.cache w.prepared.delayed_commits w.max_evicted w.snapshots r.version r.snapshot d.0 b s.decided d.1 p.gone d.2 there
 
-  right_old_flag : (visible : Bool) → IsLive w.snapshots r.snapshot → At r OldFlag → judgement (loaded w OldFlag r) ≡ Some visible → IsRight w.writes.history r.version r.snapshot visible
-  right_old_flag visible is_live at e =
+  right_old_flag : (visible : Bool) → At r OldFlag → judgement (loaded w OldFlag r) ≡ Some visible → IsRight w.writes.history r.version r.snapshot visible
+  right_old_flag visible at e =
       let now : Observed = loaded w OldFlag r in
       let asks : ask now ≡ cond (w.old_flag == 0) (Answer true) (Load IsOldCommit) = from_bounded_again now at.0 ∙ (λ i. cond (w.old_flag == 0) (Answer true) (ask_is_old_commit (order.is_old_commit at.1 i))) in
       let a = answered_if (w.old_flag == 0) true visible IsOldCommit (sym (ap answer_of asks) ∙ e) in
-      subst (IsRight w.writes.history r.version r.snapshot) a.1 (old_decides false is_live at.0.missed_again (s.flags.none_kept (zero_is w.old_flag a.0) r.snapshot r.version))
+      subst (IsRight w.writes.history r.version r.snapshot) a.1 (old_decides false at.0.missed_again (s.flags.none_kept (zero_is w.old_flag a.0) r.snapshot r.version))
 
-  right_old_commit : (visible : Bool) → IsLive w.snapshots r.snapshot → At r IsOldCommit → judgement (loaded w IsOldCommit r) ≡ Some visible → IsRight w.writes.history r.version r.snapshot visible
-  right_old_commit visible is_live at e =
+  right_old_commit : (visible : Bool) → At r IsOldCommit → judgement (loaded w IsOldCommit r) ≡ Some visible → IsRight w.writes.history r.version r.snapshot visible
+  right_old_commit visible at e =
       let now : Observed = loaded w IsOldCommit r in
       let b = is_old_commit w.snapshots r.snapshot r.version in
-      subst (IsRight w.writes.history r.version r.snapshot) (same_some (not b) visible (sym (ap answer_of (from_old now at.0)) ∙ e)) (old_decides b is_live at.0.bounded_again.missed_again refl)
+      subst (IsRight w.writes.history r.version r.snapshot) (same_some (not b) visible (sym (ap answer_of (from_old now at.0)) ∙ e)) (old_decides b at.0.bounded_again.missed_again refl)
 
-  right_load : (which : loads.Load) (visible : Bool) → IsLive w.snapshots r.snapshot → At r which → judgement (loaded w which r) ≡ Some visible → IsRight w.writes.history r.version r.snapshot visible
-  right_load FirstWord visible is_live = right_first_word visible
-  right_load FirstMax visible is_live = right_first_max visible
-  right_load DelayedFlag visible is_live = right_delayed_flag visible
-  right_load variant.InPrepared visible is_live = right_in_prepared visible
-  right_load SecondWord visible is_live = right_second_word visible
-  right_load SecondMax visible is_live = right_second_max visible
-  right_load OldFlag visible is_live = right_old_flag visible is_live
-  right_load IsOldCommit visible is_live = right_old_commit visible is_live
+  right_load : (which : loads.Load) (visible : Bool) → At r which → judgement (loaded w which r) ≡ Some visible → IsRight w.writes.history r.version r.snapshot visible
+  right_load FirstWord visible = right_first_word visible
+  right_load FirstMax visible = right_first_max visible
+  right_load DelayedFlag visible = right_delayed_flag visible
+  right_load variant.InPrepared visible = right_in_prepared visible
+  right_load SecondWord visible = right_second_word visible
+  right_load SecondMax visible = right_second_max visible
+  right_load OldFlag visible = right_old_flag visible
+  right_load IsOldCommit visible = right_old_commit visible
 
 -- ---- the step
 
@@ -326,15 +344,16 @@ load_keeps w by a which at n s =
     looks w by a b at
     (leaves_most w a b.reading (λ (f : Fact). not (ends w.writes.history (length w.cache) (step.load which) f)))
     record {
-      knows = λ x e. subst (IsReader w.writes.history w.max_evicted w.cache a.participant.registered) (reads_is w which a.reading r x n.1 e)
+      knows = λ x e. subst (IsReader w.writes.history w.max_evicted w.cache w.prepared.delayed_commits w.snapshots a.participant.registered) (reads_is w which a.reading r x n.1 e)
           record {
+            words = ap (λ (n : ℕ). 2 ^ n) (same_bits w r which) ∙ reader.words;
             registered_at = subst (λ z. IsIn z a.participant.registered) (λ i. (sym same i).1) reader.registered_at;
-            in_order = orders_load w r s live.1 reader.in_order reader.knows which so_far;
-            knows = λ le. knows_load w r s live.1 reader.in_order reader.knows which so_far (reader.knows (subst (λ (z : ℕ × ℕ). z.0 ≤ z.1) (λ i. ((same i).0, (same i).1.number)) le));
+            in_order = orders_load w r s live.1 reader.in_order reader.knows reader.words live.0 which so_far;
+            knows = λ le. (let low = subst (λ (z : ℕ × ℕ). z.0 ≤ z.1) (λ i. ((same i).0, (same i).1.number)) le in knows_load w r s live.1 reader.in_order reader.knows reader.words live.0 which so_far low (reader.knows low));
           };
       right = λ x visible e judged. let is : loaded w which r ≡ x = reads_is w which a.reading r x n.1 e in
           subst (λ (y : Observed). IsRight w.writes.history y.version y.snapshot visible) is
           (subst (λ (z : ℕ × ℕ). IsRight w.writes.history z.0 z.1 visible) (λ i. ((sym same i).0, (sym same i).1.number))
-          (right_load w r s live.1 reader.in_order reader.knows which visible live.0 so_far (ap judgement is ∙ judged)));
+          (right_load w r s live.1 reader.in_order reader.knows reader.words live.0 which visible so_far (ap judgement is ∙ judged)));
       idle = λ dead. let i = s.idle by a at dead in absurd (none_some a.reading r i.reading n.1);
     } s

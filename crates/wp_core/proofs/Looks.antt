@@ -30,7 +30,7 @@ leaves_most w a o test = record { participant = refl; learned = refl; held = ref
 
 -- what the actor reads is as it should be
 pub record ReadsRight (w : World) (b : Actor) : Type 0 where
-  pub knows : (r : Observed) → b.reading ≡ Some r → IsReader w.writes.history w.max_evicted w.cache b.participant.registered r
+  pub knows : (r : Observed) → b.reading ≡ Some r → IsReader w.writes.history w.max_evicted w.cache w.prepared.delayed_commits w.snapshots b.participant.registered r
   pub right : (r : Observed) (visible : Bool) → b.reading ≡ Some r → judgement r ≡ Some visible → IsRight w.writes.history r.version r.snapshot visible
   pub idle : b.live ≡ false → IsIdle b
 
@@ -39,7 +39,7 @@ looks w by a b at same reads s =
     let mine = s.noted by (noter_of a) (at_map noter_of w.actors by a at) in
     quiet_step w w by a b at (λ i. (same.participant i, same.learned i, record { live = same.live i; made = same.made i; joined = same.joined i })) (tables_of w s) (views_of w s) s.locks (pasts_of w s) (turns_still w by a b at same.held s)
     (record {
-      readers = each_map_set reader_of (λ j x. (r : Observed) → x.1 ≡ Some r → IsReader w.writes.history w.max_evicted w.cache x.0 r) w.actors by b reads.knows (λ j x ne there. s.readers j x there);
+      readers = each_map_set reader_of (λ j x. (r : Observed) → x.1 ≡ Some r → IsReader w.writes.history w.max_evicted w.cache w.prepared.delayed_commits w.snapshots x.0 r) w.actors by b reads.knows (λ j x ne there. s.readers j x there);
       judged = each_map_set reader_of (λ j x. (r : Observed) (visible : Bool) → x.1 ≡ Some r → judgement r ≡ Some visible → IsRight w.writes.history r.version r.snapshot visible) w.actors by b reads.right (λ j x ne there. s.judged j x there);
     })
     (each_map_set noter_of (λ j x. (fact : Fact) → IsIn fact x.1 → IsNoted w.holders (SoIn w) j x fact) w.actors by b

@@ -88,7 +88,7 @@ module _ (w : World) (by : ℕ) (a b : Actor) (live : Bool) (at : get_elem? w.ac
     learned = each_map_more learned_of (λ j x. StartsWith w.writes.history x) first_actors c (λ j. (w.writes.history, refl)) (kept_part w by a b at learned_of (AreLearned w.writes.history) same_learned s.learned);
     held = each_map_more held_of (AreHeld w.holders (content_of w)) first_actors c (λ j. tt) (kept_part w by a b at held_of (EachAt (AreHeld w.holders (content_of w))) same.held s.held);
     have = have_more w.holders first_actors c (kept_part w by a b at held_of (HoldersHave w.holders) same.held s.have);
-    readers = each_map_more reader_of _ first_actors c (λ j r e. absurd cc) (kept_part w by a b at reader_of (AreReaders w.writes.history w.max_evicted w.cache) same_reader s.readers);
+    readers = each_map_more reader_of _ first_actors c (λ j r e. absurd cc) (kept_part w by a b at reader_of (AreReaders w.writes.history w.max_evicted w.cache w.prepared.delayed_commits w.snapshots) same_reader s.readers);
     judged = each_map_more reader_of _ first_actors c (λ j r visible e q. absurd cc) (kept_part w by a b at reader_of (AreJudged w.writes.history) same_reader s.judged);
     noted = each_map_more noter_of (λ j x. (fact : Fact) → IsIn fact x.1 → IsNoted w.holders (SoIn w) j x fact) first_actors c (λ j fact h. absurd h)
         (each_map_set noter_of (λ j x. (fact : Fact) → IsIn fact x.1 → IsNoted w.holders (SoIn w) j x fact) w.actors by b

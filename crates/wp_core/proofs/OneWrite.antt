@@ -28,7 +28,7 @@ use Rattle.wp_core.specs.Reading.{Registration, reads}
 use Rattle.wp_core.specs.Views.{Event, claimed, locked}
 use Rattle.wp_core.specs.World.{Transaction, Transactions, Actor, World, new_participant, new_actor, history}
 use Rattle.wp_core.specs.Changes.{with_key, with_registered}
-use Rattle.wp_core.specs.Cache.{cache_place, pair_at, cached, cached_word}
+use Rattle.wp_core.specs.Cache.{cache_place, pair_at, cached_word}
 use Rattle.wp_core.specs.Steps.{Step, register, begin_reading, load, store_published, store_word, take_turn, make_pending, log_pending, add_versions, claim_name, lock_key}
 use Rattle.wp_core.specs.Conditions.{MayPublish}
 use Rattle.wp_core.specs.Effects.{done}
@@ -40,6 +40,7 @@ use Rattle.wp_model.specs.Flushed.{versions_under}
 use Rattle.wp_core.proofs.Empty.{empty_world, empty_is_opening}
 use Rattle.wp_core.proofs.Keyed.{is_word_same, at_inserted, else_inserted}
 use Rattle.wp_core.proofs.PublishesVersions.{at_under}
+use Rattle.wp_core.specs.Sound.Prepared.{IsEntered}
 
 -- ---- the worlds of the run
 
@@ -183,7 +184,7 @@ module _ (batch : List Change) (is : is_batch batch ≡ true) (s : HasKeys batch
   stored memory = store (record empty_world.store { memory = memory })
 
   abbrev first_word : ℕ
-  first_word = word_of first_pair
+  first_word = word_of 1 first_pair
 
   abbrev a_writer : Holders
   a_writer = record has_locks { write = Some 0 }
@@ -213,7 +214,7 @@ module _ (batch : List Change) (is : is_batch batch ≡ true) (s : HasKeys batch
   versions_added = on (doer (stored [] ∷ tables_held)) (add_versions in_memory) refl (refl, refl, has_versions batch) store_taken
 
   word_stored : ReachesFrom empty_world (world a_storer first_word logged finite.empty in_memory s.table (doer (stored in_memory ∷ tables_held)))
-  word_stored = on (doer (stored in_memory ∷ tables_held)) (store_word first_pair) refl (refl, refl, λ gone e. absurd (nothing_there gone e)) versions_added
+  word_stored = on (doer (stored in_memory ∷ tables_held)) (store_word first_pair) refl (refl, refl, refl, λ gone e. absurd (nothing_there gone e)) versions_added
 
   abbrev ready : World
   ready = world a_storer first_word logged finite.empty in_memory s.table (doer (stored in_memory ∷ tables_held))
@@ -228,7 +229,7 @@ module _ (batch : List Change) (is : is_batch batch ≡ true) (s : HasKeys batch
     keys = λ key changed. inr ([], s.transaction, s.has, s.keys key changed);
     transaction = λ name e. let q : None ≡ Some name = e in absurd (cc);
     number = λ e. absurd e;
-    pair = λ pair e. let q : first_pair ≡ pair = ap (λ o. unwrap_or o first_pair) e in subst (λ (x : CommitPair). cached (first_word ∷ []) x.number ≡ Some x.decision) q refl;
+    pair = λ pair e. let q : first_pair ≡ pair = ap (λ o. unwrap_or o first_pair) e in subst (λ (x : CommitPair). IsEntered (first_word ∷ []) empty_world.prepared.delayed_commits empty_world.max_evicted x) q (inl refl);
   }
 
   -- the actor once the batch is published, with these registrations and this reading
@@ -253,7 +254,7 @@ module _ (batch : List Change) (is : is_batch batch ≡ true) (s : HasKeys batch
   one_live = with_registered finite.empty 1
 
   abbrev found : Observed
-  found = record (reads 1 registration) { first_word = Some (cached_word (first_word ∷ []) 1) }
+  found = record (reads 0 1 registration) { first_word = Some (cached_word (first_word ∷ []) 1) }
 
   abbrev reading : List Registration → Option Observed → World
   reading registered r = world a_reader first_word published one_live in_memory s.table (reader (snapshots one_live ∷ written) registered r)
@@ -264,11 +265,11 @@ module _ (batch : List Change) (is : is_batch batch ≡ true) (s : HasKeys batch
   was_registered : ReachesFrom empty_world (reading (registration ∷ []) None)
   was_registered = on (reader (snapshots finite.empty ∷ written) [] None) (register 1) refl (refl, inl refl) snapshots_taken
 
-  began_reading : ReachesFrom empty_world (reading (registration ∷ []) (Some (reads 1 registration)))
-  began_reading = on (reader (snapshots one_live ∷ written) (registration ∷ []) None) (begin_reading 1 registration) refl (inl refl, λ le. refl) was_registered
+  began_reading : ReachesFrom empty_world (reading (registration ∷ []) (Some (reads 0 1 registration)))
+  began_reading = on (reader (snapshots one_live ∷ written) (registration ∷ []) None) (begin_reading 0 1 registration) refl (refl, inl refl, λ le. refl) was_registered
 
   was_loaded : ReachesFrom empty_world (reading (registration ∷ []) (Some found))
-  was_loaded = on (reader (snapshots one_live ∷ written) (registration ∷ []) (Some (reads 1 registration))) (load FirstWord) refl (reads 1 registration, refl, refl, tt) began_reading
+  was_loaded = on (reader (snapshots one_live ∷ written) (registration ∷ []) (Some (reads 0 1 registration))) (load FirstWord) refl (reads 0 1 registration, refl, refl, tt) began_reading
 
 -- ---- together
 

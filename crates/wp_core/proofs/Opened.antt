@@ -19,7 +19,7 @@ use Rattle.wp_model.specs.LockTables.{LockTables}
 use Rattle.wp_model.specs.PreparedTables.{PreparedTables, is_prepared, NoneDelayed}
 use Rattle.wp_model.proofs.Entries.{undecided_prepared, undecided_within}
 use Rattle.wp_history.proofs.Undecided.{is_undecided_by_list}
-use Rattle.wp_judge.specs.Words.{CommitPair, pair_of}
+use Rattle.wp_judge.specs.Words.{CommitPair}
 use Rattle.wp_judge.specs.declared.observed.Observed.{Observed}
 use Rattle.wp_model.proofs.Found.{found_holder}
 use Rattle.wp_core.specs.Lists.{IsIn}
@@ -39,6 +39,8 @@ use Rattle.wp_core.specs.Sound.Store.{IsStored, IsOfEdit}
 use Rattle.wp_core.specs.Sound.Locks.{Owner, owner_of, IsOwner}
 use Rattle.wp_core.specs.Sound.Pasts.{IsPast, tables_due, last_installed}
 use Rattle.wp_core.specs.IsSound.{IsSound}
+use Rattle.wp_core.specs.Cache.{pair_at}
+use Rattle.wp_judge.proofs.Packing.{word_back}
 use Rattle.wp_core.proofs.HistoryLaws.{decision_within, undecided_not_decided}
 use Rattle.wp_core.proofs.OneHolder.{holder_is, name_is, found_name}
 use Rattle.wp_core.proofs.Tests.{none_some}
@@ -132,8 +134,10 @@ module _ (opened : List Entry) (cache : List ℕ) (flag : ℕ) (logged : Bool) (
   prepared_is : (p : ℕ) → is_prepared (prepared_of opened) p ≡ is_undecided opened p
   prepared_is p = (λ i. finset.contains-empty nat_cmp p i || delayed_is p i)
 
-  no_pair : (i : ℕ) (pair : CommitPair) → i < length cache → pair_of (slice_index cache i) ≡ Some pair → ⊥
-  no_pair i pair lt e = let q : None ≡ Some pair = sym (ap pair_of (zeros i 0 lt)) ∙ e in absurd (cc)
+  no_pair : (i : ℕ) (pair : CommitPair) → i < length cache → pair_at cache i ≡ Some pair → ⊥
+  no_pair i pair lt e =
+      let k = word_back (length cache) i (slice_index cache i) pair lt e in let is = k.packed in let none = zeros i 0 lt in
+      absurd (omega (arith, is, none))
 
   none_owned : (n : ℕ) → 0 ≡ once opened opened n
   none_owned n = grind (arith, nat_tests)

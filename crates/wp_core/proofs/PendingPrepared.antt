@@ -15,14 +15,14 @@ use Rattle.wp_model.specs.PreparedTables.{PreparedTables, is_prepared}
 use Rattle.wp_judge.specs.Words.{CommitPair}
 use Rattle.wp_core.specs.Entries.{extended}
 use Rattle.wp_core.specs.Turns.{Holds, write_turn, prepared_turn}
-use Rattle.wp_core.specs.Views.{Fact, apart, has_left, number_in_heap, number_not_in_heap}
+use Rattle.wp_core.specs.Views.{Fact, apart, has_left, number_in_heap, number_not_in_heap, none_waits}
 use Rattle.wp_core.specs.World.{Participant, Actor, World}
 use Rattle.wp_core.specs.Steps.{add_prepared, take_pending_prepared}
 use Rattle.wp_core.specs.Effects.{done}
 use Rattle.wp_core.specs.Needs.{Needs}
 use Rattle.wp_core.specs.Notes.{forgets}
 use Rattle.wp_core.specs.Sound.Prepared.{AreFlags, AreUndecided, AreDelayed}
-use Rattle.wp_core.specs.Sound.Views.{IsApart, HasLeft, IsClearing}
+use Rattle.wp_core.specs.Sound.Views.{IsApart, HasLeft, IsClearing, NoneWaits}
 use Rattle.wp_core.specs.IsSound.{IsSound}
 use Rattle.wp_history.proofs.Growth.{entry_at_next}
 use Rattle.wp_model.proofs.Entries.{undecided_within}
@@ -62,7 +62,7 @@ module _ (w : World) (s : IsSound w) (heap : finset.FinSet nat_cmp) (same : (p :
         (λ (ne : p ≢ suc (length w.writes.history)). s.undecided.known p (sym (prepared_else p ne) ∙ there));
   }
 
-  heap_delayed : AreDelayed w.writes.history t w.cache
+  heap_delayed : AreDelayed w.writes.history w.writes.pending t w.cache
   heap_delayed = record { found = λ p c there decided. s.delayed.found p c (sym (decided_else p c decided) ∙ there) decided; commits = s.delayed.commits }
 
   heap_flags : (by : ℕ) → Holds w.holders prepared_turn by → AreFlags w.delayed_flag w.old_flag t w.snapshots w.holders.prepared w.holders.snapshots
@@ -77,6 +77,9 @@ module _ (w : World) (s : IsSound w) (heap : finset.FinSet nat_cmp) (same : (p :
         (λ (e : is_prepared w.prepared pair.number ≡ false). inl (decided_else pair.number pair.decision (clearing_decided w place pair _ s k) ∙ e))
         (λ (e : finite.get w.prepared.delayed_commits pair.number ≡ Some pair.decision). inr e) k.so;
   }
+
+  heap_waits : NoneWaits w.writes.history w.prepared w.cache w.max_evicted → NoneWaits w.writes.history t w.cache w.max_evicted
+  heap_waits k p c there decided low = k p c (sym (decided_else p c decided) ∙ there) decided low
 
   heap_left : (p : ℕ) → HasLeft w.writes.history w.prepared p → HasLeft w.writes.history t p
   heap_left p k = (k.0, decided_else p k.0.0 k.0.1 ∙ k.1)
@@ -99,15 +102,16 @@ module _ (w : World) (s : IsSound w) where
   so_with : (a : Participant) (fact : Fact) → Stays w add_prepared write_turn fact → SoIn w a fact → SoWith w (record w.prepared { heap = more }) a fact
   so_with a (apart place pair) stays k = heap_apart w s more more_else place pair k
   so_with a (has_left p) stays k = heap_left w s more more_else p k
+  so_with a none_waits stays k = heap_waits w s more more_else k
   so_with a number_in_heap stays k = in_inserted w.prepared.heap (suc (length w.writes.history))
   so_with a number_not_in_heap stays k = absurd (stays_not write_turn stays)
   so_with a fact stays k = k
 
 pub adds_prepared : (w : World) (by : ℕ) (a : Actor) → get_elem? w.actors by ≡ some a → Needs w by a add_prepared → IsSound w → IsSound (done w by (forgets w.writes.history (length w.cache) add_prepared a) add_prepared)
 adds_prepared w by a at n s =
-    prepared_changes w by a add_prepared (record w.prepared { heap = more w s }) at n.1
+    prepared_changes w by a add_prepared (record w.prepared { heap = more w s }) at n.1 s.decided
     (heap_undecided w s (more w s) (more_else w s) (λ p e there. ap (λ (m : ℕ). is_prepare (entry_at (extended w.writes.history w.writes.pending) m)) e ∙ prepare_pending w s n.2.0 n.2.1 n.2.2 n.2.3))
-    (heap_delayed w s (more w s) (more_else w s)) (heap_flags w s (more w s) (more_else w s) by n.1)
+    (heap_delayed w s (more w s) (more_else w s)) (heap_flags w s (more w s) (more_else w s) by n.1) s.readers
     (notes_by w by add_prepared write_turn _ n.0 (so_with w s)) s
 
 -- ---- it goes
@@ -132,12 +136,13 @@ module _ (w : World) (s : IsSound w) where
   so_without : (a : Participant) (fact : Fact) → Stays w take_pending_prepared write_turn fact → SoIn w a fact → SoWith w (record w.prepared { heap = less }) a fact
   so_without a (apart place pair) stays k = heap_apart w s less less_else place pair k
   so_without a (has_left p) stays k = heap_left w s less less_else p k
+  so_without a none_waits stays k = heap_waits w s less less_else k
   so_without a number_in_heap stays k = absurd (stays_not write_turn stays)
   so_without a number_not_in_heap stays k = in_removed w.prepared.heap (suc (length w.writes.history))
   so_without a fact stays k = k
 
 pub takes_pending_prepared : (w : World) (by : ℕ) (a : Actor) → get_elem? w.actors by ≡ some a → Needs w by a take_pending_prepared → IsSound w → IsSound (done w by (forgets w.writes.history (length w.cache) take_pending_prepared a) take_pending_prepared)
 takes_pending_prepared w by a at n s =
-    prepared_changes w by a take_pending_prepared (record w.prepared { heap = less w s }) at n.1 (heap_undecided w s (less w s) (less_else w s) (none_next w s))
-    (heap_delayed w s (less w s) (less_else w s)) (heap_flags w s (less w s) (less_else w s) by n.1)
+    prepared_changes w by a take_pending_prepared (record w.prepared { heap = less w s }) at n.1 s.decided (heap_undecided w s (less w s) (less_else w s) (none_next w s))
+    (heap_delayed w s (less w s) (less_else w s)) (heap_flags w s (less w s) (less_else w s) by n.1) s.readers
     (notes_by w by take_pending_prepared write_turn _ n.0 (so_without w s)) s

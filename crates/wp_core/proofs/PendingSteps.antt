@@ -10,7 +10,7 @@ use Rattle.wp_model.specs.Legal.{IsLegal}
 use Rattle.wp_core.specs.Entries.{next_of, extended, IsOneRecord}
 use Rattle.wp_core.specs.Tables.{WriteTable, writes}
 use Rattle.wp_core.specs.Turns.{Holds, write_turn}
-use Rattle.wp_core.specs.Views.{Fact, versions_in_memory}
+use Rattle.wp_core.specs.Views.{Fact, versions_in_memory, pair_delayed, pair_not_delayed}
 use Rattle.wp_core.specs.World.{Participant, Actor, World, with_content}
 use Rattle.wp_core.specs.Steps.{Step, make_pending, log_pending}
 use Rattle.wp_core.specs.Changes.{held_with, change}
@@ -19,7 +19,7 @@ use Rattle.wp_core.specs.Needs.{Needs}
 use Rattle.wp_core.specs.Notes.{forgets, ends}
 use Rattle.wp_core.specs.Sound.History.{IsHistory, logged_part}
 use Rattle.wp_core.specs.Sound.Pasts.{past_of, AreFaults}
-use Rattle.wp_core.specs.Sound.Prepared.{IsCache, AreUndecided}
+use Rattle.wp_core.specs.Sound.Prepared.{IsCache, AreUndecided, AreDelayed}
 use Rattle.wp_core.specs.Sound.Store.{IsStored}
 use Rattle.wp_core.specs.Sound.Views.{IsSo}
 use Rattle.wp_core.specs.IsSound.{IsSound, participants}
@@ -38,16 +38,16 @@ abbrev pub SoPending : World → WriteTable → Participant → Fact → Type 0
 SoPending w d = IsSo w.delayed_flag w.old_flag w.max_evicted w.cache d w.prepared w.snapshots w.store w.locks w.installed
 
 pub pending_changes : (w : World) (by : ℕ) (a : Actor) (step : Step) (pending : List Entry) (logged : Bool) (log : List Entry) → get_elem? w.actors by ≡ some a → Holds w.holders write_turn by
-    → IsHistory w.opened (with_pending w.writes pending logged log) w.max_evicted → IsCache w.writes.history pending w.cache → AreUndecided w.writes.history pending w.prepared w.max_evicted
+    → IsHistory w.opened (with_pending w.writes pending logged log) w.max_evicted → IsCache w.writes.history pending w.cache → AreUndecided w.writes.history pending w.prepared w.max_evicted → AreDelayed w.writes.history pending w.prepared w.cache
     → IsStored w.writes.history pending w.snapshots w.store w.installed → AreFaults (with_pending w.writes pending logged log) w.installed.halted (participants past_of w)
     → NotesStay w by step (SoPending w (with_pending w.writes pending logged log)) → IsSound w
     → IsSound (change w by (forgets w.writes.history (length w.cache) step a) (writes (with_pending w.writes pending logged log)))
-pending_changes w by a step pending logged log at holds history cache undecided stored faults notes s =
+pending_changes w by a step pending logged log at holds history cache undecided delayed stored faults notes s =
     let d : WriteTable = with_pending w.writes pending logged log in
     let c : Actor = forgets w.writes.history (length w.cache) step a in
     let b : Actor = record c { held = held_with c.held (writes d) } in
     quiet_step w (with_content w (writes d)) by a b at refl
-    (record { history = history; cache = cache; decided = s.decided; undecided = undecided; delayed = s.delayed; flags = s.flags; versions = stored; settled = s.settled; pending = λ free. absurd (not_free w.holders write_turn by holds free) })
+    (record { history = history; cache = cache; decided = s.decided; undecided = undecided; delayed = delayed; flags = s.flags; versions = stored; settled = s.settled; pending = λ free. absurd (not_free w.holders write_turn by holds free) })
     (views_of w s) s.locks (record { holders = s.holders; board = s.board; faults = faults; edits = s.edits })
     (turns_changed w by a b at (writes d) holds refl s) (readers_still w by a b at refl s)
     (noted_after w by a b step (SoPending w d) at refl refl notes s) (idle_after w by a b write_turn at holds s refl) s
@@ -98,6 +98,13 @@ undecided_made w entries none s = record {
   known = λ p there. prepare_stays w.writes.history entries p (ap (λ (z : List Entry). is_prepare (entry_at (extended w.writes.history z) p)) (sym none) ∙ s.undecided.known p there);
 }
 
+-- the delayed commits are of the history alone, so they stay
+delayed_made : (w : World) (entries : List Entry) → w.writes.pending ≡ [] → IsSound w → AreDelayed w.writes.history entries w.prepared w.cache
+delayed_made w entries none s = record {
+  found = s.delayed.found;
+  commits = λ p c e. extended_stays w.writes.history entries p c (ap (λ (z : List Entry). decision_of (extended w.writes.history z) p) (sym none) ∙ s.delayed.commits p c e);
+}
+
 stored_made : (w : World) (entries : List Entry) → w.writes.pending ≡ [] → IsSound w → IsStored w.writes.history entries w.snapshots w.store w.installed
 stored_made w entries none s =
     let o = s.versions in record {
@@ -111,17 +118,19 @@ stored_made w entries none s =
       in_memory = o.in_memory;
     }
 
--- what stays where another record is pending: only that the pending one is in memory does not
-pub so_pending : (w : World) (step : Step) (pending log : List Entry) (logged : Bool) → ends w.writes.history (length w.cache) step versions_in_memory ≡ true → (p : Participant) (fact : Fact) → Stays w step write_turn fact → SoIn w p fact
+-- what stays where another record is pending: only that the pending one is in memory, or its pair a delayed commit, does not
+pub so_pending : (w : World) (step : Step) (pending log : List Entry) (logged : Bool) → ends w.writes.history (length w.cache) step versions_in_memory ≡ true → ends w.writes.history (length w.cache) step pair_delayed ≡ true → ends w.writes.history (length w.cache) step pair_not_delayed ≡ true → (p : Participant) (fact : Fact) → Stays w step write_turn fact → SoIn w p fact
     → SoPending w (with_pending w.writes pending logged log) p fact
-so_pending w step pending log logged ended p versions_in_memory stays k = absurd (stays_not write_turn (⊎_elim (λ (left : not (ends w.writes.history (length w.cache) step versions_in_memory) ≡ true). inl (sym (ap not ended) ∙ left)) (λ (free : Some write_turn ≡ Some write_turn → ⊥). inr free) stays))
-so_pending w step pending log logged ended p fact stays k = k
+so_pending w step pending log logged memory delayed undelayed p versions_in_memory stays k = absurd (stays_not write_turn (⊎_elim (λ (left : not (ends w.writes.history (length w.cache) step versions_in_memory) ≡ true). inl (sym (ap not memory) ∙ left)) (λ (free : Some write_turn ≡ Some write_turn → ⊥). inr free) stays))
+so_pending w step pending log logged memory delayed undelayed p pair_delayed stays k = absurd (stays_not write_turn (⊎_elim (λ (left : not (ends w.writes.history (length w.cache) step pair_delayed) ≡ true). inl (sym (ap not delayed) ∙ left)) (λ (free : Some write_turn ≡ Some write_turn → ⊥). inr free) stays))
+so_pending w step pending log logged memory delayed undelayed p pair_not_delayed stays k = absurd (stays_not write_turn (⊎_elim (λ (left : not (ends w.writes.history (length w.cache) step pair_not_delayed) ≡ true). inl (sym (ap not undelayed) ∙ left)) (λ (free : Some write_turn ≡ Some write_turn → ⊥). inr free) stays))
+so_pending w step pending log logged memory delayed undelayed p fact stays k = k
 
 pub makes_pending : (w : World) (by : ℕ) (a : Actor) (entries : List Entry) → get_elem? w.actors by ≡ some a → Needs w by a (make_pending entries) → IsSound w → IsSound (done w by (forgets w.writes.history (length w.cache) (make_pending entries) a) (make_pending entries))
 makes_pending w by a entries at n s =
-    pending_changes w by a (make_pending entries) entries false w.writes.log at n.0 (history_made w entries n.1 n.2 n.3 s) (cache_made w entries n.1 s) (undecided_made w entries n.1 s) (stored_made w entries n.1 s)
+    pending_changes w by a (make_pending entries) entries false w.writes.log at n.0 (history_made w entries n.1 n.2 n.3 s) (cache_made w entries n.1 s) (undecided_made w entries n.1 s) (delayed_made w entries n.1 s) (stored_made w entries n.1 s)
     (record { log = s.faults.log; tables = s.faults.tables; not_logged = λ closed. inr refl; stopped = s.faults.stopped; failed = s.faults.failed })
-    (notes_by w by (make_pending entries) write_turn _ n.0 (so_pending w (make_pending entries) entries w.writes.log false refl)) s
+    (notes_by w by (make_pending entries) write_turn _ n.0 (so_pending w (make_pending entries) entries w.writes.log false refl refl refl)) s
 
 -- ---- it is logged
 
@@ -143,6 +152,6 @@ so_logged w p fact k = k
 
 pub logs_pending : (w : World) (by : ℕ) (a : Actor) → get_elem? w.actors by ≡ some a → Needs w by a log_pending → IsSound w → IsSound (done w by (forgets w.writes.history (length w.cache) log_pending a) log_pending)
 logs_pending w by a at n s =
-    pending_changes w by a log_pending w.writes.pending true (w.writes.log ++ w.writes.pending) at n.0 (history_logged w n.2 s) s.cache s.undecided s.versions
+    pending_changes w by a log_pending w.writes.pending true (w.writes.log ++ w.writes.pending) at n.0 (history_logged w n.2 s) s.cache s.undecided s.delayed s.versions
     (record { log = s.faults.log; tables = s.faults.tables; not_logged = λ closed. absurd (true≢false (sym closed ∙ n.3)); stopped = s.faults.stopped; failed = s.faults.failed })
     (notes_all w by log_pending _ (so_logged w)) s

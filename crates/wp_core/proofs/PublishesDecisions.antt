@@ -1,6 +1,8 @@
 -- The pending entry joins the history: the cache, what is decided and undecided, and the prepared tables.
-use Rattle.std.proofs.Common.{◌≡◌, ⊎_elim, inl, ℕ, suc, ◌||◌, Bool, true, true≢false, List, [], ◌∷◌, ◌++◌, length, sym, ap, ◌∙◌, Some}
+use Rattle.std.proofs.Common.{◌≡◌, ◌⊎◌, ⊎_elim, inl, inr, ℕ, suc, ◌||◌, Bool, true, true≢false, List, [], ◌∷◌, ◌++◌, length, sym, ap, ◌∙◌, Some}
+use Rattle.std.specs.Ordering.{nat_cmp}
 use Rattle.std.specs.FinSet as set
+use Rattle.std.specs.FinMap as finite
 use Rattle.wp_model.specs.declared.entry.Entry.{Entry}
 use Rattle.wp_model.specs.declared.entry.Entry.TheVariants.{Write, Prepare, Commit, Undo, Close}
 use Rattle.wp_model.specs.History.{entry_at, is_prepare}
@@ -12,7 +14,7 @@ use Rattle.wp_judge.specs.Words.{CommitPair}
 use Rattle.wp_core.specs.Cache.{cached}
 use Rattle.wp_core.specs.Conditions.{IsPrepare}
 use Rattle.wp_core.specs.Entries.{pair_by, extended}
-use Rattle.wp_core.specs.Sound.Prepared.{IsCache, AreDecided, AreUndecided, AreDelayed}
+use Rattle.wp_core.specs.Sound.Prepared.{IsCache, AreDecided, AreUndecided, AreDelayed, IsWide, IsEntered}
 use Rattle.wp_core.proofs.HistoryGrows.{decided_before_or_now, undecided_before_or_now}
 use Rattle.wp_core.proofs.HistoryLaws.{decision_stays}
 use Rattle.wp_core.proofs.PendingSteps.{prepare_stays}
@@ -32,9 +34,9 @@ module _ (history : List Entry) (entry : Entry) (others : List Entry) (legal : I
   abbrev next : ℕ
   next = suc (length history)
 
-  -- the entry's pair is in its word
-  abbrev pub IsPaired : List ℕ → Type 0
-  IsPaired cache = (pair : CommitPair) → pair_by next entry ≡ Some pair → cached cache pair.number ≡ Some pair.decision
+  -- the entry's pair is where a reader finds it
+  abbrev pub IsPaired : List ℕ → finite.FinMap nat_cmp ℕ → ℕ → Type 0
+  IsPaired cache commits max = (pair : CommitPair) → pair_by next entry ≡ Some pair → IsEntered cache commits max pair
 
   pub cache_part : (pending : List Entry) (cache : List ℕ) → pending ≡ entry ∷ others → IsCache history pending cache → IsCache grown others cache
   cache_part pending cache is k = record {
@@ -44,8 +46,8 @@ module _ (history : List Entry) (entry : Entry) (others : List Entry) (legal : I
         record { placed = p.placed; decided = extended_stays grown others pair.number pair.decision (ap (λ (z : List Entry). decision_of (extended history z) pair.number) (sym is) ∙ p.decided) };
   }
 
-  pub decided_part : (cache : List ℕ) (max : ℕ) (snapshots : Snapshots) → IsPaired cache → AreDecided history cache max snapshots → AreDecided grown cache max snapshots
-  decided_part cache max snapshots pair k = record {
+  pub decided_part : (cache : List ℕ) (commits : finite.FinMap nat_cmp ℕ) (max : ℕ) (snapshots : Snapshots) → IsPaired cache commits max → AreDecided history cache commits max snapshots → AreDecided grown cache commits max snapshots
+  decided_part cache commits max snapshots pair k = record {
     found = λ p c e. ⊎_elim (λ (d : decision_of history p ≡ Some c). k.found p c d) (λ d. inl (pair (record { number = p; decision = c }) d.1)) (decided_before_or_now history entry legal p c e);
     kept = λ s p there. let o = k.kept s p there in (o.0, decision_stays history (entry ∷ []) p o.0 o.1, o.2, o.3);
   }
@@ -61,8 +63,11 @@ module _ (history : List Entry) (entry : Entry) (others : List Entry) (legal : I
     known = λ p there. prepare_stays grown others p (ap (λ (z : List Entry). is_prepare (entry_at (extended history z) p)) (sym is) ∙ k.known p there);
   }
 
-  pub delayed_part : (t : PreparedTables) (cache : List ℕ) → IsPaired cache → AreDelayed history t cache → AreDelayed grown t cache
-  delayed_part t cache pair k = record {
-    found = λ p c there e. ⊎_elim (λ (d : decision_of history p ≡ Some c). k.found p c there d) (λ d. inl (pair (record { number = p; decision = c }) d.1)) (decided_before_or_now history entry legal p c e);
-    commits = λ p c e. decision_stays history (entry ∷ []) p c (k.commits p c e);
+  pub delayed_part : (pending : List Entry) (t : PreparedTables) (cache : List ℕ) (max : ℕ) → pending ≡ entry ∷ others → IsPaired cache t.delayed_commits max → AreDelayed history pending t cache → AreDelayed grown others t cache
+  delayed_part pending t cache max is pair k = record {
+    found = λ p c there e. ⊎_elim (λ (d : decision_of history p ≡ Some c). k.found p c there d) (λ d. by_place p c (pair (record { number = p; decision = c }) d.1)) (decided_before_or_now history entry legal p c e);
+    commits = λ p c e. extended_stays grown others p c (ap (λ (z : List Entry). decision_of (extended history z) p) (sym is) ∙ k.commits p c e);
   }
+    where
+      by_place : (p c : ℕ) → IsEntered cache t.delayed_commits max (record { number = p; decision = c }) → (cached cache p ≡ Some c) ⊎ (finite.get t.delayed_commits p ≡ Some c)
+      by_place p c e = ⊎_elim (λ (there : cached cache p ≡ Some c). inl there) (λ (x : IsWide (length cache) t.delayed_commits max (record { number = p; decision = c })). inr x.delayed) e

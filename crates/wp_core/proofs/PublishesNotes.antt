@@ -21,7 +21,7 @@ use Rattle.wp_core.specs.Conditions.{MayPublish}
 use Rattle.wp_core.specs.Entries.{transaction_of, changes_under}
 use Rattle.wp_core.specs.Turns.{write_turn}
 use Rattle.wp_core.specs.Tables.{WriteTable}
-use Rattle.wp_core.specs.Views.{Fact, passed, in_old_commits, apart, has_left, versions_in_memory, versions_nowhere, number_in_heap, number_not_in_heap, undecided_at, prior_values, unprepared, direct_free, live_listed, frozen_stay}
+use Rattle.wp_core.specs.Views.{Fact, passed, in_old_commits, apart, has_left, versions_in_memory, versions_nowhere, number_in_heap, number_not_in_heap, pair_delayed, pair_not_delayed, none_waits, undecided_at, prior_values, unprepared, direct_free, live_listed, frozen_stay}
 use Rattle.wp_core.specs.World.{Participant, Actor, World}
 use Rattle.wp_core.specs.Steps.{store_published}
 use Rattle.wp_core.specs.Effects.{with_entry}
@@ -145,6 +145,9 @@ module _ (w : World) (by : ℕ) (a : Actor) (entry : Entry) (others : List Entry
   mine_grows versions_nowhere left k = absurd (true≢false (sym left))
   mine_grows number_in_heap left k = absurd (true≢false (sym left))
   mine_grows number_not_in_heap left k = absurd (true≢false (sym left))
+  mine_grows pair_delayed left k = absurd (true≢false (sym left))
+  mine_grows pair_not_delayed left k = absurd (true≢false (sym left))
+  mine_grows none_waits left k = absurd (true≢false (sym left))
   mine_grows (undecided_at name p) left k = undecided_grows a.participant own_owner name p (not_its name left) k
   mine_grows (prior_values name p batch) left k = prior_grows a.participant own_owner name p batch (not_its name left) k
   mine_grows (unprepared name) left k = unprepared_grows a.participant own_owner name (not_its name left) k
@@ -171,6 +174,9 @@ module _ (w : World) (by : ℕ) (a : Actor) (entry : Entry) (others : List Entry
     others_grow versions_nowhere guard k = absurd (not_theirs w.holders write_turn by j n.turn ne (guard write_turn refl))
     others_grow number_in_heap guard k = absurd (not_theirs w.holders write_turn by j n.turn ne (guard write_turn refl))
     others_grow number_not_in_heap guard k = absurd (not_theirs w.holders write_turn by j n.turn ne (guard write_turn refl))
+    others_grow pair_delayed guard k = absurd (not_theirs w.holders write_turn by j n.turn ne (guard write_turn refl))
+    others_grow pair_not_delayed guard k = absurd (not_theirs w.holders write_turn by j n.turn ne (guard write_turn refl))
+    others_grow none_waits guard k = absurd (not_theirs w.holders write_turn by j n.turn ne (guard write_turn refl))
     others_grow (undecided_at name p) guard k = undecided_grows q theirs name p (not_theirs_now name k.0) k
     others_grow (prior_values name p batch) guard k = prior_grows q theirs name p batch (not_theirs_now name k.0) k
     others_grow (unprepared name) guard k = unprepared_grows q theirs name (not_theirs_now name k.0) k

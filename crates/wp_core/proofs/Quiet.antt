@@ -66,8 +66,8 @@ noted_after w by a b step so at same notes k s =
 
 -- ---- the bound and a table of prepared transactions change
 
-pub bound_changes : (w : World) (by : ℕ) (a : Actor) (step : Step) (max : ℕ) (t : PreparedTables) → get_elem? w.actors by ≡ some a → Holds w.holders prepared_turn by → IsHistory w.opened w.writes max → AreDecided w.writes.history w.cache max w.snapshots
-    → AreUndecided w.writes.history w.writes.pending t max → AreDelayed w.writes.history t w.cache → AreFlags w.delayed_flag w.old_flag t w.snapshots w.holders.prepared w.holders.snapshots → AreReaders w.writes.history max w.cache (map reader_of w.actors)
+pub bound_changes : (w : World) (by : ℕ) (a : Actor) (step : Step) (max : ℕ) (t : PreparedTables) → get_elem? w.actors by ≡ some a → Holds w.holders prepared_turn by → IsHistory w.opened w.writes max → AreDecided w.writes.history w.cache t.delayed_commits max w.snapshots
+    → AreUndecided w.writes.history w.writes.pending t max → AreDelayed w.writes.history w.writes.pending t w.cache → AreFlags w.delayed_flag w.old_flag t w.snapshots w.holders.prepared w.holders.snapshots → AreReaders w.writes.history max w.cache t.delayed_commits w.snapshots (map reader_of w.actors)
     → NotesStay w by step (IsSo w.delayed_flag w.old_flag max w.cache w.writes t w.snapshots w.store w.locks w.installed) → IsSound w
     → IsSound (change (record w { max_evicted = max }) by (forgets w.writes.history (length w.cache) step a) (prepared t))
 bound_changes w by a step max t at holds history decided undecided delayed flags readers notes s =
@@ -76,21 +76,21 @@ bound_changes w by a step max t at holds history decided undecided delayed flags
     let b : Actor = record c { held = held_with c.held (prepared t) } in
     quiet_step w v by a b at refl (record { history = history; cache = s.cache; decided = decided; undecided = undecided; delayed = delayed; flags = flags; versions = s.versions; settled = s.settled; pending = s.pending })
     (views_of w s) s.locks (pasts_of w s) (turns_changed w by a b at (prepared t) holds refl s)
-    (readers_kept w by a b at w.writes.history max w.cache refl (record { readers = readers; judged = s.judged }))
+    (readers_kept w by a b at w.writes.history max w.cache t.delayed_commits w.snapshots refl (record { readers = readers; judged = s.judged }))
     (noted_after w by a b step (SoIn v) at refl refl notes s) (idle_after w by a b prepared_turn at holds s refl) s
 
 -- the bound stays
 pub prepared_changes : (w : World) (by : ℕ) (a : Actor) (step : Step) (t : PreparedTables) → get_elem? w.actors by ≡ some a → Holds w.holders prepared_turn by
-    → AreUndecided w.writes.history w.writes.pending t w.max_evicted → AreDelayed w.writes.history t w.cache → AreFlags w.delayed_flag w.old_flag t w.snapshots w.holders.prepared w.holders.snapshots
+    → AreDecided w.writes.history w.cache t.delayed_commits w.max_evicted w.snapshots → AreUndecided w.writes.history w.writes.pending t w.max_evicted → AreDelayed w.writes.history w.writes.pending t w.cache → AreFlags w.delayed_flag w.old_flag t w.snapshots w.holders.prepared w.holders.snapshots → AreReaders w.writes.history w.max_evicted w.cache t.delayed_commits w.snapshots (map reader_of w.actors)
     → NotesStay w by step (IsSo w.delayed_flag w.old_flag w.max_evicted w.cache w.writes t w.snapshots w.store w.locks w.installed) → IsSound w
     → IsSound (change w by (forgets w.writes.history (length w.cache) step a) (prepared t))
-prepared_changes w by a step t at holds undecided delayed flags notes s = bound_changes w by a step w.max_evicted t at holds s.history s.decided undecided delayed flags s.readers notes s
+prepared_changes w by a step t at holds decided undecided delayed flags readers notes s = bound_changes w by a step w.max_evicted t at holds s.history decided undecided delayed flags readers notes s
 
 -- ---- words change, and no table
 
 pub words_change : (w : World) (by : ℕ) (a : Actor) (step : Step) (turn : Turn) (cache : List ℕ) (delayed_flag old_flag : ℕ) → get_elem? w.actors by ≡ some a → Holds w.holders turn by
-    → IsCache w.writes.history w.writes.pending cache → AreDecided w.writes.history cache w.max_evicted w.snapshots → AreDelayed w.writes.history w.prepared cache
-    → AreFlags delayed_flag old_flag w.prepared w.snapshots w.holders.prepared w.holders.snapshots → AreReaders w.writes.history w.max_evicted cache (map reader_of w.actors)
+    → IsCache w.writes.history w.writes.pending cache → AreDecided w.writes.history cache w.prepared.delayed_commits w.max_evicted w.snapshots → AreDelayed w.writes.history w.writes.pending w.prepared cache
+    → AreFlags delayed_flag old_flag w.prepared w.snapshots w.holders.prepared w.holders.snapshots → AreReaders w.writes.history w.max_evicted cache w.prepared.delayed_commits w.snapshots (map reader_of w.actors)
     → NotesStay w by step (IsSo delayed_flag old_flag w.max_evicted cache w.writes w.prepared w.snapshots w.store w.locks w.installed) → IsSound w
     → IsSound (with_actor (record w { cache = cache; delayed_flag = delayed_flag; old_flag = old_flag }) by (forgets w.writes.history (length w.cache) step a))
 words_change w by a step turn cache delayed_flag old_flag at holds cached decided delayed flags readers notes s =
@@ -98,5 +98,5 @@ words_change w by a step turn cache delayed_flag old_flag at holds cached decide
     let b : Actor = forgets w.writes.history (length w.cache) step a in
     quiet_step w v by a b at refl (record { history = s.history; cache = cached; decided = decided; undecided = s.undecided; delayed = delayed; flags = flags; versions = s.versions; settled = s.settled; pending = s.pending })
     (views_of w s) s.locks (pasts_of w s) (turns_still w by a b at refl s)
-    (readers_kept w by a b at w.writes.history w.max_evicted cache refl (record { readers = readers; judged = s.judged }))
+    (readers_kept w by a b at w.writes.history w.max_evicted cache w.prepared.delayed_commits w.snapshots refl (record { readers = readers; judged = s.judged }))
     (noted_after w by a b step (SoIn v) at refl refl notes s) (idle_after w by a b turn at holds s refl) s

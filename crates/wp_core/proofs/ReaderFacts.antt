@@ -1,6 +1,7 @@
 -- What the parts of a sound world say of one version, for a reader that loads now.
-use Rattle.std.proofs.Common.{◌/◌, ◌%◌, ◌^◌, ◌&&◌, ◌≡◌, ⊎_elim, ℕ, ◌<◌, ◌≤◌, nat_le, ◌==◌, ◌||◌, Bool, true, false, not, cond, true≢false, List, [], ◌∷◌, length, refl, sym, subst, ◌∙◌, Option, Some, None, mod-lt, arith}
+use Rattle.std.proofs.Common.{◌≡◌, inl, inr, ⊎_elim, ℕ, ◌<◌, ◌≤◌, nat_le, ◌==◌, ◌||◌, Bool, true, false, not, cond, true≢false, List, [], ◌∷◌, length, refl, sym, subst, ◌∙◌, Option, Some, None, mod-lt, arith}
 use Rattle.std.proofs.lemmas.Bool.Decides.{nat_tests}
+use Rattle.std.specs.Ordering.{nat_cmp}
 use Rattle.std.specs.FinSet as set
 use Rattle.std.specs.FinMap as finite
 use Rattle.wp_model.specs.declared.entry.Entry.{Entry}
@@ -9,24 +10,18 @@ use Rattle.wp_model.specs.Decision.{decision_of, IsCommittedAt}
 use Rattle.wp_model.specs.PreparedTables.{PreparedTables}
 use Rattle.wp_model.specs.Snapshots.{Snapshots, IsLive, is_old_commit}
 use Rattle.wp_judge.specs.Words.{CommitPair, pair_of, decision_if}
+use Rattle.wp_judge.proofs.Packing.{word_back}
 use Rattle.wp_core.specs.Cache.{cache_place, pair_at, cached}
 use Rattle.wp_core.specs.Entries.{extended}
-use Rattle.wp_core.specs.Sound.Prepared.{IsCache, AreDecided, AreUndecided, AreDelayed, IsPassed}
+use Rattle.wp_core.specs.Sound.Prepared.{IsCache, AreDecided, AreUndecided, AreDelayed, IsPassed, IsWide, IsEntered}
 use Rattle.wp_core.specs.Sound.Snapshots.{has_versions_at}
-use Rattle.wp_core.specs.Sound.Reader.{IsPassedBy, IsRight}
+use Rattle.wp_core.specs.Sound.Reader.{IsPassedBy, IsReachedBy, AnswersFor, IsRight}
 use Rattle.wp_core.proofs.HistoryLaws.{decision_stays, decision_was, decided_or_undecided}
 use Rattle.wp_core.proofs.Tests.{same_some, none_some}
 
-ordered_if : (p c : ℕ) (pair : CommitPair) (a b : Bool) → nat_le 1 p ≡ a → nat_le p c ≡ b → cond (a && b) (Some (record { number = p; decision = c })) None ≡ Some pair → (1 ≤ pair.number) × (pair.number ≤ pair.decision)
-ordered_if p c pair true true low high e =
-    let q : record { number = p; decision = c } ≡ pair = same_some (record { number = p; decision = c }) pair e in
-    subst (λ (x : CommitPair). (1 ≤ x.number) × (x.number ≤ x.decision)) q (grind (arith, nat_tests), grind (arith, nat_tests))
-ordered_if p c pair true false low high e = let no : None ≡ Some pair = e in absurd (cc)
-ordered_if p c pair false b low high e = let no : None ≡ Some pair = e in absurd (cc)
-
 -- a pair in a word decides a version by itself or by a later entry
-pub pair_ordered : (word : ℕ) (pair : CommitPair) → pair_of word ≡ Some pair → (1 ≤ pair.number) × (pair.number ≤ pair.decision)
-pair_ordered word pair e = ordered_if (word / 2 ^ 32) (word % 2 ^ 32) pair _ _ refl refl e
+pub pair_ordered : (words place word : ℕ) (pair : CommitPair) → place < words → pair_of words place word ≡ Some pair → (1 ≤ pair.number) × (pair.number ≤ pair.decision)
+pair_ordered words place word pair within e = let k = word_back words place word pair within e in (k.may.positive, k.may.ordered)
 
 -- a version that is not delayed, at most the bound, is decided
 pub decided_unless_delayed : (history pending : List Entry) (t : PreparedTables) (max p : ℕ) → AreUndecided history pending t max → has_versions_at history p ≡ true → p ≤ max → set.contains t.delayed p ≡ false → (c : ℕ) × (decision_of history p ≡ Some c)
@@ -39,13 +34,27 @@ decided_unless_delayed history pending t max p k has low not_delayed =
     in_heap true d there none e = let above = k.heap_above p there in absurd (omega arith)
     in_heap false d there none e = absurd (true≢false (sym e ∙ none))
 
--- a decided version whose word is another's is passed
-pub gone_is_passed : (history : List Entry) (cache : List ℕ) (max : ℕ) (snapshots : Snapshots) (p c : ℕ) → AreDecided history cache max snapshots → decision_of history p ≡ Some c → cached cache p ≡ None → IsPassed max snapshots p c
-gone_is_passed history cache max snapshots p c k decided gone =
-    ⊎_elim (λ (e : cached cache p ≡ Some c). absurd (none_some (cached cache p) c gone e)) (λ (passed : IsPassed max snapshots p c). passed) (k.found p c decided)
+-- a decided version that is no delayed commit is answered for at a live snapshot
+pub answers_now : (history : List Entry) (cache : List ℕ) (commits : finite.FinMap nat_cmp ℕ) (max : ℕ) (snapshots : Snapshots) (s p c : ℕ) → AreDecided history cache commits max snapshots → decision_of history p ≡ Some c → finite.get commits p ≡ None → IsLive snapshots s → p ≤ s → AnswersFor max cache snapshots s p c
+answers_now history cache commits max snapshots s p c k decided none live le =
+    ⊎_elim
+    (λ (e : IsEntered cache commits max (record { number = p; decision = c })).
+    ⊎_elim (λ (there : cached cache p ≡ Some c). inl there) (λ (x : IsWide (length cache) commits max (record { number = p; decision = c })). absurd (none_some (finite.get commits p) c none x.delayed)) e)
+    (λ (x : IsPassed max snapshots p c). inr (x.0, λ (lt : s < c). x.1 s live le lt)) (k.found p c decided)
 
-pub gone_by : (history : List Entry) (cache : List ℕ) (max : ℕ) (snapshots : Snapshots) (p c : ℕ) → AreDecided history cache max snapshots → decision_of history p ≡ Some c → cached cache p ≡ None → IsPassedBy history max cache p
-gone_by history cache max snapshots p c k decided gone = record { by = c; decided = decided; within = (gone_is_passed history cache max snapshots p c k decided gone).0; gone = gone }
+-- the bound has come to a decided version whose word is another's
+pub reached_by : (history : List Entry) (cache : List ℕ) (commits : finite.FinMap nat_cmp ℕ) (max : ℕ) (snapshots : Snapshots) (p c : ℕ) → AreDecided history cache commits max snapshots → decision_of history p ≡ Some c → p ≤ c → cached cache p ≡ None → IsReachedBy history max cache commits p
+reached_by history cache commits max snapshots p c k decided le gone =
+    ⊎_elim
+    (λ (e : IsEntered cache commits max (record { number = p; decision = c })).
+    ⊎_elim (λ (there : cached cache p ≡ Some c). absurd (none_some (cached cache p) c gone there))
+    (λ (x : IsWide (length cache) commits max (record { number = p; decision = c })). record { by = c; decided = decided; reached = x.reached; elsewhere = inr x.delayed; gone = gone }) e)
+    (λ (x : IsPassed max snapshots p c). let low = x.0 in record { by = c; decided = decided; reached = omega (arith, low, le); elsewhere = inl low; gone = gone }) (k.found p c decided)
+
+-- what is answered for, and whose word is another's, is passed
+pub passed_by : (history : List Entry) (cache : List ℕ) (max : ℕ) (snapshots : Snapshots) (s p c : ℕ) → decision_of history p ≡ Some c → AnswersFor max cache snapshots s p c → cached cache p ≡ None → IsPassedBy history max cache p
+passed_by history cache max snapshots s p c decided answers gone =
+    ⊎_elim (λ (there : cached cache p ≡ Some c). absurd (none_some (cached cache p) c gone there)) (λ (x : (c ≤ max) × (s < c → is_old_commit snapshots s p ≡ true)). record { by = c; decided = decided; within = x.0; gone = gone }) answers
 
 -- ---- what decides answers
 
@@ -78,35 +87,38 @@ word_decides history pending cache p c k e =
     by_pair None there f = let q : None ≡ Some c = f in absurd (cc)
     by_pair (Some pair) there f = by_number pair (pair.number == p) refl there f
 
--- a word that is the version's answers right, at a snapshot that is published
-pub word_right : (history pending : List Entry) (cache : List ℕ) (p s c : ℕ) (b : Bool) → IsCache history pending cache → p ≤ s → s ≤ length history → cached cache p ≡ Some c → nat_le c s ≡ b → IsRight history p s b
-word_right history pending cache p s c true k le published e is =
+-- what decides a version, with the pending entry, answers right at a snapshot that is published
+pub extended_right : (history pending : List Entry) (p s c : ℕ) (b : Bool) → p ≤ s → s ≤ length history → decision_of (extended history pending) p ≡ Some c → nat_le c s ≡ b → IsRight history p s b
+extended_right history pending p s c true le published decides is =
     let within : c ≤ s = grind (arith, nat_tests) in
-    record { by = c; decided = extended_was history pending p c (omega arith) (omega arith) (word_decides history pending cache p c k e); within = within }
-word_right history pending cache p s c false k le published e is =
+    record { by = c; decided = extended_was history pending p c (omega arith) (omega arith) decides; within = within }
+extended_right history pending p s c false le published decides is =
     λ (committed : IsCommittedAt history p s).
-    let same : c ≡ committed.by = same_some c committed.by (sym (word_decides history pending cache p c k e) ∙ extended_stays history pending p committed.by committed.decided) in
+    let same : c ≡ committed.by = same_some c committed.by (sym decides ∙ extended_stays history pending p committed.by committed.decided) in
     let within = committed.within in let above : s < c = grind (arith, nat_tests) in absurd (omega arith)
+
+-- so does a word that is the version's
+pub word_right : (history pending : List Entry) (cache : List ℕ) (p s c : ℕ) (b : Bool) → IsCache history pending cache → p ≤ s → s ≤ length history → cached cache p ≡ Some c → nat_le c s ≡ b → IsRight history p s b
+word_right history pending cache p s c b k le published e is = extended_right history pending p s c b le published (word_decides history pending cache p c k e) is
 
 -- ---- the old commit map
 
--- what is passed is committed at a live snapshot exactly where the old commit map does not have it there
-pub old_right : (history : List Entry) (cache : List ℕ) (max : ℕ) (snapshots : Snapshots) (p s c : ℕ) (b : Bool) → AreDecided history cache max snapshots → decision_of history p ≡ Some c → cached cache p ≡ None → IsLive snapshots s → p ≤ s → is_old_commit snapshots s p ≡ b
+-- what is answered for, and whose word is another's, is committed at the snapshot exactly where the old commit map does not have it there
+pub old_right : (history : List Entry) (cache : List ℕ) (commits : finite.FinMap nat_cmp ℕ) (max : ℕ) (snapshots : Snapshots) (p s c : ℕ) (b : Bool) → AreDecided history cache commits max snapshots → decision_of history p ≡ Some c → cached cache p ≡ None → AnswersFor max cache snapshots s p c → is_old_commit snapshots s p ≡ b
     → IsRight history p s (not b)
-old_right history cache max snapshots p s c true k decided gone live le there =
+old_right history cache commits max snapshots p s c true k decided gone answers there =
     λ (is : IsCommittedAt history p s). let old = k.kept s p there in let same : old.0 ≡ is.by = same_some old.0 is.by (sym old.1 ∙ is.decided) in let within = is.within in let above = old.3 in absurd (omega arith)
-old_right history cache max snapshots p s c false k decided gone live le there =
-    let passed = gone_is_passed history cache max snapshots p c k decided gone in
-    by_order (nat_le c s) refl passed.1
+old_right history cache commits max snapshots p s c false k decided gone answers there =
+    ⊎_elim (λ (e : cached cache p ≡ Some c). absurd (none_some (cached cache p) c gone e)) (λ (x : (c ≤ max) × (s < c → is_old_commit snapshots s p ≡ true)). by_order (nat_le c s) refl x.1) answers
   where
-    by_order : (b : Bool) → nat_le c s ≡ b → ((t : ℕ) → IsLive snapshots t → p ≤ t → t < c → is_old_commit snapshots t p ≡ true) → IsCommittedAt history p s
+    by_order : (b : Bool) → nat_le c s ≡ b → (s < c → is_old_commit snapshots s p ≡ true) → IsCommittedAt history p s
     by_order true is noted = record { by = c; decided = decided; within = grind (arith, nat_tests) }
-    by_order false is noted = let above : s < c = grind (arith, nat_tests) in absurd (true≢false (sym (noted s live le above) ∙ there))
+    by_order false is noted = let above : s < c = grind (arith, nat_tests) in absurd (true≢false (sym (noted above) ∙ there))
 
 -- ---- the delayed tables
 
-pub delayed_right : (history : List Entry) (t : PreparedTables) (cache : List ℕ) (p s : ℕ) → AreDelayed history t cache → set.contains t.delayed p ≡ true → finite.get t.delayed_commits p ≡ None → (IsCommittedAt history p s → cached cache p ≡ None) → IsCommittedAt history p s → ⊥
-delayed_right history t cache p s k there none gone is =
+pub delayed_right : (history pending : List Entry) (t : PreparedTables) (cache : List ℕ) (p s : ℕ) → AreDelayed history pending t cache → set.contains t.delayed p ≡ true → finite.get t.delayed_commits p ≡ None → (IsCommittedAt history p s → cached cache p ≡ None) → IsCommittedAt history p s → ⊥
+delayed_right history pending t cache p s k there none gone is =
     ⊎_elim (λ (e : cached cache p ≡ Some is.by). none_some (cached cache p) is.by (gone is) e) (λ (e : finite.get t.delayed_commits p ≡ Some is.by). none_some (finite.get t.delayed_commits p) is.by none e)
     (k.found p is.by (prepared (set.contains t.heap p) there) is.decided)
   where

@@ -52,18 +52,19 @@ by_snapshot w by a p r visible false at there has s above e =
     let below : p < r.smallest = grind (arith, nat_tests) in
     subst (IsRight w.writes.history p r.number) k.1 (below_smallest w by a r at there s p below low (has low))
 
-pub begins_reading : (w : World) (by : ℕ) (a : Actor) (p : ℕ) (snapshot : Registration) → get_elem? w.actors by ≡ some a → Needs w by a (begin_reading p snapshot) → IsSound w → IsSound (done w by (forgets w.writes.history (length w.cache) (begin_reading p snapshot) a) (begin_reading p snapshot))
-begins_reading w by a p snapshot at n s =
-    let test : Fact → Bool = λ f. not (ends w.writes.history (length w.cache) (begin_reading p snapshot) f) in
-    let b : Actor = record a { reading = Some (reads p snapshot); notes = filter test a.notes } in
-    looks w by a b at (leaves_most w a (Some (reads p snapshot)) test)
+pub begins_reading : (w : World) (by : ℕ) (a : Actor) (bits p : ℕ) (snapshot : Registration) → get_elem? w.actors by ≡ some a → Needs w by a (begin_reading bits p snapshot) → IsSound w → IsSound (done w by (forgets w.writes.history (length w.cache) (begin_reading bits p snapshot) a) (begin_reading bits p snapshot))
+begins_reading w by a bits p snapshot at n s =
+    let test : Fact → Bool = λ f. not (ends w.writes.history (length w.cache) (begin_reading bits p snapshot) f) in
+    let b : Actor = record a { reading = Some (reads bits p snapshot); notes = filter test a.notes } in
+    looks w by a b at (leaves_most w a (Some (reads bits p snapshot)) test)
     record {
-      knows = λ r e. subst (IsReader w.writes.history w.max_evicted w.cache a.participant.registered) (same_some (reads p snapshot) r e)
+      knows = λ r e. subst (IsReader w.writes.history w.max_evicted w.cache w.prepared.delayed_commits w.snapshots a.participant.registered) (same_some (reads bits p snapshot) r e)
           record {
-            registered_at = n.0;
+            words = n.0;
+            registered_at = n.1;
             in_order = record { first_max = λ _. refl; delayed_flag = λ _. refl; in_prepared = λ _. refl; second_word = λ _. refl; looked = λ flag is raised none. refl; second_max = λ _. refl; old_flag = λ _. refl; is_old_commit = λ _. refl };
             knows = λ low. record {
-              version = n.1 low;
+              version = n.2 low;
               first_word = λ word is another committed. absurd (some_none word (sym is));
               first_max = λ m is. absurd (some_none m (sym is));
               not_in_prepared = λ k. absurd (some_none k.bound (sym k.loaded));
@@ -71,9 +72,9 @@ begins_reading w by a p snapshot at n s =
               second_max = λ m is. absurd (some_none m (sym is));
             };
           };
-      right = λ r visible e judged. let same = same_some (reads p snapshot) r e in
-          subst (λ (x : Observed). IsRight w.writes.history x.version x.snapshot visible) same (by_snapshot w by a p snapshot visible (nat_lt snapshot.number p) at n.0 n.1 s refl (ap judgement same ∙ judged));
-      idle = λ dead. let i = s.idle by a at dead in absurd (subst (IsIn snapshot) (ap (λ (z : Participant). z.registered) i.participant) n.0);
+      right = λ r visible e judged. let same = same_some (reads bits p snapshot) r e in
+          subst (λ (x : Observed). IsRight w.writes.history x.version x.snapshot visible) same (by_snapshot w by a p snapshot visible (nat_lt snapshot.number p) at n.1 n.2 s refl (ap judgement same ∙ judged));
+      idle = λ dead. let i = s.idle by a at dead in absurd (subst (IsIn snapshot) (ap (λ (z : Participant). z.registered) i.participant) n.1);
     } s
 
 pub ends_reading : (w : World) (by : ℕ) (a : Actor) → get_elem? w.actors by ≡ some a → IsSound w → IsSound (done w by (forgets w.writes.history (length w.cache) end_reading a) end_reading)

@@ -27,13 +27,15 @@ use Rattle.wp_core.specs.Steps.{Step}
 use Rattle.wp_core.specs.Changes.{held_with, change}
 use Rattle.wp_core.specs.Notes.{forgets}
 use Rattle.wp_core.specs.Sound.Actors.{StartsWith, seen_of, own_of, AreOwned, participants_of, learned_of}
-use Rattle.wp_core.specs.Sound.Prepared.{AreDecided, IsPassed}
+use Rattle.wp_core.specs.Sound.Prepared.{AreDecided, IsPassed, IsEntered}
 use Rattle.wp_core.specs.Sound.Snapshots.{registered_of, AreRegistered, view_of, HasSeen}
 use Rattle.wp_core.specs.Sound.Store.{IsStored}
-use Rattle.wp_core.specs.Sound.Reader.{IsReader, IsRight, reader_of}
+use Rattle.wp_core.specs.Sound.Reader.{IsReader, AnswersFor, IsRight, reader_of}
 use Rattle.wp_core.specs.Sound.Views.{IsSo}
 use Rattle.wp_core.specs.IsSound.{IsSound}
-use Rattle.wp_core.proofs.Frames.{map_set, each_map_set, at_map}
+use Rattle.wp_core.proofs.Frames.{map_set, each_map_set, at_map, set_else, here}
+use Rattle.wp_core.proofs.KeepsRemembered.{from_map}
+use Rattle.wp_core.proofs.Registered.{registered_live}
 use Rattle.wp_core.proofs.Participants.{each_person_set}
 use Rattle.wp_core.proofs.HistoryLaws.{decision_within}
 use Rattle.wp_core.proofs.Quiet.{idle_after}
@@ -67,9 +69,9 @@ module _ (w : World) (m : Snapshots) (s : IsSound w) (k : SnapshotsGrow w.writes
   still_noted p c published noted t live le lt =
       ⊎_elim (λ (was : IsLive w.snapshots t). k.stays t p live (noted t was le lt)) (λ (e : t ≡ length w.writes.history). absurd (omega (arith, e))) (k.live t live)
 
-  pub decided_grows : AreDecided w.writes.history w.cache w.max_evicted m
+  pub decided_grows : AreDecided w.writes.history w.cache w.prepared.delayed_commits w.max_evicted m
   decided_grows = record {
-    found = λ p c decided. ⊎_elim (λ (there : cached w.cache p ≡ Some c). inl there) (λ (o : IsPassed w.max_evicted w.snapshots p c). inr (o.0, still_noted p c (decision_within w.writes.history p c decided) o.1)) (s.decided.found p c decided);
+    found = λ p c decided. ⊎_elim (λ (there : IsEntered w.cache w.prepared.delayed_commits w.max_evicted (record { number = p; decision = c })). inl there) (λ (o : IsPassed w.max_evicted w.snapshots p c). inr (o.0, still_noted p c (decision_within w.writes.history p c decided) o.1)) (s.decided.found p c decided);
     kept = λ t p there. ⊎_elim (λ (was : is_old_commit w.snapshots t p ≡ true). s.decided.kept t p was) (λ (new : (c : ℕ) × (decision_of w.writes.history p ≡ Some c) × (p ≤ t) × (t < c)). new) (k.came t p there);
   }
 
@@ -91,6 +93,26 @@ module _ (w : World) (m : Snapshots) (s : IsSound w) (k : SnapshotsGrow w.writes
         failed = o.failed;
         in_memory = o.in_memory;
       }
+
+  -- what the old commit map answered for it answers for still, at a live number
+  pub answers_grow : (n p c : ℕ) → IsLive m n → AnswersFor w.max_evicted w.cache w.snapshots n p c → AnswersFor w.max_evicted w.cache m n p c
+  answers_grow n p c live o =
+      ⊎_elim (λ (there : cached w.cache p ≡ Some c). inl there) (λ (x : (c ≤ w.max_evicted) × (n < c → is_old_commit w.snapshots n p ≡ true)). inr (x.0, λ (lt : n < c). k.stays n p live (x.1 lt))) o
+
+  pub reader_grows : (registered now : List Registration) (r : Observed) → IsLive m r.snapshot → IsIn (snapshot_of r) now → IsReader w.writes.history w.max_evicted w.cache w.prepared.delayed_commits w.snapshots registered r → IsReader w.writes.history w.max_evicted w.cache w.prepared.delayed_commits m now r
+  reader_grows registered now r live there o = record {
+    words = o.words;
+    registered_at = there;
+    in_order = o.in_order;
+    knows = λ low. let x = o.knows low in record {
+      version = x.version;
+      first_word = x.first_word;
+      first_max = x.first_max;
+      not_in_prepared = λ n. let d = x.not_in_prepared n in (d.0, d.1, answers_grow r.snapshot r.version d.0 live d.2);
+      second_word = x.second_word;
+      second_max = x.second_max;
+    };
+  }
 
   pub so_grows : (p : Participant) (seen : List Entry) (registered : List Registration) (fact : Fact) → SoIn w p fact → IsSo w.delayed_flag w.old_flag w.max_evicted w.cache w.writes w.prepared m w.store w.locks w.installed (record p { seen = seen; registered = registered }) fact
   so_grows p seen registered (in_old_commits place pair) o = record { place_within = o.place_within; there = o.there; published_by = o.published_by; so = still_noted pair.number pair.decision o.published_by o.so }
@@ -118,6 +140,7 @@ snapshots_step w by a step m seen learned registered reading at holds grows view
     let e : Content = snapshots m in
     let c : Actor = with_view (forgets w.writes.history (length w.cache) step a) seen learned registered reading in
     let b : Actor = record c { held = held_with c.held e } in
+    let now : Actor = with_view a seen learned registered reading in
     let reader = s.readers by (reader_of a) (at_map reader_of w.actors by a at) in
     let judged = s.judged by (reader_of a) (at_map reader_of w.actors by a at) in
     let so : Participant → Fact → Type 0 = IsSo w.delayed_flag w.old_flag w.max_evicted w.cache w.writes w.prepared m w.store w.locks w.installed in
@@ -141,8 +164,15 @@ snapshots_step w by a step m seen learned registered reading at holds grows view
     })
     (locks_still w by a b at refl s) (pasts_still w by a b at refl s) (turns_changed w by a b at e holds refl s)
     (record {
-      readers = each_map_set reader_of (λ j x. (r : Observed) → x.1 ≡ Some r → IsReader w.writes.history w.max_evicted w.cache x.0 r) w.actors by b
-          (λ r is. let v = views.reads r is in let o = reader r v.0 in record { registered_at = v.1; in_order = o.in_order; knows = o.knows }) (λ j x ne there. s.readers j x there);
+      readers = each_map_set reader_of (λ j x. (r : Observed) → x.1 ≡ Some r → IsReader w.writes.history w.max_evicted w.cache w.prepared.delayed_commits m x.0 r) w.actors by b
+          (λ r is. let v = views.reads r is in
+          let live = (registered_live w.writes.history m (set w.actors by now) by now (snapshot_of r) (here w.actors by a now at) v.1 counted).0 in
+          reader_grows w m s grows a.participant.registered registered r live v.1 (reader r v.0))
+          (λ j x ne there r is.
+          let o = from_map reader_of w.actors j x there in let k = s.readers j x there r is in
+          let mine : IsIn (snapshot_of r) o.0.participant.registered = subst (IsIn (snapshot_of r)) (sym (ap (λ (z : List Registration × Option Observed). z.0) o.2)) k.registered_at in
+          let live = (registered_live w.writes.history m (set w.actors by now) j o.0 (snapshot_of r) (set_else w.actors by j now ne ∙ o.1) mine counted).0 in
+          reader_grows w m s grows x.0 x.0 r live k.registered_at k);
       judged = each_map_set reader_of (λ j x. (r : Observed) (visible : Bool) → x.1 ≡ Some r → judgement r ≡ Some visible → IsRight w.writes.history r.version r.snapshot visible) w.actors by b
           (λ r visible is. judged r visible (views.reads r is).0) (λ j x ne there. s.judged j x there);
     })

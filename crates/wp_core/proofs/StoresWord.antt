@@ -1,8 +1,7 @@
 -- Storing a word of the commit cache keeps a world sound: what is evicted is passed, and noted where it has to be.
-use Rattle.std.proofs.Common.{◌≡◌, ◌≢◌, inl, inr, ⊎_elim, ℕ, suc, ◌^◌, ◌<◌, ◌≤◌, nat_le, ◌==◌, eq-eqb, Bool, true, false, true≢false, not, cond, List, [], ◌∷◌, ◌++◌, length, slice_index, refl, sym, subst, ap, ◌∙◌, Option, Some, None, mod-lt, length-append, arith}
+use Rattle.std.proofs.Common.{◌≡◌, ◌≢◌, inl, inr, ⊎_elim, ℕ, suc, ◌^◌, ◌<◌, ◌≤◌, ◌==◌, eq-eqb, Bool, true, false, true≢false, not, cond, List, [], ◌∷◌, ◌++◌, length, slice_index, refl, sym, subst, ap, ◌∙◌, Option, Some, None, mod-lt, length-append, arith, map}
 use Rattle.std.proofs.lemmas.Bool.Decides.{nat_tests}
 use Rattle.std.proofs.lemmas.List.{get_or-set_same, get_or-set_other, length-set}
-use Rattle.std.proofs.lemmas.Nat.{div-mul-add, mod-mul-add}
 use mathlib.Core.Option.{some}
 use mathlib.Core.Logic.{dite}
 use native.Mathlib.Decide.{ℕ_discrete}
@@ -12,40 +11,36 @@ use Rattle.wp_model.specs.declared.entry.Entry.{Entry}
 use Rattle.wp_model.specs.Decision.{decision_of}
 use Rattle.wp_model.specs.Legal.{IsLegal}
 use Rattle.wp_model.specs.PreparedTables.{is_prepared}
-use Rattle.wp_judge.specs.Words.{CommitPair, word_of, pair_with, pair_of, decision_if}
+use Rattle.wp_model.specs.Snapshots.{IsLive, is_old_commit}
+use Rattle.wp_judge.specs.Words.{CommitPair, word_of, pair_of, decision_if, seq_end}
+use Rattle.wp_judge.proofs.Packing.{pair_back}
 use Rattle.wp_judge.specs.declared.observed.Observed.{Observed}
 use Rattle.wp_core.specs.Cache.{cache_place, pair_at, cached, with_pair}
 use Rattle.wp_core.specs.Entries.{extended, pending_pair}
-use Rattle.wp_core.specs.Reading.{Registration}
+use Rattle.wp_core.specs.Reading.{Registration, snapshot_of}
 use Rattle.wp_core.specs.Conditions.{MayBeEvicted}
 use Rattle.wp_core.specs.Turns.{Holds, write_turn}
-use Rattle.wp_core.specs.Views.{Fact, passed, in_old_commits, apart, words_stay}
+use Rattle.wp_core.specs.Views.{Fact, passed, in_old_commits, apart, words_stay, none_waits}
 use Rattle.wp_core.specs.World.{Participant, Actor, World}
 use Rattle.wp_core.specs.Steps.{store_word}
 use Rattle.wp_core.specs.Effects.{done}
 use Rattle.wp_core.specs.Needs.{Needs}
 use Rattle.wp_core.specs.Notes.{forgets, ends}
-use Rattle.wp_core.specs.Sound.Prepared.{IsPairAt, IsCache, AreDecided, AreDelayed, IsPassed}
-use Rattle.wp_core.specs.Sound.Reader.{IsPassedBy, IsReader}
+use Rattle.wp_core.specs.Sound.Prepared.{IsPairAt, IsCache, AreDecided, AreDelayed, IsPassed, IsWide, IsEntered}
+use Rattle.wp_core.specs.Sound.Reader.{IsPassedBy, IsReader, IsReachedBy, AnswersFor, reader_of}
 use Rattle.wp_core.specs.Sound.Views.{IsSo, IsGuarded, IsClearing}
 use Rattle.wp_core.specs.IsSound.{IsSound}
+use Rattle.wp_core.specs.Lists.{IsIn}
 use Rattle.wp_core.proofs.HistoryLaws.{IsDecidedNext, next_decides, first_legal, decision_within}
 use Rattle.wp_core.proofs.ReaderFacts.{extended_stays}
 use Rattle.wp_core.proofs.Quiet.{words_change}
 use Rattle.wp_core.proofs.AllParts.{SoIn}
 use Rattle.wp_core.proofs.Tests.{same_some, none_some}
 use Rattle.wp_core.proofs.Gives.{not_theirs}
+use Rattle.wp_core.proofs.Registered.{registered_live}
+use Rattle.wp_core.proofs.KeepsRemembered.{from_map}
 
 -- ---- pairs and words
-
-ordered_pair : (p c : ℕ) (a b : Bool) → nat_le 1 p ≡ a → nat_le p c ≡ b → 1 ≤ p → p ≤ c → pair_with p c ≡ Some (record { number = p; decision = c })
-ordered_pair p c a b e f low high = let x : nat_le 1 p ≡ true = grind (arith, nat_tests) in let y : nat_le p c ≡ true = grind (arith, nat_tests) in rw (x, y) refl
-
--- the pair of its word is the pair
-pair_back : (pair : CommitPair) → 1 ≤ pair.number → pair.number ≤ pair.decision → pair.decision < 2 ^ 32 → pair_of (word_of pair) ≡ Some pair
-pair_back pair low high few =
-    (λ i. pair_with (div-mul-add pair.number (2 ^ 32) pair.decision few i) (mod-mul-add pair.number (2 ^ 32) pair.decision few i))
-    ∙ ordered_pair pair.number pair.decision _ _ refl refl low high
 
 -- what the cache has for a version is a pair of its place
 cached_pair : (p c : ℕ) (o : Option CommitPair) → decision_if p o ≡ Some c → (pair : CommitPair) × (o ≡ Some pair) × (pair.number ≡ p) × (pair.decision ≡ c)
@@ -63,7 +58,7 @@ not_of p pair ne = by_number (pair.number == p) refl
     by_number true is = let n : ℕ = pair.number in let q : (n == p) ≡ true = is in let same : n ≡ p = grind (arith, nat_tests) in absurd (ne same)
     by_number false is = refl
 
-module _ (w : World) (pair : CommitPair) (s : IsSound w) (next : decision_of (extended w.writes.history w.writes.pending) pair.number ≡ Some pair.decision) (last : pair.decision ≡ suc (length w.writes.history)) (back : pair_of (word_of pair) ≡ Some pair) (may : (gone : CommitPair) → pair_at w.cache (cache_place (length w.cache) pair.number) ≡ Some gone → MayBeEvicted w gone) where
+module _ (w : World) (pair : CommitPair) (s : IsSound w) (next : decision_of (extended w.writes.history w.writes.pending) pair.number ≡ Some pair.decision) (last : pair.decision ≡ suc (length w.writes.history)) (back : pair_of (length w.cache) (cache_place (length w.cache) pair.number) (word_of (length w.cache) pair) ≡ Some pair) (may : (gone : CommitPair) → pair_at w.cache (cache_place (length w.cache) pair.number) ≡ Some gone → MayBeEvicted w gone) where
   after : List ℕ
   after = with_pair w.cache pair
 
@@ -72,21 +67,22 @@ module _ (w : World) (pair : CommitPair) (s : IsSound w) (next : decision_of (ex
 
   same_length : length after ≡ length w.cache
   unfolding after
-  same_length = length-set w.cache (cache_place (length w.cache) pair.number) (word_of pair)
+  same_length = length-set w.cache (cache_place (length w.cache) pair.number) (word_of (length w.cache) pair)
 
-  here : slice_index after place ≡ word_of pair
+  here : slice_index after place ≡ word_of (length w.cache) pair
   unfolding after place
-  here = get_or-set_same w.cache (cache_place (length w.cache) pair.number) (word_of pair) _ (mod-lt pair.number s.cache.some)
+  here = get_or-set_same w.cache (cache_place (length w.cache) pair.number) (word_of (length w.cache) pair) _ (mod-lt pair.number s.cache.some)
 
   else_ : (i : ℕ) → i ≢ place → slice_index after i ≡ slice_index w.cache i
   unfolding after place
-  else_ i ne = get_or-set_other w.cache (cache_place (length w.cache) pair.number) i (word_of pair) _ ne
+  else_ i ne = get_or-set_other w.cache (cache_place (length w.cache) pair.number) i (word_of (length w.cache) pair) _ ne
 
   pair_here : pair_at after place ≡ Some pair
-  pair_here = ap pair_of here ∙ back
+  unfolding place
+  pair_here = (λ i. pair_of (same_length i) place (here i)) ∙ back
 
   pair_else : (i : ℕ) → i ≢ place → pair_at after i ≡ pair_at w.cache i
-  pair_else i ne = ap pair_of (else_ i ne)
+  pair_else i ne = λ k. pair_of (same_length k) i (else_ i ne k)
 
   -- what the cache has for a version now
   cached_is : (p : ℕ) → cached after p ≡ decision_if p (pair_at after (cache_place (length w.cache) p))
@@ -122,20 +118,24 @@ module _ (w : World) (pair : CommitPair) (s : IsSound w) (next : decision_of (ex
       at_place : (i : ℕ) (q : CommitPair) → i ≡ place → pair ≡ q → IsPairAt (extended w.writes.history w.writes.pending) (length after) i q
       at_place i q e same = subst (IsPairAt (extended w.writes.history w.writes.pending) (length after) i) same (record { placed = ap (λ (n : ℕ). cache_place n pair.number) same_length ∙ sym e; decided = next })
 
-  decided_after : AreDecided w.writes.history after w.max_evicted w.snapshots
+  decided_after : AreDecided w.writes.history after w.prepared.delayed_commits w.max_evicted w.snapshots
   decided_after = record {
     found = λ p c decided.
+        ⊎_elim
+        (λ (entered : IsEntered w.cache w.prepared.delayed_commits w.max_evicted (record { number = p; decision = c })).
         ⊎_elim
         (λ (there : cached w.cache p ≡ Some c).
         dite (ℕ_discrete (cache_place (length w.cache) p) place)
         (λ (e : cache_place (length w.cache) p ≡ place). let k = may_go p c e there in
         inr (subst (λ (z : ℕ × ℕ). IsPassed w.max_evicted w.snapshots z.0 z.1) (λ i. (k.1 i, k.2 i)) (k.3.passed, k.3.kept)))
-        (λ (ne : cache_place (length w.cache) p ≢ place). inl (cached_else p ne ∙ there)))
+        (λ (ne : cache_place (length w.cache) p ≢ place). inl (inl (cached_else p ne ∙ there))))
+        (λ (x : IsWide (length w.cache) w.prepared.delayed_commits w.max_evicted (record { number = p; decision = c })).
+        inl (inr (subst (λ (n : ℕ). IsWide n w.prepared.delayed_commits w.max_evicted (record { number = p; decision = c })) (sym same_length) x))) entered)
         (λ (k : IsPassed w.max_evicted w.snapshots p c). inr k) (s.decided.found p c decided);
     kept = s.decided.kept;
   }
 
-  delayed_after : AreDelayed w.writes.history w.prepared after
+  delayed_after : AreDelayed w.writes.history w.writes.pending w.prepared after
   delayed_after = record {
     found = λ p c prepared decided.
         ⊎_elim
@@ -166,15 +166,31 @@ module _ (w : World) (pair : CommitPair) (s : IsSound w) (next : decision_of (ex
   passed_after : (p : ℕ) → IsPassedBy w.writes.history w.max_evicted w.cache p → IsPassedBy w.writes.history w.max_evicted after p
   passed_after p k = record { by = k.by; decided = k.decided; within = k.within; gone = gone_after p k.by k.decided k.gone }
 
-  reader_after : (rs : List Registration) (r : Observed) → IsReader w.writes.history w.max_evicted w.cache rs r → IsReader w.writes.history w.max_evicted after rs r
-  reader_after rs r k = record {
+  reached_after : (p : ℕ) → IsReachedBy w.writes.history w.max_evicted w.cache w.prepared.delayed_commits p → IsReachedBy w.writes.history w.max_evicted after w.prepared.delayed_commits p
+  reached_after p k = record { by = k.by; decided = k.decided; reached = k.reached; elsewhere = k.elsewhere; gone = gone_after p k.by k.decided k.gone }
+
+  -- what the word that goes answered for is passed
+  answers_after : (n p c : ℕ) → IsLive w.snapshots n → p ≤ n → AnswersFor w.max_evicted w.cache w.snapshots n p c → AnswersFor w.max_evicted after w.snapshots n p c
+  answers_after n p c live low k =
+      ⊎_elim
+      (λ (there : cached w.cache p ≡ Some c).
+      dite (ℕ_discrete (cache_place (length w.cache) p) place)
+      (λ (e : cache_place (length w.cache) p ≡ place). let g = may_go p c e there in
+      let passed : IsPassed w.max_evicted w.snapshots p c = subst (λ (z : ℕ × ℕ). IsPassed w.max_evicted w.snapshots z.0 z.1) (λ i. (g.1 i, g.2 i)) (g.3.passed, g.3.kept) in
+      inr (passed.0, λ (lt : n < c). passed.1 n live low lt))
+      (λ (ne : cache_place (length w.cache) p ≢ place). inl (cached_else p ne ∙ there)))
+      (λ (x : (c ≤ w.max_evicted) × (n < c → is_old_commit w.snapshots n p ≡ true)). inr x) k
+
+  reader_after : (rs : List Registration) (r : Observed) → IsLive w.snapshots r.snapshot → IsReader w.writes.history w.max_evicted w.cache w.prepared.delayed_commits w.snapshots rs r → IsReader w.writes.history w.max_evicted after w.prepared.delayed_commits w.snapshots rs r
+  reader_after rs r live k = record {
+    words = k.words ∙ sym same_length;
     registered_at = k.registered_at;
     in_order = k.in_order;
     knows = λ low. let o = k.knows low in record {
       version = o.version;
-      first_word = λ word e another is. passed_after r.version (o.first_word word e another is);
+      first_word = λ word e another is. reached_after r.version (o.first_word word e another is);
       first_max = o.first_max;
-      not_in_prepared = o.not_in_prepared;
+      not_in_prepared = λ n. let d = o.not_in_prepared n in (d.0, d.1, answers_after r.snapshot r.version d.0 live low d.2);
       second_word = λ word e another. passed_after r.version (o.second_word word e another);
       second_max = o.second_max;
     };
@@ -197,6 +213,7 @@ module _ (w : World) (pair : CommitPair) (s : IsSound w) (next : decision_of (ex
   mine_after p (in_old_commits i q) left k = clearing_after i q _ (other_place i left) k
   mine_after p (apart i q) left k = clearing_after i q _ (other_place i left) k
   mine_after p (words_stay max cache) left k = absurd (true≢false (sym left))
+  mine_after p none_waits left k = absurd (true≢false (sym left))
   mine_after p fact left k = k
 
   others_after : (by j : ℕ) (p : Participant) (fact : Fact) → Holds w.holders write_turn by → j ≢ by → IsGuarded w.holders fact j → SoIn w p fact → SoAfter p fact
@@ -205,28 +222,36 @@ module _ (w : World) (pair : CommitPair) (s : IsSound w) (next : decision_of (ex
   others_after by j p (in_old_commits i q) mine ne guard k = absurd (not_theirs w.holders write_turn by j mine ne (guard write_turn refl))
   others_after by j p (apart i q) mine ne guard k = absurd (not_theirs w.holders write_turn by j mine ne (guard write_turn refl))
   others_after by j p (words_stay max cache) mine ne guard k = absurd (not_theirs w.holders write_turn by j mine ne (guard write_turn refl))
+  others_after by j p none_waits mine ne guard k = absurd (not_theirs w.holders write_turn by j mine ne (guard write_turn refl))
   others_after by j p fact mine ne guard k = k
 
 -- ---- the step
 
 -- the pair of the pending entry
-pending_next : (history pending : List Entry) (pair : CommitPair) → IsLegal (history ++ pending) → pending_pair history pending ≡ Some pair
-    → (entry : Entry) × (extended history pending ≡ history ++ entry ∷ []) × IsDecidedNext history entry pair × (pair.decision < 2 ^ 32)
+pub pending_next : (history pending : List Entry) (pair : CommitPair) → IsLegal (history ++ pending) → pending_pair history pending ≡ Some pair
+    → (entry : Entry) × (extended history pending ≡ history ++ entry ∷ []) × IsDecidedNext history entry pair × (pair.decision < seq_end)
 pending_next history [] pair legal e = let no : None ≡ Some pair = e in absurd (cc)
 pending_next history (entry ∷ others) pair legal e =
     let one = first_legal history entry others legal in
     let k = next_decides history entry pair one e in
     (entry, refl, k, few history entry pair.decision one.few k.last)
   where
-    few : (h : List Entry) (y : Entry) (d : ℕ) → length (h ++ y ∷ []) < 2 ^ 32 → d ≡ suc (length h) → d < 2 ^ 32
-    few h y d lt is = let q = length-append h (y ∷ []) in subst (λ (n : ℕ). n < 2 ^ 32) (q ∙ (omega (arith, is))) lt
+    few : (h : List Entry) (y : Entry) (d : ℕ) → length (h ++ y ∷ []) < 2 ^ 32 → d ≡ suc (length h) → d < seq_end
+    few h y d lt is = let q = length-append h (y ∷ []) in omega (arith, q, is, lt)
+
+-- who reads at a snapshot registered it, so it is live
+reader_lives : (w : World) → IsSound w → (j : ℕ) (x : List Registration × Option Observed) → get_elem? (map reader_of w.actors) j ≡ some x → (r : Observed) → x.1 ≡ Some r → IsLive w.snapshots r.snapshot
+reader_lives w s j x there r is =
+    let b = from_map reader_of w.actors j x there in
+    let at : IsIn (snapshot_of r) b.0.participant.registered = subst (IsIn (snapshot_of r)) (sym (ap (λ (z : List Registration × Option Observed). z.0) b.2)) (s.readers j x there r is).registered_at in
+    (registered_live w.writes.history w.snapshots w.actors j b.0 (snapshot_of r) b.1 at s.registrations).0
 
 pub stores_word : (w : World) (by : ℕ) (a : Actor) (pair : CommitPair) → get_elem? w.actors by ≡ some a → Needs w by a (store_word pair) → IsSound w → IsSound (done w by (forgets w.writes.history (length w.cache) (store_word pair) a) (store_word pair))
 unfolding after SoAfter
 stores_word w by a pair at n s =
     let k = pending_next w.writes.history w.writes.pending pair s.history.legal_next n.1 in
     let next : decision_of (extended w.writes.history w.writes.pending) pair.number ≡ Some pair.decision = ap (λ (z : List Entry). decision_of z pair.number) k.1 ∙ k.2.decided in
-    let back : pair_of (word_of pair) ≡ Some pair = pair_back pair k.2.positive k.2.ordered k.3 in
-    words_change w by a (store_word pair) write_turn (with_pair w.cache pair) w.delayed_flag w.old_flag at n.0 (cache_after w pair s next k.2.last back n.2) (decided_after w pair s next k.2.last back n.2) (delayed_after w pair s next k.2.last back n.2) s.flags
-    (λ j x there r is. reader_after w pair s next k.2.last back n.2 x.0 r (s.readers j x there r is))
-    (record { mine = λ p fact left o. mine_after w pair s next k.2.last back n.2 p fact left o; others = λ j p fact ne guard o. others_after w pair s next k.2.last back n.2 by j p fact n.0 ne guard o }) s
+    let back = pair_back (length w.cache) pair (record { positive = k.2.positive; ordered = k.2.ordered; few = k.3; fits = n.2 }) in
+    words_change w by a (store_word pair) write_turn (with_pair w.cache pair) w.delayed_flag w.old_flag at n.0 (cache_after w pair s next k.2.last back n.3) (decided_after w pair s next k.2.last back n.3) (delayed_after w pair s next k.2.last back n.3) s.flags
+    (λ j x there r is. reader_after w pair s next k.2.last back n.3 x.0 r (reader_lives w s j x there r is) (s.readers j x there r is))
+    (record { mine = λ p fact left o. mine_after w pair s next k.2.last back n.3 p fact left o; others = λ j p fact ne guard o. others_after w pair s next k.2.last back n.3 by j p fact n.0 ne guard o }) s

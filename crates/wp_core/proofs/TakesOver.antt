@@ -80,7 +80,7 @@ module _ (w : World) (by other : ℕ) (a b o : Actor) (at : get_elem? w.actors b
     held = each_two held_of (AreHeld w.holders (content_of w)) w.actors by other b joined_actor tt (subst (AreHeld w.holders (content_of w) by) (sym same.held) (s.held by a.held (at_map held_of w.actors by a at))) s.held;
     have = have_left free;
     readers = each_two reader_of _ w.actors by other b joined_actor (λ r e. absurd cc)
-        (λ r e. subst (λ (p : Participant). IsReader w.writes.history w.max_evicted w.cache p.registered r) (sym same.participant) (s.readers by (reader_of a) (at_map reader_of w.actors by a at) r (sym same.reading ∙ e))) s.readers;
+        (λ r e. subst (λ (p : Participant). IsReader w.writes.history w.max_evicted w.cache w.prepared.delayed_commits w.snapshots p.registered r) (sym same.participant) (s.readers by (reader_of a) (at_map reader_of w.actors by a at) r (sym same.reading ∙ e))) s.readers;
     judged = each_two reader_of _ w.actors by other b joined_actor (λ r visible e q. absurd cc)
         (λ r visible e q. s.judged by (reader_of a) (at_map reader_of w.actors by a at) r visible (sym same.reading ∙ e) q) s.judged;
     noted = each_two noter_of (λ j x. (fact : Fact) → IsIn fact x.1 → IsNoted w.holders (SoIn w) j x fact) w.actors by other b joined_actor (λ fact h. absurd h)

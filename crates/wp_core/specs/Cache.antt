@@ -12,7 +12,7 @@ cached_word cache p = slice_index cache (cache_place (length cache) p)
 
 -- the pair at a place of the cache, if the word there is one
 abbrev pub pair_at : List ℕ → ℕ → Option CommitPair
-pair_at cache place = pair_of (slice_index cache place)
+pair_at cache place = pair_of (length cache) place (slice_index cache place)
 
 -- the decision that the cache has for a version
 abbrev pub cached : List ℕ → ℕ → Option ℕ
@@ -20,4 +20,4 @@ cached cache p = decision_if p (pair_at cache (cache_place (length cache) p))
 
 -- the cache once the pair is at its place
 abbrev pub with_pair : List ℕ → CommitPair → List ℕ
-with_pair cache pair = slice_set cache (cache_place (length cache) pair.number) (word_of pair)
+with_pair cache pair = slice_set cache (cache_place (length cache) pair.number) (word_of (length cache) pair)

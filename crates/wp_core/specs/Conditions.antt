@@ -27,9 +27,9 @@ use Rattle.wp_core.specs.World.{Transaction, Actor, World, published}
 use Rattle.wp_core.specs.Entries.{pair_by, pending_pair, transaction_of, changes_under}
 use Rattle.wp_core.specs.Sound.Actors.{IsParticipantAt, participants_of}
 use Rattle.wp_core.specs.Sound.Locks.{Owner, owner_of}
-use Rattle.wp_core.specs.Sound.Prepared.{IsInOldCommits}
+use Rattle.wp_core.specs.Sound.Prepared.{IsInOldCommits, IsEntered}
 use Rattle.wp_core.specs.Sound.Store.{IsStored, IsOfEdit}
-use Rattle.wp_core.specs.Sound.Views.{IsApart, IsInMemory, IsNowhere}
+use Rattle.wp_core.specs.Sound.Views.{IsApart, IsInMemory, IsNowhere, IsUndelayed}
 
 -- ---- loads
 
@@ -68,7 +68,7 @@ IsPrepare other = ⊥
 
 -- The first of the pending entries may be published: it is logged and legal; its versions are in memory; its keys are held
 -- for the actor; the transaction that it is of is the actor's; a Prepare's number is in the prepared heap, and the pair
--- of any other entry is in its word of the commit cache.
+-- of any other entry is where a reader finds it.
 pub record MayPublish (w : World) (by : ℕ) (a : Actor) (entry : Entry) (others : List Entry) : Type 0 where
   pub turn : Holds w.holders write_turn by
   pub pending : w.writes.pending ≡ entry ∷ others
@@ -78,7 +78,7 @@ pub record MayPublish (w : World) (by : ℕ) (a : Actor) (entry : Entry) (others
   pub keys : (key : List ℕ) → is_changed (changes_under w.writes.history entry) key ≡ true → IsHeldFor w a key
   pub transaction : IsOwn w a entry
   pub number : IsPrepare entry → set.contains w.prepared.heap (suc (published w)) ≡ true
-  pub pair : (pair : CommitPair) → pair_by (suc (published w)) entry ≡ Some pair → cached w.cache pair.number ≡ Some pair.decision
+  pub pair : (pair : CommitPair) → pair_by (suc (published w)) entry ≡ Some pair → IsEntered w.cache w.prepared.delayed_commits w.max_evicted pair
 
 -- A pair may be evicted: its decision is at most the bound, the old commit map has it under each live snapshot that it
 -- overlaps, and it is of no prepared transaction, or a delayed commit.
@@ -101,11 +101,13 @@ MayGive w other = Unit {0}
 abbrev pub MayLog : World → ℕ → Type 0
 MayLog w by = Holds w.holders write_turn by × (w.writes.pending ≢ []) × (w.writes.logged ≡ false) × (w.writes.closed ≡ false)
 
--- nothing of the pending entry is left: its pair is in no word, its versions are not in memory, its number is not in the heap
+-- nothing of the pending entry is left: its pair is in no word and no delayed commit, its versions are not in memory, its number is not
+-- in the heap
 abbrev pub MayDrop : World → ℕ → Type 0
 MayDrop w by =
     Holds w.holders write_turn by × (w.writes.logged ≡ false)
     × ((pair : CommitPair) → pending_pair w.writes.history w.writes.pending ≡ Some pair → cached w.cache pair.number ≢ Some pair.decision)
+    × IsUndelayed w.writes w.prepared
     × IsNowhere w.writes w.store × (set.contains w.prepared.heap (suc (published w)) ≡ false)
 
 -- a Prepare is pending, whose number may come into the heap or go out of it

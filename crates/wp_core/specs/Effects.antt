@@ -13,7 +13,7 @@ use Rattle.wp_core.specs.Reading.{reads}
 use Rattle.wp_core.specs.Views.{claimed, took, locked, told, heard, log_failed, tables_failed, stopped, found_edit, found}
 use Rattle.wp_core.specs.Views as event
 use Rattle.wp_core.specs.World.{Actor, new_actor, World, published, content_of}
-use Rattle.wp_core.specs.Steps.{Step, load_published, register, begin_reading, load, end_reading, store_published, store_max_evicted, store_word, store_delayed_flag, store_old_flag, take_turn, give_turn, make_pending, log_pending, close_log, find_log_closed, drop_pending, add_prepared, take_pending_prepared, add_delayed_commit, take_out, register_again, release, add_old_commit, add_versions, take_versions, move_versions, replace_versions, install, halt, find_edit, claim_name, take_name, leave_name, free_transaction, lock_key, free_key, lock_direct, free_direct, find_holder, tell, hear, set_batch, note, make_note, make_seat, set_client, learn, join_seat}
+use Rattle.wp_core.specs.Steps.{Step, load_published, register, begin_reading, load, end_reading, store_published, store_max_evicted, store_word, store_delayed_flag, store_old_flag, take_turn, give_turn, make_pending, log_pending, close_log, find_log_closed, drop_pending, add_prepared, take_pending_prepared, add_delayed_commit, delay_pending, take_out, register_again, release, add_old_commit, add_versions, take_versions, move_versions, replace_versions, install, halt, find_edit, claim_name, take_name, leave_name, free_transaction, lock_key, free_key, lock_direct, free_direct, find_holder, tell, hear, set_batch, note, make_note, make_seat, set_client, learn, join_seat}
 use Rattle.wp_core.specs.Sound.Pasts.{tables_due}
 use Rattle.wp_core.specs.Changes.{with_actor, held_without, change, sees, remembers, registers, releases, has_transaction, has_no_transaction, has_direct, loaded, with_registered, with_released, with_old_commit, keys_of_holder, with_name, with_key, without_key, without_transaction, with_label, informed, joins, joined_actor, made_one}
 
@@ -35,7 +35,7 @@ publishes history entry a = record a { participant = record a.participant { seen
 abbrev pub done : World → ℕ → Actor → Step → World
 done w by a load_published = with_actor w by (sees w.writes.history a)
 done w by a (register smallest) = change w by (registers (sees w.writes.history a) (record { number = published w; smallest = smallest })) (snapshots (with_registered w.snapshots (published w)))
-done w by a (begin_reading p snapshot) = with_actor w by (record a { reading = Some (reads p snapshot) })
+done w by a (begin_reading bits p snapshot) = with_actor w by (record a { reading = Some (reads bits p snapshot) })
 done w by a (load which) = with_actor w by (record a { reading = option_map (loaded w which) a.reading })
 done w by a end_reading = with_actor w by (record a { reading = None })
 done w by a (store_published entry others) = change w by (publishes w.writes.history entry a) (writes (with_entry w.writes entry others))
@@ -53,6 +53,7 @@ done w by a drop_pending = change w by a (writes (record w.writes { pending = []
 done w by a add_prepared = change w by a (prepared (record w.prepared { heap = set.insert w.prepared.heap (suc (published w)) }))
 done w by a take_pending_prepared = change w by a (prepared (record w.prepared { heap = set.remove w.prepared.heap (suc (published w)) }))
 done w by a (add_delayed_commit pair) = change w by a (prepared (record w.prepared { delayed_commits = finite.insert w.prepared.delayed_commits pair.number pair.decision }))
+done w by a (delay_pending pair) = change w by a (prepared (record w.prepared { delayed_commits = finite.insert w.prepared.delayed_commits pair.number pair.decision }))
 done w by a (take_out p) = change w by a (prepared (without_prepared w.prepared p))
 done w by a (register_again s) = change w by (registers a (record { number = s; smallest = 1 })) (snapshots (with_registered w.snapshots s))
 done w by a (release front r back) = change w by (releases a (front ++ back)) (snapshots (with_released w.snapshots r.number))

@@ -25,9 +25,9 @@ pub record IsSound (w : World) : Type 0 where
   pub owned : AreOwned w.opened w.writes.history (participants own_of w)
   -- what readers rest on
   pub cache : IsCache w.writes.history w.writes.pending w.cache
-  pub decided : AreDecided w.writes.history w.cache w.max_evicted w.snapshots
+  pub decided : AreDecided w.writes.history w.cache w.prepared.delayed_commits w.max_evicted w.snapshots
   pub undecided : AreUndecided w.writes.history w.writes.pending w.prepared w.max_evicted
-  pub delayed : AreDelayed w.writes.history w.prepared w.cache
+  pub delayed : AreDelayed w.writes.history w.writes.pending w.prepared w.cache
   pub registrations : AreRegistered w.writes.history w.snapshots (participants registered_of w)
   pub viewed : EachParticipant HasSeen (participants view_of w)
   pub flags : AreFlags w.delayed_flag w.old_flag w.prepared w.snapshots w.holders.prepared w.holders.snapshots
@@ -45,7 +45,7 @@ pub record IsSound (w : World) : Type 0 where
   pub held : EachAt (AreHeld w.holders (content_of w)) (map held_of w.actors)
   pub have : HoldersHave w.holders (map held_of w.actors)
   -- readers and views
-  pub readers : AreReaders w.writes.history w.max_evicted w.cache (map reader_of w.actors)
+  pub readers : AreReaders w.writes.history w.max_evicted w.cache w.prepared.delayed_commits w.snapshots (map reader_of w.actors)
   pub judged : AreJudged w.writes.history (map reader_of w.actors)
   pub noted : AreNoted w.holders (IsSo w.delayed_flag w.old_flag w.max_evicted w.cache w.writes w.prepared w.snapshots w.store w.locks w.installed) (map noter_of w.actors)
   -- who the actors are

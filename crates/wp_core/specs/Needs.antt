@@ -1,5 +1,5 @@
 -- What a step needs, in the world and of the actor that makes it.
-use Rattle.std.specs.Prelude.{length, ◌≡◌, ◌≢◌, ◌⊎◌, ℕ, suc, ◌+◌, ◌≤◌, ◌<◌, true, false, List, [], ◌∷◌, ◌++◌, Some, None, is_some}
+use Rattle.std.specs.Prelude.{length, ◌≡◌, ◌≢◌, ◌⊎◌, ℕ, suc, ◌+◌, ◌^◌, ◌≤◌, ◌<◌, true, false, List, [], ◌∷◌, ◌++◌, Some, None, is_some}
 use mathlib.Core.Option.{some}
 use lib.ListN.{get_elem?}
 use Rattle.std.specs.FinSet as set
@@ -11,31 +11,32 @@ use Rattle.wp_model.specs.Decision.{decision_of}
 use Rattle.wp_model.specs.Snapshots.{IsLive, NoOldCommits}
 use Rattle.wp_core.specs.Lists.{IsIn}
 use Rattle.wp_core.specs.Turns.{write_turn, prepared_turn, snapshots_turn, store_turn, locks_turn, tables_turn, turn_holder, Holds}
-use Rattle.wp_judge.specs.Words.{CommitPair}
-use Rattle.wp_core.specs.Cache.{pair_at, cache_place}
+use Rattle.wp_judge.specs.Words.{CommitPair, fits}
+use Rattle.wp_core.specs.Cache.{pair_at, cache_place, cached}
 use Rattle.wp_model.specs.PreparedTables.{NoneDelayed}
 use Rattle.wp_core.specs.World.{Transaction, Actor, World, published}
 use Rattle.wp_core.specs.Entries.{next_of, pending_pair, batch_of_name, IsOneRecord, HasVersionsAt}
-use Rattle.wp_core.specs.Steps.{Step, load_published, register, begin_reading, load, end_reading, store_published, store_max_evicted, store_word, store_delayed_flag, store_old_flag, take_turn, give_turn, make_pending, log_pending, close_log, find_log_closed, drop_pending, add_prepared, take_pending_prepared, add_delayed_commit, take_out, register_again, release, add_old_commit, add_versions, take_versions, move_versions, replace_versions, install, halt, find_edit, claim_name, take_name, leave_name, free_transaction, lock_key, free_key, lock_direct, free_direct, find_holder, tell, hear, set_batch, note, make_note, make_seat, set_client, learn, join_seat}
+use Rattle.wp_core.specs.Steps.{Step, load_published, register, begin_reading, load, end_reading, store_published, store_max_evicted, store_word, store_delayed_flag, store_old_flag, take_turn, give_turn, make_pending, log_pending, close_log, find_log_closed, drop_pending, add_prepared, take_pending_prepared, add_delayed_commit, delay_pending, take_out, register_again, release, add_old_commit, add_versions, take_versions, move_versions, replace_versions, install, halt, find_edit, claim_name, take_name, leave_name, free_transaction, lock_key, free_key, lock_direct, free_direct, find_holder, tell, hear, set_batch, note, make_note, make_seat, set_client, learn, join_seat}
 use Rattle.wp_core.specs.Effects.{with_failed}
+use Rattle.wp_core.specs.Sound.Prepared.{IsPassed}
 use Rattle.wp_core.specs.Sound.Snapshots.{has_versions_at}
 use Rattle.wp_core.specs.Sound.Views.{IsGuarded, IsSo}
 use Rattle.wp_core.specs.Conditions.{MayBeSmallest, IsNextLoad, HasTransaction, MayPublish, MayBeEvicted, MayGive, MayLog, MayDrop, IsPreparePending, SameVersions, KeepsStore, IsHolder, Accounts}
 
 abbrev pub Needs : World → ℕ → Actor → Step → Type 0
--- a reading is of a version of the history at a snapshot of the actor's own; it loads in its order, and looks into a table
--- under its turn
+-- a reading is of a version of the history at a snapshot of the actor's own, by as many bits as the cache has; it loads in its order,
+-- and looks into a table under its turn
 Needs w by a load_published = Unit {0}
 Needs w by a (register least) = Holds w.holders snapshots_turn by × MayBeSmallest w by least
-Needs w by a (begin_reading p snapshot) = IsIn snapshot a.participant.registered × (p ≤ snapshot.number → has_versions_at w.writes.history p ≡ true)
+Needs w by a (begin_reading bits p snapshot) = (2 ^ bits ≡ length w.cache) × IsIn snapshot a.participant.registered × (p ≤ snapshot.number → has_versions_at w.writes.history p ≡ true)
 Needs w by a (load which) = IsNextLoad w by a which
 Needs w by a end_reading = Unit {0}
 -- the bound rises, up to the published number; where numbers move, the delayed flag is up before
 Needs w by a (store_published entry others) = MayPublish w by a entry others
 Needs w by a (store_max_evicted m) = Holds w.holders write_turn by × Holds w.holders prepared_turn by × (w.max_evicted ≤ m) × (m ≤ published w) × ((w.delayed_flag ≢ 0) ⊎ ((p : ℕ) → set.contains w.prepared.heap p ≡ true → m < p))
--- the pending entry's pair comes into its word, where the pair that is there may be evicted; a flag is 0 only where its
+-- the pending entry's pair comes into its word, where it fits and the pair that is there may be evicted; a flag is 0 only where its
 -- tables are empty
-Needs w by a (store_word pair) = Holds w.holders write_turn by × (pending_pair w.writes.history w.writes.pending ≡ Some pair) × ((gone : CommitPair) → pair_at w.cache (cache_place (length w.cache) pair.number) ≡ Some gone → MayBeEvicted w gone)
+Needs w by a (store_word pair) = Holds w.holders write_turn by × (pending_pair w.writes.history w.writes.pending ≡ Some pair) × (fits (length w.cache) pair ≡ true) × ((gone : CommitPair) → pair_at w.cache (cache_place (length w.cache) pair.number) ≡ Some gone → MayBeEvicted w gone)
 Needs w by a (store_delayed_flag value) = Holds w.holders prepared_turn by × (value ≡ 0 → NoneDelayed w.prepared)
 Needs w by a (store_old_flag value) = Holds w.holders snapshots_turn by × (value ≡ 0 → NoOldCommits w.snapshots)
 -- a turn is taken where it is free
@@ -48,11 +49,13 @@ Needs w by a log_pending = MayLog w by
 Needs w by a close_log = MayLog w by
 Needs w by a find_log_closed = Holds w.holders write_turn by × (w.writes.closed ≡ true)
 Needs w by a drop_pending = MayDrop w by
--- a delayed commit comes with the flag up; only what is decided leaves, all three tables at once
+-- a delayed commit comes with the flag up, of a decided number or of the pending entry; only what is decided leaves, all three tables at
+-- once, where its word or the old commit map answers for it
 Needs w by a add_prepared = IsPreparePending w by
 Needs w by a take_pending_prepared = IsPreparePending w by
 Needs w by a (add_delayed_commit pair) = Holds w.holders prepared_turn by × (w.delayed_flag ≢ 0) × (decision_of w.writes.history pair.number ≡ Some pair.decision)
-Needs w by a (take_out p) = Holds w.holders prepared_turn by × ((c : ℕ) × (decision_of w.writes.history p ≡ Some c))
+Needs w by a (delay_pending pair) = Holds w.holders write_turn by × Holds w.holders prepared_turn by × (w.delayed_flag ≢ 0) × (pending_pair w.writes.history w.writes.pending ≡ Some pair)
+Needs w by a (take_out p) = Holds w.holders prepared_turn by × ((c : ℕ) × (decision_of w.writes.history p ≡ Some c) × ((cached w.cache p ≡ Some c) ⊎ IsPassed w.max_evicted w.snapshots p c))
 -- a version is noted in the old commit map with the flag up, under a live number that it overlaps
 Needs w by a (register_again s) = Holds w.holders snapshots_turn by × IsLive w.snapshots s × (s ≤ length a.participant.seen)
 Needs w by a (release front r back) = Holds w.holders snapshots_turn by × (a.participant.registered ≡ front ++ r ∷ back)

@@ -3,10 +3,10 @@ use Rattle.std.specs.Prelude.{ℕ, Bool, true, false, ◌||◌, ◌==◌, not, L
 use Rattle.wp_model.specs.declared.entry.Entry.{Entry}
 use Rattle.wp_core.specs.Turns.{Turn}
 use Rattle.wp_core.specs.Cache.{cache_place}
-use Rattle.wp_core.specs.Views.{Fact, passed, in_old_commits, apart, words_stay, has_left, versions_in_memory, versions_nowhere, number_in_heap, number_not_in_heap, undecided_at, prior_values, unprepared, direct_free, tables_stay, live_listed, nothing_flushed, frozen_stay, delayed_flag_stays, old_flag_stays}
+use Rattle.wp_core.specs.Views.{Fact, passed, in_old_commits, apart, words_stay, has_left, versions_in_memory, versions_nowhere, number_in_heap, number_not_in_heap, pair_delayed, pair_not_delayed, none_waits, undecided_at, prior_values, unprepared, direct_free, tables_stay, live_listed, nothing_flushed, frozen_stay, delayed_flag_stays, old_flag_stays}
 use Rattle.wp_core.specs.Entries.{transaction_of}
 use Rattle.wp_core.specs.World.{Actor}
-use Rattle.wp_core.specs.Steps.{Step, store_published, store_max_evicted, store_word, store_delayed_flag, store_old_flag, give_turn, make_pending, drop_pending, add_prepared, take_pending_prepared, add_versions, take_versions, move_versions, replace_versions, install, free_transaction, leave_name, free_direct}
+use Rattle.wp_core.specs.Steps.{Step, store_published, store_max_evicted, store_word, store_delayed_flag, store_old_flag, give_turn, make_pending, drop_pending, add_prepared, take_pending_prepared, delay_pending, add_versions, take_versions, move_versions, replace_versions, install, free_transaction, leave_name, free_direct}
 use Rattle.wp_core.specs.Changes.{turn_index}
 use Rattle.wp_core.specs.Sound.Views.{guarded_by}
 
@@ -55,6 +55,10 @@ abbrev pub takes_prepared : Step → Bool
 takes_prepared take_pending_prepared = true
 takes_prepared other = false
 
+abbrev pub delays_pending : Step → Bool
+delays_pending (delay_pending pair) = true
+delays_pending other = false
+
 abbrev pub is_name : Option (List ℕ) → List ℕ → Bool
 is_name None name = false
 is_name (Some other) name = bytes_eq other name
@@ -92,6 +96,9 @@ ends_itself history words step versions_in_memory = ends_pending step || takes_v
 ends_itself history words step versions_nowhere = ends_pending step || adds_versions step
 ends_itself history words step number_in_heap = ends_pending step || takes_prepared step
 ends_itself history words step number_not_in_heap = ends_pending step || adds_prepared step
+ends_itself history words step pair_delayed = ends_pending step
+ends_itself history words step pair_not_delayed = ends_pending step || delays_pending step
+ends_itself history words step none_waits = stores_words step || ends_pending step
 ends_itself history words step (undecided_at name p) = ends_transaction history name step
 ends_itself history words step (prior_values name p batch) = ends_transaction history name step
 ends_itself history words step (unprepared name) = ends_transaction history name step

@@ -12,10 +12,11 @@ pub record Registration : Type 0 where
 abbrev pub snapshot_of : Observed → Registration
 snapshot_of r = record { number = r.snapshot; smallest = r.smallest }
 
--- the version p at a snapshot, with nothing loaded yet
-abbrev pub reads : ℕ → Registration → Observed
-reads p registration =
+-- the version p at a snapshot, in a cache of so many bits, with nothing loaded yet
+abbrev pub reads : ℕ → ℕ → Registration → Observed
+reads bits p registration =
     record {
+      bits = bits;
       version = p;
       snapshot = registration.number;
       smallest = registration.smallest;

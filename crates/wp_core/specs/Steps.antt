@@ -19,8 +19,8 @@ pub data Step : Type 0 where
   load_published : Step
   -- the published number is loaded and registered at once, with this smallest
   register : ℕ → Step
-  -- from now on the actor reads this version at this snapshot of its own
-  begin_reading : ℕ → Registration → Step
+  -- from now on the actor reads words of so many bits, this version at this snapshot of its own
+  begin_reading : ℕ → ℕ → Registration → Step
   -- the bound, a word, a flag, or a look into a table that is held; the reader's order says which
   load : Load → Step
   end_reading : Step
@@ -49,6 +49,8 @@ pub data Step : Type 0 where
   add_prepared : Step
   take_pending_prepared : Step
   add_delayed_commit : CommitPair → Step
+  -- the pair of the pending entry becomes a delayed commit
+  delay_pending : CommitPair → Step
   -- a decided number leaves heap, delayed set and delayed commits
   take_out : ℕ → Step
   -- ---- the snapshots turn

@@ -46,11 +46,15 @@ pub data Fact : Type 0 where
   words_stay : ℕ → List ℕ → Fact
   -- this number is decided, and in neither the heap nor the delayed set
   has_left : ℕ → Fact
+  -- each prepared number whose decision the bound has come to is in its word: so none waits to be taken out
+  none_waits : Fact
   -- of the pending entry
   versions_in_memory : Fact
   versions_nowhere : Fact
   number_in_heap : Fact
   number_not_in_heap : Fact
+  pair_delayed : Fact
+  pair_not_delayed : Fact
   -- of a transaction: undecided under this number; what a rollback of it writes; named by no undecided prepare
   undecided_at : List ℕ → ℕ → Fact
   prior_values : List ℕ → ℕ → List Change → Fact

@@ -58,7 +58,7 @@ mapped P f (Some x) s e p = subst P (only (f x) s e) (p x)
 of_reader : (p : Participant) (k : ReaderStep) (s : Step) → reader_step p k ≡ Some s → Acts s
 of_reader p reader.LoadPublished s e = subst Acts (only (step.load_published) _ e) tt
 of_reader p (reader.Register least) s e = subst Acts (only (step.register least) _ e) tt
-of_reader p (reader.BeginReading v place) s e = mapped Acts (step.begin_reading v) (slice_get p.registered place) _ e (λ x. tt)
+of_reader p (reader.BeginReading bits v place) s e = mapped Acts (step.begin_reading bits v) (slice_get p.registered place) _ e (λ x. tt)
 of_reader p (reader.Load which) s e = subst Acts (only (step.load which) _ e) tt
 of_reader p reader.EndReading s e = subst Acts (only (step.end_reading) _ e) tt
 
@@ -92,6 +92,7 @@ of_prepareds : (k : PreparedStep) (s : Step) → prepared_step k ≡ Some s → 
 of_prepareds prepared.Add s e = subst Acts (only (step.add_prepared) _ e) tt
 of_prepareds prepared.TakePending s e = subst Acts (only (step.take_pending_prepared) _ e) tt
 of_prepareds (prepared.AddDelayedCommit p c) s e = subst Acts (only (step.add_delayed_commit (record { number = p; decision = c })) _ e) tt
+of_prepareds (prepared.DelayPending p c) s e = subst Acts (only (step.delay_pending (record { number = p; decision = c })) _ e) tt
 of_prepareds (prepared.TakeOut p) s e = subst Acts (only (step.take_out p) _ e) tt
 
 of_released : (front last : List Registration) (s : Step) → released_step front last ≡ Some s → Acts s
@@ -162,7 +163,7 @@ step_same w by x p (kind.Actors k) i = absurd i
 pub again : (w : World) (by : ℕ) (x a : Actor) (s : Step) → Acts s → done (with_actor w by x) by a s ≡ done w by a s
 again w by x a step.load_published i = ap (λ (zs : List Actor). record (done w by a step.load_published) { actors = zs }) (set-set w.actors by x _)
 again w by x a (step.register x0) i = ap (λ (zs : List Actor). record (done w by a (step.register x0)) { actors = zs }) (set-set w.actors by x _)
-again w by x a (step.begin_reading x0 x1) i = ap (λ (zs : List Actor). record (done w by a (step.begin_reading x0 x1)) { actors = zs }) (set-set w.actors by x _)
+again w by x a (step.begin_reading x0 x1 x2) i = ap (λ (zs : List Actor). record (done w by a (step.begin_reading x0 x1 x2)) { actors = zs }) (set-set w.actors by x _)
 again w by x a (step.load x0) i = ap (λ (zs : List Actor). record (done w by a (step.load x0)) { actors = zs }) (set-set w.actors by x _)
 again w by x a step.end_reading i = ap (λ (zs : List Actor). record (done w by a step.end_reading) { actors = zs }) (set-set w.actors by x _)
 again w by x a (step.store_published x0 x1) i = ap (λ (zs : List Actor). record (done w by a (step.store_published x0 x1)) { actors = zs }) (set-set w.actors by x _)
@@ -180,6 +181,7 @@ again w by x a step.drop_pending i = ap (λ (zs : List Actor). record (done w by
 again w by x a step.add_prepared i = ap (λ (zs : List Actor). record (done w by a step.add_prepared) { actors = zs }) (set-set w.actors by x _)
 again w by x a step.take_pending_prepared i = ap (λ (zs : List Actor). record (done w by a step.take_pending_prepared) { actors = zs }) (set-set w.actors by x _)
 again w by x a (step.add_delayed_commit x0) i = ap (λ (zs : List Actor). record (done w by a (step.add_delayed_commit x0)) { actors = zs }) (set-set w.actors by x _)
+again w by x a (step.delay_pending x0) i = ap (λ (zs : List Actor). record (done w by a (step.delay_pending x0)) { actors = zs }) (set-set w.actors by x _)
 again w by x a (step.take_out x0) i = ap (λ (zs : List Actor). record (done w by a (step.take_out x0)) { actors = zs }) (set-set w.actors by x _)
 again w by x a (step.register_again x0) i = ap (λ (zs : List Actor). record (done w by a (step.register_again x0)) { actors = zs }) (set-set w.actors by x _)
 again w by x a (step.release x0 x1 x2) i = ap (λ (zs : List Actor). record (done w by a (step.release x0 x1 x2)) { actors = zs }) (set-set w.actors by x _)

@@ -7,7 +7,7 @@ use Rattle.wp_core.specs.Turns.{Turn}
 use Rattle.wp_core.specs.Changes.{turn_index}
 use Rattle.wp_core.specs.Cache.{cache_place}
 use Rattle.wp_core.specs.Entries.{transaction_of, pending_pair}
-use Rattle.wp_core.specs.Views.{Fact, passed, in_old_commits, apart, words_stay, has_left, versions_in_memory, versions_nowhere, number_in_heap, number_not_in_heap, undecided_at, prior_values, unprepared, direct_free, tables_stay, live_listed, nothing_flushed, frozen_stay, delayed_flag_stays, old_flag_stays}
+use Rattle.wp_core.specs.Views.{Fact, passed, in_old_commits, apart, words_stay, has_left, versions_in_memory, versions_nowhere, number_in_heap, number_not_in_heap, pair_delayed, pair_not_delayed, none_waits, undecided_at, prior_values, unprepared, direct_free, tables_stay, live_listed, nothing_flushed, frozen_stay, delayed_flag_stays, old_flag_stays}
 use Rattle.wp_core.specs.Sound.Views.{guarded_by}
 use Rattle.wp_core.specs.Notes.{is_name}
 use Rattle.wp_actor.specs.Turns.{turn_of}
@@ -62,6 +62,7 @@ abbrev pub of_prepared : PreparedStep → Ending
 of_prepared prepared.Add = ending.AddPrepared
 of_prepared prepared.TakePending = ending.TakePrepared
 of_prepared (prepared.AddDelayedCommit p c) = ending.Nothing
+of_prepared (prepared.DelayPending p c) = ending.DelayPending
 of_prepared (prepared.TakeOut p) = ending.Nothing
 
 abbrev pub of_store : StoreStep → Ending
@@ -131,6 +132,10 @@ abbrev pub is_take_prepared : Ending → Bool
 is_take_prepared ending.TakePrepared = true
 is_take_prepared other = false
 
+abbrev pub is_delay_pending : Ending → Bool
+is_delay_pending ending.DelayPending = true
+is_delay_pending other = false
+
 abbrev pub is_add_versions : Ending → Bool
 is_add_versions ending.AddVersions = true
 is_add_versions other = false
@@ -165,6 +170,9 @@ ends_itself e versions_in_memory = ends_pending e || is_take_versions e
 ends_itself e versions_nowhere = ends_pending e || is_add_versions e
 ends_itself e number_in_heap = ends_pending e || is_take_prepared e
 ends_itself e number_not_in_heap = ends_pending e || is_add_prepared e
+ends_itself e pair_delayed = ends_pending e
+ends_itself e pair_not_delayed = ends_pending e || is_delay_pending e
+ends_itself e none_waits = ends_words e || ends_pending e
 ends_itself e (undecided_at name p) = ends_transaction e name
 ends_itself e (prior_values name p batch) = ends_transaction e name
 ends_itself e (unprepared name) = ends_transaction e name

@@ -46,7 +46,7 @@ use Rattle.wp_machine.specs.declared.step.ActorsStep.TheVariants as actors
 abbrev pub reader_step : Participant → ReaderStep → Option Step
 reader_step p reader.LoadPublished = Some step.load_published
 reader_step p (reader.Register least) = Some (step.register least)
-reader_step p (reader.BeginReading version place) = option_map (step.begin_reading version) (slice_get p.registered place)
+reader_step p (reader.BeginReading bits version place) = option_map (step.begin_reading bits version) (slice_get p.registered place)
 reader_step p (reader.Load which) = Some (step.load which)
 reader_step p reader.EndReading = Some step.end_reading
 
@@ -82,6 +82,7 @@ abbrev pub prepared_step : PreparedStep → Option Step
 prepared_step prepared.Add = Some step.add_prepared
 prepared_step prepared.TakePending = Some step.take_pending_prepared
 prepared_step (prepared.AddDelayedCommit p c) = Some (step.add_delayed_commit (record { number = p; decision = c }))
+prepared_step (prepared.DelayPending p c) = Some (step.delay_pending (record { number = p; decision = c }))
 prepared_step (prepared.TakeOut p) = Some (step.take_out p)
 
 -- the first of the last ones is released

@@ -1,35 +1,26 @@
 ghost use Rattle.std.specs.Prelude.{◌≡◌, ◌≤◌, ◌<◌, ◌^◌, replicate, length, OnOk, IfOk};
 ghost use Rattle.wp_core.specs.Cache.{cache_place, cached_word, with_pair};
-ghost use Rattle.wp_judge.specs.Words.{word_of};
 
 use std::alloc::{AllocError, Global};
 use std::marker::Model;
+use wp_judge::{LAST_SEQ, count_words, fits, pack};
 use wp_model::Seq;
 
-/// The words of the commit cache, at least one.
+/// The words of the commit cache: two to the power of its bits, of which there are at most 16.
 #[derive(Drop)]
 pub struct Cache {
+    bits: u32,
     words: Vec<u64>,
 }
 
 impl Model for Cache {
-    ghost use Rattle.std.specs.Prelude.{ℕ, ◌≤◌, List, length};
+    ghost use Rattle.std.specs.Prelude.{◌≡◌, ℕ, ◌≤◌, ◌^◌, List, length};
 
     ghost Value = { List ℕ };
 
     ghost view = { λ c. c.words.items };
 
-    ghost invariant = { λ c. 1 ≤ length c.words.items };
-}
-
-/// 2^32: a word is the version's number times this, plus the number that decides it.
-const DECISIONS: u64 = 4294967296;
-
-fn word_of(p: Seq, c: Seq) -> Result<u64, AllocError>
-    ensures { IfOk result (λ word. word ≡ word_of (record { number = p; decision = c })) }
-{
-    let high = p.checked_mul(DECISIONS).ok_or(AllocError)?;
-    high.checked_add(c).ok_or(AllocError)
+    ghost invariant = { λ c. (c.bits ≤ 16) × (length c.words.items ≡ 2 ^ c.bits) × (1 ≤ length c.words.items) };
 }
 
 impl Cache {
@@ -38,6 +29,13 @@ impl Cache {
         ensures some { 1 ≤ length self.now }
     {
         &self.words
+    }
+
+    /// How many bits the place of a word has.
+    pub fn bits(&self) -> u32
+        ensures { (result ≤ 16) × (length self.now ≡ 2 ^ result) }
+    {
+        self.bits
     }
 
     pub fn place_of(&self, p: Seq) -> usize
@@ -54,11 +52,14 @@ impl Cache {
         self.words[self.place_of(p)]
     }
 
-    /// Puts the pair at its place. Its numbers are below 2^32 wherever the machine stores a word; others find no word.
+    /// Puts the pair at its place. It fits a word wherever the machine stores one; others find no word.
     pub fn store(&mut self, p: Seq, c: Seq) -> Result<(), AllocError>
         ensures { OnOk result (self.new ≡ with_pair self.old (record { number = p; decision = c })) }
     {
-        let word = word_of(p, c)?;
+        if p < 1 || c < p || LAST_SEQ < c || !fits(self.bits, p, c) {
+            return Err(AllocError);
+        }
+        let word = pack(self.bits, p, c);
         let place = self.place_of(p);
         self.words[place] = word;
         Ok(())
@@ -66,13 +67,14 @@ impl Cache {
 }
 
 impl Cache {
-    /// So many empty words.
-    pub fn empty(words: usize, alloc: Global) -> Result<Cache, AllocError>
-        requires { 1 ≤ words }
-        ensures { IfOk result (λ cache. cache ≡ replicate words 0) }
+    /// So many empty words as so few bits tell.
+    pub fn empty(bits: u32, alloc: Global) -> Result<Cache, AllocError>
+        requires { bits ≤ 16 }
+        ensures { IfOk result (λ cache. cache ≡ replicate (2 ^ bits) 0) }
     {
         Ok(Cache {
-            words: vec![in alloc; 0u64; words]?,
+            bits,
+            words: vec![in alloc; 0u64; count_words(bits) as usize]?,
         })
     }
 }

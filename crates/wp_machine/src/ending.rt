@@ -54,6 +54,7 @@ pub enum Ending {
     Pending,
     AddPrepared,
     TakePrepared,
+    DelayPending,
     AddVersions,
     TakeVersions,
     MoveVersions,
@@ -138,6 +139,7 @@ fn of_prepared(kind: &PreparedStep) -> Ending
     match kind {
         PreparedStep::Add => Ending::AddPrepared,
         PreparedStep::TakePending => Ending::TakePrepared,
+        PreparedStep::DelayPending(_, _) => Ending::DelayPending,
         PreparedStep::AddDelayedCommit(_, _) | PreparedStep::TakeOut(_) => Ending::Nothing,
     }
 }
@@ -235,6 +237,9 @@ impl Ending {
             Noted::VersionsNowhere => self.ends_pending() || matches!(self, Ending::AddVersions),
             Noted::NumberInHeap => self.ends_pending() || matches!(self, Ending::TakePrepared),
             Noted::NumberNotInHeap => self.ends_pending() || matches!(self, Ending::AddPrepared),
+            Noted::PairDelayed => self.ends_pending(),
+            Noted::PairNotDelayed => self.ends_pending() || matches!(self, Ending::DelayPending),
+            Noted::NoneWaits => self.ends_words() || self.ends_pending(),
             Noted::UndecidedAt(name, _)
             | Noted::PriorValues(name, _, _)
             | Noted::Unprepared(name) => self.ends_transaction(name),

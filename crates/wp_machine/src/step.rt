@@ -34,8 +34,8 @@ pub enum ReaderStep {
     LoadPublished,
     /// The published number is loaded and registered at once, with this smallest.
     Register(Seq),
-    /// From now on the actor reads this version, at the snapshot at this place of its registrations.
-    BeginReading(Seq, usize),
+    /// From now on the actor reads this version, at the snapshot at this place of its registrations, in a cache of so many bits.
+    BeginReading(u32, Seq, usize),
     Load(Load),
     EndReading,
 }
@@ -80,6 +80,8 @@ pub enum PreparedStep {
     TakePending,
     /// A version, and the number that decides it.
     AddDelayedCommit(Seq, Seq),
+    /// The same of the pending entry's pair, which fits no word.
+    DelayPending(Seq, Seq),
     /// A decided number leaves heap, delayed set and delayed commits.
     TakeOut(Seq),
 }

@@ -7,7 +7,7 @@ use wp_model::{Batch, Entry, Holder, Key, Name, Seq, Version};
 
 /// How a holder that was found is accounted for: the finder's own, another actor's, or a prepare undecided after so many
 /// entries.
-#[derive(Clone, Copy, Debug, PartialEq, Eq)]
+#[derive(Clone, Copy, PartialEq, Eq)]
 pub enum Account {
     Own,
     Another,
@@ -80,6 +80,12 @@ pub enum Noted {
     VersionsNowhere,
     NumberInHeap,
     NumberNotInHeap,
+    /// The pending entry's pair is a delayed commit.
+    PairDelayed,
+    /// It is none.
+    PairNotDelayed,
+    /// Each prepared number that is decided at the bound or before has its pair in its word.
+    NoneWaits,
     UndecidedAt(Name, Seq),
     PriorValues(Name, Seq, Batch),
     Unprepared(Name),
@@ -143,7 +149,10 @@ impl Fact {
             | Noted::VersionsInMemory
             | Noted::VersionsNowhere
             | Noted::NumberInHeap
-            | Noted::NumberNotInHeap => Some(Turn::Write),
+            | Noted::NumberNotInHeap
+            | Noted::PairDelayed
+            | Noted::PairNotDelayed
+            | Noted::NoneWaits => Some(Turn::Write),
         }
     }
 }

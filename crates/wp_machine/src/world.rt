@@ -1,4 +1,4 @@
-ghost use Rattle.std.specs.Prelude.{◌≡◌, ◌≤◌, true, false, [], ◌∷◌, None, replicate, IfOk};
+ghost use Rattle.std.specs.Prelude.{◌≡◌, ◌≤◌, ◌^◌, true, false, [], ◌∷◌, None, replicate, IfOk};
 ghost use Rattle.std.specs.FinSet as set;
 ghost use Rattle.std.specs.FinMap as finite;
 ghost use Rattle.wp_model.specs.History.{undecided};
@@ -65,30 +65,30 @@ impl World {
         ensures cache { IfOk result (λ world. world.cache ≡ 0 ∷ []) }
         ensures seat { IfOk result (λ world. world.actors ≡ new_actor true client [] ∷ []) }
     {
-        World::opened(alloc, client, &History::new(alloc), 1)
+        World::opened(alloc, client, &History::new(alloc), 0)
     }
 
-    /// An opening on the history: one client, a commit cache of so many empty words, and all versions in memory.
+    /// An opening on the history: one client, a commit cache of so many bits with empty words, and all versions in memory.
     pub fn opened(
         alloc: Global,
         client: Name,
         history: &History,
-        words: usize,
+        bits: u32,
     ) -> Result<World, AllocError>
         requires closed { undone_last history.now.entries ≡ None }
-        requires some { 1 ≤ words }
+        requires bits { bits ≤ 16 }
         ensures opening { IfOk result IsOpening }
         ensures history { IfOk result (λ world. world.opened ≡ history.now.entries) }
-        ensures cache { IfOk result (λ world. world.cache ≡ replicate words 0) }
+        ensures cache { IfOk result (λ world. world.cache ≡ replicate (2 ^ bits) 0) }
         ensures tables { IfOk result (λ world. world.store.tables ≡ []) }
         ensures seat { IfOk result (λ world. world.actors ≡ new_actor true client history.now.entries ∷ []) }
     {
-        World::on(alloc, client, history, words)
+        World::on(alloc, client, history, bits)
     }
 
-    fn on(alloc: Global, client: Name, history: &History, words: usize) -> Result<World, AllocError>
-        requires { 1 ≤ words }
-        ensures world { IfOk result (λ world. world ≡ opened_world history.now.entries (replicate words 0) client) }
+    fn on(alloc: Global, client: Name, history: &History, bits: u32) -> Result<World, AllocError>
+        requires { bits ≤ 16 }
+        ensures world { IfOk result (λ world. world ≡ opened_world history.now.entries (replicate (2 ^ bits) 0) client) }
         ensures legal { IsLegal history.now.entries }
     {
         let entries = history.entries();
@@ -96,7 +96,7 @@ impl World {
         let (writes, store) = stored(entries, alloc)?;
         let (prepared, locks) = left_undecided(history, alloc)?;
         let opened = copy_entries(entries, alloc)?;
-        let cache = Cache::empty(words, alloc)?;
+        let cache = Cache::empty(bits, alloc)?;
         Ok(World {
             alloc,
             opened,

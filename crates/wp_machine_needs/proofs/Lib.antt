@@ -3,5 +3,6 @@ pub mod ListFacts
 pub mod OfferedSteps
 pub mod Owning
 pub mod Places
+pub mod NoneWaits
 pub mod Stores
 pub mod LiveNumbers

@@ -3,3 +3,4 @@ pub mod Each
 pub mod Said
 pub mod Holding
 pub mod VersionLists
+pub mod Waiting

@@ -3,7 +3,7 @@ ghost use Rattle.std.specs.Prelude.{◌≡◌, ◌↔◌, ◌≤◌, ◌<◌, tr
 ghost use Rattle.std.specs.Option.{option_map};
 ghost use Rattle.wp_judge.specs.Words.{numbers_of};
 ghost use Rattle.wp_model.specs.Snapshots.{is_old_commit};
-ghost use Rattle.wp_core.specs.Cache.{pair_at};
+ghost use Rattle.wp_core.specs.Cache.{pair_at, cached};
 ghost use Rattle.wp_core.specs.Sound.Prepared.{IsInOldCommits};
 ghost use Rattle.wp_core.specs.Sound.Views.{IsClearing, IsApart};
 ghost use Rattle.wp_machine_needs.specs.Each.{Each};
@@ -18,7 +18,17 @@ fn pair_at(cache: &Cache, place: usize) -> Option<(Seq, Seq)>
     requires { place < length cache.now }
     ensures { result ≡ option_map numbers_of (pair_at cache.now place) }
 {
-    unpack(cache.words()[place])
+    unpack(cache.bits(), place, cache.words()[place])
+}
+
+/// The decision that the cache has for a version.
+pub(crate) fn cached(cache: &Cache, p: Seq) -> Option<Seq>
+    ensures { result ≡ cached cache.now p }
+{
+    match pair_at(cache, cache.place_of(p)) {
+        Some((q, c)) if q == p => Some(c),
+        _ => None,
+    }
 }
 
 /// Whether the word at the place has the pair, which is published.

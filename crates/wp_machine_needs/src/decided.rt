@@ -21,7 +21,7 @@ fn place_of_decider(entries: &[Entry], p: Seq) -> Option<usize>
 }
 
 /// The number that decides the version with that number, if one does.
-fn decision_of(history: &History, p: Seq) -> Option<Seq>
+pub(crate) fn decision_of(history: &History, p: Seq) -> Option<Seq>
     ensures { result ≡ decision_of history.now.entries p }
 {
     match history.entry_at(p)? {

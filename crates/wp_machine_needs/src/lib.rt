@@ -23,12 +23,14 @@ mod read;
 mod stored;
 mod transactions;
 mod versions;
+mod waiting;
 
 use crate::finding::may_find;
 use crate::moves::{may_halt, may_install, may_move_versions, may_replace_versions};
 use crate::note::may_note;
 pub use decided::{decision_in, is_decided};
 pub use edits::has_last_tables;
+pub use note::is_undelayed;
 pub use read::history_of;
 use std::alloc::AllocError;
 use wp_machine::{Actor, Kind, LocksStep, OwnStep, StoreStep, TablesStep, World};

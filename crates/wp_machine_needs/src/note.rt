@@ -3,7 +3,7 @@ ghost use Rattle.std.specs.Prelude.{◌≡◌, ◌↔◌, ◌≤◌, true, lengt
 ghost use Rattle.wp_core.specs.Steps as step;
 ghost use Rattle.wp_core.specs.Needs.{Needs};
 ghost use Rattle.wp_core.specs.Sound.Prepared.{IsInOldCommits};
-ghost use Rattle.wp_core.specs.Sound.Views.{IsGuarded, IsClearing, IsApart, HasLeft};
+ghost use Rattle.wp_core.specs.Sound.Views.{IsGuarded, IsClearing, IsApart, HasLeft, IsDelayed, IsUndelayed};
 ghost use Rattle.wp_machine_needs.specs.VersionLists.{AreListed, StayUpTo};
 ghost use Rattle.wp_machine_needs.specs.Said.{IsSaid};
 
@@ -13,6 +13,7 @@ use crate::listed::{live_listed, stay_up_to};
 use crate::pending::{is_in_heap, is_in_memory, is_nowhere};
 use crate::transactions::{has_prior, is_direct_free, is_undecided_at, is_unprepared};
 use crate::versions::{are_equal, none_flushed};
+use crate::waiting::none_waits;
 use std::alloc::AllocError;
 use wp_machine::{Actor, Fact, Holders, Noted, Participant, StoreTable, World};
 use wp_model::{Seq, Version};
@@ -80,6 +81,26 @@ fn has_left(world: &World, p: Seq) -> Result<bool, AllocError>
     is_decided(world.writes.entries(), p, world.alloc)
 }
 
+/// Whether the pending entry's pair, if it has one, is a delayed commit.
+fn is_delayed(world: &World) -> Result<bool, AllocError>
+    ensures { IfOk result (λ yes. yes ≡ true → IsDelayed world.now.writes world.now.prepared) }
+{
+    Ok(match world.writes.pending_pair()? {
+        Some((p, c)) => world.prepared.commit_of(p) == Some(c),
+        None => true,
+    })
+}
+
+/// Whether the pending entry's pair is no delayed commit. Err: want of memory, or a number past its type's end.
+pub fn is_undelayed(world: &World) -> Result<bool, AllocError>
+    ensures { IfOk result (λ yes. yes ≡ true → IsUndelayed world.now.writes world.now.prepared) }
+{
+    Ok(match world.writes.pending_pair()? {
+        Some((p, c)) => world.prepared.commit_of(p) != Some(c),
+        None => true,
+    })
+}
+
 fn tables_stay(store: &StoreTable, versions: &[Version], floor: Seq) -> bool
     ensures { (result ≡ true) ↔ ((store.now.tables ≡ versions.now) × (store.now.floor ≡ floor)) }
 {
@@ -124,6 +145,9 @@ fn is_so(world: &World, participant: &Participant, fact: &Fact) -> Result<bool, 
         Noted::VersionsNowhere => is_nowhere(&world.writes, &world.store),
         Noted::NumberInHeap => is_in_heap(&world.writes, &world.prepared),
         Noted::NumberNotInHeap => Ok(!is_in_heap(&world.writes, &world.prepared)?),
+        Noted::PairDelayed => is_delayed(world),
+        Noted::PairNotDelayed => is_undelayed(world),
+        Noted::NoneWaits => none_waits(world),
         Noted::UndecidedAt(name, p) => is_undecided_at(
             locks,
             history,

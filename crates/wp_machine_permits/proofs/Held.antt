@@ -1,5 +1,5 @@
 -- What an actor has.
-use Rattle.std.proofs.Common.{◌≡◌, true, List, [], ◌∷◌, ap, sym, ◌∙◌, ℕ, Option, Some, None, option_map, unwrap_or, length, refl, zero, suc, take, drop, ◌++◌, ◌≤◌, ◌<◌, arith}
+use Rattle.std.proofs.Common.{◌≡◌, true, List, [], ◌∷◌, ap, sym, ◌∙◌, ℕ, Option, Some, None, option_map, unwrap_or, length, refl, zero, suc, take, drop, ◌++◌, ◌≤◌, ◌<◌, ◌^◌, arith}
 use Rattle.std.specs.Option.{is_some}
 use Rattle.std.proofs.Common.{inl, inr}
 use Rattle.std.specs.FinSet as set
@@ -10,7 +10,7 @@ use Rattle.wp_model.specs.declared.entry.Entry.{Entry}
 use Rattle.wp_core.specs.Turns.{Holds, write_turn, snapshots_turn}
 use Rattle.wp_core.specs.Steps.{store_published, store_word, begin_reading, release}
 use Rattle.wp_machine.specs.Machine.{published_step, released_step}
-use Rattle.wp_judge.specs.Words.{CommitPair, numbers_of}
+use Rattle.wp_judge.specs.Words.{CommitPair, fits, numbers_of}
 use Rattle.wp_model.specs.declared.change.Change.{Change}
 use Rattle.wp_model.specs.History.{batch_at, named, holder_of, is_changed}
 use Rattle.wp_model.proofs.Found.{found_holder}
@@ -78,17 +78,17 @@ entitled w a entry history whole follows batch under held owns =
     }
 
 -- the pair of the pending entry
-pub stores : (w : World) (by : ℕ) (a : Actor) (p c : ℕ) → Some (p, c) ≡ option_map numbers_of (pending_pair w.writes.history w.writes.pending) → Holds w.holders write_turn by → ((gone : CommitPair) → pair_at w.cache (cache_place (length w.cache) p) ≡ Some gone → MayBeEvicted w gone)
+pub stores : (w : World) (by : ℕ) (a : Actor) (p c : ℕ) → Some (p, c) ≡ option_map numbers_of (pending_pair w.writes.history w.writes.pending) → Holds w.holders write_turn by → fits (length w.cache) (record { number = p; decision = c }) ≡ true → ((gone : CommitPair) → pair_at w.cache (cache_place (length w.cache) p) ≡ Some gone → MayBeEvicted w gone)
     → IsOffered w by a (option_map store_word (pending_pair w.writes.history w.writes.pending))
-stores w by a p c is turn clear = cases (pending_pair w.writes.history w.writes.pending) refl
+stores w by a p c is turn narrow clear = cases (pending_pair w.writes.history w.writes.pending) refl
   where
     cases : (o : Option CommitPair) → pending_pair w.writes.history w.writes.pending ≡ o → IsOffered w by a (option_map store_word (pending_pair w.writes.history w.writes.pending))
     cases None none = let apart : Some (p, c) ≡ None = is ∙ ap (option_map numbers_of) none in absurd cc
     cases (Some pair) there =
         let both : Some (p, c) ≡ Some (pair.number, pair.decision) = is ∙ ap (option_map numbers_of) there in
         let inner : ◌≡◌ {A = ℕ × ℕ} (p, c) (pair.number, pair.decision) = cc in
-        let same : p ≡ pair.number = ap (λ x. x.0) inner in
-        record { step = store_word pair; is = ap (option_map store_word) there; needs = (turn, there, rw same at clear) }
+        let same : p ≡ pair.number = ap (λ x. x.0) inner in let decided : c ≡ pair.decision = ap (λ x. x.1) inner in
+        record { step = store_word pair; is = ap (option_map store_word) there; needs = (turn, there, sym (λ i. fits (length w.cache) (record { number = same i; decision = decided i })) ∙ narrow, rw same at clear) }
 
 -- the item at a place is in the list
 pub in_list : (registered : List Registration) (place : ℕ) (r : Registration) → slice_get registered place ≡ Some r → IsIn r registered
@@ -96,8 +96,8 @@ in_list [] place r is = absurd cc
 in_list (first ∷ others) zero r is = inl cc
 in_list (first ∷ others) (suc place) r is = inr (in_list others place r is)
 
-pub begins : (w : World) (by : ℕ) (a : Actor) (p place : ℕ) (r : Registration) → Some r ≡ slice_get a.participant.registered place → (p ≤ r.number → has_versions_at w.writes.history p ≡ true) → IsOffered w by a (option_map (begin_reading p) (slice_get a.participant.registered place))
-begins w by a p place r there versions = record { step = begin_reading p r; is = ap (option_map (begin_reading p)) (sym there); needs = (in_list a.participant.registered place r (sym there), versions) }
+pub begins : (w : World) (by : ℕ) (a : Actor) (bits p place : ℕ) (r : Registration) → 2 ^ bits ≡ length w.cache → Some r ≡ slice_get a.participant.registered place → (p ≤ r.number → has_versions_at w.writes.history p ≡ true) → IsOffered w by a (option_map (begin_reading bits p) (slice_get a.participant.registered place))
+begins w by a bits p place r words there versions = record { step = begin_reading bits p r; is = ap (option_map (begin_reading bits p)) (sym there); needs = (words, in_list a.participant.registered place r (sym there), versions) }
 
 -- ---- lists in two
 

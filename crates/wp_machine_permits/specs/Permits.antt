@@ -5,7 +5,7 @@ use Rattle.wp_model.specs.Legal.{IsLegal, IsLegalNext}
 use Rattle.wp_model.specs.Snapshots.{Snapshots, is_old_commit}
 use Rattle.wp_core.specs.World.{World, Actor, Transaction, published}
 use Rattle.wp_core.specs.Conditions.{HasTransaction, IsHeldFor, IsOwn, IsPrepare}
-use Rattle.wp_core.specs.Cache.{cached}
+use Rattle.wp_core.specs.Sound.Prepared.{IsEntered}
 use Rattle.wp_core.specs.Entries.{batch_of_name, changes_under, pair_by}
 use Rattle.std.specs.FinSet as set
 use Rattle.std.specs.FinMap as finite
@@ -55,8 +55,8 @@ pub record IsEntitled (w : World) (a : Actor) (entry : Entry) : Type 0 where
   pub keys : (key : List ℕ) → is_changed (changes_under w.writes.history entry) key ≡ true → IsHeldFor w a key
   pub transaction : IsOwn w a entry
 
--- its versions are in memory, the number of a Prepare is in the heap, and the pair of any other is in its word
+-- its versions are in memory, the number of a Prepare is in the heap, and the pair of any other is in its word, or is a wide one and delayed
 pub record IsMade (w : World) (entry : Entry) : Type 0 where
   pub versions : (key : List ℕ) (value : Option (List ℕ)) → version_in (Some entry) key ≡ Some value → version_at w.store.memory key (suc (published w)) ≡ Some value
   pub number : IsPrepare entry → set.contains w.prepared.heap (suc (published w)) ≡ true
-  pub pair : (pair : CommitPair) → pair_by (suc (published w)) entry ≡ Some pair → cached w.cache pair.number ≡ Some pair.decision
+  pub pair : (pair : CommitPair) → pair_by (suc (published w)) entry ≡ Some pair → IsEntered w.cache w.prepared.delayed_commits w.max_evicted pair

@@ -66,7 +66,7 @@ by_word =
     (refl, (refl, refl))
     ▹ (refl, (refl, inl refl))
     ▹ (refl, (refl, λ _. refl))
-    ▹ (refl, (inl refl, λ _. refl))
+    ▹ (refl, (refl, inl refl, λ _. refl))
     ▹ (refl, (_, refl, refl, tt))
     ▹ tt
     in
@@ -75,7 +75,7 @@ by_word =
 pub above_bound : CanLead (prepare ++ register ++ look 1 ++ look_at_bound) (IsDecidedBy FirstMax false)
 above_bound =
     let looks : AreMet (look 1 ++ look_at_bound) (after register prepared_world) =
-    (refl, (inl refl, λ _. refl))
+    (refl, (refl, inl refl, λ _. refl))
     ▹ (refl, (_, refl, refl, tt))
     ▹ (refl, (_, refl, refl, tt))
     ▹ tt
@@ -87,7 +87,7 @@ no_commits = finite.empty
 
 -- what was loaded before
 abbrev looked_before : Observed
-looked_before = record (reads 1 snapshot_1) { first_word = Some 0; first_max = Some 1; delayed_flag = Some 1 }
+looked_before = record (reads 1 1 snapshot_1) { first_word = Some 0; first_max = Some 1; delayed_flag = Some 1 }
 
 is_delayed : found_in (set.contains (set.union no_numbers (set.retain (set.insert no_numbers 1) (λ q. nat_le q 1))) 1) (finite.get no_commits 1) ≡ Delayed
 is_delayed = λ i. found_in (delayed_1 i) (finite.get-empty nat_cmp 1 i)
@@ -95,7 +95,7 @@ is_delayed = λ i. found_in (delayed_1 i) (finite.get-empty nat_cmp 1 i)
 pub by_prepared : CanLead (prepare ++ register ++ delay ++ look 1 ++ look_at_bound ++ look_into_prepared) (IsDecidedBy load.InPrepared false)
 by_prepared =
     let looks : AreMet (look 1 ++ look_at_bound ++ look_into_prepared) (after delay (after register prepared_world)) =
-    (refl, (inl refl, λ _. refl))
+    (refl, (refl, inl refl, λ _. refl))
     ▹ (refl, (_, refl, refl, tt))
     ▹ (refl, (_, refl, refl, tt))
     ▹ (refl, (_, refl, refl, tt))
@@ -115,7 +115,7 @@ below_bound =
     (refl, (refl, refl))
     ▹ (refl, (refl, inl refl))
     ▹ (refl, (refl, λ _. refl))
-    ▹ (refl, (inl refl, λ _. refl))
+    ▹ (refl, (refl, inl refl, λ _. refl))
     ▹ (refl, (_, refl, refl, tt))
     ▹ (refl, (_, refl, refl, tt))
     ▹ (refl, (_, refl, refl, tt))
@@ -132,7 +132,7 @@ below_bound =
 pub by_old_commits : CanLead (prepare ++ register ++ commit ++ write ++ keep ++ overwrite ++ look 1 ++ look_at_bound ++ look_again ++ look_into_old_commits) (IsDecidedBy IsOldCommit false)
 by_old_commits =
     let looks : AreMet (look 1 ++ look_at_bound ++ look_again ++ look_into_old_commits) kept_world =
-    (refl, (inl refl, λ _. refl))
+    (refl, (refl, inl refl, λ _. refl))
     ▹ (refl, (_, refl, refl, tt))
     ▹ (refl, (_, refl, refl, tt))
     ▹ (refl, (_, refl, refl, tt))

@@ -101,7 +101,7 @@ commit_met m registered =
     (refl, (refl, refl))
     ▹ (refl, (refl, refl, tt, committed_legal))
     ▹ (refl, (refl, some_entry (Commit 1) [], refl, refl))
-    ▹ (refl, (refl, refl, λ gone e. absurd (some_none gone (sym e))))
+    ▹ (refl, (refl, refl, refl, λ gone e. absurd (some_none gone (sym e))))
     ▹ (
       refl,
       record {
@@ -113,12 +113,12 @@ commit_met m registered =
         keys = λ key changed. inr (t, whole, has_whole, k_held key (put_k key changed));
         transaction = of_t (prepared ∷ []) (Commit 1) refl put_k;
         number = λ e. absurd e;
-        pair = λ pair e. subst (λ (x : CommitPair). cached (0 ∷ word_of first_pair ∷ []) x.number ≡ Some x.decision) (same_some first_pair pair e) refl;
+        pair = λ pair e. inl (subst (λ (x : CommitPair). cached (0 ∷ word_of 2 first_pair ∷ []) x.number ≡ Some x.decision) (same_some first_pair pair e) refl);
       },
     )
     ▹ (refl, (refl, refl))
     ▹ (refl, (refl, refl))
-    ▹ (refl, (refl, (2, refl)))
+    ▹ (refl, (refl, (2, refl, inl refl)))
     ▹ (refl, (refl, λ _. refl))
     ▹ tt
 
@@ -138,7 +138,7 @@ undo_met =
     ▹ (refl, (refl, refl, added 2 (Undo 1 prior) memory none_at_2))
     ▹ (refl, (refl, tt))
     ▹ (refl, (refl, some_entry (Undo 1 prior) (Close 1 ∷ []), refl, refl))
-    ▹ (refl, (refl, refl, λ gone e. absurd (some_none gone (sym e))))
+    ▹ (refl, (refl, refl, refl, λ gone e. absurd (some_none gone (sym e))))
     ▹ (
       refl,
       record {
@@ -150,10 +150,10 @@ undo_met =
         keys = λ key changed. inr (t, whole, has_whole, k_held key (only_key (Del k) key changed));
         transaction = of_t (prepared ∷ []) (Undo 1 prior) refl (only_key (Del k));
         number = λ e. absurd e;
-        pair = λ pair e. subst (λ (x : CommitPair). cached (word_of undo_pair ∷ 0 ∷ []) x.number ≡ Some x.decision) (same_some undo_pair pair e) refl;
+        pair = λ pair e. inl (subst (λ (x : CommitPair). cached (word_of 2 undo_pair ∷ 0 ∷ []) x.number ≡ Some x.decision) (same_some undo_pair pair e) refl);
       },
     )
-    ▹ (refl, (refl, refl, λ gone e. absurd (some_none gone (sym e))))
+    ▹ (refl, (refl, refl, refl, λ gone e. absurd (some_none gone (sym e))))
     ▹ (
       refl,
       record {
@@ -165,12 +165,12 @@ undo_met =
         keys = λ key changed. inr (t, whole, has_whole, k_held key (put_k key changed));
         transaction = of_t (prepared ∷ Undo 1 prior ∷ []) (Close 1) refl put_k;
         number = λ e. absurd e;
-        pair = λ pair e. subst (λ (x : CommitPair). cached (word_of undo_pair ∷ word_of close_pair ∷ []) x.number ≡ Some x.decision) (same_some close_pair pair e) refl;
+        pair = λ pair e. inl (subst (λ (x : CommitPair). cached (word_of 2 undo_pair ∷ word_of 2 close_pair ∷ []) x.number ≡ Some x.decision) (same_some close_pair pair e) refl);
       },
     )
     ▹ (refl, (refl, refl))
     ▹ (refl, (refl, refl))
-    ▹ (refl, (refl, (3, refl)))
+    ▹ (refl, (refl, (3, refl, inl refl)))
     ▹ (refl, (refl, λ _. refl))
     ▹ tt
 
@@ -226,7 +226,7 @@ overwrite_met m flag registered kept =
     ▹ (refl, (refl, refl, added 3 (Write direct) memory none_at_3))
     ▹ (refl, (refl, tt))
     ▹ (refl, (refl, some_entry (Write direct) [], refl, refl))
-    ▹ (refl, (refl, refl, λ gone e. subst (λ (x : CommitPair). MayBeEvicted (after (take 4 overwrite) (after write (committed_world m flag registered))) x) (same_some first_pair gone e) (record { passed = omega arith; kept = kept; apart = inl (still_out (committed_world m flag registered).prepared 2 1 gone_1 not_delayed_1) })))
+    ▹ (refl, (refl, refl, refl, λ gone e. subst (λ (x : CommitPair). MayBeEvicted (after (take 4 overwrite) (after write (committed_world m flag registered))) x) (same_some first_pair gone e) (record { passed = omega arith; kept = kept; apart = inl (still_out (committed_world m flag registered).prepared 2 1 gone_1 not_delayed_1) })))
     ▹ (
       refl,
       record {
@@ -238,7 +238,7 @@ overwrite_met m flag registered kept =
         keys = λ key changed. let same = only_key (Put d (codes "w")) key changed in inl (ap Some (sym same), at_inserted keys_then d (Client (codes "a")) key same);
         transaction = λ name e. absurd (some_none name (sym e));
         number = λ e. absurd e;
-        pair = λ pair e. subst (λ (x : CommitPair). cached (0 ∷ word_of last_pair ∷ []) x.number ≡ Some x.decision) (same_some last_pair pair e) refl;
+        pair = λ pair e. inl (subst (λ (x : CommitPair). cached (0 ∷ word_of 2 last_pair ∷ []) x.number ≡ Some x.decision) (same_some last_pair pair e) refl);
       },
     )
     ▹ (refl, (refl, refl))

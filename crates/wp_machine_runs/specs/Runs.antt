@@ -129,7 +129,7 @@ register = take_turn snapshots_turn ∷ step.register 1 ∷ give_turn snapshots_
 
 -- the version 1 is read at the snapshot with this number
 abbrev pub look : ℕ → List Step
-look n = begin_reading 1 (record { number = n; smallest = 1 }) ∷ load FirstWord ∷ []
+look n = begin_reading 1 1 (record { number = n; smallest = 1 }) ∷ load FirstWord ∷ []
 
 -- the word has another's pair, or none
 abbrev pub look_at_bound : List Step

@@ -29,6 +29,7 @@ pub(super) enum Act {
     SetOldFlag(u64),
     AddOldCommit(Seq, Seq),
     AddDelayedCommit(Seq, Seq),
+    DelayPending(Seq, Seq),
     TakeOut(Seq),
     /// It is noted that the number left the prepared tables.
     NoteLeft(Seq),
@@ -139,6 +140,7 @@ fn prepared_step(act: Act) -> Option<PreparedStep> {
         Act::AddPrepared => Some(PreparedStep::Add),
         Act::TakePrepared => Some(PreparedStep::TakePending),
         Act::AddDelayedCommit(p, c) => Some(PreparedStep::AddDelayedCommit(p, c)),
+        Act::DelayPending(p, c) => Some(PreparedStep::DelayPending(p, c)),
         Act::TakeOut(p) => Some(PreparedStep::TakeOut(p)),
         _ => None,
     }
@@ -167,7 +169,7 @@ fn reader_step(act: Act) -> Option<ReaderStep> {
     match act {
         Act::LoadPublished => Some(ReaderStep::LoadPublished),
         Act::Register(smallest) => Some(ReaderStep::Register(smallest)),
-        Act::Read(p) => Some(ReaderStep::BeginReading(p, 0)),
+        Act::Read(p) => Some(ReaderStep::BeginReading(0, p, 0)),
         Act::Load(load) => Some(ReaderStep::Load(load)),
         _ => None,
     }

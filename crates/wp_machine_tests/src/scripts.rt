@@ -10,6 +10,9 @@ use wp_model::Name;
 /// The one client, which writes and reads.
 const SEAT: usize = 0;
 
+/// The most bits that the place of a word has.
+const MOST_BITS: u32 = 16;
+
 /// What comes next, or what is so at that point.
 #[derive(Clone, Copy)]
 pub(super) enum Line {
@@ -70,6 +73,9 @@ fn played(mut world: World, scenes: &[&[Act]]) -> Result<Option<World>, Fail> {
 fn answer(world: &World) -> Option<bool> {
     let client = world.actors.first()?;
     let seen = client.reading?;
+    if seen.bits > MOST_BITS {
+        return None;
+    }
     match ask(&seen) {
         Asked::Answer(visible) => Some(visible),
         Asked::Load(_) => None,

@@ -8,7 +8,7 @@ use std::alloc::Global;
 use std::test::Fail;
 use wp_history::History;
 use wp_machine::{Turn, World};
-use wp_model::Name;
+use wp_model::{Entry, Name};
 
 /// The versions of an entry that is not logged leave memory before it is dropped. Its number is that of the next one.
 const DROPPED_WRITE: &[Line] = &[
@@ -68,25 +68,35 @@ fn entries_are_dropped_and_transactions_taken(rt: HostRuntime) -> Result<(), Fai
     Ok(())
 }
 
-/// The history of one prepare, of t.
-fn prepared(alloc: Global) -> Result<History, Fail> {
-    let entry = entry_of(alloc, Pending::Prepare)?;
-    let mut history = History::new(alloc);
-    if !history.is_legal_next(&entry) {
-        return Err("the prepare may stand there")?;
+/// The greatest number of an entry: 2^32 - 1.
+const MOST_ENTRIES: u64 = 4294967295;
+
+fn add(history: &mut History, entry: Entry) -> Result<(), Fail> {
+    if history.published() == MOST_ENTRIES || !history.is_legal_next(&entry) {
+        return Err("the entry may stand there")?;
     }
     history.reserve(1)?;
     history.push(entry);
+    Ok(())
+}
+
+/// The history of one prepare, of t, and of so many writes.
+fn prepared(alloc: Global, writes: usize) -> Result<History, Fail> {
+    let mut history = History::new(alloc);
+    add(&mut history, entry_of(alloc, Pending::Prepare)?)?;
+    for _ in 0..writes {
+        add(&mut history, entry_of(alloc, Pending::Write)?)?;
+    }
     Ok(history)
 }
 
-/// The world on that history.
-fn opened_with_a_prepare(alloc: Global) -> Result<World, Fail> {
-    let history = prepared(alloc)?;
+/// The world on that history, with a commit cache of one word.
+fn opened_with_a_prepare(alloc: Global, writes: usize) -> Result<World, Fail> {
+    let history = prepared(alloc, writes)?;
     if history.undone_last().is_some() {
         return Err("nothing is undone")?;
     }
-    Ok(World::opened(alloc, Name::read(alloc, b"a")?, &history, 1)?)
+    Ok(World::opened(alloc, Name::read(alloc, b"a")?, &history, 0)?)
 }
 
 const FOUND_PREPARE: &[Line] = &[
@@ -97,7 +107,44 @@ const FOUND_PREPARE: &[Line] = &[
 
 #[test]
 fn a_prepare_found_at_the_opening_is_committed(rt: HostRuntime) -> Result<(), Fail> {
-    let world = opened_with_a_prepare(rt.alloc())?;
+    let world = opened_with_a_prepare(rt.alloc(), 0)?;
     assert_eq!(rt; wrong_from(world, FOUND_PREPARE)?, None);
+    Ok(())
+}
+
+/// The pair (1, 255) is the widest that fits the word.
+const NARROW_PAIR: &[Line] = &[
+    Line::Play(&[TAKE, PEND_COMMIT]),
+    Line::Permitted(Act::StoreWord),
+];
+
+/// The pair (1, 256) becomes a delayed commit before it is published, and leaves the tables once the bound has come to 256.
+const WIDE_PAIR: &[Line] = &[
+    Line::Play(&[TAKE, PEND_COMMIT]),
+    Line::Refused(Act::StoreWord),
+    Line::Play(&[&[Act::Log, Act::Take(Turn::Prepared)]]),
+    Line::Refused(Act::Publish),
+    Line::Refused(Act::DelayPending(1, 255)),
+    Line::Play(&[&[Act::DelayPending(1, 256), Act::Publish]]),
+    Line::Refused(Act::TakeOut(1)),
+    Line::Play(&[
+        &[
+            Act::Raise(256),
+            Act::TakeOut(1),
+            Act::SetDelayedFlag(0),
+            Act::Give(Turn::Prepared),
+            Act::Give(Turn::Write),
+        ],
+        END,
+    ]),
+    Line::Published(256),
+];
+
+#[test]
+fn a_pair_too_wide_for_its_word_is_delayed(rt: HostRuntime) -> Result<(), Fail> {
+    let narrow = opened_with_a_prepare(rt.alloc(), 253)?;
+    assert_eq!(rt; wrong_from(narrow, NARROW_PAIR)?, None);
+    let wide = opened_with_a_prepare(rt.alloc(), 254)?;
+    assert_eq!(rt; wrong_from(wide, WIDE_PAIR)?, None);
     Ok(())
 }

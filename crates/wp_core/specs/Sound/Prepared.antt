@@ -1,12 +1,13 @@
 -- What is so of the cache, the prepared tables, and the old commit map.
-use Rattle.std.specs.Prelude.{◌≡◌, ℕ, ◌≤◌, ◌<◌, ◌⊎◌, true, List, length, slice_index, Option, Some, None}
+use Rattle.std.specs.Prelude.{◌≡◌, ℕ, ◌≤◌, ◌<◌, ◌⊎◌, true, false, List, length, slice_index, Option, Some, None}
+use Rattle.std.specs.Ordering.{nat_cmp}
 use Rattle.std.specs.FinSet as set
 use Rattle.std.specs.FinMap as finite
 use Rattle.wp_model.specs.declared.entry.Entry.{Entry}
 use Rattle.wp_model.specs.History.{entry_at, is_prepare, is_undecided}
 use Rattle.wp_model.specs.Decision.{decision_of}
 use Rattle.wp_model.specs.Snapshots.{IsLive, is_old_commit, Snapshots, NoOldCommits}
-use Rattle.wp_judge.specs.Words.{CommitPair}
+use Rattle.wp_judge.specs.Words.{CommitPair, fits}
 use Rattle.wp_core.specs.Cache.{cache_place, cached, pair_at}
 use Rattle.wp_model.specs.PreparedTables.{PreparedTables, is_prepared, NoneDelayed}
 use Rattle.wp_core.specs.Entries.{extended}
@@ -33,10 +34,20 @@ IsInOldCommits snapshots p c = (s : ℕ) → IsLive snapshots s → p ≤ s → 
 abbrev pub IsPassed : ℕ → Snapshots → ℕ → ℕ → Type 0
 IsPassed max snapshots p c = (c ≤ max) × IsInOldCommits snapshots p c
 
--- Each decided version is in its word, or is passed. The old commit map has only decided versions, and only under
--- snapshots that they overlap.
-pub record AreDecided (history : List Entry) (cache : List ℕ) (max : ℕ) (snapshots : Snapshots) : Type 0 where
-  pub found : (p c : ℕ) → decision_of history p ≡ Some c → (cached cache p ≡ Some c) ⊎ IsPassed max snapshots p c
+-- the pair is too wide for a word: it is one of the delayed commits, and the bound has come to its number
+pub record IsWide (words : ℕ) (commits : finite.FinMap nat_cmp ℕ) (max : ℕ) (pair : CommitPair) : Type 0 where
+  pub wide : fits words pair ≡ false
+  pub delayed : finite.get commits pair.number ≡ Some pair.decision
+  pub reached : pair.number ≤ max
+
+-- the pair is where a reader finds it: in its word, or else a delayed commit
+abbrev pub IsEntered : List ℕ → finite.FinMap nat_cmp ℕ → ℕ → CommitPair → Type 0
+IsEntered cache commits max pair = (cached cache pair.number ≡ Some pair.decision) ⊎ IsWide (length cache) commits max pair
+
+-- Each decided version is in its word, or is passed, or too wide and delayed. The old commit map has only decided versions, and only
+-- under snapshots that they overlap.
+pub record AreDecided (history : List Entry) (cache : List ℕ) (commits : finite.FinMap nat_cmp ℕ) (max : ℕ) (snapshots : Snapshots) : Type 0 where
+  pub found : (p c : ℕ) → decision_of history p ≡ Some c → IsEntered cache commits max (record { number = p; decision = c }) ⊎ IsPassed max snapshots p c
   pub kept : (s p : ℕ) → is_old_commit snapshots s p ≡ true → (c : ℕ) × (decision_of history p ≡ Some c) × (p ≤ s) × (s < c)
 
 -- ---- what it leaves undecided
@@ -47,10 +58,10 @@ pub record AreUndecided (history pending : List Entry) (t : PreparedTables) (max
   pub delayed_passed : (p : ℕ) → set.contains t.delayed p ≡ true → p ≤ max
   pub known : (p : ℕ) → is_prepared t p ≡ true → is_prepare (entry_at (extended history pending) p) ≡ true
 
--- what the prepared tables have of decided versions
-pub record AreDelayed (history : List Entry) (t : PreparedTables) (cache : List ℕ) : Type 0 where
+-- what the prepared tables have of decided versions; a delayed commit may be the pending entry's
+pub record AreDelayed (history pending : List Entry) (t : PreparedTables) (cache : List ℕ) : Type 0 where
   pub found : (p c : ℕ) → is_prepared t p ≡ true → decision_of history p ≡ Some c → (cached cache p ≡ Some c) ⊎ (finite.get t.delayed_commits p ≡ Some c)
-  pub commits : (p c : ℕ) → finite.get t.delayed_commits p ≡ Some c → decision_of history p ≡ Some c
+  pub commits : (p c : ℕ) → finite.get t.delayed_commits p ≡ Some c → decision_of (extended history pending) p ≡ Some c
 
 -- ---- flags
 

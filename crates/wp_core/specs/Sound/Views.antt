@@ -1,5 +1,5 @@
 -- What an actor noted, while others hold the tables, is so.
-use Rattle.std.specs.Prelude.{◌≡◌, ◌⊎◌, ℕ, suc, ◌≤◌, ◌<◌, true, false, List, length, Option, Some, None}
+use Rattle.std.specs.Prelude.{◌≡◌, ◌≢◌, ◌⊎◌, ℕ, suc, ◌≤◌, ◌<◌, true, false, List, length, Option, Some, None}
 use Rattle.std.specs.FinSet as set
 use Rattle.std.specs.FinMap as finite
 use Rattle.wp_model.specs.declared.entry.Entry.{Entry}
@@ -13,12 +13,12 @@ use Rattle.wp_model.specs.declared.holder.Holder.TheVariants.{Txn, Client}
 use Rattle.wp_core.specs.Lists.{EachAt, IsIn}
 use Rattle.wp_core.specs.Turns.{Turn, write_turn, prepared_turn, snapshots_turn, tables_turn, Holders, Holds}
 use Rattle.wp_judge.specs.Words.{CommitPair}
-use Rattle.wp_core.specs.Cache.{pair_at}
+use Rattle.wp_core.specs.Cache.{cached, pair_at}
 use Rattle.wp_model.specs.PreparedTables.{PreparedTables, is_prepared}
 use Rattle.wp_model.specs.LockTables.{LockTables}
 use Rattle.wp_core.specs.Tables.{WriteTable, StoreTable, Installed}
-use Rattle.wp_core.specs.Views.{Fact, passed, in_old_commits, apart, words_stay, has_left, versions_in_memory, versions_nowhere, number_in_heap, number_not_in_heap, undecided_at, prior_values, unprepared, direct_free, tables_stay, live_listed, nothing_flushed, frozen_stay, delayed_flag_stays, old_flag_stays}
-use Rattle.wp_core.specs.Entries.{next_of}
+use Rattle.wp_core.specs.Views.{Fact, passed, in_old_commits, apart, words_stay, has_left, versions_in_memory, versions_nowhere, number_in_heap, number_not_in_heap, pair_delayed, pair_not_delayed, none_waits, undecided_at, prior_values, unprepared, direct_free, tables_stay, live_listed, nothing_flushed, frozen_stay, delayed_flag_stays, old_flag_stays}
+use Rattle.wp_core.specs.Entries.{next_of, pending_pair}
 use Rattle.wp_core.specs.World.{Transaction, Participant, Actor}
 use Rattle.wp_core.specs.Sound.Prepared.{IsInOldCommits}
 use Rattle.wp_core.specs.Sound.Store.{NoneFlushed}
@@ -62,6 +62,17 @@ IsApart t pair = (is_prepared t pair.number ≡ false) ⊎ (finite.get t.delayed
 abbrev pub HasLeft : List Entry → PreparedTables → ℕ → Type 0
 HasLeft history t p = ((c : ℕ) × (decision_of history p ≡ Some c)) × (is_prepared t p ≡ false)
 
+-- each number that is prepared still, and whose decision the bound has come to, is in its word
+abbrev pub NoneWaits : List Entry → PreparedTables → List ℕ → ℕ → Type 0
+NoneWaits history t cache max = (p c : ℕ) → is_prepared t p ≡ true → decision_of history p ≡ Some c → c ≤ max → cached cache p ≡ Some c
+
+-- the pair of the pending entry is a delayed commit, or is not
+abbrev pub IsDelayed : WriteTable → PreparedTables → Type 0
+IsDelayed d t = (pair : CommitPair) → pending_pair d.history d.pending ≡ Some pair → finite.get t.delayed_commits pair.number ≡ Some pair.decision
+
+abbrev pub IsUndelayed : WriteTable → PreparedTables → Type 0
+IsUndelayed d t = (pair : CommitPair) → pending_pair d.history d.pending ≡ Some pair → finite.get t.delayed_commits pair.number ≢ Some pair.decision
+
 -- the versions of the pending entry are in memory
 abbrev pub IsInMemory : WriteTable → StoreTable → Type 0
 IsInMemory d t = (key : List ℕ) (value : Option (List ℕ)) → version_in (next_of d.pending) key ≡ Some value → version_at t.memory key (suc (length d.history)) ≡ Some value
@@ -83,6 +94,9 @@ IsSo delayed_flag old_flag max cache d t m s l e a versions_in_memory = IsInMemo
 IsSo delayed_flag old_flag max cache d t m s l e a versions_nowhere = IsNowhere d s
 IsSo delayed_flag old_flag max cache d t m s l e a number_in_heap = set.contains t.heap (suc (length d.history)) ≡ true
 IsSo delayed_flag old_flag max cache d t m s l e a number_not_in_heap = set.contains t.heap (suc (length d.history)) ≡ false
+IsSo delayed_flag old_flag max cache d t m s l e a pair_delayed = IsDelayed d t
+IsSo delayed_flag old_flag max cache d t m s l e a pair_not_delayed = IsUndelayed d t
+IsSo delayed_flag old_flag max cache d t m s l e a none_waits = NoneWaits d.history t cache max
 IsSo delayed_flag old_flag max cache d t m s l e a (undecided_at name p) = Owns a name × (named d.history name ≡ Some p) × (finite.get l.names name ≡ Some (Some a.client)) × ((key : List ℕ) → is_changed (batch_at d.history p) key ≡ true → finite.get l.keys key ≡ Some (Txn name))
 IsSo delayed_flag old_flag max cache d t m s l e a (prior_values name p batch) = Owns a name × (named d.history name ≡ Some p) × (prior d.history (batch_at d.history p) ≡ batch)
 IsSo delayed_flag old_flag max cache d t m s l e a (unprepared name) = Owns a name × (named d.history name ≡ None) × ((x : Transaction) (key : List ℕ) → finite.get a.transactions name ≡ Some x → set.contains x.locked key ≡ true → holder_of d.history key ≡ None)

@@ -23,7 +23,9 @@ pub(crate) fn prepared(
     match kind {
         PreparedStep::Add => world.prepared.add(next)?,
         PreparedStep::TakePending => world.prepared.take_from_heap(next),
-        PreparedStep::AddDelayedCommit(p, c) => world.prepared.commit(p, c)?,
+        PreparedStep::AddDelayedCommit(p, c) | PreparedStep::DelayPending(p, c) => {
+            world.prepared.commit(p, c)?;
+        }
         PreparedStep::TakeOut(p) => world.prepared.take_out(p),
     }
     hold(world, actor, Turn::Prepared)

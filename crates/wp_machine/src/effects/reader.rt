@@ -33,10 +33,11 @@ fn register(world: &mut World, actor: &mut Actor, smallest: Seq) -> Result<(), A
     hold(world, actor, Turn::Snapshots)
 }
 
-fn reading(version: Seq, snapshot: Registration) -> Observed
-    ensures { result ≡ reads version snapshot }
+fn reading(bits: u32, version: Seq, snapshot: Registration) -> Observed
+    ensures { result ≡ reads bits version snapshot }
 {
     Observed {
+        bits,
         version,
         snapshot: snapshot.number,
         smallest: snapshot.smallest,
@@ -70,12 +71,12 @@ fn loaded(world: &World, which: Load, seen: Observed) -> Observed
     seen
 }
 
-fn begin_reading(actor: &mut Actor, version: Seq, place: usize)
-    ensures { (s : step.Step) → option_map (step.begin_reading version) (slice_get actor.old.participant.registered place) ≡ Some s
+fn begin_reading(actor: &mut Actor, bits: u32, version: Seq, place: usize)
+    ensures { (s : step.Step) → option_map (step.begin_reading bits version) (slice_get actor.old.participant.registered place) ≡ Some s
         → (w : World) (by : ℕ) → IsEffect by w actor.old s w actor.new }
 {
     if let Some(snapshot) = actor.participant.registered.get(place) {
-        actor.reading = Some(reading(version, *snapshot));
+        actor.reading = Some(reading(bits, version, *snapshot));
     }
 }
 
@@ -98,7 +99,9 @@ pub(crate) fn reader(
     match kind {
         ReaderStep::LoadPublished => return load_published(world, actor),
         ReaderStep::Register(smallest) => return register(world, actor, smallest),
-        ReaderStep::BeginReading(version, place) => begin_reading(actor, version, place),
+        ReaderStep::BeginReading(bits, version, place) => {
+            begin_reading(actor, bits, version, place);
+        }
         ReaderStep::Load(which) => load(world, actor, which),
         ReaderStep::EndReading => actor.reading = None,
     }

@@ -1,6 +1,6 @@
 //! Whether the pair of a word may be evicted.
-ghost use Rattle.std.specs.Prelude.{◌≡◌, ◌≤◌, ◌<◌, true, Some, length, option_map};
-ghost use Rattle.wp_judge.specs.Words.{CommitPair, numbers_of};
+ghost use Rattle.std.specs.Prelude.{◌≡◌, ◌≤◌, ◌<◌, true, false, Some, length, option_map};
+ghost use Rattle.wp_judge.specs.Words.{CommitPair, fits, numbers_of};
 ghost use Rattle.wp_model.specs.Snapshots.{is_old_commit};
 ghost use Rattle.wp_core.specs.Cache.{pair_at, cache_place, cached};
 ghost use Rattle.wp_core.specs.Conditions.{MayBeEvicted};
@@ -9,7 +9,7 @@ ghost use Rattle.wp_core.specs.Sound.Views.{IsApart};
 ghost use Rattle.wp_machine_needs.specs.Each.{Each};
 ghost use Rattle.wp_machine_permits.specs.Permits.{IsKeptAt};
 
-use wp_judge::unpack;
+use wp_judge::{LAST_SEQ, fits, unpack};
 use wp_machine::{Cache, PreparedTables, Snapshot, Snapshots, World};
 use wp_model::Seq;
 
@@ -17,17 +17,31 @@ use wp_model::Seq;
 fn pair_at(cache: &Cache, p: Seq) -> Option<(Seq, Seq)>
     ensures { result ≡ option_map numbers_of (pair_at cache.now (cache_place (length cache.now) p)) }
 {
-    unpack(cache.word(p))
+    unpack(cache.bits(), cache.place_of(p), cache.word(p))
 }
 
 /// The decision that the cache has for a version.
 pub(super) fn cached(cache: &Cache, p: Seq) -> Option<Seq>
     ensures { result ≡ cached cache.now p }
 {
-    match unpack(cache.word(p)) {
+    match pair_at(cache, p) {
         Some((q, c)) if q == p => Some(c),
         _ => None,
     }
+}
+
+/// Whether the pair fits a word of the cache.
+pub(super) fn fits_word(cache: &Cache, p: Seq, c: Seq) -> bool
+    ensures { result ≡ true → fits (length cache.now) (record { number = p; decision = c }) ≡ true }
+{
+    p <= c && c <= LAST_SEQ && fits(cache.bits(), p, c)
+}
+
+/// Whether it fits none.
+pub(super) fn fits_no_word(cache: &Cache, p: Seq, c: Seq) -> bool
+    ensures { result ≡ true → fits (length cache.now) (record { number = p; decision = c }) ≡ false }
+{
+    p <= c && c <= LAST_SEQ && !fits(cache.bits(), p, c)
 }
 
 /// Under this snapshot number the old commit map has the pair, if the pair overlaps it.
@@ -50,7 +64,7 @@ fn are_kept(live: &[(Seq, Snapshot)], snapshots: &Snapshots, p: Seq, c: Seq) -> 
 }
 
 /// The old commit map has the pair under each live snapshot that it overlaps.
-fn is_in_old_commits(snapshots: &Snapshots, p: Seq, c: Seq) -> bool
+pub(super) fn is_in_old_commits(snapshots: &Snapshots, p: Seq, c: Seq) -> bool
     ensures { result ≡ true → IsInOldCommits snapshots.now p c }
 {
     are_kept(&snapshots.live, snapshots, p, c)

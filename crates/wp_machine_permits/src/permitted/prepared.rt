@@ -2,13 +2,15 @@
 ghost use Rattle.std.specs.Prelude.{◌≡◌, true, Some, IfOk};
 ghost use Rattle.wp_core.specs.World.{Actor};
 ghost use Rattle.wp_core.specs.Conditions.{IsPreparePending};
+ghost use Rattle.wp_core.specs.Sound.Prepared.{IsPassed};
 ghost use Rattle.wp_core.specs.Steps as step;
 ghost use Rattle.wp_machine.specs.Machine.{prepared_step};
 ghost use Rattle.wp_machine_needs.specs.Offered.{IsOffered};
 
+use crate::permitted::evicting::{cached, is_in_old_commits};
 use std::alloc::AllocError;
 use wp_machine::{PreparedStep, Turn, World};
-use wp_machine_needs::{decision_in, is_decided};
+use wp_machine_needs::decision_in;
 use wp_model::{Entry, Seq};
 
 fn is_prepare_pending(world: &World, by: usize) -> bool
@@ -35,15 +37,38 @@ fn may_add_delayed_commit(world: &World, by: usize, p: Seq, c: Seq) -> Result<bo
     Ok(decision == Some(c))
 }
 
-/// Only a number whose decision is published is taken out.
+/// The pending entry's pair may become a delayed commit, with the flag up.
+fn may_delay_pending(world: &World, by: usize, p: Seq, c: Seq) -> Result<bool, AllocError>
+    ensures { IfOk result (λ yes. yes ≡ true → (a : Actor) → IsOffered world.now by a (Some (step.delay_pending (record { number = p; decision = c })))) }
+{
+    if !world.holders.holds(Turn::Write, by)
+        || !world.holders.holds(Turn::Prepared, by)
+        || world.delayed_flag == 0
+    {
+        return Ok(false);
+    }
+    let pair = world.writes.pending_pair()?;
+    Ok(pair == Some((p, c)))
+}
+
+/// The pair is passed: the bound has come to its decision, and it is kept for the snapshots that it overlaps.
+fn is_passed(world: &World, p: Seq, c: Seq) -> bool
+    ensures { result ≡ true → IsPassed world.now.max_evicted world.now.snapshots p c }
+{
+    c <= world.max_evicted && is_in_old_commits(&world.snapshots, p, c)
+}
+
+/// Only a number whose decision is published is taken out, once its pair is in its word, or is passed.
 fn may_take_out(world: &World, by: usize, p: Seq) -> Result<bool, AllocError>
     ensures { IfOk result (λ yes. yes ≡ true → (a : Actor) → IsOffered world.now by a (Some (step.take_out p))) }
 {
     if !world.holders.holds(Turn::Prepared, by) {
         return Ok(false);
     }
-    let decided = is_decided(world.writes.entries(), p, world.alloc)?;
-    Ok(decided)
+    match decision_in(world.writes.entries(), p, world.alloc)? {
+        Some(c) => Ok(cached(&world.cache, p) == Some(c) || is_passed(world, p, c)),
+        None => Ok(false),
+    }
 }
 
 pub(super) fn prepared(world: &World, by: usize, kind: &PreparedStep) -> Result<bool, AllocError>
@@ -52,6 +77,7 @@ pub(super) fn prepared(world: &World, by: usize, kind: &PreparedStep) -> Result<
     match kind {
         PreparedStep::Add | PreparedStep::TakePending => Ok(is_prepare_pending(world, by)),
         PreparedStep::AddDelayedCommit(p, c) => may_add_delayed_commit(world, by, *p, *c),
+        PreparedStep::DelayPending(p, c) => may_delay_pending(world, by, *p, *c),
         PreparedStep::TakeOut(p) => may_take_out(world, by, *p),
     }
 }

@@ -11,7 +11,7 @@ ghost use Rattle.wp_model.specs.Decision.{version_in};
 ghost use Rattle.wp_model.specs.declared.entry.Entry.{Entry};
 ghost use Rattle.wp_model.specs.declared.holder.Holder.TheVariants.{Txn};
 ghost use Rattle.wp_judge.specs.Words.{CommitPair};
-ghost use Rattle.wp_core.specs.Cache.{cached};
+ghost use Rattle.wp_core.specs.Sound.Prepared.{IsWide, IsEntered};
 ghost use Rattle.wp_core.specs.Conditions.{IsHeldFor, IsOwn, IsPrepare, MayPublish, HasTransaction};
 ghost use Rattle.wp_core.specs.Entries.{changes_under, transaction_of, pair_by, pending_pair};
 ghost use Rattle.wp_core.specs.Sound.Views.{IsInMemory};
@@ -20,7 +20,7 @@ ghost use Rattle.wp_machine_needs.specs.Offered.{IsOffered};
 ghost use Rattle.wp_machine_needs.specs.Each.{Each};
 ghost use Rattle.wp_machine_permits.specs.Permits.{IsEntitled, IsHeldKey, IsLocked, IsMade, IsOwned, IsOwner};
 
-use crate::permitted::evicting::cached;
+use crate::permitted::evicting::{cached, fits_no_word};
 use crate::permitted::history::{history_of, may_follow};
 use std::alloc::AllocError;
 use wp_history::History;
@@ -230,14 +230,32 @@ fn is_in_heap(world: &World, entry: &Entry, n: Seq) -> bool
     }
 }
 
-/// The pair of any other entry is in its word.
-fn is_in_word(world: &World, entry: &Entry, n: Seq) -> bool
-    ensures { result ≡ true → (pair : CommitPair) → pair_by n entry.now ≡ Some pair → cached world.now.cache pair.number ≡ Some pair.decision }
+/// The pair fits no word, and is a delayed commit whose number the bound has reached.
+fn is_wide(world: &World, p: Seq, c: Seq) -> bool
+    ensures { result ≡ true → IsWide (length world.now.cache) world.now.prepared.delayed_commits world.now.max_evicted (record { number = p; decision = c }) }
+{
+    fits_no_word(&world.cache, p, c)
+        && world.prepared.commit_of(p) == Some(c)
+        && p <= world.max_evicted
+}
+
+fn is_pair_entered(world: &World, p: Seq, c: Seq) -> bool
+    ensures { result ≡ true → IsEntered world.now.cache world.now.prepared.delayed_commits world.now.max_evicted (record { number = p; decision = c }) }
+{
+    if cached(&world.cache, p) == Some(c) {
+        return true;
+    }
+    is_wide(world, p, c)
+}
+
+/// The pair of any other entry is in its word, or it is too wide for one and delayed.
+fn is_entered(world: &World, entry: &Entry, n: Seq) -> bool
+    ensures { result ≡ true → (pair : CommitPair) → pair_by n entry.now ≡ Some pair → IsEntered world.now.cache world.now.prepared.delayed_commits world.now.max_evicted pair }
 {
     match entry {
         Entry::Prepare(_, _) => true,
-        Entry::Write(_) | Entry::Undo(_, _) => cached(&world.cache, n) == Some(n),
-        Entry::Commit(p) | Entry::Close(p) => cached(&world.cache, *p) == Some(n),
+        Entry::Write(_) | Entry::Undo(_, _) => is_pair_entered(world, n, n),
+        Entry::Commit(p) | Entry::Close(p) => is_pair_entered(world, *p, n),
     }
 }
 
@@ -248,7 +266,7 @@ fn is_made(world: &World, entry: &Entry) -> Result<bool, AllocError>
     Ok(
         is_in_memory(&world.store.memory, entry, n)
             && is_in_heap(world, entry, n)
-            && is_in_word(world, entry, n),
+            && is_entered(world, entry, n),
     )
 }
 

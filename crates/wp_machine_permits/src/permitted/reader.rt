@@ -32,6 +32,9 @@ fn may_load(world: &World, by: usize, actor: &Actor, which: Load) -> bool
     let Some(seen) = actor.reading else {
         return false;
     };
+    if seen.bits > 16 {
+        return false;
+    }
     match ask(&seen) {
         Asked::Load(next) => next == which && may_look(world, by, which),
         Asked::Answer(_) => false,
@@ -71,12 +74,14 @@ fn registration_at(actor: &Actor, place: usize) -> Option<Registration>
     actor.participant.registered.get(place).copied()
 }
 
-/// The actor may read the version at that registration.
-fn may_begin(world: &World, actor: &Actor, p: Seq, place: usize) -> bool
-    ensures { result ≡ true → (by : ℕ) → IsOffered world.now by actor.now (option_map (step.begin_reading p) (slice_get actor.now.participant.registered place)) }
+/// The actor may read the version at that registration, in the cache as it is.
+fn may_begin(world: &World, actor: &Actor, bits: u32, p: Seq, place: usize) -> bool
+    ensures { result ≡ true → (by : ℕ) → IsOffered world.now by actor.now (option_map (step.begin_reading bits p) (slice_get actor.now.participant.registered place)) }
 {
     match registration_at(actor, place) {
-        Some(registration) => may_read(world, p, registration.number),
+        Some(registration) => {
+            world.cache.bits() == bits && may_read(world, p, registration.number)
+        }
         None => false,
     }
 }
@@ -119,7 +124,7 @@ pub(super) fn reader(world: &World, by: usize, actor: &Actor, kind: &ReaderStep)
         ReaderStep::Register(smallest) => {
             world.holders.holds(Turn::Snapshots, by) && may_be_smallest(world, by, *smallest)
         }
-        ReaderStep::BeginReading(p, place) => may_begin(world, actor, *p, *place),
+        ReaderStep::BeginReading(bits, p, place) => may_begin(world, actor, *bits, *p, *place),
         ReaderStep::Load(which) => may_load(world, by, actor, *which),
     }
 }

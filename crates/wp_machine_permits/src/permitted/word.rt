@@ -10,7 +10,7 @@ ghost use Rattle.wp_machine.specs.Machine.{word_step};
 ghost use Rattle.wp_machine_needs.specs.Offered.{IsOffered};
 
 use crate::permitted::empty::{has_no_old_commits, heap_is_from, none_delayed};
-use crate::permitted::evicting::may_clear;
+use crate::permitted::evicting::{fits_word, may_clear};
 use crate::permitted::publishing::may_publish;
 use std::alloc::AllocError;
 use wp_machine::{Actor, Turn, WordStep, World};
@@ -47,10 +47,10 @@ fn may_store_word(world: &World, by: usize) -> Result<bool, AllocError>
     if !world.holders.holds(Turn::Write, by) {
         return Ok(false);
     }
-    let Some((p, _)) = world.writes.pending_pair()? else {
+    let Some((p, c)) = world.writes.pending_pair()? else {
         return Ok(false);
     };
-    Ok(may_clear(world, p))
+    Ok(fits_word(&world.cache, p, c) && may_clear(world, p))
 }
 
 fn may_store_delayed_flag(world: &World, value: u64) -> bool

@@ -15,6 +15,7 @@ use crate::permitted::evicting::cached;
 use crate::permitted::history::{add_all, history_of};
 use std::alloc::AllocError;
 use wp_machine::{Turn, World, WriteStep};
+use wp_machine_needs::is_undelayed;
 use wp_model::Entry;
 
 fn may_log(world: &World, by: usize) -> bool
@@ -82,7 +83,8 @@ fn may_drop(world: &World, by: usize) -> Result<bool, AllocError>
         return Ok(false);
     }
     let unstored = is_in_no_word(world)?;
-    Ok(unstored)
+    let undelayed = is_undelayed(world)?;
+    Ok(unstored && undelayed)
 }
 
 pub(super) fn write(world: &World, by: usize, kind: &WriteStep) -> Result<bool, AllocError>
