@@ -1,5 +1,5 @@
 -- What a seat knows by its view it may make beside a load.
-use Rattle.std.proofs.Common.{◌≡◌, inr, ℕ, suc, true, List, [], ◌∷◌, length, refl, sym, ap, ◌∙◌, Option, Some, None, is_some, arith}
+use Rattle.std.proofs.Common.{◌≡◌, inr, ℕ, suc, true, List, [], ◌∷◌, length, refl, sym, ap, ◌∙◌, Option, Some, None, is_some, arith, ◌≢◌}
 use Rattle.std.specs.Prelude.{MatchOption, unwrap_or}
 use Rattle.std.specs.FinSet as set
 use Rattle.std.specs.FinMap as finite
@@ -9,20 +9,22 @@ use Rattle.wp_model.specs.declared.entry.Entry.{Entry}
 use Rattle.wp_model.specs.declared.holder.Holder.{Holder}
 use Rattle.wp_model.specs.Batch.{key_cmp}
 use Rattle.wp_model.specs.declared.holder.Holder.TheVariants.{Txn}
-use Rattle.wp_model.specs.Decision.{version_in}
+use Rattle.wp_model.specs.Decision.{version_in, decision_of}
 use Rattle.wp_model.specs.History.{named, name_at, is_prepare, batch_at}
 use Rattle.wp_model.proofs.Found.{found_named}
 use Rattle.wp_model.specs.PreparedTables.{IsSmallest, NonePrepared}
 use Rattle.wp_core.specs.Turns.{write_turn, prepared_turn, snapshots_turn, locks_turn}
-use Rattle.wp_core.specs.Views.{words_stay, versions_nowhere, number_not_in_heap, unprepared, delayed_flag_stays, old_flag_stays}
+use Rattle.wp_core.specs.Views.{words_stay, versions_nowhere, number_not_in_heap, unprepared, delayed_flag_stays, old_flag_stays, pair_not_delayed}
 use Rattle.wp_core.specs.World.{Transaction, Actor, World}
 use Rattle.wp_core.specs.Tables.{writes, prepared, snapshots, locks}
 use Rattle.wp_core.specs.Steps.{Step, register, make_pending, claim_name, find_holder, note}
 use Rattle.wp_core.specs.Changes.{keys_of_holder}
-use Rattle.wp_core.specs.Entries.{next_of}
+use Rattle.wp_core.specs.Entries.{next_of, pending_pair, extended}
 use Rattle.wp_core.proofs.HistoryGrows.{none_is}
 use Rattle.wp_core.proofs.Keyed.{at_inserted}
 use Rattle.wp_core.proofs.Tests.{same_some}
+use Rattle.wp_core.proofs.StoresWord.{pending_next}
+use Rattle.wp_core.proofs.HistoryLaws.{decision_within}
 use Rattle.wp_rule.specs.Words.{Place, IsAt}
 use Rattle.wp_rule.specs.Moves.{IsQuiet, MayMake, taking_name}
 use Rattle.wp_rule.specs.Accounts.{IsHolderIn, account_of}
@@ -31,6 +33,7 @@ use Rattle.wp_rule.proofs.Accounts.{accounted}
 use Rattle.wp_rule.proofs.Knows.{at_sound, held_is}
 use Rattle.wp_rule.proofs.Needed.{guarded, has_prepared, has_snapshots, has_locks, needed, within_next, alone, nowhere, not_in_heap, undecided_of}
 use Rattle.wp_rule.proofs.Stores.{holder_is_live}
+use Rattle.wp_judge.specs.Words.{CommitPair}
 
 pub known_made : (p : Place) (a : Actor) (step : Step) → IsQuiet step → Knows p a step → MayMake p a (λ w. step ∷ [])
 known_made p a step quiet known w k = ((quiet, tt), (needed p a w k step known, tt))
@@ -97,10 +100,15 @@ takes_name p a name held w k =
 
 -- ---- the entries of a record
 
-pub begins_entries : (p : Place) (a : Actor) (entries : List Entry) → Knows p a (make_pending entries) → MayMake p a (λ w. make_pending entries ∷ note versions_nowhere ∷ note number_not_in_heap ∷ [])
+pub begins_entries : (p : Place) (a : Actor) (entries : List Entry) → Knows p a (make_pending entries) → MayMake p a (λ w. make_pending entries ∷ note versions_nowhere ∷ note number_not_in_heap ∷ note pair_not_delayed ∷ [])
 begins_entries p a entries known w k =
     let n = needed p a w k (make_pending entries) known in
     let live : a.live ≡ true = holder_is_live p a w write_turn k n.0 in
     let none = nowhere p a w k (λ key. ap (λ (z : List Entry). version_in (next_of z) key) n.1) in
     let low = not_in_heap p a w k (ap (λ (z : List Entry). is_prepare (next_of z)) n.1) in
-    ((tt, (tt, (tt, tt))), (n, ((live, guarded p a w k write_turn n.0, none), ((live, guarded p a w k write_turn n.0, low), tt))))
+    -- no delayed commit is of an entry to come
+    let undelayed : (pair : CommitPair) → pending_pair w.writes.history entries ≡ Some pair → finite.get w.prepared.delayed_commits pair.number ≢ Some pair.decision = λ pair is there.
+    let last = (pending_next w.writes.history entries pair n.3 is).2.last in
+    let decided : decision_of w.writes.history pair.number ≡ Some pair.decision = ap (λ (z : List Entry). decision_of (extended w.writes.history z) pair.number) (sym n.1) ∙ (at_sound p a w k).delayed.commits pair.number pair.decision there in
+    let within = decision_within w.writes.history pair.number pair.decision decided in absurd (omega (arith, last, within)) in
+    ((tt, (tt, (tt, (tt, tt)))), (n, ((live, guarded p a w k write_turn n.0, none), ((live, guarded p a w k write_turn n.0, low), ((live, guarded p a w k write_turn n.0, undelayed), tt)))))

@@ -1,11 +1,13 @@
 -- What a seat knows by its view is what the machine's steps need.
-use Rattle.std.proofs.Common.{◌≡◌, ◌≢◌, inl, inr, ⊎_elim, ℕ, suc, ◌≤◌, ◌<◌, Bool, true, false, true≢false, ◌||◌, List, [], ◌∷◌, length, length-append, sym, subst, ap, ◌∙◌, Option, Some, None, is_some, unwrap_or, arith, refl}
+use Rattle.std.proofs.Common.{◌≡◌, ◌≢◌, inl, inr, ⊎_elim, ℕ, suc, ◌≤◌, ◌<◌, Bool, true, false, true≢false, ◌||◌, List, [], ◌∷◌, length, length-append, sym, subst, ap, ◌∙◌, Option, Some, None, is_some, unwrap_or, arith, refl, ◌⊎◌, ◌+◌}
 use Rattle.std.specs.FinSet as set
 use Rattle.std.specs.FinMap as finite
-use Rattle.std.proofs.lemmas.Bool.{false_from_ne_true}
+use Rattle.std.specs.List.{cons_option}
+use Rattle.std.proofs.lemmas.Bool.{false_from_ne_true, ltb-false}
 use Rattle.std.proofs.lemmas.Slice.Eq.{bytes_eq-Decides}
 use Rattle.wp_model.specs.declared.change.Change.{Change}
 use Rattle.wp_model.specs.declared.entry.Entry.{Entry}
+use Rattle.wp_model.specs.declared.entry.Entry.TheVariants.{Write, Prepare, Commit, Undo, Close}
 use Rattle.wp_model.specs.declared.holder.Holder.TheVariants.{Txn, Client}
 use Rattle.wp_model.specs.Decision.{decision_of, version_in}
 use Rattle.wp_model.specs.Flushed.{InstalledEdit, IsEditCovered}
@@ -14,24 +16,25 @@ use Rattle.wp_model.specs.PreparedTables.{PreparedTables, is_prepared}
 use Rattle.wp_model.specs.Snapshots.{Snapshots, Snapshot, IsLive}
 use Rattle.wp_model.specs.Versions.{version_at}
 use Rattle.wp_model.specs.LockTables.{LockTables}
-use Rattle.wp_judge.specs.Words.{CommitPair}
+use Rattle.wp_judge.specs.Words.{CommitPair, fits, delta_of, delta_bound}
 use Rattle.wp_judge.specs.declared.observed.Load.{Load}
 use Rattle.wp_judge.specs.declared.observed.Load.TheVariants.{FirstWord, FirstMax, DelayedFlag, InPrepared, SecondWord, SecondMax, OldFlag, IsOldCommit}
 use Rattle.wp_core.specs.Lists.{IsIn}
 use Rattle.wp_core.specs.Turns.{Turn, write_turn, prepared_turn, snapshots_turn, store_turn, locks_turn, tables_turn, Holds}
 use Rattle.wp_core.specs.Cache.{cache_place, cached, pair_at}
 use Rattle.wp_core.specs.Tables.{Content, WriteTable, StoreTable, Installed, writes, prepared, snapshots, store, locks, installed}
-use Rattle.wp_core.specs.Views.{Fact, passed, in_old_commits, apart, words_stay, has_left, versions_in_memory, versions_nowhere, number_in_heap, number_not_in_heap, undecided_at, prior_values, unprepared, direct_free, tables_stay, live_listed, nothing_flushed, frozen_stay, delayed_flag_stays, old_flag_stays}
+use Rattle.wp_core.specs.Views.{Fact, passed, in_old_commits, apart, words_stay, has_left, versions_in_memory, versions_nowhere, number_in_heap, number_not_in_heap, undecided_at, prior_values, unprepared, direct_free, tables_stay, live_listed, nothing_flushed, frozen_stay, delayed_flag_stays, old_flag_stays, pair_delayed, pair_not_delayed, none_waits}
 use Rattle.wp_core.specs.World.{Transaction, Actor, World}
-use Rattle.wp_core.specs.Entries.{next_of, batch_of_name, extended}
+use Rattle.wp_core.specs.Entries.{next_of, batch_of_name, extended, pending_pair, pair_by, pairs_of, IsOneRecord}
 use Rattle.wp_core.specs.Conditions.{IsHeldFor, MayPublish, MayLook, MayBeEvicted, MayGive}
 use Rattle.wp_core.specs.Reading.{Registration}
 use Rattle.wp_core.specs.Sound.Locks.{IsOwner, owner_of}
-use Rattle.wp_core.specs.Sound.Prepared.{IsInOldCommits}
+use Rattle.wp_core.specs.Sound.Prepared.{IsInOldCommits, IsPassed, IsWide, IsEntered}
 use Rattle.wp_core.specs.Sound.Snapshots.{has_versions, has_versions_at, view_of}
-use Rattle.wp_core.specs.Steps.{Step, load_published, register, begin_reading, load, end_reading, make_pending, log_pending, close_log, find_log_closed, drop_pending, add_prepared, take_pending_prepared, add_delayed_commit, take_out, register_again, release, add_old_commit, add_versions, take_versions, move_versions, replace_versions, install, halt, find_edit, claim_name, take_name, leave_name, free_transaction, lock_key, free_key, lock_direct, free_direct, find_holder, tell, hear, set_batch, note, set_client, store_published, store_max_evicted, store_word, store_delayed_flag, store_old_flag, take_turn, give_turn, make_note, make_seat, learn, join_seat}
+use Rattle.wp_core.specs.Steps.{Step, load_published, register, begin_reading, load, end_reading, make_pending, log_pending, close_log, find_log_closed, drop_pending, add_prepared, take_pending_prepared, add_delayed_commit, delay_pending, take_out, register_again, release, add_old_commit, add_versions, take_versions, move_versions, replace_versions, install, halt, find_edit, claim_name, take_name, leave_name, free_transaction, lock_key, free_key, lock_direct, free_direct, find_holder, tell, hear, set_batch, note, set_client, store_published, store_max_evicted, store_word, store_delayed_flag, store_old_flag, take_turn, give_turn, make_note, make_seat, learn, join_seat}
 use Rattle.wp_core.specs.Needs.{Needs}
 use Rattle.wp_core.specs.Sound.Views.{IsGuarded, IsClearing, IsApart, IsInMemory, IsNowhere, IsSo}
+use Rattle.wp_core.specs.Sound.History.{IsRest}
 use Rattle.wp_core.specs.IsSound.{IsSound}
 use Rattle.wp_model.proofs.Entries.{entry_at_old, batch_at_old, entry_at_past, slice_get_next, prepared_within}
 use Rattle.wp_model.proofs.Found.{found_holder, found_named}
@@ -40,12 +43,58 @@ use Rattle.wp_core.proofs.HistoryGrows.{none_is}
 use Rattle.wp_core.proofs.HistoryHolders.{none_named}
 use Rattle.wp_core.proofs.HistoryLaws.{decision_stays}
 use Rattle.wp_core.proofs.KeepsSeen.{shorter}
-use Rattle.wp_core.proofs.Tests.{none_some}
+use Rattle.wp_core.proofs.Tests.{none_some, same_some}
 use Rattle.wp_rule.specs.Words.{Place, IsAt}
-use Rattle.wp_rule.specs.Knows.{Holding, Noted, IsUp, KnowsLook, KnowsCleared, KnowsTables, KnowsGive, KnowsPair, IsRise, HasNoVersions, KnowsFact, KnowsHeld, KnowsPublish, Knows}
+use Rattle.wp_rule.specs.Knows.{Holding, Noted, IsUp, KnowsLook, KnowsCleared, KnowsTables, KnowsGive, KnowsPair, IsRise, HasNoVersions, KnowsFact, KnowsHeld, KnowsPublish, Knows, IsRiseForWord, IsRiseForWide, KnowsEntered}
 use Rattle.wp_rule.proofs.Bound.{past_reaches, past_published}
 use Rattle.wp_rule.proofs.Knows.{at_sound, held_is, seen_is, noted_is}
 use Rattle.wp_rule.proofs.Maintenance.{edit_later, moved, next_stays, replaced, installed_now, halted_now, halted_only}
+
+-- ---- wide pairs of a record
+
+-- the decision of a pair that fits no word is far behind its number
+wide_far : (cells : ℕ) (pair : CommitPair) → 1 ≤ cells → fits cells pair ≡ false → pair.number + 255 ≤ pair.decision
+wide_far cells pair some wide = let far : delta_bound cells ≤ delta_of pair = ltb-false (delta_of pair) (delta_bound cells) wide in omega (arith, some, far)
+
+-- what these entries decide they decide by their own numbers
+decided_before : (n : ℕ) (entries : List Entry) (pair : CommitPair) → IsIn pair (pairs_of n entries) → pair.decision < n + length entries
+decided_before n [] pair there = absurd there
+decided_before n (entry ∷ entries) pair there = by_pair (pair_by n entry) refl (decided_before (suc n) entries pair) there
+  where
+    by_pair : (o : Option CommitPair) → pair_by n entry ≡ o → (IsIn pair (pairs_of (suc n) entries) → pair.decision < suc n + length entries) → IsIn pair (cons_option o (pairs_of (suc n) entries)) → pair.decision < n + suc (length entries)
+    by_pair None is later there = let low = later there in omega (arith, low)
+    by_pair (Some first) is later (inl same) = let last = by_entry entry first is in let e : first.decision ≡ pair.decision = ap (λ (x : CommitPair). x.decision) same in omega (arith, last, e)
+      where
+        same_decision : (a b : CommitPair) → Some a ≡ Some b → a.decision ≡ b.decision
+        same_decision a b e = ap (λ (x : CommitPair). x.decision) (same_some a b e)
+
+        by_entry : (e : Entry) (x : CommitPair) → pair_by n e ≡ Some x → x.decision ≡ n
+        by_entry (Write batch) x e = sym (same_decision _ x e)
+        by_entry (Undo q batch) x e = sym (same_decision _ x e)
+        by_entry (Commit q) x e = sym (same_decision _ x e)
+        by_entry (Close q) x e = sym (same_decision _ x e)
+        by_entry (Prepare name batch) x e = absurd (none_some None x refl e)
+    by_pair (Some first) is later (inr there) = let low = later there in omega (arith, low)
+
+-- a record has at most two entries
+one_short : (entries : List Entry) → IsOneRecord entries → length entries ≤ 2
+one_short [] is = absurd is
+one_short (entry ∷ []) is = omega arith
+one_short (entry ∷ next ∷ []) is = omega arith
+one_short (Undo q batch ∷ Close r ∷ third ∷ others) is = absurd is
+one_short (Undo q batch ∷ Write b ∷ third ∷ others) is = absurd is
+one_short (Undo q batch ∷ Prepare name b ∷ third ∷ others) is = absurd is
+one_short (Undo q batch ∷ Commit r ∷ third ∷ others) is = absurd is
+one_short (Undo q batch ∷ Undo r b ∷ third ∷ others) is = absurd is
+one_short (Close q ∷ next ∷ third ∷ others) is = absurd is
+one_short (Write b ∷ next ∷ third ∷ others) is = absurd is
+one_short (Prepare name b ∷ next ∷ third ∷ others) is = absurd is
+one_short (Commit q ∷ next ∷ third ∷ others) is = absurd is
+
+rest_short : (entries : List Entry) → IsRest entries → length entries ≤ 2
+rest_short entries (inl none) = let e = ap length none in omega (arith, e)
+rest_short entries (inr (inl one)) = one_short entries one
+rest_short entries (inr (inr closes)) = let e = ap length closes.1 in omega (arith, e)
 
 module _ (p : Place) (a : Actor) (w : World) (k : IsAt p a w) where
   -- ---- tables
@@ -219,6 +268,14 @@ module _ (p : Place) (a : Actor) (w : World) (k : IsAt p a w) where
   facts (passed place pair) n = let h = has_writes _ n in (guarded write_turn h.0, clearing place pair (λ max. pair.decision ≤ max) h.1)
   facts (in_old_commits place pair) n = let h = has_writes _ n in let g = has_snapshots _ h.1 in (guarded write_turn h.0, clearing place pair (λ max. IsInOldCommits w.snapshots pair.number pair.decision) g.1)
   facts (apart place pair) n = let h = has_writes _ n in let g = has_prepared _ h.1 in (guarded write_turn h.0, clearing place pair (λ max. IsApart w.prepared pair) g.1)
+  facts pair_delayed n = let h = has_writes _ n in let g = has_prepared _ h.1 in (guarded write_turn h.0, g.1)
+  facts pair_not_delayed n = let h = has_writes _ n in let g = has_prepared _ h.1 in (guarded write_turn h.0, g.1)
+  facts none_waits n =
+      let h = has_writes _ n in let g = has_prepared _ h.1 in let b = g.1 in let s = is_so (words_stay b.0 b.1) b.2 in (
+        guarded write_turn h.0,
+        λ q c there decided low.
+            ⊎_elim (λ (e : cached w.cache q ≡ Some c). e) (λ (e : finite.get w.prepared.delayed_commits q ≡ Some c). let above = b.3 q c e in let bound = s.0 in absurd (omega (arith, above, bound, low))) (sound.delayed.found q c there decided),
+      )
   facts (has_left q) n = let h = has_prepared _ n in (alone, ((h.1.0.0, decided_now q h.1.0.0 h.1.0.1), h.1.1))
   facts versions_in_memory n = let h = has_writes _ n in (guarded write_turn h.0, ⊎_elim none_in_memory (λ m. (has_store _ m).1) h.1)
   facts versions_nowhere n = let h = has_writes _ n in (guarded write_turn h.0, ⊎_elim nowhere (λ m. (has_store _ m).1) h.1)
@@ -236,19 +293,37 @@ module _ (p : Place) (a : Actor) (w : World) (k : IsAt p a w) where
   facts (delayed_flag_stays value) n = absurd n
   facts (old_flag_stays value) n = absurd n
 
-  -- the bound rises, and not above the published number
-  rises : (m : ℕ) → IsRise a p.cells w.writes m → (w.max_evicted ≤ m) × (m ≤ length w.writes.history)
-  rises m r =
+  for_wide : (m : ℕ) → IsRiseForWide a p.cells w.writes m → (w.max_evicted ≤ m) × (m ≤ length w.writes.history)
+  for_wide m r =
+      let above = r.above in let s = is_so (words_stay above.0 above.1) above.2 in let low = above.3 in let is = r.is in let bound = s.0 in
+      let some : 1 ≤ p.cells = subst (λ (n : ℕ). 1 ≤ n) k.cells sound.cache.some in
+      let far = wide_far p.cells r.pair some r.wide in let last = decided_before (suc (length w.writes.history)) w.writes.pending r.pair r.pending in let few = rest_short w.writes.pending sound.history.rest in
+      (omega (arith, low, is, bound), omega (arith, far, last, few, is))
+
+  for_word : (m : ℕ) → IsRiseForWord a p.cells w.writes m → (w.max_evicted ≤ m) × (m ≤ length w.writes.history)
+  for_word m r =
       let c = clearing (cache_place p.cells r.pair.number) r.gone (λ bound. bound < r.gone.decision) r.there in
       let above = c.so in let reached = past_reaches p.cells (length w.writes.history) r.gone.decision in let is = r.past in
       (omega (arith, above, reached, is), subst (λ x. x ≤ length w.writes.history) (sym is) (past_published p.cells (length w.writes.history) r.gone.decision c.published_by))
+
+  -- the bound rises, and not above the published number
+  rises : (m : ℕ) → IsRise a p.cells w.writes m → (w.max_evicted ≤ m) × (m ≤ length w.writes.history)
+  rises m n = ⊎_elim (λ (r : IsRiseForWord a p.cells w.writes m). for_word m r) (λ (r : IsRiseForWide a p.cells w.writes m). for_wide m r) n
 
   -- ---- publishing
 
   held_for : (key : List ℕ) → KnowsHeld a key → IsHeldFor w a key
   held_for key n = ⊎_elim (λ e. inl (e, owner.direct key e)) (λ e. inr (e.0, e.1, e.2, owner.keys e.0 e.1 key e.2 e.3)) n
 
-  publishes : (entry : Entry) (others : List Entry) → Holds w.holders write_turn p.by → KnowsPublish a w.writes entry others → MayPublish w p.by a entry others
+  entered : (pair : CommitPair) (others : List Entry) → pending_pair w.writes.history w.writes.pending ≡ Some pair → KnowsEntered a p.cells pair → IsEntered w.cache w.prepared.delayed_commits w.max_evicted pair
+  entered pair others is c =
+      let s = is_so (words_stay c.0 c.1) c.2 in
+      ⊎_elim (λ (there : cached c.1 pair.number ≡ Some pair.decision). inl (ap (λ (words : List ℕ). cached words pair.number) s.1 ∙ there))
+      (λ (x : (fits p.cells pair ≡ false) × Noted a pair_delayed × (pair.number ≤ c.0)).
+      let low = x.2 in let bound = s.0 in
+      inr (record { wide = ap (λ (n : ℕ). fits n pair) k.cells ∙ x.0; delayed = is_so pair_delayed x.1 pair is; reached = omega (arith, low, bound) })) c.3
+
+  publishes : (entry : Entry) (others : List Entry) → Holds w.holders write_turn p.by → KnowsPublish a p.cells w.writes entry others → MayPublish w p.by a entry others
   publishes entry others turn n = record {
     turn = turn;
     pending = n.pending;
@@ -258,7 +333,7 @@ module _ (p : Place) (a : Actor) (w : World) (k : IsAt p a w) where
     keys = λ key is. held_for key (n.keys key is);
     transaction = λ name is. let t = n.transaction name is in (t.0, t.1, λ key changed. (t.2 key changed, owner.keys name t.0 key t.1 (t.2 key changed)));
     number = λ is. is_so number_in_heap (n.number is);
-    pair = λ pair is. let c = n.pair pair is in let s = is_so (words_stay c.0 c.1) c.2 in ap (λ (words : List ℕ). cached words pair.number) s.1 ∙ c.3;
+    pair = λ pair is. entered pair others (ap (pending_pair w.writes.history) n.pending ∙ is) (n.pair pair is);
   }
 
   -- ---- maintenance
@@ -280,6 +355,14 @@ module _ (p : Place) (a : Actor) (w : World) (k : IsAt p a w) where
       let within : q ≤ length a.participant.seen = omega arith in
       ap (λ (h : List Entry). has_versions_at h q) s.1 ∙ (ap has_versions (entry_at_old a.participant.seen s.0 q within) ∙ has le)
 
+  -- a decided pair that fits is in its word, or passed
+  narrow_answers : (q c : ℕ) → decision_of w.writes.history q ≡ Some c → fits p.cells (record { number = q; decision = c }) ≡ true → (cached w.cache q ≡ Some c) ⊎ IsPassed w.max_evicted w.snapshots q c
+  narrow_answers q c decided narrow =
+      ⊎_elim (λ (e : IsEntered w.cache w.prepared.delayed_commits w.max_evicted (record { number = q; decision = c })).
+      ⊎_elim (λ (there : cached w.cache q ≡ Some c). inl there)
+      (λ (x : IsWide (length w.cache) w.prepared.delayed_commits w.max_evicted (record { number = q; decision = c })). absurd (true≢false (sym narrow ∙ (ap (λ (n : ℕ). fits n (record { number = q; decision = c })) (sym k.cells) ∙ x.wide)))) e)
+      (λ (x : IsPassed w.max_evicted w.snapshots q c). inr x) (sound.decided.found q c decided)
+
   pub needed : (step : Step) → Knows p a step → Needs w p.by a step
   needed load_published n = tt
   needed (register least) n =
@@ -289,7 +372,7 @@ module _ (p : Place) (a : Actor) (w : World) (k : IsAt p a w) where
   needed (store_max_evicted m) n =
       let h = has_writes _ n in let g = has_prepared _ h.1 in let r = rises m g.1.0 in
       (h.0, g.0, r.0, r.1, ⊎_elim (λ up. inl (delayed_up up)) (λ low. inr low) g.1.1)
-  needed (store_word pair) n = let h = has_writes _ n in (h.0, h.1.0, cleared pair h.1.1)
+  needed (store_word pair) n = let h = has_writes _ n in (h.0, h.1.0, ap (λ (c : ℕ). fits c pair) k.cells ∙ h.1.1, cleared pair h.1.2)
   needed (store_delayed_flag value) n = has_prepared _ n
   needed (store_old_flag value) n = has_snapshots _ n
   needed (give_turn turn) n = gives turn n
@@ -299,11 +382,14 @@ module _ (p : Place) (a : Actor) (w : World) (k : IsAt p a w) where
   needed find_log_closed n = has_writes _ n
   needed drop_pending n =
       let h = has_writes _ n in let c = h.1.1 in let s = is_so (words_stay c.0 c.1) c.2 in
-      (h.0, h.1.0, (λ pair is e. c.3 pair is (ap (λ (words : List ℕ). cached words pair.number) (sym s.1) ∙ e)), is_so versions_nowhere h.1.2, is_so number_not_in_heap h.1.3)
+      (h.0, h.1.0, (λ pair is e. c.3 pair is (ap (λ (words : List ℕ). cached words pair.number) (sym s.1) ∙ e)), is_so pair_not_delayed h.1.2, is_so versions_nowhere h.1.3, is_so number_not_in_heap h.1.4)
   needed add_prepared n = let h = has_writes _ n in let g = has_prepared _ h.1 in (h.0, g.0, g.1)
   needed take_pending_prepared n = let h = has_writes _ n in let g = has_prepared _ h.1 in (h.0, g.0, g.1)
   needed (add_delayed_commit pair) n = let h = has_prepared _ n in (h.0, delayed_up h.1.0, decided_now pair.number pair.decision h.1.1)
-  needed (take_out q) n = let h = has_prepared _ n in (h.0, (h.1.0, decided_now q h.1.0 h.1.1))
+  needed (delay_pending pair) n = let h = has_writes _ n in let g = has_prepared _ h.1 in (h.0, g.0, delayed_up g.1.0, g.1.1)
+  needed (take_out q) n =
+      let h = has_prepared _ n in let decided = decided_now q h.1.0 h.1.1 in
+      (h.0, (h.1.0, decided, ⊎_elim (narrow_answers q h.1.0 decided) (λ known. let m = has_snapshots _ known in let b = m.1.1 in let s = is_so (words_stay b.0 b.1) b.2 in let low = b.3 in let bound = s.0 in inr (omega (arith, low, bound), m.1.0)) h.1.2))
   needed (register_again s) n = let h = has_snapshots _ n in (h.0, h.1.0, h.1.1)
   needed (release front r back) n = has_snapshots _ n
   needed (add_old_commit s q) n = let h = has_snapshots _ n in let c = h.1.2 in (h.0, h.1.0, old_up h.1.1, (c.0, decided_now q c.0 c.1, c.2, c.3))
@@ -322,7 +408,7 @@ module _ (p : Place) (a : Actor) (w : World) (k : IsAt p a w) where
   needed (hear label n') n = has_locks _ n
   needed (set_batch name x batch) n = n
   needed (set_client client) n = n
-  needed (begin_reading q snapshot) n = (n.0, readable q snapshot n.0 n.1)
+  needed (begin_reading bits q snapshot) n = (n.0 ∙ sym k.cells, n.1, readable q snapshot n.1 n.2)
   needed (find_holder key holder account) n = absurd n
   needed (note fact) n = let f = facts fact n.1 in (n.0, f.0, f.1)
   needed (move_versions memory tables) n =

@@ -9,7 +9,7 @@ use Rattle.wp_core.specs.Turns.{Turn, write_turn, prepared_turn, snapshots_turn,
 use Rattle.wp_core.specs.Tables.{Content, writes, prepared, snapshots, store, locks, installed, turn_of}
 use Rattle.wp_core.specs.World.{Actor, World, content_of, with_content}
 use Rattle.wp_core.specs.Changes.{with_actor, turn_index, loaded}
-use Rattle.wp_core.specs.Steps.{Step, load_published, register, begin_reading, load, end_reading, make_pending, log_pending, close_log, find_log_closed, drop_pending, add_prepared, take_pending_prepared, add_delayed_commit, take_out, register_again, release, add_old_commit, add_versions, take_versions, move_versions, replace_versions, install, halt, find_edit, claim_name, take_name, leave_name, free_transaction, lock_key, free_key, lock_direct, free_direct, find_holder, tell, hear, set_batch, note, set_client, store_published, store_max_evicted, store_word, store_delayed_flag, store_old_flag, take_turn, give_turn, make_note, make_seat, learn, join_seat}
+use Rattle.wp_core.specs.Steps.{Step, load_published, register, begin_reading, load, end_reading, make_pending, log_pending, close_log, find_log_closed, drop_pending, add_prepared, take_pending_prepared, add_delayed_commit, delay_pending, take_out, register_again, release, add_old_commit, add_versions, take_versions, move_versions, replace_versions, install, halt, find_edit, claim_name, take_name, leave_name, free_transaction, lock_key, free_key, lock_direct, free_direct, find_holder, tell, hear, set_batch, note, set_client, store_published, store_max_evicted, store_word, store_delayed_flag, store_old_flag, take_turn, give_turn, make_note, make_seat, learn, join_seat}
 use Rattle.wp_core.specs.Needs.{Needs}
 use Rattle.wp_core.specs.Notes.{forgets}
 use Rattle.wp_core.specs.Runs.{Reaches, goes_on}
@@ -67,7 +67,7 @@ loads_alone w a which = ap (λ f. record (forgets w.writes.history (length w.cac
 pub quiet_step : (w : World) (by : ℕ) (a : Actor) (step : Step) → IsQuiet step → Needs w by a step → Leave by w (words_of w) (world_after_step w by a step) (actor_after_step w a step)
 quiet_step w by a load_published quiet needs = alone w by _
 quiet_step w by a (register smallest) quiet needs = changed w by _ (snapshots _) needs.0 refl
-quiet_step w by a (begin_reading p snapshot) quiet needs = alone w by _
+quiet_step w by a (begin_reading bits p snapshot) quiet needs = alone w by _
 quiet_step w by a (load which) quiet needs = subst (Leave by w (words_of w) (world_after_step w by a (load which))) (loads_alone w a which) (alone w by _)
 quiet_step w by a end_reading quiet needs = alone w by _
 quiet_step w by a (make_pending entries) quiet needs = changed w by _ (writes _) needs.0 refl
@@ -78,6 +78,7 @@ quiet_step w by a drop_pending quiet needs = changed w by _ (writes _) needs.0 r
 quiet_step w by a add_prepared quiet needs = changed w by _ (prepared _) needs.1 refl
 quiet_step w by a take_pending_prepared quiet needs = changed w by _ (prepared _) needs.1 refl
 quiet_step w by a (add_delayed_commit pair) quiet needs = changed w by _ (prepared _) needs.0 refl
+quiet_step w by a (delay_pending pair) quiet needs = changed w by _ (prepared _) needs.1 refl
 quiet_step w by a (take_out p) quiet needs = changed w by _ (prepared _) needs.0 refl
 quiet_step w by a (register_again s) quiet needs = changed w by _ (snapshots _) needs.0 refl
 quiet_step w by a (release front r back) quiet needs = changed w by _ (snapshots _) needs.0 refl

@@ -2,7 +2,7 @@
 use Rattle.std.proofs.Common.{◌≡◌, ℕ, suc, ◌+◌, true, List, [], ◌∷◌, ◌++◌, length, get_or, set, refl, sym, subst, ap, ◌∙◌, Option, Some, length-append, length-set, arith}
 use Rattle.std.proofs.lemmas.Bool.{true_from_ne_false}
 use Rattle.wp_model.specs.declared.entry.Entry.{Entry}
-use Rattle.wp_judge.specs.Words.{CommitPair, word_of, pair_of}
+use Rattle.wp_judge.specs.Words.{CommitPair, word_of}
 use Rattle.wp_core.specs.Lists.{IsIn}
 use Rattle.wp_core.specs.Cache.{cache_place, with_pair}
 use Rattle.wp_core.specs.Tables.{WriteTable, Content, writes, prepared, with_moved}
@@ -76,19 +76,20 @@ may_old p a value may w k =
     (record { words_are = refl; opened = refl; first_edit = refl; cells = refl; holders = refl; contents = λ turn free. same_contents w next refl refl refl refl refl refl turn; actors = refl })
     (holder_is_live p a w snapshots_turn k n.0, guarded p a w k snapshots_turn n.0, refl)
 
-pub may_word : (p : Place) (a : Actor) (i word : ℕ) (pair : CommitPair) → word ≡ word_of pair → pair_of word ≡ Some pair → i ≡ cache_place p.cells pair.number → MayStep p a (store_word pair)
-    → MayStore p a (storing (pair_of word)) (56 + i) word
-may_word p a i word pair is back place may w k =
+pub may_word : (p : Place) (a : Actor) (i word : ℕ) (pair : CommitPair) (found : Option CommitPair) → word ≡ word_of p.cells pair → found ≡ Some pair → i ≡ cache_place p.cells pair.number → MayStep p a (store_word pair)
+    → MayStore p a (storing found) (56 + i) word
+may_word p a i word pair found is back place may w k =
     let n = may w k in let next : World = world_after_step w p.by a (store_word pair) in
     let at_place : i ≡ cache_place (length w.cache) pair.number = place ∙ ap (λ n. cache_place n pair.number) (sym k.cells) in
-    let same : set w.cache i word ≡ with_pair w.cache pair = λ j. set w.cache (at_place j) (is j) in
+    let packed : word ≡ word_of (length w.cache) pair = is ∙ ap (λ n. word_of n pair) (sym k.cells) in
+    let same : set w.cache i word ≡ with_pair w.cache pair = λ j. set w.cache (at_place j) (packed j) in
     subst (λ (x : Option CommitPair). LeadTo p a w (storing x w) (set (words_of w) (56 + i) word)) (sym back)
     (then_noted p a w (store_word pair) (words_stay w.max_evicted (with_pair w.cache pair)) (set (words_of w) (56 + i) word) k n
     (record {
       words_are = sym (cell_stored w i word ∙ ap (λ (cache : List ℕ). front_of w ++ cache) same);
       opened = refl;
       first_edit = refl;
-      cells = length-set w.cache (cache_place (length w.cache) pair.number) (word_of pair);
+      cells = length-set w.cache (cache_place (length w.cache) pair.number) (word_of (length w.cache) pair);
       holders = refl;
       contents = λ turn free. same_contents w next refl refl refl refl refl refl turn;
       actors = refl;

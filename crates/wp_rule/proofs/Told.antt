@@ -2,7 +2,7 @@
 use Rattle.std.proofs.Common.{◌≡◌, ℕ, List, [], ◌∷◌, length, sym, subst, ap, ◌∙◌, Some, Option}
 use Rattle.wp_model.specs.declared.entry.Entry.{Entry}
 use Rattle.wp_model.specs.Legal.{IsLegal}
-use Rattle.wp_judge.specs.Words.{CommitPair, pair_of}
+use Rattle.wp_judge.specs.Words.{CommitPair}
 use Rattle.wp_core.specs.Lists.{IsIn}
 use Rattle.wp_core.specs.Tables.{WriteTable, writes}
 use Rattle.wp_core.specs.World.{Actor, World}
@@ -27,8 +27,8 @@ moved_as p steps others so so' a b says m =
 pub moved_so : (p : Place) (steps : World → List Step) (so so' : World → Type 0) (a b : Actor) → ((w : World) → so w → so' w) → Moved p steps so a b → Moved p steps so' a b
 moved_so p steps so so' a b says m = record { world = m.world; before = m.before; met = m.met; after = m.after; actor = m.actor; so_is = says m.world m.so_is }
 
-pub word_told : (p : Place) (a b : Actor) (word : ℕ) (pair : CommitPair) → pair_of word ≡ Some pair → Moved p (storing (pair_of word)) (λ w. Unit {0}) a b → Moved p (storing_word pair) (λ w. Unit {0}) a b
-word_told p a b word pair is m = moved_as p (storing (pair_of word)) (storing_word pair) (λ w. Unit {0}) (λ w. Unit {0}) a b (λ w k. (ap (λ (x : Option CommitPair). storing x w) is, λ so. so)) m
+pub word_told : (p : Place) (a b : Actor) (pair : CommitPair) (found : Option CommitPair) → found ≡ Some pair → Moved p (storing found) (λ w. Unit {0}) a b → Moved p (storing_word pair) (λ w. Unit {0}) a b
+word_told p a b pair found is m = moved_as p (storing found) (storing_word pair) (λ w. Unit {0}) (λ w. Unit {0}) a b (λ w k. (ap (λ (x : Option CommitPair). storing x w) is, λ so. so)) m
 
 pub publish_told : (p : Place) (a b : Actor) → Moved p (λ w. publishing w.writes.pending) (λ w. Unit {0}) a b → (t : WriteTable) (entry : Entry) (others : List Entry) → IsIn (writes t) a.held → t.pending ≡ entry ∷ others
     → Moved p (λ w. store_published entry others ∷ []) (λ w. w.writes ≡ t) a b

@@ -1,5 +1,5 @@
 -- When a seat knows by its view alone that a step of the machine may be made.
-use Rattle.std.specs.Prelude.{◌≡◌, ◌≢◌, ◌⊎◌, ℕ, suc, ◌+◌, ◌≤◌, ◌<◌, Bool, true, false, List, [], ◌∷◌, ◌++◌, length, Option, Some, None}
+use Rattle.std.specs.Prelude.{◌≡◌, ◌≢◌, ◌⊎◌, ℕ, suc, ◌+◌, ◌^◌, ◌≤◌, ◌<◌, Bool, true, false, List, [], ◌∷◌, ◌++◌, length, Option, Some, None}
 use Rattle.std.specs.FinSet as set
 use Rattle.std.specs.FinMap as finite
 use Rattle.wp_model.specs.declared.change.Change.{Change}
@@ -15,7 +15,7 @@ use Rattle.wp_model.specs.Versions.{version_at}
 use Rattle.wp_model.specs.Legal.{IsLegal, prior}
 use Rattle.wp_model.specs.PreparedTables.{is_prepared, NoneDelayed}
 use Rattle.wp_model.specs.Snapshots.{IsLive, NoOldCommits}
-use Rattle.wp_judge.specs.Words.{CommitPair}
+use Rattle.wp_judge.specs.Words.{CommitPair, fits}
 use Rattle.wp_judge.specs.Order.{ask}
 use Rattle.wp_judge.specs.declared.observed.Asked.TheVariants as asked
 use Rattle.wp_judge.specs.declared.observed.Observed.{Observed}
@@ -25,15 +25,15 @@ use Rattle.wp_core.specs.Lists.{IsIn}
 use Rattle.wp_core.specs.Turns.{Turn, write_turn, prepared_turn, snapshots_turn, store_turn, locks_turn, tables_turn}
 use Rattle.wp_core.specs.Cache.{cached, cache_place, pair_at}
 use Rattle.wp_core.specs.Tables.{WriteTable, StoreTable, Installed, Content, writes, prepared, snapshots, store, locks, installed, up_to}
-use Rattle.wp_core.specs.Views.{Fact, passed, in_old_commits, apart, words_stay, has_left, versions_in_memory, versions_nowhere, number_in_heap, number_not_in_heap, undecided_at, prior_values, unprepared, direct_free, tables_stay, live_listed, nothing_flushed, frozen_stay, delayed_flag_stays, old_flag_stays}
+use Rattle.wp_core.specs.Views.{Fact, passed, in_old_commits, apart, words_stay, has_left, versions_in_memory, versions_nowhere, number_in_heap, number_not_in_heap, pair_delayed, pair_not_delayed, none_waits, undecided_at, prior_values, unprepared, direct_free, tables_stay, live_listed, nothing_flushed, frozen_stay, delayed_flag_stays, old_flag_stays}
 use Rattle.wp_core.specs.World.{Transaction, Actor}
 use Rattle.wp_core.specs.Entries.{next_of, pair_by, pending_pair, pairs_of, transaction_of, changes_under, IsOneRecord, HasVersionsAt}
 use Rattle.wp_core.specs.Conditions.{HasTransaction, IsPrepare}
 use Rattle.wp_core.specs.Sound.Prepared.{IsInOldCommits}
 use Rattle.wp_core.specs.Sound.Snapshots.{has_versions_at}
 use Rattle.wp_core.specs.Sound.Store.{NoneFlushed}
-use Rattle.wp_core.specs.Sound.Views.{IsApart, HasLeft, IsInMemory, IsNowhere, Owns}
-use Rattle.wp_core.specs.Steps.{Step, load_published, register, begin_reading, load, end_reading, store_published, store_max_evicted, store_word, store_delayed_flag, store_old_flag, give_turn, make_pending, log_pending, close_log, find_log_closed, drop_pending, add_prepared, take_pending_prepared, add_delayed_commit, take_out, register_again, release, add_old_commit, add_versions, take_versions, move_versions, replace_versions, install, halt, find_edit, claim_name, take_name, leave_name, free_transaction, lock_key, free_key, lock_direct, free_direct, tell, hear, set_batch, note, set_client}
+use Rattle.wp_core.specs.Sound.Views.{IsApart, HasLeft, IsInMemory, IsNowhere, IsDelayed, IsUndelayed, Owns}
+use Rattle.wp_core.specs.Steps.{Step, load_published, register, begin_reading, load, end_reading, store_published, store_max_evicted, store_word, store_delayed_flag, store_old_flag, give_turn, make_pending, log_pending, close_log, find_log_closed, drop_pending, add_prepared, take_pending_prepared, add_delayed_commit, delay_pending, take_out, register_again, release, add_old_commit, add_versions, take_versions, move_versions, replace_versions, install, halt, find_edit, claim_name, take_name, leave_name, free_transaction, lock_key, free_key, lock_direct, free_direct, tell, hear, set_batch, note, set_client}
 use Rattle.wp_rule.specs.Bound.{bound_past}
 use Rattle.wp_rule.specs.Words.{Place}
 
@@ -80,15 +80,27 @@ KnowsGive a tables_turn = Holding a installed (λ e. KnowsTables a e.last)
 abbrev pub KnowsPair : Actor → ℕ → ℕ → CommitPair → (ℕ → Type 0) → Type 0
 KnowsPair a published place pair so = (max : ℕ) × (words : List ℕ) × Noted a (words_stay max words) × (place < length words) × (pair_at words place ≡ Some pair) × (pair.decision ≤ published) × so max
 
--- The bound may rise to m. One of the pairs that are left of the pending record is to come into its word, where one stands that is
--- published and that the bound has not reached; and m is as far as the bound rises past that one. So it rises for no word but one of
--- the record that is pending then, and no further.
-pub record IsRise (a : Actor) (cells : ℕ) (d : WriteTable) (m : ℕ) : Type 0 where
+-- One of the pairs that are left of the pending record is to come into its word, where one stands that is published and that the bound
+-- has not reached; and m is as far as the bound rises past that one.
+pub record IsRiseForWord (a : Actor) (cells : ℕ) (d : WriteTable) (m : ℕ) : Type 0 where
   pub pair : CommitPair
   pub pending : IsIn pair (pairs_of (suc (length d.history)) d.pending)
+  pub narrow : fits cells pair ≡ true
   pub gone : CommitPair
   pub there : KnowsPair a (length d.history) (cache_place cells pair.number) gone (λ bound. bound < gone.decision)
   pub past : m ≡ bound_past cells (length d.history) gone.decision
+
+-- One of them is too wide for a word, and the bound has not reached its number, which is m.
+pub record IsRiseForWide (a : Actor) (cells : ℕ) (d : WriteTable) (m : ℕ) : Type 0 where
+  pub pair : CommitPair
+  pub pending : IsIn pair (pairs_of (suc (length d.history)) d.pending)
+  pub wide : fits cells pair ≡ false
+  pub above : (bound : ℕ) × (words : List ℕ) × Noted a (words_stay bound words) × (bound < pair.number)
+  pub is : m ≡ pair.number
+
+-- The bound may rise to m: for one of the pairs that are left of the pending record, and no further.
+abbrev pub IsRise : Actor → ℕ → WriteTable → ℕ → Type 0
+IsRise a cells d m = IsRiseForWord a cells d m ⊎ IsRiseForWide a cells d m
 
 -- the entry, if there is one, has no versions
 abbrev pub HasNoVersions : Option Entry → Type 0
@@ -104,6 +116,9 @@ KnowsFact a versions_in_memory = Holding a writes (λ d. HasNoVersions (next_of 
 KnowsFact a versions_nowhere = Holding a writes (λ d. HasNoVersions (next_of d.pending) ⊎ Holding a store (λ t. IsNowhere d t))
 KnowsFact a number_in_heap = Holding a writes (λ d. Holding a prepared (λ t. set.contains t.heap (suc (length d.history)) ≡ true))
 KnowsFact a number_not_in_heap = Holding a writes (λ d. (is_prepare (next_of d.pending) ≡ false) ⊎ Holding a prepared (λ t. set.contains t.heap (suc (length d.history)) ≡ false))
+KnowsFact a pair_delayed = Holding a writes (λ d. Holding a prepared (λ t. IsDelayed d t))
+KnowsFact a pair_not_delayed = Holding a writes (λ d. Holding a prepared (λ t. IsUndelayed d t))
+KnowsFact a none_waits = Holding a writes (λ d. Holding a prepared (λ t. (max : ℕ) × (words : List ℕ) × Noted a (words_stay max words) × ((q c : ℕ) → finite.get t.delayed_commits q ≡ Some c → max < c)))
 KnowsFact a (undecided_at name q) = Holding a writes (λ d. Owns a.participant name × (named d.history name ≡ Some q))
 KnowsFact a (prior_values name q batch) = Holding a writes (λ d. Owns a.participant name × (named d.history name ≡ Some q) × (prior d.history (batch_at d.history q) ≡ batch))
 KnowsFact a (unprepared name) = Holding a writes (λ d. Owns a.participant name × (named d.history name ≡ None))
@@ -118,8 +133,13 @@ KnowsFact a other = ⊥
 abbrev pub KnowsHeld : Actor → List ℕ → Type 0
 KnowsHeld a key = (a.participant.direct ≡ Some key) ⊎ ((name : List ℕ) × (x : Transaction) × HasTransaction a name x × (set.contains x.locked key ≡ true))
 
+-- the pair is where a reader finds it: in its word, or, where it is too wide for one, a delayed commit that the bound has reached
+abbrev pub KnowsEntered : Actor → ℕ → CommitPair → Type 0
+KnowsEntered a cells pair =
+    (max : ℕ) × (words : List ℕ) × Noted a (words_stay max words) × ((cached words pair.number ≡ Some pair.decision) ⊎ ((fits cells pair ≡ false) × Noted a pair_delayed × (pair.number ≤ max)))
+
 -- the first of the pending entries may be published
-pub record KnowsPublish (a : Actor) (d : WriteTable) (entry : Entry) (others : List Entry) : Type 0 where
+pub record KnowsPublish (a : Actor) (cells : ℕ) (d : WriteTable) (entry : Entry) (others : List Entry) : Type 0 where
   pub pending : d.pending ≡ entry ∷ others
   pub logged : d.logged ≡ true
   pub legal : IsLegal (d.history ++ entry ∷ [])
@@ -128,7 +148,7 @@ pub record KnowsPublish (a : Actor) (d : WriteTable) (entry : Entry) (others : L
   pub transaction : (name : List ℕ) → transaction_of d.history entry ≡ Some name
       → (x : Transaction) × HasTransaction a name x × ((key : List ℕ) → is_changed (changes_under d.history entry) key ≡ true → set.contains x.locked key ≡ true)
   pub number : IsPrepare entry → Noted a number_in_heap
-  pub pair : (pair : CommitPair) → pair_by (suc (length d.history)) entry ≡ Some pair → (max : ℕ) × (words : List ℕ) × Noted a (words_stay max words) × (cached words pair.number ≡ Some pair.decision)
+  pub pair : (pair : CommitPair) → pair_by (suc (length d.history)) entry ≡ Some pair → KnowsEntered a cells pair
 
 -- the transaction may be left: it was noted as undecided, and it has locked no key but those of its batch
 abbrev pub KnowsLeft : Actor → List ℕ → Transaction → Type 0
@@ -168,13 +188,13 @@ abbrev pub Knows : Place → Actor → Step → Type 0
 Knows p a load_published = Unit {0}
 Knows p a (register least) =
     Holding a snapshots (λ m. (least ≡ 1) ⊎ Holding a prepared (λ t. ((least ≤ suc (length a.participant.seen)) ⊎ (is_prepared t least ≡ true)) × ((q : ℕ) → is_prepared t q ≡ true → least ≤ q)))
-Knows p a (begin_reading q snapshot) = IsIn snapshot a.participant.registered × (q ≤ snapshot.number → has_versions_at a.participant.seen q ≡ true)
+Knows p a (begin_reading bits q snapshot) = (2 ^ bits ≡ p.cells) × IsIn snapshot a.participant.registered × (q ≤ snapshot.number → has_versions_at a.participant.seen q ≡ true)
 Knows p a (load which) = (r : Observed) × (a.reading ≡ Some r) × (ask r ≡ asked.Load which) × KnowsLook a which
 Knows p a end_reading = Unit {0}
-Knows p a (store_published entry others) = Holding a writes (λ d. KnowsPublish a d entry others)
+Knows p a (store_published entry others) = Holding a writes (λ d. KnowsPublish a p.cells d entry others)
 Knows p a (store_max_evicted m) =
     Holding a writes (λ d. Holding a prepared (λ t. IsRise a p.cells d m × (IsUp a delayed_flag_stays ⊎ ((q : ℕ) → set.contains t.heap q ≡ true → m < q))))
-Knows p a (store_word pair) = Holding a writes (λ d. (pending_pair d.history d.pending ≡ Some pair) × KnowsCleared a p.cells pair)
+Knows p a (store_word pair) = Holding a writes (λ d. (pending_pair d.history d.pending ≡ Some pair) × (fits p.cells pair ≡ true) × KnowsCleared a p.cells pair)
 Knows p a (store_delayed_flag value) = Holding a prepared (λ t. value ≡ 0 → NoneDelayed t)
 Knows p a (store_old_flag value) = Holding a snapshots (λ m. value ≡ 0 → NoOldCommits m)
 Knows p a (give_turn turn) = KnowsGive a turn
@@ -185,11 +205,14 @@ Knows p a find_log_closed = Holding a writes (λ d. d.closed ≡ true)
 Knows p a drop_pending =
     Holding a writes (λ d. (d.logged ≡ false)
     × ((max : ℕ) × (words : List ℕ) × Noted a (words_stay max words) × ((pair : CommitPair) → pending_pair d.history d.pending ≡ Some pair → cached words pair.number ≢ Some pair.decision))
-    × Noted a versions_nowhere × Noted a number_not_in_heap)
+    × Noted a pair_not_delayed × Noted a versions_nowhere × Noted a number_not_in_heap)
 Knows p a add_prepared = Holding a writes (λ d. Holding a prepared (λ t. (name : List ℕ) × (batch : List Change) × (others : List Entry) × (d.pending ≡ Prepare name batch ∷ others)))
 Knows p a take_pending_prepared = Holding a writes (λ d. Holding a prepared (λ t. (name : List ℕ) × (batch : List Change) × (others : List Entry) × (d.pending ≡ Prepare name batch ∷ others)))
 Knows p a (add_delayed_commit pair) = Holding a prepared (λ t. IsUp a delayed_flag_stays × (decision_of a.participant.seen pair.number ≡ Some pair.decision))
-Knows p a (take_out q) = Holding a prepared (λ t. (c : ℕ) × (decision_of a.participant.seen q ≡ Some c))
+Knows p a (delay_pending pair) = Holding a writes (λ d. Holding a prepared (λ t. IsUp a delayed_flag_stays × (pending_pair d.history d.pending ≡ Some pair)))
+Knows p a (take_out q) =
+    Holding a prepared (λ t. (c : ℕ) × (decision_of a.participant.seen q ≡ Some c)
+    × ((fits p.cells (record { number = q; decision = c }) ≡ true) ⊎ Holding a snapshots (λ m. IsInOldCommits m q c × ((max : ℕ) × (words : List ℕ) × Noted a (words_stay max words) × (c ≤ max)))))
 Knows p a (register_again s) = Holding a snapshots (λ m. IsLive m s × (s ≤ length a.participant.seen))
 Knows p a (release front r back) = Holding a snapshots (λ m. a.participant.registered ≡ front ++ r ∷ back)
 Knows p a (add_old_commit s q) = Holding a snapshots (λ m. IsLive m s × IsUp a old_flag_stays × ((c : ℕ) × (decision_of a.participant.seen q ≡ Some c) × (q ≤ s) × (s < c)))

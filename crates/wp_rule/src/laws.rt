@@ -8,7 +8,7 @@ ghost use Rattle.wp_model.specs.PreparedTables.{IsSmallest, NonePrepared};
 ghost use Rattle.wp_core.specs.Lists.{IsIn};
 ghost use Rattle.wp_core.specs.Turns.{Holds};
 ghost use Rattle.wp_core.specs.Tables.{Content, writes, prepared, snapshots, locks, turn_of};
-ghost use Rattle.wp_core.specs.Views.{Fact, words_stay, versions_nowhere, number_not_in_heap, unprepared, delayed_flag_stays, old_flag_stays};
+ghost use Rattle.wp_core.specs.Views.{Fact, words_stay, versions_nowhere, number_not_in_heap, pair_not_delayed, unprepared, delayed_flag_stays, old_flag_stays};
 ghost use Rattle.wp_core.specs.World.{Actor, World, content_of};
 ghost use Rattle.wp_core.specs.Steps.{Step, register, make_pending, claim_name, find_holder, note};
 ghost use Rattle.wp_core.specs.Sound.Actors.{StartsWith};
@@ -102,5 +102,5 @@ pub fn holders_are_accounted_for()
 /// Entries that may be made pending may also be dropped again, as long as no more is done: nothing of them is anywhere.
 pub fn entries_begin_nowhere()
     ensures { (p : Place) (a : Actor) (entries : List Entry) → Knows p a (make_pending entries)
-        → MayMake p a (λ w. make_pending entries ∷ note versions_nowhere ∷ note number_not_in_heap ∷ []) }
+        → MayMake p a (λ w. make_pending entries ∷ note versions_nowhere ∷ note number_not_in_heap ∷ note pair_not_delayed ∷ []) }
 {}

@@ -215,10 +215,10 @@ impl<S: HoldsPart + Drop> Words<S> {
     /// Puts the pair of this word into its place of the cache. The seat notes the words of the cache with the bound.
     pub fn store_word(&self, seat: &mut WordSeat<S>, i: usize, word: u64)
         requires seat { seat.old.table_id ≡ self.now.table }
-        requires pair { (pair : CommitPair) × (word ≡ word_of pair) × (pair_of word ≡ Some pair) × (i < self.now.cells) × (i ≡ cache_place self.now.cells pair.number)
+        requires pair { (pair : CommitPair) × (word ≡ word_of self.now.cells pair) × (pair_of self.now.cells i word ≡ Some pair) × (i < self.now.cells) × (i ≡ cache_place self.now.cells pair.number)
             × MayStep (place_of S.content self.now seat.old.id) seat.old.me.0 (step.store_word pair) }
         ensures same { (seat.new.table_id ≡ seat.old.table_id) × (seat.new.id ≡ seat.old.id) × (seat.new.me.1 ≡ seat.old.me.1) }
-        ensures moved { (pair : CommitPair) → pair_of word ≡ Some pair → Moved (place_of S.content self.now seat.old.id) (storing_word pair) (λ w. Unit {0}) seat.old.me.0 seat.new.me.0 }
+        ensures moved { (pair : CommitPair) → pair_of self.now.cells i word ≡ Some pair → Moved (place_of S.content self.now seat.old.id) (storing_word pair) (λ w. Unit {0}) seat.old.me.0 seat.new.me.0 }
     {
         steps::store::<S, Brand>(&self.table.shared, seat, FIRST_CELL + i, word);
     }
