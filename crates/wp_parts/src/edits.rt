@@ -1,8 +1,9 @@
 //! What the tables turn guards: the tables on their two devices.
-ghost use Rattle.std.specs.Prelude.{◌≡◌, ◌≤◌, ◌<◌, ◌^◌, true, false, [], ◌∷◌, None, List, length, vec_capacity, IfOk, IfErr, OnOk};
+ghost use Rattle.std.specs.Prelude.{◌≡◌, ◌≤◌, ◌<◌, true, false, [], ◌∷◌, None, List, length, vec_capacity, IfOk, IfErr, OnOk};
 ghost use Rattle.std.specs.Arc.{arc_value};
 ghost use Rattle.std.specs.List.{list_all};
 ghost use Rattle.std.specs.Option.{option_map};
+ghost use Rattle.wp_model.specs.Legal.{log_end};
 ghost use Rattle.wp_model.specs.Versions.{AreInOrder};
 ghost use Rattle.wp_outside.specs.Disk.{images};
 ghost use Rattle.wp_manifest.specs.Edit.{Edit, no_edit};
@@ -126,7 +127,7 @@ impl<D: Disk> Edits<D> {
         requires numbered { list_all is_numbered versions.now ≡ true }
         requires flushed { list_all (is_flushed flushed) versions.now ≡ true }
         requires later { self.old.table.last.flushed < flushed }
-        requires fits { flushed < 2 ^ 32 }
+        requires fits { flushed < log_end }
         ensures table { IfOk result (λ table. arc_value table ≡ versions.now) }
         ensures installed { OnOk result (self.new.table ≡ record self.old.table { last = with_table versions.now flushed self.old.table.last }) }
         ensures parts { OnOk result (self.new.parts ≡ versions.now ∷ self.old.parts) }

@@ -1,7 +1,7 @@
 //! What the write turn guards: the history with its pending record, and the log.
-ghost use Rattle.std.specs.Prelude.{◌≡◌, ◌≢◌, ◌≤◌, ◌<◌, ◌^◌, true, false, List, [], ◌∷◌, ◌++◌, length, IfErr, OnOk, OnErr};
+ghost use Rattle.std.specs.Prelude.{◌≡◌, ◌≢◌, ◌≤◌, ◌<◌, true, false, List, [], ◌∷◌, ◌++◌, length, IfErr, OnOk, OnErr};
 ghost use Rattle.wp_model.specs.declared.entry.Entry.{Entry};
-ghost use Rattle.wp_model.specs.Legal.{IsLegal};
+ghost use Rattle.wp_model.specs.Legal.{IsLegal, log_end};
 ghost use Rattle.wp_outside.specs.Disk.{images, Passes};
 ghost use Rattle.wp_outside.specs.Faults.{Rose};
 ghost use Rattle.wp_gatelog.specs.Moments.{Leaves};
@@ -87,7 +87,7 @@ impl<D: Disk> Log<D> {
     /// The number of the last entry of the history.
     pub fn published(&self) -> Seq
         ensures value { result ≡ length self.now.table.history }
-        ensures few { result < 2 ^ 32 }
+        ensures few { result < log_end }
     {
         self.history.published()
     }

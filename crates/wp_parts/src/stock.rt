@@ -15,7 +15,7 @@ use std::alloc::AllocError;
 use std::marker::Model;
 use std::sync::Arc;
 use wp_model::{Batch, Key, Seq, Versions};
-use wp_store::Store;
+use wp_store::{FrozenParts, Store};
 use wp_table::Table;
 
 /// The versions in memory and in tables, and the floor. Clauses see the parts of the store and the floor; in the machine, what
@@ -84,21 +84,14 @@ impl Stock {
         self.store.is_flushed()
     }
 
-    /// All versions in memory, which are frozen from now on. Readers find them as before, where memory was wanting too.
-    pub fn freeze(&mut self) -> Result<Versions, AllocError>
-        ensures versions { IfOk result (λ versions. versions ≡ (store_table self.old).memory) }
+    /// Freezes all that stands in memory: its parts, with the versions, for a flush. It copies no version. Readers find them as
+    /// before, where memory was wanting too.
+    pub fn freeze(&mut self) -> Result<FrozenParts, AllocError>
+        ensures versions { IfOk result (λ parts. sorted_of (joined parts) ≡ (store_table self.old).memory) }
         ensures same { store_table self.new ≡ store_table self.old }
     {
         self.store.freeze()?;
-        let parts = self.store.share_frozen()?;
-        parts.merged()
-    }
-
-    /// All versions in tables.
-    pub fn in_tables(&self) -> Result<Versions, AllocError>
-        ensures { IfOk result (λ versions. versions ≡ (store_table self.now).tables) }
-    {
-        self.store.in_tables()
+        self.store.share_frozen()
     }
 
     /// The tables, the newest first, in memory that has room for one more.
