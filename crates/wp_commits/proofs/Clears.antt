@@ -1,13 +1,13 @@
 -- How the steps of clearing a word follow each other.
 use Rattle.std.proofs.Common.{◌≡◌, inl, inr, ℕ, ◌<◌, ◌≤◌, nat_le, Bool, true, false, true≢false, cond, List, refl, sym, subst, ap, Option, Some, None, arith}
-use Rattle.std.specs.Prelude.{Result, Ok, Err, OnOk, OnErr}
+use Rattle.std.specs.Prelude.{Result, Ok, Err, OnOk, OnErr, MatchBool}
 use Rattle.std.specs.Option.{option_map}
 use Rattle.std.proofs.lemmas.Bool.Decides.{nat_tests}
 use Rattle.wp_model.specs.declared.entry.Entry.{Entry}
 use Rattle.wp_judge.specs.Words.{CommitPair, numbers_of}
 use Rattle.wp_core.specs.Tables.{Content}
 use Rattle.wp_core.specs.Turns.{prepared_turn, snapshots_turn}
-use Rattle.wp_core.specs.Views.{Fact, passed, in_old_commits, apart, words_stay, delayed_flag_stays, old_flag_stays}
+use Rattle.wp_core.specs.Views.{Fact, passed, in_old_commits, apart, words_stay, none_waits, delayed_flag_stays, old_flag_stays}
 use Rattle.wp_core.specs.World.{Actor}
 use Rattle.wp_core.proofs.Tests.{same_some, some_none}
 use Rattle.wp_rule.specs.Knows.{Noted}
@@ -34,6 +34,19 @@ raised_reaches cells published bound decision = by_test (nat_le decision bound) 
     by_test : (b : Bool) → nat_le decision bound ≡ b → decision ≤ cond b bound (bound_past cells published decision)
     by_test true e = grind (arith, nat_tests)
     by_test false e = past_reaches cells published decision
+
+pub raised_keeps : (cells published bound decision : ℕ) → bound ≤ raised cells published bound decision
+raised_keeps cells published bound decision = by_test (nat_le decision bound) refl
+  where
+    by_test : (b : Bool) → nat_le decision bound ≡ b → bound ≤ cond b bound (bound_past cells published decision)
+    by_test true e = omega arith
+    by_test false e = let past : bound < decision = grind (arith, nat_tests) in let reached = past_reaches cells published decision in omega (arith, past, reached)
+
+pub reached_low : (p bound : ℕ) → p ≤ bound → cond (nat_le p bound) bound p ≡ bound
+reached_low p bound low = let e : nat_le p bound ≡ true = grind (arith, nat_tests) in ap (λ (b : Bool). cond b bound p) e
+
+pub reached_high : (p bound : ℕ) → bound < p → cond (nat_le p bound) bound p ≡ p
+reached_high p bound high = let e : nat_le p bound ≡ false = grind (arith, nat_tests) in ap (λ (b : Bool). cond b bound p) e
 
 -- ---- the pair that is there
 
@@ -66,11 +79,22 @@ pub err_any : {T E : Type 0} (r : Result T E) (P : Type 0) → P → OnErr r P
 err_any (Ok x) P p = tt
 err_any (Err e) P p = p
 
+pub ok_any : {T E : Type 0} (r : Result T E) (P : Type 0) → P → OnOk r P
+ok_any (Ok x) P p = p
+ok_any (Err e) P p = tt
+
+pub match_true : (b : Bool) (P Q : Type 0) → b ≡ true → MatchBool b P Q → P
+match_true b P Q e k = subst (λ (x : Bool). MatchBool x P Q) e k
+
+pub match_false : (b : Bool) (P Q : Type 0) → b ≡ false → MatchBool b P Q → Q
+match_false b P Q e k = subst (λ (x : Bool). MatchBool x P Q) e k
+
 -- ---- which notes a step may end
 
 -- what is no note of words is no flag's
 pub flags_too : (fact : Fact) → is_of_words fact ≡ false → is_flag fact ≡ false
 flags_too (words_stay bound words) e = absurd (true≢false e)
+flags_too none_waits e = absurd (true≢false e)
 flags_too (delayed_flag_stays value) e = absurd (true≢false e)
 flags_too (old_flag_stays value) e = absurd (true≢false e)
 flags_too other e = refl

@@ -18,7 +18,7 @@ use Rattle.wp_core.specs.Lists.{IsIn}
 use Rattle.wp_core.specs.Notes.{ends}
 use Rattle.wp_core.specs.Steps.{Step, store_max_evicted, add_delayed_commit}
 use Rattle.wp_core.specs.Tables.{WriteTable, Content, writes, prepared, with_moved}
-use Rattle.wp_core.specs.Views.{Fact, words_stay, delayed_flag_stays, old_flag_stays}
+use Rattle.wp_core.specs.Views.{Fact, words_stay, none_waits, delayed_flag_stays, old_flag_stays}
 use Rattle.wp_core.specs.World.{Actor, World}
 use Rattle.wp_core.specs.Sound.Views.{IsApart}
 use Rattle.wp_model.proofs.Numbers.{get_inserted, get_inserted_else}
@@ -89,10 +89,12 @@ up_or_none a flag none f = dite (ℕ_discrete f.value 0) (λ (e : f.value ≡ 0)
 -- ---- the bound rises
 
 pub rise_still : (a b : Actor) (cells : ℕ) (d : WriteTable) (m : ℕ) → ((bound : ℕ) (words : List ℕ) → Noted a (words_stay bound words) → Noted b (words_stay bound words)) → IsRise a cells d m → IsRise b cells d m
-rise_still a b cells d m keeps k = let t = k.there in record { pair = k.pair; pending = k.pending; gone = k.gone; there = (t.0, t.1, keeps t.0 t.1 t.2, t.3, t.4, t.5, t.6); past = k.past }
+rise_still a b cells d m keeps (inl k) = let t = k.there in inl (record { pair = k.pair; pending = k.pending; narrow = k.narrow; gone = k.gone; there = (t.0, t.1, keeps t.0 t.1 t.2, t.3, t.4, t.5, t.6); past = k.past })
+rise_still a b cells d m keeps (inr k) = let t = k.above in inr (record { pair = k.pair; pending = k.pending; wide = k.wide; above = (t.0, t.1, keeps t.0 t.1 t.2, t.3); is = k.is })
 
 max_ends : (history : List Entry) (words m : ℕ) (fact : Fact) → is_of_words fact ≡ false → ends history words (store_max_evicted m) fact ≡ false
 max_ends history words m (words_stay bound cache) e = absurd (true≢false e)
+max_ends history words m none_waits e = absurd (true≢false e)
 max_ends history words m (delayed_flag_stays value) e = absurd (true≢false e)
 max_ends history words m (old_flag_stays value) e = absurd (true≢false e)
 max_ends history words m other e = refl
@@ -168,7 +170,7 @@ apart_now t p c = at (is_prepared t p) refl
     at true e = inr (ap (λ (x : Bool). finite.get (cond x (finite.insert t.delayed_commits p c) t.delayed_commits) p) e ∙ get_inserted t.delayed_commits p c)
 
 commit_ends : (pair : CommitPair) → EndsNothing (add_delayed_commit pair)
-commit_ends pair = record { guard = λ turn. refl; place = λ words place. refl; words = refl; delayed_flag = refl; old_flag = refl; pending = refl; adds = refl; takes = refl; prepared = refl; unprepared = refl; transaction = λ history name. refl; direct = refl; moves = refl; replaces = refl; installing = refl }
+commit_ends pair = record { guard = λ turn. refl; place = λ words place. refl; words = refl; delayed_flag = refl; old_flag = refl; pending = refl; adds = refl; takes = refl; prepared = refl; unprepared = refl; delays = refl; transaction = λ history name. refl; direct = refl; moves = refl; replaces = refl; installing = refl }
 
 module _ (place : Place) (s t : SeatState) (d : WriteTable) (old tables : PreparedTables) (p c : ℕ) (held : s.knows.held ≡ prepared old ∷ writes d ∷ []) (is : tables ≡ with_commit old p c) where
   abbrev steps_if : Bool → List Step

@@ -66,6 +66,21 @@ module _ (p : Place) (so : World → Type 0) (s t : SeatState) (value : ℕ) (sa
         subst (λ (x : Actor). Noted x (old_flag_stays value)) (sym m.actor) (inl refl),
       )
 
+-- the other flag is noted still
+pub old_flag_kept : (p : Place) (so : World → Type 0) (s t : SeatState) (value : ℕ) → Moved p (λ w. store_delayed_flag value ∷ note (delayed_flag_stays value) ∷ []) so s.knows t.knows → (n : ℕ) → Noted s.knows (old_flag_stays n) → Noted t.knows (old_flag_stays n)
+old_flag_kept p so s t value m n there =
+    let w = m.world in
+    subst (λ (x : Actor). Noted x (old_flag_stays n)) (sym m.actor) (outlasts (old_flag_stays n) (store_delayed_flag value ∷ note (delayed_flag_stays value) ∷ []) w p.by s.knows there ((λ x. x), refl, ((λ x. x), refl, tt)))
+
+pub delayed_flag_kept : (p : Place) (so : World → Type 0) (s t : SeatState) (value : ℕ) → Moved p (λ w. store_old_flag value ∷ note (old_flag_stays value) ∷ []) so s.knows t.knows → (n : ℕ) → Noted s.knows (delayed_flag_stays n) → Noted t.knows (delayed_flag_stays n)
+delayed_flag_kept p so s t value m n there =
+    let w = m.world in
+    subst (λ (x : Actor). Noted x (delayed_flag_stays n)) (sym m.actor) (outlasts (delayed_flag_stays n) (store_old_flag value ∷ note (old_flag_stays value) ∷ []) w p.by s.knows there ((λ x. x), refl, ((λ x. x), refl, tt)))
+
+-- a flag that tells does so where its notes are kept
+pub tells_still : (a b : Actor) (flag : ℕ → Fact) (none : Type 0) → ((value : ℕ) → Noted a (flag value) → Noted b (flag value)) → FlagTells a flag none → FlagTells b flag none
+tells_still a b flag none keeps f = record { value = f.value; noted = keeps f.value f.noted; empty = f.empty; down = f.down }
+
 module _ (p : Place) (a : Actor) (none : Bool) (value : ℕ) (says : Says none value) where
   pub may_put_delayed : Holding a prepared (λ t. none ≡ true → NoneDelayed t) → MayStep p a (store_delayed_flag value)
   may_put_delayed h w k = needed p a w k (store_delayed_flag value) (record { table = h.table; held = h.held; so_is = λ e. h.so_is (zero_says none value says e) })

@@ -1,5 +1,5 @@
 -- The old commit map while a pair comes under each live number that overlaps it.
-use Rattle.std.proofs.Common.{◌≡◌, ◌≢◌, inl, inr, ◌⊎◌, ⊎_elim, ℕ, zero, suc, ◌+◌, ◌-◌, ◌<◌, ◌≤◌, nat_le, nat_lt, Bool, true, false, true≢false, cond, List, [], ◌∷◌, length, refl, sym, subst, ap, ◌∙◌, Option, Some, None, is_some, arith}
+use Rattle.std.proofs.Common.{◌≡◌, ◌≢◌, inl, inr, ◌⊎◌, ⊎_elim, ℕ, zero, suc, ◌+◌, ◌-◌, ◌<◌, ◌≤◌, nat_le, nat_lt, Bool, true, false, true≢false, cond, List, ◌∷◌, length, refl, sym, subst, ap, ◌∙◌, Option, Some, None, is_some, arith}
 use Rattle.std.specs.Option.{option_map_or}
 use Rattle.std.proofs.lemmas.Bool.Decides.{nat_tests}
 use native.Mathlib.Decide.{ℕ_discrete}
@@ -151,7 +151,7 @@ module _ (m new : Snapshots) (p c : ℕ) (changes : ChangesWhere (overlaps p c) 
 -- ---- the steps
 
 keep_ends : (s p : ℕ) → EndsNothing (add_old_commit s p)
-keep_ends s p = record { guard = λ turn. refl; place = λ words place. refl; words = refl; delayed_flag = refl; old_flag = refl; pending = refl; adds = refl; takes = refl; prepared = refl; unprepared = refl; transaction = λ history name. refl; direct = refl; moves = refl; replaces = refl; installing = refl }
+keep_ends s p = record { guard = λ turn. refl; place = λ words place. refl; words = refl; delayed_flag = refl; old_flag = refl; pending = refl; adds = refl; takes = refl; prepared = refl; unprepared = refl; delays = refl; transaction = λ history name. refl; direct = refl; moves = refl; replaces = refl; installing = refl }
 
 pub keeping_keeps : (m : Snapshots) (p more s : ℕ) → KeepClient (keeping_from m p more s)
 keeping_keeps m p zero s = tt
@@ -202,13 +202,13 @@ module _ (m : Snapshots) (p c by : ℕ) where
       by_live false here after = here
       by_live true here after = after
 
-module _ (place : Place) (s t : SeatState) (d : WriteTable) (old new : Snapshots) (p c : ℕ) (held : s.knows.held ≡ snapshots old ∷ writes d ∷ []) (changes : ChangesWhere (overlaps p c) (after_keep p) old new) where
+module _ (place : Place) (s t : SeatState) (old new : Snapshots) (p c : ℕ) (others : List Content) (held : s.knows.held ≡ snapshots old ∷ others) (changes : ChangesWhere (overlaps p c) (after_keep p) old new) where
   table_is : (w : World) → IsAt place s.knows w → w.snapshots ≡ old
   table_is w k = held_table place s.knows w (snapshots old) k (subst (IsIn (snapshots old)) (sym held) (inl refl))
 
-  pub may_keep : p ≤ c → decision_of d.history p ≡ Some c → OldFlagTells s.knows new → MayMake place s.knows (keeping p c)
-  may_keep ordered decided flag w k =
-      let history_is : w.writes ≡ d = held_table place s.knows w (writes d) k (subst (IsIn (writes d)) (sym held) (inr (inl refl))) in
+  pub may_keep : (d : WriteTable) → IsIn (writes d) others → p ≤ c → decision_of d.history p ≡ Some c → OldFlagTells s.knows new → MayMake place s.knows (keeping p c)
+  may_keep d has ordered decided flag w k =
+      let history_is : w.writes ≡ d = held_table place s.knows w (writes d) k (subst (IsIn (writes d)) (sym held) (inr has)) in
       let holds = (held_is place s.knows w (snapshots old) k (subst (IsIn (snapshots old)) (sym held) (inl refl))).0 in
       let value_is : w.old_flag ≡ flag.value = (noted_is place s.knows w (old_flag_stays flag.value) k flag.noted).is_so in (
         keeping_quiet w.snapshots p (c - p) p,
@@ -218,11 +218,11 @@ module _ (place : Place) (s t : SeatState) (d : WriteTable) (old new : Snapshots
             true≢false (sym (kept_at old new p c changes r from below live_old) ∙ flag.empty (sym value_is ∙ zero_flag) r p)),
       )
 
-  pub kept_now : (so : World → Type 0) → (t.table ≡ s.table) × (t.by ≡ s.by) × (t.turns ≡ s.turns) → Moved place (keeping p c) so s.knows t.knows → t ≡ record s { knows = record s.knows { held = snapshots new ∷ writes d ∷ [] } }
+  pub kept_now : (so : World → Type 0) → (t.table ≡ s.table) × (t.by ≡ s.by) × (t.turns ≡ s.turns) → Moved place (keeping p c) so s.knows t.knows → t ≡ record s { knows = record s.knows { held = snapshots new ∷ others } }
   kept_now so same m =
       let w = m.world in
       let is = table_is w m.before in
-      let held_there : s.knows.held ≡ snapshots w.snapshots ∷ writes d ∷ [] = held ∙ ap (λ (x : Snapshots). snapshots x ∷ writes d ∷ []) (sym is) in
+      let held_there : s.knows.held ≡ snapshots w.snapshots ∷ others = held ∙ ap (λ (x : Snapshots). snapshots x ∷ others) (sym is) in
       let over : kept_over w.snapshots w.snapshots p (c - p) p ≡ new = ap (λ (x : Snapshots). kept_over x x p (c - p) p) is ∙ kept_is old new p c changes in
-      becomes s t (record s.knows { held = snapshots new ∷ writes d ∷ [] }) same
-      (m.actor ∙ (kept_after w.snapshots p c place.by (writes d ∷ []) (c - p) p w s.knows held_there ∙ ap (λ (x : Snapshots). record s.knows { held = snapshots x ∷ writes d ∷ [] }) over))
+      becomes s t (record s.knows { held = snapshots new ∷ others }) same
+      (m.actor ∙ (kept_after w.snapshots p c place.by others (c - p) p w s.knows held_there ∙ ap (λ (x : Snapshots). record s.knows { held = snapshots x ∷ others }) over))

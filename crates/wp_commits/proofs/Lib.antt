@@ -9,3 +9,4 @@ pub mod Ways
 pub mod Puts
 pub mod Clears
 pub mod TakenOut
+pub mod Passed

@@ -24,14 +24,15 @@ use Rattle.wp_shared.proofs.OneStep.{becomes}
 use Rattle.wp_shared.proofs.Tables.{held_table}
 use Rattle.wp_shared.specs.Notes.{is_flag, noting, GoesOn}
 use Rattle.wp_shared.proofs.Goes.{then}
+use Rattle.wp_judge.specs.Words.{fits}
 
-take_ends : (p : ℕ) → EndsNothing (take_out p)
-take_ends p = record { guard = λ turn. refl; place = λ words place. refl; words = refl; delayed_flag = refl; old_flag = refl; pending = refl; adds = refl; takes = refl; prepared = refl; unprepared = refl; transaction = λ history name. refl; direct = refl; moves = refl; replaces = refl; installing = refl }
+pub take_ends : (p : ℕ) → EndsNothing (take_out p)
+take_ends p = record { guard = λ turn. refl; place = λ words place. refl; words = refl; delayed_flag = refl; old_flag = refl; pending = refl; adds = refl; takes = refl; prepared = refl; unprepared = refl; delays = refl; transaction = λ history name. refl; direct = refl; moves = refl; replaces = refl; installing = refl }
 
-pub may_take_out : (at : Place) (a : Actor) (t : PreparedTables) (p : ℕ) → a.live ≡ true → a.held ≡ prepared t ∷ [] → (c : ℕ) × (decision_of a.participant.seen p ≡ Some c) → MayMake at a (λ w. take_out p ∷ note (has_left p) ∷ [])
+pub may_take_out : (at : Place) (a : Actor) (t : PreparedTables) (p : ℕ) → a.live ≡ true → a.held ≡ prepared t ∷ [] → (c : ℕ) × (decision_of a.participant.seen p ≡ Some c) × (fits at.cells (record { number = p; decision = c }) ≡ true) → MayMake at a (λ w. take_out p ∷ note (has_left p) ∷ [])
 may_take_out at a t p live held decided w k =
-    let n = needed at a w k (take_out p) (record { table = t; held = subst (IsIn (prepared t)) (sym held) (inl refl); so_is = decided }) in
-    ((tt, (tt, tt)), (n, ((live, (λ turn e. absurd (none_some None turn refl e)), (n.1, (λ i. in_removed w.prepared.heap p i || in_removed w.prepared.delayed p i))), tt)))
+    let n = needed at a w k (take_out p) (record { table = t; held = subst (IsIn (prepared t)) (sym held) (inl refl); so_is = (decided.0, decided.1, inl decided.2) }) in
+    ((tt, (tt, tt)), (n, ((live, (λ turn e. absurd (none_some None turn refl e)), ((n.1.0, n.1.1), (λ i. in_removed w.prepared.heap p i || in_removed w.prepared.delayed p i))), tt)))
 
 -- the number left the tables, which is noted
 pub took_out : (at : Place) (so : World → Type 0) (s t : SeatState) (old tables : PreparedTables) (p : ℕ) → s.knows.held ≡ prepared old ∷ [] → tables ≡ without_prepared old p → (t.table ≡ s.table) × (t.by ≡ s.by) × (t.turns ≡ s.turns)
@@ -55,6 +56,13 @@ left_goes s t u held p is second =
     let x : SeatState = record s { knows = record s.knows { held = held } } in
     then is_flag s t u held held s.turns s.turns
     (then is_flag s x t held held s.turns s.turns (holds is_flag s x x held refl) (notes is_flag x t t (has_left p) is))
+    (subst (λ (y : List Content × List ℕ). GoesOn is_flag y.0 y.1 t u) (λ i. ((is i).knows.held, (is i).turns)) second)
+
+-- the same without a note
+pub went_goes : (s t u : SeatState) (held : List Content) → t ≡ record s { knows = record s.knows { held = held } } → GoesOn is_flag t.knows.held t.turns t u → GoesOn is_flag held s.turns s u
+went_goes s t u held is second =
+    then is_flag s t u held held s.turns s.turns
+    (holds is_flag s t t held is)
     (subst (λ (y : List Content × List ℕ). GoesOn is_flag y.0 y.1 t u) (λ i. ((is i).knows.held, (is i).turns)) second)
 
 -- ---- a call that takes the prepared turn alone

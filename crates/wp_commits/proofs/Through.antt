@@ -13,8 +13,9 @@ module _ {D : Type 0} (z : SharedState D) (s t u : SeatState) (before now : Cont
   pub held_taken : t.knows.held ≡ before ∷ beneath
   held_taken = first.holds.held ∙ ap (λ (h : List Content). before ∷ h) held
 
-  module _ (test : Fact → Bool) (second : GoesOn test (now ∷ beneath) t.turns t u) (same : turn_of now ≡ turn_of before) where
-    pub holds_still : HoldsTurn z u now beneath s.turns
+  -- what is beneath may be other than it was, too
+  module _ (test : Fact → Bool) (under : List Content) (second : GoesOn test (now ∷ under) t.turns t u) (same : turn_of now ≡ turn_of before) where
+    pub holds_still : HoldsTurn z u now under s.turns
     holds_still = record {
       same_table = ap (λ (x : SeatState). x.table) second.same ∙ first.holds.same_table;
       live = ap (λ (x : SeatState). x.knows.live) second.same ∙ first.holds.live;
@@ -23,9 +24,9 @@ module _ {D : Type 0} (z : SharedState D) (s t u : SeatState) (before now : Cont
     }
 
     -- the turn is given, and what is no note of that turn is kept
-    pub goes_through : (turn : Turn) (v : SeatState) → ((fact : Fact) → test fact ≡ false → is_under turn fact ≡ false) → GoesOn (is_under turn) beneath s.turns u v → GoesOn test beneath s.turns s v
+    pub goes_through : (turn : Turn) (v : SeatState) → ((fact : Fact) → test fact ≡ false → is_under turn fact ≡ false) → GoesOn (is_under turn) under s.turns u v → GoesOn test under s.turns s v
     goes_through turn v less third = record {
-      same = third.same ∙ (ap (λ (x : SeatState). record x { knows = record x.knows { held = beneath; notes = v.knows.notes }; turns = s.turns }) second.same
-          ∙ ap (λ (x : SeatState). record x { knows = record x.knows { held = beneath; notes = v.knows.notes }; turns = s.turns }) first.goes.same);
+      same = third.same ∙ (ap (λ (x : SeatState). record x { knows = record x.knows { held = under; notes = v.knows.notes }; turns = s.turns }) second.same
+          ∙ ap (λ (x : SeatState). record x { knows = record x.knows { held = under; notes = v.knows.notes }; turns = s.turns }) first.goes.same);
       noted = λ fact other there. third.noted fact (less fact other) (second.noted fact other (first.goes.noted fact refl there));
     }

@@ -28,7 +28,7 @@ bound_is z s t found same at bound words there =
     let k : IsAt (place_at z s.by) s.knows at.0 = subst (λ (x : SeatState). IsAt (place_at z x.by) x.knows at.0) same at.1 in at.2 ∙ (noted_is (place_at z s.by) s.knows at.0 (words_stay bound words) k there).is_so.0
 
 -- what is decided with the pending entry, and is not its pair, is decided and published without it
-decided_without : (history pending : List Entry) (pair : CommitPair) → (pending_pair history pending ≡ Some pair → ⊥) → pair.number ≤ pair.decision → decision_of (extended history pending) pair.number ≡ Some pair.decision
+pub decided_without : (history pending : List Entry) (pair : CommitPair) → (pending_pair history pending ≡ Some pair → ⊥) → pair.number ≤ pair.decision → decision_of (extended history pending) pair.number ≡ Some pair.decision
     → (decision_of history pair.number ≡ Some pair.decision) × (pair.decision ≤ length history)
 decided_without history [] pair other low e = (e, decision_within history pair.number pair.decision e)
 decided_without history (entry ∷ others) pair other low e =
@@ -48,11 +48,11 @@ module _ {D : Type 0} (z : SharedState D) (s t : SeatState) (d : WriteTable) (pl
     cache_is : at.0.cache ≡ words
     cache_is = (noted_is (place_at z s.by) s.knows at.0 (words_stay bound words) stands there).is_so.1
 
-    pub pair_is : (o : Option (ℕ × ℕ)) → o ≡ option_map numbers_of (pair_of word) → o ≡ option_map numbers_of (pair_at words place)
-    pair_is o is = is ∙ ap (λ (x : ℕ). option_map numbers_of (pair_of x)) (at.2 ∙ ap (λ (x : List ℕ). slice_index x place) cache_is)
-
     words_are : length words ≡ z.cells
     words_are = sym (ap length cache_is) ∙ stands.cells
+
+    pub pair_is : (o : Option (ℕ × ℕ)) → o ≡ option_map numbers_of (pair_of z.cells place word) → o ≡ option_map numbers_of (pair_at words place)
+    pair_is o is = let found : word ≡ slice_index words place = at.2 ∙ ap (λ (x : List ℕ). slice_index x place) cache_is in is ∙ (λ i. option_map numbers_of (pair_of (sym words_are i) place (found i)))
 
   module _ (held : IsIn (writes d) s.knows.held) (within : place < z.cells) (noted : (bound : ℕ) × (words : List ℕ) × Noted s.knows (words_stay bound words)) (ready : IsUnentered s.knows z.cells d ⊎ IsReadyAt s.knows (length d.history) place) where
     table_is : at.0.writes ≡ d
@@ -61,9 +61,9 @@ module _ {D : Type 0} (z : SharedState D) (s t : SeatState) (d : WriteTable) (pl
     abbrev IsFound : ℕ × ℕ → Type 0
     IsFound r = IsThere s.knows d.history place r.0 r.1
 
-    module _ (pair : CommitPair) (is : pair_of word ≡ Some pair) where
+    module _ (pair : CommitPair) (is : pair_of z.cells place word ≡ Some pair) where
       there : pair_at at.0.cache place ≡ Some pair
-      there = ap pair_of (sym at.2) ∙ is
+      there = (λ i. pair_of (stands.cells i) place (sym at.2 i)) ∙ is
 
       known : IsPairAt (extended at.0.writes.history at.0.writes.pending) (length at.0.cache) place pair
       known = (at_sound (place_at z s.by) s.knows at.0 stands).cache.pairs place pair (subst (λ (n : ℕ). place < n) (sym stands.cells) within) there
@@ -72,7 +72,7 @@ module _ {D : Type 0} (z : SharedState D) (s t : SeatState) (d : WriteTable) (pl
       decided = subst (λ (x : WriteTable). decision_of (extended x.history x.pending) pair.number ≡ Some pair.decision) table_is known.decided
 
       ordered : (1 ≤ pair.number) × (pair.number ≤ pair.decision)
-      ordered = pair_ordered word pair is
+      ordered = pair_ordered z.cells place word pair within is
 
       in_words : (bound : ℕ) (words : List ℕ) → Noted s.knows (words_stay bound words) → pair_at words place ≡ Some pair
       in_words bound words noted = sym (ap (λ (x : List ℕ). pair_at x place) (cache_is bound words noted)) ∙ there
@@ -111,9 +111,9 @@ module _ {D : Type 0} (z : SharedState D) (s t : SeatState) (d : WriteTable) (pl
             ordered = ordered.1;
           }
 
-    by_pair : (o : Option CommitPair) → pair_of word ≡ o → IfSome (option_map numbers_of o) IsFound
+    by_pair : (o : Option CommitPair) → pair_of z.cells place word ≡ o → IfSome (option_map numbers_of o) IsFound
     by_pair None is = tt
     by_pair (Some pair) is = at_pair pair is
 
-    pub found : (o : Option (ℕ × ℕ)) → o ≡ option_map numbers_of (pair_of word) → IfSome o IsFound
-    found o is = subst (λ (x : Option (ℕ × ℕ)). IfSome x IsFound) (sym is) (by_pair (pair_of word) refl)
+    pub found : (o : Option (ℕ × ℕ)) → o ≡ option_map numbers_of (pair_of z.cells place word) → IfSome o IsFound
+    found o is = subst (λ (x : Option (ℕ × ℕ)). IfSome x IsFound) (sym is) (by_pair (pair_of z.cells place word) refl)

@@ -4,7 +4,7 @@ use Rattle.wp_judge.specs.Words.{CommitPair}
 use Rattle.wp_core.specs.Cache.{cache_place, pair_at}
 use Rattle.wp_rule.specs.Bound.{bound_past}
 use Rattle.wp_commits.specs.declared.way.Way.{Way}
-use Rattle.wp_commits.specs.declared.way.Way.TheVariants.{Undecided, InWord}
+use Rattle.wp_commits.specs.declared.way.Way.TheVariants.{Undecided, InWord, Delayed}
 
 -- the bound once a pair with this decision may go: it is no less than before, and no less than the decision
 abbrev pub raised : ℕ → ℕ → ℕ → ℕ → ℕ
@@ -19,6 +19,7 @@ bound_after cells published bound (Some pair) = raised cells published bound pai
 abbrev pub bound_with : ℕ → ℕ → ℕ → List ℕ → Way → ℕ
 bound_with cells published bound words Undecided = bound
 bound_with cells published bound words (InWord p c) = bound_after cells published bound (pair_at words (cache_place cells p))
+bound_with cells published bound words (Delayed p c) = if nat_le p bound then bound else p
 
 -- ... and all those that are kept in these ways, one after another
 abbrev pub bound_for : ℕ → ℕ → ℕ → List ℕ → List Way → ℕ

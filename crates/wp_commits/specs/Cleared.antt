@@ -1,8 +1,8 @@
 -- Words of the commit cache that are ready to be replaced.
-use Rattle.std.specs.Prelude.{◌≡◌, ◌≢◌, ◌⊎◌, ℕ, suc, ◌<◌, ◌≤◌, List, length, Some, None}
+use Rattle.std.specs.Prelude.{◌≡◌, ◌≢◌, ◌⊎◌, ℕ, suc, true, ◌<◌, ◌≤◌, List, length, Some, None}
 use Rattle.wp_model.specs.declared.entry.Entry.{Entry}
 use Rattle.wp_model.specs.Decision.{decision_of}
-use Rattle.wp_judge.specs.Words.{CommitPair}
+use Rattle.wp_judge.specs.Words.{CommitPair, fits}
 use Rattle.wp_core.specs.Cache.{cache_place, pair_at}
 use Rattle.wp_core.specs.Entries.{pending_pair, pairs_of}
 use Rattle.wp_core.specs.Lists.{IsIn}
@@ -22,9 +22,9 @@ pub record IsThere (a : Actor) (history : List Entry) (place p c : ℕ) : Type 0
   pub decided : decision_of history p ≡ Some c
   pub ordered : p ≤ c
 
--- a pair of the pending record is to come into the word at this place
+-- a pair of the pending record, which fits a word, is to come into the word at this place
 abbrev pub IsWanted : ℕ → WriteTable → ℕ → Type 0
-IsWanted cells d place = (pair : CommitPair) × IsIn pair (pairs_of (suc (length d.history)) d.pending) × (place ≡ cache_place cells pair.number)
+IsWanted cells d place = (pair : CommitPair) × IsIn pair (pairs_of (suc (length d.history)) d.pending) × (place ≡ cache_place cells pair.number) × (fits cells pair ≡ true)
 
 -- the word at this place has no pair
 abbrev pub IsEmptyAt : Actor → ℕ → Type 0

@@ -3,4 +3,5 @@ pub mod Notes
 pub mod Making
 pub mod Cleared
 pub mod Ways
+pub mod Passing
 pub mod PairNotes

@@ -1,11 +1,11 @@
 -- Which steps of the machine a call makes at one load.
-use Rattle.std.specs.Prelude.{ℕ, zero, suc, ◌-◌, List, [], ◌∷◌, if◌then◌else◌, is_some}
+use Rattle.std.specs.Prelude.{ℕ, zero, suc, ◌-◌, ◌==◌, List, [], ◌∷◌, if◌then◌else◌, is_some}
 use Rattle.std.specs.FinMap as finite
 use Rattle.wp_model.specs.PreparedTables.{is_prepared}
 use Rattle.wp_model.specs.Snapshots.{Snapshots}
 use Rattle.wp_judge.specs.Words.{CommitPair}
 use Rattle.wp_core.specs.Steps.{Step, add_delayed_commit, add_old_commit, note}
-use Rattle.wp_core.specs.Views.{passed, in_old_commits, apart}
+use Rattle.wp_core.specs.Views.{passed, in_old_commits, apart, none_waits}
 use Rattle.wp_core.specs.World.{World}
 use Rattle.wp_shared.specs.Seats.{SeatState}
 use Rattle.wp_shared.specs.Notes.{noting}
@@ -21,6 +21,10 @@ noted_all place pair s = noting (apart place pair) (noting (in_old_commits place
 -- the pair becomes a delayed commit where its number is prepared
 abbrev pub delaying : CommitPair → World → List Step
 delaying pair w = if is_prepared w.prepared pair.number then add_delayed_commit pair ∷ [] else []
+
+-- where the delayed flag is 0, that no prepared number waits is noted
+abbrev pub noting_none_waits : World → List Step
+noting_none_waits w = if w.delayed_flag == 0 then note none_waits ∷ [] else []
 
 -- p is kept under each live number among the next so many from s on
 abbrev pub keeping_from : Snapshots → ℕ → ℕ → ℕ → List Step

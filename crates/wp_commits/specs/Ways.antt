@@ -1,32 +1,37 @@
 -- How the pairs of a record are kept, and what has to be so before they are, and is then.
-use Rattle.std.specs.Prelude.{◌≡◌, ◌≢◌, ◌⊎◌, ℕ, suc, Bool, List, [], ◌∷◌, Option, Some, None}
+use Rattle.std.specs.Prelude.{◌≡◌, ◌≢◌, ◌⊎◌, ℕ, suc, ◌≤◌, Bool, List, [], ◌∷◌, Option, Some, None, if◌then◌else◌}
 use Rattle.wp_model.specs.declared.entry.Entry.{Entry}
-use Rattle.wp_judge.specs.Words.{CommitPair}
+use Rattle.wp_judge.specs.Words.{CommitPair, fits}
 use Rattle.wp_core.specs.Cache.{cache_place, pair_at, with_pair}
 use Rattle.wp_core.specs.Entries.{pair_by}
-use Rattle.wp_core.specs.Views.{Fact, words_stay}
+use Rattle.wp_core.specs.Views.{Fact, words_stay, pair_delayed}
 use Rattle.wp_core.specs.World.{Actor}
 use Rattle.wp_rule.specs.Knows.{Noted}
 use Rattle.wp_commits.specs.Bound.{bound_with, bound_for}
 use Rattle.wp_commits.specs.Cleared.{IsCleared, IsReadyAt}
-use Rattle.wp_commits.specs.Notes.{is_of_words, is_of_place}
+use Rattle.wp_commits.specs.Notes.{is_of_words, is_of_delayed, is_of_place}
 use Rattle.wp_commits.specs.declared.way.Way.{Way}
-use Rattle.wp_commits.specs.declared.way.Way.TheVariants.{Undecided, InWord}
+use Rattle.wp_commits.specs.declared.way.Way.TheVariants.{Undecided, InWord, Delayed}
 
--- how the pair is kept that an entry decides, if it decides one
-abbrev pub way_of : Option CommitPair → Way
-way_of None = Undecided
-way_of (Some pair) = InWord pair.number pair.decision
+-- how the pair is kept that an entry decides, if it decides one, in a cache of so many words
+abbrev pub way_of : ℕ → Option CommitPair → Way
+way_of cells None = Undecided
+way_of cells (Some pair) = if fits cells pair then InWord pair.number pair.decision else Delayed pair.number pair.decision
 
 -- ... that each of these entries decides, of which the first has this number
-abbrev pub ways_of : ℕ → List Entry → List Way
-ways_of n [] = []
-ways_of n (entry ∷ entries) = way_of (pair_by n entry) ∷ ways_of (suc n) entries
+abbrev pub ways_of : ℕ → ℕ → List Entry → List Way
+ways_of cells n [] = []
+ways_of cells n (entry ∷ entries) = way_of cells (pair_by n entry) ∷ ways_of cells (suc n) entries
 
--- it is kept in a word
-abbrev pub IsInWord : Way → Type 0
-IsInWord Undecided = ⊥
-IsInWord (InWord p c) = Unit {0}
+-- something is cleared before it
+abbrev pub Clears : Way → Type 0
+Clears Undecided = ⊥
+Clears other = Unit {0}
+
+-- before one of them
+abbrev pub AnyClears : List Way → Type 0
+AnyClears [] = ⊥
+AnyClears (way ∷ ways) = Clears way ⊎ AnyClears ways
 
 -- ---- before
 
@@ -34,10 +39,15 @@ IsInWord (InWord p c) = Unit {0}
 abbrev pub RisesFor : ℕ → ℕ → Actor → Actor → List Way → Type 0
 RisesFor cells published old new ways = (bound : ℕ) (words : List ℕ) → Noted old (words_stay bound words) → Noted new (words_stay (bound_for cells published bound words ways) words)
 
--- what the pair is to replace may go
+-- the bound has come to this number
+abbrev pub IsReached : Actor → ℕ → Type 0
+IsReached a p = (bound : ℕ) × (words : List ℕ) × Noted a (words_stay bound words) × (p ≤ bound)
+
+-- what the pair is to replace may go; or the bound has come to the number of one that is too wide for a word
 abbrev pub IsClearedFor : Actor → ℕ → Way → Type 0
 IsClearedFor a cells Undecided = Unit {0}
 IsClearedFor a cells (InWord p c) = IsCleared a (cache_place cells p)
+IsClearedFor a cells (Delayed p c) = IsReached a p
 
 abbrev pub AreCleared : Actor → ℕ → List Way → Type 0
 AreCleared a cells [] = Unit {0}
@@ -47,6 +57,7 @@ AreCleared a cells (way ∷ ways) = IsClearedFor a cells way × AreCleared a cel
 abbrev pub IsReadyFor : Actor → ℕ → ℕ → Way → Type 0
 IsReadyFor a cells published Undecided = Unit {0}
 IsReadyFor a cells published (InWord p c) = IsReadyAt a published (cache_place cells p)
+IsReadyFor a cells published (Delayed p c) = IsReached a p
 
 abbrev pub AreReady : Actor → ℕ → ℕ → List Way → Type 0
 AreReady a cells published [] = Unit {0}
@@ -56,6 +67,7 @@ AreReady a cells published (way ∷ ways) = IsReadyFor a cells published way × 
 abbrev pub IsElsewhere : ℕ → ℕ → Way → Type 0
 IsElsewhere cells place Undecided = Unit {0}
 IsElsewhere cells place (InWord p c) = place ≢ cache_place cells p
+IsElsewhere cells place (Delayed p c) = Unit {0}
 
 abbrev pub AreElsewhere : ℕ → ℕ → List Way → Type 0
 AreElsewhere cells place [] = Unit {0}
@@ -65,6 +77,7 @@ AreElsewhere cells place (way ∷ ways) = IsElsewhere cells place way × AreElse
 abbrev pub MayPrecede : ℕ → Way → List Way → Type 0
 MayPrecede cells Undecided ways = Unit {0}
 MayPrecede cells (InWord p c) ways = (p ≡ c) ⊎ AreElsewhere cells (cache_place cells p) ways
+MayPrecede cells (Delayed p c) ways = Unit {0}
 
 -- of two pairs with one place the earlier one decides itself
 abbrev pub AreApart : ℕ → List Way → Type 0
@@ -77,11 +90,13 @@ AreApart cells (way ∷ ways) = MayPrecede cells way ways × AreApart cells ways
 abbrev pub is_of_way : ℕ → Way → Fact → Bool
 is_of_way cells Undecided = is_of_words
 is_of_way cells (InWord p c) = is_of_place (cache_place cells p)
+is_of_way cells (Delayed p c) = is_of_delayed
 
 -- the words once the pair is entered
 abbrev pub with_way : List ℕ → Way → List ℕ
 with_way words Undecided = words
 with_way words (InWord p c) = with_pair words (record { number = p; decision = c })
+with_way words (Delayed p c) = words
 
 -- What the bound and the words are once the pairs are entered that are kept in these ways, one after another, each behind one entry
 -- more.
@@ -90,6 +105,7 @@ entered cells published bound words [] = words_stay bound words
 entered cells published bound words (way ∷ ways) = entered cells (suc published) (bound_with cells published bound words way) (with_way words way) ways
 
 -- the pair is where it is kept
-abbrev pub IsEntered : ℕ → List ℕ → Way → Type 0
-IsEntered cells words Undecided = Unit {0}
-IsEntered cells words (InWord p c) = pair_at words (cache_place cells p) ≡ Some (record { number = p; decision = c })
+abbrev pub IsEntered : Actor → ℕ → List ℕ → Way → Type 0
+IsEntered a cells words Undecided = Unit {0}
+IsEntered a cells words (InWord p c) = pair_at words (cache_place cells p) ≡ Some (record { number = p; decision = c })
+IsEntered a cells words (Delayed p c) = Noted a pair_delayed

@@ -1,5 +1,6 @@
 //! Late clean-up: a decided number leaves the prepared tables.
-ghost use Rattle.std.specs.Prelude.{◌≡◌, ℕ, Some};
+ghost use Rattle.std.specs.Prelude.{◌≡◌, ℕ, true, Some};
+ghost use Rattle.wp_judge.specs.Words.{fits};
 ghost use Rattle.wp_model.specs.Decision.{decision_of};
 ghost use Rattle.wp_core.specs.Lists.{IsIn};
 ghost use Rattle.wp_core.specs.Views.{has_left};
@@ -13,7 +14,7 @@ use wp_outside::Disk;
 use wp_prepared::Prepared;
 use wp_shared::{Seat, Shared};
 
-/// Takes the number of a transaction that is decided out of the prepared heap, the delayed set and the delayed commits, once the
+/// Takes the number of a transaction that is decided, by a pair that fits a word, out of the prepared heap, the delayed set and the delayed commits, once the
 /// write turn is given, and notes that it has left the heap and the delayed set. It takes no memory.
 pub fn forget_prepared<D: Disk + Drop, R: Wait>(
     store: &Shared<D>,
@@ -22,7 +23,7 @@ pub fn forget_prepared<D: Disk + Drop, R: Wait>(
     p: Seq,
 )
     requires free { IsFree store.now.table seat.old }
-    requires decided { (c : ℕ) × (decision_of seat.old.knows.participant.seen p ≡ Some c) }
+    requires decided { (c : ℕ) × (decision_of seat.old.knows.participant.seen p ≡ Some c) × (fits store.now.cells (record { number = p; decision = c }) ≡ true) }
     ensures seat { Continues store.now seat.old seat.new seat.old.knows.participant }
     ensures same { seat.new.knows.participant ≡ seat.old.knows.participant }
     ensures gone { IsIn (has_left p) seat.new.knows.notes }

@@ -1,21 +1,22 @@
 //! Clearing words: the pairs that are there are made ready to go.
-ghost use Rattle.std.specs.Prelude.{◌≡◌, ◌≤◌, ◌<◌, ◌⊎◌, ℕ, suc, true, List, [], ◌∷◌, ◌++◌, length, Some, OnOk, OnErr};
-ghost use Rattle.wp_judge.specs.Words.{CommitPair};
-ghost use Rattle.wp_core.specs.Cache.{pair_at};
+ghost use Rattle.std.specs.Prelude.{◌≡◌, ◌≤◌, ◌<◌, ◌⊎◌, ℕ, suc, true, false, List, [], ◌∷◌, ◌++◌, length, Option, Some, OnOk, OnErr};
+ghost use Rattle.wp_judge.specs.Words.{CommitPair, fits};
+ghost use Rattle.wp_core.specs.Cache.{cache_place, pair_at};
 ghost use Rattle.wp_core.specs.Entries.{pairs_of};
 ghost use Rattle.wp_core.specs.Lists.{IsIn};
 ghost use Rattle.wp_core.specs.Tables.{writes, prepared, snapshots};
-ghost use Rattle.wp_core.specs.Views.{passed, in_old_commits, apart, words_stay};
+ghost use Rattle.wp_core.specs.Views.{passed, in_old_commits, apart, words_stay, none_waits};
 ghost use Rattle.wp_rule.specs.Knows.{Noted};
 ghost use Rattle.wp_commits.specs.Bound.{raised, bound_after, bound_with};
 ghost use Rattle.wp_commits.specs.Cleared.{IsThere, IsWanted, IsCleared, IsUnentered};
 ghost use Rattle.wp_shared.specs.Notes.{is_flag, GoesOn, DelayedFlagTells, OldFlagTells};
 ghost use Rattle.wp_commits.specs.Notes.{is_of_words};
-ghost use Rattle.wp_commits.specs.Ways.{way_of, ways_of, IsInWord, RisesFor, IsClearedFor, AreCleared};
+ghost use Rattle.wp_commits.specs.Ways.{way_of, ways_of, IsReached, Clears, AnyClears, RisesFor, IsClearedFor, AreCleared};
 ghost use Rattle.wp_commits.specs.declared.way.Way.{Way};
-ghost use Rattle.wp_commits.specs.declared.way.Way.TheVariants.{InWord};
+ghost use Rattle.wp_commits.specs.declared.way.Way.TheVariants.{Delayed};
 
 use crate::bound::bound_past;
+use crate::passing::pass;
 use crate::steps;
 use crate::way::Way;
 use std::alloc::AllocError;
@@ -56,7 +57,7 @@ fn raise_past<D: Disk + Drop>(
 }
 
 /// Under the prepared turn: the bound comes to the pair's decision, and where its number is prepared still it becomes a delayed
-/// commit.
+/// commit. It takes no memory.
 fn ready_prepared<D: Disk + Drop>(
     store: &Shared<D>,
     seat: &mut Seat<D>,
@@ -65,7 +66,7 @@ fn ready_prepared<D: Disk + Drop>(
     place: usize,
     p: Seq,
     c: Seq,
-) -> Result<(), AllocError>
+)
     requires seat { (seat.old.table ≡ store.now.table) × (seat.old.knows.live ≡ true) }
     requires held { seat.old.knows.held ≡ prepared tables.old ∷ writes log.now.table ∷ [] }
     requires wanted { IsWanted store.now.cells log.now.table place }
@@ -75,13 +76,12 @@ fn ready_prepared<D: Disk + Drop>(
     ensures flag { DelayedFlagTells seat.new.knows tables.new }
     ensures bound { (bound : ℕ) (words : List ℕ) → Noted seat.old.knows (words_stay bound words)
         → Noted seat.new.knows (words_stay (raised store.now.cells (length log.now.table.history) bound c) words) }
-    ensures ready { OnOk result (Noted seat.new.knows (passed place (record { number = p; decision = c })) × Noted seat.new.knows (apart place (record { number = p; decision = c }))) }
+    ensures ready { Noted seat.new.knows (passed place (record { number = p; decision = c })) × Noted seat.new.knows (apart place (record { number = p; decision = c })) }
 {
     raise_past(store, seat, log, tables, place, p, c);
     steps::note_passed(store, seat, log, place, p, c);
-    steps::delay(store, seat, log, tables, p, c)?;
+    steps::delay(store, seat, log, tables, p, c);
     steps::note_apart(store, seat, log, tables, place, p, c);
-    Ok(())
 }
 
 /// Under the snapshots turn: the pair's number is kept under each live number that overlaps it.
@@ -116,7 +116,7 @@ fn clear_prepared<D: Disk + Drop, R: Wait>(
     place: usize,
     p: Seq,
     c: Seq,
-) -> Result<(), AllocError>
+)
     requires seat { (seat.old.table ≡ store.now.table) × (seat.old.knows.live ≡ true) }
     requires held { seat.old.knows.held ≡ writes log.now.table ∷ [] }
     requires wanted { IsWanted store.now.cells log.now.table place }
@@ -124,12 +124,11 @@ fn clear_prepared<D: Disk + Drop, R: Wait>(
     ensures seat { GoesOn is_of_words (writes log.now.table ∷ []) seat.old.turns seat.old seat.new }
     ensures bound { (bound : ℕ) (words : List ℕ) → Noted seat.old.knows (words_stay bound words)
         → Noted seat.new.knows (words_stay (raised store.now.cells (length log.now.table.history) bound c) words) }
-    ensures ready { OnOk result (Noted seat.new.knows (passed place (record { number = p; decision = c })) × Noted seat.new.knows (apart place (record { number = p; decision = c }))) }
+    ensures ready { Noted seat.new.knows (passed place (record { number = p; decision = c })) × Noted seat.new.knows (apart place (record { number = p; decision = c })) }
 {
     let mut tables = store.take_turn::<Prepared, R>(rt, seat);
-    let result = ready_prepared(store, seat, log, &mut tables, place, p, c);
+    ready_prepared(store, seat, log, &mut tables, place, p, c);
     store.give_turn(seat, tables);
-    result
 }
 
 /// Takes the snapshots turn, makes the pair ready under it, and gives it.
@@ -232,7 +231,7 @@ fn clear_there<D: Disk + Drop, R: Wait>(
         clear_own(store, rt, seat, log, place, p, c);
         return Ok(());
     }
-    clear_prepared(store, rt, seat, log, place, p, c)?;
+    clear_prepared(store, rt, seat, log, place, p, c);
     clear_snaps(store, rt, seat, log, place, p, c)
 }
 
@@ -263,7 +262,82 @@ fn clear_place<D: Disk + Drop, R: Wait>(
     }
 }
 
-/// Makes ready what a pair needs that is kept in this way.
+/// Raises the bound to the number of a pair that is too wide for a word, under the prepared turn, where it has not come to it.
+fn reach<D: Disk + Drop, R: Wait>(
+    store: &Shared<D>,
+    rt: &R,
+    seat: &mut Seat<D>,
+    log: &Log<D>,
+    p: Seq,
+    c: Seq,
+)
+    requires seat { (seat.old.table ≡ store.now.table) × (seat.old.knows.live ≡ true) }
+    requires held { seat.old.knows.held ≡ writes log.now.table ∷ [] }
+    requires wanted { IsIn (record { number = p; decision = c }) (pairs_of (suc (length log.now.table.history)) log.now.table.pending) }
+    requires wide { fits store.now.cells (record { number = p; decision = c }) ≡ false }
+    requires words { (bound : ℕ) × (words : List ℕ) × Noted seat.old.knows (words_stay bound words) }
+    ensures seat { GoesOn is_of_words (writes log.now.table ∷ []) seat.old.turns seat.old seat.new }
+    ensures bound { (bound : ℕ) (words : List ℕ) → Noted seat.old.knows (words_stay bound words)
+        → Noted seat.new.knows (words_stay (bound_with store.now.cells (length log.now.table.history) bound words (Delayed p c)) words) }
+{
+    let bound = steps::bound(store, seat);
+    if p <= bound {
+        return;
+    }
+    let mut tables = store.take_turn::<Prepared, R>(rt, seat);
+    steps::raise(store, seat, log, &mut tables, p);
+    store.give_turn(seat, tables);
+}
+
+/// Makes ready what a pair needs that is kept in its word, and takes out of the prepared tables what the bound has passed.
+fn clear_word<D: Disk + Drop, R: Wait>(
+    store: &Shared<D>,
+    rt: &R,
+    seat: &mut Seat<D>,
+    log: &Log<D>,
+    p: Seq,
+) -> Result<(), AllocError>
+    requires seat { (seat.old.table ≡ store.now.table) × (seat.old.knows.live ≡ true) }
+    requires held { seat.old.knows.held ≡ writes log.now.table ∷ [] }
+    requires wanted { IsWanted store.now.cells log.now.table (cache_place store.now.cells p) }
+    requires words { (bound : ℕ) × (words : List ℕ) × Noted seat.old.knows (words_stay bound words) }
+    requires unentered { IsUnentered seat.old.knows store.now.cells log.now.table }
+    ensures seat { GoesOn is_of_words (writes log.now.table ∷ []) seat.old.turns seat.old seat.new }
+    ensures bound { (bound : ℕ) (words : List ℕ) → Noted seat.old.knows (words_stay bound words)
+        → Noted seat.new.knows (words_stay (bound_after store.now.cells (length log.now.table.history) bound (pair_at words (cache_place store.now.cells p))) words) }
+    ensures cleared { OnOk result (IsCleared seat.new.knows (cache_place store.now.cells p)) }
+    ensures waits { OnOk result (Noted seat.new.knows none_waits) }
+{
+    let place = store.place_of(p);
+    clear_place(store, rt, seat, log, place)?;
+    pass(store, rt, seat, log)
+}
+
+/// The same for a pair that is too wide for a word.
+fn clear_wide<D: Disk + Drop, R: Wait>(
+    store: &Shared<D>,
+    rt: &R,
+    seat: &mut Seat<D>,
+    log: &Log<D>,
+    p: Seq,
+    c: Seq,
+) -> Result<(), AllocError>
+    requires seat { (seat.old.table ≡ store.now.table) × (seat.old.knows.live ≡ true) }
+    requires held { seat.old.knows.held ≡ writes log.now.table ∷ [] }
+    requires wanted { IsIn (record { number = p; decision = c }) (pairs_of (suc (length log.now.table.history)) log.now.table.pending) }
+    requires wide { fits store.now.cells (record { number = p; decision = c }) ≡ false }
+    requires words { (bound : ℕ) × (words : List ℕ) × Noted seat.old.knows (words_stay bound words) }
+    ensures seat { GoesOn is_of_words (writes log.now.table ∷ []) seat.old.turns seat.old seat.new }
+    ensures bound { (bound : ℕ) (words : List ℕ) → Noted seat.old.knows (words_stay bound words)
+        → Noted seat.new.knows (words_stay (bound_with store.now.cells (length log.now.table.history) bound words (Delayed p c)) words) }
+    ensures cleared { OnOk result (IsReached seat.new.knows p) }
+    ensures waits { OnOk result (Noted seat.new.knows none_waits) }
+{
+    reach(store, rt, seat, log, p, c);
+    pass(store, rt, seat, log)
+}
+
+/// Makes ready what a pair needs that is kept in this way, and takes out of the prepared tables what the bound has passed.
 fn clear<D: Disk + Drop, R: Wait>(
     store: &Shared<D>,
     rt: &R,
@@ -273,26 +347,26 @@ fn clear<D: Disk + Drop, R: Wait>(
 ) -> Result<(), AllocError>
     requires seat { (seat.old.table ≡ store.now.table) × (seat.old.knows.live ≡ true) }
     requires held { seat.old.knows.held ≡ writes log.now.table ∷ [] }
-    requires wanted { (pair : CommitPair) → way ≡ way_of (Some pair) → IsIn pair (pairs_of (suc (length log.now.table.history)) log.now.table.pending) }
+    requires wanted { (o : Option CommitPair) × (way ≡ way_of store.now.cells o) × ((pair : CommitPair) → o ≡ Some pair → IsIn pair (pairs_of (suc (length log.now.table.history)) log.now.table.pending)) }
     requires words { (bound : ℕ) × (words : List ℕ) × Noted seat.old.knows (words_stay bound words) }
     requires unentered { IsUnentered seat.old.knows store.now.cells log.now.table }
     ensures seat { GoesOn is_of_words (writes log.now.table ∷ []) seat.old.turns seat.old seat.new }
     ensures bound { (bound : ℕ) (words : List ℕ) → Noted seat.old.knows (words_stay bound words)
         → Noted seat.new.knows (words_stay (bound_with store.now.cells (length log.now.table.history) bound words way) words) }
     ensures cleared { OnOk result (IsClearedFor seat.new.knows store.now.cells way) }
-    ensures wanting { OnErr result (IsInWord way) }
+    ensures waits { OnOk result (Clears way ⊎ Noted seat.old.knows none_waits → Noted seat.new.knows none_waits) }
+    ensures wanting { OnErr result (Clears way) }
 {
     match way {
         Way::Undecided => Ok(()),
-        Way::InWord(p, _) => {
-            let place = store.place_of(p);
-            clear_place(store, rt, seat, log, place)
-        }
+        Way::InWord(p, _) => clear_word(store, rt, seat, log, p),
+        Way::Delayed(p, c) => clear_wide(store, rt, seat, log, p, c),
     }
 }
 
 /// Makes ready what the pairs of the pending entries need, one after another. All memory that this needs is taken here. Where it
-/// is wanting the bound has risen all the same, for those up to the one for which it was wanting.
+/// is wanting the bound has risen all the same, for those up to the one for which it was wanting. At the end no prepared number waits
+/// to be taken out: each that is decided at the bound or before is in its word.
 pub fn clear_all<D: Disk + Drop, R: Wait>(
     store: &Shared<D>,
     rt: &R,
@@ -304,17 +378,19 @@ pub fn clear_all<D: Disk + Drop, R: Wait>(
     requires words { (bound : ℕ) × (words : List ℕ) × Noted seat.old.knows (words_stay bound words) }
     requires unentered { IsUnentered seat.old.knows store.now.cells log.now.table }
     ensures seat { GoesOn is_of_words seat.old.knows.held seat.old.turns seat.old seat.new }
-    ensures bound { OnOk result (RisesFor store.now.cells (length log.now.table.history) seat.old.knows seat.new.knows (ways_of (suc (length log.now.table.history)) log.now.table.pending)) }
-    ensures refused { OnErr result ((front : List Way) × (p : ℕ) × (c : ℕ) × (back : List Way) × (ways_of (suc (length log.now.table.history)) log.now.table.pending ≡ front ++ InWord p c ∷ back)
-        × RisesFor store.now.cells (length log.now.table.history) seat.old.knows seat.new.knows (front ++ InWord p c ∷ [])) }
-    ensures cleared { OnOk result (AreCleared seat.new.knows store.now.cells (ways_of (suc (length log.now.table.history)) log.now.table.pending)) }
+    ensures bound { OnOk result (RisesFor store.now.cells (length log.now.table.history) seat.old.knows seat.new.knows (ways_of store.now.cells (suc (length log.now.table.history)) log.now.table.pending)) }
+    ensures refused { OnErr result ((front : List Way) × (way : Way) × (back : List Way) × Clears way × (ways_of store.now.cells (suc (length log.now.table.history)) log.now.table.pending ≡ front ++ way ∷ back)
+        × RisesFor store.now.cells (length log.now.table.history) seat.old.knows seat.new.knows (front ++ way ∷ [])) }
+    ensures cleared { OnOk result (AreCleared seat.new.knows store.now.cells (ways_of store.now.cells (suc (length log.now.table.history)) log.now.table.pending)) }
+    ensures waits { OnOk result (AnyClears (ways_of store.now.cells (suc (length log.now.table.history)) log.now.table.pending) → Noted seat.new.knows none_waits) }
 {
     log.shows_told();
+    let bits = store.bits();
     let entries = log.pending();
     let mut n = log.published();
     for entry in entries {
         n += 1;
-        clear(store, rt, seat, log, Way::of(entry, n))?;
+        clear(store, rt, seat, log, Way::of(bits, entry, n))?;
     }
     Ok(())
 }

@@ -1,15 +1,16 @@
 //! Entering a pair: its word takes the place of what was there.
-ghost use Rattle.std.specs.Prelude.{◌≡◌, ◌≢◌, ◌<◌, ℕ, true, List, [], ◌∷◌, length, Some};
+ghost use Rattle.std.specs.Prelude.{◌≡◌, ◌≢◌, ◌<◌, ◌≤◌, ℕ, true, false, List, [], ◌∷◌, length, Some};
+ghost use Rattle.wp_judge.specs.Words.{fits};
 ghost use Rattle.wp_core.specs.Cache.{cache_place, pair_at, with_pair};
 ghost use Rattle.wp_core.specs.Entries.{pending_pair};
 ghost use Rattle.wp_core.specs.Tables.{writes};
-ghost use Rattle.wp_core.specs.Views.{words_stay};
+ghost use Rattle.wp_core.specs.Views.{words_stay, pair_delayed};
 ghost use Rattle.wp_rule.specs.Knows.{Noted};
 ghost use Rattle.wp_commits.specs.Bound.{bound_after, bound_with};
 ghost use Rattle.wp_commits.specs.Cleared.{IsWanted, IsCleared, IsReadyAt};
 ghost use Rattle.wp_shared.specs.Notes.{GoesOn};
-ghost use Rattle.wp_commits.specs.Notes.{is_of_words, is_of_place};
-ghost use Rattle.wp_commits.specs.Ways.{way_of, is_of_way, with_way, IsReadyFor, IsElsewhere, IsEntered};
+ghost use Rattle.wp_commits.specs.Notes.{is_of_words, is_of_delayed, is_of_place};
+ghost use Rattle.wp_commits.specs.Ways.{way_of, is_of_way, with_way, IsReached, IsReadyFor, IsElsewhere, IsEntered};
 
 use crate::clear::clear_own;
 use crate::steps;
@@ -18,6 +19,7 @@ use std::sync::Wait;
 use wp_model::Seq;
 use wp_outside::Disk;
 use wp_parts::Log;
+use wp_prepared::Prepared;
 use wp_shared::{Seat, Shared};
 
 /// Makes the word at this place ready to be replaced, as far as it was not cleared. It takes no memory.
@@ -58,6 +60,7 @@ fn enter_pair<D: Disk + Drop, R: Wait>(
     requires held { seat.old.knows.held ≡ writes log.now.table ∷ [] }
     requires words { (bound : ℕ) × (words : List ℕ) × Noted seat.old.knows (words_stay bound words) }
     requires pending { pending_pair log.now.table.history log.now.table.pending ≡ Some (record { number = p; decision = c }) }
+    requires narrow { fits store.now.cells (record { number = p; decision = c }) ≡ true }
     requires ready { IsReadyAt seat.old.knows (length log.now.table.history) (cache_place store.now.cells p) }
     ensures seat { GoesOn (is_of_place (cache_place store.now.cells p)) seat.old.knows.held seat.old.turns seat.old seat.new }
     ensures words { (bound : ℕ) (words : List ℕ) → Noted seat.old.knows (words_stay bound words)
@@ -70,21 +73,46 @@ fn enter_pair<D: Disk + Drop, R: Wait>(
     steps::put_word(store, seat, log, place, p, c);
 }
 
-/// Keeps the pair of the first pending entry in its way: stores its word. Its place is cleared; or it has the pair of a version that
-/// decided itself, as where the second pair of a rollback comes to the place of its first. It takes no memory.
+/// Makes the pending entry's pair a delayed commit, under the prepared turn.
+fn enter_delayed<D: Disk + Drop, R: Wait>(
+    store: &Shared<D>,
+    rt: &R,
+    seat: &mut Seat<D>,
+    log: &Log<D>,
+    p: Seq,
+    c: Seq,
+)
+    requires seat { (seat.old.table ≡ store.now.table) × (seat.old.knows.live ≡ true) }
+    requires held { seat.old.knows.held ≡ writes log.now.table ∷ [] }
+    requires pending { pending_pair log.now.table.history log.now.table.pending ≡ Some (record { number = p; decision = c }) }
+    requires wide { fits store.now.cells (record { number = p; decision = c }) ≡ false }
+    requires reached { IsReached seat.old.knows p }
+    ensures seat { GoesOn is_of_delayed seat.old.knows.held seat.old.turns seat.old seat.new }
+    ensures there { Noted seat.new.knows pair_delayed }
+    ensures low { (bound : ℕ) (words : List ℕ) → Noted seat.old.knows (words_stay bound words) → p ≤ bound }
+{
+    let mut tables = store.take_turn::<Prepared, R>(rt, seat);
+    steps::delay_pending(store, seat, log, &mut tables, p, c);
+    store.give_turn(seat, tables);
+}
+
+/// Keeps the pair of the first pending entry in its way: stores its word, or makes it a delayed commit. The word's place is cleared; or
+/// it has the pair of a version that decided itself, as where the second pair of a rollback comes to the place of its first. It takes
+/// no memory.
 pub fn enter<D: Disk + Drop, R: Wait>(store: &Shared<D>, rt: &R, seat: &mut Seat<D>, log: &Log<D>)
     requires seat { (seat.old.table ≡ store.now.table) × (seat.old.knows.live ≡ true) }
     requires held { seat.old.knows.held ≡ writes log.now.table ∷ [] }
     requires words { (bound : ℕ) × (words : List ℕ) × Noted seat.old.knows (words_stay bound words) }
-    requires ready { IsReadyFor seat.old.knows store.now.cells (length log.now.table.history) (way_of (pending_pair log.now.table.history log.now.table.pending)) }
-    ensures seat { GoesOn (is_of_way store.now.cells (way_of (pending_pair log.now.table.history log.now.table.pending))) seat.old.knows.held seat.old.turns seat.old seat.new }
+    requires ready { IsReadyFor seat.old.knows store.now.cells (length log.now.table.history) (way_of store.now.cells (pending_pair log.now.table.history log.now.table.pending)) }
+    ensures seat { GoesOn (is_of_way store.now.cells (way_of store.now.cells (pending_pair log.now.table.history log.now.table.pending))) seat.old.knows.held seat.old.turns seat.old seat.new }
     ensures words { (bound : ℕ) (words : List ℕ) → Noted seat.old.knows (words_stay bound words)
-        → Noted seat.new.knows (words_stay (bound_with store.now.cells (length log.now.table.history) bound words (way_of (pending_pair log.now.table.history log.now.table.pending))) (with_way words (way_of (pending_pair log.now.table.history log.now.table.pending)))) }
-    ensures there { (bound : ℕ) (words : List ℕ) → Noted seat.new.knows (words_stay bound words) → IsEntered store.now.cells words (way_of (pending_pair log.now.table.history log.now.table.pending)) }
-    ensures elsewhere { (place : ℕ) → IsElsewhere store.now.cells place (way_of (pending_pair log.now.table.history log.now.table.pending)) → IsReadyAt seat.old.knows (length log.now.table.history) place → IsReadyAt seat.new.knows (length log.now.table.history) place }
+        → Noted seat.new.knows (words_stay (bound_with store.now.cells (length log.now.table.history) bound words (way_of store.now.cells (pending_pair log.now.table.history log.now.table.pending))) (with_way words (way_of store.now.cells (pending_pair log.now.table.history log.now.table.pending)))) }
+    ensures there { (bound : ℕ) (words : List ℕ) → Noted seat.new.knows (words_stay bound words) → IsEntered seat.new.knows store.now.cells words (way_of store.now.cells (pending_pair log.now.table.history log.now.table.pending)) }
+    ensures elsewhere { (place : ℕ) → IsElsewhere store.now.cells place (way_of store.now.cells (pending_pair log.now.table.history log.now.table.pending)) → IsReadyAt seat.old.knows (length log.now.table.history) place → IsReadyAt seat.new.knows (length log.now.table.history) place }
 {
-    match next_way(log) {
+    match next_way(store.bits(), log) {
         Way::Undecided => {}
         Way::InWord(p, c) => enter_pair(store, rt, seat, log, p, c),
+        Way::Delayed(p, c) => enter_delayed(store, rt, seat, log, p, c),
     }
 }

@@ -12,13 +12,17 @@
 //! A pair that decided itself, of a direct write or of an undo, overlaps no snapshot and is no prepared one's: for it the bound
 //! alone may have to rise.
 //!
+//! A pair whose numbers are too far apart has no word. It becomes a delayed commit where its word would be stored, once the bound has
+//! come to its number, so that a reader looks for it there; and it waits in the prepared tables until a later clearing finds the bound
+//! at its decision. Each clearing takes out all that the bound has passed so, under both turns.
+//!
 //! That the pair may go is noted, and stays so until the word is stored, whatever others do: `clear_all` takes all memory before
 //! a record is logged, for each pair that its entries decide, and `enter` stores the word of one after it and takes none. A pair may
 //! take the place of an earlier one of its record that decided itself. `Way` says how a pair is kept. `forget_prepared` is the late
 //! clean-up.
 //!
 //! The calls are made of small ones in `steps`, one for each step of the machine of `wp_core`, that say what is left of the seat.
-//! The turns are taken in their order, and each is given before the next. All calls wait.
+//! The turns are taken in their order. All calls wait.
 #![tactic(auto)]
 
 mod bound;
@@ -27,6 +31,7 @@ mod clear;
 mod entering;
 pub mod laws;
 mod pair_note;
+mod passing;
 mod steps;
 mod way;
 

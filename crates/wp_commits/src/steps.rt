@@ -1,25 +1,29 @@
 //! The steps of the machine that the calls make, each as what it leaves of the seat.
-ghost use Rattle.std.specs.Prelude.{◌≡◌, ◌≢◌, ◌⊎◌, ◌≤◌, ◌<◌, ℕ, true, List, [], ◌∷◌, length, Some, IfSome, OnOk};
+ghost use Rattle.std.specs.Prelude.{◌≡◌, ◌≢◌, ◌⊎◌, ◌≤◌, ◌<◌, ℕ, true, false, List, [], ◌∷◌, length, Some, IfSome, OnOk, MatchBool, MatchOption};
+ghost use Rattle.std.specs.FinSet as set;
+ghost use Rattle.std.specs.FinMap as map;
 ghost use Rattle.std.specs.Option.{option_map};
-ghost use Rattle.wp_judge.specs.Words.{numbers_of};
+ghost use Rattle.wp_judge.specs.Words.{numbers_of, fits};
 ghost use Rattle.wp_model.specs.Decision.{decision_of};
 ghost use Rattle.wp_model.specs.PreparedTables.{PreparedTables, commits_with, NoneDelayed};
 ghost use Rattle.wp_model.specs.Snapshots.{Snapshots, ChangesWhere, overlaps, after_keep, NoOldCommits};
 ghost use Rattle.wp_core.specs.Cache.{cache_place, pair_at, with_pair};
 ghost use Rattle.wp_core.specs.Entries.{pending_pair};
 ghost use Rattle.wp_core.specs.Lists.{IsIn};
-ghost use Rattle.wp_core.specs.Tables.{writes, prepared, snapshots, without_prepared, with_moved};
+ghost use Rattle.wp_core.specs.Tables.{Content, writes, prepared, snapshots, without_prepared, with_moved};
 ghost use Rattle.wp_core.specs.Sound.Prepared.{IsInOldCommits};
 ghost use Rattle.wp_core.specs.Sound.Views.{IsApart};
 ghost use Rattle.wp_core.specs.Steps as step;
-ghost use Rattle.wp_core.specs.Views.{passed, in_old_commits, apart, words_stay, has_left, delayed_flag_stays, old_flag_stays};
+ghost use Rattle.wp_core.specs.Views.{passed, in_old_commits, apart, words_stay, has_left, pair_delayed, none_waits, delayed_flag_stays, old_flag_stays};
 ghost use Rattle.wp_rule.specs.Knows.{Holding, Noted, KnowsFact, IsRise};
 ghost use Rattle.wp_shared.specs.Seats.{place_at};
 ghost use Rattle.wp_commits.specs.Cleared.{IsThere, IsCleared, IsReadyAt, IsUnentered};
 ghost use Rattle.wp_commits.specs.PairNotes.{fact_of};
-ghost use Rattle.wp_commits.specs.Making.{noting_all, noted_all, delaying, keeping};
+ghost use Rattle.wp_commits.specs.Making.{noting_all, noted_all, noting_none_waits, delaying, keeping};
+ghost use Rattle.wp_commits.specs.Passing.{NoneReached, IsReachedCommit};
+ghost use Rattle.wp_commits.specs.Ways.{IsReached};
 ghost use Rattle.wp_shared.specs.Notes.{noting, is_flag, GoesOn, FlagTells, DelayedFlagTells, OldFlagTells};
-ghost use Rattle.wp_commits.specs.Notes.{is_of_words, is_of_place};
+ghost use Rattle.wp_commits.specs.Notes.{is_of_words, is_of_delayed, is_of_place};
 
 use crate::pair_note::PairNote;
 use std::alloc::AllocError;
@@ -60,7 +64,8 @@ pub fn pair<D: Disk + Drop>(
     ensures pair { (bound : ℕ) (words : List ℕ) → Noted seat.old.knows (words_stay bound words) → result ≡ option_map numbers_of (pair_at words place) }
     ensures there { IfSome result (λ r. IsThere seat.old.knows log.now.table.history place r.0 r.1) }
 {
-    unpack(store.word(seat, place))
+    let bits = store.bits();
+    unpack(bits, place, store.word(seat, place))
 }
 
 // ---- notes
@@ -189,6 +194,7 @@ pub fn put_word<D: Disk + Drop>(
     requires held { IsIn (writes log.now.table) seat.old.knows.held }
     requires place { (place ≡ cache_place store.now.cells p) × (place < store.now.cells) }
     requires pending { pending_pair log.now.table.history log.now.table.pending ≡ Some (record { number = p; decision = c }) }
+    requires narrow { fits store.now.cells (record { number = p; decision = c }) ≡ true }
     requires cleared { IsCleared seat.old.knows place }
     ensures seat { GoesOn (is_of_place place) seat.old.knows.held seat.old.turns seat.old seat.new }
     ensures words { (bound : ℕ) (words : List ℕ) → Noted seat.old.knows (words_stay bound words) → Noted seat.new.knows (words_stay bound (with_pair words (record { number = p; decision = c }))) }
@@ -196,7 +202,8 @@ pub fn put_word<D: Disk + Drop>(
     ensures elsewhere { (published i : ℕ) → i ≢ place → IsReadyAt seat.old.knows published i → IsReadyAt seat.new.knows published i }
 {
     log.shows_told();
-    store.store_word(seat, place, pack(p, c));
+    let bits = store.bits();
+    store.store_word(seat, place, pack(bits, p, c));
 }
 
 // ---- under the prepared turn
@@ -207,6 +214,7 @@ fn put_delayed_flag<D: Disk + Drop>(store: &Shared<D>, seat: &mut Seat<D>, none:
     requires none { Holding seat.old.knows prepared (λ t. none ≡ true → NoneDelayed t) }
     ensures seat { GoesOn is_flag seat.old.knows.held seat.old.turns seat.old seat.new }
     ensures flag { FlagTells seat.new.knows delayed_flag_stays (none ≡ true) }
+    ensures other { (value : ℕ) → Noted seat.old.knows (old_flag_stays value) → Noted seat.new.knows (old_flag_stays value) }
 {
     store.store_delayed_flag(seat, u64::from(!none));
 }
@@ -223,6 +231,7 @@ fn fit_delayed_flag<D: Disk + Drop>(
     requires flag { FlagTells seat.old.knows delayed_flag_stays (was_none ≡ true) }
     ensures seat { GoesOn is_flag seat.old.knows.held seat.old.turns seat.old seat.new }
     ensures flag { DelayedFlagTells seat.new.knows tables.now }
+    ensures other { (value : ℕ) → Noted seat.old.knows (old_flag_stays value) → Noted seat.new.knows (old_flag_stays value) }
 {
     let none = tables.none_delayed();
     if none == was_none {
@@ -292,7 +301,19 @@ pub fn raise<D: Disk + Drop>(
     raise_bound(store, seat, log, tables, m);
 }
 
-/// Makes the pair a delayed commit where its number is prepared, with the flag up.
+/// Tells where a number is that the bound has come to: the heap has it no more.
+fn shows_reached<D: Disk + Drop>(store: &Shared<D>, seat: &mut Seat<D>, tables: &Prepared, p: Seq)
+    requires seat { seat.old.table ≡ store.now.table }
+    requires held { IsIn (prepared tables.now) seat.old.knows.held }
+    requires reached { IsReached seat.old.knows p }
+    ensures same { seat.new ≡ seat.old }
+    ensures left { set.contains tables.now.heap p ≡ false }
+{
+    store.shows_world(seat);
+}
+
+/// Makes the pair, to whose decision the bound has come, a delayed commit where its number is prepared, with the flag up. It takes no
+/// memory.
 pub fn delay<D: Disk + Drop>(
     store: &Shared<D>,
     seat: &mut Seat<D>,
@@ -300,20 +321,91 @@ pub fn delay<D: Disk + Drop>(
     tables: &mut Prepared,
     p: Seq,
     c: Seq,
-) -> Result<(), AllocError>
+)
     requires seat { seat.old.table ≡ store.now.table }
     requires held { seat.old.knows.held ≡ prepared tables.old ∷ writes log.now.table ∷ [] }
     requires decided { decision_of log.now.table.history p ≡ Some c }
+    requires reached { IsReached seat.old.knows p }
     requires flag { DelayedFlagTells seat.old.knows tables.old }
     ensures seat { GoesOn is_flag (prepared tables.new ∷ writes log.now.table ∷ []) seat.old.turns seat.old seat.new }
     ensures flag { DelayedFlagTells seat.new.knows tables.new }
-    ensures apart { OnOk result (IsApart tables.new (record { number = p; decision = c })) }
+    ensures apart { IsApart tables.new (record { number = p; decision = c }) }
 {
+    shows_reached(store, seat, tables, p);
     let none = tables.none_delayed();
-    tables.note_evicted(p, c)?;
+    tables.note_evicted(p, c);
     fit_delayed_flag(store, seat, tables, none);
     add_delayed_commit::<D, Brand>(store, seat, log, tables, p, c);
-    Ok(())
+}
+
+/// Makes the pending entry's pair a delayed commit, in step with the tables.
+fn delay_pending_by<D: Disk + Drop, J: Moves>(
+    store: &Shared<D>,
+    seat: &mut Seat<D>,
+    log: &Log<D>,
+    tables: &Prepared,
+    p: Seq,
+    c: Seq,
+)
+    requires seat { seat.old.table ≡ store.now.table }
+    requires place { J.place ≡ place_at store.now seat.old.by }
+    requires steps { J.steps ≡ (λ w. step.delay_pending (record { number = p; decision = c }) ∷ []) }
+    requires held { (t : PreparedTables) × (seat.old.knows.held ≡ prepared t ∷ writes log.now.table ∷ []) × (tables.now ≡ record t { delayed_commits = map.insert t.delayed_commits p c }) }
+    requires pending { pending_pair log.now.table.history log.now.table.pending ≡ Some (record { number = p; decision = c }) }
+    requires flag { DelayedFlagTells seat.old.knows tables.now }
+    ensures seat { GoesOn is_of_delayed (prepared tables.now ∷ writes log.now.table ∷ []) seat.old.turns seat.old seat.new }
+    ensures flag { DelayedFlagTells seat.new.knows tables.now }
+{
+    store.make::<J>(seat);
+}
+
+/// Tells that a number of the pending entry's pair, to which the bound has come, is delayed.
+fn shows_delayed<D: Disk + Drop>(
+    store: &Shared<D>,
+    seat: &mut Seat<D>,
+    log: &Log<D>,
+    tables: &Prepared,
+    p: Seq,
+    c: Seq,
+)
+    requires seat { seat.old.table ≡ store.now.table }
+    requires held { seat.old.knows.held ≡ prepared tables.now ∷ writes log.now.table ∷ [] }
+    requires pending { pending_pair log.now.table.history log.now.table.pending ≡ Some (record { number = p; decision = c }) }
+    requires wide { fits store.now.cells (record { number = p; decision = c }) ≡ false }
+    requires reached { IsReached seat.old.knows p }
+    ensures same { seat.new ≡ seat.old }
+    ensures delayed { set.contains tables.now.delayed p ≡ true }
+    ensures low { (bound : ℕ) (words : List ℕ) → Noted seat.old.knows (words_stay bound words) → p ≤ bound }
+{
+    store.shows_world(seat);
+}
+
+/// Makes the pending entry's pair a delayed commit, with the flag up, and notes it. The bound has come to its number. It takes no memory.
+pub fn delay_pending<D: Disk + Drop>(
+    store: &Shared<D>,
+    seat: &mut Seat<D>,
+    log: &Log<D>,
+    tables: &mut Prepared,
+    p: Seq,
+    c: Seq,
+)
+    requires seat { (seat.old.table ≡ store.now.table) × (seat.old.knows.live ≡ true) }
+    requires held { seat.old.knows.held ≡ prepared tables.old ∷ writes log.now.table ∷ [] }
+    requires pending { pending_pair log.now.table.history log.now.table.pending ≡ Some (record { number = p; decision = c }) }
+    requires wide { fits store.now.cells (record { number = p; decision = c }) ≡ false }
+    requires reached { IsReached seat.old.knows p }
+    requires flag { DelayedFlagTells seat.old.knows tables.old }
+    ensures seat { GoesOn is_of_delayed (prepared tables.new ∷ writes log.now.table ∷ []) seat.old.turns seat.old seat.new }
+    ensures flag { DelayedFlagTells seat.new.knows tables.new }
+    ensures there { Noted seat.new.knows pair_delayed }
+    ensures low { (bound : ℕ) (words : List ℕ) → Noted seat.old.knows (words_stay bound words) → p ≤ bound }
+{
+    shows_delayed(store, seat, log, tables, p, c);
+    let none = tables.none_delayed();
+    tables.add_commit(p, c);
+    fit_delayed_flag(store, seat, tables, none);
+    delay_pending_by::<D, Brand>(store, seat, log, tables, p, c);
+    note(store, seat, PairNote::PairDelayed);
 }
 
 fn forget_prepared_by<D: Disk + Drop, J: Moves>(
@@ -326,7 +418,7 @@ fn forget_prepared_by<D: Disk + Drop, J: Moves>(
     requires place { J.place ≡ place_at store.now seat.old.by }
     requires steps { J.steps ≡ (λ w. step.take_out p ∷ step.note (has_left p) ∷ []) }
     requires held { (t : PreparedTables) × (seat.old.knows.held ≡ prepared t ∷ []) × (tables.now ≡ without_prepared t p) }
-    requires decided { (c : ℕ) × (decision_of seat.old.knows.participant.seen p ≡ Some c) }
+    requires decided { (c : ℕ) × (decision_of seat.old.knows.participant.seen p ≡ Some c) × (fits store.now.cells (record { number = p; decision = c }) ≡ true) }
     ensures { seat.new ≡ noting (has_left p) (record seat.old { knows = record seat.old.knows { held = prepared tables.now ∷ [] } }) }
 {
     store.make::<J>(seat);
@@ -342,7 +434,7 @@ pub fn forget_prepared<D: Disk + Drop>(
 )
     requires seat { (seat.old.table ≡ store.now.table) × (seat.old.knows.live ≡ true) }
     requires held { seat.old.knows.held ≡ prepared tables.old ∷ [] }
-    requires decided { (c : ℕ) × (decision_of seat.old.knows.participant.seen p ≡ Some c) }
+    requires decided { (c : ℕ) × (decision_of seat.old.knows.participant.seen p ≡ Some c) × (fits store.now.cells (record { number = p; decision = c }) ≡ true) }
     requires flag { DelayedFlagTells seat.old.knows tables.old }
     ensures seat { GoesOn is_flag (prepared tables.new ∷ []) seat.old.turns seat.old seat.new }
     ensures flag { DelayedFlagTells seat.new.knows tables.new }
@@ -355,6 +447,126 @@ pub fn forget_prepared<D: Disk + Drop>(
     fit_delayed_flag(store, seat, tables, none);
 }
 
+// ---- delayed commits that the bound has passed
+
+fn look<D: Disk + Drop, J: Moves>(store: &Shared<D>, seat: &mut Seat<D>, log: &Log<D>) -> u64
+    requires seat { (seat.old.table ≡ store.now.table) × (seat.old.knows.live ≡ true) }
+    requires place { J.place ≡ place_at store.now seat.old.by }
+    requires steps { J.steps ≡ noting_none_waits }
+    requires held { IsIn (writes log.now.table) seat.old.knows.held }
+    ensures none { result ≡ 0 → seat.new ≡ noting none_waits seat.old }
+    ensures some { result ≢ 0 → seat.new ≡ seat.old }
+{
+    store.load_delayed_flag::<J>(seat)
+}
+
+/// Whether nothing is delayed, by the delayed flag alone. Where nothing is, no prepared number waits to be taken out, which is noted.
+pub fn none_delayed<D: Disk + Drop>(store: &Shared<D>, seat: &mut Seat<D>, log: &Log<D>) -> bool
+    requires seat { (seat.old.table ≡ store.now.table) × (seat.old.knows.live ≡ true) }
+    requires held { IsIn (writes log.now.table) seat.old.knows.held }
+    ensures { MatchBool result (seat.new ≡ noting none_waits seat.old) (seat.new ≡ seat.old) }
+{
+    look::<D, Brand>(store, seat, log) == 0
+}
+
+/// Tells of delayed commits up to the bound that they are decided so.
+fn bound_with_commits<D: Disk + Drop>(
+    store: &Shared<D>,
+    seat: &mut Seat<D>,
+    log: &Log<D>,
+    tables: &Prepared,
+) -> Seq
+    requires seat { seat.old.table ≡ store.now.table }
+    requires held { IsIn (writes log.now.table) seat.old.knows.held × IsIn (prepared tables.now) seat.old.knows.held }
+    ensures same { seat.new ≡ seat.old }
+    ensures bound { (bound : ℕ) (words : List ℕ) → Noted seat.old.knows (words_stay bound words) → result ≡ bound }
+    ensures decided { (q d : ℕ) → map.get tables.now.delayed_commits q ≡ Some d → d ≤ result → (decision_of log.now.table.history q ≡ Some d) × (q ≤ d) }
+{
+    store.max(seat)
+}
+
+/// Of the delayed commits to which the bound has come the one of the least number.
+pub fn passed<D: Disk + Drop>(
+    store: &Shared<D>,
+    seat: &mut Seat<D>,
+    log: &Log<D>,
+    tables: &Prepared,
+) -> Option<(Seq, Seq)>
+    requires seat { seat.old.table ≡ store.now.table }
+    requires held { IsIn (writes log.now.table) seat.old.knows.held × IsIn (prepared tables.now) seat.old.knows.held }
+    requires words { (bound : ℕ) × (words : List ℕ) × Noted seat.old.knows (words_stay bound words) }
+    ensures same { seat.new ≡ seat.old }
+    ensures passed { MatchOption result (NoneReached seat.old.knows tables.now.delayed_commits) (IsReachedCommit seat.old.knows log.now.table.history tables.now.delayed_commits) }
+{
+    let bound = bound_with_commits(store, seat, log, tables);
+    tables.passed(bound)
+}
+
+/// Notes that no prepared number waits to be taken out: the bound has come to no delayed commit.
+pub fn note_none_waits<D: Disk + Drop>(
+    store: &Shared<D>,
+    seat: &mut Seat<D>,
+    log: &Log<D>,
+    tables: &Prepared,
+)
+    requires seat { (seat.old.table ≡ store.now.table) × (seat.old.knows.live ≡ true) }
+    requires held { IsIn (writes log.now.table) seat.old.knows.held × IsIn (prepared tables.now) seat.old.knows.held }
+    requires none { NoneReached seat.old.knows tables.now.delayed_commits }
+    ensures { seat.new ≡ noting none_waits seat.old }
+{
+    note(store, seat, PairNote::NoneWaits);
+}
+
+/// Takes the number out, in step with the tables.
+fn let_go_by<D: Disk + Drop, J: Moves>(
+    store: &Shared<D>,
+    seat: &mut Seat<D>,
+    log: &Log<D>,
+    tables: &Prepared,
+    snaps: &Snaps,
+    p: Seq,
+    c: Seq,
+)
+    requires seat { seat.old.table ≡ store.now.table }
+    requires place { J.place ≡ place_at store.now seat.old.by }
+    requires steps { J.steps ≡ (λ w. step.take_out p ∷ []) }
+    requires held { (t : PreparedTables) × (seat.old.knows.held ≡ snapshots snaps.now ∷ prepared t ∷ writes log.now.table ∷ []) × (tables.now ≡ without_prepared t p) }
+    requires decided { decision_of log.now.table.history p ≡ Some c }
+    requires reached { IsReached seat.old.knows c }
+    requires kept { IsInOldCommits snaps.now p c }
+    ensures { seat.new ≡ record seat.old { knows = record seat.old.knows { held = snapshots snaps.now ∷ prepared tables.now ∷ writes log.now.table ∷ [] } } }
+{
+    store.make::<J>(seat);
+}
+
+/// Takes the number, to whose decision the bound has come and which is kept for the snapshots, out of all prepared tables, and puts the
+/// flag down where nothing is delayed any more.
+pub fn let_go<D: Disk + Drop>(
+    store: &Shared<D>,
+    seat: &mut Seat<D>,
+    log: &Log<D>,
+    tables: &mut Prepared,
+    snaps: &Snaps,
+    p: Seq,
+    c: Seq,
+)
+    requires seat { seat.old.table ≡ store.now.table }
+    requires held { seat.old.knows.held ≡ snapshots snaps.now ∷ prepared tables.old ∷ writes log.now.table ∷ [] }
+    requires decided { decision_of log.now.table.history p ≡ Some c }
+    requires reached { IsReached seat.old.knows c }
+    requires kept { IsInOldCommits snaps.now p c }
+    requires flag { DelayedFlagTells seat.old.knows tables.old }
+    ensures seat { GoesOn is_flag (snapshots snaps.now ∷ prepared tables.new ∷ writes log.now.table ∷ []) seat.old.turns seat.old seat.new }
+    ensures flag { DelayedFlagTells seat.new.knows tables.new }
+    ensures other { (value : ℕ) → Noted seat.old.knows (old_flag_stays value) → Noted seat.new.knows (old_flag_stays value) }
+    ensures left { tables.new ≡ without_prepared tables.old p }
+{
+    let none = tables.none_delayed();
+    tables.remove(p);
+    let_go_by::<D, Brand>(store, seat, log, tables, snaps, p, c);
+    fit_delayed_flag(store, seat, tables, none);
+}
+
 // ---- under the snapshots turn
 
 /// Says by the old-map flag whether the old commit map is empty.
@@ -363,6 +575,7 @@ fn put_old_flag<D: Disk + Drop>(store: &Shared<D>, seat: &mut Seat<D>, none: boo
     requires none { Holding seat.old.knows snapshots (λ m. none ≡ true → NoOldCommits m) }
     ensures seat { GoesOn is_flag seat.old.knows.held seat.old.turns seat.old seat.new }
     ensures flag { FlagTells seat.new.knows old_flag_stays (none ≡ true) }
+    ensures other { (value : ℕ) → Noted seat.old.knows (delayed_flag_stays value) → Noted seat.new.knows (delayed_flag_stays value) }
 {
     store.store_old_flag(seat, u64::from(!none));
 }
@@ -379,6 +592,7 @@ fn fit_old_flag<D: Disk + Drop>(
     requires flag { FlagTells seat.old.knows old_flag_stays (was_none ≡ true) }
     ensures seat { GoesOn is_flag seat.old.knows.held seat.old.turns seat.old seat.new }
     ensures flag { OldFlagTells seat.new.knows snaps.now }
+    ensures other { (value : ℕ) → Noted seat.old.knows (delayed_flag_stays value) → Noted seat.new.knows (delayed_flag_stays value) }
 {
     let none = snaps.none_kept();
     if none == was_none {
@@ -399,11 +613,11 @@ fn keep_old_commit<D: Disk + Drop, J: Moves>(
     requires seat { seat.old.table ≡ store.now.table }
     requires place { J.place ≡ place_at store.now seat.old.by }
     requires steps { J.steps ≡ keeping p c }
-    requires held { (m : Snapshots) × (seat.old.knows.held ≡ snapshots m ∷ writes log.now.table ∷ []) × ChangesWhere (overlaps p c) (after_keep p) m snaps.now }
+    requires held { (m : Snapshots) × (others : List Content) × (seat.old.knows.held ≡ snapshots m ∷ others) × IsIn (writes log.now.table) others × ChangesWhere (overlaps p c) (after_keep p) m snaps.now }
     requires ordered { p ≤ c }
     requires decided { decision_of log.now.table.history p ≡ Some c }
     requires flag { OldFlagTells seat.old.knows snaps.now }
-    ensures { seat.new ≡ record seat.old { knows = record seat.old.knows { held = snapshots snaps.now ∷ writes log.now.table ∷ [] } } }
+    ensures { (m : Snapshots) (others : List Content) → seat.old.knows.held ≡ snapshots m ∷ others → seat.new ≡ record seat.old { knows = record seat.old.knows { held = snapshots snaps.now ∷ others } } }
 {
     store.make::<J>(seat);
 }
@@ -418,12 +632,13 @@ pub fn keep<D: Disk + Drop>(
     c: Seq,
 ) -> Result<(), AllocError>
     requires seat { seat.old.table ≡ store.now.table }
-    requires held { seat.old.knows.held ≡ snapshots snaps.old ∷ writes log.now.table ∷ [] }
+    requires held { (others : List Content) × (seat.old.knows.held ≡ snapshots snaps.old ∷ others) × IsIn (writes log.now.table) others }
     requires ordered { p ≤ c }
     requires decided { decision_of log.now.table.history p ≡ Some c }
     requires flag { OldFlagTells seat.old.knows snaps.old }
-    ensures seat { GoesOn is_flag (snapshots snaps.new ∷ writes log.now.table ∷ []) seat.old.turns seat.old seat.new }
+    ensures seat { (others : List Content) → seat.old.knows.held ≡ snapshots snaps.old ∷ others → GoesOn is_flag (snapshots snaps.new ∷ others) seat.old.turns seat.old seat.new }
     ensures flag { OldFlagTells seat.new.knows snaps.new }
+    ensures other { (value : ℕ) → Noted seat.old.knows (delayed_flag_stays value) → Noted seat.new.knows (delayed_flag_stays value) }
     ensures kept { OnOk result (IsInOldCommits snaps.new p c) }
 {
     let none = snaps.none_kept();

@@ -31,7 +31,7 @@ use Rattle.wp_read.proofs.Registers.{registered_and_released}
 use Rattle.wp_read.proofs.Seated.{changes_then, pinned_more}
 
 again_ends : (number : ℕ) → EndsNothing (register_again number)
-again_ends number = record { guard = λ turn. refl; place = λ words place. refl; words = refl; delayed_flag = refl; old_flag = refl; pending = refl; adds = refl; takes = refl; prepared = refl; unprepared = refl; transaction = λ history name. refl; direct = refl; moves = refl; replaces = refl; installing = refl }
+again_ends number = record { guard = λ turn. refl; place = λ words place. refl; words = refl; delayed_flag = refl; old_flag = refl; pending = refl; adds = refl; takes = refl; prepared = refl; unprepared = refl; delays = refl; transaction = λ history name. refl; direct = refl; moves = refl; replaces = refl; installing = refl }
 
 -- ---- the steps, over what is left of the numbers
 

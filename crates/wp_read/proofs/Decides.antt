@@ -1,5 +1,5 @@
 -- What a version's number decides, and that a reading has fewer loads left after each.
-use Rattle.std.proofs.Common.{◌≡◌, ℕ, ◌+◌, ◌<◌, Bool, true, false, sym, subst, ap, ◌∙◌, Option, Some, None, arith}
+use Rattle.std.proofs.Common.{◌≡◌, ℕ, ◌+◌, ◌<◌, Bool, true, false, refl, sym, subst, ap, ◌∙◌, Option, Some, None, arith}
 use Rattle.std.specs.Prelude.{nat_lt, if◌then◌else◌}
 use Rattle.std.proofs.lemmas.Bool.{lt-ltb}
 use Rattle.wp_judge.specs.declared.observed.Observed.{Observed}
@@ -7,13 +7,16 @@ use Rattle.wp_judge.specs.declared.observed.Load as loads
 use Rattle.wp_judge.specs.declared.observed.Load.TheVariants.{FirstWord, FirstMax, DelayedFlag, InPrepared, SecondWord, SecondMax, OldFlag, IsOldCommit}
 use Rattle.wp_judge.specs.declared.observed.Asked.TheVariants.{Load, Answer}
 use Rattle.wp_judge.specs.Order.{ask, ask_first_word}
+use Rattle.wp_core.specs.Cache.{cached_word}
 use Rattle.wp_core.specs.Changes.{loaded}
 use Rattle.wp_core.specs.Lists.{IsIn}
-use Rattle.wp_core.specs.Reading.{Registration}
+use Rattle.wp_core.specs.Reading.{Registration, reads}
 use Rattle.wp_core.specs.World.{World}
 use Rattle.wp_core.proofs.ReaderOrder.{At, asked}
+use Rattle.wp_core.proofs.Tests.{none_some}
 use Rattle.wp_shared.specs.Notes.{noting_only}
 use Rattle.wp_shared.specs.Seats.{SharedState, SeatState}
+use Rattle.wp_read.specs.Decides.{reads_first}
 use Rattle.wp_read.specs.Reads.{KeepsNotes, Loads, IsOf}
 
 -- ---- a version above the snapshot
@@ -37,6 +40,67 @@ module _ (p : ℕ) (snapshot : Registration) (r : Observed) (is : IsOf p snapsho
     where
       apart : (x : loads.Load) (a : Bool) → Load x ≡ Answer a → ⊥
       apart x a same = cc
+
+-- ---- the first two loads
+
+module _ (bits p : ℕ) (snapshot : Registration) where
+  word_first : (which : loads.Load) → At (reads bits p snapshot) which → which ≡ FirstWord
+  word_first FirstWord k = refl
+  word_first FirstMax k = absurd (none_some None k.0.word refl k.0.loaded)
+  word_first DelayedFlag k = let m = k.0.missed in absurd (none_some None m.word refl m.loaded)
+  word_first InPrepared k = let m = k.0.missed in absurd (none_some None m.word refl m.loaded)
+  word_first SecondWord k = let m = k.0.bounded.missed in absurd (none_some None m.word refl m.loaded)
+  word_first SecondMax k = let m = k.0.not_delayed.bounded.missed in absurd (none_some None m.word refl m.loaded)
+  word_first OldFlag k = let m = k.0.missed_again.not_delayed.bounded.missed in absurd (none_some None m.word refl m.loaded)
+  word_first IsOldCommit k = let m = k.0.bounded_again.missed_again.not_delayed.bounded.missed in absurd (none_some None m.word refl m.loaded)
+
+  abbrev has_word : ℕ → Observed
+  has_word word = record (reads bits p snapshot) { first_word = Some word }
+
+  max_second : (word : ℕ) (which : loads.Load) → At (has_word word) which → which ≡ FirstMax
+  max_second word FirstWord k = absurd (none_some (Some word) word k.1 refl)
+  max_second word FirstMax k = refl
+  max_second word DelayedFlag k = absurd (none_some None k.0.max refl k.0.loaded)
+  max_second word InPrepared k = absurd (none_some None k.0.max refl k.0.loaded)
+  max_second word SecondWord k = let m = k.0.bounded in absurd (none_some None m.max refl m.loaded)
+  max_second word SecondMax k = let m = k.0.not_delayed.bounded in absurd (none_some None m.max refl m.loaded)
+  max_second word OldFlag k = let m = k.0.missed_again.not_delayed.bounded in absurd (none_some None m.max refl m.loaded)
+  max_second word IsOldCommit k = let m = k.0.bounded_again.missed_again.not_delayed.bounded in absurd (none_some None m.max refl m.loaded)
+
+  flag_third : (word max : ℕ) (which : loads.Load) → At (reads_first bits p snapshot word max) which → which ≡ DelayedFlag
+  flag_third word max FirstWord k = absurd (none_some (Some word) word k.1 refl)
+  flag_third word max FirstMax k = absurd (none_some (Some max) max k.1 refl)
+  flag_third word max DelayedFlag k = refl
+  flag_third word max InPrepared k = absurd (none_some None k.1.0 refl k.1.1)
+  flag_third word max SecondWord k = absurd (none_some None k.0.flag refl k.0.loaded)
+  flag_third word max SecondMax k = let m = k.0.not_delayed in absurd (none_some None m.flag refl m.loaded)
+  flag_third word max OldFlag k = let m = k.0.missed_again.not_delayed in absurd (none_some None m.flag refl m.loaded)
+  flag_third word max IsOldCommit k = let m = k.0.bounded_again.missed_again.not_delayed in absurd (none_some None m.flag refl m.loaded)
+
+  -- two loads that were asked for, the first of all
+  module _ (w w' : World) (a b : loads.Load) (r r' : Observed) (first : ask (reads bits p snapshot) ≡ Load a) (is : r ≡ loaded w a (reads bits p snapshot)) (second : ask r ≡ Load b) (then_is : r' ≡ loaded w' b r) where
+    abbrev word_there : ℕ
+    word_there = cached_word w.cache p
+
+    with_word : r ≡ has_word word_there
+    with_word = is ∙ ap (λ x. loaded w x (reads bits p snapshot)) (word_first a (asked (reads bits p snapshot) a first))
+
+    with_max : r' ≡ reads_first bits p snapshot word_there w'.max_evicted
+    with_max =
+        let e : ask (has_word word_there) ≡ Load b = subst (λ (x : Observed). ask x ≡ Load b) with_word second in
+        then_is ∙ (ap (loaded w' b) with_word ∙ ap (λ x. loaded w' x (has_word word_there)) (max_second word_there b (asked (has_word word_there) b e)))
+
+    pub looked : (word max : ℕ) → r'.first_word ≡ Some word → r'.first_max ≡ Some max → r' ≡ reads_first r'.bits p snapshot word max
+    looked word max word_is max_is =
+        with_max ∙ (λ i. record (reads ((sym (ap (λ (x : Observed). x.bits) with_max)) i) p snapshot) {
+          first_word = (sym (ap (λ (x : Observed). x.first_word) with_max) ∙ word_is) i;
+          first_max = (sym (ap (λ (x : Observed). x.first_max) with_max) ∙ max_is) i;
+        })
+
+    pub flag_next : (which : loads.Load) → ask r' ≡ Load which → ask r' ≡ Load DelayedFlag
+    flag_next which third =
+        let e : ask (reads_first bits p snapshot word_there w'.max_evicted) ≡ Load which = subst (λ (x : Observed). ask x ≡ Load which) with_max third in
+        third ∙ ap (λ x. Load x) (flag_third word_there w'.max_evicted which (asked (reads_first bits p snapshot word_there w'.max_evicted) which e))
 
 -- ---- how many loads are left
 

@@ -1,5 +1,5 @@
 -- A reading, one step after another.
-use Rattle.std.proofs.Common.{◌≡◌, ℕ, ◌≤◌, Bool, true, false, not, List, [], ◌∷◌, ◌++◌, length, slice_index, refl, sym, subst, ap, ◌∙◌, Option, Some, option_map, arith}
+use Rattle.std.proofs.Common.{◌≡◌, ℕ, ◌≤◌, ◌^◌, Bool, true, false, not, List, [], ◌∷◌, ◌++◌, length, slice_index, refl, sym, subst, ap, ◌∙◌, Option, Some, option_map, arith}
 use Rattle.wp_model.specs.declared.entry.Entry.{Entry}
 use Rattle.wp_model.specs.Decision.{IsCommittedAt}
 use Rattle.wp_model.specs.Legal.{IsLegal}
@@ -61,27 +61,27 @@ reads_now z s t w r k e = record {
   right = λ visible judged.
       subst (λ (h : List Entry). IsRight h r.version r.snapshot visible) (ap (λ (x : SeatState). x.knows.participant.seen) e)
       (judged_right (place_at z s.by) t.knows w r visible k (ap (λ (x : SeatState). x.knows.reading) e) judged);
-  words = subst (λ n. 1 ≤ n) k.cells (at_sound (place_at z s.by) t.knows w k).cache.some;
+  cells = ((at_sound (place_at z s.by) t.knows w k).readers s.by (reader_of t.knows) (at_map reader_of w.actors s.by t.knows k.there) r (ap (λ (x : SeatState). x.knows.reading) e)).words ∙ k.cells;
 }
 
-begin_ends : (q : ℕ) (r : Registration) → EndsNothing (begin_reading q r)
-begin_ends q r = record { guard = λ turn. refl; place = λ words place. refl; words = refl; delayed_flag = refl; old_flag = refl; pending = refl; adds = refl; takes = refl; prepared = refl; unprepared = refl; transaction = λ history name. refl; direct = refl; moves = refl; replaces = refl; installing = refl }
+begin_ends : (bits q : ℕ) (r : Registration) → EndsNothing (begin_reading bits q r)
+begin_ends bits q r = record { guard = λ turn. refl; place = λ words place. refl; words = refl; delayed_flag = refl; old_flag = refl; pending = refl; adds = refl; takes = refl; prepared = refl; unprepared = refl; delays = refl; transaction = λ history name. refl; direct = refl; moves = refl; replaces = refl; installing = refl }
 
 load_ends : (which : Load) → EndsNothing (load which)
-load_ends which = record { guard = λ turn. refl; place = λ words place. refl; words = refl; delayed_flag = refl; old_flag = refl; pending = refl; adds = refl; takes = refl; prepared = refl; unprepared = refl; transaction = λ history name. refl; direct = refl; moves = refl; replaces = refl; installing = refl }
+load_ends which = record { guard = λ turn. refl; place = λ words place. refl; words = refl; delayed_flag = refl; old_flag = refl; pending = refl; adds = refl; takes = refl; prepared = refl; unprepared = refl; delays = refl; transaction = λ history name. refl; direct = refl; moves = refl; replaces = refl; installing = refl }
 
-module _ {D : Type 0} (z : SharedState D) (p : Place) (steps : World → List Step) (s t : SeatState) (q : ℕ) (r : Registration) (is : steps ≡ (λ w. begin_reading q r ∷ [])) where
-  pub may_begin : IsIn r s.knows.participant.registered → (q ≤ r.number → has_versions_at s.knows.participant.seen q ≡ true) → MayMake p s.knows steps
-  may_begin there version = subst (MayMake p s.knows) (sym is) (known_made p s.knows (begin_reading q r) tt (there, version))
+module _ {D : Type 0} (z : SharedState D) (p : Place) (steps : World → List Step) (s t : SeatState) (bits q : ℕ) (r : Registration) (is : steps ≡ (λ w. begin_reading bits q r ∷ [])) where
+  pub may_begin : 2 ^ bits ≡ p.cells → IsIn r s.knows.participant.registered → (q ≤ r.number → has_versions_at s.knows.participant.seen q ≡ true) → MayMake p s.knows steps
+  may_begin cells there version = subst (MayMake p s.knows) (sym is) (known_made p s.knows (begin_reading bits q r) tt (cells, there, version))
 
   pub begin_keeps : (w : World) → KeepClient (steps w)
   begin_keeps w = subst (λ (x : World → List Step). KeepClient (x w)) (sym is) (tt, tt)
 
-  pub begun : (so : World → Type 0) → p ≡ place_at z s.by → (t.table ≡ s.table) × (t.by ≡ s.by) × (t.turns ≡ s.turns) → Moved p steps so s.knows t.knows → Reads z s t (reads q r)
+  pub begun : (so : World → Type 0) → p ≡ place_at z s.by → (t.table ≡ s.table) × (t.by ≡ s.by) × (t.turns ≡ s.turns) → Moved p steps so s.knows t.knows → Reads z s t (reads bits q r)
   begun so place same m =
-      let n : Moved (place_at z s.by) (λ w. begin_reading q r ∷ []) so s.knows t.knows = subst (λ (x : Place × (World → List Step)). Moved x.0 x.1 so s.knows t.knows) (λ i. (place i, is i)) m in
-      let k = made (place_at z s.by) (begin_reading q r) so s.knows t.knows (begin_ends q r) n in
-      reads_now z s t (world_after_step k.world s.by s.knows (begin_reading q r)) (reads q r) k.after (becomes s t (record s.knows { reading = Some (reads q r) }) same k.actor)
+      let n : Moved (place_at z s.by) (λ w. begin_reading bits q r ∷ []) so s.knows t.knows = subst (λ (x : Place × (World → List Step)). Moved x.0 x.1 so s.knows t.knows) (λ i. (place i, is i)) m in
+      let k = made (place_at z s.by) (begin_reading bits q r) so s.knows t.knows (begin_ends bits q r) n in
+      reads_now z s t (world_after_step k.world s.by s.knows (begin_reading bits q r)) (reads bits q r) k.after (becomes s t (record s.knows { reading = Some (reads bits q r) }) same k.actor)
 
 -- ---- loads
 

@@ -227,7 +227,7 @@ module _ {D : Type 0} {z : SharedState D} {which : Load} {s0 s1 s2 : SeatState} 
       reads = record {
         seat = seat_back;
         right = λ visible judged. subst (λ (s : SeatState). IsRight s.knows.participant.seen r'.version r'.snapshot visible) k.goes.same (l.reads.right visible judged);
-        words = l.reads.words;
+        cells = l.reads.cells;
       };
       world = l.world;
       actor = l.actor;

@@ -14,18 +14,19 @@ use Rattle.wp_read.specs.declared.answers.Free.TheVariants as free
 use Rattle.wp_read.specs.Reads.{Reads, IsOf}
 
 -- the version with this first word and this first bound loaded, and no more
-abbrev pub reads_first : ℕ → Registration → ℕ → ℕ → Observed
-reads_first p snapshot word max = record (reads p snapshot) { first_word = Some word; first_max = Some max }
+abbrev pub reads_first : ℕ → ℕ → Registration → ℕ → ℕ → Observed
+reads_first bits p snapshot word max = record (reads bits p snapshot) { first_word = Some word; first_max = Some max }
 
 -- at most the first word and the first bound were loaded
 abbrev pub IsFirstLook : ℕ → Registration → Observed → Type 0
-IsFirstLook p snapshot r = r ≡ record (reads p snapshot) { first_word = r.first_word; first_max = r.first_max }
+IsFirstLook p snapshot r = r ≡ record (reads r.bits p snapshot) { first_word = r.first_word; first_max = r.first_max }
 
 -- what the seat loaded at a look decides the version, and rightly; or the delayed flag is to be loaded next
 abbrev pub Looks : {D : Type 0} → SharedState D → SeatState → SeatState → ℕ → Registration → Look → Type 0
 Looks z old new p snapshot (look.Decided visible) =
     (r : Observed) × Reads z old new r × IsFirstLook p snapshot r × (ask r ≡ asked.Answer visible) × IsRight old.knows.participant.seen p snapshot.number visible
-Looks z old new p snapshot (look.Ask word max) = Reads z old new (reads_first p snapshot word max) × (ask (reads_first p snapshot word max) ≡ asked.Load load.DelayedFlag)
+Looks z old new p snapshot (look.Ask word max) =
+    (r : Observed) × Reads z old new r × (r ≡ reads_first r.bits p snapshot word max) × (ask r ≡ asked.Load load.DelayedFlag)
 
 -- what the seat loaded without a turn decides the version, and rightly; or a table is to be looked into next
 abbrev pub DecidesFree : {D : Type 0} → SharedState D → SeatState → SeatState → ℕ → Registration → Free → Type 0

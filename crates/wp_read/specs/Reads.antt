@@ -1,5 +1,5 @@
 -- What the steps of a reading leave of a seat.
-use Rattle.std.specs.Prelude.{◌≡◌, ◌≢◌, ℕ, ◌≤◌, Bool, List, Some}
+use Rattle.std.specs.Prelude.{◌≡◌, ◌≢◌, ℕ, ◌≤◌, ◌^◌, Bool, List, Some}
 use Rattle.wp_judge.specs.declared.observed.Observed.{Observed}
 use Rattle.wp_judge.specs.declared.observed.Load.{Load}
 use Rattle.wp_judge.specs.declared.observed.Load.TheVariants.{InPrepared, IsOldCommit}
@@ -24,11 +24,11 @@ abbrev pub KeepsNotes : List Fact → List Fact → Type 0
 KeepsNotes before after = (fact : Fact) → IsLoose fact → IsIn fact before → IsIn fact after
 
 -- The seat reads this, and is as it was but for that. Where it has the answer, that is right of the history that the seat has
--- seen. The cache has a word.
+-- seen. It knows of how many bits the cache is.
 pub record Reads {D : Type 0} (z : SharedState D) (old new : SeatState) (r : Observed) : Type 0 where
   pub seat : new ≡ reading old r
   pub right : (visible : Bool) → judgement r ≡ Some visible → IsRight old.knows.participant.seen r.version r.snapshot visible
-  pub words : 1 ≤ z.cells
+  pub cells : 2 ^ r.bits ≡ z.cells
 
 -- the seat made this load, in a world of the store
 pub record Loads {D : Type 0} (z : SharedState D) (which : Load) (old new : SeatState) (before after : Observed) : Type 0 where
@@ -46,6 +46,6 @@ IsNext s r which = (s.knows.reading ≡ Some r) × (ask r ≡ asked.Load which)
 abbrev pub IsOfWord : Load → Type 0
 IsOfWord which = (which ≢ InPrepared) × (which ≢ IsOldCommit)
 
--- it is what a reader of this version at this snapshot has loaded
+-- it is what a reader of this version at this snapshot has loaded, in a cache of no more bits than there may be
 abbrev pub IsOf : ℕ → Registration → Observed → Type 0
-IsOf p snapshot r = (r.version ≡ p) × (snapshot_of r ≡ snapshot)
+IsOf p snapshot r = (r.version ≡ p) × (snapshot_of r ≡ snapshot) × (r.bits ≤ 16)

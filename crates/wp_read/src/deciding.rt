@@ -1,5 +1,5 @@
 //! Whether a version is visible at a snapshot.
-ghost use Rattle.std.specs.Prelude.{◌≡◌, ◌≤◌, ◌<◌, true, false};
+ghost use Rattle.std.specs.Prelude.{◌≡◌, ◌≤◌, ◌<◌, ◌^◌, true, false};
 ghost use Rattle.wp_core.specs.Lists.{IsIn};
 ghost use Rattle.wp_core.specs.Sound.Reader.{IsRight};
 ghost use Rattle.wp_core.specs.Sound.Snapshots.{has_versions_at};
@@ -34,7 +34,8 @@ pub fn look<D: Disk + Drop>(
     requires version { p ≤ snapshot.now.number → has_versions_at seat.old.knows.participant.seen p ≡ true }
     ensures { Looks store.now seat.old seat.new p snapshot.now result }
 {
-    let mut seen = begin_reading(store, seat, p, snapshot);
+    let bits = store.bits();
+    let mut seen = begin_reading(store, seat, bits, p, snapshot);
     match ask(&seen) {
         Asked::Answer(visible) => return Look::Decided(visible),
         Asked::Load(word) => load(store, seat, &mut seen, word),
@@ -64,7 +65,8 @@ pub fn decide_free<D: Disk + Drop>(
     requires version { p ≤ snapshot.now.number → has_versions_at seat.old.knows.participant.seen p ≡ true }
     ensures { DecidesFree store.now seat.old seat.new p snapshot.now result }
 {
-    let mut seen = begin_reading(store, seat, p, snapshot);
+    let bits = store.bits();
+    let mut seen = begin_reading(store, seat, bits, p, snapshot);
     'loads: loop {
         match ask(&seen) {
             Asked::Answer(visible) => return Free::Decided(visible),
@@ -140,7 +142,7 @@ fn decide<D: Disk + Drop, R: Wait>(
 ) -> bool
     requires free { IsFree store.now.table seat.old }
     requires next { (which : load.Load) × IsNext seat.old start which }
-    requires words { 1 ≤ store.now.cells }
+    requires cells { (2 ^ start.bits ≡ store.now.cells) × (start.bits ≤ 16) }
     ensures continues { Continues store.now seat.old seat.new seat.old.knows.participant }
     ensures same { seat.new.knows.participant ≡ seat.old.knows.participant }
     ensures right { IsRight seat.old.knows.participant.seen start.version start.snapshot result }

@@ -4,7 +4,7 @@
 //! an argument has a helper that is passed the argument and makes the load.
 ghost use Rattle.std.specs.FinMap as finite;
 ghost use Rattle.std.specs.FinSet as set;
-ghost use Rattle.std.specs.Prelude.{◌≡◌, ◌≤◌, ◌<◌, suc, true, List, [], ◌∷◌, ◌++◌, length, unwrap_or, MatchOption};
+ghost use Rattle.std.specs.Prelude.{◌≡◌, ◌≤◌, ◌<◌, ◌^◌, suc, true, List, [], ◌∷◌, ◌++◌, length, unwrap_or, MatchOption};
 ghost use Rattle.wp_core.specs.Changes.{found_in};
 ghost use Rattle.wp_core.specs.Lists.{IsIn};
 ghost use Rattle.wp_core.specs.Reading.{Registration, reads};
@@ -35,33 +35,38 @@ use wp_snaps::Snaps;
 fn begin<D: Disk + Drop, J: Moves>(
     store: &Shared<D>,
     seat: &mut Seat<D>,
+    bits: u32,
     p: Seq,
     snapshot: &Snapshot,
 )
     requires seat { (seat.old.table ≡ store.now.table) × (J.place ≡ place_at store.now seat.old.by) }
-    requires steps { J.steps ≡ (λ w. step.begin_reading p snapshot.now ∷ []) }
+    requires steps { J.steps ≡ (λ w. step.begin_reading bits p snapshot.now ∷ []) }
+    requires cells { 2 ^ bits ≡ store.now.cells }
     requires registered { IsIn snapshot.now seat.old.knows.participant.registered }
     requires version { p ≤ snapshot.now.number → has_versions_at seat.old.knows.participant.seen p ≡ true }
-    ensures { Reads store.now seat.old seat.new (reads p snapshot.now) }
+    ensures { Reads store.now seat.old seat.new (reads bits p snapshot.now) }
 {
     store.make::<J>(seat);
 }
 
-/// Begins to read the version `p` at the snapshot.
+/// Begins to read the version `p` at the snapshot, by words of a cache of so many bits.
 pub fn begin_reading<D: Disk + Drop>(
     store: &Shared<D>,
     seat: &mut Seat<D>,
+    bits: u32,
     p: Seq,
     snapshot: &Snapshot,
 ) -> Observed
     requires seat { seat.old.table ≡ store.now.table }
+    requires cells { 2 ^ bits ≡ store.now.cells }
     requires registered { IsIn snapshot.now seat.old.knows.participant.registered }
     requires version { p ≤ snapshot.now.number → has_versions_at seat.old.knows.participant.seen p ≡ true }
     ensures reads { Reads store.now seat.old seat.new result }
-    ensures nothing_loaded { result ≡ reads p snapshot.now }
+    ensures nothing_loaded { result ≡ reads bits p snapshot.now }
 {
-    begin::<D, Brand>(store, seat, p, snapshot);
+    begin::<D, Brand>(store, seat, bits, p, snapshot);
     Observed {
+        bits,
         version: p,
         snapshot: snapshot.number(),
         smallest: snapshot.smallest(),

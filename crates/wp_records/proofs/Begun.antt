@@ -4,7 +4,7 @@ use Rattle.wp_model.specs.declared.entry.Entry.{Entry}
 use Rattle.wp_model.specs.Legal.{IsLegal}
 use Rattle.wp_core.specs.Entries.{IsOneRecord}
 use Rattle.wp_core.specs.Tables.{WriteTable, writes}
-use Rattle.wp_core.specs.Views.{versions_nowhere, number_not_in_heap}
+use Rattle.wp_core.specs.Views.{versions_nowhere, number_not_in_heap, pair_not_delayed}
 use Rattle.wp_rule.specs.Knows.{Noted}
 use Rattle.wp_parts.specs.Log.{LogState}
 use Rattle.wp_shared.specs.Seats.{SharedState, SeatState}
@@ -31,15 +31,16 @@ module _ (log left : LogState) (entries : List Entry) (is : left.table ≡ recor
   pub begins_legal : IsLegal (log.table.history ++ entries) → IsLegal (left.table.history ++ left.table.pending)
   begins_legal legal = subst (λ (x : List Entry × List Entry). IsLegal (x.0 ++ x.1)) (λ i. (sym history_is i, sym pending_is i)) legal
 
-  pub begun : {D : Type 0} (z : SharedState D) (old new : SeatState) → HoldsWrite z old log → left.first ≡ log.first → IsUncalled log left → GoesOn is_of_pending (writes left.table ∷ []) old.turns old new → Noted new.knows versions_nowhere → Noted new.knows number_not_in_heap
+  pub begun : {D : Type 0} (z : SharedState D) (old new : SeatState) → HoldsWrite z old log → left.first ≡ log.first → IsUncalled log left → GoesOn is_of_pending (writes left.table ∷ []) old.turns old new → Noted new.knows versions_nowhere → Noted new.knows number_not_in_heap → Noted new.knows pair_not_delayed
       → IsBegun z old log entries new left
-  begun z old new h first uncalled k nowhere below = record {
+  begun z old new h first uncalled k nowhere below undelayed = record {
     holds = holds_with z old new log left (as_pending z old log h) is_of_pending k first history_is (words_kept is_of_pending old new (writes left.table ∷ []) old.turns (length log.table.history) (λ bound words. refl) k h.words);
     seat = k;
     table = is;
     uncalled = uncalled;
     nowhere = nowhere;
     below = below;
+    undelayed = undelayed;
   }
 
 module _ {D : Type 0} (z : SharedState D) (old new : SeatState) (log left : LogState) (h : HoldsPending z old log) (is : left ≡ record log { table = record log.table { pending = [] } }) where

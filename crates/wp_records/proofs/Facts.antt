@@ -5,18 +5,18 @@ use Rattle.wp_core.specs.Cache.{cache_place}
 use Rattle.wp_core.specs.Sound.Views.{guarded_by}
 use Rattle.wp_core.specs.Entries.{transaction_of}
 use Rattle.wp_core.specs.Tables.{Content}
-use Rattle.wp_core.specs.Views.{Fact, passed, in_old_commits, apart, words_stay, versions_in_memory, versions_nowhere, number_in_heap, number_not_in_heap, delayed_flag_stays, old_flag_stays}
+use Rattle.wp_core.specs.Views.{Fact, passed, in_old_commits, apart, words_stay, versions_in_memory, versions_nowhere, number_in_heap, number_not_in_heap, pair_delayed, pair_not_delayed, none_waits, delayed_flag_stays, old_flag_stays}
 use Rattle.wp_shared.specs.Seats.{SeatState}
 use Rattle.wp_commits.specs.declared.way.Way.{Way}
-use Rattle.wp_commits.specs.declared.way.Way.TheVariants.{Undecided, InWord}
+use Rattle.wp_commits.specs.declared.way.Way.TheVariants.{Undecided, InWord, Delayed}
 use Rattle.wp_shared.specs.Notes.{is_flag, GoesOn, is_under}
 use Rattle.wp_shared.proofs.Goes.{none_under_store}
 use Rattle.wp_commits.proofs.Clears.{flag_under_prepared}
 use Rattle.wp_core.specs.Turns.{prepared_turn, store_turn}
-use Rattle.wp_commits.specs.Notes.{is_of_words, is_of_place}
+use Rattle.wp_commits.specs.Notes.{is_of_words, is_of_delayed, is_of_place}
 use Rattle.wp_commits.specs.Ways.{is_of_way}
 use Rattle.wp_records.specs.Records.{is_about}
-use Rattle.wp_records.specs.Stages.{is_of_versions, is_of_heap, is_of_number, is_of_pending, is_of_stage, is_guarded, is_over, may_end}
+use Rattle.wp_records.specs.Stages.{is_of_versions, is_of_heap, is_of_number, is_of_pair, is_of_pending, is_of_stage, is_guarded, is_over, may_end}
 
 -- ---- what no turn guards is in none of the tests
 
@@ -24,6 +24,7 @@ pub not_words : (fact : Fact) → is_guarded fact ≡ false → is_of_words fact
 not_words (words_stay bound words) e = absurd (true≢false e)
 not_words (delayed_flag_stays value) e = absurd (true≢false e)
 not_words (old_flag_stays value) e = absurd (true≢false e)
+not_words none_waits e = absurd (true≢false e)
 not_words other e = refl
 
 pub not_versions : (fact : Fact) → is_guarded fact ≡ false → is_of_versions fact ≡ false
@@ -43,6 +44,9 @@ not_pending versions_in_memory e = absurd (true≢false e)
 not_pending versions_nowhere e = absurd (true≢false e)
 not_pending number_in_heap e = absurd (true≢false e)
 not_pending number_not_in_heap e = absurd (true≢false e)
+not_pending pair_delayed e = absurd (true≢false e)
+not_pending pair_not_delayed e = absurd (true≢false e)
+not_pending none_waits e = absurd (true≢false e)
 not_pending other e = refl
 
 not_place : (place : ℕ) (fact : Fact) → is_guarded fact ≡ false → is_of_place place fact ≡ false
@@ -52,7 +56,14 @@ not_place place (apart i pair) e = absurd (true≢false e)
 not_place place (words_stay bound words) e = absurd (true≢false e)
 not_place place (delayed_flag_stays value) e = absurd (true≢false e)
 not_place place (old_flag_stays value) e = absurd (true≢false e)
+not_place place none_waits e = absurd (true≢false e)
 not_place place other e = refl
+
+not_delayed : (fact : Fact) → is_guarded fact ≡ false → is_of_delayed fact ≡ false
+not_delayed pair_not_delayed e = absurd (true≢false e)
+not_delayed (delayed_flag_stays value) e = absurd (true≢false e)
+not_delayed (old_flag_stays value) e = absurd (true≢false e)
+not_delayed other e = refl
 
 -- ---- nor is what outlasts the entry
 
@@ -67,11 +78,14 @@ module _ (fact : Fact) (e : is_of_stage fact ≡ false) where
   pub stage_pending : is_of_pending fact ≡ false
   stage_pending = parts.0
 
+  places : (is_of_versions fact ≡ false) × (is_of_heap fact ≡ false)
+  places = neither (is_of_versions fact) (is_of_heap fact) (neither (is_of_versions fact || is_of_heap fact) (is_of_pair fact) parts.0).0
+
   pub stage_versions : is_of_versions fact ≡ false
-  stage_versions = (neither (is_of_versions fact) (is_of_heap fact) parts.0).0
+  stage_versions = places.0
 
   pub stage_number : is_of_number fact ≡ false
-  stage_number = λ i. (neither (is_of_versions fact) (is_of_heap fact) parts.0).1 i || parts.1 i
+  stage_number = λ i. places.1 i || parts.1 i
 
 pub not_stage : (fact : Fact) → is_guarded fact ≡ false → is_of_stage fact ≡ false
 not_stage fact e = λ i. not_pending fact e i || (neither (is_of_heap fact) (is_flag fact) (not_number fact e)).1 i
@@ -86,6 +100,7 @@ module _ (history : List Entry) (entry : Entry) (fact : Fact) (e : may_end histo
   pub still_kept : (cells : ℕ) (way : Way) → is_of_way cells way fact ≡ false
   still_kept cells Undecided = not_words fact stays.0
   still_kept cells (InWord p c) = not_place (cache_place cells p) fact stays.0
+  still_kept cells (Delayed p c) = not_delayed fact stays.0
 
 pub heap_alone : (fact : Fact) → is_of_number fact ≡ false → is_of_heap fact ≡ false
 heap_alone fact e = (neither (is_of_heap fact) (is_flag fact) e).0

@@ -13,7 +13,11 @@ use Rattle.wp_core.specs.Tables.{WriteTable, Content, writes, prepared}
 use Rattle.wp_core.specs.Views.{delayed_flag_stays, number_not_in_heap}
 use Rattle.wp_core.specs.World.{Actor, World}
 use Rattle.wp_core.proofs.HistoryGrows.{none_is}
-use Rattle.wp_core.proofs.HistoryLaws.{decided_within}
+use Rattle.wp_core.proofs.Tests.{none_some}
+use Rattle.wp_core.specs.Entries.{extended, pending_pair}
+use Rattle.wp_commits.proofs.Passed.{extended_legal}
+use Rattle.wp_commits.proofs.Words.{decided_without}
+use Rattle.wp_core.proofs.HistoryLaws.{decided_late}
 use Rattle.wp_model.proofs.Numbers.{in_removed, in_removed_else, get_removed, get_removed_else}
 use Rattle.wp_rule.specs.Knows.{Noted}
 use Rattle.wp_rule.specs.Words.{IsAt}
@@ -23,7 +27,7 @@ use Rattle.wp_shared.specs.Seats.{SharedState, SeatState, Stands, place_at}
 use Rattle.wp_shared.specs.Notes.{GoesOn, DelayedFlagTells}
 use Rattle.wp_shared.proofs.Goes.{stays}
 use Rattle.wp_shared.proofs.Tables.{held_table}
-use Rattle.wp_records.specs.Stages.{is_of_heap, is_of_number}
+use Rattle.wp_records.specs.Stages.{is_of_heap, is_of_number, HasPrepare}
 use Rattle.wp_records.proofs.Facts.{heap_alone}
 
 -- a seat that holds both tables, in a world of the store
@@ -63,10 +67,14 @@ module _ {D : Type 0} (z : SharedState D) (s t : SeatState) (d : WriteTable) (ta
       let low = (at_sound (place_at z s.by) s.knows w there).undecided.delayed_passed n here in let most = (at_sound (place_at z s.by) s.knows w there).history.bounded in
       let len = next_is in absurd (omega (arith, low, most, len)))
 
-  not_committed : finite.get tables.delayed_commits n ≡ None
-  not_committed = none_is (finite.get tables.delayed_commits n) (λ c is.
+  not_committed : HasPrepare d → finite.get tables.delayed_commits n ≡ None
+  not_committed prepare = none_is (finite.get tables.delayed_commits n) (λ c is.
       let here : finite.get w.prepared.delayed_commits n ≡ Some c = ap (λ (x : PreparedTables). finite.get x.delayed_commits n) tables_are ∙ is in
-      let low = decided_within w.writes.history n c ((at_sound (place_at z s.by) s.knows w there).delayed.commits n c here) in let len = next_is in absurd (omega (arith, low, len)))
+      let sound = at_sound (place_at z s.by) s.knows w there in let len = next_is in
+      let next = sound.delayed.commits n c here in
+      let late = decided_late (extended w.writes.history w.writes.pending) n c (extended_legal w.writes.history w.writes.pending sound.history.legal sound.history.legal_next) next in
+      let none : pending_pair w.writes.history w.writes.pending ≡ None = ap (λ (x : WriteTable). pending_pair x.history x.pending) writes_is ∙ ap (pending_pair d.history) prepare.3 in
+      let low = (decided_without w.writes.history w.writes.pending (record { number = n; decision = c }) (λ e. none_some (pending_pair w.writes.history w.writes.pending) (record { number = n; decision = c }) none e) late next).1 in absurd (omega (arith, low, late, len)))
 
   removed_same : set.remove tables.delayed n ≡ tables.delayed
   removed_same = set.same_set nat_cmp_total nat_cmp-IsAntisymmetric (set.remove tables.delayed n) tables.delayed (λ q. elim (cases_eq q n) [
@@ -74,15 +82,15 @@ module _ {D : Type 0} (z : SharedState D) (s t : SeatState) (d : WriteTable) (ta
     | inr apart ↦ in_removed_else tables.delayed n q apart
   ])
 
-  commits_same : finite.remove tables.delayed_commits n ≡ tables.delayed_commits
-  commits_same = finite.same_map nat_cmp_total nat_cmp-IsAntisymmetric (finite.remove tables.delayed_commits n) tables.delayed_commits (λ q. elim (cases_eq q n) [
-    | inl here ↦ ap (finite.get (finite.remove tables.delayed_commits n)) here ∙ (get_removed tables.delayed_commits n ∙ sym (ap (finite.get tables.delayed_commits) here ∙ not_committed))
+  commits_same : HasPrepare d → finite.remove tables.delayed_commits n ≡ tables.delayed_commits
+  commits_same prepare = finite.same_map nat_cmp_total nat_cmp-IsAntisymmetric (finite.remove tables.delayed_commits n) tables.delayed_commits (λ q. elim (cases_eq q n) [
+    | inl here ↦ ap (finite.get (finite.remove tables.delayed_commits n)) here ∙ (get_removed tables.delayed_commits n ∙ sym (ap (finite.get tables.delayed_commits) here ∙ not_committed prepare))
     | inr apart ↦ get_removed_else tables.delayed_commits n q apart
   ])
 
   -- the next number was in the heap at most
-  pub left_heap : (after : PreparedTables) → after.heap ≡ set.remove tables.heap n → after.delayed ≡ set.remove tables.delayed n → after.delayed_commits ≡ finite.remove tables.delayed_commits n → after ≡ record tables { heap = set.remove tables.heap n }
-  left_heap after heap delayed commits = let one = delayed ∙ removed_same in let two = commits ∙ commits_same in λ i. record { heap = heap i; delayed = one i; delayed_commits = two i }
+  pub left_heap : HasPrepare d → (after : PreparedTables) → after.heap ≡ set.remove tables.heap n → after.delayed ≡ set.remove tables.delayed n → after.delayed_commits ≡ finite.remove tables.delayed_commits n → after ≡ record tables { heap = set.remove tables.heap n }
+  left_heap prepare after heap delayed commits = let one = delayed ∙ removed_same in let two = commits ∙ commits_same prepare in λ i. record { heap = heap i; delayed = one i; delayed_commits = two i }
 
 -- the flag tells the same of tables with another heap
 pub flag_still : (a b : Actor) (t u : PreparedTables) (heap : set.FinSet nat_cmp) → u ≡ record t { heap = heap } → ((value : ℕ) → Noted a (delayed_flag_stays value) → Noted b (delayed_flag_stays value)) → DelayedFlagTells a t → DelayedFlagTells b u

@@ -1,5 +1,5 @@
 -- Entries that join the history: what is known before, and after.
-use Rattle.std.proofs.Common.{◌≡◌, ◌≢◌, ⊎_elim, inl, inr, ℕ, suc, ◌≤◌, true, false, true≢false, List, [], ◌∷◌, ◌++◌, length, length-append, append_assoc, refl, sym, subst, ap, ◌∙◌, Option, Some, arith}
+use Rattle.std.proofs.Common.{◌≡◌, ◌≢◌, ⊎_elim, inl, inr, ℕ, suc, ◌≤◌, ◌||◌, Bool, cond, true, false, true≢false, List, [], ◌∷◌, ◌++◌, length, length-append, append_assoc, refl, sym, subst, ap, ◌∙◌, Option, Some, arith}
 use Rattle.std.specs.FinMap as finite
 use Rattle.wp_model.specs.declared.entry.Entry.{Entry}
 use Rattle.wp_model.specs.declared.entry.Entry.TheVariants.{Prepare, Commit, Undo, Close}
@@ -18,17 +18,17 @@ use Rattle.wp_rule.specs.Knows.{KnowsHeld, Noted}
 use Rattle.wp_parts.specs.Log.{LogState}
 use Rattle.wp_shared.specs.Seats.{SharedState, SeatState}
 use Rattle.wp_commits.specs.declared.way.Way.{Way}
-use Rattle.wp_commits.specs.declared.way.Way.TheVariants.{Undecided, InWord}
+use Rattle.wp_commits.specs.declared.way.Way.TheVariants.{Undecided, InWord, Delayed}
 use Rattle.wp_commits.specs.Bound.{bound_with}
 use Rattle.wp_commits.specs.Cleared.{IsReadyAt}
 use Rattle.wp_shared.specs.Notes.{noting, GoesOn}
-use Rattle.wp_commits.specs.Ways.{way_of, ways_of, is_of_way, with_way, IsReadyFor, AreReady, IsElsewhere, MayPrecede, AreApart, IsEntered}
-use Rattle.wp_commits.proofs.Ways.{KeepsReady, keeps_ready, ready_still, are_ready_still, ready_behind, pair_of_way}
+use Rattle.wp_commits.specs.Ways.{way_of, ways_of, is_of_way, with_way, IsReached, IsReadyFor, AreReady, IsElsewhere, MayPrecede, AreApart, IsEntered}
+use Rattle.wp_commits.proofs.Ways.{KeepsReady, keeps_ready, ready_still, reached_still, are_ready_still, ready_behind, delayed_reached, pair_of_way}
 use Rattle.wp_shared.specs.Notes.{ArePublished}
 use Rattle.wp_records.specs.Records.{OwnsEntry, OwnsEntries, MayPut}
-use Rattle.wp_records.specs.Stages.{is_of_pending, is_over, may_end, as_published, rest_of, HoldsPending, IsNext, IsInPlace, IsReadied, IsLogged, IsPublished, HasJoined, AreBehind, MayJoin}
+use Rattle.wp_records.specs.Stages.{is_of_versions, is_of_heap, is_over, may_end, as_published, rest_of, HoldsPending, IsNext, IsInPlace, IsReadied, IsLogged, IsPublished, HasJoined, AreBehind, MayJoin}
 use Rattle.wp_records.proofs.Facts.{still_over, still_kept}
-use Rattle.wp_records.proofs.Words.{pending_decides, way_published}
+use Rattle.wp_records.proofs.Words.{pending_decides, pending_order, way_published}
 
 -- ---- what is owned
 
@@ -82,7 +82,7 @@ is_a_prepare : (entry : Entry) → IsPrepare entry → is_prepare (Some entry) �
 is_a_prepare (Prepare name batch) is = refl
 is_a_prepare other is = absurd is
 
-pub first_ready : (a : Actor) (cells : ℕ) (history pending : List Entry) → AreReady a cells (length history) (ways_of (suc (length history)) pending) → IsReadyFor a cells (length history) (way_of (pending_pair history pending))
+pub first_ready : (a : Actor) (cells : ℕ) (history pending : List Entry) → AreReady a cells (length history) (ways_of cells (suc (length history)) pending) → IsReadyFor a cells (length history) (way_of cells (pending_pair history pending))
 first_ready a cells history [] r = tt
 first_ready a cells history (entry ∷ others) r = r.0
 
@@ -90,14 +90,14 @@ first_ready a cells history (entry ∷ others) r = r.0
 
 module _ {D : Type 0} (z : SharedState D) (s t u : SeatState) (log left : LogState) (entry : Entry) (others : List Entry) (h : HoldsPending z s log) (pending : log.table.pending ≡ entry ∷ others) (may : MayJoin s.knows z.cells log.table) where
   abbrev way : Way
-  way = way_of (pending_pair log.table.history log.table.pending)
+  way = way_of z.cells (pending_pair log.table.history log.table.pending)
 
   pair_is : pending_pair log.table.history log.table.pending ≡ pair_by (suc (length log.table.history)) entry
   pair_is = ap (pending_pair log.table.history) pending
 
   -- its pair was entered
   module _ (first : GoesOn (is_of_way z.cells way) s.knows.held s.turns s t) where
-    lets : (w : Way) (fact : Fact) → is_of_pending fact ≡ true → is_of_way z.cells w fact ≡ false
+    lets : (w : Way) (fact : Fact) → (is_of_versions fact || is_of_heap fact) ≡ true → is_of_way z.cells w fact ≡ false
     lets Undecided versions_in_memory e = refl
     lets Undecided versions_nowhere e = refl
     lets Undecided number_in_heap e = refl
@@ -108,6 +108,11 @@ module _ {D : Type 0} (z : SharedState D) (s t u : SeatState) (log left : LogSta
     lets (InWord p c) number_in_heap e = refl
     lets (InWord p c) number_not_in_heap e = refl
     lets (InWord p c) other e = absurd (true≢false (sym e))
+    lets (Delayed p c) versions_in_memory e = refl
+    lets (Delayed p c) versions_nowhere e = refl
+    lets (Delayed p c) number_in_heap e = refl
+    lets (Delayed p c) number_not_in_heap e = refl
+    lets (Delayed p c) other e = absurd (true≢false (sym e))
 
     pub next_still : Noted s.knows versions_in_memory → IsNext t.knows log.table entry others
     next_still versions =
@@ -121,10 +126,16 @@ module _ {D : Type 0} (z : SharedState D) (s t u : SeatState) (log left : LogSta
           owned = owns_still s.knows t.knows (ap (λ (x : Participant). x.direct) same) (ap (λ (x : Participant). x.transactions) same) log.table.history entry owned.0;
         }
 
-    pub entered_in_place : (bound : ℕ) (words : List ℕ) → Noted t.knows (words_stay bound words) → IsEntered z.cells words way → IsInPlace t.knows z.cells log.table entry
+    pub entered_in_place : (bound : ℕ) (words : List ℕ) → Noted t.knows (words_stay (bound_with z.cells (length log.table.history) bound words way) (with_way words way)) → IsEntered t.knows z.cells (with_way words way) way → IsInPlace t.knows z.cells log.table entry
     entered_in_place bound words noted there = record {
       number = λ prepare. first.noted number_in_heap (lets way number_in_heap refl) (may.number (ap (λ (e : List Entry). is_prepare (next_of e)) pending ∙ is_a_prepare entry prepare));
-      pair = λ pair e. (bound, words, noted, subst (λ (o : Option CommitPair). IsEntered z.cells words (way_of o)) (pair_is ∙ e) there);
+      pair = λ pair e. (
+        bound_with z.cells (length log.table.history) bound words way,
+        with_way words way,
+        noted,
+        subst (λ (o : Option CommitPair). IsEntered t.knows z.cells (with_way words way) (way_of z.cells o)) (pair_is ∙ e) there,
+        λ wide. subst (λ (w : Way). pair.number ≤ bound_with z.cells (length log.table.history) bound words w) (sym (ap (way_of z.cells) (pair_is ∙ e) ∙ ap (λ (b : Bool). cond b (InWord pair.number pair.decision) (Delayed pair.number pair.decision)) wide)) (delayed_reached pair.number bound),
+      );
     }
 
     -- and it joined the history
@@ -162,32 +173,32 @@ module _ {D : Type 0} (z : SharedState D) (s t u : SeatState) (log left : LogSta
             words = with_way w.words way;
             noted = k.seat.noted (words_stay (bound_with z.cells (length log.table.history) w.bound w.words way) (with_way w.words way)) refl (entering w.bound w.words w.noted);
             are_published = subst (λ (n : ℕ). ArePublished n (with_way w.words way)) (sym longer)
-                (way_published (length log.table.history) w.words (pending_pair log.table.history log.table.pending) (pending_decides log.table.history log.table.pending) w.are_published);
+                (way_published z.cells (length log.table.history) w.words (pending_pair log.table.history log.table.pending) (λ pair e. pending_order log.table.history log.table.pending pair may.may.legal e) w.are_published);
           };
         };
         seat = joined_goes;
         words = λ bound words there.
-            subst (λ (o : Option CommitPair). Noted u.knows (words_stay (bound_with z.cells (length log.table.history) bound words (way_of o)) (with_way words (way_of o)))) pair_is
+            subst (λ (o : Option CommitPair). Noted u.knows (words_stay (bound_with z.cells (length log.table.history) bound words (way_of z.cells o)) (with_way words (way_of z.cells o)))) pair_is
             (k.seat.noted (words_stay (bound_with z.cells (length log.table.history) bound words way) (with_way words way)) refl (entering bound words there));
         log_is = k.log_is;
       }
 
       -- the others may join behind it
       pub others_join : ((place : ℕ) → IsElsewhere z.cells place way → IsReadyAt s.knows (length log.table.history) place → IsReadyAt t.knows (length log.table.history) place)
-          → (bound : ℕ) (words : List ℕ) → Noted t.knows (words_stay bound words) → IsEntered z.cells words way → MayJoin u.knows z.cells left.table × AreBehind left.table.pending
-      others_join elsewhere bound words noted there =
+          → ((p : ℕ) → IsReached s.knows p → IsReached t.knows p) → (bound : ℕ) (words : List ℕ) → Noted t.knows (words_stay bound words) → IsEntered t.knows z.cells words way → MayJoin u.knows z.cells left.table × AreBehind left.table.pending
+      others_join elsewhere reached bound words noted there =
           let behind : AreBehind others = subst (λ (e : List Entry). AreBehind (rest_of e)) pending may.behind in
           let same : u.knows.participant ≡ (as_published log.table.history entry s).knows.participant = ap (λ (x : SeatState). x.knows.participant) joined_goes.same in
           let legal : IsLegal (log.table.history ++ entry ∷ others) = subst (λ (e : List Entry). IsLegal (log.table.history ++ e)) pending may.may.legal in
           let owned : OwnsEntries s.knows log.table.history (entry ∷ others) = subst (OwnsEntries s.knows log.table.history) pending may.may.owned in
-          let pairs : AreReady s.knows z.cells (length log.table.history) (way_of (pair_by (suc (length log.table.history)) entry) ∷ ways_of (suc (suc (length log.table.history))) others) =
-          subst (λ (e : List Entry). AreReady s.knows z.cells (length log.table.history) (ways_of (suc (length log.table.history)) e)) pending may.pairs in
-          let apart : AreApart z.cells (way_of (pair_by (suc (length log.table.history)) entry) ∷ ways_of (suc (suc (length log.table.history))) others) =
-          subst (λ (e : List Entry). AreApart z.cells (ways_of (suc (length log.table.history)) e)) pending may.apart in
-          let keeps = keeps_ready (is_over log.table.history entry) (as_published log.table.history entry t) u (writes left.table ∷ []) t.turns (λ place pair. (refl, refl, refl)) k.seat (λ b list n. (b, k.seat.noted (words_stay b list) refl n)) in
+          let pairs : AreReady s.knows z.cells (length log.table.history) (way_of z.cells (pair_by (suc (length log.table.history)) entry) ∷ ways_of z.cells (suc (suc (length log.table.history))) others) =
+          subst (λ (e : List Entry). AreReady s.knows z.cells (length log.table.history) (ways_of z.cells (suc (length log.table.history)) e)) pending may.pairs in
+          let apart : AreApart z.cells (way_of z.cells (pair_by (suc (length log.table.history)) entry) ∷ ways_of z.cells (suc (suc (length log.table.history))) others) =
+          subst (λ (e : List Entry). AreApart z.cells (ways_of z.cells (suc (length log.table.history)) e)) pending may.apart in
+          let keeps = keeps_ready (is_over log.table.history entry) (as_published log.table.history entry t) u (writes left.table ∷ []) t.turns (λ place pair. (refl, refl, refl)) k.seat (λ b list n. (b, k.seat.noted (words_stay b list) refl n, omega arith)) in
           let later : length log.table.history ≤ length left.table.history = let l = longer in omega (arith, l) in
           let own : (p c : ℕ) → way ≡ InWord p c → p ≡ c → IsReadyAt u.knows (length left.table.history) (cache_place z.cells p) = λ p c is itself.
-          let last : c ≡ suc (length log.table.history) = pending_decides log.table.history log.table.pending (record { number = p; decision = c }) (pair_of_way (pending_pair log.table.history log.table.pending) p c is) in
+          let last : c ≡ suc (length log.table.history) = pending_decides log.table.history log.table.pending (record { number = p; decision = c }) (pair_of_way z.cells (pending_pair log.table.history log.table.pending) p c is).0 in
           let l = longer in
           inr (
             bound,
@@ -195,13 +206,13 @@ module _ {D : Type 0} (z : SharedState D) (s t u : SeatState) (log left : LogSta
             c,
             k.seat.noted (words_stay bound words) refl noted,
             omega (arith, l, last),
-            subst (λ (w : Way). IsEntered z.cells words w) is there ∙ ap (λ (q : ℕ). Some (record { number = q; decision = c })) itself,
+            subst (λ (w : Way). IsEntered t.knows z.cells words w) is there ∙ ap (λ (q : ℕ). Some (record { number = q; decision = c })) itself,
           ) in
-          let ready : AreReady u.knows z.cells (length left.table.history) (ways_of (suc (suc (length log.table.history))) others) =
-          ready_behind s.knows u.knows z.cells (length log.table.history) (length left.table.history) way (ways_of (suc (suc (length log.table.history))) others)
+          let ready : AreReady u.knows z.cells (length left.table.history) (ways_of z.cells (suc (suc (length log.table.history))) others) =
+          ready_behind s.knows u.knows z.cells (length log.table.history) (length left.table.history) (λ p r. reached_still (as_published log.table.history entry t).knows u.knows keeps p (reached p r)) way (ways_of z.cells (suc (suc (length log.table.history))) others)
           (λ place away r. ready_still (as_published log.table.history entry t).knows u.knows z.cells (length log.table.history) (length left.table.history) keeps later place (elsewhere place away r))
           own
-          (subst (λ (o : Option CommitPair). MayPrecede z.cells (way_of o) (ways_of (suc (suc (length log.table.history))) others)) (sym pair_is) apart.0)
+          (subst (λ (o : Option CommitPair). MayPrecede z.cells (way_of z.cells o) (ways_of z.cells (suc (suc (length log.table.history))) others)) (sym pair_is) apart.0)
           pairs.1 in (
             record {
               logged = ap (λ (x : LogState). x.table.logged) k.log_is ∙ may.logged;
@@ -211,8 +222,8 @@ module _ {D : Type 0} (z : SharedState D) (s t u : SeatState) (log left : LogSta
                     (own_still s.knows u.knows (ap (λ (x : Participant). x.direct) same) (ap (λ (x : Participant). x.transactions) same) (log.table.history ++ entry ∷ []) others owned.1);
               };
               number = λ is. absurd (behind_decides others behind (sym (ap (λ (e : List Entry). is_prepare (next_of e)) pending_is) ∙ is));
-              pairs = subst (λ (x : ℕ × List Entry). AreReady u.knows z.cells (length left.table.history) (ways_of (suc x.0) x.1)) (λ i. (sym longer i, sym pending_is i)) ready;
-              apart = subst (λ (x : ℕ × List Entry). AreApart z.cells (ways_of (suc x.0) x.1)) (λ i. (sym longer i, sym pending_is i)) apart.1;
+              pairs = subst (λ (x : ℕ × List Entry). AreReady u.knows z.cells (length left.table.history) (ways_of z.cells (suc x.0) x.1)) (λ i. (sym longer i, sym pending_is i)) ready;
+              apart = subst (λ (x : ℕ × List Entry). AreApart z.cells (ways_of z.cells (suc x.0) x.1)) (λ i. (sym longer i, sym pending_is i)) apart.1;
               behind = subst (λ (e : List Entry). AreBehind (rest_of e)) (sym pending_is) (behind_rest others behind);
             },
             subst AreBehind (sym pending_is) behind,
@@ -222,14 +233,14 @@ module _ {D : Type 0} (z : SharedState D) (s t u : SeatState) (log left : LogSta
 pub joins_still : (a b : Actor) (cells : ℕ) (d : WriteTable) → b.participant ≡ a.participant → ((fact : Fact) → Noted a fact → Noted b fact) → MayJoin a cells d → MayJoin b cells d
 joins_still a b cells d same noted k =
     let keeps : KeepsReady a b = record {
-      words = λ bound words there. (bound, noted (words_stay bound words) there);
+      words = λ bound words there. (bound, noted (words_stay bound words) there, omega arith);
       gone = λ place pair go. (noted (passed place pair) go.0, noted (in_old_commits place pair) go.1, noted (view.apart place pair) go.2);
     } in
     record {
       logged = k.logged;
       may = record { legal = k.may.legal; owned = own_still a b (ap (λ (x : Participant). x.direct) same) (ap (λ (x : Participant). x.transactions) same) d.history d.pending k.may.owned };
       number = λ is. noted number_in_heap (k.number is);
-      pairs = are_ready_still a b cells (length d.history) (length d.history) keeps (omega arith) (ways_of (suc (length d.history)) d.pending) k.pairs;
+      pairs = are_ready_still a b cells (length d.history) (length d.history) keeps (omega arith) (ways_of cells (suc (length d.history)) d.pending) k.pairs;
       apart = k.apart;
       behind = k.behind;
     }
@@ -239,7 +250,7 @@ noted_join s t fact cells d is k = joins_still s.knows t.knows cells d (ap (λ (
 
 -- ---- the record is ready, and was logged
 
-pub logged_join : {D : Type 0} (z : SharedState D) (s t : SeatState) (log mid : LogState) (cells : ℕ) → IsOneRecord log.table.pending → MayPut s.knows log.table.history log.table.pending → AreApart cells (ways_of (suc (length log.table.history)) log.table.pending) → IsReadied s.knows cells log.table
+pub logged_join : {D : Type 0} (z : SharedState D) (s t : SeatState) (log mid : LogState) (cells : ℕ) → IsOneRecord log.table.pending → MayPut s.knows log.table.history log.table.pending → AreApart cells (ways_of cells (suc (length log.table.history)) log.table.pending) → IsReadied s.knows cells log.table
     → IsLogged z s log t mid → MayJoin t.knows cells mid.table × Noted t.knows versions_in_memory
 logged_join z s t log mid cells one may apart ready k =
     let noted : (fact : Fact) → Noted s.knows fact → Noted t.knows fact = λ fact there. subst (λ (x : SeatState). Noted x.knows fact) (sym k.seat) there in
@@ -249,8 +260,8 @@ logged_join z s t log mid cells one may apart ready k =
         logged = ap (λ (x : WriteTable). x.logged) k.table;
         may = subst (λ (x : List Entry × List Entry). MayPut s.knows x.0 x.1) (λ i. (sym history i, sym pending i)) may;
         number = λ is. ready.number (ap (λ (e : List Entry). is_prepare (next_of e)) (sym pending) ∙ is);
-        pairs = subst (λ (x : List Entry × List Entry). AreReady s.knows cells (length x.0) (ways_of (suc (length x.0)) x.1)) (λ i. (sym history i, sym pending i)) ready.pairs;
-        apart = subst (λ (x : List Entry × List Entry). AreApart cells (ways_of (suc (length x.0)) x.1)) (λ i. (sym history i, sym pending i)) apart;
+        pairs = subst (λ (x : List Entry × List Entry). AreReady s.knows cells (length x.0) (ways_of cells (suc (length x.0)) x.1)) (λ i. (sym history i, sym pending i)) ready.pairs;
+        apart = subst (λ (x : List Entry × List Entry). AreApart cells (ways_of cells (suc (length x.0)) x.1)) (λ i. (sym history i, sym pending i)) apart;
         behind = subst (λ (e : List Entry). AreBehind (rest_of e)) (sym pending) (one_behind log.table.pending one);
       }),
       noted versions_in_memory ready.versions,

@@ -1,5 +1,5 @@
 -- The steps of a record: that they may be made, and what they leave of the seat.
-use Rattle.std.proofs.Common.{◌≡◌, inl, inr, ℕ, suc, Bool, true, false, true≢false, cond, List, [], ◌∷◌, ◌++◌, length, refl, sym, subst, ap, ◌∙◌, eq-eqb, Option, Some, None}
+use Rattle.std.proofs.Common.{◌≡◌, ◌⊎◌, inl, inr, ℕ, ◌≤◌, suc, Bool, true, false, true≢false, cond, List, [], ◌∷◌, ◌++◌, length, refl, sym, subst, ap, ◌∙◌, eq-eqb, Option, Some, None}
 use Rattle.std.specs.FinSet as set
 use Rattle.wp_model.specs.declared.entry.Entry.{Entry}
 use Rattle.wp_model.specs.Decision.{version_in}
@@ -7,7 +7,7 @@ use Rattle.wp_model.specs.Legal.{IsLegal}
 use Rattle.wp_model.specs.PreparedTables.{PreparedTables}
 use Rattle.wp_model.specs.Versions.{version_at}
 use Rattle.wp_model.specs.declared.version.Version.{Version}
-use Rattle.wp_judge.specs.Words.{CommitPair, decision_if}
+use Rattle.wp_judge.specs.Words.{CommitPair, decision_if, fits}
 use Rattle.wp_core.specs.Cache.{cache_place, cached, pair_at}
 use Rattle.wp_core.specs.Changes.{held_with}
 use Rattle.wp_core.specs.Effects.{publishes, with_entry}
@@ -17,7 +17,7 @@ use Rattle.wp_core.specs.Notes.{ends}
 use Rattle.wp_core.specs.Steps.{Step, make_pending, log_pending, close_log, drop_pending, add_prepared, take_pending_prepared, add_versions, take_versions, store_published, note}
 use Rattle.wp_core.specs.Tables.{Content, WriteTable, StoreTable, writes, prepared, store}
 use Rattle.wp_core.specs.Turns.{write_turn}
-use Rattle.wp_core.specs.Views.{Fact, words_stay, versions_in_memory, versions_nowhere, number_in_heap, number_not_in_heap, undecided_at, prior_values, unprepared}
+use Rattle.wp_core.specs.Views.{Fact, words_stay, versions_in_memory, versions_nowhere, number_in_heap, number_not_in_heap, pair_delayed, pair_not_delayed, none_waits, undecided_at, prior_values, unprepared}
 use Rattle.wp_core.specs.World.{Actor, World}
 use Rattle.wp_model.proofs.Numbers.{in_inserted, in_removed}
 use Rattle.wp_rule.specs.Knows.{Noted}
@@ -34,6 +34,8 @@ use Rattle.wp_shared.proofs.OneStep.{made, becomes}
 use Rattle.wp_shared.specs.Notes.{GoesOn}
 use Rattle.wp_shared.proofs.Goes.{goes_with}
 use Rattle.wp_shared.proofs.Tables.{held_table}
+use Rattle.wp_commits.specs.declared.way.Way.TheVariants.{InWord, Delayed}
+use Rattle.wp_commits.specs.Ways.{way_of, IsEntered}
 use Rattle.wp_commits.proofs.Flags.{note_ends_none}
 use Rattle.wp_shared.specs.Notes.{KnowsWords}
 use Rattle.wp_records.specs.Stages.{is_of_versions, is_of_heap, is_of_pending, is_over, holding, as_failed, as_published, HasPrepare, IsUnlogged, IsNext, IsInPlace}
@@ -72,26 +74,30 @@ begin_ends history words entries versions_in_memory e = absurd (true≢false e)
 begin_ends history words entries versions_nowhere e = absurd (true≢false e)
 begin_ends history words entries number_in_heap e = absurd (true≢false e)
 begin_ends history words entries number_not_in_heap e = absurd (true≢false e)
+begin_ends history words entries pair_delayed e = absurd (true≢false e)
+begin_ends history words entries pair_not_delayed e = absurd (true≢false e)
+begin_ends history words entries none_waits e = absurd (true≢false e)
 begin_ends history words entries other e = refl
 
 pub may_begin : (p : Place) (a : Actor) (t d : WriteTable) → a.held ≡ writes t ∷ [] → t.pending ≡ [] → d ≡ record t { pending = d.pending; logged = false } → IsOneRecord d.pending → IsLegal (d.history ++ d.pending)
-    → MayMake p a (λ w. make_pending d.pending ∷ note versions_nowhere ∷ note number_not_in_heap ∷ [])
+    → MayMake p a (λ w. make_pending d.pending ∷ note versions_nowhere ∷ note number_not_in_heap ∷ note pair_not_delayed ∷ [])
 may_begin p a t d held none is one legal =
     begins_entries p a d.pending (record { table = t; held = first_held a (writes t) [] held; so_is = (none, one, subst (λ (h : List Entry). IsLegal (h ++ d.pending)) (ap (λ (x : WriteTable). x.history) is) legal) })
 
 pub began : (p : Place) (so : World → Type 0) (s u : SeatState) → (u.table ≡ s.table) × (u.by ≡ s.by) × (u.turns ≡ s.turns) → (t d : WriteTable) → s.knows.held ≡ writes t ∷ [] → d ≡ record t { pending = d.pending; logged = false }
-    → Moved p (λ w. make_pending d.pending ∷ note versions_nowhere ∷ note number_not_in_heap ∷ []) so s.knows u.knows
-    → GoesOn is_of_pending (writes d ∷ []) s.turns s u × Noted u.knows versions_nowhere × Noted u.knows number_not_in_heap
+    → Moved p (λ w. make_pending d.pending ∷ note versions_nowhere ∷ note number_not_in_heap ∷ note pair_not_delayed ∷ []) so s.knows u.knows
+    → GoesOn is_of_pending (writes d ∷ []) s.turns s u × Noted u.knows versions_nowhere × Noted u.knows number_not_in_heap × Noted u.knows pair_not_delayed
 began p so s u same t d held is m =
     let w = m.world in
-    let steps : World → List Step = λ v. make_pending d.pending ∷ note versions_nowhere ∷ note number_not_in_heap ∷ [] in
+    let steps : World → List Step = λ v. make_pending d.pending ∷ note versions_nowhere ∷ note number_not_in_heap ∷ note pair_not_delayed ∷ [] in
     let table : w.writes ≡ t = held_table p s.knows w (writes t) m.before (first_held s.knows (writes t) [] held) in
     let left : held_with s.knows.held (writes (record w.writes { pending = d.pending; logged = false })) ≡ writes d ∷ [] =
     (λ i. held_with (held i) (writes (record (table i) { pending = d.pending; logged = false }))) ∙ ap (λ (x : WriteTable). writes x ∷ []) (sym is) in (
       goes_by p so s u same steps m is_of_pending (writes d ∷ []) refl left (λ fact other.
-          ((λ x. x), begin_ends w.writes.history (length w.cache) d.pending fact other, ((λ x. x), note_ends_none w.writes.history (length w.cache) versions_nowhere fact, ((λ x. x), note_ends_none w.writes.history (length w.cache) number_not_in_heap fact, tt)))),
-      noted_by p so s u same steps m versions_nowhere (inr (inl refl)),
-      noted_by p so s u same steps m number_not_in_heap (inl refl),
+          ((λ x. x), begin_ends w.writes.history (length w.cache) d.pending fact other, ((λ x. x), note_ends_none w.writes.history (length w.cache) versions_nowhere fact, ((λ x. x), note_ends_none w.writes.history (length w.cache) number_not_in_heap fact, ((λ x. x), note_ends_none w.writes.history (length w.cache) pair_not_delayed fact, tt))))),
+      noted_by p so s u same steps m versions_nowhere (inr (inr (inl refl))),
+      noted_by p so s u same steps m number_not_in_heap (inr (inl refl)),
+      noted_by p so s u same steps m pair_not_delayed (inl refl),
     )
 
 drop_ends : (history : List Entry) (words : ℕ) (fact : Fact) → is_of_pending fact ≡ false → ends history words drop_pending fact ≡ false
@@ -99,12 +105,15 @@ drop_ends history words versions_in_memory e = absurd (true≢false e)
 drop_ends history words versions_nowhere e = absurd (true≢false e)
 drop_ends history words number_in_heap e = absurd (true≢false e)
 drop_ends history words number_not_in_heap e = absurd (true≢false e)
+drop_ends history words pair_delayed e = absurd (true≢false e)
+drop_ends history words pair_not_delayed e = absurd (true≢false e)
+drop_ends history words none_waits e = absurd (true≢false e)
 drop_ends history words other e = refl
 
-pub may_drop : (p : Place) (a : Actor) (t d : WriteTable) → a.held ≡ writes t ∷ [] → t.logged ≡ false → d ≡ record t { pending = [] } → KnowsWords a (length d.history) → Noted a versions_nowhere → Noted a number_not_in_heap → MayMake p a (λ w. drop_pending ∷ [])
-may_drop p a t d held unlogged is words nowhere below =
+pub may_drop : (p : Place) (a : Actor) (t d : WriteTable) → a.held ≡ writes t ∷ [] → t.logged ≡ false → d ≡ record t { pending = [] } → KnowsWords a (length d.history) → Noted a versions_nowhere → Noted a number_not_in_heap → Noted a pair_not_delayed → MayMake p a (λ w. drop_pending ∷ [])
+may_drop p a t d held unlogged is words nowhere below undelayed =
     let known : KnowsWords a (length t.history) = subst (λ (h : List Entry). KnowsWords a (length h)) (ap (λ (x : WriteTable). x.history) is) words in
-    known_made p a drop_pending tt (record { table = t; held = first_held a (writes t) [] held; so_is = (unlogged, (known.bound, known.words, known.noted, uncached a t known), nowhere, below) })
+    known_made p a drop_pending tt (record { table = t; held = first_held a (writes t) [] held; so_is = (unlogged, (known.bound, known.words, known.noted, uncached a t known), undelayed, nowhere, below) })
 
 pub dropped : (p : Place) (so : World → Type 0) (s u : SeatState) → (u.table ≡ s.table) × (u.by ≡ s.by) × (u.turns ≡ s.turns) → (t d : WriteTable) → s.knows.held ≡ writes t ∷ [] → d ≡ record t { pending = [] } → Moved p (λ w. drop_pending ∷ []) so s.knows u.knows
     → GoesOn is_of_pending (writes d ∷ []) s.turns s u
@@ -117,10 +126,10 @@ dropped p so s u same t d held is m =
 -- ---- the log call
 
 log_ends : EndsNothing log_pending
-log_ends = record { guard = λ turn. refl; place = λ words place. refl; words = refl; delayed_flag = refl; old_flag = refl; pending = refl; adds = refl; takes = refl; prepared = refl; unprepared = refl; transaction = λ history name. refl; direct = refl; moves = refl; replaces = refl; installing = refl }
+log_ends = record { guard = λ turn. refl; place = λ words place. refl; words = refl; delayed_flag = refl; old_flag = refl; pending = refl; adds = refl; takes = refl; prepared = refl; unprepared = refl; delays = refl; transaction = λ history name. refl; direct = refl; moves = refl; replaces = refl; installing = refl }
 
 close_ends : EndsNothing close_log
-close_ends = record { guard = λ turn. refl; place = λ words place. refl; words = refl; delayed_flag = refl; old_flag = refl; pending = refl; adds = refl; takes = refl; prepared = refl; unprepared = refl; transaction = λ history name. refl; direct = refl; moves = refl; replaces = refl; installing = refl }
+close_ends = record { guard = λ turn. refl; place = λ words place. refl; words = refl; delayed_flag = refl; old_flag = refl; pending = refl; adds = refl; takes = refl; prepared = refl; unprepared = refl; delays = refl; transaction = λ history name. refl; direct = refl; moves = refl; replaces = refl; installing = refl }
 
 pub may_log : (p : Place) (a : Actor) (t : WriteTable) → a.held ≡ writes t ∷ [] → IsUnlogged t → MayMake p a (λ w. log_pending ∷ [])
 may_log p a t held k = known_made p a log_pending tt (record { table = t; held = first_held a (writes t) [] held; so_is = (k.some, k.unlogged, k.running) })
@@ -264,6 +273,9 @@ publish_ends history words entry others versions_in_memory e = absurd (true≢fa
 publish_ends history words entry others versions_nowhere e = absurd (true≢false e)
 publish_ends history words entry others number_in_heap e = absurd (true≢false e)
 publish_ends history words entry others number_not_in_heap e = absurd (true≢false e)
+publish_ends history words entry others pair_delayed e = absurd (true≢false e)
+publish_ends history words entry others pair_not_delayed e = absurd (true≢false e)
+publish_ends history words entry others none_waits e = absurd (true≢false e)
 publish_ends history words entry others (undecided_at name p) e = e
 publish_ends history words entry others (prior_values name p batch) e = e
 publish_ends history words entry others (unprepared name) e = e
@@ -274,6 +286,15 @@ decided_there : (words : List ℕ) (cells : ℕ) (pair : CommitPair) → length 
 decided_there words cells pair many there =
     ap (λ (n : ℕ). decision_if pair.number (pair_at words (cache_place n pair.number))) many
     ∙ (ap (decision_if pair.number) there ∙ ap (λ (b : Bool). cond b (Some pair.decision) None) (eq-eqb pair.number pair.number refl))
+
+-- the pair is where it is kept
+entered_known : (a : Actor) (bound : ℕ) (words : List ℕ) (cells : ℕ) (pair : CommitPair) → length words ≡ cells → IsEntered a cells words (way_of cells (Some pair)) → ((fits cells pair ≡ false) → pair.number ≤ bound)
+    → (cached words pair.number ≡ Some pair.decision) ⊎ ((fits cells pair ≡ false) × Noted a pair_delayed × (pair.number ≤ bound))
+entered_known a bound words cells pair many there low = by_fit (fits cells pair) refl there
+  where
+    by_fit : (b : Bool) → fits cells pair ≡ b → IsEntered a cells words (cond b (InWord pair.number pair.decision) (Delayed pair.number pair.decision)) → (cached words pair.number ≡ Some pair.decision) ⊎ ((fits cells pair ≡ false) × Noted a pair_delayed × (pair.number ≤ bound))
+    by_fit true e k = inl (decided_there words cells pair many k)
+    by_fit false e k = inr (e, k, low e)
 
 pub may_publish : (p : Place) (a : Actor) (d : WriteTable) (entry : Entry) (others : List Entry) → a.held ≡ writes d ∷ [] → IsNext a d entry others → IsInPlace a p.cells d entry → MayStep p a (store_published entry others)
 may_publish p a d entry others held next place w k =
@@ -289,7 +310,7 @@ may_publish p a d entry others held next place w k =
         keys = next.owned.keys;
         transaction = next.owned.transaction;
         number = place.number;
-        pair = λ pair is. let l = place.pair pair is in let cache = (noted_is p a w (words_stay l.0 l.1) k l.2).is_so.1 in (l.0, l.1, l.2, decided_there l.1 p.cells pair (sym (ap length cache) ∙ k.cells) l.3);
+        pair = λ pair is. let l = place.pair pair is in let cache = (noted_is p a w (words_stay l.0 l.1) k l.2).is_so.1 in (l.0, l.1, l.2, entered_known a l.0 l.1 p.cells pair (sym (ap length cache) ∙ k.cells) l.3 l.4);
       };
     })
 

@@ -109,7 +109,7 @@ module _ {D : Type 0} (z : SharedState D) (s t new : SeatState) (log mid left : 
           ∙ (λ i. record (k.same i).knows { participant = putting (same_history i) entries (k.same i).knows.participant; learned = []; held = writes left.table ∷ []; notes = new.knows.notes });
       notes = λ fact guard about there. p.notes fact guard (subst (λ (e : List Entry). IsAboutNone e entries fact) (sym same_history) about) (k.noted fact (unguarded fact guard) there);
       words = λ bound words there.
-          subst (λ (x : List Entry × ℕ). Noted new.knows (entered z.cells (length x.0) x.1 words (ways_of (suc (length x.0)) entries))) (λ i. (same_history i, rose others bound words i))
+          subst (λ (x : List Entry × ℕ). Noted new.knows (entered z.cells (length x.0) x.1 words (ways_of z.cells (suc (length x.0)) entries))) (λ i. (same_history i, rose others bound words i))
           (p.words (bound_for z.cells n bound words cleared) words (rises bound words there));
     }
 
@@ -123,11 +123,11 @@ module _ {D : Type 0} (z : SharedState D) (s t new : SeatState) (log mid left : 
       durable = subst (λ (w : WalState). LosesNothing w.moments left.wal.moments) wal f.durable;
     }
 
-    ways_are : (entries : List Entry) → ways_of (suc (length mid.table.history)) entries ≡ ways_of (suc n) entries
-    ways_are entries = ap (λ (e : List Entry). ways_of (suc (length e)) entries) same_history
+    ways_are : (entries : List Entry) → ways_of z.cells (suc (length mid.table.history)) entries ≡ ways_of z.cells (suc n) entries
+    ways_are entries = ap (λ (e : List Entry). ways_of z.cells (suc (length e)) entries) same_history
 
     pub puts_before : (entries : List Entry) (answer : Result (Unit {0}) WriteError) → Puts z t mid entries answer new left → Puts z s log entries answer new left
-    puts_before entries (Ok done) p = subst (λ (w : List Way). IsPutWith z s log w entries new left) (ways_are entries) (put_before [] rises (ways_of (suc (length mid.table.history)) entries) entries p)
+    puts_before entries (Ok done) p = subst (λ (w : List Way). IsPutWith z s log w entries new left) (ways_are entries) (put_before [] rises (ways_of z.cells (suc (length mid.table.history)) entries) entries p)
     puts_before entries (Err Memory) p = (
       p.0,
       p.1,
@@ -136,18 +136,18 @@ module _ {D : Type 0} (z : SharedState D) (s t new : SeatState) (log mid left : 
       p.4 ∙ ap (λ (w : WalState). record w { reserved = left.wal.reserved }) wal,
     )
     puts_before entries (Err LogFault) p = (
-      subst (λ (w : List Way). IsNotPut z s log w true (failing entries s.knows.participant) new left) (ways_are entries) (not_put_before [] rises (failing entries) (ways_of (suc (length mid.table.history)) entries) true p.0),
+      subst (λ (w : List Way). IsNotPut z s log w true (failing entries s.knows.participant) new left) (ways_are entries) (not_put_before [] rises (failing entries) (ways_of z.cells (suc (length mid.table.history)) entries) true p.0),
       fails_before entries p.1,
     )
 
 -- the record was made ready before, or it was tried
 module _ {D : Type 0} (z : SharedState D) (s t new : SeatState) (log left : LogState) (k : GoesOn is_guarded s.knows.held s.turns s t) (cleared : List Way) (rises : RisesFor z.cells (length log.table.history) s.knows t.knows cleared) where
-  pub not_ready : (others : List Way) → ways_of (suc (length log.table.history)) log.table.pending ≡ cleared ++ others → (why : WriteError) → why ≡ Memory → IsNotPut z t log [] false t.knows.participant new left → IsUncalled log left → Puts z s log log.table.pending (Err why) new left
+  pub not_ready : (others : List Way) → ways_of z.cells (suc (length log.table.history)) log.table.pending ≡ cleared ++ others → (why : WriteError) → why ≡ Memory → IsNotPut z t log [] false t.knows.participant new left → IsUncalled log left → Puts z s log log.table.pending (Err why) new left
   not_ready others are why is p uncalled =
       subst (λ (e : WriteError). Puts z s log log.table.pending (Err e) new left) (sym is)
       (cleared, others, are, subst (λ (w : List Way). IsNotPut z s log w false s.knows.participant new left) (append-nil cleared) (not_put_before z s t new log log left _ _ k refl cleared rises (λ x. x) [] false p), uncalled)
 
-  pub not_logged : cleared ≡ ways_of (suc (length log.table.history)) log.table.pending → (why : WriteError) → Logs z t log (Err why) new left → Puts z s log log.table.pending (Err why) new left
+  pub not_logged : cleared ≡ ways_of z.cells (suc (length log.table.history)) log.table.pending → (why : WriteError) → Logs z t log (Err why) new left → Puts z s log log.table.pending (Err why) new left
   not_logged all Memory none = absurd none
   not_logged all LogFault p = (
     subst (λ (w : List Way). IsNotPut z s log w true (failing log.table.pending s.knows.participant) new left) (append-nil cleared ∙ all) (not_put_before z s t new log log left _ _ k refl cleared rises (failing log.table.pending) [] true p.0),
@@ -197,9 +197,9 @@ module _ {D : Type 0} (z : SharedState D) (s t new : SeatState) (log mid left : 
         ∙ ap (λ (p : Participant). record s.knows { participant = p; learned = []; held = writes left.table ∷ []; notes = new.knows.notes }) (one_more log.table.history s.knows.participant));
     notes = λ fact guard about there. k.notes fact guard (subst (λ (e : List Entry). IsAboutNone e others fact) (sym history_is) about.1) (joined.seat.noted fact (may_end_not log.table.history entry fact guard about.0) there);
     words = λ bound words there.
-        let way = way_of (pair_by (suc (length log.table.history)) entry) in
+        let way = way_of z.cells (pair_by (suc (length log.table.history)) entry) in
         let next : ℕ = bound_with z.cells (length log.table.history) bound words way in
-        subst (λ (m : ℕ). Noted new.knows (entered z.cells m next (with_way words way) (ways_of (suc m) others))) (ap (λ (e : List Entry). length e) history_is ∙ one_longer log.table.history)
+        subst (λ (m : ℕ). Noted new.knows (entered z.cells m next (with_way words way) (ways_of z.cells (suc m) others))) (ap (λ (e : List Entry). length e) history_is ∙ one_longer log.table.history)
         (k.words next (with_way words way) (joined.words bound words there));
   }
 
@@ -217,12 +217,12 @@ module _ {D : Type 0} (z : SharedState D) (s t : SeatState) (log mid : LogState)
       put_before z r s new log log left _ _ (notes is_guarded r s s versions_in_memory noted) refl [] (λ bound words there. still_noted r s versions_in_memory (words_stay bound words) noted there) [] log.table.pending (put_first new left p)
 
 -- the record was made ready and logged before
-pub put_logged : {D : Type 0} (z : SharedState D) (s t u new : SeatState) (log mid left : LogState) → GoesOn is_guarded s.knows.held s.turns s t → RisesFor z.cells (length log.table.history) s.knows t.knows (ways_of (suc (length log.table.history)) log.table.pending)
+pub put_logged : {D : Type 0} (z : SharedState D) (s t u new : SeatState) (log mid left : LogState) → GoesOn is_guarded s.knows.held s.turns s t → RisesFor z.cells (length log.table.history) s.knows t.knows (ways_of z.cells (suc (length log.table.history)) log.table.pending)
     → IsLogged z t log u mid → IsPutWith z u mid [] mid.table.pending new left → IsPut z s log log.table.pending new left
 put_logged z s t u new log mid left k rises logged p =
     let history : mid.table.history ≡ log.table.history = ap (λ (x : WriteTable). x.history) logged.table in
     let pending : mid.table.pending ≡ log.table.pending = ap (λ (x : WriteTable). x.pending) logged.table in
-    let ways = ways_of (suc (length log.table.history)) log.table.pending in
+    let ways = ways_of z.cells (suc (length log.table.history)) log.table.pending in
     let behind = put_before z t u new log mid left _ _ (holds is_guarded t u u (writes mid.table ∷ []) logged.seat) history [] (λ bound words there. subst (λ (x : SeatState). Noted x.knows (words_stay bound words)) (sym logged.seat) there)
     [] log.table.pending (subst (λ (e : List Entry). IsPutWith z u mid [] e new left) pending p) in
     subst (λ (w : List Way). IsPutWith z s log w log.table.pending new left) (append-nil ways) (put_before z s t new log log left _ _ k refl ways rises [] log.table.pending behind)

@@ -45,8 +45,8 @@ module _ {D : Type 0} (z : SharedState D) (s t : SeatState) (log mid : LogState)
       subst (λ (x : List Entry × List Entry). MayPut t.knows x.0 x.1) (λ i. (sym history_is i, sym pending_is i))
       (may_still s.knows t.knows log.table.history es (ap (λ (x : SeatState). x.knows.participant) b.seat.same) may)
 
-  pub begun_apart : (cells : ℕ) → AreApart cells (ways_of (suc (length log.table.history)) es) → AreApart cells (ways_of (suc (length mid.table.history)) mid.table.pending)
-  begun_apart cells apart = subst (λ (x : List Entry × List Entry). AreApart cells (ways_of (suc (length x.0)) x.1)) (λ i. (sym history_is i, sym pending_is i)) apart
+  pub begun_apart : (cells : ℕ) → AreApart cells (ways_of cells (suc (length log.table.history)) es) → AreApart cells (ways_of cells (suc (length mid.table.history)) mid.table.pending)
+  begun_apart cells apart = subst (λ (x : List Entry × List Entry). AreApart cells (ways_of cells (suc (length x.0)) x.1)) (λ i. (sym history_is i, sym pending_is i)) apart
 
   pub begun_puts : (new : SeatState) (left : LogState) (answer : Result (Unit {0}) WriteError) → Puts z t mid mid.table.pending answer new left → Puts z s log es answer new left
   begun_puts new left answer p =

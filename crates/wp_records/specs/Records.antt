@@ -79,11 +79,11 @@ pub record IsPutWith {D : Type 0} (z : SharedState D) (old : SeatState) (log : L
   pub knows : new.knows ≡ record old.knows { participant = putting log.table.history entries old.knows.participant; learned = []; held = writes left.table ∷ []; notes = new.knows.notes }
   pub notes : (fact : Fact) → guarded_by fact ≡ None → IsAboutNone log.table.history entries fact → IsIn fact old.knows.notes → IsIn fact new.knows.notes
   pub words : (bound : ℕ) (words : List ℕ) → Noted old.knows (words_stay bound words)
-      → Noted new.knows (entered z.cells (length log.table.history) (bound_for z.cells (length log.table.history) bound words cleared) words (ways_of (suc (length log.table.history)) entries))
+      → Noted new.knows (entered z.cells (length log.table.history) (bound_for z.cells (length log.table.history) bound words cleared) words (ways_of z.cells (suc (length log.table.history)) entries))
 
 -- ... for those of all its entries
 abbrev pub IsPut : {D : Type 0} → SharedState D → SeatState → LogState → List Entry → SeatState → LogState → Type 0
-IsPut z old log entries new left = IsPutWith z old log (ways_of (suc (length log.table.history)) entries) entries new left
+IsPut z old log entries new left = IsPutWith z old log (ways_of z.cells (suc (length log.table.history)) entries) entries new left
 
 -- The history is as it was, and nothing is pending. The log is closed now, or it is not. The bound rose for these ways, and the words
 -- are as they were.
@@ -117,5 +117,5 @@ pub record FailsAppend (log : LogState) (entries : List Entry) (left : LogState)
 abbrev pub Puts : {D : Type 0} → SharedState D → SeatState → LogState → List Entry → Result (Unit {0}) WriteError → SeatState → LogState → Type 0
 Puts z old log entries (Ok done) new left = IsPut z old log entries new left
 Puts z old log entries (Err Memory) new left =
-    (cleared : List Way) × (others : List Way) × (ways_of (suc (length log.table.history)) entries ≡ cleared ++ others) × IsNotPut z old log cleared false old.knows.participant new left × IsUncalled log left
-Puts z old log entries (Err LogFault) new left = IsNotPut z old log (ways_of (suc (length log.table.history)) entries) true (failing entries old.knows.participant) new left × FailsAppend log entries left
+    (cleared : List Way) × (others : List Way) × (ways_of z.cells (suc (length log.table.history)) entries ≡ cleared ++ others) × IsNotPut z old log cleared false old.knows.participant new left × IsUncalled log left
+Puts z old log entries (Err LogFault) new left = IsNotPut z old log (ways_of z.cells (suc (length log.table.history)) entries) true (failing entries old.knows.participant) new left × FailsAppend log entries left

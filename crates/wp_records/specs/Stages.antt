@@ -1,19 +1,18 @@
 -- A record between its making and the history: what the seat holds and has noted, and what each stage leaves of it.
-use Rattle.std.specs.Prelude.{◌≡◌, ◌≢◌, ℕ, suc, Bool, true, false, ◌||◌, List, [], ◌∷◌, ◌++◌, length, is_some, Some, Result, Ok, Err}
-use Rattle.wp_judge.specs.Words.{CommitPair}
+use Rattle.std.specs.Prelude.{◌≡◌, ◌≢◌, ◌≤◌, ℕ, suc, Bool, true, false, ◌||◌, List, [], ◌∷◌, ◌++◌, length, is_some, Some, Result, Ok, Err}
+use Rattle.wp_judge.specs.Words.{CommitPair, fits}
 use Rattle.wp_model.specs.declared.change.Change.{Change}
 use Rattle.wp_model.specs.declared.entry.Entry.{Entry}
 use Rattle.wp_model.specs.declared.entry.Entry.TheVariants.{Prepare, Commit, Close}
 use Rattle.wp_model.specs.History.{is_prepare}
 use Rattle.wp_model.specs.Legal.{IsLegal}
-use Rattle.wp_core.specs.Cache.{cache_place, pair_at}
 use Rattle.wp_core.specs.Changes.{remembers}
 use Rattle.wp_core.specs.Conditions.{IsPrepare}
 use Rattle.wp_core.specs.Effects.{with_entry, publishes}
 use Rattle.wp_core.specs.Entries.{next_of, pair_by, transaction_of}
 use Rattle.wp_core.specs.Sound.Views.{guarded_by}
 use Rattle.wp_core.specs.Tables.{WriteTable, writes}
-use Rattle.wp_core.specs.Views.{Fact, versions_in_memory, versions_nowhere, number_in_heap, number_not_in_heap, words_stay, log_failed}
+use Rattle.wp_core.specs.Views.{Fact, versions_in_memory, versions_nowhere, number_in_heap, number_not_in_heap, pair_delayed, pair_not_delayed, none_waits, words_stay, log_failed}
 use Rattle.wp_core.specs.World.{Actor}
 use Rattle.wp_rule.specs.Knows.{Noted}
 use Rattle.wp_parts.specs.Log.{LogState}
@@ -21,7 +20,7 @@ use Rattle.wp_parts.specs.Parts.{log_first}
 use Rattle.wp_shared.specs.Seats.{SharedState, SeatState}
 use Rattle.wp_shared.specs.Turns.{HoldsTurn}
 use Rattle.wp_shared.specs.Notes.{is_flag, GoesOn, KnowsWords}
-use Rattle.wp_commits.specs.Ways.{ways_of, AreReady, AreApart, entered}
+use Rattle.wp_commits.specs.Ways.{way_of, ways_of, AreReady, AreApart, IsEntered, entered}
 use Rattle.wp_records.specs.declared.error.WriteError.{WriteError}
 use Rattle.wp_records.specs.declared.error.WriteError.TheVariants.{Memory, LogFault}
 use Rattle.wp_records.specs.Records.{OwnsEntry, is_about, MayPut, IsNotPut, IsUncalled, failing, FailsAppend}
@@ -44,9 +43,16 @@ is_of_heap other = false
 abbrev pub is_of_number : Fact → Bool
 is_of_number fact = is_of_heap fact || is_flag fact
 
+-- whether its pair is a delayed commit, or whether a prepared number waits to be taken out
+abbrev pub is_of_pair : Fact → Bool
+is_of_pair pair_delayed = true
+is_of_pair pair_not_delayed = true
+is_of_pair none_waits = true
+is_of_pair other = false
+
 -- any of the pending entry
 abbrev pub is_of_pending : Fact → Bool
-is_of_pending fact = is_of_versions fact || is_of_heap fact
+is_of_pending fact = (is_of_versions fact || is_of_heap fact) || is_of_pair fact
 
 -- that, or what a flag is
 abbrev pub is_of_stage : Fact → Bool
@@ -106,13 +112,14 @@ pub record IsBegun {D : Type 0} (z : SharedState D) (old : SeatState) (log : Log
   pub uncalled : IsUncalled log left
   pub nowhere : Noted new.knows versions_nowhere
   pub below : Noted new.knows number_not_in_heap
+  pub undelayed : Noted new.knows pair_not_delayed
 
 -- what the log call needs of the record: its versions are in memory, the number of a Prepare is in the heap, and its pairs may be
 -- entered
 pub record IsReadied (a : Actor) (cells : ℕ) (d : WriteTable) : Type 0 where
   pub versions : Noted a versions_in_memory
   pub number : is_prepare (next_of d.pending) ≡ true → Noted a number_in_heap
-  pub pairs : AreReady a cells (length d.history) (ways_of (suc (length d.history)) d.pending)
+  pub pairs : AreReady a cells (length d.history) (ways_of cells (suc (length d.history)) d.pending)
 
 -- ---- the log call
 
@@ -138,10 +145,11 @@ pub record IsNext (a : Actor) (d : WriteTable) (entry : Entry) (others : List En
   pub versions : Noted a versions_in_memory
   pub owned : OwnsEntry a d.history entry
 
--- the number of a Prepare is in the heap, and the pair of any other entry is in its word
+-- the number of a Prepare is in the heap, and the pair of any other entry is in its word, or where it fits none it is a delayed commit,
+-- and the bound has come to its number
 pub record IsInPlace (a : Actor) (cells : ℕ) (d : WriteTable) (entry : Entry) : Type 0 where
   pub number : IsPrepare entry → Noted a number_in_heap
-  pub pair : (pair : CommitPair) → pair_by (suc (length d.history)) entry ≡ Some pair → (bound : ℕ) × (words : List ℕ) × Noted a (words_stay bound words) × (pair_at words (cache_place cells pair.number) ≡ Some pair)
+  pub pair : (pair : CommitPair) → pair_by (suc (length d.history)) entry ≡ Some pair → (bound : ℕ) × (words : List ℕ) × Noted a (words_stay bound words) × IsEntered a cells words (way_of cells (Some pair)) × ((fits cells pair ≡ false) → pair.number ≤ bound)
 
 -- the entry joined the history, and these are pending
 pub record IsPublished (old : SeatState) (log : LogState) (entry : Entry) (others : List Entry) (new : SeatState) (left : LogState) : Type 0 where
@@ -152,7 +160,7 @@ pub record IsPublished (old : SeatState) (log : LogState) (entry : Entry) (other
 pub record HasJoined {D : Type 0} (z : SharedState D) (old : SeatState) (log : LogState) (entry : Entry) (others : List Entry) (new : SeatState) (left : LogState) : Type 0 where
   pub holds : HoldsPending z new left
   pub seat : GoesOn (may_end log.table.history entry) (writes left.table ∷ []) old.turns (as_published log.table.history entry old) new
-  pub words : (bound : ℕ) (words : List ℕ) → Noted old.knows (words_stay bound words) → Noted new.knows (entered z.cells (length log.table.history) bound words (ways_of (suc (length log.table.history)) (entry ∷ [])))
+  pub words : (bound : ℕ) (words : List ℕ) → Noted old.knows (words_stay bound words) → Noted new.knows (entered z.cells (length log.table.history) bound words (ways_of z.cells (suc (length log.table.history)) (entry ∷ [])))
   pub log_is : left ≡ record log { table = with_entry log.table entry others }
 
 -- they have no versions, and none is a Prepare: so they may stand in a record behind another one
@@ -172,6 +180,6 @@ pub record MayJoin (a : Actor) (cells : ℕ) (d : WriteTable) : Type 0 where
   pub logged : d.logged ≡ true
   pub may : MayPut a d.history d.pending
   pub number : is_prepare (next_of d.pending) ≡ true → Noted a number_in_heap
-  pub pairs : AreReady a cells (length d.history) (ways_of (suc (length d.history)) d.pending)
-  pub apart : AreApart cells (ways_of (suc (length d.history)) d.pending)
+  pub pairs : AreReady a cells (length d.history) (ways_of cells (suc (length d.history)) d.pending)
+  pub apart : AreApart cells (ways_of cells (suc (length d.history)) d.pending)
   pub behind : AreBehind (rest_of d.pending)

@@ -2,7 +2,7 @@
 ghost use Rattle.std.specs.Prelude.{◌≡◌, ◌≢◌, suc, false, List, [], ◌∷◌, ◌++◌, length, OnOk, OnErr};
 ghost use Rattle.wp_model.specs.declared.entry.Entry.{Entry};
 ghost use Rattle.wp_core.specs.Entries.{IsOneRecord};
-ghost use Rattle.wp_core.specs.Views.{versions_in_memory, versions_nowhere, number_not_in_heap};
+ghost use Rattle.wp_core.specs.Views.{versions_in_memory, versions_nowhere, number_not_in_heap, pair_not_delayed};
 ghost use Rattle.wp_rule.specs.Knows.{Noted};
 ghost use Rattle.wp_shared.specs.Notes.{GoesOn};
 ghost use Rattle.wp_commits.specs.declared.way.Way.{Way};
@@ -35,11 +35,13 @@ fn ready<D: Disk + Drop, R: Wait>(
     requires holds { HoldsPending store.now seat.old log.now }
     requires nowhere { Noted seat.old.knows versions_nowhere }
     requires below { Noted seat.old.knows number_not_in_heap }
+    requires undelayed { Noted seat.old.knows pair_not_delayed }
     ensures holds { HoldsPending store.now seat.new log.now }
+    ensures undelayed { Noted seat.new.knows pair_not_delayed }
     ensures seat { GoesOn is_guarded seat.old.knows.held seat.old.turns seat.old seat.new }
     ensures ok { OnOk result (IsReadied seat.new.knows store.now.cells log.now.table) }
-    ensures bound { OnOk result (RisesFor store.now.cells (length log.now.table.history) seat.old.knows seat.new.knows (ways_of (suc (length log.now.table.history)) log.now.table.pending)) }
-    ensures refused { OnErr result ((cleared : List Way) × (others : List Way) × (ways_of (suc (length log.now.table.history)) log.now.table.pending ≡ cleared ++ others)
+    ensures bound { OnOk result (RisesFor store.now.cells (length log.now.table.history) seat.old.knows seat.new.knows (ways_of store.now.cells (suc (length log.now.table.history)) log.now.table.pending)) }
+    ensures refused { OnErr result ((cleared : List Way) × (others : List Way) × (ways_of store.now.cells (suc (length log.now.table.history)) log.now.table.pending ≡ cleared ++ others)
         × RisesFor store.now.cells (length log.now.table.history) seat.old.knows seat.new.knows cleared) }
 {
     clear_all(store, rt, seat, log)?;
@@ -57,6 +59,7 @@ fn give_up<D: Disk + Drop, R: Wait>(
     requires holds { HoldsPending store.now seat.old log.old }
     requires unlogged { log.old.table.logged ≡ false }
     requires running { log.old.table.closed ≡ false }
+    requires undelayed { Noted seat.old.knows pair_not_delayed }
     ensures why { result ≡ Memory }
     ensures back { IsNotPut store.now seat.old log.old [] false seat.old.knows.participant seat.new log.new }
     ensures uncalled { IsUncalled log.old log.new }
@@ -75,6 +78,7 @@ fn append<D: Disk + Drop, R: Wait>(
 ) -> Result<(), WriteError>
     requires holds { HoldsPending store.now seat.old log.old }
     requires unlogged { IsUnlogged log.old.table }
+    requires undelayed { Noted seat.old.knows pair_not_delayed }
     ensures { Logs store.now seat.old log.old result seat.new log.new }
 {
     let Ok(()) = log.append() else {
@@ -142,9 +146,10 @@ fn put_pending<D: Disk + Drop, R: Wait>(
     requires unlogged { IsUnlogged log.old.table }
     requires one { IsOneRecord log.old.table.pending }
     requires may { MayPut seat.old.knows log.old.table.history log.old.table.pending }
-    requires apart { AreApart store.now.cells (ways_of (suc (length log.old.table.history)) log.old.table.pending) }
+    requires apart { AreApart store.now.cells (ways_of store.now.cells (suc (length log.old.table.history)) log.old.table.pending) }
     requires nowhere { Noted seat.old.knows versions_nowhere }
     requires below { Noted seat.old.knows number_not_in_heap }
+    requires undelayed { Noted seat.old.knows pair_not_delayed }
     ensures { Puts store.now seat.old log.old log.old.table.pending result seat.new log.new }
 {
     let Ok(()) = ready(store, rt, seat, log) else {
@@ -167,7 +172,7 @@ pub fn put<D: Disk + Drop, R: Wait>(
     requires holds { HoldsWrite store.now seat.old log.old }
     requires running { log.old.table.closed ≡ false }
     requires may { MayPut seat.old.knows log.old.table.history entries }
-    requires apart { AreApart store.now.cells (ways_of (suc (length log.old.table.history)) entries) }
+    requires apart { AreApart store.now.cells (ways_of store.now.cells (suc (length log.old.table.history)) entries) }
     ensures { Puts store.now seat.old log.old entries result seat.new log.new }
 {
     make_pending(store, seat, log, entries)?;

@@ -7,7 +7,7 @@ ghost use Rattle.wp_core.specs.Entries.{next_of, IsOneRecord};
 ghost use Rattle.wp_core.specs.Sound.Views.{IsNowhere};
 ghost use Rattle.wp_core.specs.Tables.{writes, prepared};
 ghost use Rattle.wp_core.specs.Tables as table;
-ghost use Rattle.wp_core.specs.Views.{versions_in_memory, versions_nowhere, number_in_heap, number_not_in_heap};
+ghost use Rattle.wp_core.specs.Views.{versions_in_memory, versions_nowhere, number_in_heap, number_not_in_heap, pair_not_delayed};
 ghost use Rattle.wp_rule.specs.Knows.{HasNoVersions, Noted};
 ghost use Rattle.wp_parts.specs.Stock.{store_table};
 ghost use Rattle.wp_shared.specs.Notes.{GoesOn, DelayedFlagTells};
@@ -53,6 +53,7 @@ fn drop_pending<D: Disk + Drop>(store: &Shared<D>, seat: &mut Seat<D>, log: &mut
     requires unlogged { log.old.table.logged ≡ false }
     requires nowhere { Noted seat.old.knows versions_nowhere }
     requires below { Noted seat.old.knows number_not_in_heap }
+    requires undelayed { Noted seat.old.knows pair_not_delayed }
     ensures holds { HoldsWrite store.now seat.new log.new }
     ensures seat { GoesOn is_of_pending (writes log.new.table ∷ []) seat.old.turns seat.old seat.new }
     ensures log { log.new ≡ record log.old { table = record log.old.table { pending = [] } } }
@@ -257,6 +258,7 @@ pub(crate) fn take_back<D: Disk + Drop, R: Wait>(
 )
     requires holds { HoldsPending store.now seat.old log.old }
     requires unlogged { log.old.table.logged ≡ false }
+    requires undelayed { Noted seat.old.knows pair_not_delayed }
     ensures holds { HoldsWrite store.now seat.new log.new }
     ensures seat { GoesOn is_of_stage (writes log.new.table ∷ []) seat.old.turns seat.old seat.new }
     ensures log { log.new ≡ record log.old { table = record log.old.table { pending = [] } } }

@@ -9,7 +9,7 @@ ghost use Rattle.wp_core.specs.Entries.{next_of, IsOneRecord, HasVersionsAt};
 ghost use Rattle.wp_core.specs.Lists.{IsIn};
 ghost use Rattle.wp_core.specs.Tables.{WriteTable, StoreTable, writes, prepared};
 ghost use Rattle.wp_core.specs.Tables as table;
-ghost use Rattle.wp_core.specs.Views.{versions_in_memory, versions_nowhere, number_in_heap, number_not_in_heap};
+ghost use Rattle.wp_core.specs.Views.{versions_in_memory, versions_nowhere, number_in_heap, number_not_in_heap, pair_not_delayed};
 ghost use Rattle.wp_rule.specs.Knows.{HasNoVersions, Noted};
 ghost use Rattle.wp_parts.specs.Stock.{store_table};
 ghost use Rattle.wp_shared.specs.Notes.{noting, GoesOn, KnowsWords};
@@ -24,7 +24,7 @@ use wp_shared::{Seat, Shared};
 
 // ---- the pending record
 
-/// The entries of the log became pending: nothing of them is in memory, or in the heap.
+/// The entries of the log became pending: nothing of them is in memory, in the heap, or among the delayed commits.
 pub(crate) fn begin<D: Disk + Drop>(store: &Shared<D>, seat: &mut Seat<D>, log: &Log<D>)
     requires seat { seat.old.table ≡ store.now.table }
     requires held { (t : WriteTable) × (seat.old.knows.held ≡ writes t ∷ []) × (t.pending ≡ []) × (log.now.table ≡ record t { pending = log.now.table.pending; logged = false }) }
@@ -33,6 +33,7 @@ pub(crate) fn begin<D: Disk + Drop>(store: &Shared<D>, seat: &mut Seat<D>, log: 
     ensures seat { GoesOn is_of_pending (writes log.now.table ∷ []) seat.old.turns seat.old seat.new }
     ensures nowhere { Noted seat.new.knows versions_nowhere }
     ensures below { Noted seat.new.knows number_not_in_heap }
+    ensures undelayed { Noted seat.new.knows pair_not_delayed }
 {
     store.make_about::<Brand, Log<D>>(seat, log);
 }
@@ -44,6 +45,7 @@ pub(crate) fn drop_pending<D: Disk + Drop>(store: &Shared<D>, seat: &mut Seat<D>
     requires words { KnowsWords seat.old.knows (length log.now.table.history) }
     requires nowhere { Noted seat.old.knows versions_nowhere }
     requires below { Noted seat.old.knows number_not_in_heap }
+    requires undelayed { Noted seat.old.knows pair_not_delayed }
     ensures { GoesOn is_of_pending (writes log.now.table ∷ []) seat.old.turns seat.old seat.new }
 {
     store.make::<Brand>(seat);

@@ -4,7 +4,7 @@ use Rattle.atomic_table.specs.Table.{Me, rest}
 use Rattle.wp_model.specs.declared.entry.Entry.{Entry}
 use Rattle.wp_core.specs.Lists.{IsIn}
 use Rattle.wp_core.specs.Turns.{Turn}
-use Rattle.wp_core.specs.Views.{Fact, passed, in_old_commits, apart, words_stay, has_left, versions_in_memory, versions_nowhere, number_in_heap, number_not_in_heap, undecided_at, prior_values, unprepared, direct_free, tables_stay, live_listed, nothing_flushed, frozen_stay, delayed_flag_stays, old_flag_stays}
+use Rattle.wp_core.specs.Views.{Fact, passed, in_old_commits, apart, words_stay, has_left, versions_in_memory, versions_nowhere, number_in_heap, number_not_in_heap, pair_delayed, pair_not_delayed, none_waits, undecided_at, prior_values, unprepared, direct_free, tables_stay, live_listed, nothing_flushed, frozen_stay, delayed_flag_stays, old_flag_stays}
 use Rattle.wp_core.specs.World.{Actor, content_of}
 use Rattle.wp_core.specs.Changes.{turn_index, held_without}
 use Rattle.wp_core.specs.Notes.{ends}
@@ -86,6 +86,9 @@ give_ends history words turn versions_in_memory e = rw e refl
 give_ends history words turn versions_nowhere e = rw e refl
 give_ends history words turn number_in_heap e = rw e refl
 give_ends history words turn number_not_in_heap e = rw e refl
+give_ends history words turn pair_delayed e = rw e refl
+give_ends history words turn pair_not_delayed e = rw e refl
+give_ends history words turn none_waits e = rw e refl
 give_ends history words turn (undecided_at name p) e = refl
 give_ends history words turn (prior_values name p batch) e = refl
 give_ends history words turn (unprepared name) e = refl

@@ -22,7 +22,7 @@ pub shared_sync : (D : RattleType) (g : Ghosts D.Denot) → IsSend D → IsSync 
 shared_sync D g d =
     view_sync (SharedInside.the_row D g) _ _ _ _
     (recorded_sync (SharedInside.the_field D g).row _ _ (SharedInside.the_type D g).to_one
-    (struct_sync (shape (SharedInside.the_type D g)) (words.the_sync (Part.the_row D g) (ghosts D g no_dict) (part_send D g d), (plain_sync _ _ _ _ _, tt))))
+    (struct_sync (shape (SharedInside.the_type D g)) (words.the_sync (Part.the_row D g) (ghosts D g no_dict) (part_send D g d), (plain_sync _ _ _ _ _, (plain_sync _ _ _ _ _, tt)))))
 
 pub seat_send : (D : RattleType) (g : Ghosts D.Denot) → IsSend D → IsSend (Seat.the_row D g)
 seat_send D g d =

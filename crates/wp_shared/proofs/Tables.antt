@@ -1,8 +1,9 @@
 -- The table of a turn in a world, and what a seat knows of it.
-use Rattle.std.proofs.Common.{◌≡◌, inl, inr, ℕ, ◌≤◌, List, [], length, slice_index, refl, sym, subst, ap, ◌∙◌, Some}
+use Rattle.std.proofs.Common.{◌≡◌, inl, inr, ℕ, ◌≤◌, List, [], length, slice_index, refl, sym, subst, ap, ◌∙◌, Some, Bool, true, false, ◌/◌, ◌%◌, ◌*◌, ◌+◌, arith}
 use Rattle.std.proofs.lemmas.Bool.{cases_lt}
+use Rattle.std.proofs.Math.Nat.{mod-le}
 use Rattle.std.proofs.lemmas.List.{get_or_past}
-use Rattle.wp_judge.specs.Words.{pair_of}
+use Rattle.wp_judge.specs.Words.{pair_of, CommitPair, is_pair, delta_bound}
 use Rattle.wp_model.specs.Decision.{decision_of}
 use Rattle.wp_model.specs.LockTables.{LockTables}
 use Rattle.wp_model.specs.PreparedTables.{PreparedTables, NoneDelayed}
@@ -27,6 +28,7 @@ use Rattle.wp_rule.proofs.Knows.{held_is}
 use Rattle.wp_rule.proofs.Needed.{needed}
 use Rattle.wp_shared.specs.Notes.{ArePublished}
 use Rattle.wp_shared.specs.Turns.{KnowsTaken, KnowsToGive, IsTableOf}
+use Rattle.wp_judge.proofs.Packing.{pair_parts, with_test}
 
 -- ---- which table it is
 
@@ -68,13 +70,21 @@ held_table p a w table k held = is_table w table (held_is p a w table k held).1
 
 -- ---- words of a world in which nothing is pending
 
+-- the empty word is no pair
+empty_is_none : (words place : ℕ) (found : CommitPair) → pair_of words place 0 ≡ Some found → ⊥
+empty_is_none words place found at = by_test (is_pair (0 / delta_bound words * words + place) (0 % delta_bound words)) refl
+  where
+    by_test : (b : Bool) → is_pair (0 / delta_bound words * words + place) (0 % delta_bound words) ≡ b → ⊥
+    by_test true is = let some = (pair_parts (0 / delta_bound words * words + place) (0 % delta_bound words) is).1 in let low = mod-le 0 (delta_bound words) in absurd (omega (arith, some, low))
+    by_test false is = some_none found (sym at ∙ with_test (0 / delta_bound words * words + place) (0 % delta_bound words) false is)
+
 pub world_published : (w : World) → IsSound w → w.writes.pending ≡ [] → ArePublished (length w.writes.history) w.cache
 world_published w s none place found at =
     elim (cases_lt place (length w.cache)) [
       | inl within ↦
           let known = s.cache.pairs place found within at in
           decision_within w.writes.history found.number found.decision (subst (λ (e : List Entry). decision_of (extended w.writes.history e) found.number ≡ Some found.decision) none known.decided)
-      | inr past ↦ let empty : slice_index w.cache place ≡ 0 = get_or_past w.cache place _ past in let no : pair_of 0 ≡ Some found = ap pair_of (sym empty) ∙ at in absurd (some_none found (sym no))
+      | inr past ↦ let empty : slice_index w.cache place ≡ 0 = get_or_past w.cache place _ past in absurd (empty_is_none (length w.cache) place found (ap (pair_of (length w.cache) place) (sym empty) ∙ at))
     ]
 
 -- ---- what is known of it

@@ -1,5 +1,6 @@
 //! A store that was opened, for clients to share.
 ghost use Rattle.std.specs.Prelude.{◌≡◌, ◌<◌, ◌≤◌, ◌^◌, [], ℕ, List, Some, true, length, IfOk, IfErr};
+ghost use Rattle.wp_model.specs.Legal.{log_end};
 ghost use Rattle.wp_outside.specs.Disk.{Moment};
 ghost use Rattle.wp_open.specs.Opens.{installed_of};
 ghost use Rattle.wp_open.specs.Parts.{PartsOpened};
@@ -17,20 +18,12 @@ use crate::seat::Seat;
 use crate::shared::Shared;
 use std::alloc::Global;
 use std::snapshot::Snapshot;
+use wp_judge::count_words;
 use wp_model::{Name, Seq};
 use wp_open::{OpenError, OpenRefused, Parts, open_parts};
 use wp_outside::{Disk, Disks};
 use wp_parts::{BehindTurn, Edits, Log, delayed_flag, guard, take_apart};
 use wp_rule::Words;
-
-/// How many words so many bits number.
-fn count_words(bits: u32) -> usize
-    requires { bits ≤ 16 }
-    ensures count { result ≡ 2 ^ bits }
-    ensures range { (1 ≤ result) × (result ≤ 65536) }
-{
-    1 << bits
-}
 
 impl<D: Disk + Drop> Shared<D> {
     /// Shares an opened store, with a commit cache of as many words as the bits number. No entry gets a number above the limit. The
@@ -45,7 +38,7 @@ impl<D: Disk + Drop> Shared<D> {
         requires opened { (asked : ℕ) × (log : List Moment) × (manifest : List Moment) × (tables : List Moment)
             × PartsOpened asked log manifest tables parts.wal parts.history.entries parts.manifest (D.moments parts.tables) parts.store }
         requires bits { bits ≤ 16 }
-        requires limit { (1 ≤ limit) × (limit < 2 ^ 32) }
+        requires limit { (1 ≤ limit) × (limit < log_end) }
         ensures store { IfOk result (λ r. (r.0.opened ≡ parts.history.entries) × (r.0.cells ≡ 2 ^ bits) × (r.0.limit ≡ limit)) }
         ensures log { IfOk result (λ r. log_first r.0.first ≡ Some parts.wal) }
         ensures set { IfOk result (λ r. set_first r.0.first ≡ Some (running_set parts.manifest (D.moments parts.tables) (D.faults parts.tables))) }
@@ -61,9 +54,9 @@ impl<D: Disk + Drop> Shared<D> {
             Ok(slots) => slots,
             Err(disks) => return Err(disks),
         };
-        let cells = count_words(bits);
+        let cells = count_words(bits) as usize;
         match Words::new(alloc, &client, entries, published, cells, flag, slots) {
-            Ok((words, seat)) => Ok((Shared { words, limit }, Seat { seat, client })),
+            Ok((words, seat)) => Ok((Shared { words, bits, limit }, Seat { seat, client })),
             Err(mut slots) => {
                 let tables = Box::into_inner(Edits::out_of(slots.remove(5)));
                 let log = Box::into_inner(Log::out_of(slots.remove(0)));
@@ -85,7 +78,7 @@ impl<D: Disk + Drop> Shared<D> {
         id: u32,
     ) -> Result<(Shared<D>, Seat<D>), OpenRefused<D>>
         requires bits { bits ≤ 16 }
-        requires limit { (1 ≤ limit) × (limit < 2 ^ 32) }
+        requires limit { (1 ≤ limit) × (limit < log_end) }
         ensures store { IfOk result (λ r. (r.0.cells ≡ 2 ^ bits) × (r.0.limit ≡ limit)) }
         ensures opened { IfOk result (λ r. IsOpenedFrom id (devices_of D.moments D.faults disks) r.0) }
         ensures seat { IfOk result (λ r. r.1 ≡ record { table = r.0.table; by = 0; knows = new_actor true client r.0.opened; turns = [] }) }

@@ -1,6 +1,6 @@
 //! The shared store.
 ghost use Rattle.std.specs.Prelude.{◌≡◌, ◌<◌, ◌≤◌, ◌^◌, ◌∷◌, [], List, true, length, slice_index};
-ghost use Rattle.wp_model.specs.Legal.{IsLegal};
+ghost use Rattle.wp_model.specs.Legal.{IsLegal, log_end};
 ghost use Rattle.wp_core.specs.Cache.{cache_place};
 ghost use Rattle.wp_core.specs.Sound.Actors.{StartsWith};
 ghost use Rattle.wp_core.specs.Changes.{sees, made_one};
@@ -23,12 +23,14 @@ use wp_rule::{Moves, WordSeat, Words};
 #[derive(Drop)]
 pub struct Shared<D: Disk + Drop> {
     pub(crate) words: Words<Part<D>>,
+    pub(crate) bits: u32,
     pub(crate) limit: Seq,
 }
 
 impl<D: Disk + Drop> Model for Shared<D> {
-    ghost use Rattle.std.specs.Prelude.{◌<◌, ◌≤◌, ◌^◌};
+    ghost use Rattle.std.specs.Prelude.{◌≡◌, ◌<◌, ◌≤◌, ◌^◌};
     ghost use Rattle.std.specs.Coded.{codes};
+    ghost use Rattle.wp_model.specs.Legal.{log_end};
     ghost use Rattle.wp_model.specs.PreparedTables.{prepared_tables_code};
     ghost use Rattle.wp_model.specs.Snapshots.{snapshots_code};
     ghost use Rattle.wp_model.specs.LockTables.{lock_tables_code};
@@ -41,7 +43,7 @@ impl<D: Disk + Drop> Model for Shared<D> {
 
     ghost view = { λ s. record { table = s.words.table; opened = s.words.opened; cells = s.words.cells; first = s.words.first; limit = s.limit } };
 
-    ghost invariant = { λ s. IsOneStore s.words.first × (1 ≤ s.words.cells) × (1 ≤ s.limit) × (s.limit < 2 ^ 32) };
+    ghost invariant = { λ s. IsOneStore s.words.first × (1 ≤ s.words.cells) × (1 ≤ s.limit) × (s.limit < log_end) × (s.words.cells ≡ 2 ^ s.bits) × (s.bits ≤ 16) };
 }
 
 /// Says whose the seat is, which did nothing yet.
@@ -85,6 +87,13 @@ impl<D: Disk + Drop> Shared<D> {
         self.words.cells()
     }
 
+    /// How many bits the place of a word has: at most 16.
+    pub fn bits(&self) -> u32
+        ensures { (result ≤ 16) × (self.now.cells ≡ 2 ^ result) }
+    {
+        self.bits
+    }
+
     /// The place of the number's word in the commit cache.
     pub fn place_of(&self, p: Seq) -> usize
         ensures place { result ≡ cache_place self.now.cells p }
@@ -95,7 +104,7 @@ impl<D: Disk + Drop> Shared<D> {
 
     /// The greatest number that an entry may get: 1 to 4294967295.
     pub fn limit(&self) -> Seq
-        ensures { (result ≡ self.now.limit) × (1 ≤ result) × (result < 2 ^ 32) }
+        ensures { (result ≡ self.now.limit) × (1 ≤ result) × (result < log_end) }
     {
         self.limit
     }

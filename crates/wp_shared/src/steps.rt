@@ -113,10 +113,10 @@ impl<D: Disk + Drop> Shared<D> {
     /// Puts the pair of this word into its place of the cache.
     pub fn store_word(&self, seat: &mut Seat<D>, i: usize, word: u64)
         requires seat { seat.old.table ≡ self.now.table }
-        requires pair { (pair : CommitPair) × (word ≡ word_of pair) × (pair_of word ≡ Some pair) × (i < self.now.cells) × (i ≡ cache_place self.now.cells pair.number)
+        requires pair { (pair : CommitPair) × (word ≡ word_of self.now.cells pair) × (pair_of self.now.cells i word ≡ Some pair) × (i < self.now.cells) × (i ≡ cache_place self.now.cells pair.number)
             × MayStep (place_at self.now seat.old.by) seat.old.knows (step.store_word pair) }
         ensures same { (seat.new.table ≡ seat.old.table) × (seat.new.by ≡ seat.old.by) × (seat.new.turns ≡ seat.old.turns) }
-        ensures moved { (pair : CommitPair) → pair_of word ≡ Some pair → Moved (place_at self.now seat.old.by) (storing_word pair) (λ w. Unit {0}) seat.old.knows seat.new.knows }
+        ensures moved { (pair : CommitPair) → pair_of self.now.cells i word ≡ Some pair → Moved (place_at self.now seat.old.by) (storing_word pair) (λ w. Unit {0}) seat.old.knows seat.new.knows }
     {
         self.words.store_word(&mut seat.seat, i, word);
     }

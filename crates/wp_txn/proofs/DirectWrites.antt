@@ -18,7 +18,7 @@ use Rattle.wp_core.specs.Notes.{ends}
 use Rattle.wp_core.specs.Steps.{lock_direct, free_direct, note}
 use Rattle.wp_core.specs.Tables.{locks}
 use Rattle.wp_core.specs.Turns.{locks_turn}
-use Rattle.wp_core.specs.Views.{Fact, passed, in_old_commits, apart, words_stay, has_left, versions_in_memory, versions_nowhere, number_in_heap, number_not_in_heap, undecided_at, prior_values, unprepared, direct_free, tables_stay, live_listed, nothing_flushed, frozen_stay, delayed_flag_stays, old_flag_stays}
+use Rattle.wp_core.specs.Views.{Fact, passed, in_old_commits, apart, words_stay, has_left, versions_in_memory, versions_nowhere, number_in_heap, number_not_in_heap, pair_delayed, pair_not_delayed, none_waits, undecided_at, prior_values, unprepared, direct_free, tables_stay, live_listed, nothing_flushed, frozen_stay, delayed_flag_stays, old_flag_stays}
 use Rattle.wp_core.specs.World.{Actor, Participant, World}
 use Rattle.wp_core.specs.Sound.Views.{guarded_by}
 use Rattle.wp_core.proofs.HistoryGrows.{none_is}
@@ -52,7 +52,7 @@ use Rattle.wp_txn.proofs.Made.{all_made, locks_are, but_notes}
 -- ---- steps
 
 lock_ends : (key : List ℕ) → EndsNothing (lock_direct key)
-lock_ends key = record { guard = λ turn. refl; place = λ words place. refl; words = refl; delayed_flag = refl; old_flag = refl; pending = refl; adds = refl; takes = refl; prepared = refl; unprepared = refl; transaction = λ history name. refl; direct = refl; moves = refl; replaces = refl; installing = refl }
+lock_ends key = record { guard = λ turn. refl; place = λ words place. refl; words = refl; delayed_flag = refl; old_flag = refl; pending = refl; adds = refl; takes = refl; prepared = refl; unprepared = refl; delays = refl; transaction = λ history name. refl; direct = refl; moves = refl; replaces = refl; installing = refl }
 
 -- a direct write locks what nobody holds
 pub none_there : (o : Option Holder) (client : List ℕ) → is_free_for o (Client client) ≡ true → o ≡ None
@@ -94,6 +94,9 @@ free_ends history words key versions_in_memory e = let n = e.0 in absurd cc
 free_ends history words key versions_nowhere e = let n = e.0 in absurd cc
 free_ends history words key number_in_heap e = let n = e.0 in absurd cc
 free_ends history words key number_not_in_heap e = let n = e.0 in absurd cc
+free_ends history words key pair_delayed e = let n = e.0 in absurd cc
+free_ends history words key pair_not_delayed e = let n = e.0 in absurd cc
+free_ends history words key none_waits e = let n = e.0 in absurd cc
 free_ends history words key (tables_stay versions floor) e = let n = e.0 in absurd cc
 free_ends history words key nothing_flushed e = let n = e.0 in absurd cc
 free_ends history words key (frozen_stay n versions) e = let m = e.0 in absurd cc

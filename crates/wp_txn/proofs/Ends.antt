@@ -1,5 +1,5 @@
 -- A transaction that its entries end, and one that is prepared.
-use Rattle.std.proofs.Common.{◌≡◌, inl, ℕ, suc, false, List, [], ◌∷◌, ◌++◌, length, refl, sym, subst, ap, ◌∙◌, Option, Some, None, eq-eqb, ◌+◌, arith}
+use Rattle.std.proofs.Common.{◌≡◌, inl, ℕ, suc, ◌≤◌, ◌<◌, false, List, [], ◌∷◌, ◌++◌, length, refl, sym, subst, ap, ◌∙◌, Option, Some, None, eq-eqb, ◌+◌, arith}
 use Rattle.std.specs.Prelude.{Ok}
 use Rattle.std.specs.FinMap as finite
 use Rattle.wp_model.specs.Decision.{decision_of}
@@ -8,8 +8,9 @@ use Rattle.wp_model.specs.Legal.{IsLegal}
 use Rattle.wp_model.specs.declared.change.Change.{Change}
 use Rattle.wp_model.specs.declared.entry.Entry.{Entry}
 use Rattle.wp_model.specs.declared.entry.Entry.TheVariants.{Write, Prepare, Commit}
-use Rattle.wp_model.proofs.Entries.{entry_at_old}
+use Rattle.wp_model.proofs.Entries.{entry_at_old, undecided_within}
 use Rattle.wp_history.proofs.Growth.{after_front, entry_at_next, length_next}
+use Rattle.wp_judge.specs.Words.{seq_end}
 use Rattle.wp_core.specs.Lists.{IsIn}
 use Rattle.wp_core.specs.Views.{Fact, undecided_at}
 use Rattle.wp_core.specs.World.{Participant}
@@ -124,12 +125,18 @@ module _ {D : Type 0} (z : SharedState D) (old mid : SeatState) (name : List ℕ
     pub commit_is_of : (fact : Fact) → is_about (Some name) fact ≡ false → IsAboutNone r.1.0 (Commit number ∷ []) fact
     commit_is_of fact apart = (ap (λ (o : Option (List ℕ)). is_about o fact) (name_before r.1.0 r.1.1.put.grown) ∙ apart, tt)
 
-    -- the number is decided in what the seat has seen
-    pub commit_decides : (c : ℕ) × (decision_of mid.knows.participant.seen number ≡ Some c)
+    -- the number is decided in what the seat has seen, by the record's entry
+    pub commit_decides : (decision_of mid.knows.participant.seen number ≡ Some n) × (number ≤ n) × (n < seq_end)
     commit_decides =
-        let k = r.1.1 in let history = r.1.0 in (
-          suc (length history),
-          ap (λ (es : List Entry). decision_of es number) k.put.seen ∙ next_decides_prepare history (Commit number) number (after_front history (Commit number) [] k.legal).names_undecided (eq-eqb number number refl),
+        let k = r.1.1 in let history = r.1.0 in
+        let undecided = (after_front history (Commit number) [] k.legal).names_undecided in
+        let long = length_next history (Commit number) in
+        let last : n ≡ length history + 1 = r.0 ∙ ap (λ (es : List Entry). length es) k.put.seen ∙ long in
+        let is : suc (length history) ≡ n = omega (arith, last) in
+        let low = (undecided_within history number undecided).1 in let few = k.legal.few in (
+          ap (λ (es : List Entry). decision_of es number) k.put.seen ∙ (next_decides_prepare history (Commit number) number undecided (eq-eqb number number refl) ∙ ap Some is),
+          omega (arith, last, low),
+          omega (arith, last, long, few),
         )
 
 -- ---- a transaction is prepared

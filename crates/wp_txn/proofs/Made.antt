@@ -17,7 +17,7 @@ use Rattle.wp_locks.specs.Locks.{is_free_for}
 use Rattle.wp_model.specs.Holder.{is_same, is_same_txn}
 use Rattle.wp_core.specs.Lists.{IsIn}
 use Rattle.wp_core.specs.Tables.{locks}
-use Rattle.wp_core.specs.Views.{Account, Fact, passed, in_old_commits, apart, words_stay, has_left, versions_in_memory, versions_nowhere, number_in_heap, number_not_in_heap, undecided_at, prior_values, unprepared, direct_free, tables_stay, live_listed, nothing_flushed, frozen_stay, delayed_flag_stays, old_flag_stays}
+use Rattle.wp_core.specs.Views.{Account, Fact, passed, in_old_commits, apart, words_stay, has_left, versions_in_memory, versions_nowhere, number_in_heap, number_not_in_heap, pair_delayed, pair_not_delayed, none_waits, undecided_at, prior_values, unprepared, direct_free, tables_stay, live_listed, nothing_flushed, frozen_stay, delayed_flag_stays, old_flag_stays}
 use Rattle.wp_core.specs.World.{Transaction, Actor, World}
 use Rattle.wp_core.specs.Steps.{Step, load_published, claim_name, find_holder, lock_key, set_batch, free_transaction, leave_name, take_name, tell, hear, note}
 use Rattle.wp_core.specs.Changes.{sees, is_held_by, keys_of_holder, with_name, without_transaction}
@@ -68,25 +68,25 @@ pub all_made : (p : Place) (steps : World → List Step) (so : World → Type 0)
 all_made p steps so a b m ends_none = m.actor ∙ none_forgotten (steps m.world) m.world p.by a ends_none
 
 claim_ends : (name : List ℕ) → EndsNothing (claim_name name)
-claim_ends name = record { guard = λ turn. refl; place = λ words place. refl; words = refl; delayed_flag = refl; old_flag = refl; pending = refl; adds = refl; takes = refl; prepared = refl; unprepared = refl; transaction = λ history name. refl; direct = refl; moves = refl; replaces = refl; installing = refl }
+claim_ends name = record { guard = λ turn. refl; place = λ words place. refl; words = refl; delayed_flag = refl; old_flag = refl; pending = refl; adds = refl; takes = refl; prepared = refl; unprepared = refl; delays = refl; transaction = λ history name. refl; direct = refl; moves = refl; replaces = refl; installing = refl }
 
 find_ends : (key : Option (List ℕ)) (holder : Holder) (account : Account) → EndsNothing (find_holder key holder account)
-find_ends key holder account = record { guard = λ turn. refl; place = λ words place. refl; words = refl; delayed_flag = refl; old_flag = refl; pending = refl; adds = refl; takes = refl; prepared = refl; unprepared = refl; transaction = λ history name. refl; direct = refl; moves = refl; replaces = refl; installing = refl }
+find_ends key holder account = record { guard = λ turn. refl; place = λ words place. refl; words = refl; delayed_flag = refl; old_flag = refl; pending = refl; adds = refl; takes = refl; prepared = refl; unprepared = refl; delays = refl; transaction = λ history name. refl; direct = refl; moves = refl; replaces = refl; installing = refl }
 
 lock_ends : (name : List ℕ) (x : Transaction) (key : List ℕ) → EndsNothing (lock_key name x key)
-lock_ends name x key = record { guard = λ turn. refl; place = λ words place. refl; words = refl; delayed_flag = refl; old_flag = refl; pending = refl; adds = refl; takes = refl; prepared = refl; unprepared = refl; transaction = λ history name. refl; direct = refl; moves = refl; replaces = refl; installing = refl }
+lock_ends name x key = record { guard = λ turn. refl; place = λ words place. refl; words = refl; delayed_flag = refl; old_flag = refl; pending = refl; adds = refl; takes = refl; prepared = refl; unprepared = refl; delays = refl; transaction = λ history name. refl; direct = refl; moves = refl; replaces = refl; installing = refl }
 
 batch_ends : (name : List ℕ) (x : Transaction) (batch : List Change) → EndsNothing (set_batch name x batch)
-batch_ends name x batch = record { guard = λ turn. refl; place = λ words place. refl; words = refl; delayed_flag = refl; old_flag = refl; pending = refl; adds = refl; takes = refl; prepared = refl; unprepared = refl; transaction = λ history name. refl; direct = refl; moves = refl; replaces = refl; installing = refl }
+batch_ends name x batch = record { guard = λ turn. refl; place = λ words place. refl; words = refl; delayed_flag = refl; old_flag = refl; pending = refl; adds = refl; takes = refl; prepared = refl; unprepared = refl; delays = refl; transaction = λ history name. refl; direct = refl; moves = refl; replaces = refl; installing = refl }
 
 take_ends : (name : List ℕ) (q : ℕ) → EndsNothing (take_name name q)
-take_ends name q = record { guard = λ turn. refl; place = λ words place. refl; words = refl; delayed_flag = refl; old_flag = refl; pending = refl; adds = refl; takes = refl; prepared = refl; unprepared = refl; transaction = λ history name. refl; direct = refl; moves = refl; replaces = refl; installing = refl }
+take_ends name q = record { guard = λ turn. refl; place = λ words place. refl; words = refl; delayed_flag = refl; old_flag = refl; pending = refl; adds = refl; takes = refl; prepared = refl; unprepared = refl; delays = refl; transaction = λ history name. refl; direct = refl; moves = refl; replaces = refl; installing = refl }
 
 tell_ends : (label : List ℕ) → EndsNothing (tell label)
-tell_ends label = record { guard = λ turn. refl; place = λ words place. refl; words = refl; delayed_flag = refl; old_flag = refl; pending = refl; adds = refl; takes = refl; prepared = refl; unprepared = refl; transaction = λ history name. refl; direct = refl; moves = refl; replaces = refl; installing = refl }
+tell_ends label = record { guard = λ turn. refl; place = λ words place. refl; words = refl; delayed_flag = refl; old_flag = refl; pending = refl; adds = refl; takes = refl; prepared = refl; unprepared = refl; delays = refl; transaction = λ history name. refl; direct = refl; moves = refl; replaces = refl; installing = refl }
 
 hear_ends : (label : List ℕ) (n : ℕ) → EndsNothing (hear label n)
-hear_ends label n = record { guard = λ turn. refl; place = λ words place. refl; words = refl; delayed_flag = refl; old_flag = refl; pending = refl; adds = refl; takes = refl; prepared = refl; unprepared = refl; transaction = λ history name. refl; direct = refl; moves = refl; replaces = refl; installing = refl }
+hear_ends label n = record { guard = λ turn. refl; place = λ words place. refl; words = refl; delayed_flag = refl; old_flag = refl; pending = refl; adds = refl; takes = refl; prepared = refl; unprepared = refl; delays = refl; transaction = λ history name. refl; direct = refl; moves = refl; replaces = refl; installing = refl }
 
 -- the seat stands in the world that the steps led to
 pub stands_after : {D : Type 0} (z : SharedState D) (old new : SeatState) (steps : World → List Step) (so : World → Type 0) → new.by ≡ old.by → Moved (place_at z old.by) steps so old.knows new.knows → (w : World) × Stands z new w
@@ -213,6 +213,9 @@ free_ends history words name versions_in_memory e = let n = e.0 in absurd cc
 free_ends history words name versions_nowhere e = let n = e.0 in absurd cc
 free_ends history words name number_in_heap e = let n = e.0 in absurd cc
 free_ends history words name number_not_in_heap e = let n = e.0 in absurd cc
+free_ends history words name pair_delayed e = let n = e.0 in absurd cc
+free_ends history words name pair_not_delayed e = let n = e.0 in absurd cc
+free_ends history words name none_waits e = let n = e.0 in absurd cc
 free_ends history words name (tables_stay versions floor) e = let n = e.0 in absurd cc
 free_ends history words name nothing_flushed e = let n = e.0 in absurd cc
 free_ends history words name (frozen_stay n versions) e = let n = e.0 in absurd cc
@@ -235,6 +238,9 @@ leave_ends history words name versions_in_memory = refl
 leave_ends history words name versions_nowhere = refl
 leave_ends history words name number_in_heap = refl
 leave_ends history words name number_not_in_heap = refl
+leave_ends history words name pair_delayed = refl
+leave_ends history words name pair_not_delayed = refl
+leave_ends history words name none_waits = refl
 leave_ends history words name (tables_stay versions floor) = refl
 leave_ends history words name nothing_flushed = refl
 leave_ends history words name (frozen_stay n versions) = refl

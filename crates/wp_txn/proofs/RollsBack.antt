@@ -1,5 +1,5 @@
 -- A prepared transaction that is rolled back.
-use Rattle.std.proofs.Common.{◌≡◌, inl, inr, ℕ, suc, ◌≤◌, true, false, List, [], ◌∷◌, ◌++◌, length, take, refl, sym, subst, ap, ◌∙◌, Option, Some, None, append_assoc, eq-eqb, arith}
+use Rattle.std.proofs.Common.{◌≡◌, inl, inr, ℕ, suc, ◌≤◌, ◌<◌, true, false, List, [], ◌∷◌, ◌++◌, length, length-append, take, refl, sym, subst, ap, ◌∙◌, Option, Some, None, append_assoc, eq-eqb, arith}
 use Rattle.std.specs.Prelude.{Ok}
 use Rattle.std.proofs.lemmas.List.{take-append-le}
 use Rattle.wp_model.specs.Decision.{decision_of}
@@ -8,7 +8,9 @@ use Rattle.wp_model.specs.Legal.{IsLegal, prior}
 use Rattle.wp_model.specs.declared.change.Change.{Change}
 use Rattle.wp_model.specs.declared.entry.Entry.{Entry}
 use Rattle.wp_model.specs.declared.entry.Entry.TheVariants.{Undo, Close}
+use Rattle.wp_model.proofs.Entries.{undecided_within}
 use Rattle.wp_history.proofs.Growth.{after_front, legal_before}
+use Rattle.wp_judge.specs.Words.{fits, seq_end}
 use Rattle.wp_core.specs.Lists.{IsIn}
 use Rattle.wp_core.specs.Reading.{Registration}
 use Rattle.wp_core.specs.Views.{Fact, has_left}
@@ -120,11 +122,17 @@ module _ (history : List Entry) (p : ℕ) (batch : List Change) (legal : IsLegal
       ap (λ (h : List Entry). named h name) (sym in_two) ∙ name_is_free undone (Close p) p name both (named_stays history (Undo p batch) (legal_before undone (Close p ∷ []) both) name p is refl) (eq-eqb p p refl) refl
 
   -- the prepare is decided by the Close
-  pub rollback_decides : (c : ℕ) × (decision_of (history ++ Undo p batch ∷ Close p ∷ []) p ≡ Some c)
-  rollback_decides = (
-    suc (length undone),
-    ap (λ (h : List Entry). decision_of h p) (sym in_two) ∙ next_decides_prepare undone (Close p) p (after_front undone (Close p) [] both).names_undecided (eq-eqb p p refl),
-  )
+  pub rollback_decides : (n : ℕ) → n ≡ length (history ++ Undo p batch ∷ Close p ∷ []) → (decision_of (history ++ Undo p batch ∷ Close p ∷ []) p ≡ Some n) × (p ≤ n) × (n < seq_end)
+  rollback_decides n last =
+      let undecided = (after_front undone (Close p) [] both).names_undecided in
+      let long = length-append undone (Close p ∷ []) in
+      let same = ap (λ (h : List Entry). length h) in_two in
+      let is : suc (length undone) ≡ n = omega (arith, last, long, same) in
+      let low = (undecided_within undone p undecided).1 in let few = both.few in (
+        ap (λ (h : List Entry). decision_of h p) (sym in_two) ∙ (next_decides_prepare undone (Close p) p undecided (eq-eqb p p refl) ∙ ap Some is),
+        omega (arith, is, low),
+        omega (arith, last, same, few),
+      )
 
 -- ---- what the keys had is what they have
 
@@ -174,8 +182,10 @@ module _ {D : Type 0} (z : SharedState D) (old start mid : SeatState) (name : Li
         (ap (λ (o : Option (List ℕ)). is_about o fact) (name_before z start mid name number batch h (before_it ++ Undo number restored ∷ []) later) ∙ apart, tt),
       )
 
-  pub rolled_back_decides : (c : ℕ) × (decision_of mid.knows.participant.seen number ≡ Some c)
-  rolled_back_decides = subst (λ (es : List Entry). (c : ℕ) × (decision_of es number ≡ Some c)) (sym r.1.1.put.seen) (rollback_decides before_it number restored r.1.1.legal)
+  pub rolled_back_decides : (decision_of mid.knows.participant.seen number ≡ Some n) × (number ≤ n) × (n < seq_end)
+  rolled_back_decides =
+      subst (λ (es : List Entry). (decision_of es number ≡ Some n) × (number ≤ n) × (n < seq_end)) (sym r.1.1.put.seen)
+      (rollback_decides before_it number restored r.1.1.legal n (r.0 ∙ ap (λ (es : List Entry). length es) r.1.1.put.seen))
 
   restored_is : restored ≡ prior before_it batch
   restored_is = (after_front before_it (Undo number restored) (Close number ∷ []) r.1.1.legal).restores_prior ∙ ap (prior before_it) (ap prepared_batch (stands_before z start mid name number batch h before_it r.1.1.put.grown))
@@ -184,7 +194,7 @@ module _ {D : Type 0} (z : SharedState D) (old start mid : SeatState) (name : Li
   pub locked_still : HasLocked mid name batch
   locked_still = locked_until z start start mid mid name (Undo number restored ∷ Close number ∷ []) facts n (continues_none z start begins.free) r rollback_is_of batch (prepared_locked start name number batch h)
 
-  pub rolled_back : (new : SeatState) → Frees z mid new name → IsIn (has_left number) new.knows.notes → RollsBack z old (record { name = name; number = number; batch = batch }) n new
+  pub rolled_back : (new : SeatState) → Frees z mid new name → (fits z.cells (record { number = number; decision = n }) ≡ true → IsIn (has_left number) new.knows.notes) → RollsBack z old (record { name = name; number = number; batch = batch }) n new
   rolled_back new frees gone =
       let entries : List Entry = Undo number restored ∷ Close number ∷ [] in
       let Put : List Change → Type 0 = λ b. HasPut (IsApartFrom name) z old new old.knows.participant (without_transaction name old.knows.participant) before_it (Undo number b ∷ Close number ∷ []) in (

@@ -1,17 +1,18 @@
 -- A seat that took the write turn, put a record into the history or could not, and gave the turn.
-use Rattle.std.proofs.Common.{◌≡◌, ◌⊎◌, ⊎_elim, inl, inr, ℕ, suc, ◌+◌, ◌≤◌, ◌<◌, Bool, true, false, List, [], ◌∷◌, ◌++◌, length, refl, sym, subst, ap, ◌∙◌, Some, None, is_some, length-append, eq-eqb}
-use Rattle.std.specs.Prelude.{◌^◌, Result, Ok, Err}
+use Rattle.std.proofs.Common.{◌≡◌, ◌⊎◌, ⊎_elim, inl, inr, ℕ, suc, ◌+◌, ◌≤◌, ◌<◌, Bool, cond, true, false, List, [], ◌∷◌, ◌++◌, length, refl, sym, subst, ap, ◌∙◌, Some, None, is_some, length-append, eq-eqb}
+use Rattle.std.specs.Prelude.{Result, Ok, Err}
 use Rattle.std.specs.FinMap as finite
 use Rattle.std.proofs.lemmas.Slice.Eq.{bytes_eq-Decides}
 use Rattle.wp_model.specs.History.{prepared_name, name_at, named}
-use Rattle.wp_model.specs.Legal.{IsLegal}
+use Rattle.wp_model.specs.Legal.{IsLegal, log_end}
 use Rattle.wp_model.specs.declared.change.Change.{Change}
 use Rattle.wp_model.specs.declared.entry.Entry.{Entry}
 use Rattle.wp_model.specs.declared.entry.Entry.TheVariants.{Prepare, Commit, Undo, Close}
 use Rattle.wp_model.proofs.Found.{found_named}
-use Rattle.wp_commits.specs.Ways.{way_of, ways_of, AreApart}
+use Rattle.wp_commits.specs.Ways.{way_of, ways_of, MayPrecede, AreApart}
 use Rattle.wp_commits.specs.declared.way.Way.{Way}
-use Rattle.wp_commits.specs.declared.way.Way.TheVariants.{Undecided, InWord}
+use Rattle.wp_commits.specs.declared.way.Way.TheVariants.{Undecided, InWord, Delayed}
+use Rattle.wp_judge.specs.Words.{fits}
 use Rattle.wp_core.specs.Entries.{transaction_of, pair_by}
 use Rattle.wp_core.specs.Lists.{IsIn}
 use Rattle.wp_core.specs.Steps.{find_log_closed}
@@ -53,7 +54,7 @@ use Rattle.wp_txn.proofs.RollsBack.{rollback_frees}
 -- ---- steps under the write turn
 
 closed_ends : EndsNothing find_log_closed
-closed_ends = record { guard = λ turn. refl; place = λ words place. refl; words = refl; delayed_flag = refl; old_flag = refl; pending = refl; adds = refl; takes = refl; prepared = refl; unprepared = refl; transaction = λ history name. refl; direct = refl; moves = refl; replaces = refl; installing = refl }
+closed_ends = record { guard = λ turn. refl; place = λ words place. refl; words = refl; delayed_flag = refl; old_flag = refl; pending = refl; adds = refl; takes = refl; prepared = refl; unprepared = refl; delays = refl; transaction = λ history name. refl; direct = refl; moves = refl; replaces = refl; installing = refl }
 
 pub may_find_closed : (p : Place) (a : Actor) (d : WriteTable) → IsIn (writes d) a.held → d.closed ≡ true → MayMake p a (λ w. find_log_closed ∷ [])
 may_find_closed p a d held closed = known_made p a find_log_closed tt (record { table = d; held = held; so_is = closed })
@@ -132,7 +133,7 @@ module _ {D : Type 0} (z : SharedState D) (old s : SeatState) (log : LogState) (
   pub alone : IsFree z.table old → HoldsTurn z s (writes log.table) [] []
   alone free = subst (λ (x : List Content × List ℕ). HoldsTurn z s (writes log.table) x.0 x.1) (λ i. (free.held i, free.turns i)) took.holds
 
-  pub opened : IsFree z.table old → (needed published : ℕ) → log.table.closed ≡ false → published ≡ length history → published + needed ≤ z.limit → z.limit < 2 ^ 32 → IsLog log → OpensLog z old s log needed
+  pub opened : IsFree z.table old → (needed published : ℕ) → log.table.closed ≡ false → published ≡ length history → published + needed ≤ z.limit → z.limit < log_end → IsLog log → OpensLog z old s log needed
   opened free needed published running number within few is_log = record {
     took = took;
     holds = record { turn = alone free; pending = took.knows.0; seen = took.seen; of_store = took.of_store; words = took.knows.1 };
@@ -265,13 +266,18 @@ holds_then z s t log left entries facts (Err write_error.LogFault) p = p.0.holds
 alone_apart : (cells : ℕ) (way : Way) → AreApart cells (way ∷ [])
 alone_apart cells Undecided = (tt, tt)
 alone_apart cells (InWord p c) = (inr tt, tt)
+alone_apart cells (Delayed p c) = (tt, tt)
 
-pub one_apart : (cells n : ℕ) (entry : Entry) → AreApart cells (ways_of n (entry ∷ []))
-one_apart cells n entry = alone_apart cells (way_of (pair_by n entry))
+pub one_apart : (cells n : ℕ) (entry : Entry) → AreApart cells (ways_of cells n (entry ∷ []))
+one_apart cells n entry = alone_apart cells (way_of cells (pair_by n entry))
 
 -- the Undo's pair decides itself
-pub both_apart : (cells n p : ℕ) (batch : List Change) → AreApart cells (ways_of n (Undo p batch ∷ Close p ∷ []))
-both_apart cells n p batch = (inl refl, one_apart cells (suc n) (Close p))
+pub both_apart : (cells n p : ℕ) (batch : List Change) → AreApart cells (ways_of cells n (Undo p batch ∷ Close p ∷ []))
+both_apart cells n p batch = (by_fit (fits cells (record { number = n; decision = n })), one_apart cells (suc n) (Close p))
+  where
+    by_fit : (b : Bool) → MayPrecede cells (cond b (InWord n n) (Delayed n n)) (ways_of cells (suc n) (Close p ∷ []))
+    by_fit true = inl refl
+    by_fit false = tt
 
 -- ---- what is noted of a record
 

@@ -1,10 +1,10 @@
 -- How a call puts a record of entries into the history, and what it does beside that.
-use Rattle.std.specs.Prelude.{◌≡◌, ◌⊎◌, ℕ, ◌+◌, ◌≤◌, ◌<◌, ◌^◌, false, List, [], ◌∷◌, ◌++◌, length, take, Some, None, Result, Ok, Err}
+use Rattle.std.specs.Prelude.{◌≡◌, ◌⊎◌, ℕ, ◌+◌, ◌≤◌, ◌<◌, false, List, [], ◌∷◌, ◌++◌, length, take, Some, None, Result, Ok, Err}
 use Rattle.std.specs.FinMap as finite
 use Rattle.wp_model.specs.declared.entry.Entry.{Entry}
 use Rattle.wp_model.specs.declared.entry.Entry.TheVariants.{Prepare, Commit, Undo, Close}
 use Rattle.wp_model.specs.History.{named}
-use Rattle.wp_model.specs.Legal.{IsLegal, prior}
+use Rattle.wp_model.specs.Legal.{IsLegal, prior, log_end}
 use Rattle.wp_model.specs.declared.change.Change.{Change}
 use Rattle.wp_core.specs.Lists.{IsIn}
 use Rattle.wp_core.specs.Sound.Views.{guarded_by}
@@ -49,7 +49,7 @@ pub record OpensLog {D : Type 0} (z : SharedState D) (old new : SeatState) (log 
   pub holds : HoldsWrite z new log
   pub running : log.table.closed ≡ false
   pub within : length log.table.history + needed ≤ z.limit
-  pub few : z.limit < 2 ^ 32
+  pub few : z.limit < log_end
   pub is_log : IsLog log
 
 -- what a record leaves, behind which these facts are noted while the write turn is held

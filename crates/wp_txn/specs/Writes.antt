@@ -7,6 +7,7 @@ use Rattle.wp_model.specs.declared.entry.Entry.TheVariants.{Write, Prepare, Comm
 use Rattle.wp_model.specs.declared.holder.Holder.TheVariants.{Client}
 use Rattle.wp_model.specs.Batch.{key_of}
 use Rattle.wp_model.specs.Legal.{IsLegal, prior}
+use Rattle.wp_judge.specs.Words.{fits}
 use Rattle.wp_core.specs.Sound.Actors.{StartsWith}
 use Rattle.wp_core.specs.Sound.Views.{guarded_by}
 use Rattle.wp_core.specs.Tables.{WriteTable}
@@ -160,9 +161,9 @@ Ends z old name entries n new =
 abbrev pub CommitsNow : {D : Type 0} → SharedState D → SeatState → OpenState → ℕ → SeatState → Type 0
 CommitsNow z old txn n new = Ends z old txn.name (Write txn.batch ∷ []) n new
 
--- ... and it noted that its number left the prepared heap and the delayed set, for good
+-- ... and where the pair fits a word it noted that its number left the prepared heap and the delayed set, for good
 abbrev pub Commits : {D : Type 0} → SharedState D → SeatState → PreparedState → ℕ → SeatState → Type 0
-Commits z old txn n new = Ends z old txn.name (Commit txn.number ∷ []) n new × IsIn (has_left txn.number) new.knows.notes
+Commits z old txn n new = Ends z old txn.name (Commit txn.number ∷ []) n new × (fits z.cells (record { number = txn.number; decision = n }) ≡ true → IsIn (has_left txn.number) new.knows.notes)
 
 -- What the keys had in the history that it was put behind, and then the end of the prepare. The name and the keys are free again.
 abbrev pub RollsBack : {D : Type 0} → SharedState D → SeatState → PreparedState → ℕ → SeatState → Type 0
@@ -170,7 +171,7 @@ RollsBack z old txn n new =
     (n ≡ length new.knows.participant.seen)
     × ((history : List Entry)
     × HasPut (IsApartFrom txn.name) z old new old.knows.participant (without_transaction txn.name old.knows.participant) history (Undo txn.number (prior history txn.batch) ∷ Close txn.number ∷ []))
-    × IsIn (has_left txn.number) new.knows.notes
+    × (fits z.cells (record { number = txn.number; decision = n }) ≡ true → IsIn (has_left txn.number) new.knows.notes)
     × LocksWere z new (IsFreeName txn.name)
 
 -- it is refused, and the transaction is as it was

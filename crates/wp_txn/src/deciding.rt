@@ -1,5 +1,7 @@
 //! A prepared transaction is committed, and one that is decided ends.
-ghost use Rattle.std.specs.Prelude.{◌≡◌, ℕ, Some, IfOk, IfErr};
+ghost use Rattle.std.specs.Prelude.{◌≡◌, ◌≤◌, ◌<◌, true, Some, IfOk, IfErr};
+ghost use Rattle.wp_judge.specs.Words as words;
+ghost use Rattle.wp_judge.specs.Words.{seq_end};
 ghost use Rattle.wp_model.specs.Decision.{decision_of};
 ghost use Rattle.wp_core.specs.Lists.{IsIn};
 ghost use Rattle.wp_core.specs.Views.{has_left, unprepared};
@@ -15,23 +17,27 @@ use crate::txn::PreparedTxn;
 use std::alloc::Global;
 use std::sync::Wait;
 use wp_commits::forget_prepared;
+use wp_judge::fits;
 use wp_model::Seq;
 use wp_outside::Disk;
 use wp_shared::{Seat, Shared};
 
-/// Frees a transaction whose prepare is decided, and takes the number of that out of the prepared tables. It takes no memory.
+/// Frees a transaction whose prepare is decided, and takes the number of that out of the prepared tables, where its pair fits a word.
+/// One that is too wide stays a delayed commit until the bound has come to the decision. It takes no memory.
 pub(crate) fn end<D: Disk + Drop, R: Wait>(
     store: &Shared<D>,
     rt: &R,
     seat: &mut Seat<D>,
     txn: PreparedTxn,
+    decision: Seq,
 )
     requires free { IsFree store.now.table seat.old }
     requires has { HasLocked seat.old txn.name txn.batch }
     requires noted { IsIn (unprepared txn.name) seat.old.knows.notes }
-    requires decided { (c : ℕ) × (decision_of seat.old.knows.participant.seen txn.number ≡ Some c) }
+    requires decided { decision_of seat.old.knows.participant.seen txn.number ≡ Some decision }
+    requires order { (txn.number ≤ decision) × (decision < seq_end) }
     ensures frees { Frees store.now seat.old seat.new txn.name }
-    ensures gone { IsIn (has_left txn.number) seat.new.knows.notes }
+    ensures gone { words.fits store.now.cells (record { number = txn.number; decision = decision }) ≡ true → IsIn (has_left txn.number) seat.new.knows.notes }
 {
     let PreparedTxn {
         name,
@@ -39,6 +45,9 @@ pub(crate) fn end<D: Disk + Drop, R: Wait>(
         batch,
     } = txn;
     free(store, rt, seat, name, batch);
+    if !fits(store.bits(), number, decision) {
+        return;
+    }
     forget_prepared(store, rt, seat, number);
 }
 
@@ -58,7 +67,7 @@ pub fn commit<D: Disk + Drop, R: Wait>(
 {
     match record_commit(store, rt, alloc, seat, &txn) {
         Ok(number) => {
-            end(store, rt, seat, txn);
+            end(store, rt, seat, txn, number);
             Ok(number)
         }
         Err(why) => Err(Refused { txn, why }),

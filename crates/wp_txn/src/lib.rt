@@ -12,7 +12,8 @@
 //!   transaction into the log, and `commit` decides them; `commit_now` does both by one entry. `rollback` reads what their keys
 //!   have, at a snapshot of its own, and puts that back, with the end of the prepare in the same record. Each takes the write turn
 //!   for its record, finds the log running and room under the limit, and has the record made by `wp_records`. Behind the write
-//!   turn the name and the keys of the transaction are free again, and a decided number leaves the prepared tables.
+//!   turn the name and the keys of the transaction are free again, and a decided number leaves the prepared tables, where its pair
+//!   fits a word.
 //! - `tell` and `hear`: labels on a board, by which one client lets another see what it has seen.
 //!
 //! A transaction is a value that has to be spent: it is handed to the call that ends it, and comes back where that is refused. The

@@ -98,7 +98,7 @@ fn put_noting<D: Disk + Drop, R: Wait>(
     requires holds { HoldsWrite store.now seat.old log.old }
     requires running { log.old.table.closed ≡ false }
     requires may { MayPut seat.old.knows log.old.table.history entries }
-    requires apart { (n : ℕ) → AreApart store.now.cells (ways_of n entries) }
+    requires apart { (n : ℕ) → AreApart store.now.cells (ways_of store.now.cells n entries) }
     requires noting { MayNote noting log.old.table.history entries }
     ensures { PutsNoting store.now seat.old log.old entries (notes_of noting.entry (length log.new.table.history)) result seat.new log.new }
 {
@@ -128,7 +128,7 @@ fn record_entries<D: Disk + Drop, R: Wait>(
     requires free { IsFree store.now.table seat.old }
     requires few { length entries ≤ 2 }
     requires may { (s : SeatState) (log : LogState) → OpensLog store.now seat.old s log (length entries) → MayPut s.knows log.table.history entries × MayNote noting log.table.history entries }
-    requires apart { (n : ℕ) → AreApart store.now.cells (ways_of n entries) }
+    requires apart { (n : ℕ) → AreApart store.now.cells (ways_of store.now.cells n entries) }
     ensures { Records store.now seat.old entries (notes_of noting.entry) result seat.new }
 {
     let mut log = open_log(store, rt, seat, entries.len() as Seq)?;

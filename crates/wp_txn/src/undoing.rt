@@ -58,7 +58,7 @@ pub fn rollback<D: Disk + Drop, R: Wait>(
     };
     match record_rollback(store, rt, alloc, seat, &txn, &prior) {
         Ok(number) => {
-            end(store, rt, seat, txn);
+            end(store, rt, seat, txn, number);
             Ok(number)
         }
         Err(why) => Err(Refused { txn, why }),

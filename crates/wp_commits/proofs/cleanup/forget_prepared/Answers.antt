@@ -18,16 +18,16 @@ forget_prepared-requires-clause-flag g c = let t = c.take_turn-tables in subst (
 
 pub give_turn-requires-clause-holds : goal.give_turn-requires-clause-holds
 give_turn-requires-clause-holds g c = let s = c.args.seat.now in let t = c.take_turn-tables in let u = c.forget_prepared in
-    ([], s.turns, holds_still c.args.store.now s t.new.seat u.new.seat (prepared t.result.value) (prepared u.new.tables) [] c.requires.free.held t.ensures.taken is_flag u.ensures.seat refl)
+    ([], s.turns, holds_still c.args.store.now s t.new.seat u.new.seat (prepared t.result.value) (prepared u.new.tables) [] c.requires.free.held t.ensures.taken is_flag _ u.ensures.seat refl)
 
 pub give_turn-requires-clause-knows : goal.give_turn-requires-clause-knows
 give_turn-requires-clause-knows g c = let u = c.forget_prepared in knows_to_give u.new.seat.knows (prepared u.new.tables) u.ensures.flag
 
 pub returns : goal.returns
 returns g c = let z = c.args.store.now in let s = c.args.seat.now in let t = c.take_turn-tables in let u = c.forget_prepared in let v = c.give_turn.new.seat in
-    let holds = holds_still z s t.new.seat u.new.seat (prepared t.result.value) (prepared u.new.tables) [] c.requires.free.held t.ensures.taken is_flag u.ensures.seat refl in
+    let holds = holds_still z s t.new.seat u.new.seat (prepared t.result.value) (prepared u.new.tables) [] c.requires.free.held t.ensures.taken is_flag _ u.ensures.seat refl in
     let gave = (c.give_turn.ensures [] s.turns holds).goes in
-    let goes = goes_through z s t.new.seat u.new.seat (prepared t.result.value) (prepared u.new.tables) [] c.requires.free.held t.ensures.taken is_flag u.ensures.seat refl prepared_turn v flag_under_prepared gave in
+    let goes = goes_through z s t.new.seat u.new.seat (prepared t.result.value) (prepared u.new.tables) [] c.requires.free.held t.ensures.taken is_flag _ u.ensures.seat refl prepared_turn v flag_under_prepared gave in
     record {
       seat = continues_by z s v c.requires.free (subst (λ (l : List ℕ). GoesOn is_flag [] l s v) c.requires.free.turns goes);
       same = ap (λ (x : SeatState). x.knows.participant) goes.same;

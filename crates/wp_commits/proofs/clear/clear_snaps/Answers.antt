@@ -21,17 +21,17 @@ ready_snaps-result-requires-clause-flag g c = let t = c.take_turn-snaps in subst
 
 pub give_turn-requires-clause-holds : goal.give_turn-requires-clause-holds
 give_turn-requires-clause-holds g c = let z = c.args.store.now in let s = c.args.seat.now in let d = c.args.log.now.table in let t = c.take_turn-snaps in let u = c.ready_snaps-result in
-    (writes d ∷ [], s.turns, holds_still z s t.new.seat u.new.seat (snapshots t.result.value) (snapshots u.new.snaps) (writes d ∷ []) c.requires.held t.ensures.taken is_flag u.ensures.seat refl)
+    (writes d ∷ [], s.turns, holds_still z s t.new.seat u.new.seat (snapshots t.result.value) (snapshots u.new.snaps) (writes d ∷ []) c.requires.held t.ensures.taken is_flag _ u.ensures.seat refl)
 
 pub give_turn-requires-clause-knows : goal.give_turn-requires-clause-knows
 give_turn-requires-clause-knows g c = let u = c.ready_snaps-result in knows_to_give u.new.seat.knows (snapshots u.new.snaps) u.ensures.flag
 
 pub returns : goal.returns
 returns g c = let z = c.args.store.now in let s = c.args.seat.now in let d = c.args.log.now.table in let t = c.take_turn-snaps in let u = c.ready_snaps-result in let v = c.give_turn.new.seat in
-    let holds = holds_still z s t.new.seat u.new.seat (snapshots t.result.value) (snapshots u.new.snaps) (writes d ∷ []) c.requires.held t.ensures.taken is_flag u.ensures.seat refl in
+    let holds = holds_still z s t.new.seat u.new.seat (snapshots t.result.value) (snapshots u.new.snaps) (writes d ∷ []) c.requires.held t.ensures.taken is_flag _ u.ensures.seat refl in
     let gave = (c.give_turn.ensures (writes d ∷ []) s.turns holds).goes in
     let one = in_old_commits c.args.place (record { number = c.args.p; decision = c.args.c }) in
     record {
-      seat = goes_through z s t.new.seat u.new.seat (snapshots t.result.value) (snapshots u.new.snaps) (writes d ∷ []) c.requires.held t.ensures.taken is_flag u.ensures.seat refl snapshots_turn v flag_under_snapshots gave;
+      seat = goes_through z s t.new.seat u.new.seat (snapshots t.result.value) (snapshots u.new.snaps) (writes d ∷ []) c.requires.held t.ensures.taken is_flag _ u.ensures.seat refl snapshots_turn v flag_under_snapshots gave;
       ready = on_ok u.result (Noted u.new.seat.knows one) (Noted v.knows one) (gave.noted one refl) u.ensures.ready;
     }

@@ -34,7 +34,7 @@ raise_past-requires-clause-flag g c = let t = c.take_turn-tables in subst (Delay
 
 pub give_turn-requires-clause-holds : goal.give_turn-requires-clause-holds
 give_turn-requires-clause-holds g c = let z = c.args.store.now in let s = c.args.seat.now in let d = c.args.log.now.table in let r = c.bound-bound.new.seat in let t = c.take_turn-tables in let u = c.raise_past in
-    (writes d ∷ [], r.turns, holds_still z r t.new.seat u.new.seat (prepared t.result.value) (prepared u.new.tables) (writes d ∷ []) (ap (λ (x : SeatState). x.knows.held) c.bound-bound.ensures.same ∙ c.requires.held) t.ensures.taken is_of_words u.ensures.seat refl)
+    (writes d ∷ [], r.turns, holds_still z r t.new.seat u.new.seat (prepared t.result.value) (prepared u.new.tables) (writes d ∷ []) (ap (λ (x : SeatState). x.knows.held) c.bound-bound.ensures.same ∙ c.requires.held) t.ensures.taken is_of_words _ u.ensures.seat refl)
 
 pub give_turn-requires-clause-knows : goal.give_turn-requires-clause-knows
 give_turn-requires-clause-knows g c = let u = c.raise_past in knows_to_give u.new.seat.knows (prepared u.new.tables) u.ensures.flag
@@ -42,9 +42,9 @@ give_turn-requires-clause-knows g c = let u = c.raise_past in knows_to_give u.ne
 pub returns : goal.returns
 returns g c = let z = c.args.store.now in let s = c.args.seat.now in let d = c.args.log.now.table in let r = c.bound-bound.new.seat in let same = c.bound-bound.ensures.same in let t = c.take_turn-tables in let u = c.raise_past in let v = c.give_turn.new.seat in
     let held : r.knows.held ≡ writes d ∷ [] = ap (λ (x : SeatState). x.knows.held) same ∙ c.requires.held in
-    let holds = holds_still z r t.new.seat u.new.seat (prepared t.result.value) (prepared u.new.tables) (writes d ∷ []) held t.ensures.taken is_of_words u.ensures.seat refl in
+    let holds = holds_still z r t.new.seat u.new.seat (prepared t.result.value) (prepared u.new.tables) (writes d ∷ []) held t.ensures.taken is_of_words _ u.ensures.seat refl in
     let gave = (c.give_turn.ensures (writes d ∷ []) r.turns holds).goes in
-    let goes = goes_through z r t.new.seat u.new.seat (prepared t.result.value) (prepared u.new.tables) (writes d ∷ []) held t.ensures.taken is_of_words u.ensures.seat refl prepared_turn v words_under_prepared gave in
+    let goes = goes_through z r t.new.seat u.new.seat (prepared t.result.value) (prepared u.new.tables) (writes d ∷ []) held t.ensures.taken is_of_words _ u.ensures.seat refl prepared_turn v words_under_prepared gave in
     record {
       seat = subst (λ (x : SeatState). GoesOn is_of_words (writes d ∷ []) x.turns x v) same goes;
       bound = λ bound words there. gave.noted (words_stay (raised z.cells (length d.history) bound c.args.c) words) refl

@@ -1,4 +1,4 @@
-use Rattle.std.proofs.Common.{◌≡◌, ℕ, ◌<◌, ◌≤◌, length, sym, subst, ◌∙◌, arith}
+use Rattle.std.proofs.Common.{◌≡◌, inl, ℕ, ◌<◌, ◌≤◌, length, sym, subst, ◌∙◌, arith}
 use Rattle.wp_core.specs.Views.{words_stay}
 use Rattle.wp_rule.specs.Knows.{Noted, KnowsPair}
 use Rattle.wp_shared.specs.Seats.{SeatState}
@@ -20,13 +20,14 @@ raise-requires-clause-rises g c =
     let is : c.bound-bound.result ≡ k.bound = c.bound-bound.ensures.bound k.bound k.words k.noted in
     let test = c.if-c-bound.false in
     let high : k.bound < c.args.c = omega (arith, is, test) in
-    record {
+    inl (record {
       pair = w.0;
       pending = w.1;
+      narrow = w.3;
       gone = record { number = c.args.p; decision = c.args.c };
       there = subst (λ (x : SeatState × ℕ). KnowsPair x.0.knows (length c.args.log.now.table.history) x.1 (record { number = c.args.p; decision = c.args.c }) (λ bound. bound < c.args.c)) (λ i. (sym c.bound-bound.ensures.same i, w.2 i)) (k.bound, k.words, k.noted, k.within, k.there, k.published, high);
       past = c.bound_past-m.ensures ∙ (λ i. bound_past (c.cells.ensures.0 i) (c.published.ensures.value i) c.args.c);
-    }
+    })
 
 pub returns-clause-bound : goal.returns-clause-bound
 returns-clause-bound g c bound words there =

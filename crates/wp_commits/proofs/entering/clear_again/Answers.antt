@@ -10,6 +10,9 @@ use Rattle.wp_commits.specs.Cleared.{IsEmptyAt, IsCleared, DecidesItself}
 use Rattle.wp_commits.proofs.Clears.{no_pair, that_pair}
 use Rattle.wp_commits.proofs.entering.clear_again.Goals as goal
 
+pub pair-requires-clause-published : goal.pair-requires-clause-published
+pair-requires-clause-published g c = inr c.requires.ready
+
 pub returns-in-None-clause-bound : goal.returns-in-None-clause-bound
 returns-in-None-clause-bound g c bound words there =
     let none : pair_at words c.args.place ≡ None = no_pair (pair_at words c.args.place) (sym c.in-None.is ∙ c.pair.ensures.pair bound words there) in

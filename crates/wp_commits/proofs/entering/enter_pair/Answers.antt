@@ -6,7 +6,7 @@ use Rattle.wp_commits.specs.Bound.{bound_after}
 use Rattle.wp_commits.specs.Cleared.{IsReadyAt}
 use Rattle.wp_commits.specs.Notes.{is_of_words}
 use Rattle.wp_commits.proofs.Clears.{then_put}
-use Rattle.wp_commits.proofs.Ways.{next_in, keeps_ready, ready_still}
+use Rattle.wp_commits.proofs.Ways.{next_in, keeps_ready, ready_still, after_keeps}
 use Rattle.wp_commits.proofs.entering.enter_pair.Goals as goal
 
 pub clear_again-requires-clause-ready : goal.clear_again-requires-clause-ready
@@ -18,6 +18,7 @@ clear_again-requires-clause-wanted g c = (
   record { number = c.args.p; decision = c.args.c },
   next_in c.args.log.now.table.history c.args.log.now.table.pending (record { number = c.args.p; decision = c.args.c }) c.requires.pending,
   c.place_of-place.ensures.place,
+  c.requires.narrow,
 )
 
 pub returns-clause-seat : goal.returns-clause-seat
@@ -37,5 +38,5 @@ returns-clause-there g c bound words there =
 pub returns-clause-elsewhere : goal.returns-clause-elsewhere
 returns-clause-elsewhere g c place ne ready =
     let cells = c.args.store.now.cells in let published = length c.args.log.now.table.history in
-    let keeps = keeps_ready is_of_words c.args.seat.now c.clear_again.new.seat _ _ (λ i pair. (refl, refl, refl)) c.clear_again.ensures.seat (λ bound words there. (bound_after cells published bound (pair_at words c.place_of-place.result), c.clear_again.ensures.bound bound words there)) in
+    let keeps = keeps_ready is_of_words c.args.seat.now c.clear_again.new.seat _ _ (λ i pair. (refl, refl, refl)) c.clear_again.ensures.seat (λ bound words there. (bound_after cells published bound (pair_at words c.place_of-place.result), c.clear_again.ensures.bound bound words there, after_keeps cells published bound (pair_at words c.place_of-place.result))) in
     c.put_word.ensures.elsewhere published place (λ e. ne (e ∙ c.place_of-place.ensures.place)) (ready_still c.args.seat.now.knows c.clear_again.new.seat.knows cells published published keeps (omega arith) place ready)

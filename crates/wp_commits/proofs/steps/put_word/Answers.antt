@@ -1,39 +1,35 @@
-use Rattle.std.proofs.Common.{sym, ap, ◌∙◌}
-use Rattle.wp_judge.specs.Words.{pair_of}
+use Rattle.std.proofs.Common.{ℕ, sym, subst, ap, ◌∙◌}
+use Rattle.wp_judge.specs.Words.{CommitPair, MayBePacked, word_of, pair_of}
 use Rattle.wp_shared.specs.Seats.{place_at}
-use Rattle.wp_commits.proofs.Puts.{next_has_word, may_put, put, words_put, put_there, put_elsewhere}
+use Rattle.wp_commits.proofs.Puts.{next_packs, word_there, may_put, put, words_put, put_there, put_elsewhere}
 use Rattle.wp_commits.proofs.steps.put_word.Goals as goal
 
-pub pack-requires-clause-positive : goal.pack-requires-clause-positive
-pack-requires-clause-positive g c = (next_has_word c.args.log.now.table.history c.args.log.now.table.pending (record { number = c.args.p; decision = c.args.c }) c.shows_told.ensures.log.legal c.requires.pending).positive
-
-pub pack-requires-clause-ordered : goal.pack-requires-clause-ordered
-pack-requires-clause-ordered g c = (next_has_word c.args.log.now.table.history c.args.log.now.table.pending (record { number = c.args.p; decision = c.args.c }) c.shows_told.ensures.log.legal c.requires.pending).ordered
-
-pub pack-requires-clause-few : goal.pack-requires-clause-few
-pack-requires-clause-few g c = (next_has_word c.args.log.now.table.history c.args.log.now.table.pending (record { number = c.args.p; decision = c.args.c }) c.shows_told.ensures.log.legal c.requires.pending).few
+pub pack-requires-clause-pair : goal.pack-requires-clause-pair
+pack-requires-clause-pair g c =
+    let pair : CommitPair = record { number = c.args.p; decision = c.args.c } in
+    subst (λ (n : ℕ). MayBePacked n pair) c.bits-bits.ensures.1 (next_packs c.args.store.now.cells c.args.log.now.table.history c.args.log.now.table.pending pair c.shows_told.ensures.log.legal c.requires.pending c.requires.narrow)
 
 pub store_word-requires-clause-pair : goal.store_word-requires-clause-pair
-store_word-requires-clause-pair g c = (
-  record { number = c.args.p; decision = c.args.c },
-  c.pack.ensures.word,
-  c.pack.ensures.unpacks,
-  c.requires.place.1,
-  c.requires.place.0,
-  may_put (place_at c.args.store.now c.args.seat.now.by) c.args.seat.now.knows c.args.log.now.table c.args.place (record { number = c.args.p; decision = c.args.c }) c.requires.held c.requires.place.0 c.requires.pending c.requires.cleared,
-)
+store_word-requires-clause-pair g c =
+    let pair : CommitPair = record { number = c.args.p; decision = c.args.c } in (
+      pair,
+      c.pack.ensures.word ∙ ap (λ (n : ℕ). word_of n pair) (sym c.bits-bits.ensures.1),
+      word_there c.args.store.now.cells c.bits-bits.result c.args.place c.pack.result pair c.bits-bits.ensures.1 c.requires.place.0 c.pack.ensures.unpacks,
+      c.requires.place.1,
+      c.requires.place.0,
+      may_put (place_at c.args.store.now c.args.seat.now.by) c.args.seat.now.knows c.args.log.now.table c.args.place pair c.requires.held c.requires.place.0 c.requires.pending c.requires.narrow c.requires.cleared,
+    )
 
-pub returns-clause-seat : goal.returns-clause-seat
-returns-clause-seat g c =
-    put (place_at c.args.store.now c.args.seat.now.by) _ c.args.seat.now c.store_word.new.seat c.args.place (record { number = c.args.p; decision = c.args.c }) c.requires.place.0 c.store_word.ensures.same (c.store_word.ensures.moved (record { number = c.args.p; decision = c.args.c }) c.pack.ensures.unpacks)
-
-pub returns-clause-words : goal.returns-clause-words
-returns-clause-words g c =
-    words_put (place_at c.args.store.now c.args.seat.now.by) _ c.args.seat.now c.store_word.new.seat c.args.place (record { number = c.args.p; decision = c.args.c }) c.requires.place.0 c.store_word.ensures.same (c.store_word.ensures.moved (record { number = c.args.p; decision = c.args.c }) c.pack.ensures.unpacks)
-
-pub returns-clause-there : goal.returns-clause-there
-returns-clause-there g c =
-    put_there (place_at c.args.store.now c.args.seat.now.by) _ c.args.seat.now c.store_word.new.seat c.args.place (record { number = c.args.p; decision = c.args.c }) c.requires.place.0 c.store_word.ensures.same (c.store_word.ensures.moved (record { number = c.args.p; decision = c.args.c }) c.pack.ensures.unpacks) c.requires.place.1 (ap pair_of (sym c.pack.ensures.word) ∙ c.pack.ensures.unpacks)
-
-pub returns-clause-elsewhere : goal.returns-clause-elsewhere
-returns-clause-elsewhere g c = put_elsewhere (place_at c.args.store.now c.args.seat.now.by) _ c.args.seat.now c.store_word.new.seat c.args.place (record { number = c.args.p; decision = c.args.c }) c.requires.place.0 c.store_word.ensures.same (c.store_word.ensures.moved (record { number = c.args.p; decision = c.args.c }) c.pack.ensures.unpacks)
+pub returns : goal.returns
+returns g c =
+    let z = c.args.store.now in let s = c.args.seat.now in let t = c.store_word.new.seat in let p = place_at z s.by in
+    let pair : CommitPair = record { number = c.args.p; decision = c.args.c } in
+    let there = word_there z.cells c.bits-bits.result c.args.place c.pack.result pair c.bits-bits.ensures.1 c.requires.place.0 c.pack.ensures.unpacks in
+    let word = c.pack.ensures.word ∙ ap (λ (n : ℕ). word_of n pair) (sym c.bits-bits.ensures.1) in
+    let moved = c.store_word.ensures.moved pair there in
+    record {
+      seat = put p _ s t c.args.place pair c.requires.place.0 c.store_word.ensures.same moved;
+      words = words_put p _ s t c.args.place pair c.requires.place.0 c.store_word.ensures.same moved;
+      there = put_there p _ s t c.args.place pair c.requires.place.0 c.store_word.ensures.same moved c.requires.place.1 (ap (pair_of z.cells c.args.place) (sym word) ∙ there);
+      elsewhere = put_elsewhere p _ s t c.args.place pair c.requires.place.0 c.store_word.ensures.same moved;
+    }

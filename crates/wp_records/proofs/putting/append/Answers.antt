@@ -1,6 +1,9 @@
-use Rattle.std.proofs.Common.{true, List, [], refl, subst, ap, ◌∙◌}
+use Rattle.std.proofs.Common.{true, List, [], refl, sym, subst, ap, ◌∙◌}
 use Rattle.wp_model.specs.declared.entry.Entry.{Entry}
 use Rattle.wp_core.specs.Tables.{WriteTable}
+use Rattle.wp_core.specs.Views.{pair_not_delayed}
+use Rattle.wp_rule.specs.Knows.{Noted}
+use Rattle.wp_shared.specs.Seats.{SeatState}
 use Rattle.wp_parts.specs.Log.{LogState}
 use Rattle.wp_records.specs.Records.{IsNotPut, failing}
 use Rattle.wp_records.proofs.Holding.{holds_as}
@@ -23,6 +26,9 @@ close_log-requires-clause-held g c = (c.args.log.now.table, c.requires.holds.tur
 pub take_back-requires-clause-holds : goal.take_back-requires-clause-holds
 take_back-requires-clause-holds g c =
     holds_as c.args.store.now c.args.seat.now c.close_log.new.seat c.args.log.now c.append.new.self c.requires.holds (failing c.append.new.self.table.failed c.args.seat.now.knows.participant) refl c.close_log.ensures c.append.ensures.first (ap (λ (t : WriteTable). t.history) c.in_default.ensures.err)
+
+pub take_back-requires-clause-undelayed : goal.take_back-requires-clause-undelayed
+take_back-requires-clause-undelayed g c = subst (λ (x : SeatState). Noted x.knows pair_not_delayed) (sym c.close_log.ensures) c.requires.undelayed
 
 pub returns-in_default : goal.returns-in_default
 returns-in_default g c =

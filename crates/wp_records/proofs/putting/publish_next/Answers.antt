@@ -1,5 +1,8 @@
-use Rattle.std.proofs.Common.{ap, ◌∙◌}
+use Rattle.std.proofs.Common.{length, ap, ◌∙◌}
+use Rattle.wp_core.specs.Entries.{pending_pair}
 use Rattle.wp_shared.specs.Seats.{SeatState}
+use Rattle.wp_commits.specs.Ways.{way_of}
+use Rattle.wp_commits.proofs.Ways.{enters_reached}
 use Rattle.wp_records.proofs.Joined.{split, first_ready, next_still, entered_in_place, joined, others_join}
 use Rattle.wp_records.proofs.putting.publish_next.Goals as goal
 
@@ -23,7 +26,7 @@ publish-requires-clause-next g c =
       k.0,
       k.1,
       next_still z s t t log log k.0 k.1 c.requires.holds k.2 c.requires.may c.enter.ensures.seat c.requires.versions,
-      entered_in_place z s t t log log k.0 k.1 c.requires.holds k.2 c.requires.may c.enter.ensures.seat _ _ noted (c.enter.ensures.there _ _ noted),
+      entered_in_place z s t t log log k.0 k.1 c.requires.holds k.2 c.requires.may c.enter.ensures.seat w.bound w.words noted (c.enter.ensures.there _ _ noted),
     )
 
 pub returns-clause-joined : goal.returns-clause-joined
@@ -35,11 +38,11 @@ returns-clause-may g c =
     let z = c.args.store.now in let s = c.args.seat.now in let t = c.enter.new.seat in let log = c.args.log.now in let w = c.requires.holds.words in
     let k = split log.table.pending c.requires.some in
     let noted = c.enter.ensures.words w.bound w.words w.noted in
-    (others_join z s t c.publish.new.seat log c.publish.new.log k.0 k.1 c.requires.holds k.2 c.requires.may c.enter.ensures.seat (c.publish.ensures k.0 k.1 k.2) c.enter.ensures.elsewhere _ _ noted (c.enter.ensures.there _ _ noted)).0
+    (others_join z s t c.publish.new.seat log c.publish.new.log k.0 k.1 c.requires.holds k.2 c.requires.may c.enter.ensures.seat (c.publish.ensures k.0 k.1 k.2) c.enter.ensures.elsewhere (enters_reached s.knows t.knows z.cells (length log.table.history) (way_of z.cells (pending_pair log.table.history log.table.pending)) c.enter.ensures.words) _ _ noted (c.enter.ensures.there _ _ noted)).0
 
 pub returns-clause-behind : goal.returns-clause-behind
 returns-clause-behind g c =
     let z = c.args.store.now in let s = c.args.seat.now in let t = c.enter.new.seat in let log = c.args.log.now in let w = c.requires.holds.words in
     let k = split log.table.pending c.requires.some in
     let noted = c.enter.ensures.words w.bound w.words w.noted in
-    (others_join z s t c.publish.new.seat log c.publish.new.log k.0 k.1 c.requires.holds k.2 c.requires.may c.enter.ensures.seat (c.publish.ensures k.0 k.1 k.2) c.enter.ensures.elsewhere _ _ noted (c.enter.ensures.there _ _ noted)).1
+    (others_join z s t c.publish.new.seat log c.publish.new.log k.0 k.1 c.requires.holds k.2 c.requires.may c.enter.ensures.seat (c.publish.ensures k.0 k.1 k.2) c.enter.ensures.elsewhere (enters_reached s.knows t.knows z.cells (length log.table.history) (way_of z.cells (pending_pair log.table.history log.table.pending)) c.enter.ensures.words) _ _ noted (c.enter.ensures.there _ _ noted)).1

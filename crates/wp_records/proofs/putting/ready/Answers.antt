@@ -1,10 +1,9 @@
 use Rattle.std.proofs.Common.{◌≡◌, true, suc, [], ◌∷◌, ◌++◌, length, append_assoc, append-nil, refl, sym, ◌∙◌, arith}
 use Rattle.wp_model.specs.History.{is_prepare}
 use Rattle.wp_core.specs.Entries.{next_of}
-use Rattle.wp_core.specs.Views.{versions_in_memory, versions_nowhere, number_in_heap, number_not_in_heap, words_stay}
+use Rattle.wp_core.specs.Views.{versions_in_memory, versions_nowhere, number_in_heap, number_not_in_heap, pair_not_delayed, words_stay}
 use Rattle.wp_rule.specs.Knows.{Noted}
 use Rattle.wp_commits.specs.Notes.{is_of_words}
-use Rattle.wp_commits.specs.declared.way.Way.TheVariants.{InWord}
 use Rattle.wp_commits.specs.Ways.{ways_of, RisesFor}
 use Rattle.wp_commits.proofs.Clears.{on_ok, err_any}
 use Rattle.wp_commits.proofs.Ways.{keeps_ready, are_ready_still, cleared_ready}
@@ -51,9 +50,9 @@ returns-clause-seat g c =
 pub returns-clause-ok : goal.returns-clause-ok
 returns-clause-ok g c =
     let t = c.clear_all.new.seat in let u = c.put_versions.new.seat in let v = c.put_number.new.seat in let d = c.args.log.now.table in let cells = c.args.store.now.cells in
-    let one = keeps_ready is_of_versions t u _ _ (λ place pair. (refl, refl, refl)) c.put_versions.ensures.seat (λ bound words there. (bound, c.put_versions.ensures.seat.noted (words_stay bound words) refl there)) in
-    let two = keeps_ready is_of_number u v _ _ (λ place pair. (refl, refl, refl)) c.put_number.ensures.seat (λ bound words there. (bound, c.put_number.ensures.seat.noted (words_stay bound words) refl there)) in
-    let ways = ways_of (suc (length d.history)) d.pending in let n = length d.history in
+    let one = keeps_ready is_of_versions t u _ _ (λ place pair. (refl, refl, refl)) c.put_versions.ensures.seat (λ bound words there. (bound, c.put_versions.ensures.seat.noted (words_stay bound words) refl there, omega arith)) in
+    let two = keeps_ready is_of_number u v _ _ (λ place pair. (refl, refl, refl)) c.put_number.ensures.seat (λ bound words there. (bound, c.put_number.ensures.seat.noted (words_stay bound words) refl there, omega arith)) in
+    let ways = ways_of c.args.store.now.cells (suc (length d.history)) d.pending in let n = length d.history in
     on_ok c.put_number.result (is_prepare (next_of d.pending) ≡ true → Noted v.knows number_in_heap) (IsReadied v.knows cells d)
     (λ number. record {
       versions = c.put_number.ensures.seat.noted versions_in_memory refl c.in_ok-put_versions.ensures.ok;
@@ -65,22 +64,32 @@ returns-clause-ok g c =
 -- the versions and the number leave the words as they are
 pub returns-in_err-clear_all-clause-refused : goal.returns-in_err-clear_all-clause-refused
 returns-in_err-clear_all-clause-refused g c =
-    let r = c.in_err-clear_all.ensures.refused in err_any c.from_residual.result _ (r.0 ++ InWord r.1 r.2 ∷ [], r.3, r.4 ∙ sym (append_assoc r.0 (InWord r.1 r.2 ∷ []) r.3), r.5)
+    let r = c.in_err-clear_all.ensures.refused in err_any c.from_residual.result _ (r.0 ++ r.1 ∷ [], r.2, r.4 ∙ sym (append_assoc r.0 (r.1 ∷ []) r.2), r.5)
 
 pub returns-in_err-put_versions-clause-refused : goal.returns-in_err-put_versions-clause-refused
 returns-in_err-put_versions-clause-refused g c =
-    let d = c.args.log.now.table in let ways = ways_of (suc (length d.history)) d.pending in
+    let d = c.args.log.now.table in let ways = ways_of c.args.store.now.cells (suc (length d.history)) d.pending in
     err_any c.from_residual-in_err-put_versions.result _ (ways, [], sym (append-nil ways), λ bound words there. c.put_versions.ensures.seat.noted (words_stay _ words) refl (c.in_ok-clear_all.ensures.bound bound words there))
 
 pub returns-clause-bound : goal.returns-clause-bound
 returns-clause-bound g c =
     let d = c.args.log.now.table in
-    on_ok c.put_number.result _ (RisesFor c.args.store.now.cells (length d.history) c.args.seat.now.knows c.put_number.new.seat.knows (ways_of (suc (length d.history)) d.pending))
+    on_ok c.put_number.result _ (RisesFor c.args.store.now.cells (length d.history) c.args.seat.now.knows c.put_number.new.seat.knows (ways_of c.args.store.now.cells (suc (length d.history)) d.pending))
     (λ number bound words there. c.put_number.ensures.seat.noted (words_stay _ words) refl (c.put_versions.ensures.seat.noted (words_stay _ words) refl (c.in_ok-clear_all.ensures.bound bound words there)))
     c.put_number.ensures.ok
 
 pub returns-clause-refused : goal.returns-clause-refused
 returns-clause-refused g c =
-    let d = c.args.log.now.table in let ways = ways_of (suc (length d.history)) d.pending in
+    let d = c.args.log.now.table in let ways = ways_of c.args.store.now.cells (suc (length d.history)) d.pending in
     err_any c.put_number.result _
     (ways, [], sym (append-nil ways), λ bound words there. c.put_number.ensures.seat.noted (words_stay _ words) refl (c.put_versions.ensures.seat.noted (words_stay _ words) refl (c.in_ok-clear_all.ensures.bound bound words there)))
+
+-- nor is the pair delayed by them
+pub returns-in_err-clear_all-clause-undelayed : goal.returns-in_err-clear_all-clause-undelayed
+returns-in_err-clear_all-clause-undelayed g c = c.clear_all.ensures.seat.noted pair_not_delayed refl c.requires.undelayed
+
+pub returns-in_err-put_versions-clause-undelayed : goal.returns-in_err-put_versions-clause-undelayed
+returns-in_err-put_versions-clause-undelayed g c = c.put_versions.ensures.seat.noted pair_not_delayed refl (c.clear_all.ensures.seat.noted pair_not_delayed refl c.requires.undelayed)
+
+pub returns-clause-undelayed : goal.returns-clause-undelayed
+returns-clause-undelayed g c = c.put_number.ensures.seat.noted pair_not_delayed refl (c.put_versions.ensures.seat.noted pair_not_delayed refl (c.clear_all.ensures.seat.noted pair_not_delayed refl c.requires.undelayed))

@@ -18,16 +18,16 @@ remove_number-requires-clause-flag g c = let t = c.take_turn-tables in subst (De
 
 pub give_turn-requires-clause-holds : goal.give_turn-requires-clause-holds
 give_turn-requires-clause-holds g c = let z = c.args.store.now in let s = c.args.seat.now in let d = c.args.log.now.table in let t = c.take_turn-tables in let u = c.remove_number in
-    (writes d ∷ [], s.turns, holds_still z s t.new.seat u.new.seat (prepared t.result.value) (prepared u.new.tables) (writes d ∷ []) c.requires.holds.turn.held t.ensures.taken is_of_number u.ensures.seat refl)
+    (writes d ∷ [], s.turns, holds_still z s t.new.seat u.new.seat (prepared t.result.value) (prepared u.new.tables) (writes d ∷ []) c.requires.holds.turn.held t.ensures.taken is_of_number _ u.ensures.seat refl)
 
 pub give_turn-requires-clause-knows : goal.give_turn-requires-clause-knows
 give_turn-requires-clause-knows g c = let u = c.remove_number in knows_to_give u.new.seat.knows (prepared u.new.tables) u.ensures.flag
 
 pub returns : goal.returns
 returns g c = let z = c.args.store.now in let s = c.args.seat.now in let d = c.args.log.now.table in let t = c.take_turn-tables in let u = c.remove_number in let v = c.give_turn.new.seat in
-    let holds = holds_still z s t.new.seat u.new.seat (prepared t.result.value) (prepared u.new.tables) (writes d ∷ []) c.requires.holds.turn.held t.ensures.taken is_of_number u.ensures.seat refl in
+    let holds = holds_still z s t.new.seat u.new.seat (prepared t.result.value) (prepared u.new.tables) (writes d ∷ []) c.requires.holds.turn.held t.ensures.taken is_of_number _ u.ensures.seat refl in
     let gave = (c.give_turn.ensures (writes d ∷ []) s.turns holds).goes in
-    let goes = goes_through z s t.new.seat u.new.seat (prepared t.result.value) (prepared u.new.tables) (writes d ∷ []) c.requires.holds.turn.held t.ensures.taken is_of_number u.ensures.seat refl prepared_turn v number_under_prepared gave in
+    let goes = goes_through z s t.new.seat u.new.seat (prepared t.result.value) (prepared u.new.tables) (writes d ∷ []) c.requires.holds.turn.held t.ensures.taken is_of_number _ u.ensures.seat refl prepared_turn v number_under_prepared gave in
     let all = subst (λ (h : List Content). GoesOn is_of_number h s.turns s v) (sym c.requires.holds.turn.held) goes in
     record {
       holds = still_holds z s v c.args.log.now is_of_number c.requires.holds all (words_kept is_of_number s v _ _ _ (λ bound words. refl) all c.requires.holds.words);

@@ -16,7 +16,7 @@ begin-requires-clause-legal g c =
 pub returns-clause-ok : goal.returns-clause-ok
 returns-clause-ok g c =
     begun c.args.log.now c.reserve.new.self c.args.entries (c.in-Ok.ensures.ok ∙ ap (λ (e : List Entry). record c.args.log.now.table { pending = e; logged = false }) c.into_entries.ensures.entries) c.args.store.now c.args.seat.now c.begin.new.seat c.requires.holds c.reserve.ensures.first
-    c.in-Ok.ensures.reserved c.begin.ensures.seat c.begin.ensures.nowhere c.begin.ensures.below
+    c.in-Ok.ensures.reserved c.begin.ensures.seat c.begin.ensures.nowhere c.begin.ensures.below c.begin.ensures.undelayed
 
 pub returns-clause-one : goal.returns-clause-one
 returns-clause-one g c = begins_one c.args.log.now c.reserve.new.self c.into_entries.result.items c.in-Ok.ensures.ok c.into_entries.ensures.one

@@ -25,14 +25,14 @@ insert_versions-result-requires-clause-nowhere g c = let z = c.args.store.now in
 
 pub give_turn-requires-clause-holds : goal.give_turn-requires-clause-holds
 give_turn-requires-clause-holds g c = let z = c.args.store.now in let s = c.args.seat.now in let d = c.args.log.now.table in let t = c.take_turn-stock in let u = c.insert_versions-result in
-    (writes d ∷ [], s.turns, holds_still z s t.new.seat u.new.seat (store (store_table t.result.value)) (store (store_table u.new.stock)) (writes d ∷ []) c.requires.holds.turn.held t.ensures.taken is_of_versions u.ensures.seat refl)
+    (writes d ∷ [], s.turns, holds_still z s t.new.seat u.new.seat (store (store_table t.result.value)) (store (store_table u.new.stock)) (writes d ∷ []) c.requires.holds.turn.held t.ensures.taken is_of_versions _ u.ensures.seat refl)
 
 pub returns : goal.returns
 returns g c = let z = c.args.store.now in let s = c.args.seat.now in let d = c.args.log.now.table in let t = c.take_turn-stock in let u = c.insert_versions-result in let v = c.give_turn.new.seat in
     let before = store (store_table t.result.value) in let now = store (store_table u.new.stock) in
-    let holds = holds_still z s t.new.seat u.new.seat before now (writes d ∷ []) c.requires.holds.turn.held t.ensures.taken is_of_versions u.ensures.seat refl in
+    let holds = holds_still z s t.new.seat u.new.seat before now (writes d ∷ []) c.requires.holds.turn.held t.ensures.taken is_of_versions _ u.ensures.seat refl in
     let gave = (c.give_turn.ensures (writes d ∷ []) s.turns holds).goes in
-    let goes = goes_through z s t.new.seat u.new.seat before now (writes d ∷ []) c.requires.holds.turn.held t.ensures.taken is_of_versions u.ensures.seat refl store_turn v versions_under_store gave in
+    let goes = goes_through z s t.new.seat u.new.seat before now (writes d ∷ []) c.requires.holds.turn.held t.ensures.taken is_of_versions _ u.ensures.seat refl store_turn v versions_under_store gave in
     let all = subst (λ (h : List Content). GoesOn is_of_versions h s.turns s v) (sym c.requires.holds.turn.held) goes in
     record {
       holds = still_holds z s v c.args.log.now is_of_versions c.requires.holds all (words_kept is_of_versions s v _ _ _ (λ bound words. refl) all c.requires.holds.words);

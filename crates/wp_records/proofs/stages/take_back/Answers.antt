@@ -1,11 +1,14 @@
 use Rattle.std.proofs.Common.{refl}
-use Rattle.wp_core.specs.Views.{number_not_in_heap}
+use Rattle.wp_core.specs.Views.{number_not_in_heap, pair_not_delayed}
 use Rattle.wp_records.specs.Stages.{is_of_number, is_of_versions, is_of_pending, is_of_stage}
 use Rattle.wp_records.proofs.Facts.{and_still, and_with, stage_number, stage_versions, stage_pending}
 use Rattle.wp_records.proofs.stages.take_back.Goals as goal
 
 pub drop_pending-requires-clause-below : goal.drop_pending-requires-clause-below
 drop_pending-requires-clause-below g c = c.leave_memory.ensures.seat.noted number_not_in_heap refl c.leave_heap.ensures.below
+
+pub drop_pending-requires-clause-undelayed : goal.drop_pending-requires-clause-undelayed
+drop_pending-requires-clause-undelayed g c = c.leave_memory.ensures.seat.noted pair_not_delayed refl (c.leave_heap.ensures.seat.noted pair_not_delayed refl c.requires.undelayed)
 
 pub returns-clause-seat : goal.returns-clause-seat
 returns-clause-seat g c =

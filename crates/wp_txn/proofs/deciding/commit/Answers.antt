@@ -21,7 +21,11 @@ end-requires-clause-noted g c = (c.in-Ok.ensures {u = tt}).2 (unprepared c.args.
 
 pub end-requires-clause-decided : goal.end-requires-clause-decided
 end-requires-clause-decided g c =
-    let x = c.args.txn in commit_decides c.args.store.now c.args.seat.now c.record_commit.new.seat x.name x.number x.batch c.requires.prepared (λ n. unprepared x.name ∷ []) c.in-Ok.number (c.in-Ok.ensures {u = tt})
+    let x = c.args.txn in (commit_decides c.args.store.now c.args.seat.now c.record_commit.new.seat x.name x.number x.batch c.requires.prepared (λ n. unprepared x.name ∷ []) c.in-Ok.number (c.in-Ok.ensures {u = tt})).0
+
+pub end-requires-clause-order : goal.end-requires-clause-order
+end-requires-clause-order g c =
+    let x = c.args.txn in let k = commit_decides c.args.store.now c.args.seat.now c.record_commit.new.seat x.name x.number x.batch c.requires.prepared (λ n. unprepared x.name ∷ []) c.in-Ok.number (c.in-Ok.ensures {u = tt}) in (k.1, k.2)
 
 pub returns-in-Ok-clause-ok : goal.returns-in-Ok-clause-ok
 returns-in-Ok-clause-ok g c =

@@ -23,7 +23,7 @@ record_entries-requires-clause-may g c =
     (λ s log o. (may_commit z old s log 1 o x.name x.number x.batch h (omega arith), (x.number, named_still z old s log 1 o x.name x.number x.batch h, inl refl)))
 
 pub record_entries-requires-clause-apart : goal.record_entries-requires-clause-apart
-record_entries-requires-clause-apart g c = subst (λ (es : List Entry). (n : ℕ) → AreApart c.args.store.now.cells (ways_of n es)) (sym (c.in_ok-commit.ensures {u = tt})) (λ n. one_apart c.args.store.now.cells n (Commit c.txn.inside.number))
+record_entries-requires-clause-apart g c = subst (λ (es : List Entry). (n : ℕ) → AreApart c.args.store.now.cells (ways_of c.args.store.now.cells n es)) (sym (c.in_ok-commit.ensures {u = tt})) (λ n. one_apart c.args.store.now.cells n (Commit c.txn.inside.number))
 
 pub returns : goal.returns
 returns g c =

@@ -25,7 +25,7 @@ record_entries-requires-clause-may g c =
 
 pub record_entries-requires-clause-apart : goal.record_entries-requires-clause-apart
 record_entries-requires-clause-apart g c = let x = c.txn.inside in
-    subst (λ (es : List Entry). (n : ℕ) → AreApart c.args.store.now.cells (ways_of n es)) (sym (c.in_ok-prepare.ensures {u = tt})) (λ n. one_apart c.args.store.now.cells n (Prepare x.name x.batch))
+    subst (λ (es : List Entry). (n : ℕ) → AreApart c.args.store.now.cells (ways_of c.args.store.now.cells n es)) (sym (c.in_ok-prepare.ensures {u = tt})) (λ n. one_apart c.args.store.now.cells n (Prepare x.name x.batch))
 
 pub returns : goal.returns
 returns g c =

@@ -29,7 +29,7 @@ record_entries-requires-clause-may g c =
 
 pub record_entries-requires-clause-apart : goal.record_entries-requires-clause-apart
 record_entries-requires-clause-apart g c =
-    subst (λ (es : List Entry). (n : ℕ) → AreApart c.args.store.now.cells (ways_of n es)) (sym (c.in_ok-rollback.ensures {u = tt})) (λ n. both_apart c.args.store.now.cells n c.txn.inside.number c.args.prior.now)
+    subst (λ (es : List Entry). (n : ℕ) → AreApart c.args.store.now.cells (ways_of c.args.store.now.cells n es)) (sym (c.in_ok-rollback.ensures {u = tt})) (λ n. both_apart c.args.store.now.cells n c.txn.inside.number c.args.prior.now)
 
 pub returns : goal.returns
 returns g c =

@@ -17,7 +17,7 @@ record_entries-requires-clause-may g c = subst (λ (es : List Entry). (s : SeatS
     (λ s log o. (c.requires.may s log o, tt))
 
 pub record_entries-requires-clause-apart : goal.record_entries-requires-clause-apart
-record_entries-requires-clause-apart g c = subst (λ (es : List Entry). (n : ℕ) → AreApart c.args.store.now.cells (ways_of n es)) (sym (c.in_ok-write.ensures {u = tt})) (λ n. one_apart c.args.store.now.cells n (Write c.args.batch.now))
+record_entries-requires-clause-apart g c = subst (λ (es : List Entry). (n : ℕ) → AreApart c.args.store.now.cells (ways_of c.args.store.now.cells n es)) (sym (c.in_ok-write.ensures {u = tt})) (λ n. one_apart c.args.store.now.cells n (Write c.args.batch.now))
 
 pub returns : goal.returns
 returns g c = subst (λ (es : List Entry). Records c.args.store.now c.args.seat.now es (λ n. []) c.record_entries.result c.record_entries.new.seat) (c.in_ok-write.ensures {u = tt}) c.record_entries.ensures

@@ -29,8 +29,14 @@ end-requires-clause-noted g c = (c.in-Ok-record_rollback.ensures {u = tt}).2 (un
 pub end-requires-clause-decided : goal.end-requires-clause-decided
 end-requires-clause-decided g c =
     let z = c.args.store.now in let s = c.args.seat.now in let t = c.prior_now.new.seat in let x = c.args.txn in let begins = c.prior_now.ensures.seat in
-    rolled_back_decides z s t c.record_rollback.new.seat x.name x.number x.batch c.in-Ok.prior begins (prepared_since z s t x.name x.number x.batch begins c.requires.prepared) (λ n. unprepared x.name ∷ []) c.in-Ok-record_rollback.number
-    (c.in-Ok-record_rollback.ensures {u = tt})
+    (rolled_back_decides z s t c.record_rollback.new.seat x.name x.number x.batch c.in-Ok.prior begins (prepared_since z s t x.name x.number x.batch begins c.requires.prepared) (λ n. unprepared x.name ∷ []) c.in-Ok-record_rollback.number
+    (c.in-Ok-record_rollback.ensures {u = tt})).0
+
+pub end-requires-clause-order : goal.end-requires-clause-order
+end-requires-clause-order g c =
+    let z = c.args.store.now in let s = c.args.seat.now in let t = c.prior_now.new.seat in let x = c.args.txn in let begins = c.prior_now.ensures.seat in
+    let k = rolled_back_decides z s t c.record_rollback.new.seat x.name x.number x.batch c.in-Ok.prior begins (prepared_since z s t x.name x.number x.batch begins c.requires.prepared) (λ n. unprepared x.name ∷ []) c.in-Ok-record_rollback.number
+    (c.in-Ok-record_rollback.ensures {u = tt}) in (k.1, k.2)
 
 pub returns-in-Ok-record_rollback-clause-ok : goal.returns-in-Ok-record_rollback-clause-ok
 returns-in-Ok-record_rollback-clause-ok g c =
