@@ -1,15 +1,106 @@
--- A refused flush or compaction installed no edit, or a device failed it.
-use Rattle.std.proofs.Common.{◌≡◌, List, [], ◌∷◌, ◌++◌, filter, refl, ap, ◌∙◌, append-nil}
-use Rattle.std.specs.Prelude.{Result, Ok, Err, IfErr}
+-- A refused flush or compaction installed no edit and did not call the manifest's device, or a device failed it.
+use Rattle.std.proofs.Common.{◌≡◌, ◌⊎◌, inl, inr, ℕ, Bool, true, false, List, [], ◌∷◌, ◌++◌, filter, length, length-append, Option, Some, None, refl, sym, subst, ap, ◌∙◌, append-nil, arith}
+use Rattle.std.proofs.lemmas.List.{append_cancel_left}
 use Rattle.std.proofs.lemmas.List.Elements.{filter-append}
+use Rattle.std.specs.Prelude.{Result, Ok, Err, IfErr}
+use Rattle.wp_model.specs.Flushed.{InstalledEdit}
+use Rattle.wp_core.specs.Lists.{IsIn}
+use Rattle.wp_core.specs.Sound.Actors.{StartsWith}
+use Rattle.wp_core.specs.Tables.{Installed, installed}
 use Rattle.wp_core.specs.Views.{Event, tables_failed}
-use Rattle.wp_core.specs.World.{Participant}
+use Rattle.wp_core.specs.Views as event
+use Rattle.wp_core.specs.World.{Participant, World}
+use Rattle.wp_rule.specs.Words.{IsAt}
+use Rattle.wp_parts.specs.Edits.{EditsState, IsEdits}
+use Rattle.wp_parts.specs.Parts.{set_first}
 use Rattle.wp_shared.specs.Calls.{Continues, remembering}
-use Rattle.wp_shared.specs.Seats.{SharedState, SeatState}
+use Rattle.wp_shared.specs.Seats.{SharedState, SeatState, Stands, place_at}
+use Rattle.wp_shared.proofs.Onward.{starts_equal}
 use Rattle.wp_maint.specs.declared.done.Done.{Done}
 use Rattle.wp_maint.specs.declared.error.MaintError.{MaintError}
 use Rattle.wp_maint.specs.declared.error.MaintError.TheVariants.{Memory, Nothing, TableFault, TablesStopped}
-use Rattle.wp_maint.specs.Calls.{Flushes, Compacts, is_of_install, installs_of, RefusesBeforeInstall, found_by}
+use Rattle.wp_maint.specs.Calls.{Finds, Flushes, Compacts, is_of_install, installs_of, LeavesManifest, LeavesOnce, LeavesEach, MadeNoInstall, FailedOnce, UnlessFault, RefusesBeforeInstall, found_by}
+use Rattle.wp_maint.specs.Compaction.{InRound}
+use Rattle.wp_maint.specs.Installs.{AreLeft, HasBroken, NotInstalled}
+use Rattle.wp_maint.proofs.Onward.{IsSeat, held_between}
+
+-- ---- unless a device failed
+
+pub unless_more : {A B : Type 0} → (A → B) → (why : MaintError) → UnlessFault A why → UnlessFault B why
+unless_more f TableFault k = tt
+unless_more f Memory k = f k
+unless_more f Nothing k = f k
+unless_more f (TablesStopped flushed) k = f k
+
+pub err_more : {A B : Type 0} → (A → B) → (result : Result Done MaintError) → IfErr result (UnlessFault A) → IfErr result (UnlessFault B)
+err_more f (Ok done) k = tt
+err_more f (Err why) k = unless_more f why k
+
+pub round_more : {A B : Type 0} → (A → B) → (result : Option (Result Done MaintError)) → InRound A result → InRound B result
+round_more f (Some result) k = err_more f result k
+round_more f None k = f k
+
+-- ---- the tables were given back with the manifest's device uncalled
+
+-- a seat took them, which had seen no more than the one before, and gave them back
+module _ {D : Type 0} (z : SharedState D) (s t v : SeatState) (before after : EditsState) (stands : (w : World) × Stands z t w) (seat : IsSeat s t) (same : t.knows.participant ≡ s.knows.participant) (held : IsIn (installed before.table) t.knows.held)
+    (of_store : set_first z.first ≡ Some before.first) (still_of_store : set_first z.first ≡ Some after.first) (edits : IsEdits before) (still_edits : IsEdits after) (grown : StartsWith v.knows.participant.seen s.knows.participant.seen) where
+  found : Finds z s v before.table
+  found = record {
+    world = stands.0;
+    actor = t.knows;
+    there = subst (λ (b : ℕ). IsAt (place_at z b) t.knows stands.0) seat.0 stands.1;
+    held = held;
+    past_is = ap (λ (p : Participant). p.past) same;
+    seen_is = starts_equal s.knows.participant.seen t.knows.participant.seen (ap (λ (p : Participant). p.seen) same);
+    within = subst (λ (p : Participant). StartsWith v.knows.participant.seen p.seen) (sym same) grown;
+    made = seat.1;
+    joined = seat.2;
+  }
+
+  left : AreLeft before after → LeavesManifest z s v before.table
+  left k = (found, record { before = before; after = after; of_store = of_store; still_of_store = still_of_store; before_is = refl; after_is = k.0; edits = edits; still_edits = still_edits; so = k.1 })
+
+  pub left_once : AreLeft before after → LeavesOnce z s v
+  left_once k = (before.table, left k)
+
+  pub left_each : AreLeft before after → LeavesEach z s v
+  left_each k = (
+    before.table ∷ [],
+    λ e there. elim there [
+      | inl is ↦ subst (LeavesManifest z s v) is (left k)
+      | inr none ↦ absurd none
+    ],
+  )
+
+pub none_taken : {D : Type 0} (z : SharedState D) (s v : SeatState) → LeavesEach z s v
+none_taken z s v = ([], λ e none. absurd none)
+
+-- of a call between two others, and so between two that are further apart
+module _ {D : Type 0} (z : SharedState D) (s t u v : SeatState) (seat : IsSeat s t) (past : t.knows.participant.past ≡ s.knows.participant.past) (starts : StartsWith t.knows.participant.seen s.knows.participant.seen) (grown : StartsWith v.knows.participant.seen u.knows.participant.seen) where
+  pub each_between : LeavesEach z t u → LeavesEach z s v
+  each_between k = (k.0, λ e there. (held_between z s t u v t.knows.participant.past s.knows.participant.past (installed e) seat starts grown past (k.1 e there).0, (k.1 e there).1))
+
+-- those of one call, and of the next
+module _ {D : Type 0} (z : SharedState D) (s v : SeatState) where
+  in_both : (one two : List Installed) (e : Installed) → IsIn e (one ++ two) → IsIn e one ⊎ IsIn e two
+  in_both [] two e there = inr there
+  in_both (x ∷ one) two e (inl is) = inl (inl is)
+  in_both (x ∷ one) two e (inr rest) = elim (in_both one two e rest) [
+    | inl front ↦ inl (inr front)
+    | inr back ↦ inr back
+  ]
+
+  pub each_then : LeavesEach z s v → LeavesEach z s v → LeavesEach z s v
+  each_then first second = (
+    first.0 ++ second.0,
+    λ e there. elim (in_both first.0 second.0 e there) [
+      | inl front ↦ first.1 e front
+      | inr back ↦ second.1 e back
+    ],
+  )
+
+-- ---- what it remembers
 
 module _ {D : Type 0} (z : SharedState D) (old new : SeatState) where
   abbrev p : Participant
@@ -22,16 +113,50 @@ module _ {D : Type 0} (z : SharedState D) (old new : SeatState) where
   none_remembered : (events : List Event) → filter is_of_install events ≡ [] → Continues z old new (remembering events p) → installs_of new.knows.participant ≡ installs_of p
   none_remembered events none goes = remembered events goes ∙ ap (λ (es : List Event). installs_of p ++ es) none ∙ append-nil (installs_of p)
 
-  pub flushed_before : (result : Result Done MaintError) → Flushes z old result new → IfErr result (λ why. RefusesBeforeInstall old why new)
-  flushed_before (Ok done) k = tt
-  flushed_before (Err Memory) k = ap installs_of k.1.participant
-  flushed_before (Err Nothing) k = none_remembered (found_by z old new k.0 k.1.1.found ∷ []) refl k.1.1.goes_on
-  flushed_before (Err TableFault) k = (k.0.last, k.1.1.asked, remembered (found_by z old new k.0 k.1.1.found ∷ tables_failed k.0.last k.1.1.asked ∷ []) k.1.1.goes_on)
-  flushed_before (Err (TablesStopped flushed)) k = none_remembered (found_by z old new k.0 k.1.found ∷ []) refl k.1.goes_on
+  -- what it has seen since
+  pub flushed_grown : (result : Result Done MaintError) → Flushes z old result new → StartsWith new.knows.participant.seen p.seen
+  flushed_grown (Ok done) k = k.1.goes_on.seen
+  flushed_grown (Err Memory) k = k.1.seen
+  flushed_grown (Err Nothing) k = k.1.1.goes_on.seen
+  flushed_grown (Err TableFault) k = k.1.1.goes_on.seen
+  flushed_grown (Err (TablesStopped flushed)) k = k.1.goes_on.seen
 
-  pub compacted_before : (result : Result Done MaintError) → Compacts z old result new → IfErr result (λ why. RefusesBeforeInstall old why new)
-  compacted_before (Ok done) k = tt
-  compacted_before (Err Memory) k = ap installs_of k.1.participant
-  compacted_before (Err Nothing) k = none_remembered (found_by z old new k.0 k.1.found ∷ []) refl k.1.goes_on
-  compacted_before (Err TableFault) k = (k.0.last, k.1.asked, remembered (found_by z old new k.0 k.1.found ∷ tables_failed k.0.last k.1.asked ∷ []) k.1.goes_on)
-  compacted_before (Err (TablesStopped flushed)) k = none_remembered (found_by z old new k.0 k.1.found ∷ []) refl k.1.goes_on
+  module _ (Leaves : Type 0) where
+    pub flushed_before : (result : Result Done MaintError) → Flushes z old result new → IfErr result (UnlessFault Leaves) → IfErr result (λ why. RefusesBeforeInstall Leaves old why new)
+    flushed_before (Ok done) k left = tt
+    flushed_before (Err Memory) k left = (ap installs_of k.1.participant, left)
+    flushed_before (Err Nothing) k left = (none_remembered (found_by z old new k.0 k.1.1.found ∷ []) refl k.1.1.goes_on, left)
+    flushed_before (Err TableFault) k left = (k.0.last, k.1.1.asked, remembered (found_by z old new k.0 k.1.1.found ∷ tables_failed k.0.last k.1.1.asked ∷ []) k.1.1.goes_on)
+    flushed_before (Err (TablesStopped flushed)) k left = (none_remembered (found_by z old new k.0 k.1.found ∷ []) refl k.1.goes_on, left)
+
+    pub compacted_before : (result : Result Done MaintError) → Compacts z old result new → IfErr result (UnlessFault Leaves) → IfErr result (λ why. RefusesBeforeInstall Leaves old why new)
+    compacted_before (Ok done) k left = tt
+    compacted_before (Err Memory) k left = (ap installs_of k.1.participant, left)
+    compacted_before (Err Nothing) k left = (none_remembered (found_by z old new k.0 k.1.found ∷ []) refl k.1.goes_on, left)
+    compacted_before (Err TableFault) k left = (k.0.last, k.1.asked, remembered (found_by z old new k.0 k.1.found ∷ tables_failed k.0.last k.1.asked ∷ []) k.1.goes_on)
+    compacted_before (Err (TablesStopped flushed)) k left = (none_remembered (found_by z old new k.0 k.1.found ∷ []) refl k.1.goes_on, left)
+
+-- ---- what was refused left the manifest alone, or a device failed
+
+pub refused_or_failed : (Leaves : Type 0) (old new : SeatState) (why : MaintError) → RefusesBeforeInstall Leaves old why new → (MadeNoInstall old.knows.participant new.knows.participant × Leaves) ⊎ ((why ≡ TableFault) × FailedOnce old.knows.participant new.knows.participant)
+refused_or_failed Leaves old new TableFault r = inr (refl, r)
+refused_or_failed Leaves old new other r = inl r
+
+pub left_or_broken : {D : Type 0} (z : SharedState D) (s u : SeatState) (e left : EditsState) (next : InstalledEdit) (why : MaintError) → NotInstalled z s e next why u left → UnlessFault (AreLeft e left) why → AreLeft e left ⊎ ((why ≡ TableFault) × HasBroken z s e next u left)
+left_or_broken z s u e left next TableFault k so = inr (refl, k)
+left_or_broken z s u e left next other k so = inl so
+
+one_more : (xs : List Event) (x : Event) → xs ≡ xs ++ x ∷ [] → ⊥
+one_more xs x is = let l = ap (λ (es : List Event). length es) is in let m = length-append xs (x ∷ []) in omega (arith, l, m)
+
+abbrev begins_failed : List Event → Bool
+begins_failed (tables_failed last asked ∷ events) = true
+begins_failed other = false
+
+other_event : (last edit : InstalledEdit) (asked : Option InstalledEdit) (compacts : Bool) → tables_failed last asked ∷ [] ≡ event.installed edit compacts ∷ [] → ⊥
+other_event last edit asked compacts is = let b : true ≡ false = ap begins_failed is in absurd cc
+
+pub none_installed : (Leaves : Type 0) (old new : SeatState) (why : MaintError) (edit : InstalledEdit) (compacts : Bool) → installs_of new.knows.participant ≡ installs_of old.knows.participant ++ event.installed edit compacts ∷ [] → RefusesBeforeInstall Leaves old why new → ⊥
+none_installed Leaves old new TableFault edit compacts more r =
+    other_event r.0 edit r.1 compacts (append_cancel_left (installs_of old.knows.participant) (tables_failed r.0 r.1 ∷ []) (event.installed edit compacts ∷ []) (sym r.2 ∙ more))
+none_installed Leaves old new other edit compacts more r = one_more (installs_of old.knows.participant) (event.installed edit compacts) (sym r.0 ∙ more)

@@ -23,7 +23,7 @@ use Rattle.wp_maint.specs.declared.error.MaintError.{MaintError}
 use Rattle.wp_maint.specs.declared.error.MaintError.TheVariants.{Memory, Nothing, TableFault, TablesStopped}
 use Rattle.wp_maint.specs.declared.frozen.Frozen.{Frozen}
 use Rattle.wp_maint.specs.Calls.{found_by, SawWhole, HasFlushed, HasNewest, FlushesFrom}
-use Rattle.wp_maint.specs.Flush.{HasFrozen, MayPut}
+use Rattle.wp_maint.specs.Flush.{versions_of, HasFrozen, MayPut}
 use Rattle.wp_maint.specs.Installs.{HasInstalled, NotInstalled}
 use Rattle.wp_maint.specs.Holding.{is_of_flushed, is_of_tables, HoldsEdits}
 use Rattle.wp_maint.proofs.Installed.{same_edit}
@@ -34,13 +34,13 @@ module _ {D : Type 0} (z : SharedState D) (s u : SeatState) (e left : EditsState
   abbrev next : InstalledEdit
   next = after_flush s.knows.participant.seen e.table.last
 
-  module _ (versions : List Version) (versions_are : versions ≡ f.versions) (k : HasInstalled z s e next false u left) where
+  module _ (versions : List Version) (versions_are : versions ≡ (versions_of f)) (k : HasInstalled z s e next false u left) where
     pub may_put : KnowsTables s.knows e.table.last → MayPut u.knows left.table f versions
     may_put settled = record {
       flushed = ap (λ (x : Installed). x.last.flushed) k.table ∙ sym frozen.at;
       versions_are = versions_are;
       low = frozen.flushed;
-      frozen = k.changes.goes.noted (frozen_stay f.at f.versions) refl frozen.noted;
+      frozen = k.changes.goes.noted (frozen_stay f.at (versions_of f)) refl frozen.noted;
       before = e.table.last.versions;
       floor = settled.1.0;
       named = k.changes.goes.noted (tables_stay e.table.last.versions settled.1.0) refl settled.1.1;
@@ -49,7 +49,7 @@ module _ {D : Type 0} (z : SharedState D) (s u : SeatState) (e left : EditsState
       last = ap (λ (x : Installed). x.last.versions) k.table ∙ sym (ap (λ (x : InstalledEdit). x.versions) (same_edit s.knows e.table f frozen));
     }
 
-    pub has_flushed : HoldsEdits z s e → SawWhole z s s.knows.participant.seen → HasNewest f.versions e left → (v : SeatState) (turns : List ℕ) → GoesOn is_of_tables (installed left.table ∷ []) turns u v → e.table.halted ≡ false → (n : ℕ) → n ≡ length f.versions → HasFlushed (GoesOnAs s v) z s v e.table (record { at = f.at; versions = n })
+    pub has_flushed : HoldsEdits z s e → SawWhole z s s.knows.participant.seen → HasNewest (versions_of f) e left → (v : SeatState) (turns : List ℕ) → GoesOn is_of_tables (installed left.table ∷ []) turns u v → e.table.halted ≡ false → (n : ℕ) → n ≡ length (versions_of f) → HasFlushed (GoesOnAs s v) z s v e.table (record { at = f.at; versions = n })
     has_flushed holds whole parts v turns put running n counted =
         let before : u.knows.participant.seen ≡ s.knows.participant.seen = ap (λ (x : SeatState). x.knows.participant.seen) k.changes.goes.same in
         let seen : v.knows.participant.seen ≡ s.knows.participant.seen = ap (λ (x : SeatState). x.knows.participant.seen) put.same ∙ before in

@@ -29,7 +29,7 @@ use Rattle.wp_shared.proofs.Goes.{then, wider, none_too, none_under_store}
 use Rattle.wp_shared.proofs.Onward.{holds_on, holds_next, holds_two}
 use Rattle.wp_shared.proofs.Tables.{held_table}
 use Rattle.wp_maint.specs.declared.frozen.Frozen.{Frozen}
-use Rattle.wp_maint.specs.Flush.{HasCopied, HasFrozen, Freezes}
+use Rattle.wp_maint.specs.Flush.{versions_of, HasCopied, HasFrozen, Freezes}
 use Rattle.wp_maint.specs.Calls.{NoneInMemory, SawWhole}
 use Rattle.wp_maint.specs.Holding.{HoldsEdits}
 use Rattle.wp_maint.proofs.Memory.{memory_is, all_numbered, all_flushed, count_is, rises, flush_covered, none_in_memory, sorted_none}
@@ -81,16 +81,16 @@ module _ {D : Type 0} (z : SharedState D) (s : SeatState) (d : WriteTable) (stoc
     pub frozen_within : f.at ≤ length s.knows.participant.seen
     frozen_within = omega (arith, at_seen)
 
-    pub frozen_same : (key : List ℕ) (q : ℕ) → q ≤ f.at → version_at t.memory key q ≡ version_at f.versions key q
+    pub frozen_same : (key : List ℕ) (q : ℕ) → q ≤ f.at → version_at t.memory key q ≡ version_at (versions_of f) key q
     frozen_same key q low = ap (λ (m : List Version). version_at m key q) (sym k.versions)
 
-    versions_are : f.versions ≡ sorted_of (unflushed s.knows.participant.seen e.last)
+    versions_are : (versions_of f) ≡ sorted_of (unflushed s.knows.participant.seen e.last)
     versions_are = k.versions ∙ frozen_is
 
     some_sorted : 1 ≤ length (sorted_of (unflushed s.knows.participant.seen e.last))
     some_sorted = let q = ap (λ (l : List Version). length l) frozen_is in omega (arith, k.some, q)
 
-    pub has_frozen : (u : SeatState) → u ≡ noting (frozen_stay f.at f.versions) s → HasFrozen u.knows e f
+    pub has_frozen : (u : SeatState) → u ≡ noting (frozen_stay f.at (versions_of f)) s → HasFrozen u.knows e f
     has_frozen u is = subst (λ (a : Actor). HasFrozen a e f) (sym (ap (λ (x : SeatState). x.knows) is)) (record {
       at = at_seen;
       versions = versions_are;
@@ -196,7 +196,7 @@ module _ {D : Type 0} {z : SharedState D} {s0 s1 s2 : SeatState} {e : EditsState
         tables = k.tables;
         room = k.room;
         covered = subst (λ (h : List Entry). IsEditCovered h (after_flush h e.table.last)) seen_same k.covered;
-        noted = last.goes.noted (frozen_stay x.at x.versions) refl (gave.goes.noted (frozen_stay x.at x.versions) refl k.noted);
+        noted = last.goes.noted (frozen_stay x.at (versions_of x)) refl (gave.goes.noted (frozen_stay x.at (versions_of x)) refl k.noted);
       }
       freezes_still None k = subst (λ (h : List Entry). NoneInMemory h e.table.last) seen_same k
 

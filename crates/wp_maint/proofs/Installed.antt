@@ -25,23 +25,23 @@ use Rattle.wp_shared.specs.Seats.{SharedState, SeatState, Stands, place_at}
 use Rattle.wp_shared.proofs.Tables.{held_table}
 use Rattle.wp_maint.specs.declared.frozen.Frozen.{Frozen}
 use Rattle.wp_parts.specs.Installs.{with_table}
-use Rattle.wp_maint.specs.Flush.{HasFrozen, MayPut}
+use Rattle.wp_maint.specs.Flush.{versions_of, HasFrozen, MayPut}
 use Rattle.wp_maint.specs.Holding.{HoldsEdits}
 use Rattle.wp_maint.proofs.Retained.{none_past}
 use Rattle.wp_maint.proofs.Versions.{Found, same_sorted}
 
 -- ---- the edit
 
-pub same_edit : (a : Actor) (t : Installed) (f : Frozen) → HasFrozen a t f → with_table f.versions f.at t.last ≡ after_flush a.participant.seen t.last
+pub same_edit : (a : Actor) (t : Installed) (f : Frozen) → HasFrozen a t f → with_table (versions_of f) f.at t.last ≡ after_flush a.participant.seen t.last
 same_edit a t f k =
     let later = unflushed a.participant.seen t.last in
-    let list : sorted_of (f.versions ++ t.last.versions) ≡ sorted_of (later ++ t.last.versions) = same_sorted (f.versions ++ t.last.versions) (later ++ t.last.versions) (λ key p.
-    at_append f.versions t.last.versions key p
+    let list : sorted_of ((versions_of f) ++ t.last.versions) ≡ sorted_of (later ++ t.last.versions) = same_sorted ((versions_of f) ++ t.last.versions) (later ++ t.last.versions) (λ key p.
+    at_append (versions_of f) t.last.versions key p
     ∙ ap (λ (o : Found). option_or o (version_at t.last.versions key p)) (ap (λ (l : List Version). version_at l key p) k.versions ∙ at_sorted later key p)
     ∙ sym (at_append later t.last.versions key p)) in
     λ i. record { flushed = k.at i; versions = list i; tables = suc t.last.tables }
 
-pub knows_flush : (a : Actor) (t : Installed) (f : Frozen) → HasFrozen a t f → t.halted ≡ false → KnowsInstalled a t (with_table f.versions f.at t.last) false
+pub knows_flush : (a : Actor) (t : Installed) (f : Frozen) → HasFrozen a t f → t.halted ≡ false → KnowsInstalled a t (with_table (versions_of f) f.at t.last) false
 knows_flush a t f k running = record {
   running = running;
   covered = subst (IsEditCovered a.participant.seen) (sym (same_edit a t f k)) k.covered;
@@ -80,8 +80,8 @@ module _ {D : Type 0} (z : SharedState D) (s : SeatState) (e : Installed) (f : F
   here : w.store ≡ t
   here = held_table (place_at z u.by) u.knows w (store t) stands (subst (IsIn (store t)) (sym held) (inl refl))
 
-  frozen_at : (key : List ℕ) (q : ℕ) → q ≤ f.at → version_at t.memory key q ≡ version_at f.versions key q
-  frozen_at key q low = ap (λ (x : StoreTable). version_at x.memory key q) (sym here) ∙ (noted_is (place_at z u.by) u.knows w (frozen_stay f.at f.versions) stands (notes (frozen_stay f.at f.versions) may.frozen)).is_so.1 key q low
+  frozen_at : (key : List ℕ) (q : ℕ) → q ≤ f.at → version_at t.memory key q ≡ version_at (versions_of f) key q
+  frozen_at key q low = ap (λ (x : StoreTable). version_at x.memory key q) (sym here) ∙ (noted_is (place_at z u.by) u.knows w (frozen_stay f.at (versions_of f)) stands (notes (frozen_stay f.at (versions_of f)) may.frozen)).is_so.1 key q low
 
   tables_then : t.tables ≡ may.before
   tables_then = ap (λ (x : StoreTable). x.tables) (sym here) ∙ (noted_is (place_at z u.by) u.knows w (tables_stay may.before may.floor) stands (notes (tables_stay may.before may.floor) may.named)).is_so.0
@@ -95,13 +95,13 @@ module _ {D : Type 0} (z : SharedState D) (s : SeatState) (e : Installed) (f : F
       not_low : (q : ℕ) → f.at < q → nat_le q f.at ≡ false
       not_low q above = grind (arith, above)
 
-  now_at : (key : List ℕ) (q : ℕ) → version_at now.tables key q ≡ option_or (version_at f.versions key q) (version_at t.tables key q)
+  now_at : (key : List ℕ) (q : ℕ) → version_at now.tables key q ≡ option_or (version_at (versions_of f) key q) (version_at t.tables key q)
   now_at key q =
       ap (λ (l : List Version). version_at l key q) tables_is
       ∙ at_sorted (versions ++ tables) key q
       ∙ at_append versions tables key q
       ∙ ap (λ (l : List Version). option_or (version_at l key q) (version_at tables key q)) may.versions_are
-      ∙ ap (option_or (version_at f.versions key q)) (sym (at_sorted tables key q) ∙ ap (λ (l : List Version). version_at l key q) (before ∙ sym tables_then))
+      ∙ ap (option_or (version_at (versions_of f) key q)) (sym (at_sorted tables key q) ∙ ap (λ (l : List Version). version_at l key q) (before ∙ sym tables_then))
 
   pub knows_moved : KnowsMoved t e.last.flushed now.memory now.tables
   knows_moved = record {
@@ -113,18 +113,18 @@ module _ {D : Type 0} (z : SharedState D) (s : SeatState) (e : Installed) (f : F
           ∙ sym (at_append t.memory t.tables key q)
       | inl above ↦
           ap (λ (o : Found). option_or o (version_at now.tables key q)) (same_above key q above)
-          ∙ ap (option_or (version_at t.memory key q)) (now_at key q ∙ or_same (version_at f.versions key q) (version_at t.tables key q) (none_past f.at f.versions may.low key q above))
+          ∙ ap (option_or (version_at t.memory key q)) (now_at key q ∙ or_same (version_at (versions_of f) key q) (version_at t.tables key q) (none_past f.at (versions_of f) may.low key q above))
           ∙ sym (at_append t.memory t.tables key q)
     ];
     above = λ key q above. same_above key q (let l = may.flushed in omega (arith, l, above));
-    below = λ key q value there. below_by key q value (version_at f.versions key q) refl (sym (now_at key q) ∙ there);
+    below = λ key q value there. below_by key q value (version_at (versions_of f) key q) refl (sym (now_at key q) ∙ there);
   }
     where
-      below_by : (key : List ℕ) (q : ℕ) (value : Option (List ℕ)) (o : Found) → version_at f.versions key q ≡ o → option_or (version_at f.versions key q) (version_at t.tables key q) ≡ Some value
+      below_by : (key : List ℕ) (q : ℕ) (value : Option (List ℕ)) (o : Found) → version_at (versions_of f) key q ≡ o → option_or (version_at (versions_of f) key q) (version_at t.tables key q) ≡ Some value
           → (version_at t.tables key q ≡ Some value) ⊎ ((q ≤ e.last.flushed) × (version_at t.memory key q ≡ Some value))
-      below_by key q value None is there = inl (sym (or_same (version_at f.versions key q) (version_at t.tables key q) is) ∙ there)
+      below_by key q value None is there = inl (sym (or_same (version_at (versions_of f) key q) (version_at t.tables key q) is) ∙ there)
       below_by key q value (Some v) is there = elim (cases_lt f.at q) [
-        | inl above ↦ absurd (none_some (version_at f.versions key q) v (none_past f.at f.versions may.low key q above) is)
+        | inl above ↦ absurd (none_some (version_at (versions_of f) key q) v (none_past f.at (versions_of f) may.low key q above) is)
         | inr low ↦ inr ((let l = may.flushed in omega (arith, l, low)), frozen_at key q low ∙ is ∙ sym (ap (λ (x : Found). option_or x (version_at t.tables key q)) is) ∙ there)
       ]
 
@@ -134,9 +134,9 @@ module _ {D : Type 0} (z : SharedState D) (s : SeatState) (e : Installed) (f : F
   pub tables_named : now.tables ≡ e.last.versions
   tables_named =
       tables_is
-      ∙ same_sorted (versions ++ tables) (f.versions ++ may.before) (λ key p.
+      ∙ same_sorted (versions ++ tables) ((versions_of f) ++ may.before) (λ key p.
       at_append versions tables key p
       ∙ ap (λ (l : List Version). option_or (version_at l key p) (version_at tables key p)) may.versions_are
-      ∙ ap (option_or (version_at f.versions key p)) (sym (at_sorted tables key p) ∙ ap (λ (l : List Version). version_at l key p) before)
-      ∙ sym (at_append f.versions may.before key p))
+      ∙ ap (option_or (version_at (versions_of f) key p)) (sym (at_sorted tables key p) ∙ ap (λ (l : List Version). version_at l key p) before)
+      ∙ sym (at_append (versions_of f) may.before key p))
       ∙ sym may.last

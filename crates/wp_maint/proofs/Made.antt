@@ -63,7 +63,7 @@ stands_after z steps so s u by m =
 -- ---- what was found
 
 find_ends : EndsNothing find_edit
-find_ends = record { guard = λ turn. refl; place = λ words place. refl; words = refl; delayed_flag = refl; old_flag = refl; pending = refl; adds = refl; takes = refl; prepared = refl; unprepared = refl; transaction = λ history name. refl; direct = refl; moves = refl; replaces = refl; installing = refl }
+find_ends = record { guard = λ turn. refl; place = λ words place. refl; words = refl; delayed_flag = refl; old_flag = refl; pending = refl; adds = refl; takes = refl; prepared = refl; unprepared = refl; delays = refl; transaction = λ history name. refl; direct = refl; moves = refl; replaces = refl; installing = refl }
 
 pub may_find : (p : Place) (a : Actor) (t : Installed) → IsIn (installed t) a.held → MayMake p a (λ w. find_edit ∷ [])
 may_find p a t held = known_made p a find_edit tt (record { table = t; held = held; so_is = tt })

@@ -26,10 +26,11 @@ use Rattle.wp_read.specs.Registers.{IsPinned, numbers_of}
 use Rattle.wp_maint.specs.declared.done.Done.{Done}
 use Rattle.wp_maint.specs.declared.error.MaintError.{MaintError}
 use Rattle.wp_maint.specs.declared.error.MaintError.TheVariants.{Memory, Nothing, TableFault, TablesStopped}
-use Rattle.wp_maint.specs.Calls.{CompactsFrom, Compacts, FewTables, HasPinned, found_by}
+use Rattle.wp_maint.specs.Calls.{CompactsFrom, Compacts, FewTables, HasPinned, LeavesEach, found_by}
 use Rattle.wp_maint.specs.Compaction.{HadVersions, HasDecided, IsPin, KnowsLive, EndsRoundFrom, EndsRound}
 use Rattle.wp_maint.specs.Decided.{ArePinned, Decides, version_numbers}
 use Rattle.wp_maint.specs.Finding.{Remembers}
+use Rattle.wp_maint.proofs.BeforeInstall.{each_between, each_then}
 use Rattle.wp_maint.proofs.Decisions.{decided_same}
 use Rattle.wp_maint.proofs.Onward.{goes_more, goes_is, IsSeat, seat_still, versions_between, compacts_so, ends_so}
 use Rattle.wp_maint.proofs.Pinning.{in_middle, pinned_low, take_seen, grown_length}
@@ -138,7 +139,7 @@ module _ {D : Type 0} (Goes : Participant → Type 0) (Pinned : ℕ → List ℕ
   compacts_somehow (Err TableFault) k = (found_by z s u e k.found ∷ tables_failed e.last k.asked ∷ [], k.goes_on)
   compacts_somehow (Err (TablesStopped flushed)) k = (found_by z s u e k.found ∷ [], k.goes_on)
 
-  ends_somehow : (result : Option (Result Done MaintError)) → EndsRoundFrom Goes Pinned z s e result u → Somehow Goes s.knows.participant
+  pub ends_somehow : (result : Option (Result Done MaintError)) → EndsRoundFrom Goes Pinned z s e result u → Somehow Goes s.knows.participant
   ends_somehow (Some result) k = compacts_somehow result k
   ends_somehow None k = without k.goes_on
 
@@ -240,3 +241,13 @@ module _ {D : Type 0} (z : SharedState D) (s t v : SeatState) (first : Continues
     compacts_so (Continues z t v) (Continues z s v) z s t v v k.0 (first.same_by, first.made, first.joined) (ap (λ (p : Participant). p.past) first.participant) first.seen refl (starts_same v.knows.participant.seen) (λ events second. continues_then z s t v s.knows.participant (remembering events) (λ q h k. refl) first second) (continues_still z s t v s.knows.participant first)
         (HasPinned z t v) (HasPinned z s v) pinned_since result k.1,
   )
+
+  pub grown_since : (result : Result Done MaintError) → EndsRound (Continues z t v) (HasPinned z t v) z t (Some result) v → StartsWith v.knows.participant.seen t.knows.participant.seen
+  grown_since result k = (ends_somehow (Continues z t v) (HasPinned z t v) z t v k.0 (Some result) k.1).1.seen
+
+  -- what the rounds before left, and what the last one did
+  pub each_since : StartsWith v.knows.participant.seen t.knows.participant.seen → LeavesEach z s t → LeavesEach z t v → LeavesEach z s v
+  each_since grown before last =
+      let p = s.knows.participant in
+      each_then z s v (each_between z s s t v (refl, refl, refl) refl (starts_same p.seen) grown before)
+      (each_between z s t v v (first.same_by, first.made, first.joined) (ap (λ (q : Participant). q.past) first.participant) first.seen (starts_same v.knows.participant.seen) last)

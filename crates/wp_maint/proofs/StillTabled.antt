@@ -1,5 +1,6 @@
 -- The tables are still those that were decided, so what is kept of them may be installed.
-use Rattle.std.proofs.Common.{◌≡◌, inl, inr, ℕ, ◌≤◌, Bool, true, List, [], ◌∷◌, append-nil, length, length-append, take, refl, sym, subst, ap, ◌∙◌, None, arith}
+use Rattle.std.proofs.Common.{◌≡◌, inl, inr, ℕ, ◌≤◌, Bool, true, List, [], ◌∷◌, append-nil, length, length-append, take, refl, sym, subst, ap, ◌∙◌, Option, Some, None, IfSome, arith}
+use Rattle.std.specs.Prelude.{MatchOption}
 use Rattle.std.specs.List.{list_all}
 use Rattle.wp_model.specs.declared.entry.Entry.{Entry}
 use Rattle.wp_model.specs.declared.version.Version.{Version}
@@ -33,11 +34,11 @@ use Rattle.wp_shared.proofs.Tables.{held_table}
 use Rattle.wp_read.specs.Registers.{numbers_of}
 use Rattle.wp_keep.specs.declared.pair.Pair.{Pair}
 use Rattle.wp_maint.specs.Calls.{HeldContent, HeldTables, Finds}
-use Rattle.wp_maint.specs.Compaction.{HasDecided, IsOvertaken, KnowsLive, MayMerge, MayReplace}
+use Rattle.wp_maint.specs.Compaction.{HasDecided, IsPassed, KnowsLive, MayMerge, MayReplace}
 use Rattle.wp_maint.specs.Decided.{Decides, version_numbers}
 use Rattle.wp_maint.specs.Holding.{HoldsEdits}
 use Rattle.wp_maint.proofs.Covering.{kept_is_covered, kept_few, versions_numbered}
-use Rattle.wp_maint.proofs.Onward.{held_then, overtaken_between}
+use Rattle.wp_maint.proofs.Onward.{held_then, passed_between}
 use Rattle.wp_maint.proofs.Pinning.{take_grown}
 use Rattle.wp_maint.proofs.Puts.{holds_taken}
 use Rattle.wp_maint.proofs.Replaces.{length_front, front_starts, number_of}
@@ -157,15 +158,36 @@ module _ {D : Type 0} {z : SharedState D} {s u : SeatState} {e : Installed} {ben
 
 -- ---- the seat goes on
 
+pub some_weaker : {X : Type 0} (o : Option X) (P Q : X → Type 0) → ((x : X) → P x → Q x) → IfSome o P → IfSome o Q
+some_weaker None P Q gives k = tt
+some_weaker (Some x) P Q gives k = gives x k
+
+pub matched_some : {X : Type 0} (o : Option X) (x : X) (P : Type 0) (Q : X → Type 0) → o ≡ Some x → MatchOption o P Q → Q x
+matched_some o x P Q is k = subst (λ y. MatchOption y P Q) is k
+
+pub matched_none : {X : Type 0} (o : Option X) (P : Type 0) (Q : X → Type 0) → o ≡ None → MatchOption o P Q → P
+matched_none o P Q is k = subst (λ y. MatchOption y P Q) is k
+
+pub some_of : {X : Type 0} (o : Option X) (x : X) (Q : X → Type 0) → o ≡ Some x → IfSome o Q → Q x
+some_of o x Q is k = subst (λ y. IfSome y Q) is k
+
+pub match_weaker : {X : Type 0} (o : Option X) (A B : Type 0) (P : X → Type 0) → (A → B) → MatchOption o A P → MatchOption o B P
+match_weaker None A B P gives k = gives k
+match_weaker (Some x) A B P gives k = k
+
+-- what is live is known still
+pub live_still : (s t : Actor) (floor : ℕ) (live : List Registration) → t.participant ≡ s.participant → ((fact : Fact) → guarded_by fact ≡ None → Noted s fact → Noted t fact) → KnowsLive s floor live → KnowsLive t floor live
+live_still s t floor live same notes k = record {
+  within = subst (λ (p : Participant). floor ≤ length p.seen) (sym same) k.within;
+  registered = λ r there. (subst (λ (p : Participant). IsIn r p.registered) (sym same) (k.registered r there).0, (k.registered r there).1);
+  listed = notes (live_listed floor (numbers_of live)) refl k.listed;
+}
+
 -- what was decided is known still
 pub decided_still : (s t : Actor) (floor : Registration) (live : List Registration) (versions : List Version) (pairs : List Pair) → t.participant ≡ s.participant → ((fact : Fact) → guarded_by fact ≡ None → Noted s fact → Noted t fact)
     → HasDecided s floor live versions pairs → HasDecided t floor live versions pairs
 decided_still s t floor live versions pairs same notes k = record {
-  live_is = record {
-    within = subst (λ (p : Participant). floor.number ≤ length p.seen) (sym same) k.live_is.within;
-    registered = λ r there. (subst (λ (p : Participant). IsIn r p.registered) (sym same) (k.live_is.registered r there).0, (k.live_is.registered r there).1);
-    listed = notes (live_listed floor.number (numbers_of live)) refl k.live_is.listed;
-  };
+  live_is = live_still s t floor.number live same notes k.live_is;
   decided = subst (λ (p : Participant). Decides (take floor.number p.seen) (version_numbers versions) (numbers_of (floor ∷ live)) [] pairs) (sym same) k.decided;
 }
 
@@ -224,11 +246,11 @@ module _ {D : Type 0} {z : SharedState D} {s t u : SeatState} {e : EditsState} {
         (held_then z s v v (installed e.table) third.stands (ap (λ (x : SeatState). x.by) same, ap (λ (x : SeatState). x.knows.made) same, ap (λ (x : SeatState). x.knows.joined) same) (grown_looked grown) refl
         (subst (IsIn (installed e.table)) (sym (ap (λ (x : SeatState). x.knows.held) same)) (inl refl)))
 
-    pub overtaken_looked : (floor : ℕ) (versions : List Version) → IsOvertaken z t u floor versions e.table → IsOvertaken z s v floor versions e.table
-    overtaken_looked floor versions k =
+    pub passed_looked : (floor : ℕ) → IsPassed z t u floor e.table → IsPassed z s v floor e.table
+    passed_looked floor k =
         let same = first.goes.same in
-        overtaken_between z s t u v (ap (λ (x : SeatState). x.by) same, ap (λ (x : SeatState). x.knows.made) same, ap (λ (x : SeatState). x.knows.joined) same) (ap (λ (x : SeatState). x.knows.participant.past) same)
-        (starts_equal s.knows.participant.seen t.knows.participant.seen (ap (λ (x : SeatState). x.knows.participant.seen) same)) (starts_equal u.knows.participant.seen v.knows.participant.seen (ap (λ (p : Participant). p.seen) same_looked)) floor versions e.table k
+        passed_between z s t u v (ap (λ (x : SeatState). x.by) same, ap (λ (x : SeatState). x.knows.made) same, ap (λ (x : SeatState). x.knows.joined) same) (ap (λ (x : SeatState). x.knows.participant.past) same)
+        (starts_equal s.knows.participant.seen t.knows.participant.seen (ap (λ (x : SeatState). x.knows.participant.seen) same)) (starts_equal u.knows.participant.seen v.knows.participant.seen (ap (λ (p : Participant). p.seen) same_looked)) floor e.table k
 
 -- a seat that goes on with the tables turn alone holds the same tables still
 pub still_edits : {D : Type 0} {z : SharedState D} {s u : SeatState} {test : Fact → Bool} {e : EditsState} {h : List Entry} → HoldsEdits z s e → GoesOn test (installed e.table ∷ []) s.turns (seeing h s) u → HoldsEdits z u e

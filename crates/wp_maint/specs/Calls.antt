@@ -237,11 +237,41 @@ is_of_install other = false
 abbrev pub installs_of : Participant → List Event
 installs_of p = filter is_of_install p.past
 
+-- The manifest's device was not called: its count and its moments are as they were.
+abbrev pub IsUncalled : EditsState → EditsState → Type 0
+IsUncalled before after = after.set.manifest ≡ before.set.manifest
+
+-- The call took these tables from behind the turn, and gave them back with the manifest's device uncalled.
+abbrev pub LeavesManifest : {D : Type 0} → SharedState D → SeatState → SeatState → Installed → Type 0
+LeavesManifest z old new e = Finds z old new e × TablesBecame z e e IsUncalled
+
+-- ... a flush, which takes them once
+abbrev pub LeavesOnce : {D : Type 0} → SharedState D → SeatState → SeatState → Type 0
+LeavesOnce z old new = (e : Installed) × LeavesManifest z old new e
+
+-- ... a compaction, which takes them in each round, unless it wants memory before it does: each time that it took them. That there
+-- was no other time no clause tells; but an append leaves its mark, as below.
+abbrev pub LeavesEach : {D : Type 0} → SharedState D → SeatState → SeatState → Type 0
+LeavesEach z old new = (taken : List Installed) × ((e : Installed) → IsIn e taken → LeavesManifest z old new e)
+
+-- the seat installed no edit, and no device failed it
+abbrev pub MadeNoInstall : Participant → Participant → Type 0
+MadeNoInstall old new = installs_of new ≡ installs_of old
+
+-- one install of its own failed, and it made no other
+abbrev pub FailedOnce : Participant → Participant → Type 0
+FailedOnce old new = (last : InstalledEdit) × (asked : Option InstalledEdit) × (installs_of new ≡ installs_of old ++ tables_failed last asked ∷ [])
+
+-- this is so, unless the answer is that a device failed
+abbrev pub UnlessFault : Type 0 → MaintError → Type 0
+UnlessFault So TableFault = Unit {0}
+UnlessFault So other = So
+
 -- What a refused call did with the manifest's device. Each append of an edit leaves its mark: who installs holds the tables turn, and
 -- can give it only with the tables as the machine has them. By then an edit whose append answered Ok is in its past, and so is a
 -- device that failed. Where the call says that one failed, it made no more than that install, and it is in its past; it says so too where
--- the table could not be written, and the manifest was not called. Where it says anything else, want of memory too, it appended no edit.
--- So behind an install that answered Ok the call answers Ok.
-abbrev pub RefusesBeforeInstall : SeatState → MaintError → SeatState → Type 0
-RefusesBeforeInstall old TableFault new = (last : InstalledEdit) × (asked : Option InstalledEdit) × (installs_of new.knows.participant ≡ installs_of old.knows.participant ++ tables_failed last asked ∷ [])
-RefusesBeforeInstall old other new = installs_of new.knows.participant ≡ installs_of old.knows.participant
+-- the table could not be written, and the manifest was not called. Where it says anything else, want of memory too, it appended no edit,
+-- and the device was not called. So behind an install that answered Ok the call answers Ok.
+abbrev pub RefusesBeforeInstall : (Leaves : Type 0) → SeatState → MaintError → SeatState → Type 0
+RefusesBeforeInstall Leaves old TableFault new = FailedOnce old.knows.participant new.knows.participant
+RefusesBeforeInstall Leaves old other new = MadeNoInstall old.knows.participant new.knows.participant × Leaves

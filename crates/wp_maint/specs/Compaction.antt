@@ -1,5 +1,5 @@
 -- What a compaction knows before it installs its edit, and what one round of it answers.
-use Rattle.std.specs.Prelude.{◌≡◌, ◌⊎◌, ℕ, ◌≤◌, ◌<◌, true, false, List, [], ◌∷◌, length, take, Option, Some, None, Result}
+use Rattle.std.specs.Prelude.{◌≡◌, ◌⊎◌, ℕ, ◌≤◌, ◌<◌, true, false, List, [], ◌∷◌, length, take, Option, Some, None, Result, IfErr}
 use Rattle.std.specs.List.{list_all}
 use Rattle.wp_model.specs.declared.version.Version.{Version}
 use Rattle.wp_model.specs.Flushed.{IsEditCovered, later_versions}
@@ -17,7 +17,7 @@ use Rattle.wp_shared.specs.Seats.{SharedState, SeatState}
 use Rattle.wp_read.specs.Registers.{numbers_of}
 use Rattle.wp_maint.specs.declared.done.Done.{Done}
 use Rattle.wp_maint.specs.declared.error.MaintError.{MaintError}
-use Rattle.wp_maint.specs.Calls.{HeldContent, Finds, SeveralTables, CompactsFrom}
+use Rattle.wp_maint.specs.Calls.{HeldContent, Finds, SeveralTables, CompactsFrom, UnlessFault}
 use Rattle.wp_maint.specs.Decided.{Decides, version_numbers}
 
 -- ---- what is pinned
@@ -95,3 +95,8 @@ EndsRoundFrom Goes Pinned z old e None new = BeginsAgain Goes Pinned z old new e
 -- what it answers, or that it has to begin again, whatever tables it finds
 abbrev pub EndsRound : {D : Type 0} → (Participant → Type 0) → (ℕ → List ℕ → Type 0) → SharedState D → SeatState → Option (Result Done MaintError) → SeatState → Type 0
 EndsRound Goes Pinned z old result new = (e : Installed) × EndsRoundFrom Goes Pinned z old e result new
+
+-- of a round this is so, unless it answers Ok, or that a device failed
+abbrev pub InRound : Type 0 → Option (Result Done MaintError) → Type 0
+InRound So (Some result) = IfErr result (UnlessFault So)
+InRound So None = So

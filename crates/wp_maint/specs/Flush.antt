@@ -1,8 +1,9 @@
 -- What a flush writes, and what it leaves before the tables turn is given.
-use Rattle.std.specs.Prelude.{◌≡◌, ℕ, ◌<◌, ◌≤◌, ◌^◌, true, List, [], ◌++◌, length, map, Option, Some, None}
+use Rattle.std.specs.Prelude.{◌≡◌, ℕ, ◌<◌, ◌≤◌, true, List, [], ◌++◌, length, map, Option, Some, None}
 use Rattle.std.specs.Arc.{arc_value}
 use Rattle.std.specs.List.{list_all}
 use Rattle.std.specs.Vec.{vec_capacity}
+use Rattle.wp_model.specs.Legal.{log_end}
 use Rattle.wp_model.specs.declared.version.Version.{Version}
 use Rattle.wp_model.specs.Flushed.{IsEditCovered}
 use Rattle.wp_merge.specs.Merge.{joined, sorted_of}
@@ -15,10 +16,14 @@ use Rattle.wp_rule.specs.Knows.{Noted}
 use Rattle.wp_maint.specs.declared.frozen.Frozen.{Frozen}
 use Rattle.wp_maint.specs.Calls.{NoneInMemory}
 
--- a copy of all that is in memory, and of the tables
+-- what was frozen, as one list
+abbrev pub versions_of : Frozen → List Version
+versions_of f = sorted_of (joined f.parts)
+
+-- all that is in memory, and the tables
 pub record HasCopied (t : StoreTable) (at : ℕ) (f : Frozen) : Type 0 where
   pub at_is : f.at ≡ at
-  pub versions : f.versions ≡ t.memory
+  pub versions : versions_of f ≡ t.memory
   pub some : 1 ≤ length t.memory
   pub tables : sorted_of (joined (map arc_value f.tables.items)) ≡ t.tables
   pub room : length f.tables.items < vec_capacity f.tables
@@ -31,17 +36,17 @@ IsCopied t at None = t.memory ≡ []
 -- and there is room for one table more beside those of the last edit.
 pub record HasFrozen (a : Actor) (e : Installed) (f : Frozen) : Type 0 where
   pub at : f.at ≡ length a.participant.seen
-  pub versions : f.versions ≡ sorted_of (unflushed a.participant.seen e.last)
-  pub count : length f.versions ≡ length (unflushed a.participant.seen e.last)
-  pub some : 1 ≤ length f.versions
-  pub numbered : list_all is_numbered f.versions ≡ true
-  pub flushed : list_all (is_flushed f.at) f.versions ≡ true
+  pub versions : versions_of f ≡ sorted_of (unflushed a.participant.seen e.last)
+  pub count : length (versions_of f) ≡ length (unflushed a.participant.seen e.last)
+  pub some : 1 ≤ length (versions_of f)
+  pub numbered : list_all is_numbered (versions_of f) ≡ true
+  pub flushed : list_all (is_flushed f.at) (versions_of f) ≡ true
   pub later : e.last.flushed < f.at
-  pub fits : f.at < 2 ^ 32
+  pub fits : f.at < log_end
   pub tables : sorted_of (joined (map arc_value f.tables.items)) ≡ e.last.versions
   pub room : length f.tables.items < vec_capacity f.tables
   pub covered : IsEditCovered a.participant.seen (after_flush a.participant.seen e.last)
-  pub noted : Noted a (frozen_stay f.at f.versions)
+  pub noted : Noted a (frozen_stay f.at (versions_of f))
 
 -- what is frozen, or that nothing is there to freeze
 abbrev pub Freezes : Actor → Installed → Option Frozen → Type 0
@@ -53,12 +58,12 @@ Freezes a e None = NoneInMemory a.participant.seen e.last
 -- the table of these versions may take the place of what is frozen
 pub record MayPut (a : Actor) (e : Installed) (f : Frozen) (versions : List Version) : Type 0 where
   pub flushed : e.last.flushed ≡ f.at
-  pub versions_are : versions ≡ f.versions
-  pub low : list_all (is_flushed f.at) f.versions ≡ true
-  pub frozen : Noted a (frozen_stay f.at f.versions)
+  pub versions_are : versions ≡ versions_of f
+  pub low : list_all (is_flushed f.at) (versions_of f) ≡ true
+  pub frozen : Noted a (frozen_stay f.at (versions_of f))
   pub before : List Version
   pub floor : ℕ
   pub named : Noted a (tables_stay before floor)
   pub tables : sorted_of (joined (map arc_value f.tables.items)) ≡ before
   pub room : length f.tables.items < vec_capacity f.tables
-  pub last : e.last.versions ≡ sorted_of (f.versions ++ before)
+  pub last : e.last.versions ≡ sorted_of ((versions_of f) ++ before)

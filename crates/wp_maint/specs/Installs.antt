@@ -11,7 +11,7 @@ use Rattle.wp_shared.specs.Notes.{no_fact}
 use Rattle.wp_shared.specs.Seats.{SharedState, SeatState, Stands}
 use Rattle.wp_maint.specs.declared.error.MaintError.{MaintError}
 use Rattle.wp_maint.specs.declared.error.MaintError.TheVariants.{Memory, TableFault}
-use Rattle.wp_maint.specs.Calls.{HasFault}
+use Rattle.wp_maint.specs.Calls.{HasFault, IsUncalled}
 use Rattle.wp_maint.specs.Finding.{Changes}
 use Rattle.wp_maint.specs.Holding.{is_of_flushed, HoldsEdits}
 
@@ -42,3 +42,9 @@ abbrev pub NotInstalled : {D : Type 0} → SharedState D → SeatState → Edits
 NotInstalled z old e next Memory new left = (new ≡ old) × (left.table ≡ e.table) × (left.first ≡ e.first)
 NotInstalled z old e next TableFault new left = HasBroken z old e next new left
 NotInstalled z old e next other new left = ⊥
+
+-- ---- the manifest's device
+
+-- the tables are as they were, and the manifest's device was not called
+abbrev pub AreLeft : EditsState → EditsState → Type 0
+AreLeft before after = (after.table ≡ before.table) × IsUncalled before after

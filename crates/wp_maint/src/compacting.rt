@@ -5,9 +5,10 @@ ghost use Rattle.wp_rule.specs.Knows.{KnowsTables};
 ghost use Rattle.wp_shared.specs.Calls.{Continues, GoesOnAs};
 ghost use Rattle.wp_shared.specs.Seats.{IsFree};
 ghost use Rattle.wp_read.specs.Registers.{numbers_of};
-ghost use Rattle.wp_maint.specs.Calls.{Compacts, HasPinned, RefusesBeforeInstall, SeveralTables};
-ghost use Rattle.wp_maint.specs.Compaction.{HadVersions, HasDecided, IsPin, KnowsLive, EndsRoundFrom, EndsRound};
+ghost use Rattle.wp_maint.specs.Calls.{Compacts, HasPinned, LeavesEach, RefusesBeforeInstall, SeveralTables};
+ghost use Rattle.wp_maint.specs.Compaction.{HadVersions, HasDecided, IsPin, KnowsLive, EndsRoundFrom, EndsRound, InRound};
 ghost use Rattle.wp_maint.specs.Holding.{HoldsEdits};
+ghost use Rattle.wp_maint.specs.Installs.{AreLeft};
 
 use crate::decided::{Decided, decide_tables};
 use crate::done::Done;
@@ -31,19 +32,20 @@ fn compact_several<D: Disk + Drop, R: Wait>(
     seat: &mut Seat<D>,
     edits: &mut Edits<D>,
     pinned: &Pinned,
-    decided: &Decided,
+    decided: Decided,
 ) -> Option<Result<Done, MaintError>>
     requires holds { HoldsEdits store.now seat.old edits.old }
     requires settled { KnowsTables seat.old.knows edits.old.table.last }
     requires running { edits.old.table.halted ≡ false }
     requires several { SeveralTables edits.old.table.last }
-    requires decided { HasDecided seat.old.knows pinned.now.floor pinned.now.live.items decided.now.versions decided.now.committed.items }
-    requires tabled { HadVersions store.now seat.old seat.old decided.now.versions }
+    requires decided { HasDecided seat.old.knows pinned.now.floor pinned.now.live.items decided.versions decided.committed.items }
+    requires tabled { HadVersions store.now seat.old seat.old decided.versions }
     ensures holds { HoldsEdits store.now seat.new edits.new }
     ensures settled { KnowsTables seat.new.knows edits.new.table.last }
     ensures says { EndsRoundFrom (GoesOnAs seat.old seat.new) (IsPin pinned.now.floor.number (numbers_of pinned.now.live.items)) store.now seat.old edits.old.table result seat.new }
+    ensures manifest { InRound (AreLeft edits.old edits.new) result }
 {
-    match are_unchanged(store, rt, seat, edits, pinned, decided) {
+    match are_unchanged(store, rt, alloc, seat, edits, pinned, &decided) {
         Ok(true) => Some(merge(store, rt, alloc, seat, edits, pinned, decided)),
         Ok(false) => None,
         Err(_) => Some(Err(MaintError::Memory)),
@@ -58,16 +60,17 @@ fn compact_running<D: Disk + Drop, R: Wait>(
     seat: &mut Seat<D>,
     edits: &mut Edits<D>,
     pinned: &Pinned,
-    decided: &Decided,
+    decided: Decided,
 ) -> Option<Result<Done, MaintError>>
     requires holds { HoldsEdits store.now seat.old edits.old }
     requires settled { KnowsTables seat.old.knows edits.old.table.last }
     requires running { edits.old.table.halted ≡ false }
-    requires decided { HasDecided seat.old.knows pinned.now.floor pinned.now.live.items decided.now.versions decided.now.committed.items }
-    requires tabled { HadVersions store.now seat.old seat.old decided.now.versions }
+    requires decided { HasDecided seat.old.knows pinned.now.floor pinned.now.live.items decided.versions decided.committed.items }
+    requires tabled { HadVersions store.now seat.old seat.old decided.versions }
     ensures holds { HoldsEdits store.now seat.new edits.new }
     ensures settled { KnowsTables seat.new.knows edits.new.table.last }
     ensures says { EndsRoundFrom (GoesOnAs seat.old seat.new) (IsPin pinned.now.floor.number (numbers_of pinned.now.live.items)) store.now seat.old edits.old.table result seat.new }
+    ensures manifest { InRound (AreLeft edits.old edits.new) result }
 {
     if edits.table_count() < 2 {
         find_edits(store, seat);
@@ -84,15 +87,16 @@ fn compact_in<D: Disk + Drop, R: Wait>(
     seat: &mut Seat<D>,
     edits: &mut Edits<D>,
     pinned: &Pinned,
-    decided: &Decided,
+    decided: Decided,
 ) -> Option<Result<Done, MaintError>>
     requires holds { HoldsEdits store.now seat.old edits.old }
     requires settled { KnowsTables seat.old.knows edits.old.table.last }
-    requires decided { HasDecided seat.old.knows pinned.now.floor pinned.now.live.items decided.now.versions decided.now.committed.items }
-    requires tabled { HadVersions store.now seat.old seat.old decided.now.versions }
+    requires decided { HasDecided seat.old.knows pinned.now.floor pinned.now.live.items decided.versions decided.committed.items }
+    requires tabled { HadVersions store.now seat.old seat.old decided.versions }
     ensures holds { HoldsEdits store.now seat.new edits.new }
     ensures settled { KnowsTables seat.new.knows edits.new.table.last }
     ensures says { EndsRoundFrom (GoesOnAs seat.old seat.new) (IsPin pinned.now.floor.number (numbers_of pinned.now.live.items)) store.now seat.old edits.old.table result seat.new }
+    ensures manifest { InRound (AreLeft edits.old edits.new) result }
 {
     if edits.is_halted() {
         find_edits(store, seat);
@@ -112,13 +116,16 @@ fn compact_pinned<D: Disk + Drop, R: Wait>(
     requires free { IsFree store.now.table seat.old }
     requires floor { IsIn pinned.now.floor seat.old.knows.participant.registered × (pinned.now.floor.number ≡ length seat.old.knows.participant.seen) }
     requires live { KnowsLive seat.old.knows pinned.now.floor.number pinned.now.live.items }
-    ensures { EndsRound (Continues store.now seat.old seat.new) (IsPin pinned.now.floor.number (numbers_of pinned.now.live.items)) store.now seat.old result seat.new }
+    ensures says { EndsRound (Continues store.now seat.old seat.new) (IsPin pinned.now.floor.number (numbers_of pinned.now.live.items)) store.now seat.old result seat.new }
+    ensures manifest { InRound (LeavesEach store.now seat.old seat.new) result }
 {
     let Ok(decided) = decide_tables(store, rt, alloc, seat, pinned) else {
         return Some(Err(MaintError::Memory));
     };
     let mut edits = store.take_turn::<Edits<D>, R>(rt, seat);
-    let result = compact_in(store, rt, alloc, seat, &mut edits, pinned, &decided);
+    edits.shows_told();
+    let result = compact_in(store, rt, alloc, seat, &mut edits, pinned, decided);
+    edits.shows_told();
     store.give_turn::<Edits<D>>(seat, edits);
     result
 }
@@ -131,7 +138,8 @@ fn try_compact<D: Disk + Drop, R: Wait>(
     seat: &mut Seat<D>,
 ) -> Option<Result<Done, MaintError>>
     requires { IsFree store.now.table seat.old }
-    ensures { EndsRound (Continues store.now seat.old seat.new) (HasPinned store.now seat.old seat.new) store.now seat.old result seat.new }
+    ensures says { EndsRound (Continues store.now seat.old seat.new) (HasPinned store.now seat.old seat.new) store.now seat.old result seat.new }
+    ensures manifest { InRound (LeavesEach store.now seat.old seat.new) result }
 {
     match pin_all(store, rt, alloc, seat) {
         Ok(pinned) => {
@@ -153,7 +161,7 @@ pub fn compact<D: Disk + Drop, R: Wait>(
 ) -> Result<Done, MaintError>
     requires { IsFree store.now.table seat.old }
     ensures answers { Compacts store.now seat.old result seat.new }
-    ensures before_install { IfErr result (λ why. RefusesBeforeInstall seat.old why seat.new) }
+    ensures before_install { IfErr result (λ why. RefusesBeforeInstall (LeavesEach store.now seat.old seat.new) seat.old why seat.new) }
 {
     for _ in rt.forever() {
         if let Some(result) = try_compact(store, rt, alloc, seat) {

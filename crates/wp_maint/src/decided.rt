@@ -1,5 +1,7 @@
 //! Which versions in tables are committed, where something is pinned.
-ghost use Rattle.std.specs.Prelude.{◌≡◌, ◌≤◌, true, [], ◌∷◌, length, IfOk, OnOk};
+ghost use Rattle.std.specs.Prelude.{◌≡◌, ◌≤◌, true, [], ◌∷◌, length, map, IfOk, OnOk};
+ghost use Rattle.std.specs.Arc.{arc_value};
+ghost use Rattle.wp_merge.specs.Merge.{joined, sorted_of};
 ghost use Rattle.wp_keep.specs.Keep.{is_committed};
 ghost use Rattle.wp_core.specs.Lists.{IsIn};
 ghost use Rattle.wp_core.specs.Sound.Snapshots.{has_versions_at};
@@ -10,38 +12,43 @@ ghost use Rattle.wp_maint.specs.Compaction.{HadVersions};
 ghost use Rattle.wp_maint.specs.Decided.{ArePinned, AreSeen, Decides, version_numbers};
 
 use std::alloc::{AllocError, Global};
-use std::sync::Wait;
+use std::collections::VecDeque;
+use std::sync::{Arc, Wait};
 use wp_keep::Pair;
 use wp_model::{Seq, Version, Versions};
 use wp_outside::Disk;
 use wp_parts::Stock;
 use wp_read::{Pinned, Snapshot, visible};
 use wp_shared::{Seat, Shared};
+use wp_store::merged_tables;
+use wp_table::Table;
 
-/// The versions in tables at some moment.
+/// The tables at some moment, the newest first, and their versions.
 #[derive(Drop)]
 pub(crate) struct Decided {
+    /// Where another table took their place, they are freed with this.
+    pub tables: VecDeque<Arc<Table>>,
     pub versions: Versions,
     /// Which of their numbers are committed, and at which of the pinned ones.
     pub committed: Vec<Pair>,
 }
 
-/// The versions in tables now.
+/// The tables now, the newest first.
 fn tabled<D: Disk + Drop, R: Wait>(
     store: &Shared<D>,
     rt: &R,
     seat: &mut Seat<D>,
-) -> Result<Versions, AllocError>
+) -> Result<Vec<Arc<Table>>, AllocError>
     requires { IsFree store.now.table seat.old }
     ensures continues { Continues store.now seat.old seat.new seat.old.knows.participant }
     ensures same { seat.new.knows.participant ≡ seat.old.knows.participant }
-    ensures seen { IfOk result (AreSeen seat.old.knows.participant.seen) }
-    ensures tabled { IfOk result (HadVersions store.now seat.old seat.new) }
+    ensures seen { IfOk result (λ tables. AreSeen seat.old.knows.participant.seen (sorted_of (joined (map arc_value tables.items)))) }
+    ensures tabled { IfOk result (λ tables. HadVersions store.now seat.old seat.new (sorted_of (joined (map arc_value tables.items)))) }
 {
     let stock = store.take_turn::<Stock, R>(rt, seat);
-    let versions = stock.in_tables();
+    let tables = stock.copy_tables();
     store.give_turn::<Stock>(seat, stock);
-    versions
+    tables
 }
 
 /// Whether the last of the pairs tells that the number is committed at this one.
@@ -161,9 +168,11 @@ pub(crate) fn decide_tables<D: Disk + Drop, R: Wait>(
     ensures decided { IfOk result (λ d. Decides seat.old.knows.participant.seen (version_numbers d.versions) (numbers_of (pinned.now.floor ∷ pinned.now.live.items)) [] d.committed.items) }
     ensures tabled { IfOk result (λ d. HadVersions store.now seat.old seat.new d.versions) }
 {
-    let versions = tabled(store, rt, seat)?;
+    let tables = VecDeque::from_vec(tabled(store, rt, seat)?);
+    let versions = merged_tables(alloc, &tables)?;
     let committed = decide_each(store, rt, alloc, seat, versions.as_slice(), pinned)?;
     Ok(Decided {
+        tables,
         versions,
         committed,
     })

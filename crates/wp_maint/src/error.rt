@@ -5,7 +5,7 @@ use std::alloc::AllocError;
 use wp_model::Seq;
 
 /// Why a flush or a compaction made nothing.
-#[derive(Clone, Copy, Debug, PartialEq, Eq)]
+#[derive(Clone, Copy, PartialEq, Eq)]
 pub enum MaintError {
     Memory,
     /// No version stands in memory, or there are fewer than two tables.

@@ -7,9 +7,9 @@ ghost use Rattle.wp_rule.specs.Knows.{KnowsTables};
 ghost use Rattle.wp_shared.specs.Calls.{GoesOnAs};
 ghost use Rattle.wp_shared.specs.Notes.{GoesOn};
 ghost use Rattle.wp_shared.specs.Seats.{IsFree};
-ghost use Rattle.wp_maint.specs.Calls.{Flushes, FlushesFrom, HasNewest, RefusesBeforeInstall, SawWhole};
-ghost use Rattle.wp_maint.specs.Flush.{HasFrozen, MayPut};
-ghost use Rattle.wp_maint.specs.Installs.{HasInstalled, NotInstalled};
+ghost use Rattle.wp_maint.specs.Calls.{Flushes, FlushesFrom, HasNewest, LeavesOnce, RefusesBeforeInstall, SawWhole, UnlessFault};
+ghost use Rattle.wp_maint.specs.Flush.{versions_of, HasFrozen, MayPut};
+ghost use Rattle.wp_maint.specs.Installs.{AreLeft, HasInstalled, NotInstalled};
 ghost use Rattle.wp_maint.specs.Holding.{is_of_tables, HoldsEdits};
 
 use crate::done::Done;
@@ -17,6 +17,7 @@ use crate::error::MaintError;
 use crate::frozen::{Frozen, freeze_all};
 use crate::steps::{find_edits, halt, install_flush, move_versions};
 use std::sync::{Arc, Wait};
+use wp_model::Versions;
 use wp_outside::Disk;
 use wp_parts::{Edits, Stock};
 use wp_shared::{Seat, Shared};
@@ -29,18 +30,21 @@ fn install<D: Disk + Drop>(
     seat: &mut Seat<D>,
     edits: &mut Edits<D>,
     frozen: &Frozen,
+    versions: &Versions,
 ) -> Result<Arc<Table>, MaintError>
     requires holds { HoldsEdits store.now seat.old edits.old }
     requires settled { KnowsTables seat.old.knows edits.old.table.last }
     requires running { edits.old.table.halted ≡ false }
     requires frozen { HasFrozen seat.old.knows edits.old.table frozen.now }
-    ensures table { IfOk result (λ table. arc_value table ≡ frozen.now.versions) }
+    requires versions { versions.now ≡ versions_of frozen.now }
+    ensures table { IfOk result (λ table. arc_value table ≡ versions_of frozen.now) }
     ensures installed { OnOk result (HasInstalled store.now seat.old edits.old (after_flush seat.old.knows.participant.seen edits.old.table.last) false seat.new edits.new) }
-    ensures parts { OnOk result (HasNewest frozen.now.versions edits.old edits.new) }
+    ensures parts { OnOk result (HasNewest (versions_of frozen.now) edits.old edits.new) }
     ensures refused { IfErr result (λ why. NotInstalled store.now seat.old edits.old (after_flush seat.old.knows.participant.seen edits.old.table.last) why seat.new edits.new) }
+    ensures manifest { IfErr result (UnlessFault (AreLeft edits.old edits.new)) }
 {
     edits.shows_told();
-    match edits.flush(&frozen.versions, frozen.at) {
+    match edits.flush(versions, frozen.at) {
         Ok(table) => {
             edits.shows_told();
             install_flush(store, seat, edits);
@@ -79,7 +83,11 @@ fn put_table<D: Disk + Drop, R: Wait>(
     ensures goes { GoesOn is_of_tables (installed edits.now.table ∷ []) seat.old.turns seat.old seat.new }
     ensures settled { KnowsTables seat.new.knows edits.now.table.last }
 {
-    let Frozen { at, tables, .. } = frozen;
+    let Frozen {
+        at,
+        parts: _parts,
+        tables,
+    } = frozen;
     let tables = with_first(tables, table);
     let mut stock = store.take_turn::<Stock, R>(rt, seat);
     stock.install_flushed(at, tables);
@@ -87,28 +95,31 @@ fn put_table<D: Disk + Drop, R: Wait>(
     store.give_turn::<Stock>(seat, stock);
 }
 
-/// Writes what is frozen, and puts it into tables.
+/// Writes what is frozen, which has these versions, and puts it into tables.
 fn flush_frozen<D: Disk + Drop, R: Wait>(
     store: &Shared<D>,
     rt: &R,
     seat: &mut Seat<D>,
     edits: &mut Edits<D>,
     frozen: Frozen,
+    versions: &Versions,
 ) -> Result<Done, MaintError>
     requires holds { HoldsEdits store.now seat.old edits.old }
     requires settled { KnowsTables seat.old.knows edits.old.table.last }
     requires running { edits.old.table.halted ≡ false }
     requires frozen { HasFrozen seat.old.knows edits.old.table frozen }
+    requires versions { versions.now ≡ versions_of frozen }
     requires whole { SawWhole store.now seat.old seat.old.knows.participant.seen }
     ensures holds { HoldsEdits store.now seat.new edits.new }
     ensures settled { KnowsTables seat.new.knows edits.new.table.last }
     ensures says { FlushesFrom (GoesOnAs seat.old seat.new) store.now seat.old edits.old.table result seat.new }
+    ensures manifest { IfErr result (UnlessFault (AreLeft edits.old edits.new)) }
 {
     let done = Done {
         at: frozen.at,
-        versions: frozen.versions.as_slice().len() as u64,
+        versions: versions.as_slice().len() as u64,
     };
-    match install(store, seat, edits, &frozen) {
+    match install(store, seat, edits, &frozen, versions) {
         Ok(table) => {
             put_table(store, rt, seat, edits, frozen, table);
             Ok(done)
@@ -130,6 +141,7 @@ fn flush_running<D: Disk + Drop, R: Wait>(
     ensures holds { HoldsEdits store.now seat.new edits.new }
     ensures settled { KnowsTables seat.new.knows edits.new.table.last }
     ensures says { FlushesFrom (GoesOnAs seat.old seat.new) store.now seat.old edits.old.table result seat.new }
+    ensures manifest { IfErr result (UnlessFault (AreLeft edits.old edits.new)) }
 {
     let Ok(found) = freeze_all(store, rt, seat, edits) else {
         return Err(MaintError::Memory);
@@ -138,7 +150,10 @@ fn flush_running<D: Disk + Drop, R: Wait>(
         find_edits(store, seat);
         return Err(MaintError::Nothing);
     };
-    flush_frozen(store, rt, seat, edits, frozen)
+    let Ok(versions) = frozen.parts.merged() else {
+        return Err(MaintError::Memory);
+    };
+    flush_frozen(store, rt, seat, edits, frozen, &versions)
 }
 
 /// Flushes, under the tables turn.
@@ -153,6 +168,7 @@ fn flush_in<D: Disk + Drop, R: Wait>(
     ensures holds { HoldsEdits store.now seat.new edits.new }
     ensures settled { KnowsTables seat.new.knows edits.new.table.last }
     ensures says { FlushesFrom (GoesOnAs seat.old seat.new) store.now seat.old edits.old.table result seat.new }
+    ensures manifest { IfErr result (UnlessFault (AreLeft edits.old edits.new)) }
 {
     if edits.is_halted() {
         find_edits(store, seat);
@@ -170,10 +186,12 @@ pub fn flush<D: Disk + Drop, R: Wait>(
 ) -> Result<Done, MaintError>
     requires { IsFree store.now.table seat.old }
     ensures answers { Flushes store.now seat.old result seat.new }
-    ensures before_install { IfErr result (λ why. RefusesBeforeInstall seat.old why seat.new) }
+    ensures before_install { IfErr result (λ why. RefusesBeforeInstall (LeavesOnce store.now seat.old seat.new) seat.old why seat.new) }
 {
     let mut edits = store.take_turn::<Edits<D>, R>(rt, seat);
+    edits.shows_told();
     let result = flush_in(store, rt, seat, &mut edits);
+    edits.shows_told();
     store.give_turn::<Edits<D>>(seat, edits);
     result
 }

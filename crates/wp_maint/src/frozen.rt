@@ -17,19 +17,20 @@ ghost use Rattle.wp_maint.specs.Holding.{HoldsEdits};
 use crate::steps::note_frozen;
 use std::alloc::AllocError;
 use std::sync::{Arc, Wait};
-use wp_model::{Seq, Versions};
+use wp_model::Seq;
 use wp_outside::Disk;
 use wp_parts::{Edits, Log, Stock};
 use wp_shared::{Seat, Shared};
+use wp_store::FrozenParts;
 use wp_table::Table;
 
-/// What a flush writes.
+/// What a flush writes. What was frozen is freed with it, once the store has let it go.
 #[derive(Drop)]
 pub(crate) struct Frozen {
     /// The published number.
     pub at: Seq,
-    /// All versions in memory.
-    pub versions: Versions,
+    /// All that stood in memory.
+    pub parts: FrozenParts,
     /// The tables, the newest first, with room for one more.
     pub tables: Vec<Arc<Table>>,
 }
@@ -42,13 +43,9 @@ fn freeze(stock: &mut Stock, at: Seq) -> Result<Option<Frozen>, AllocError>
     if stock.is_flushed() {
         return Ok(None);
     }
-    let versions = stock.freeze()?;
+    let parts = stock.freeze()?;
     let tables = stock.copy_tables()?;
-    Ok(Some(Frozen {
-        at,
-        versions,
-        tables,
-    }))
+    Ok(Some(Frozen { at, parts, tables }))
 }
 
 /// Freezes what stands in memory, under the write turn and the store turn.

@@ -1,9 +1,10 @@
 //! Maintenance of the shared store: what stands in memory goes to tables, and tables are merged.
 //!
 //! A flush takes the tables turn. Under the write turn and the store turn it freezes what stands in memory, which is all
-//! that the history has above the flushed number, up to the published one. It writes that to one table and installs an edit
-//! that names it, and holds no turn but the tables turn while a device is called, so that readers and writers go on. Under the
-//! store turn the table then takes the place of the frozen versions. Until then these are read as before; after a refused
+//! that the history has above the flushed number, up to the published one: it shares it with the store, and copies none of it.
+//! It writes that to one table and installs an edit that names it, and holds no turn but the tables turn while it copies
+//! versions and calls devices, so that readers and writers go on. Under the store turn the table then takes the place of the
+//! frozen versions, which are freed once that turn is given. Until then these are read as before; after a refused
 //! flush they stay so, and go with the next one.
 //!
 //! A compaction first pins all that is live: each live number is registered once more, with the published one as their floor. Whether

@@ -18,11 +18,11 @@ ghost use Rattle.wp_rule.specs.Knows.{Noted, KnowsTables};
 ghost use Rattle.wp_shared.specs.Calls.{GoesOnAs};
 ghost use Rattle.wp_shared.specs.Notes.{GoesOn};
 ghost use Rattle.wp_read.specs.Registers.{numbers_of};
-ghost use Rattle.wp_maint.specs.Calls.{CompactsFrom, HasAlone, SeveralTables};
+ghost use Rattle.wp_maint.specs.Calls.{CompactsFrom, HasAlone, SeveralTables, UnlessFault};
 ghost use Rattle.wp_maint.specs.Compaction.{HasDecided, IsPin, MayMerge, MayReplace};
 ghost use Rattle.wp_parts.specs.Installs.{in_one_table};
 ghost use Rattle.wp_maint.specs.Holding.{is_of_tables, HoldsEdits};
-ghost use Rattle.wp_maint.specs.Installs.{HasInstalled, NotInstalled};
+ghost use Rattle.wp_maint.specs.Installs.{AreLeft, HasInstalled, NotInstalled};
 
 use crate::decided::Decided;
 use crate::done::Done;
@@ -31,7 +31,7 @@ use crate::pins::numbers_of;
 use crate::steps::{halt, install_compaction, replace_versions};
 use std::alloc::{AllocError, Global};
 use std::sync::{Arc, Wait};
-use wp_keep::keep;
+use wp_keep::{Pair, keep};
 use wp_model::{Seq, Versions};
 use wp_outside::Disk;
 use wp_parts::{Edits, Stock};
@@ -40,18 +40,17 @@ use wp_shared::{Seat, Shared};
 use wp_table::Table;
 use wp_tableset::TableSetError;
 
-/// The versions that stay.
-fn kept_of(alloc: Global, pinned: &Pinned, decided: &Decided) -> Result<Versions, AllocError>
-    ensures { IfOk result (λ kept. kept ≡ retained_of (is_committed decided.now.committed.items) decided.now.versions (numbers_of pinned.now.live.items) pinned.now.floor.number) }
+/// The versions that stay. Each of them is moved.
+fn kept_of(
+    alloc: Global,
+    pinned: &Pinned,
+    versions: Versions,
+    committed: &[Pair],
+) -> Result<Versions, AllocError>
+    ensures { IfOk result (λ kept. kept ≡ retained_of (is_committed committed.now) versions (numbers_of pinned.now.live.items) pinned.now.floor.number) }
 {
     let live = numbers_of(alloc, &pinned.live)?;
-    keep(
-        alloc,
-        &decided.versions,
-        &decided.committed,
-        &live,
-        pinned.floor.number(),
-    )
+    keep(alloc, versions, committed, &live, pinned.floor.number())
 }
 
 /// Writes these versions to a table, if there are any, and installs the edit that names it alone.
@@ -72,6 +71,7 @@ fn install<D: Disk + Drop>(
     ensures parts { OnOk result (HasAlone kept.now edits.old edits.new) }
     ensures gone { OnOk result (Noted seat.new.knows nothing_flushed) }
     ensures refused { IfErr result (λ why. NotInstalled store.now seat.old edits.old (in_one_table kept.now edits.old.table.last) why seat.new edits.new) }
+    ensures manifest { IfErr result (UnlessFault (AreLeft edits.old edits.new)) }
 {
     edits.shows_told();
     match edits.compact(kept) {
@@ -142,6 +142,7 @@ fn merge_kept<D: Disk + Drop, R: Wait>(
     ensures holds { HoldsEdits store.now seat.new edits.new }
     ensures settled { KnowsTables seat.new.knows edits.new.table.last }
     ensures says { CompactsFrom (GoesOnAs seat.old seat.new) (IsPin pinned.now.floor.number (numbers_of pinned.now.live.items)) store.now seat.old edits.old.table result seat.new }
+    ensures manifest { IfErr result (UnlessFault (AreLeft edits.old edits.new)) }
 {
     let done = Done {
         at: pinned.floor.number(),
@@ -156,7 +157,7 @@ fn merge_kept<D: Disk + Drop, R: Wait>(
     }
 }
 
-/// Merges the tables to one, where what is pinned was decided.
+/// Merges the tables to one, where what is pinned was decided. The tables that give way are freed at its end, past the store turn.
 pub(crate) fn merge<D: Disk + Drop, R: Wait>(
     store: &Shared<D>,
     rt: &R,
@@ -164,19 +165,25 @@ pub(crate) fn merge<D: Disk + Drop, R: Wait>(
     seat: &mut Seat<D>,
     edits: &mut Edits<D>,
     pinned: &Pinned,
-    decided: &Decided,
+    decided: Decided,
 ) -> Result<Done, MaintError>
     requires holds { HoldsEdits store.now seat.old edits.old }
     requires running { edits.old.table.halted ≡ false }
     requires several { SeveralTables edits.old.table.last }
     requires may { MayMerge seat.old.knows edits.old.table pinned.now.floor.number pinned.now.live.items }
-    requires decided { HasDecided seat.old.knows pinned.now.floor pinned.now.live.items decided.now.versions decided.now.committed.items }
-    requires same { decided.now.versions ≡ edits.old.table.last.versions }
+    requires decided { HasDecided seat.old.knows pinned.now.floor pinned.now.live.items decided.versions decided.committed.items }
+    requires same { decided.versions ≡ edits.old.table.last.versions }
     ensures holds { HoldsEdits store.now seat.new edits.new }
     ensures settled { KnowsTables seat.new.knows edits.new.table.last }
     ensures says { CompactsFrom (GoesOnAs seat.old seat.new) (IsPin pinned.now.floor.number (numbers_of pinned.now.live.items)) store.now seat.old edits.old.table result seat.new }
+    ensures manifest { IfErr result (UnlessFault (AreLeft edits.old edits.new)) }
 {
-    let Ok(kept) = kept_of(alloc, pinned, decided) else {
+    let Decided {
+        tables: _old,
+        versions,
+        committed,
+    } = decided;
+    let Ok(kept) = kept_of(alloc, pinned, versions, &committed) else {
         return Err(MaintError::Memory);
     };
     let Ok(tables) = Vec::with_capacity(alloc, 1) else {

@@ -17,6 +17,7 @@ ghost use Rattle.wp_shared.specs.Calls.{remembering};
 ghost use Rattle.wp_shared.specs.Notes.{no_fact, being, noting, GoesOn};
 ghost use Rattle.wp_shared.specs.Seats.{Stands};
 ghost use Rattle.wp_maint.specs.Holding.{is_of_flushed, is_of_tables};
+ghost use Rattle.wp_maint.specs.Flush.{versions_of};
 ghost use Rattle.wp_maint.specs.Finding.{Changes, Remembers};
 
 use crate::frozen::Frozen;
@@ -118,8 +119,8 @@ pub(crate) fn note_frozen<D: Disk + Drop>(
     requires seat { (seat.old.table ≡ store.now.table) × (seat.old.knows.live ≡ true) }
     requires held { IsIn (installed edits.now.table) seat.old.knows.held × IsIn (table.store (store_table stock.now)) seat.old.knows.held }
     requires seen { frozen.now.at ≤ length seat.old.knows.participant.seen }
-    requires are { (key : List ℕ) (q : ℕ) → q ≤ frozen.now.at → version_at (store_table stock.now).memory key q ≡ version_at frozen.now.versions key q }
-    ensures { seat.new ≡ noting (frozen_stay frozen.now.at frozen.now.versions) seat.old }
+    requires are { (key : List ℕ) (q : ℕ) → q ≤ frozen.now.at → version_at (store_table stock.now).memory key q ≡ version_at (versions_of frozen.now) key q }
+    ensures { seat.new ≡ noting (frozen_stay frozen.now.at (versions_of frozen.now)) seat.old }
 {
     store.make_about::<Brand, Frozen>(seat, frozen);
 }

@@ -1,5 +1,7 @@
 //! Whether the tables are still those that were decided.
-ghost use Rattle.std.specs.Prelude.{◌≡◌, ◌↔◌, true, false, [], ◌∷◌, IfOk};
+ghost use Rattle.std.specs.Prelude.{◌≡◌, ◌↔◌, true, false, [], ◌∷◌, map, IfOk, IfSome, MatchOption};
+ghost use Rattle.std.specs.Arc.{arc_value};
+ghost use Rattle.wp_merge.specs.Merge.{joined, sorted_of};
 ghost use Rattle.wp_core.specs.Sound.Actors.{StartsWith};
 ghost use Rattle.wp_core.specs.Tables.{installed};
 ghost use Rattle.wp_core.specs.Tables as table;
@@ -8,17 +10,20 @@ ghost use Rattle.wp_rule.specs.Knows.{KnowsTables};
 ghost use Rattle.wp_shared.specs.Notes.{no_fact, seeing, GoesOn};
 ghost use Rattle.wp_shared.specs.Turns.{HoldsTurn};
 ghost use Rattle.wp_maint.specs.Calls.{Finds};
-ghost use Rattle.wp_maint.specs.Compaction.{HasDecided, IsOvertaken, MayMerge};
+ghost use Rattle.wp_maint.specs.Compaction.{HasDecided, IsOvertaken, IsPassed, KnowsLive, MayMerge};
 ghost use Rattle.wp_maint.specs.Holding.{HoldsEdits};
 
 use crate::decided::Decided;
-use std::alloc::AllocError;
-use std::sync::Wait;
-use wp_model::Version;
+use std::alloc::{AllocError, Global};
+use std::collections::VecDeque;
+use std::sync::{Arc, Wait};
+use wp_model::{Version, Versions};
 use wp_outside::Disk;
 use wp_parts::{Edits, Stock};
 use wp_read::Pinned;
 use wp_shared::{Seat, Shared};
+use wp_store::merged_tables;
+use wp_table::Table;
 
 fn is_equal(version: &Version, other: &Version) -> bool
     ensures { (result ≡ true) ↔ (version.now ≡ other.now) }
@@ -41,41 +46,74 @@ fn are_equal(versions: &[Version], others: &[Version]) -> bool
     true
 }
 
-/// Whether the tables have the versions that were decided, none of which is above the floor, and the store gave up nothing above it,
-/// under the store turn.
-fn is_unchanged<D: Disk + Drop>(
+/// The tables, the newest first, where none has a version above the floor, and the store gave up nothing above it, under the store
+/// turn.
+fn tables_in<D: Disk + Drop>(
     store: &Shared<D>,
     seat: &mut Seat<D>,
     edits: &Edits<D>,
     stock: &Stock,
     pinned: &Pinned,
-    decided: &Decided,
-) -> Result<bool, AllocError>
+) -> Result<Option<Vec<Arc<Table>>>, AllocError>
     requires holds { HoldsTurn store.now seat.old (table.store (store_table stock.now)) (installed edits.now.table ∷ []) (5 ∷ []) }
     requires settled { KnowsTables seat.old.knows edits.now.table.last }
-    requires decided { HasDecided seat.old.knows pinned.now.floor pinned.now.live.items decided.now.versions decided.now.committed.items }
+    requires live { KnowsLive seat.old.knows pinned.now.floor.number pinned.now.live.items }
     ensures goes { GoesOn no_fact seat.old.knows.held seat.old.turns (seeing seat.new.knows.participant.seen seat.old) seat.new }
     ensures grown { StartsWith seat.new.knows.participant.seen seat.old.knows.participant.seen }
-    ensures same { IfOk result (λ same. same ≡ true → decided.now.versions ≡ edits.now.table.last.versions) }
-    ensures may { IfOk result (λ same. same ≡ true → MayMerge seat.new.knows edits.now.table pinned.now.floor.number pinned.now.live.items) }
-    ensures overtaken { IfOk result (λ same. same ≡ false → IsOvertaken store.now seat.old seat.new pinned.now.floor.number decided.now.versions edits.now.table) }
+    ensures tables { IfOk result (λ found. MatchOption found (IsPassed store.now seat.old seat.new pinned.now.floor.number edits.now.table) (λ tables. sorted_of (joined (map arc_value tables.items)) ≡ edits.now.table.last.versions)) }
+    ensures may { IfOk result (λ found. IfSome found (λ _. MayMerge seat.new.knows edits.now.table pinned.now.floor.number pinned.now.live.items)) }
 {
     let floor = pinned.floor.number();
     store.shows_history(seat);
     if edits.flushed() > floor {
-        return Ok(false);
+        return Ok(None);
     }
     if stock.floor() > floor {
-        return Ok(false);
+        return Ok(None);
     }
-    let versions = stock.in_tables()?;
-    Ok(are_equal(versions.as_slice(), decided.versions.as_slice()))
+    Ok(Some(stock.copy_tables()?))
+}
+
+/// The same, where the store turn is taken for it.
+fn find_tables<D: Disk + Drop, R: Wait>(
+    store: &Shared<D>,
+    rt: &R,
+    seat: &mut Seat<D>,
+    edits: &Edits<D>,
+    pinned: &Pinned,
+) -> Result<Option<Vec<Arc<Table>>>, AllocError>
+    requires holds { HoldsEdits store.now seat.old edits.now }
+    requires settled { KnowsTables seat.old.knows edits.now.table.last }
+    requires live { KnowsLive seat.old.knows pinned.now.floor.number pinned.now.live.items }
+    ensures goes { GoesOn no_fact (installed edits.now.table ∷ []) seat.old.turns (seeing seat.new.knows.participant.seen seat.old) seat.new }
+    ensures grown { StartsWith seat.new.knows.participant.seen seat.old.knows.participant.seen }
+    ensures found { Finds store.now seat.old seat.new edits.now.table }
+    ensures tables { IfOk result (λ found. MatchOption found (IsPassed store.now seat.old seat.new pinned.now.floor.number edits.now.table) (λ tables. sorted_of (joined (map arc_value tables.items)) ≡ edits.now.table.last.versions)) }
+    ensures may { IfOk result (λ found. IfSome found (λ _. MayMerge seat.new.knows edits.now.table pinned.now.floor.number pinned.now.live.items)) }
+{
+    let stock = store.take_turn::<Stock, R>(rt, seat);
+    let tables = tables_in(store, seat, edits, &stock, pinned);
+    store.give_turn::<Stock>(seat, stock);
+    tables
+}
+
+/// Whether the tables have just these versions. It copies them, with no turn but the tables turn.
+fn have_versions(
+    alloc: Global,
+    tables: Vec<Arc<Table>>,
+    versions: &Versions,
+) -> Result<bool, AllocError>
+    ensures { IfOk result (λ same. (same ≡ true) ↔ (versions.now ≡ sorted_of (joined (map arc_value tables.items)))) }
+{
+    let found = merged_tables(alloc, &VecDeque::from_vec(tables))?;
+    Ok(are_equal(found.as_slice(), versions.as_slice()))
 }
 
 /// Whether the tables are still those that were decided, with no version above the floor. If so, a compaction may install its edit.
 pub(crate) fn are_unchanged<D: Disk + Drop, R: Wait>(
     store: &Shared<D>,
     rt: &R,
+    alloc: Global,
     seat: &mut Seat<D>,
     edits: &Edits<D>,
     pinned: &Pinned,
@@ -91,8 +129,8 @@ pub(crate) fn are_unchanged<D: Disk + Drop, R: Wait>(
     ensures may { IfOk result (λ same. same ≡ true → MayMerge seat.new.knows edits.now.table pinned.now.floor.number pinned.now.live.items) }
     ensures overtaken { IfOk result (λ same. same ≡ false → IsOvertaken store.now seat.old seat.new pinned.now.floor.number decided.now.versions edits.now.table) }
 {
-    let stock = store.take_turn::<Stock, R>(rt, seat);
-    let same = is_unchanged(store, seat, edits, &stock, pinned, decided);
-    store.give_turn::<Stock>(seat, stock);
-    same
+    match find_tables(store, rt, seat, edits, pinned)? {
+        Some(tables) => have_versions(alloc, tables, &decided.versions),
+        None => Ok(false),
+    }
 }

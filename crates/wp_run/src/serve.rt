@@ -1,5 +1,6 @@
 //! A script served over a store.
-ghost use Rattle.std.specs.Prelude.{◌≡◌, ◌≤◌, ◌<◌, ◌^◌, length};
+ghost use Rattle.std.specs.Prelude.{◌≡◌, ◌≤◌, ◌<◌, length};
+ghost use Rattle.wp_model.specs.Legal.{log_end};
 ghost use Rattle.wp_outside.specs.Disk.{ReadsItself};
 ghost use Rattle.wp_run.specs.Seating.{IsSeating};
 ghost use Rattle.wp_run.specs.Serving.{ServesExactly, HasEnded};
@@ -80,7 +81,7 @@ pub(crate) fn serve<R: Threads + Wait + Sync, D: Disk + Drop + Send, K: Sink, G:
     sink: &mut K,
     gate: &G,
 ) -> Served<D>
-    requires ranges { (choice.bits ≤ 16) × (1 ≤ choice.limit) × (choice.limit < 2 ^ 32) }
+    requires ranges { (choice.bits ≤ 16) × (1 ≤ choice.limit) × (choice.limit < log_end) }
     requires seating { IsSeating parts.now seating.client seating.room }
     ensures serves { ServesExactly (record {
       action = choice.action;

@@ -10,7 +10,7 @@ use wp_outside::Device;
 use wp_text::Fault;
 
 /// How a call of `run` ended.
-#[derive(Debug, Drop, PartialEq, Eq)]
+#[derive(Drop, PartialEq, Eq)]
 pub enum Status {
     /// The whole text was written.
     Ok,

@@ -1,10 +1,16 @@
-use Rattle.std.proofs.Common.{[], sym, subst}
+use Rattle.std.proofs.Common.{◌≡◌, [], sym, subst, ap, ◌∙◌}
 use Rattle.wp_rule.specs.Knows.{KnowsTables}
-use Rattle.wp_parts.specs.Edits.{EditsState}
+use Rattle.wp_parts.specs.Edits.{EditsState, IsEdits}
+use Rattle.wp_shared.specs.Calls.{Continues}
+use Rattle.wp_shared.specs.Seats.{SeatState}
 use Rattle.wp_shared.proofs.Onward.{holds_alone}
 use Rattle.wp_read.specs.Registers.{numbers_of}
+use Rattle.wp_maint.specs.Compaction.{IsPin}
 use Rattle.wp_maint.specs.Holding.{HoldsEdits}
-use Rattle.wp_maint.proofs.Rounds.{no_tables, are_pinned, has_decided, decided_taken, versions_taken, ends_given}
+use Rattle.wp_maint.proofs.BeforeInstall.{left_each, none_taken, round_more}
+use Rattle.wp_maint.proofs.Found.{held_first}
+use Rattle.wp_maint.proofs.Onward.{seat_still}
+use Rattle.wp_maint.proofs.Rounds.{no_tables, are_pinned, has_decided, decided_taken, versions_taken, goes_taken, ends_given, ends_somehow}
 use Rattle.wp_maint.proofs.compacting.compact_pinned.Goals as goal
 
 pub decide_tables-requires-clause-pinned : goal.decide_tables-requires-clause-pinned
@@ -28,10 +34,26 @@ compact_in-result-requires-clause-tabled g c = versions_taken c.requires.free c.
 pub give_turn-requires-clause-holds : goal.give_turn-requires-clause-holds
 give_turn-requires-clause-holds g c = ([], [], c.compact_in-result.ensures.holds.turn)
 
-pub returns-in_default : goal.returns-in_default
-returns-in_default g c = (no_tables, c.decide_tables.ensures.continues)
+pub returns-in_default-clause-says : goal.returns-in_default-clause-says
+returns-in_default-clause-says g c = (no_tables, c.decide_tables.ensures.continues)
 
-pub returns : goal.returns
-returns g c =
+pub returns-in_default-clause-manifest : goal.returns-in_default-clause-manifest
+returns-in_default-clause-manifest g c = none_taken c.args.store.now c.args.seat.now c.decide_tables.new.seat
+
+pub returns-clause-says : goal.returns-clause-says
+returns-clause-says g c =
     ends_given c.requires.free c.decide_tables.ensures.continues c.take_turn-edits.ensures.taken c.deref_mut.result.now.table c.compact_in-result.new.seat c.give_turn.new.seat (c.give_turn.ensures [] [] c.compact_in-result.ensures.holds.turn)
     c.args.pinned.now.floor.number (numbers_of c.args.pinned.now.live.items) c.compact_in-result.result c.compact_in-result.ensures.says
+
+pub returns-clause-manifest : goal.returns-clause-manifest
+returns-clause-manifest g c =
+    let z = c.args.store.now in let s = c.args.seat.now in let t = c.take_turn-edits.new.seat in let v = c.give_turn.new.seat in let result = c.compact_in-result.result in
+    let before = c.deref_mut.result.now in let after = c.compact_in-result.new.edits in let taken = c.take_turn-edits.ensures.taken in
+    let holds = subst (HoldsEdits z t) (sym c.deref_mut.ensures.value) (record { turn = holds_alone c.decide_tables.ensures.continues.free taken; of_store = c.take_turn-edits.ensures.of_store }) in
+    let same : t.knows.participant ≡ s.knows.participant = ap (λ (x : SeatState). x.knows.participant) taken.goes.same ∙ c.decide_tables.ensures.same in
+    let first = goes_taken c.requires.free c.decide_tables.ensures.continues taken in let says = returns-clause-says g c in
+    round_more
+    (left_each z s t v before after taken.stands (seat_still s t s.knows.participant first) same (held_first t before.table holds.turn.held) holds.of_store c.compact_in-result.ensures.holds.of_store
+    (subst IsEdits (sym c.deref_mut.ensures.value) (subst IsEdits c.deref.ensures c.shows_told.ensures.edits)) (subst IsEdits c.deref-2.ensures c.shows_told-2.ensures.edits)
+    (ends_somehow (Continues z s v) (IsPin c.args.pinned.now.floor.number (numbers_of c.args.pinned.now.live.items)) z s v says.0 result says.1).1.seen)
+    result c.compact_in-result.ensures.manifest

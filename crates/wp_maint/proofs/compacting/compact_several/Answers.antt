@@ -14,7 +14,7 @@ merge-requires-clause-holds g c = still_edits c.requires.holds c.are_unchanged.e
 
 pub merge-requires-clause-decided : goal.merge-requires-clause-decided
 merge-requires-clause-decided g c =
-    decided_looked c.args.seat.now c.are_unchanged.new.seat (installed c.args.edits.now.table ∷ []) c.args.seat.now.turns c.are_unchanged.ensures.goes c.are_unchanged.ensures.grown c.args.pinned.now.floor c.args.pinned.now.live.items c.args.decided.now.versions c.args.decided.now.committed.items c.requires.decided
+    decided_looked c.args.seat.now c.are_unchanged.new.seat (installed c.args.edits.now.table ∷ []) c.args.seat.now.turns c.are_unchanged.ensures.goes c.are_unchanged.ensures.grown c.args.pinned.now.floor c.args.pinned.now.live.items c.args.decided.versions c.args.decided.committed.items c.requires.decided
 
 pub returns-in-Ok-true-clause-says : goal.returns-in-Ok-true-clause-says
 returns-in-Ok-true-clause-says g c =
@@ -32,7 +32,7 @@ returns-in-Ok-false-clause-settled g c =
 
 pub returns-in-Ok-false-clause-says : goal.returns-in-Ok-false-clause-says
 returns-in-Ok-false-clause-says g c =
-    let s = c.args.seat.now in let u = c.are_unchanged.new.seat in let p = c.args.pinned.now in let versions = c.args.decided.now.versions in record {
+    let s = c.args.seat.now in let u = c.are_unchanged.new.seat in let p = c.args.pinned.now in let versions = c.args.decided.versions in record {
       found = c.are_unchanged.ensures.found;
       running = c.requires.running;
       several = c.requires.several;

@@ -21,11 +21,11 @@ returns-clause-same g c = let k = c.take_turn-stock.ensures.taken in same_look k
 
 pub returns-clause-seen : goal.returns-clause-seen
 returns-clause-seen g c =
-    IfOk-weaker c.in_tables-versions.result _ _ (λ versions is. subst (AreSeen c.args.seat.now.knows.participant.seen) (sym (is ∙ ap (λ (x : StockState). (store_table x).tables) c.deref.ensures))
-    (are_seen c.take_turn-stock.ensures.taken (in_order_sorted (joined c.take_turn-stock.result.value.parts.tables)))) c.in_tables-versions.ensures
+    IfOk-weaker c.copy_tables-tables.result _ _ (λ tables is. subst (AreSeen c.args.seat.now.knows.participant.seen) (sym (is ∙ ap (λ (x : StockState). (store_table x).tables) c.deref.ensures))
+    (are_seen c.take_turn-stock.ensures.taken (in_order_sorted (joined c.take_turn-stock.result.value.parts.tables)))) c.copy_tables-tables.ensures.tables
 
 pub returns-clause-tabled : goal.returns-clause-tabled
 returns-clause-tabled g c =
     let k = c.take_turn-stock.ensures.taken in let v = c.give_turn.new.seat in
-    IfOk-weaker c.in_tables-versions.result _ _ (λ versions is. subst (HadVersions c.args.store.now c.args.seat.now v) (sym (is ∙ ap (λ (x : StockState). (store_table x).tables) c.deref.ensures))
-    (had_versions k v (same_look k (c.give_turn.ensures [] [] (holds_alone c.requires k))))) c.in_tables-versions.ensures
+    IfOk-weaker c.copy_tables-tables.result _ _ (λ tables is. subst (HadVersions c.args.store.now c.args.seat.now v) (sym (is ∙ ap (λ (x : StockState). (store_table x).tables) c.deref.ensures))
+    (had_versions k v (same_look k (c.give_turn.ensures [] [] (holds_alone c.requires k))))) c.copy_tables-tables.ensures.tables

@@ -1,4 +1,4 @@
-use Rattle.std.proofs.Common.{List, length, ap}
+use Rattle.std.proofs.Common.{List, length, ap, ◌∙◌}
 use Rattle.std.specs.Arc.{arc_value}
 use Rattle.wp_model.specs.declared.version.Version.{Version}
 use Rattle.wp_maint.proofs.Found.{settled_refused}
@@ -11,7 +11,7 @@ put_table-requires-clause-may g c = may_put c.args.store.now c.args.seat.now c.i
 pub returns-in-Ok-clause-says : goal.returns-in-Ok-clause-says
 returns-in-Ok-clause-says g c =
     has_flushed c.args.store.now c.args.seat.now c.install.new.seat c.args.edits.now c.install.new.edits c.args.frozen c.requires.frozen (arc_value c.in-Ok.table) c.in-Ok.ensures.table c.in-Ok.ensures.installed c.requires.holds c.requires.whole c.in-Ok.ensures.parts c.put_table.new.seat _ c.put_table.ensures.goes c.requires.running
-    (length c.as_slice.result.now) (ap (λ (l : List Version). length l) c.as_slice.ensures.value)
+    (length c.as_slice.result.now) (ap (λ (l : List Version). length l) (c.as_slice.ensures.value ∙ c.requires.versions))
 
 pub returns-in-Err-clause-settled : goal.returns-in-Err-clause-settled
 returns-in-Err-clause-settled g c = settled_refused c.args.store.now c.args.seat.now c.install.new.seat c.args.edits.now c.install.new.edits _ c.in-Err.why c.in-Err.ensures.refused c.requires.settled

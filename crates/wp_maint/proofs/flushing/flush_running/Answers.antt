@@ -1,4 +1,5 @@
 use Rattle.std.proofs.Common.{◌∷◌, [], refl, sym, subst, ap}
+use Rattle.wp_merge.proofs.Sorted.{merged_is_sorted}
 use Rattle.wp_core.specs.Turns.{write_turn}
 use Rattle.wp_core.specs.Tables.{installed}
 use Rattle.wp_core.specs.World.{Participant}
@@ -59,3 +60,17 @@ pub flush_frozen-requires-clause-whole : goal.flush_frozen-requires-clause-whole
 flush_frozen-requires-clause-whole g c =
     let s = c.args.seat.now in let u = c.freeze_all.new.seat in let same = sym c.freeze_all.ensures.goes.same in
     saw_so c.args.store.now u s u.knows.participant.seen u.knows.participant.seen (ap (λ (x : SeatState). x.by) same, ap (λ (x : SeatState). x.knows.made) same, ap (λ (x : SeatState). x.knows.joined) same) (ap (λ (x : SeatState). x.knows.participant.past) same) refl c.freeze_all.ensures.whole
+
+-- memory was wanting for what was frozen
+pub returns-in_default-merged-clause-settled : goal.returns-in_default-merged-clause-settled
+returns-in_default-merged-clause-settled g c =
+    let s = c.args.seat.now in let u = c.freeze_all.new.seat in let e = c.args.edits.now.table in
+    settled_on (seeing u.knows.participant.seen s) u (is_under write_turn) (installed e ∷ []) s.turns refl (λ versions floor. refl) c.freeze_all.ensures.goes e.last c.requires.settled
+
+pub returns-in_default-merged-clause-says : goal.returns-in_default-merged-clause-says
+returns-in_default-merged-clause-says g c =
+    let s = c.args.seat.now in let u = c.freeze_all.new.seat in
+    goes_saw s u (is_under write_turn) (installed c.args.edits.now.table ∷ []) s.turns c.freeze_all.ensures.goes c.freeze_all.ensures.grown (loose_under write_turn)
+
+pub flush_frozen-requires-clause-versions : goal.flush_frozen-requires-clause-versions
+flush_frozen-requires-clause-versions g c = merged_is_sorted c.in-Some.frozen.parts c.in-Ok-merged.versions c.in-Ok-merged.ensures

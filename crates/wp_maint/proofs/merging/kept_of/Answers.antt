@@ -6,5 +6,5 @@ use Rattle.wp_maint.proofs.merging.kept_of.Goals as goal
 
 pub returns : goal.returns
 returns c =
-    let live = c.deref-3.ensures.value ∙ c.in_ok-live.ensures ∙ ap numbers_of c.deref.ensures.value in
-    IfOk-weaker c.keep.result _ _ (λ kept is. is ∙ (λ i. retained_of (is_committed (c.deref-2.ensures.value i)) c.args.decided.now.versions (live i) (c.number.ensures i))) c.keep.ensures.retained
+    let live = c.deref-2.ensures.value ∙ c.in_ok-live.ensures ∙ ap numbers_of c.deref.ensures.value in
+    IfOk-weaker c.keep.result _ _ (λ kept is. is ∙ (λ i. retained_of (is_committed c.args.committed.now) c.args.versions (live i) (c.number.ensures i))) c.keep.ensures.retained

@@ -1,53 +1,17 @@
-use Rattle.std.proofs.Common.{ℕ, List, [], ◌∷◌, refl, subst, sym, ap}
+use Rattle.std.proofs.Common.{◌≡◌, inl, inr, true, false, true≢false, sym, ◌∙◌}
 use Rattle.std.proofs.lemmas.Result.{IfOk-weaker}
-use Rattle.wp_core.specs.Tables.{store, installed}
-use Rattle.wp_parts.specs.Stock.{store_table}
-use Rattle.wp_shared.specs.Notes.{no_fact, seeing, GoesOn}
-use Rattle.wp_shared.specs.Seats.{SeatState}
-use Rattle.wp_shared.proofs.Goes.{none_under_store}
-use Rattle.wp_maint.proofs.Onward.{settled_on}
-use Rattle.wp_maint.proofs.Puts.{holds_lent}
-use Rattle.wp_maint.proofs.StillTabled.{decided_still, may_merge_still, holds_seen, looked, same_looked, grown_looked, found_looked, overtaken_looked}
+use Rattle.wp_maint.proofs.StillTabled.{matched_some, matched_none, some_of}
 use Rattle.wp_maint.proofs.unchanged.are_unchanged.Goals as goal
 
-pub is_unchanged-same-requires-clause-holds : goal.is_unchanged-same-requires-clause-holds
-is_unchanged-same-requires-clause-holds g c = holds_lent c.requires.holds c.take_turn-stock.ensures.taken (ap store_table c.deref.ensures)
+pub returns-in-Some-clause-same : goal.returns-in-Some-clause-same
+returns-in-Some-clause-same g c = IfOk-weaker c.have_versions.result _ _ (λ same so yes. so.0 yes ∙ matched_some _ _ _ _ c.in-Some.is c.in_ok-tables.ensures.tables) c.have_versions.ensures
 
-pub is_unchanged-same-requires-clause-settled : goal.is_unchanged-same-requires-clause-settled
-is_unchanged-same-requires-clause-settled g c =
-    let s = c.args.seat.now in
-    settled_on s c.take_turn-stock.new.seat no_fact (store (store_table c.take_turn-stock.result.value) ∷ s.knows.held) (3 ∷ s.turns) refl (λ versions floor. refl) c.take_turn-stock.ensures.taken.goes c.args.edits.now.table.last c.requires.settled
+pub returns-in-Some-clause-may : goal.returns-in-Some-clause-may
+returns-in-Some-clause-may g c = IfOk-weaker c.have_versions.result _ _ (λ same so yes. some_of _ _ _ c.in-Some.is c.in_ok-tables.ensures.may) c.have_versions.ensures
 
-pub is_unchanged-same-requires-clause-decided : goal.is_unchanged-same-requires-clause-decided
-is_unchanged-same-requires-clause-decided g c =
-    let p = c.args.pinned.now in let d = c.args.decided.now in let k = c.take_turn-stock.ensures.taken.goes in
-    decided_still c.args.seat.now.knows c.take_turn-stock.new.seat.knows p.floor p.live.items d.versions d.committed.items (ap (λ (x : SeatState). x.knows.participant) k.same) (λ fact guard there. k.noted fact refl there) c.requires.decided
+pub returns-in-Some-clause-overtaken : goal.returns-in-Some-clause-overtaken
+returns-in-Some-clause-overtaken g c =
+    IfOk-weaker c.have_versions.result _ _ (λ same so not. inr (λ is. let t : true ≡ false = sym (so.1 (is ∙ sym (matched_some _ _ _ _ c.in-Some.is c.in_ok-tables.ensures.tables))) ∙ not in true≢false t)) c.have_versions.ensures
 
-pub give_turn-requires-clause-holds : goal.give_turn-requires-clause-holds
-give_turn-requires-clause-holds g c = (installed c.args.edits.now.table ∷ [], 5 ∷ [], holds_seen c.requires.holds c.take_turn-stock.ensures.taken c.is_unchanged-same.ensures.goes)
-
-pub returns-clause-goes : goal.returns-clause-goes
-returns-clause-goes g c =
-    let h = c.requires.holds in let one = c.take_turn-stock.ensures.taken in let two = c.is_unchanged-same.ensures.goes in let three = c.give_turn.ensures (installed c.args.edits.now.table ∷ []) (5 ∷ []) (holds_seen h one two) in let v = c.give_turn.new.seat in
-    subst (λ (turns : List ℕ). GoesOn no_fact (installed c.args.edits.now.table ∷ []) turns (seeing v.knows.participant.seen c.args.seat.now) v) (sym h.turn.turns) (looked h one two three)
-
-pub returns-clause-grown : goal.returns-clause-grown
-returns-clause-grown g c =
-    let h = c.requires.holds in let one = c.take_turn-stock.ensures.taken in let two = c.is_unchanged-same.ensures.goes in let three = c.give_turn.ensures (installed c.args.edits.now.table ∷ []) (5 ∷ []) (holds_seen h one two) in
-    grown_looked h one two three c.is_unchanged-same.ensures.grown
-
-pub returns-clause-may : goal.returns-clause-may
-returns-clause-may g c =
-    let h = c.requires.holds in let one = c.take_turn-stock.ensures.taken in let two = c.is_unchanged-same.ensures.goes in let three = c.give_turn.ensures (installed c.args.edits.now.table ∷ []) (5 ∷ []) (holds_seen h one two) in
-    let e = c.args.edits.now.table in let p = c.args.pinned.now in
-    IfOk-weaker c.is_unchanged-same.result _ _ (λ same may are. may_merge_still c.is_unchanged-same.new.seat.knows c.give_turn.new.seat.knows e p.floor.number p.live.items (same_looked h one two three) (λ fact there. three.goes.noted fact (none_under_store fact) there) (may are)) c.is_unchanged-same.ensures.may
-
-pub returns-clause-found : goal.returns-clause-found
-returns-clause-found g c =
-    let h = c.requires.holds in let one = c.take_turn-stock.ensures.taken in let two = c.is_unchanged-same.ensures.goes in
-    found_looked h one two (c.give_turn.ensures (installed c.args.edits.now.table ∷ []) (5 ∷ []) (holds_seen h one two)) c.is_unchanged-same.ensures.grown
-
-pub returns-clause-overtaken : goal.returns-clause-overtaken
-returns-clause-overtaken g c =
-    let h = c.requires.holds in let one = c.take_turn-stock.ensures.taken in let two = c.is_unchanged-same.ensures.goes in let three = c.give_turn.ensures (installed c.args.edits.now.table ∷ []) (5 ∷ []) (holds_seen h one two) in
-    IfOk-weaker c.is_unchanged-same.result _ _ (λ same k other. overtaken_looked h one two three c.args.pinned.now.floor.number c.args.decided.now.versions (k other)) c.is_unchanged-same.ensures.overtaken
+pub returns-in-None-clause-overtaken : goal.returns-in-None-clause-overtaken
+returns-in-None-clause-overtaken g c e = inl (matched_none _ _ _ c.in-None.is c.in_ok-tables.ensures.tables)
