@@ -3,7 +3,8 @@
 //! A script is a list of lines: a call of one of two clients, whose seats are on one thread, and what it says. A store is opened,
 //! the lines are played, and the first line that says something else is the answer. A call that is refused for want of memory is
 //! made again: so each script also tells, where an allocation fails, whether the store goes on. What clients of the program can
-//! be answered is said by cases; here a reader's loads stand apart, and others come between them.
+//! be answered is said by cases; here a reader's loads stand apart, and others come between them. Nor can cases show how far apart
+//! numbers may be that fit a word of the greatest cache: that takes more entries than any run has.
 //!
 //! The crate has tests alone. They stand above what they test, so that a check of the tests proves nothing of it again.
 #![tactic(auto)]
@@ -14,6 +15,8 @@ mod calls;
 mod clients;
 #[cfg(test)]
 mod outcomes;
+#[cfg(test)]
+mod pairs;
 #[cfg(test)]
 mod readers;
 #[cfg(test)]

@@ -90,13 +90,13 @@ fn play<R: Wait>(
     (one, two, None)
 }
 
-/// Opens a store, plays the lines and ends it. The answer is the place of the first line that says something else.
+/// Opens a store with one word in its cache, plays the lines and ends it. The answer is the place of the first line that says something else.
 pub(super) fn played<R: Wait>(
     rt: &R,
     alloc: Global,
     lines: &[Line],
 ) -> Result<Option<usize>, Fail> {
-    let (store, first, second) = opened(alloc)?;
+    let (store, first, second) = opened(alloc, 0)?;
     let (first, second, wrong) = play(&store, rt, alloc, first, second, lines);
     let first = let_go(&store, rt, first);
     let second = let_go(&store, rt, second);

@@ -1,5 +1,5 @@
 //! Stores over devices in memory, each with two clients.
-ghost use Rattle.std.specs.Prelude.{◌≡◌, [], ℕ, List, None, IfOk};
+ghost use Rattle.std.specs.Prelude.{◌≡◌, ◌≤◌, [], ℕ, List, None, IfOk};
 ghost use Rattle.wp_outside.specs.Disk.{Moment};
 ghost use Rattle.wp_open.specs.Parts.{PartsOpened};
 ghost use Rattle.wp_shared.specs.Seats.{IsFree};
@@ -17,6 +17,9 @@ use wp_shared::{Seat, Shared};
 /// The greatest number that an entry may get.
 const MOST: Seq = 4_294_967_295;
 
+/// What is said where a store can't be opened: its devices answer all calls.
+const NO_MEMORY: &str = "no memory for the store";
+
 /// A new device.
 fn device(alloc: Global) -> Result<MemDisk, Fail> {
     Ok(MemDisk::new(alloc, Vec::new(alloc), 1 << 16, 1 << 14, Vec::new(alloc))?)
@@ -33,28 +36,30 @@ fn parts(alloc: Global) -> Result<Parts<MemDisk>, Fail>
     };
     match open_parts(alloc, disks, 1) {
         Ok(parts) => Ok(parts),
-        Err(refused) => Err(Fail::from(refused.why)),
+        Err(_) => Err(Fail::from(NO_MEMORY)),
     }
 }
 
-/// A new store with one word in its cache, and its first seat.
-fn shared(alloc: Global) -> Result<(Shared<MemDisk>, Seat<MemDisk>), Fail>
+/// A new store with a commit cache of so many bits, at most 16, and its first seat.
+fn shared(alloc: Global, bits: u32) -> Result<(Shared<MemDisk>, Seat<MemDisk>), Fail>
+    requires { bits ≤ 16 }
     ensures free { IfOk result (λ r. IsFree r.0.table r.1) }
     ensures first { IfOk result (λ r. (r.1.by ≡ 0) × (r.1.knows.joined ≡ []) × (r.1.knows.made ≡ 0) × (r.1.knows.participant.direct ≡ None)) }
 {
-    match Shared::new(alloc, Name::read(alloc, b"a")?, parts(alloc)?, 0, MOST) {
+    match Shared::new(alloc, Name::read(alloc, b"a")?, parts(alloc)?, bits, MOST) {
         Ok((store, seat)) => Ok((store, seat)),
-        Err(_) => Err(Fail::from("no memory for the store")),
+        Err(_) => Err(Fail::from(NO_MEMORY)),
     }
 }
 
-/// The store with its two clients, `a` and `b`. The seat of the first one made the other's.
-pub(super) fn opened(alloc: Global) -> Result<(Shared<MemDisk>, Client, Client), Fail>
+/// Such a store with its two clients, `a` and `b`. The seat of the first one made the other's.
+pub(super) fn opened(alloc: Global, bits: u32) -> Result<(Shared<MemDisk>, Client, Client), Fail>
+    requires { bits ≤ 16 }
     ensures first { IfOk result (λ r. IsReady r.0 r.1.seat r.1.begun r.1.prepared r.1.snapshot r.1.version) }
     ensures second { IfOk result (λ r. IsReady r.0 r.2.seat r.2.begun r.2.prepared r.2.snapshot r.2.version) }
     ensures made { IfOk result (λ r. (r.1.seat.by ≡ 0) × (r.1.seat.knows.joined ≡ []) × (r.1.seat.knows.made ≡ 1)) }
 {
-    let (store, mut seat) = shared(alloc)?;
+    let (store, mut seat) = shared(alloc, bits)?;
     let other = store.seat(&mut seat, Name::read(alloc, b"b")?);
     let first = Client {
         seat,

@@ -2,72 +2,59 @@
 
 use crate::bytes::{DEVICES, Names, bytes_of};
 use crate::clause::{Clause, groups};
-use crate::disk::{Faults, SOUND};
 use crate::judge::check;
-use crate::play::{Outcome, play};
-use crate::run::{DeviceSaid, Run};
+use crate::play::{Outcome, Plays, play};
+use crate::run::Run;
 use crate::sweep::sweep;
-use crate::trouble::Trouble;
-use std::alloc::{AllocGlobal, Global};
-use std::sync::Wait;
-use std::thread::Threads;
+use crate::trouble::{Tried, Trouble};
+use std::alloc::Global;
 
-/// The devices as the runs so far left them, and the history's entries then.
+/// The devices as the runs so far left them, and the history then.
 #[derive(Drop)]
 struct Store {
     devices: [Vec<u8>; 3],
-    entries: String,
+    history: String,
+}
+
+fn put(names: &mut Names, name: String, bytes: Vec<u8>) -> Tried<()> {
+    match names.insert(name, bytes) {
+        Ok(_) => Ok(()),
+        Err(_) => Err(Trouble::Memory),
+    }
 }
 
 /// Reads a clause that stands before the first run: `case TITLE`, or `bytes NAME BYTES`.
-fn name(alloc: Global, names: &mut Names, clause: &Clause) -> Result<(), Trouble> {
-    match clause.words() {
-        ("case", _) => Ok(()),
-        ("bytes", named) => {
-            let (name, words) = named.split_once(' ').ok_or(Trouble::Unclear)?;
+fn name(alloc: Global, names: &mut Names, clause: &Clause) -> Tried<()> {
+    match clause.verb.as_str() {
+        "case" => Ok(()),
+        "bytes" => {
+            let (name, words) = clause.rest.split_once(' ').ok_or(Trouble::Unclear)?;
             let bytes = bytes_of(alloc, names, words)?;
-            names.insert(name.to_string(alloc)?, bytes)?;
-            Ok(())
+            put(names, name.to_string(alloc)?, bytes)
         }
         _ => Err(Trouble::Unclear),
     }
 }
 
-/// What is used that time; the last one serves all later times.
-fn nth<T>(each: &[T], time: usize) -> Option<&T> {
-    each.get(time).or(each.last())
-}
-
-fn bytes_at<'a>(said: &'a DeviceSaid, left: &'a [u8], time: usize) -> &'a [u8] {
-    nth(&said.images, time).map_or(left, |image| image.as_slice())
-}
-
-fn faults_at(said: &DeviceSaid, time: usize) -> Faults {
-    Faults {
-        fails: nth(&said.fails, time).copied().unwrap_or(0),
-        comes: said.comes,
-        ..SOUND
+/// Names the bytes that the run left of each device.
+fn keep(alloc: Global, names: &mut Names, name: &str, outcome: &Outcome) -> Tried<()> {
+    let stored = outcome.stored();
+    for device in 0..3 {
+        let name = format!(in alloc; "{name}.{}", DEVICES[device])?;
+        put(names, name, stored[device].to_vec(alloc)?)?;
     }
+    Ok(())
 }
 
 /// Makes a run with what it has that time.
-fn play_once<R: Threads + Wait + Sync + AllocGlobal>(
-    rt: &R,
-    run: &Run,
-    store: &Store,
-    time: usize,
-) -> Result<Outcome, Trouble> {
+fn play_once(rt: &impl Plays, run: &Run<'_>, store: &Store, time: usize) -> Tried<Outcome> {
     let [log, manifest, tables] = &run.devices;
     let stored = [
-        bytes_at(log, &store.devices[0], time),
-        bytes_at(manifest, &store.devices[1], time),
-        bytes_at(tables, &store.devices[2], time),
+        log.bytes(&store.devices[0], time),
+        manifest.bytes(&store.devices[1], time),
+        tables.bytes(&store.devices[2], time),
     ];
-    let faults = [
-        faults_at(log, time),
-        faults_at(manifest, time),
-        faults_at(tables, time),
-    ];
+    let faults = [log.faults(time), manifest.faults(time), tables.faults(time)];
     let outcome = play(rt, &run.call, &stored, &faults)?;
     check(rt, run, &stored, &outcome)?;
     if !run.stages.is_empty() {
@@ -76,74 +63,65 @@ fn play_once<R: Threads + Wait + Sync + AllocGlobal>(
     Ok(outcome)
 }
 
-/// Names the bytes that the run left of each device.
-fn keep(alloc: Global, names: &mut Names, name: &str, outcome: &Outcome) -> Result<(), Trouble> {
-    for (device, bytes) in DEVICES.iter().zip(outcome.stored()) {
-        names.insert(format!(in alloc; "{name}.{device}")?, bytes.to_vec(alloc)?)?;
-    }
-    Ok(())
-}
-
-/// Makes a run as often as its devices differ.
-fn play_run<R: Threads + Wait + Sync + AllocGlobal>(
-    rt: &R,
-    names: &mut Names,
-    store: &Store,
-    run: &Run,
-) -> Result<Store, Trouble> {
+/// Makes a run as often as its devices differ. Answers what is left.
+fn play_run(rt: &impl Plays, names: &mut Names, store: &Store, run: Run<'_>) -> Tried<Store> {
     let mut times = 1;
     for said in &run.devices {
-        times = times.max(said.images.len()).max(said.fails.len());
+        times = times.max(said.times());
     }
-    let mut outcome = play_once(rt, run, store, 0)?;
+    let mut outcome = play_once(rt, &run, store, 0)?;
     for time in 1..times {
-        outcome = play_once(rt, run, store, time)?;
+        outcome = play_once(rt, &run, store, time)?;
     }
     if !run.kept.is_empty() {
-        keep(rt.alloc(), names, &run.kept, &outcome)?;
+        keep(rt.alloc(), names, run.kept, &outcome)?;
     }
     let [log, manifest, tables] = outcome.left;
     Ok(Store {
         devices: [log.bytes, manifest.bytes, tables.bytes],
-        entries: run.entries.clone()?,
+        history: run.history,
     })
 }
 
-/// Reads what the clauses say of a run, the first of which has its command line.
-fn read_run(
+/// Reads what the clauses say of a run, the first of which has its command line. `line` is where it is in the file.
+fn read_run<'a>(
     alloc: Global,
     names: &Names,
     before: &str,
-    clauses: &[Clause],
-) -> Result<Run, Trouble> {
+    clauses: &'a [Clause],
+    line: &mut usize,
+) -> Tried<Run<'a>> {
     let (first, others) = clauses.split_first().ok_or(Trouble::Unclear)?;
-    let mut run = Run::new(alloc, first.line, first.head())?;
+    let mut run = Run::new(alloc, &first.rest)?;
     for clause in others {
-        run.read(alloc, names, before, clause)
-            .map_err(|trouble| trouble.at(clause.line))?;
+        *line = clause.line;
+        run.read(alloc, names, before, clause)?;
     }
+    *line = first.line;
     Ok(run)
 }
 
-/// Plays a case, or what stands before the first one. Its first run is on new devices.
-pub(crate) fn play_case<R: Threads + Wait + Sync + AllocGlobal>(
-    rt: &R,
+/// Plays a case, or what stands before the first one. Its first run is on new devices. `line` is where it is in the file.
+pub(crate) fn play_case(
+    rt: &impl Plays,
     names: &mut Names,
     case: &[Clause],
-) -> Result<(), Trouble> {
+    line: &mut usize,
+) -> Tried<()> {
     let alloc = rt.alloc();
     let mut store = Store {
         devices: [Vec::new(alloc), Vec::new(alloc), Vec::new(alloc)],
-        entries: String::new(alloc),
+        history: String::new(alloc),
     };
     let groups = groups(alloc, case, "wp")?;
     let (first, runs) = groups.split_first().ok_or(Trouble::Unclear)?;
     for clause in first.iter() {
-        name(alloc, names, clause).map_err(|trouble| trouble.at(clause.line))?;
+        *line = clause.line;
+        name(alloc, names, clause)?;
     }
     for clauses in runs {
-        let run = read_run(alloc, names, &store.entries, clauses)?;
-        store = play_run(rt, names, &store, &run)?;
+        let run = read_run(alloc, names, &store.history, clauses, line)?;
+        store = play_run(rt, names, &store, run)?;
     }
     Ok(())
 }

@@ -6,23 +6,11 @@ use std::alloc::{AllocError, Global};
 pub(crate) struct Clause {
     /// Its place in the file, from 1 on.
     pub(crate) line: usize,
-    head: String,
+    /// Its first word, and what is after that.
+    pub(crate) verb: String,
+    pub(crate) rest: String,
     /// The lines under it, each with its end.
     pub(crate) block: String,
-}
-
-impl Clause {
-    pub(crate) fn head(&self) -> &str {
-        self.head.as_str()
-    }
-
-    /// Its first word, and what is after that.
-    pub(crate) fn words(&self) -> (&str, &str) {
-        match self.head.split_once(' ') {
-            Some(words) => words,
-            None => (self.head.as_str(), ""),
-        }
-    }
 }
 
 pub(crate) fn push_line(text: &mut String, line: &str) -> Result<(), AllocError> {
@@ -33,23 +21,34 @@ pub(crate) fn push_line(text: &mut String, line: &str) -> Result<(), AllocError>
 /// The clauses of a text. Lines that are empty or begin with `#` are passed over.
 pub(crate) fn clauses_of(alloc: Global, text: &str) -> Result<Vec<Clause>, AllocError> {
     let mut clauses: Vec<Clause> = Vec::new(alloc);
-    for (index, line) in text.lines().enumerate() {
-        if line.is_empty() || line.starts_with('#') {
+    let mut line = 0usize;
+    for words in text.lines() {
+        line = line.saturating_add(1);
+        if words.is_empty() || words.starts_with('#') {
             continue;
         }
-        if let Some(under) = line.strip_prefix("  ")
+        if let Some(under) = words.strip_prefix("  ")
             && let Some(clause) = clauses.last_mut()
         {
             push_line(&mut clause.block, under)?;
-        } else {
-            clauses.push(Clause {
-                line: index.saturating_add(1),
-                head: line.to_string(alloc)?,
-                block: String::new(alloc),
-            })?;
+            continue;
         }
+        let (verb, rest) = words.split_once(' ').unwrap_or((words, ""));
+        clauses.push(Clause {
+            line,
+            verb: verb.to_string(alloc)?,
+            rest: rest.to_string(alloc)?,
+            block: String::new(alloc),
+        })?;
     }
     Ok(clauses)
+}
+
+fn part(clauses: &[Clause], start: usize, end: usize) -> &[Clause] {
+    match clauses.get(start..end) {
+        Some(part) => part,
+        None => &[],
+    }
 }
 
 /// The clauses in groups, each of which but the first begins with a clause of that first word.
@@ -61,11 +60,11 @@ pub(crate) fn groups<'a>(
     let mut groups = Vec::new(alloc);
     let mut start = 0;
     for (place, clause) in clauses.iter().enumerate() {
-        if clause.words().0 == first {
-            groups.push(clauses.get(start..place).unwrap_or(&[]))?;
+        if clause.verb.as_str() == first {
+            groups.push(part(clauses, start, place))?;
             start = place;
         }
     }
-    groups.push(clauses.get(start..).unwrap_or(&[]))?;
+    groups.push(part(clauses, start, clauses.len()))?;
     Ok(groups)
 }

@@ -7,9 +7,11 @@ mod case;
 mod clause;
 mod crash;
 mod disk;
+mod holds;
 mod judge;
 mod play;
 mod run;
+mod said;
 mod stages;
 mod sweep;
 mod trouble;
@@ -17,74 +19,62 @@ mod trouble;
 use bytes::Names;
 use case::play_case;
 use clause::{Clause, clauses_of, groups};
+use play::Plays;
 use std::env::{self, Env};
 use std::process::ExitCode;
 use std::rt::Files;
-use std::sync::Wait;
-use std::thread::Threads;
 use std::{fs, io};
+use trouble::Trouble;
 
-/// How many cases there were, and how often one did not come out as it says.
-#[derive(Clone, Copy)]
-struct Tally {
-    cases: usize,
-    failed: usize,
-}
-
-/// Plays a case, and prints what is wrong with it. Answers how often it did not come out as it says.
-fn play_one<R: Threads + Wait + Sync + Print + AllocGlobal>(
+/// Plays a case, and prints what is wrong with it. Answers whether it came out as it says.
+fn play_one<R: Plays + Print>(
     rt: &R,
     file: &str,
     names: &mut Names,
     case: &[Clause],
-) -> io::Result<usize> {
-    match play_case(rt, names, case) {
-        Ok(()) => Ok(0),
-        Err(trouble) => {
-            let title = case.first().map_or("", |clause| clause.head());
-            println!(rt; "{file}: {title}: {trouble}")?;
-            Ok(1)
+) -> io::Result<bool> {
+    let mut line = 0;
+    let Err(trouble) = play_case(rt, names, case, &mut line) else {
+        return Ok(true);
+    };
+    let why = match &trouble {
+        Trouble::Memory => "out of memory",
+        Trouble::Unclear => "not understood",
+        Trouble::Wrong(what) => what.as_str(),
+    };
+    println!(rt; "{file}, line {line}: {why}")?;
+    Ok(false)
+}
+
+/// Plays the cases of one file. Answers how many there were, and how many did not come out as they say.
+fn play_file<R: Plays + Files + Print>(rt: &R, file: &str) -> io::Result<(usize, usize)> {
+    let text = fs::read_to_string(rt, file)?;
+    let clauses = clauses_of(rt.alloc(), &text)?;
+    let groups = groups(rt.alloc(), &clauses, "case")?;
+    let mut names = Names::new(rt.alloc());
+    let mut failed = 0usize;
+    for case in &groups {
+        if !play_one(rt, file, &mut names, case)? {
+            failed = failed.saturating_add(1);
         }
     }
-}
-
-/// Plays the cases of one file.
-fn play_file<R: Threads + Wait + Sync + Files + Print + AllocGlobal>(
-    rt: &R,
-    file: &str,
-    before: Tally,
-) -> io::Result<Tally> {
-    let alloc = rt.alloc();
-    let text = fs::read_to_string(rt, file)?;
-    let clauses = clauses_of(alloc, &text)?;
-    let groups = groups(alloc, &clauses, "case")?;
-    let mut names = Names::new(alloc);
-    let mut failed = before.failed;
-    for case in &groups {
-        failed = failed.saturating_add(play_one(rt, file, &mut names, case)?);
-    }
     // The first group is what stands before the first case.
-    let cases = before.cases.saturating_add(groups.len().saturating_sub(1));
-    Ok(Tally { cases, failed })
+    Ok((groups.len().saturating_sub(1), failed))
 }
 
-/// Plays the cases of all files that are named on the command line.
-fn play_files<R: Threads + Wait + Sync + Env + Files + Print + AllocGlobal>(
-    rt: &R,
-) -> io::Result<Tally> {
-    let mut tally = Tally {
-        cases: 0,
-        failed: 0,
-    };
+/// Plays the cases of all files that are named on the command line. Answers whether all came out as they say.
+fn play_files<R: Plays + Env + Files + Print>(rt: &R) -> io::Result<bool> {
+    let (mut cases, mut failed) = (0usize, 0usize);
     for file in env::args(rt)?.skip(1) {
-        tally = play_file(rt, &file, tally)?;
+        let (more, wrong) = play_file(rt, &file)?;
+        cases = cases.saturating_add(more);
+        failed = failed.saturating_add(wrong);
     }
-    let Tally { cases, failed } = tally;
     println!(rt; "cases {cases} failed {failed}")?;
-    Ok(tally)
+    Ok(failed == 0)
 }
 
 fn main(rt: HostRuntime) -> io::Result<ExitCode> {
-    let tally = play_files(&rt)?;
-    Ok(ExitCode::from(if tally.failed == 0 { 0 } else { 1 }))
+    let is_right = play_files(&rt)?;
+    Ok(ExitCode::from(u8::from(!is_right)))
 }

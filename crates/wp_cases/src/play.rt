@@ -1,19 +1,24 @@
 //! One run of the program.
 
-use crate::disk::{CaseDisk, Faults, Left, SOUND};
+use crate::disk::{CaseDisk, Faults, Left, SOUND, disk_of, left_of};
 use std::alloc::{AllocError, AllocGlobal, Global};
 use std::sync::Wait;
 use std::sync::atomic::AtomicU64;
 use std::thread::Threads;
 use wp_memory::{Hold, HoldGate, MemSink, MemSource};
 use wp_outside::Disks;
-use wp_run::{Ended, Status, run};
+use wp_run::{Ended, run};
 
 /// More bytes than any case's text has.
-pub(crate) const AMPLE_ROOM: usize = 4096;
+const AMPLE_ROOM: usize = 1 << 16;
 
 /// More turns than a line has to wait while the others go on.
 const AMPLE_TURNS: u64 = 50_000_000;
+
+/// What a run needs.
+pub(crate) trait Plays: Threads + Wait + Sync + AllocGlobal {}
+
+impl<R: Threads + Wait + Sync + AllocGlobal> Plays for R {}
 
 /// The bytes of the devices.
 pub(crate) type Stored<'a> = [&'a [u8]; 3];
@@ -24,24 +29,24 @@ pub(crate) struct Call {
     /// The words of the command line.
     words: Vec<String>,
     pub(crate) script: Vec<u8>,
-    /// Whether the first call of the source fails.
-    pub(crate) source_fails: bool,
+    /// The call of the source that fails; 0 for none.
+    pub(crate) source_fails: u64,
     /// How many bytes the sink takes.
     pub(crate) room: usize,
     pub(crate) holds: Vec<Hold>,
 }
 
 impl Call {
-    /// A call of a script that is read and answered whole, with nobody held.
-    pub(crate) fn new(alloc: Global, line: &str, script: &str) -> Result<Call, AllocError> {
-        let mut words = Vec::new(alloc);
+    /// A call with these words behind the program's name, with no script and nobody held.
+    pub(crate) fn new(alloc: Global, line: &str) -> Result<Call, AllocError> {
+        let mut words = vec![in alloc; "wp".to_string(alloc)?]?;
         for word in line.split_whitespace() {
             words.push(word.to_string(alloc)?)?;
         }
         Ok(Call {
             words,
-            script: script.as_bytes().to_vec(alloc)?,
-            source_fails: false,
+            script: Vec::new(alloc),
+            source_fails: 0,
             room: AMPLE_ROOM,
             holds: Vec::new(alloc),
         })
@@ -66,14 +71,6 @@ impl Outcome {
     }
 }
 
-fn source_of(alloc: Global, call: &Call) -> Result<MemSource, AllocError> {
-    let mut fails = Vec::new(alloc);
-    if call.source_fails {
-        fails.push(1)?;
-    }
-    Ok(MemSource::new(call.script.to_vec(alloc)?, fails))
-}
-
 fn disks_of<'a>(
     alloc: Global,
     stored: &Stored<'_>,
@@ -82,39 +79,52 @@ fn disks_of<'a>(
     clock: &'a AtomicU64,
 ) -> Result<Disks<CaseDisk<'a>>, AllocError> {
     Ok(Disks {
-        log: CaseDisk::new(alloc, stored[0], &faults[0], gate, clock)?,
-        manifest: CaseDisk::new(alloc, stored[1], &faults[1], gate, clock)?,
-        tables: CaseDisk::new(alloc, stored[2], &faults[2], gate, clock)?,
+        log: disk_of(alloc, stored[0], &faults[0], gate, clock)?,
+        manifest: disk_of(alloc, stored[1], &faults[1], gate, clock)?,
+        tables: disk_of(alloc, stored[2], &faults[2], gate, clock)?,
     })
 }
 
-fn left_of(alloc: Global, disks: &Disks<CaseDisk<'_>>) -> Result<[Left; 3], AllocError> {
-    Ok([
-        disks.log.left(alloc)?,
-        disks.manifest.left(alloc)?,
-        disks.tables.left(alloc)?,
-    ])
+fn run_on<'a>(
+    rt: &impl Plays,
+    call: &Call,
+    disks: Disks<CaseDisk<'a>>,
+    sink: &mut MemSink,
+    gate: &HoldGate,
+) -> Result<Ended<CaseDisk<'a>>, AllocError> {
+    let alloc = rt.alloc();
+    let script = call.script.to_vec(alloc)?;
+    let mut source = MemSource::new(script, vec![in alloc; call.source_fails]?);
+    Ok(run(rt, alloc, &call.words, disks, &mut source, sink, gate))
+}
+
+fn lefts_of(alloc: Global, disks: &Disks<CaseDisk<'_>>) -> Result<[Left; 3], AllocError> {
+    let log = left_of(alloc, &disks.log)?;
+    let manifest = left_of(alloc, &disks.manifest)?;
+    let tables = left_of(alloc, &disks.tables)?;
+    Ok([log, manifest, tables])
 }
 
 fn outcome_of(
     alloc: Global,
-    status: &Status,
+    ended: &Ended<CaseDisk<'_>>,
     text: &[u8],
-    disks: &Disks<CaseDisk<'_>>,
     held: bool,
 ) -> Result<Outcome, AllocError> {
+    let line = ended.status.line(alloc)?;
+    let text = text.to_vec(alloc)?;
     Ok(Outcome {
-        code: status.code(),
-        line: status.line(alloc)?,
-        text: text.to_vec(alloc)?,
-        left: left_of(alloc, disks)?,
+        code: ended.status.code(),
+        line,
+        text,
+        left: lefts_of(alloc, &ended.disks)?,
         held,
     })
 }
 
 /// Runs the program on devices with these bytes, which go wrong so.
-pub(crate) fn play<R: Threads + Wait + Sync + AllocGlobal>(
-    rt: &R,
+pub(crate) fn play(
+    rt: &impl Plays,
     call: &Call,
     stored: &Stored<'_>,
     faults: &[Faults; 3],
@@ -122,29 +132,16 @@ pub(crate) fn play<R: Threads + Wait + Sync + AllocGlobal>(
     let alloc = rt.alloc();
     let gate = HoldGate::new(alloc, call.holds.to_vec(alloc)?, AMPLE_TURNS)?;
     let clock = AtomicU64::new(0);
-    let disks = disks_of(alloc, stored, faults, &gate, &clock)?;
-    let mut source = source_of(alloc, call)?;
     let mut sink = MemSink::new(alloc, call.room as u64, Vec::new(alloc))?;
-    let Ended { status, disks } = run(rt, alloc, &call.words, disks, &mut source, &mut sink, &gate);
+    let disks = disks_of(alloc, stored, faults, &gate, &clock)?;
+    let ended = run_on(rt, call, disks, &mut sink, &gate)?;
     let held = !gate.late() && gate.whole();
-    outcome_of(alloc, &status, sink.bytes(), &disks, held)
-}
-
-/// Runs the program on devices that answer all calls.
-pub(crate) fn play_sound<R: Threads + Wait + Sync + AllocGlobal>(
-    rt: &R,
-    call: &Call,
-    stored: &Stored<'_>,
-) -> Result<Outcome, AllocError> {
-    play(rt, call, stored, &[SOUND; 3])
+    outcome_of(alloc, &ended, sink.bytes(), held)
 }
 
 /// Shows the store of these devices. The source fails, so that it is not called.
-pub(crate) fn show<R: Threads + Wait + Sync + AllocGlobal>(
-    rt: &R,
-    stored: &Stored<'_>,
-) -> Result<Outcome, AllocError> {
-    let mut call = Call::new(rt.alloc(), "wp show", "")?;
-    call.source_fails = true;
-    play_sound(rt, &call, stored)
+pub(crate) fn show(rt: &impl Plays, stored: &Stored<'_>) -> Result<Outcome, AllocError> {
+    let mut call = Call::new(rt.alloc(), "show --bits 0")?;
+    call.source_fails = 1;
+    play(rt, &call, stored, &[SOUND; 3])
 }

@@ -1,109 +1,81 @@
-//! What a store is once so many of a script's records are in its log, and whether devices open to that.
+//! What a store is once so many of a script's records are in its log.
 
+use crate::clause::push_line;
 use crate::judge::text_of;
-use crate::play::{Call, Outcome, Stored, play_sound, show};
+use crate::play::Outcome;
 use crate::run::Run;
-use crate::trouble::{Trouble, number};
-use std::alloc::{AllocError, AllocGlobal, Global};
-use std::sync::Wait;
-use std::thread::Threads;
+use crate::trouble::{Tried, Trouble, number};
+use std::alloc::Global;
 
 /// The texts that show a store once so many of a script's records are in its log.
 #[derive(Drop)]
-struct Stage {
+pub(crate) struct Stage {
     /// What shows it.
-    shown: String,
+    pub(crate) shown: String,
     /// What a run begins with that works on, and what it ends with.
-    front: String,
-    end: String,
+    pub(crate) front: String,
+    pub(crate) end: String,
     /// What shows the store after that run.
-    worked: String,
+    pub(crate) worked: String,
 }
 
-/// Reads `end 2 1 get 1`: how many of the entries are there, how many are undecided then, and what the sweep's command is answered,
-/// without the number.
-fn stage_of(alloc: Global, entries: &str, line: &str) -> Result<Stage, Trouble> {
-    let line = line.strip_prefix("end ").ok_or(Trouble::Unclear)?;
-    let (published, line) = line.split_once(' ').ok_or(Trouble::Unclear)?;
-    let (undecided, reply) = line.split_once(' ').ok_or(Trouble::Unclear)?;
-    let published = number(published)?;
-    let mut history = "history\n".to_string(alloc)?;
-    for entry in entries.lines().take(published) {
-        history.push_str(entry)?;
-        history.push('\n')?;
+impl Stage {
+    /// Reads `end 2 1 get 1`: how many of the entries are there, how many are undecided then, and what the sweep's command is
+    /// answered, without the number.
+    fn read(alloc: Global, entries: &str, line: &str) -> Tried<Stage> {
+        let line = line.strip_prefix("end ").ok_or(Trouble::Unclear)?;
+        let (count, line) = line.split_once(' ').ok_or(Trouble::Unclear)?;
+        let (undecided, reply) = line.split_once(' ').ok_or(Trouble::Unclear)?;
+        let n = number(count)?.saturating_add(1);
+        let mut history = "history\n".to_string(alloc)?;
+        for entry in entries.lines().take(n - 1) {
+            push_line(&mut history, entry)?;
+        }
+        let worked = format!(in alloc; "{history}{n} write put z 9\nend {n} {undecided}\n")?;
+        Ok(Stage {
+            shown: format!(in alloc; "{history}end {count} {undecided}\n")?,
+            front: format!(in alloc; "client c\nput @{n}\nflushed @{n} ")?,
+            end: format!(in alloc; "\nget 9 @{n}\n{reply} @{n}\n{worked}")?,
+            worked,
+        })
     }
-    let n = published.saturating_add(1);
-    let worked = format!(in alloc; "{history}{n} write put z 9\nend {n} {undecided}\n")?;
-    Ok(Stage {
-        shown: format!(in alloc; "{history}end {published} {undecided}\n")?,
-        front: format!(in alloc; "client c\nput @{n}\nflushed @{n} ")?,
-        end: format!(in alloc; "\nget 9 @{n}\n{reply} @{n}\n{worked}")?,
-        worked,
-    })
+
+    /// Whether a run that works on, and then shows its store, wrote these texts.
+    pub(crate) fn is_shown(&self, worked: &[u8], again: &[u8]) -> bool {
+        worked.starts_with(self.front.as_bytes())
+            && worked.ends_with(self.end.as_bytes())
+            && again == self.worked.as_bytes()
+    }
+}
+
+/// What the store of a swept run is before its first record and after each.
+pub(crate) fn stages_of(alloc: Global, run: &Run<'_>) -> Tried<Vec<Stage>> {
+    let mut stages = Vec::new(alloc);
+    for line in run.stages.lines() {
+        stages.push(Stage::read(alloc, &run.history, line)?)?;
+    }
+    Ok(stages)
 }
 
 /// Whether the reply acknowledges a record.
 fn acknowledges(reply: &str) -> bool {
-    match reply.split_once(" @") {
-        Some((verb, _)) => matches!(verb, "put" | "del" | "prepare" | "commit" | "rollback"),
-        None => false,
-    }
+    let Some((verb, _)) = reply.split_once(" @") else {
+        return false;
+    };
+    ["put", "del", "prepare", "commit", "rollback"].contains(&verb)
 }
 
-/// What a store is before the first record of a script and after each.
-#[derive(Drop)]
-pub(crate) struct Stages {
-    /// A run that works on: a put, a flush and two reads.
-    work: Call,
-    stages: Vec<Stage>,
-}
-
-impl Stages {
-    pub(crate) fn new(alloc: Global, run: &Run) -> Result<Stages, Trouble> {
-        let script = format!(in alloc; "client c\nput z 9\nflush\nget z\n{}\n", run.probe)?;
-        let mut stages = Vec::new(alloc);
-        for line in run.stages.lines() {
-            stages.push(stage_of(alloc, &run.entries, line)?)?;
-        }
-        Ok(Stages {
-            work: Call::new(alloc, "wp run", &script)?,
-            stages,
-        })
-    }
-
-    /// Those to which the devices may open after a run: that of the acknowledged records, and where the log failed also that of one
-    /// record more.
-    fn after(&self, outcome: &Outcome) -> &[Stage] {
-        let text = text_of(&outcome.text);
-        let count = text.lines().filter(|line| acknowledges(line)).count();
-        let from = self.stages.get(count..).unwrap_or(&[]);
-        let more = if outcome.code == 7 { 2 } else { 1 };
-        from.get(..more).unwrap_or(from)
-    }
-
-    /// Whether the run's text ends with the history of what it acknowledged.
-    pub(crate) fn end(&self, outcome: &Outcome) -> bool {
-        match self.after(outcome).first() {
-            Some(stage) => outcome.text.ends_with(stage.shown.as_bytes()),
-            None => false,
+/// Those to which the devices may open after a run: that of the acknowledged records, and where the log failed also that of one
+/// record more.
+pub(crate) fn stages_after<'a>(stages: &'a [Stage], outcome: &Outcome) -> &'a [Stage] {
+    let mut count = 0usize;
+    for line in text_of(&outcome.text).lines() {
+        if acknowledges(line) {
+            count = count.saturating_add(1);
         }
     }
-
-    /// Whether devices with these bytes open to what may be there after the run, work on, and open to what they then have.
-    pub(crate) fn open<R: Threads + Wait + Sync + AllocGlobal>(
-        &self,
-        rt: &R,
-        outcome: &Outcome,
-        stored: &Stored<'_>,
-    ) -> Result<bool, AllocError> {
-        let next = play_sound(rt, &self.work, stored)?;
-        let again = show(rt, &next.stored())?;
-        Ok(
-            self.after(outcome).iter().any(|stage| {
-                next.text.starts_with(stage.front.as_bytes())
-                    && next.text.ends_with(stage.end.as_bytes())
-                    && again.text.as_slice() == stage.worked.as_bytes()
-            }),
-        )
-    }
+    let (_, from) = stages.split_at(count.min(stages.len()));
+    let more = if outcome.code == 7 { 2 } else { 1 };
+    let (after, _) = from.split_at(from.len().min(more));
+    after
 }

@@ -5,203 +5,180 @@ ghost use Rattle.std.specs.Prelude.{◌<◌};
 
 use crate::crash::images;
 use crate::disk::{Faults, Left, SOUND};
-use crate::judge::wrong;
-use crate::play::{Outcome, Stored, play, show};
+use crate::judge::text_of;
+use crate::play::{Call, Outcome, Plays, Stored, play, show};
 use crate::run::Run;
-use crate::stages::Stages;
-use crate::trouble::Trouble;
-use std::alloc::{AllocError, AllocGlobal, Global};
-use std::sync::Wait;
-use std::thread::Threads;
+use crate::stages::{Stage, stages_after, stages_of};
+use crate::trouble::{Tried, Trouble};
+use std::alloc::{AllocError, Global};
 
 /// How many bytes are between the places at which a crash tears what was not synced.
 const APART: usize = 9;
 
 /// The status where the device is the first to go wrong, as it is opened or later, and its line.
-const IN_OPENING: [(u8, &str); 3] = [
-    (10, "wp: opening failed: log"),
-    (10, "wp: opening failed: manifest"),
-    (10, "wp: opening failed: tables"),
+const ENDS: [[(u8, &str); 2]; 3] = [
+    [(10, "wp: opening failed: log"), (7, "wp: log fault")],
+    [(10, "wp: opening failed: manifest"), (8, "wp: table fault")],
+    [(10, "wp: opening failed: tables"), (8, "wp: table fault")],
 ];
 
-const LATER: [(u8, &str); 3] = [
-    (7, "wp: log fault"),
-    (8, "wp: table fault"),
-    (8, "wp: table fault"),
-];
-
-/// How devices go wrong in a run, and the status that it ends with, with its line.
+/// A run that is made again and again on devices with these bytes.
 #[derive(Drop)]
-struct Trial {
-    faults: [Faults; 3],
-    end: (u8, &'static str),
-}
-
-fn fails_at(call: usize) -> Faults {
-    Faults {
-        fails: call,
-        ..SOUND
-    }
+struct Trials<'a, R> {
+    rt: &'a R,
+    call: &'a Call,
+    stored: &'a Stored<'a>,
+    /// What it leaves where no device goes wrong.
+    whole: &'a [Left; 3],
+    stages: Vec<Stage>,
+    /// A run that works on: a put, a flush and two reads.
+    work: Call,
 }
 
 fn stops_at(call: usize) -> Faults {
-    Faults {
-        stops: call,
-        ..SOUND
-    }
+    let answered = call.saturating_sub(1) as u64;
+    Faults { answered, ..SOUND }
 }
 
-/// How the run ends where the device goes wrong first, at that call.
-fn end_of(device: usize, place: usize, opening: &[Left; 3]) -> (u8, &'static str)
-    requires { device < 3 }
-{
-    if place < opening[device].calls.len() {
-        IN_OPENING[device]
-    } else {
-        LATER[device]
-    }
-}
-
-/// The device stops at its first call that is not before that moment.
+/// The device answers its calls before that moment.
 fn stops_from(left: &Left, moment: u64) -> Faults {
-    let before = left.calls.iter().filter(|call| **call < moment);
-    stops_at(before.count().saturating_add(1))
-}
-
-/// At each call of each device: it fails, or it is the first that is not answered while the other devices go on.
-fn push_alone(
-    trials: &mut Vec<Trial>,
-    opening: &[Left; 3],
-    whole: &[Left; 3],
-) -> Result<(), AllocError> {
-    for device in 0..3 {
-        for place in 0..whole[device].calls.len() {
-            let end = end_of(device, place, opening);
-            let call = place.saturating_add(1);
-            for fault in [fails_at(call), stops_at(call)] {
-                let mut faults = [SOUND; 3];
-                faults[device] = fault;
-                trials.push(Trial { faults, end })?;
-            }
-        }
-    }
-    Ok(())
-}
-
-/// At each call of each device no device answers from there on. Where the log has calls left, it fails too.
-fn push_together(
-    trials: &mut Vec<Trial>,
-    opening: &[Left; 3],
-    whole: &[Left; 3],
-) -> Result<(), AllocError> {
-    let [log, manifest, tables] = whole;
-    for device in 0..3 {
-        for (place, moment) in whole[device].calls.iter().enumerate() {
-            let faults = [
-                stops_from(log, *moment),
-                stops_from(manifest, *moment),
-                stops_from(tables, *moment),
-            ];
-            let is_last = faults[0].stops > log.calls.len();
-            let end = match end_of(device, place, opening) {
-                (8, _) if !is_last => LATER[0],
-                end => end,
-            };
-            trials.push(Trial { faults, end })?;
-        }
-    }
-    Ok(())
-}
-
-/// After the opening the log stops at each of its calls, and another device at each of its own.
-fn push_pairs(
-    trials: &mut Vec<Trial>,
-    opening: &[Left; 3],
-    whole: &[Left; 3],
-) -> Result<(), AllocError> {
-    for call in opening[0].calls.len()..whole[0].calls.len() {
-        for other in 1..3 {
-            for also in opening[other].calls.len()..whole[other].calls.len() {
-                let mut faults = [stops_at(call.saturating_add(1)), SOUND, SOUND];
-                faults[other] = stops_at(also.saturating_add(1));
-                trials.push(Trial {
-                    faults,
-                    end: LATER[0],
-                })?;
-            }
-        }
-    }
-    Ok(())
+    let before = left.calls.iter().take_while(|call| **call < moment);
+    let answered = before.count() as u64;
+    Faults { answered, ..SOUND }
 }
 
 fn images_of(alloc: Global, left: &Left) -> Result<Vec<Vec<u8>>, AllocError> {
     images(alloc, &left.synced, &left.bytes, APART)
 }
 
-/// Whether whatever a crash may leave of the devices opens to what the run acknowledged.
-fn images_open<R: Threads + Wait + Sync + AllocGlobal>(
-    rt: &R,
-    stages: &Stages,
-    outcome: &Outcome,
-) -> Result<bool, AllocError> {
-    let [log, manifest, tables] = &outcome.left;
-    let manifests = images_of(rt.alloc(), manifest)?;
-    let all_tables = images_of(rt.alloc(), tables)?;
-    for log in &images_of(rt.alloc(), log)? {
-        for manifest in &manifests {
-            for tables in &all_tables {
-                if !stages.open(rt, outcome, &[log, manifest, tables])? {
-                    return Ok(false);
+impl<R: Plays> Trials<'_, R> {
+    /// Whether devices with these bytes open to one of the stages, work on, and open to what they then have.
+    fn opens(&self, stages: &[Stage], stored: &Stored<'_>) -> Result<bool, AllocError> {
+        let next = play(self.rt, &self.work, stored, &[SOUND; 3])?;
+        let again = show(self.rt, &next.stored())?;
+        for stage in stages {
+            if stage.is_shown(&next.text, &again.text) {
+                return Ok(true);
+            }
+        }
+        Ok(false)
+    }
+
+    /// Whether whatever a crash may leave of the devices opens to one of the stages.
+    fn images_open(&self, stages: &[Stage], left: &[Left; 3]) -> Result<bool, AllocError> {
+        let alloc = self.rt.alloc();
+        let [log, manifest, tables] = left;
+        let manifests = images_of(alloc, manifest)?;
+        let all_tables = images_of(alloc, tables)?;
+        for log in &images_of(alloc, log)? {
+            for manifest in &manifests {
+                for tables in &all_tables {
+                    if !self.opens(stages, &[log, manifest, tables])? {
+                        return Ok(false);
+                    }
                 }
             }
         }
+        Ok(true)
     }
-    Ok(true)
-}
 
-/// Whether the run with these faults ends with the status that is due, and with its whole text, or none where the opening failed; and
-/// whether what it leaves opens.
-fn succeeds<R: Threads + Wait + Sync + AllocGlobal>(
-    rt: &R,
-    run: &Run,
-    stages: &Stages,
-    stored: &Stored<'_>,
-    trial: &Trial,
-) -> Result<bool, AllocError> {
-    let outcome = play(rt, &run.call, stored, &trial.faults)?;
-    let (code, line) = trial.end;
-    let is_whole = if code == 10 {
-        outcome.text.is_empty()
-    } else {
-        stages.end(&outcome)
-    };
-    let is_so = outcome.code == code && outcome.line.as_slice() == line.as_bytes();
-    Ok(is_whole && is_so && images_open(rt, stages, &outcome)?)
+    /// Whether the run with these faults ends with that status, and with its whole text, or none where the opening failed; and
+    /// whether what it leaves opens.
+    fn succeeds(&self, faults: &[Faults; 3], end: (u8, &str)) -> Result<bool, AllocError> {
+        let outcome = play(self.rt, self.call, self.stored, faults)?;
+        if (outcome.code, text_of(&outcome.line)) != end {
+            return Ok(false);
+        }
+        let stages = stages_after(&self.stages, &outcome);
+        let is_whole = match stages.first() {
+            _ if outcome.code == 10 => outcome.text.is_empty(),
+            Some(stage) => outcome.text.ends_with(stage.shown.as_bytes()),
+            None => false,
+        };
+        Ok(is_whole && self.images_open(stages, &outcome.left)?)
+    }
+
+    fn tries(&self, faults: &[Faults; 3], end: (u8, &str)) -> Tried<()> {
+        if self.succeeds(faults, end)? {
+            return Ok(());
+        }
+        let [log, manifest, tables] = faults;
+        let what = format!(in self.rt.alloc();
+            "calls that fail: {}, {}, {}; that are answered: {}, {}, {}; the end is another",
+            log.fails,
+            manifest.fails,
+            tables.fails,
+            log.answered,
+            manifest.answered,
+            tables.answered
+        )?;
+        Err(Trouble::Wrong(what))
+    }
+
+    /// The call of the device fails; or it is the first that is not answered while the other devices go on; or no device answers
+    /// from there on. Where the log has calls left then, it fails too.
+    fn try_call(&self, device: usize, call: usize, moment: u64, end: (u8, &str)) -> Tried<()>
+        requires { device < 3 }
+    {
+        let mut faults = [SOUND; 3];
+        faults[device].fails = call as u64;
+        self.tries(&faults, end)?;
+        faults[device] = stops_at(call);
+        self.tries(&faults, end)?;
+        let [log, manifest, tables] = self.whole;
+        let faults = [
+            stops_from(log, moment),
+            stops_from(manifest, moment),
+            stops_from(tables, moment),
+        ];
+        let log_goes_on = faults[0].answered < log.calls.len() as u64;
+        let is_logs = log_goes_on && end.0 != 10;
+        self.tries(&faults, if is_logs { ENDS[0][1] } else { end })
+    }
+
+    /// After the opening the log stops at each of its calls, and the other device at each of its own.
+    fn try_pairs(&self, opening: &[Left; 3], whole: &[Left; 3], other: usize) -> Tried<()>
+        requires { other < 3 }
+    {
+        for call in opening[0].calls.len()..whole[0].calls.len() {
+            for also in opening[other].calls.len()..whole[other].calls.len() {
+                let mut faults = [stops_at(call.saturating_add(1)), SOUND, SOUND];
+                faults[other] = stops_at(also.saturating_add(1));
+                self.tries(&faults, ENDS[0][1])?;
+            }
+        }
+        Ok(())
+    }
 }
 
 /// Lets devices go wrong at each call that the run makes of them. `whole` is what it leaves where none does.
-pub(crate) fn sweep<R: Threads + Wait + Sync + AllocGlobal>(
-    rt: &R,
-    run: &Run,
+pub(crate) fn sweep(
+    rt: &impl Plays,
+    run: &Run<'_>,
     stored: &Stored<'_>,
     whole: &[Left; 3],
-) -> Result<(), Trouble> {
+) -> Tried<()> {
     let alloc = rt.alloc();
     let opening = show(rt, stored)?.left;
-    let stages = Stages::new(alloc, run)?;
-    let mut trials = Vec::new(alloc);
-    push_alone(&mut trials, &opening, whole)?;
-    push_together(&mut trials, &opening, whole)?;
-    push_pairs(&mut trials, &opening, whole)?;
-    for trial in &trials {
-        if !succeeds(rt, run, &stages, stored, trial)? {
-            let [log, manifest, tables] = &trial.faults;
-            let what = format!(in alloc;
-                "calls that fail: {}, {}, {}; that are not answered: {}, {}, {}; the end is another",
-                log.fails, manifest.fails, tables.fails, log.stops, manifest.stops, tables.stops
-            )?;
-            return wrong(run, what);
+    let mut work = Call::new(alloc, "run --bits 0")?;
+    let script = format!(in alloc; "client c\nput z 9\nflush\nget z\n{}\n", run.probe)?;
+    work.script = script.into_bytes();
+    let trials = Trials {
+        rt,
+        call: &run.call,
+        stored,
+        whole,
+        stages: stages_of(alloc, run)?,
+        work,
+    };
+    for device in 0..3 {
+        let mut call = 0usize;
+        for moment in &whole[device].calls {
+            let end = ENDS[device][usize::from(call >= opening[device].calls.len())];
+            call = call.saturating_add(1);
+            trials.try_call(device, call, *moment, end)?;
         }
     }
-    Ok(())
+    trials.try_pairs(&opening, whole, 1)?;
+    trials.try_pairs(&opening, whole, 2)
 }

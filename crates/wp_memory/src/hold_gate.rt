@@ -5,7 +5,7 @@ use std::thread;
 use wp_outside::Gate;
 
 /// What a held line waits for, by a client and a line of it, both from 1 on.
-#[derive(Clone, Copy, Debug, PartialEq, Eq)]
+#[derive(Clone, Copy)]
 pub enum Until {
     /// The client has come to the line.
     Arrived(usize, usize),
@@ -14,7 +14,7 @@ pub enum Until {
 }
 
 /// A line that is held back. Clients and lines are counted from 1.
-#[derive(Clone, Copy, Debug, PartialEq, Eq)]
+#[derive(Clone, Copy)]
 pub struct Hold {
     pub client: usize,
     pub line: usize,

@@ -41,7 +41,7 @@ pub(super) fn opened(alloc: Global) -> Result<Parts<MemDisk>, Fail>
 {
     match open_parts(alloc, devices(alloc)?, 1) {
         Ok(parts) => Ok(parts),
-        Err(refused) => Err(Fail::from(refused.why)),
+        Err(_) => Err(Fail::from("the store was not opened")),
     }
 }
 
