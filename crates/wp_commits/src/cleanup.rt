@@ -14,8 +14,8 @@ use wp_outside::Disk;
 use wp_prepared::Prepared;
 use wp_shared::{Seat, Shared};
 
-/// Takes the number of a transaction that is decided, by a pair that fits a word, out of the prepared heap, the delayed set and the delayed commits, once the
-/// write turn is given, and notes that it has left the heap and the delayed set. It takes no memory.
+/// Takes the number of a transaction that is decided, by a pair that fits a word, out of the prepared heap, the delayed set and the
+/// delayed commits, once the write turn is given, and notes that it has left the heap and the delayed set. It takes no memory.
 pub fn forget_prepared<D: Disk + Drop, R: Wait>(
     store: &Shared<D>,
     rt: &R,

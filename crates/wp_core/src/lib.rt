@@ -9,7 +9,10 @@
 //! word of the cache, and then stores the published number: from there on all see it. The word may have had another
 //! pair, which that evicts. Before it may, the bound is raised to that pair's decision and the heap's numbers up to the
 //! bound move to the delayed set, the pair is noted under each live snapshot that it overlaps, and among the delayed
-//! commits where its transaction is still prepared. A reader takes no part in this. It looks at the cache, the bound,
+//! commits where its transaction is still prepared. A pair whose numbers lie too far apart for a word stores none: the
+//! bound is raised to its number, and the pair is among the delayed commits from the first. Once the bound has passed
+//! its decision, and the pair is noted under each live snapshot that it overlaps, a later writer takes it out there. A
+//! reader takes no part in this. It looks at the cache, the bound,
 //! what is delayed, the cache and the bound again, and the old commit map, in the order of `wp_judge`, while all of
 //! these change.
 //!

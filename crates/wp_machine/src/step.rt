@@ -80,7 +80,7 @@ pub enum PreparedStep {
     TakePending,
     /// A version, and the number that decides it.
     AddDelayedCommit(Seq, Seq),
-    /// The same of the pending entry's pair, which fits no word.
+    /// The number of the pending entry's pair, which fits no word, and the number that decides it.
     DelayPending(Seq, Seq),
     /// A decided number leaves heap, delayed set and delayed commits.
     TakeOut(Seq),

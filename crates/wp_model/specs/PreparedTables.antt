@@ -9,7 +9,7 @@ use Rattle.std.specs.FinMap as map
 pub record PreparedTables : Type 0 where
   pub heap : set.FinSet nat_cmp  -- above the evicted bound
   pub delayed : set.FinSet nat_cmp  -- up to it
-  pub delayed_commits : map.FinMap nat_cmp ℕ  -- committed, with the pair evicted
+  pub delayed_commits : map.FinMap nat_cmp ℕ  -- committed, with the pair evicted, or one that fits no word
 
 -- they are stored as their fields, in nested pairs
 abbrev pub prepared_tables_code : Coded PreparedTables

@@ -8,7 +8,7 @@ ghost use Rattle.wp_store.specs.Store.{parts_of, is_flushed, parts_above, newest
 
 use crate::frozen_parts::FrozenParts;
 use crate::newest::newest_in_memory;
-use crate::sources::{merged, merged_tables, push_frozen, push_newest_frozen, push_newest_tables};
+use crate::sources::{merged, push_frozen, push_newest_frozen, push_newest_tables};
 use std::alloc::{AllocError, Global};
 use std::collections::VecDeque;
 use std::marker::Model;
@@ -123,13 +123,6 @@ impl Store {
         ensures { IfOk result (λ parts. parts ≡ self.now.frozen) }
     {
         FrozenParts::of(self.alloc, &self.frozen)
-    }
-
-    /// All versions of the tables.
-    pub fn in_tables(&self) -> Result<Versions, AllocError>
-        ensures { IfOk result (λ all. AreMerged self.now.tables all) }
-    {
-        merged_tables(self.alloc, &self.tables)
     }
 
     /// Makes what is in memory the first frozen part, and leaves memory empty. It copies no version.

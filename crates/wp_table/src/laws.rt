@@ -3,7 +3,6 @@
 ghost use Rattle.std.specs.Prelude.{◌≡◌, ◌≢◌, ◌↔◌, ◌<◌, ◌⊎◌, ℕ, List, Ok, Err, slice_index};
 ghost use Rattle.wp_model.specs.declared.version.Version.{Version};
 ghost use Rattle.wp_table.specs.declared.error.TableError.{TableError};
-ghost use Rattle.wp_table.specs.declared.layout.TheConstants.{BLOCK};
 ghost use Rattle.wp_table.specs.declared.error.TableError.TheVariants.{Stranger};
 ghost use Rattle.wp_table.specs.declared.layout.TheConstants.{BLOCK};
 ghost use Rattle.wp_table.specs.Table.{IsTable, table_bytes};
