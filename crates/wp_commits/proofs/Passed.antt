@@ -66,10 +66,10 @@ pending_undecided history (Undo q batch ∷ others) p c legal e apart = let same
 pending_undecided history (Prepare name batch ∷ others) p c legal e apart = absurd (none_some None (record { number = p; decision = c }) refl e)
 pending_undecided history (Commit q ∷ others) p c legal e apart =
     let same = same_some _ _ e in
-    subst (λ (n : ℕ). is_undecided history n ≡ true) (ap (λ (x : CommitPair). x.number) same) (after_front history (Commit q) [] (first_legal history (Commit q) others legal)).names_undecided
+    subst (λ (n : ℕ). is_undecided history n ≡ true) (ap (λ (x : CommitPair). x.number) same) (after_front history (Commit q) [] (first_legal history (Commit q) others legal)).orderly.names_undecided
 pending_undecided history (Close q ∷ others) p c legal e apart =
     let same = same_some _ _ e in
-    subst (λ (n : ℕ). is_undecided history n ≡ true) (ap (λ (x : CommitPair). x.number) same) (after_front history (Close q) [] (first_legal history (Close q) others legal)).names_undecided
+    subst (λ (n : ℕ). is_undecided history n ≡ true) (ap (λ (x : CommitPair). x.number) same) (after_front history (Close q) [] (first_legal history (Close q) others legal)).orderly.names_undecided
 
 right_true : (a b : Bool) → a ≡ false → (a || b) ≡ true → b ≡ true
 right_true true b e f = absurd (true≢false e)

@@ -48,7 +48,7 @@ undone_at : (front : List Entry) (p : ℕ) (batch : List Change) (key : List ℕ
 undone_at front p batch key x legal changed =
     let history = front ++ Undo p batch ∷ [] in
     let k : IsLegalNext front (Undo p batch) = after_front front (Undo p batch) [] legal in
-    let within : p ≤ length front = (undecided_within front p k.names_undecided).1 in
+    let within : p ≤ length front = (undecided_within front p k.orderly.names_undecided).1 in
     let old : change_to (batch_at front p) key ≡ Some x = ap (λ (changes : List Change). change_to changes key) (sym (batch_at_old front (Undo p batch ∷ []) p within)) ∙ changed in
     let held : change_to batch key ≡ Some (newest front key) = ap (λ (changes : List Change). change_to changes key) k.restores_prior ∙ (prior_to front (batch_at front p) key ∙ ap (option_map (λ _. newest front key)) old) in
     let there : entry_at history (length history) ≡ Some (Undo p batch) = ap (entry_at history) (length_next front (Undo p batch)) ∙ entry_at_next front (Undo p batch) in
@@ -205,12 +205,12 @@ module _ (history : List Entry) (entry : Entry) (legal : IsLegal (history ++ ent
         (λ e. value_now (Write batch) is ∙ ap (λ (o : Option (Option (List ℕ))). unwrap_or o (value_at history key (length history))) e)
         (λ v e. value_now (Write batch) is ∙ ap (λ (o : Option (Option (List ℕ))). unwrap_or o (value_at history key (length history))) e)
     by_entry (Prepare name batch) is a = gives_kept (value_now (Prepare name batch) is) (λ q pair. let no : None ≡ Some (record { number = q; decision = next }) = sym (ap (pair_by next) is) ∙ pair in absurd cc)
-    by_entry (Commit p) is a = commit_version p (change_to (batch_at history p) key) is refl a.names_undecided a.undo_is_closed
+    by_entry (Commit p) is a = commit_version p (change_to (batch_at history p) key) is refl a.orderly.names_undecided a.orderly.undo_is_closed
     by_entry (Undo p batch) is a =
         own_version (change_to batch key) (ap (λ (z : Entry). version_in (Some z) key) is) (ap (pair_by next) is)
         (λ _. value_now (Undo p batch) is)
         (λ v e. value_now (Undo p batch) is ∙ (value_whole history entry legal history key ∙ restored (change_to (batch_at history p) key) v (sym (prior_to history (batch_at history p) key) ∙ (ap (λ (changes : List Change). change_to changes key) (sym a.restores_prior) ∙ e))))
-    by_entry (Close p) is a = close_version p (change_to (batch_at history p) key) is refl a.names_undecided a.undo_is_closed
+    by_entry (Close p) is a = close_version p (change_to (batch_at history p) key) is refl a.orderly.names_undecided a.orderly.undo_is_closed
 
     gives_new : GivesStore ys grown key next
     gives_new = by_entry entry refl (after history entry legal)

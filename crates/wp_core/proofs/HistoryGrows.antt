@@ -133,7 +133,7 @@ module _ (history : List Entry) (entry : Entry) (legal : IsLegal (history ++ ent
   not_by_itself = by (decides next entry) refl
     where
       by : (b : Bool) → decides next entry ≡ b → b ≡ false
-      by true e = let k = undecided_within history next (decides_undecided history entry next after.names_undecided e) in absurd (omega (arith, k.1))
+      by true e = let k = undecided_within history next (decides_undecided history entry next after.orderly.names_undecided e) in absurd (omega (arith, k.1))
       by false e = refl
 
   pub undecided_before_or_now : (p : ℕ) → is_undecided grown p ≡ true → ((p ≤ length history) × (is_undecided history p ≡ true) × (decides p entry ≡ false)) ⊎ ((p ≡ next) × (is_prepare (Some entry) ≡ true))
@@ -176,10 +176,10 @@ module _ (history : List Entry) (entry : Entry) (legal : IsLegal (history ++ ent
     none_after (Close r) e new = none_kept g (λ (q : ℕ). not (q == r)) (undecided history) e
 
     find_stays : (p : ℕ) → find f (undecided history) ≡ Some p → decides p entry ≡ false → find g (undecided grown) ≡ Some p
-    find_stays p e other = ap (find g) (undecided_next history entry before after.names_undecided) ∙ some_after entry p (same_old ∙ e) other
+    find_stays p e other = ap (find g) (undecided_next history entry before after.orderly.names_undecided) ∙ some_after entry p (same_old ∙ e) other
 
     none_stays : find f (undecided history) ≡ None → (is_prepare (Some entry) ≡ true → g next ≡ false) → find g (undecided grown) ≡ None
-    none_stays e new = ap (find g) (undecided_next history entry before after.names_undecided) ∙ none_after entry (same_old ∙ e) (λ is. ap g (let q : length history + 1 ≡ suc (length history) = omega arith in q) ∙ new is)
+    none_stays e new = ap (find g) (undecided_next history entry before after.orderly.names_undecided) ∙ none_after entry (same_old ∙ e) (λ is. ap g (let q : length history + 1 ≡ suc (length history) = omega arith in q) ∙ new is)
 
   pub named_stays : (name : List ℕ) (p : ℕ) → named history name ≡ Some p → decides p entry ≡ false → named grown name ≡ Some p
   named_stays name p e other = find_stays (λ (q : ℕ). bytes_eq (name_at history q) name) (λ (q : ℕ). bytes_eq (name_at grown q) name) (λ q le. ap (λ (x : List ℕ). bytes_eq x name) (name_at_old q le)) p e other
@@ -203,10 +203,10 @@ module _ (history : List Entry) (entry : Entry) (legal : IsLegal (history ++ ent
   value_whole h key = ap (λ (x : List Entry). newest x key) (take-length h)
 
   pub value_new : (key : List ℕ) → value_at grown key next ≡ unwrap_or (change_to (changes_of history entry) key) (value_at history key (length history))
-  value_new key = ap (value_at grown key) (sym grown_length) ∙ (value_whole grown key ∙ (newest_next history entry key before after.names_undecided ∙ ap (λ (v : Option (List ℕ)). unwrap_or (change_to (changes_of history entry) key) v) (sym (value_whole history key))))
+  value_new key = ap (value_at grown key) (sym grown_length) ∙ (value_whole grown key ∙ (newest_next history entry key before after.orderly.names_undecided ∙ ap (λ (v : Option (List ℕ)). unwrap_or (change_to (changes_of history entry) key) v) (sym (value_whole history key))))
 
   pub newest_kept : (key : List ℕ) → change_to (changes_of history entry) key ≡ None → newest grown key ≡ newest history key
-  newest_kept key none = newest_next history entry key before after.names_undecided ∙ ap (λ (o : Option (Option (List ℕ))). unwrap_or o (newest history key)) none
+  newest_kept key none = newest_next history entry key before after.orderly.names_undecided ∙ ap (λ (o : Option (Option (List ℕ))). unwrap_or o (newest history key)) none
 
 -- ---- what a batch would restore
 

@@ -51,8 +51,8 @@ first_of_them p [] lt = absurd (omega arith)
 first_of_them p (x ∷ xs) lt = let k = first_by p x xs (p x) refl (first_of_them p xs) lt in record { entry = k.0; there = k.1; passes = k.2 }
 
 names_before : (before : List Entry) (p : ℕ) (e : Entry) → decides p e ≡ true → IsLegalNext before e → is_undecided before p ≡ true
-names_before before p (Commit q) d legal = subst (λ (n : ℕ). is_undecided before n ≡ true) (is_equal q p d) legal.names_undecided
-names_before before p (Close q) d legal = subst (λ (n : ℕ). is_undecided before n ≡ true) (is_equal q p d) legal.names_undecided
+names_before before p (Commit q) d legal = subst (λ (n : ℕ). is_undecided before n ≡ true) (is_equal q p d) legal.orderly.names_undecided
+names_before before p (Close q) d legal = subst (λ (n : ℕ). is_undecided before n ≡ true) (is_equal q p d) legal.orderly.names_undecided
 names_before before p (Write batch) d legal = absurd (true≢false (sym d))
 names_before before p (Prepare name batch) d legal = absurd (true≢false (sym d))
 names_before before p (Undo q batch) d legal = absurd (true≢false (sym d))
@@ -267,11 +267,11 @@ next_decides history (Undo p batch) pair legal e =
     is_pair history (Undo p batch) (suc (length history)) (suc (length history)) pair e
     record { decided = ap (decision_in (history ++ Undo p batch ∷ []) (suc (length history))) (entry_next history (Undo p batch)); positive = omega arith; ordered = omega arith; last = refl }
 next_decides history (Commit p) pair legal e =
-    let u : is_undecided history p ≡ true = (after_front history (Commit p) [] legal).names_undecided in let low = undecided_within history p u in
+    let u : is_undecided history p ≡ true = (after_front history (Commit p) [] legal).orderly.names_undecided in let low = undecided_within history p u in
     is_pair history (Commit p) p (suc (length history)) pair e
     record { decided = next_decides_prepare history (Commit p) p u (decides_itself p); positive = low.0; ordered = omega (arith, low.1); last = refl }
 next_decides history (Close p) pair legal e =
-    let u : is_undecided history p ≡ true = (after_front history (Close p) [] legal).names_undecided in let low = undecided_within history p u in
+    let u : is_undecided history p ≡ true = (after_front history (Close p) [] legal).orderly.names_undecided in let low = undecided_within history p u in
     is_pair history (Close p) p (suc (length history)) pair e
     record { decided = next_decides_prepare history (Close p) p u (decides_itself p); positive = low.0; ordered = omega (arith, low.1); last = refl }
 next_decides history (Prepare name batch) pair legal e = let no : None ≡ Some pair = e in absurd (cc)

@@ -80,7 +80,7 @@ module _ (test : Option Entry → List ℕ → Bool) (who : List Entry → List 
 
 free_of : (history : List Entry) (e : Entry) (key : List ℕ) → IsLegalNext history e → is_prepare (Some e) ≡ true → is_changed (prepared_batch (Some e)) key ≡ true → holder_of history key ≡ None
 free_of history (Write batch) key n is changed = absurd (true≢false (sym is))
-free_of history (Prepare name batch) key n is changed = free_key history batch key n.keys_are_free.0 changed
+free_of history (Prepare name batch) key n is changed = free_key history batch key n.orderly.keys_are_free.0 changed
 free_of history (Commit p) key n is changed = absurd (true≢false (sym is))
 free_of history (Undo p batch) key n is changed = absurd (true≢false (sym is))
 free_of history (Close p) key n is changed = absurd (true≢false (sym is))
@@ -96,7 +96,7 @@ holder_is history legal p key u changed = found_is (λ x key. is_changed (prepar
 
 new_of : (history : List Entry) (e : Entry) (name : List ℕ) → IsLegalNext history e → is_prepare (Some e) ≡ true → bytes_eq (prepared_name (Some e)) name ≡ true → named history name ≡ None
 new_of history (Write batch) name n is same = absurd (true≢false (sym is))
-new_of history (Prepare other batch) name n is same = ap (named history) (sym ((bytes_eq-Decides other name).0 same)) ∙ n.keys_are_free.1
+new_of history (Prepare other batch) name n is same = ap (named history) (sym ((bytes_eq-Decides other name).0 same)) ∙ n.orderly.keys_are_free.1
 new_of history (Commit p) name n is same = absurd (true≢false (sym is))
 new_of history (Undo p batch) name n is same = absurd (true≢false (sym is))
 new_of history (Close p) name n is same = absurd (true≢false (sym is))

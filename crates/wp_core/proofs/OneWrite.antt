@@ -18,6 +18,7 @@ use Rattle.wp_model.specs.History.{is_changed}
 use Rattle.wp_model.specs.Legal.{AreFree, IsLegalNext, IsLegal}
 use Rattle.wp_model.specs.LockTables.{LockTables, nothing_locked}
 use Rattle.wp_model.specs.Snapshots.{Snapshots}
+use Rattle.wp_model.proofs.BatchLemmas.{batch_ascends}
 use Rattle.wp_judge.specs.Words.{CommitPair, word_of}
 use Rattle.wp_judge.specs.Order.{judgement}
 use Rattle.wp_judge.specs.declared.observed.Observed.{Observed}
@@ -151,7 +152,7 @@ legal : (batch : List Change) → is_batch batch ≡ true → IsLegal (Write bat
 legal batch is = record { few = omega arith; each = each }
   where
     first : IsLegalNext [] (Write batch)
-    first = record { batch = is; names_undecided = tt; undo_is_closed = refl; restores_prior = tt; keys_are_free = none_held batch }
+    first = record { orderly = record { ascending = batch_ascends batch is; names_undecided = tt; undo_is_closed = refl; keys_are_free = none_held batch }; restores_prior = tt }
 
     each : (n : ℕ) (entry : Entry) → slice_get (Write batch ∷ []) n ≡ Some entry → IsLegalNext (take n (Write batch ∷ [])) entry
     each zero entry at = subst (IsLegalNext []) (ap (λ o. unwrap_or o (Write batch)) at) first

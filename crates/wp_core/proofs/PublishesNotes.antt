@@ -78,11 +78,11 @@ module _ (w : World) (by : ℕ) (a : Actor) (entry : Entry) (others : List Entry
 
   -- what the entry commits has no key of another undecided prepare
   commits_apart : (x : Entry) → entry ≡ x → IsLegalNext history x → (p : ℕ) (key : List ℕ) → is_undecided history p ≡ true → is_changed (batch_at history p) key ≡ true → (transaction_of history x ≡ Some (name_at history p) → ⊥) → change_to (changes_of history x) key ≡ None
-  commits_apart (Write batch) is k p key u changed other = none_is (change_to batch key) (λ v e. not_free history key p u changed (free_key history batch key k.keys_are_free (is_changed_from batch key v e)))
+  commits_apart (Write batch) is k p key u changed other = none_is (change_to batch key) (λ v e. not_free history key p u changed (free_key history batch key k.orderly.keys_are_free (is_changed_from batch key v e)))
   commits_apart (Prepare name batch) is k p key u changed other = refl
   commits_apart (Commit q) is k p key u changed other = none_is (change_to (batch_at history q) key) (λ v e.
       let mine_held = s.locks.prepared_keys p key u changed in
-      let its = s.locks.prepared_keys q key k.names_undecided (is_changed_from (batch_at history q) key v e) in
+      let its = s.locks.prepared_keys q key k.orderly.names_undecided (is_changed_from (batch_at history q) key v e) in
       other (ap (λ (z : List ℕ). Some z) (txn_is (name_at history q) (name_at history p) (sym its ∙ mine_held))))
   commits_apart (Undo q batch) is k p key u changed other = refl
   commits_apart (Close q) is k p key u changed other = refl

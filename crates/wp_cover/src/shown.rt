@@ -3,7 +3,6 @@ ghost use Rattle.std.specs.Prelude.{◌≡◌, ◌↔◌, ℕ, List, [], ◌∷�
 ghost use Rattle.std.specs.Arc.{arc_value};
 ghost use Rattle.wp_model.specs.Covered.{GivesStore};
 ghost use Rattle.wp_model.specs.Flushed.{later_versions, versions_under};
-ghost use Rattle.wp_model.specs.Legal.{changes_in};
 ghost use Rattle.wp_table.specs.Borrowed.{seen};
 ghost use Rattle.wp_merge.specs.Merge.{joined};
 ghost use Rattle.wp_cover.specs.Sources.{all_of};
@@ -17,7 +16,7 @@ use std::alloc::{AllocError, Global};
 use std::collections::BTreeMap;
 use std::sync::Arc;
 use wp_history::History;
-use wp_model::{Change, Entry, Seq, Versions};
+use wp_model::{Change, Seq, Versions};
 use wp_table::{Table, VersionRef};
 
 /// Of each key the newest version so far that is committed.
@@ -121,16 +120,6 @@ fn note_changes<'a>(
     Ok(())
 }
 
-/// The changes of which the entry has versions.
-fn changes_in(entry: &Entry) -> &[Change]
-    ensures { result.now ≡ changes_in entry.now }
-{
-    match entry {
-        Entry::Write(batch) | Entry::Prepare(_, batch) | Entry::Undo(_, batch) => batch.changes(),
-        Entry::Commit(_) | Entry::Close(_) => &[],
-    }
-}
-
 /// Notes the versions of the entries above the flushed number.
 fn note_later<'a>(
     newest: &mut Newest<'a>,
@@ -143,13 +132,7 @@ fn note_later<'a>(
 {
     let entries = history.entries();
     for i in flushed..history.published() {
-        note_changes(
-            newest,
-            decisions,
-            i + 1,
-            changes_in(&entries[i as usize]),
-            n,
-        )?;
+        note_changes(newest, decisions, i + 1, entries[i as usize].changes(), n)?;
     }
     Ok(())
 }

@@ -1,4 +1,4 @@
--- No two undecided prepares of a lawful list have a name or a key together.
+-- No two undecided prepares of a legal list have a name or a key together.
 use Rattle.std.proofs.Common.{◌≡◌, ℕ, ◌+◌, Bool, true, false, not, cond, eqb, List, [], ◌∷◌, ◌++◌, length, Option, Some, None, ◌⊎◌, refl, sym, ap, ◌∙◌, inl, inr, arith}
 use Rattle.std.specs.List.{list_any, find}
 use Rattle.std.specs.Str.{bytes_eq}
@@ -7,12 +7,11 @@ use Rattle.std.proofs.lemmas.Slice.Eq.{bytes_eq-Decides}
 use Rattle.wp_model.specs.declared.entry.Entry.{Entry}
 use Rattle.wp_model.specs.declared.entry.Entry.TheVariants.{Write, Prepare, Commit, Undo, Close}
 use Rattle.wp_model.specs.History.{entry_at, is_prepare, prepared_name, prepared_batch, name_at, batch_at, decides, is_undecided, undecided, named, is_changed}
-use Rattle.wp_model.specs.Legal.{KeysAreFree}
+use Rattle.wp_model.specs.Legal.{KeysAreFree, IsLegalNext, AreLegal}
 use Rattle.wp_model.proofs.Entries.{entry_at_old, undecided_prepared, undecided_within}
 use Rattle.wp_history.proofs.Growth.{entry_at_next, length_next}
 use Rattle.wp_history.proofs.Undecided.{is_undecided_by_list, undecided_old}
 use Rattle.wp_history.proofs.Held.{not_free, free_key}
-use Rattle.wp_cuts.specs.Orderly.{IsLawfulNext, AreLawful}
 use Rattle.wp_cuts.proofs.Following.{by_following}
 
 pub record AreDistinct (history : List Entry) : Type 0 where
@@ -107,6 +106,6 @@ distinct_none = record {
   keys = λ p q key one other changed its. let within = undecided_within [] p one in absurd (omega (arith, within.0, within.1));
 }
 
-pub lawful_distinct : (history : List Entry) → AreLawful history → AreDistinct history
-lawful_distinct history each =
-    by_following IsLawfulNext AreDistinct distinct_none (λ h entry _ after distinct. record { names = names_next h entry after.orderly.keys_are_free distinct; keys = keys_next h entry after.orderly.keys_are_free distinct }) history each
+pub legal_distinct : (history : List Entry) → AreLegal history → AreDistinct history
+legal_distinct history each =
+    by_following IsLegalNext AreDistinct distinct_none (λ h entry _ after distinct. record { names = names_next h entry after.orderly.keys_are_free distinct; keys = keys_next h entry after.orderly.keys_are_free distinct }) history each

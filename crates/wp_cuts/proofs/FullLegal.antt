@@ -1,4 +1,4 @@
--- The full list of a legal cut is lawful, where the versions lie below what the cut carries; and the other way round.
+-- The full list of a legal cut is legal, where the versions lie below what the cut carries; and the other way round.
 use Rattle.std.proofs.Common.{◌≡◌, ℕ, zero, suc, ◌-◌, ◌<◌, ◌≤◌, Bool, true, false, List, [], ◌∷◌, ◌++◌, length, take, Option, Some, None, refl, sym, ap, ◌∙◌, subst, inl, inr, length-append, arith}
 use Rattle.std.specs.Prelude.{slice_get, is_some}
 use Rattle.std.specs.Str.{bytes_eq}
@@ -11,13 +11,12 @@ use Rattle.wp_model.specs.declared.entry.Entry.{Entry}
 use Rattle.wp_model.specs.declared.version.Version.{Version}
 use Rattle.wp_model.specs.Batch.{key_of}
 use Rattle.wp_model.specs.History.{prepared_name, prepared_batch, name_at, batch_at, is_undecided, named, is_changed, holder_of}
-use Rattle.wp_model.specs.Legal.{NamesUndecided, AreFree}
+use Rattle.wp_model.specs.Legal.{NamesUndecided, AreFree, IsOrderlyNext, IsLegalNext, IsLegal}
 use Rattle.wp_model.specs.Versions.{AreInOrder, version_at}
 use Rattle.wp_model.proofs.Entries.{slice_get_old}
 use Rattle.wp_model.proofs.Found.{found_holder, found_named}
 use Rattle.wp_history.proofs.Held.{not_free, free_key}
 use Rattle.wp_cuts.specs.Cut.{Carried, Cut, carried_at, is_carried, base_value, changes_at, front_entry_of, front_entry, full_of}
-use Rattle.wp_cuts.specs.Orderly.{IsOrderlyNext, IsLawfulNext, IsLawful}
 use Rattle.wp_cuts.specs.LegalCut.{AreNumbered, AreApart, cut_front, prepares_of, IsLegalCut, AreBelow}
 use Rattle.wp_cuts.proofs.Following.{Follow, AreNaming}
 use Rattle.wp_cuts.proofs.Alike.{orderly_alike}
@@ -118,8 +117,8 @@ module _ (c : Cut) (versions : List Version) (order : AreInOrder versions) (belo
       let within = it.within in
       omega (arith, same, within))
 
-  front_lawful_by : (n : ℕ) → n < c.base → (o : Option Carried) → carried_at c (suc n) ≡ o → IsLawfulNext (front c versions n) (front_entry_of versions (suc n) o)
-  front_lawful_by n lt None is = record {
+  front_legal_by : (n : ℕ) → n < c.base → (o : Option Carried) → carried_at c (suc n) ≡ o → IsLegalNext (front c versions n) (front_entry_of versions (suc n) o)
+  front_legal_by n lt None is = record {
     orderly = record {
       ascending = changes_ascend versions (suc n) order;
       names_undecided = tt;
@@ -128,7 +127,7 @@ module _ (c : Cut) (versions : List Version) (order : AreInOrder versions) (belo
     };
     restores_prior = tt;
   }
-  front_lawful_by n lt (Some x) is = record {
+  front_legal_by n lt (Some x) is = record {
     orderly = record {
       ascending = apart.ascending (suc n) x is;
       names_undecided = tt;
@@ -147,10 +146,10 @@ prepares_naming c values legal =
     follow_full NamesUndecided c [] (λ n lt. start_names (front c [] n) (front_entry c [] (suc n)) (starts c [] (suc n)))
     (λ n entry at. subst (λ (h : List Entry). NamesUndecided h entry) (full_is (cut_front c n) []) (legal.orderly n entry at).names_undecided)
 
-pub full_is_lawful : (c : Cut) (versions : List Version) → AreInOrder versions → AreBelow c versions → IsLegalCut c (base_value c versions) → IsLawful (full_of c versions)
-full_is_lawful c versions order below legal = record {
+pub full_is_legal : (c : Cut) (versions : List Version) → AreInOrder versions → AreBelow c versions → IsLegalCut c (base_value c versions) → IsLegal (full_of c versions)
+full_is_legal c versions order below legal = record {
   few = omega (arith, legal.few, ap length (full_is c versions), length-append (front c versions c.base) c.entries, front_long c versions c.base);
-  each = follow_full IsLawfulNext c versions (λ n lt. front_lawful_by c versions order below legal.numbered legal.apart n lt (carried_at c (suc n)) refl) behind;
+  each = follow_full IsLegalNext c versions (λ n lt. front_legal_by c versions order below legal.numbered legal.apart n lt (carried_at c (suc n)) refl) behind;
 }
   where
     naming : (n : ℕ) → AreNaming (prepares_of (cut_front c n))
@@ -159,12 +158,12 @@ full_is_lawful c versions order below legal = record {
     numbered : (n : ℕ) → AreNumbered (cut_front c n)
     numbered n = front_numbered c n legal.numbered
 
-    behind : (n : ℕ) (entry : Entry) → slice_get c.entries n ≡ Some entry → IsLawfulNext (front c versions c.base ++ take n c.entries) entry
+    behind : (n : ℕ) (entry : Entry) → slice_get c.entries n ≡ Some entry → IsLegalNext (front c versions c.base ++ take n c.entries) entry
     behind n entry at =
         let d = cut_front c n in
         let stands = stands_for (prepares_of d) d versions (naming n) (full_is_cut d [] (numbered n)) in
         let orderly : IsOrderlyNext (full_of d versions) entry = orderly_alike (prepares_of d) (full_of d versions) entry stands.alike (legal.orderly n entry at) in
-        let P : List Entry → Type 0 = λ h. IsLawfulNext h entry in
+        let P : List Entry → Type 0 = λ h. IsLegalNext h entry in
         subst P (full_is d versions) (record {
           orderly = orderly;
           restores_prior = restores_to (full_of d versions) d (base_value c versions) stands.naming (full_is_cut d versions (numbered n)) (λ key. full_value d versions key (numbered n) order) entry orderly.names_undecided (legal.restores n entry at);
@@ -172,8 +171,8 @@ full_is_lawful c versions order below legal = record {
 
 -- ---- the other way round
 
-pub full_is_legal_cut : (c : Cut) (versions : List Version) → AreInOrder versions → AreNumbered c → IsLawful (full_of c versions) → IsLegalCut c (base_value c versions)
-full_is_legal_cut c versions order numbered lawful = cut_is_legal (full_of c versions) c (base_value c versions) lawful (full_is_cut c versions numbered) (λ key. full_value c versions key numbered order)
+pub full_is_legal_cut : (c : Cut) (versions : List Version) → AreInOrder versions → AreNumbered c → IsLegal (full_of c versions) → IsLegalCut c (base_value c versions)
+full_is_legal_cut c versions order numbered legal = cut_is_legal (full_of c versions) c (base_value c versions) legal (full_is_cut c versions numbered) (λ key. full_value c versions key numbered order)
 
 -- what the list has at a number up to the base may follow what it has below
 pub front_follows : (Next : List Entry → Entry → Type 0) (c : Cut) (versions : List Version) (n : ℕ) → n < c.base → Follow Next (full_of c versions) → Next (front c versions n) (front_entry c versions (suc n))
@@ -184,8 +183,8 @@ front_follows Next c versions n lt each =
     subst (λ (h : List Entry). Next h (front_entry c versions (suc n))) before
     (all n (front_entry c versions (suc n)) (slice_get_old (front c versions c.base) c.entries n (omega (arith, long)) ∙ front_at c versions c.base (suc n) (omega arith) (omega arith)))
 
-pub full_is_below : (c : Cut) (versions : List Version) → AreNumbered c → IsLawful (full_of c versions) → AreBelow c versions
-full_is_below c versions numbered lawful key q p value x there settled found changed =
+pub full_is_below : (c : Cut) (versions : List Version) → AreNumbered c → IsLegal (full_of c versions) → AreBelow c versions
+full_is_below c versions numbered legal key q p value x there settled found changed =
     elim (cases_order q p) [
       | inl same ↦ let no = (settled_parts c q settled).other in let yes : is_carried c q ≡ true = ap (is_carried c) same ∙ ap is_some found in absurd cc
       | inr apart ↦ elim apart [
@@ -200,10 +199,10 @@ full_is_below c versions numbered lawful key q p value x there settled found cha
     not_above : (m : ℕ) → 1 ≤ m → m ≤ c.base → is_carried c m ≡ false → version_at versions key m ≡ Some value → p < m → ⊥
     not_above zero first within other is above = absurd (omega arith)
     not_above (suc n) first within other is above =
-        let after = front_follows IsLawfulNext c versions n (omega arith) lawful.each in
+        let after = front_follows IsLegalNext c versions n (omega arith) legal.each in
         let held : is_changed (batch_at (front c versions n) p) key ≡ true = ap (λ (o : Option Entry). is_changed (prepared_batch o) key) (carried_entry c versions n p x low (omega arith) found) ∙ changed in
         by (carried_at c (suc n)) refl after (λ free. not_free (front c versions n) key p (carried_undecided c versions n p x low (omega arith) found) held (free_key (front c versions n) (changes_at versions (suc n)) key free (ap is_some (changes_to versions (suc n) key ∙ is))))
       where
-        by : (o : Option Carried) → carried_at c (suc n) ≡ o → IsLawfulNext (front c versions n) (front_entry_of versions (suc n) o) → (AreFree (front c versions n) (changes_at versions (suc n)) → ⊥) → ⊥
+        by : (o : Option Carried) → carried_at c (suc n) ≡ o → IsLegalNext (front c versions n) (front_entry_of versions (suc n) o) → (AreFree (front c versions n) (changes_at versions (suc n)) → ⊥) → ⊥
         by None e after never = never after.orderly.keys_are_free
         by (Some y) e after never = let yes : is_carried c (suc n) ≡ true = ap is_some e in absurd cc

@@ -1,4 +1,4 @@
--- A cut of a lawful list is legal, with the values that the list has at its base.
+-- A cut of a legal list is legal, with the values that the list has at its base.
 use Rattle.std.proofs.Common.{◌≡◌, ℕ, zero, suc, ◌+◌, ◌-◌, Bool, true, false, ◌==◌, cond, eqb, List, [], ◌∷◌, length, map, take, Option, Some, refl, sym, ap, ◌∙◌, inl, inr, arith}
 use Rattle.std.specs.Prelude.{slice_get}
 use Rattle.std.specs.List.{list_any, filter, find, range_with_len}
@@ -8,17 +8,17 @@ use Rattle.wp_model.specs.declared.entry.Entry.{Entry}
 use Rattle.wp_model.specs.declared.entry.Entry.TheVariants.{Prepare}
 use Rattle.wp_model.specs.Batch.{are_ascending}
 use Rattle.wp_model.specs.History.{entry_at, prepared_name, prepared_batch, batch_at, is_changed, is_undecided, undecided, value_at}
+use Rattle.wp_model.specs.Legal.{IsLegalNext, AreLegal, IsLegal}
 use Rattle.wp_model.proofs.Entries.{undecided_within, undecided_prepared}
 use Rattle.wp_history.proofs.Undecided.{is_undecided_by_list}
 use Rattle.wp_cuts.specs.Cut.{Carried, Cut, carried_from, IsCut, carried_at}
-use Rattle.wp_cuts.specs.Orderly.{IsLawfulNext, AreLawful, IsLawful}
 use Rattle.wp_cuts.specs.LegalCut.{AreApart, cut_front, IsLegalCut}
 use Rattle.wp_cuts.proofs.Following.{follow_take}
 use Rattle.wp_cuts.proofs.Decided.{slice_get_behind}
-use Rattle.wp_cuts.proofs.Agreeing.{lawful_naming, prepare_whole, cut_front_long, cut_whole}
+use Rattle.wp_cuts.proofs.Agreeing.{legal_naming, prepare_whole, cut_front_long, cut_whole}
 use Rattle.wp_cuts.proofs.Growing.{cut_carried, entries_long, front_is_cut, value_of_front}
 use Rattle.wp_cuts.proofs.Standing.{cut_numbered, orderly_from, restores_from}
-use Rattle.wp_cuts.proofs.Distinct.{lawful_distinct}
+use Rattle.wp_cuts.proofs.Distinct.{legal_distinct}
 
 -- ---- what a cut carries is undecided at its base, and the other way round
 
@@ -63,19 +63,19 @@ carried_is history c p x cut found =
 
 -- ---- its prepares fit one another
 
-ascending_in : (before : List Entry) (p : ℕ) → AreLawful before → is_undecided before p ≡ true → are_ascending (batch_at before p) ≡ true
+ascending_in : (before : List Entry) (p : ℕ) → AreLegal before → is_undecided before p ≡ true → are_ascending (batch_at before p) ≡ true
 ascending_in before zero each undecided_p = let low = (undecided_within before 0 undecided_p).0 in absurd (omega (arith, low))
 ascending_in before (suc i) each undecided_p =
     let at : slice_get before i ≡ Some (Prepare (prepared_name (entry_at before (suc i))) (prepared_batch (entry_at before (suc i)))) = prepare_whole (entry_at before (suc i)) (undecided_prepared before (suc i) undecided_p) in
     (each i (Prepare (prepared_name (entry_at before (suc i))) (prepared_batch (entry_at before (suc i)))) at).orderly.ascending
 
-are_apart : (history : List Entry) (c : Cut) → AreLawful history → IsCut history c → AreApart c
+are_apart : (history : List Entry) (c : Cut) → AreLegal history → IsCut history c → AreApart c
 are_apart history c each cut =
     let before = take c.base history in
-    let lawful : AreLawful before = follow_take IsLawfulNext c.base history each in
-    let distinct = lawful_distinct before lawful in
+    let legal : AreLegal before = follow_take IsLegalNext c.base history each in
+    let distinct = legal_distinct before legal in
     record {
-      ascending = λ p x found. let from = carried_is history c p x cut found in ap (λ (y : Carried). are_ascending y.batch) from.1 ∙ ascending_in before p lawful from.0;
+      ascending = λ p x found. let from = carried_is history c p x cut found in ap (λ (y : Carried). are_ascending y.batch) from.1 ∙ ascending_in before p legal from.0;
       names = λ p q x y found too same.
           let one = carried_is history c p x cut found in
           let other = carried_is history c q y cut too in
@@ -88,7 +88,7 @@ are_apart history c each cut =
 
 -- ---- the entries behind it
 
-module _ (history : List Entry) (c : Cut) (values : List ℕ → Option (List ℕ)) (lawful : IsLawful history) (cut : IsCut history c) (same : (key : List ℕ) → value_at history key c.base ≡ values key) where
+module _ (history : List Entry) (c : Cut) (values : List ℕ → Option (List ℕ)) (legal : IsLegal history) (cut : IsCut history c) (same : (key : List ℕ) → value_at history key c.base ≡ values key) where
   at_entry : (n : ℕ) (entry : Entry) → slice_get c.entries n ≡ Some entry → slice_get history (c.base + n) ≡ Some entry
   at_entry n entry at =
       let long = cut_front_long history c cut in
@@ -101,16 +101,16 @@ module _ (history : List Entry) (c : Cut) (values : List ℕ → Option (List �
   front_cut : (n : ℕ) (entry : Entry) → slice_get c.entries n ≡ Some entry → IsCut (take (c.base + n) history) (cut_front c n)
   front_cut n entry at = let lt = slice_get_within c.entries n entry at in front_is_cut history c n cut (omega (arith, lt))
 
-  front_lawful : (n : ℕ) → AreLawful (take (c.base + n) history)
-  front_lawful n = follow_take IsLawfulNext (c.base + n) history lawful.each
+  front_legal : (n : ℕ) → AreLegal (take (c.base + n) history)
+  front_legal n = follow_take IsLegalNext (c.base + n) history legal.each
 
   pub cut_is_legal : IsLegalCut c values
   cut_is_legal = record {
-    few = omega (arith, lawful.few, entries_long history c cut);
+    few = omega (arith, legal.few, entries_long history c cut);
     numbered = cut_numbered history c cut;
-    apart = are_apart history c lawful.each cut;
-    orderly = λ n entry at. orderly_from (take (c.base + n) history) (cut_front c n) entry (lawful_naming (take (c.base + n) history) (front_lawful n)) (front_cut n entry at) (lawful.each (c.base + n) entry (at_entry n entry at)).orderly;
+    apart = are_apart history c legal.each cut;
+    orderly = λ n entry at. orderly_from (take (c.base + n) history) (cut_front c n) entry (legal_naming (take (c.base + n) history) (front_legal n)) (front_cut n entry at) (legal.each (c.base + n) entry (at_entry n entry at)).orderly;
     restores = λ n entry at.
-        let after = lawful.each (c.base + n) entry (at_entry n entry at) in
-        restores_from (take (c.base + n) history) (cut_front c n) values (lawful_naming (take (c.base + n) history) (front_lawful n)) (front_cut n entry at) (λ key. value_of_front history c n key ∙ same key) entry after.orderly.names_undecided after.restores_prior;
+        let after = legal.each (c.base + n) entry (at_entry n entry at) in
+        restores_from (take (c.base + n) history) (cut_front c n) values (legal_naming (take (c.base + n) history) (front_legal n)) (front_cut n entry at) (λ key. value_of_front history c n key ∙ same key) entry after.orderly.names_undecided after.restores_prior;
   }

@@ -10,7 +10,6 @@ mod Standing
 mod Distinct
 mod LegalCuts
 mod FullLegal
-mod Lawful
 mod Settled
 mod Reopening
 mod Copying

@@ -12,18 +12,16 @@ use Rattle.wp_model.specs.Versions.{AreInOrder, version_at}
 use Rattle.wp_model.specs.Covered.{GivesStore, IsCovered}
 use Rattle.wp_history.proofs.Counting.{entry_version_old}
 use Rattle.wp_cuts.specs.Cut.{Carried, Cut, IsCut, carried_at, is_carried, is_settled, base_value, front_entry_of, full_of}
-use Rattle.wp_cuts.specs.Orderly.{IsLawful}
 use Rattle.wp_cuts.specs.LegalCut.{AreNumbered, IsLegalCut}
 use Rattle.wp_cuts.specs.Agree.{AgreeFrom}
 use Rattle.wp_cuts.specs.Reopened.{AreFromBase, IsReopened}
-use Rattle.wp_cuts.proofs.Lawful.{legal_lawful}
 use Rattle.wp_cuts.proofs.Decided.{by_committed}
-use Rattle.wp_cuts.proofs.Agreeing.{lawful_naming, cuts_agree}
+use Rattle.wp_cuts.proofs.Agreeing.{legal_naming, cuts_agree}
 use Rattle.wp_cuts.proofs.Versions.{changes_to}
 use Rattle.wp_cuts.proofs.FullList.{settled_parts, settled_from, front, full_is, front_long, front_at, full_is_cut, full_value, base_newest, base_none}
 use Rattle.wp_cuts.proofs.Standing.{cut_numbered, stands_for}
 use Rattle.wp_cuts.proofs.LegalCuts.{cut_is_legal}
-use Rattle.wp_cuts.proofs.FullLegal.{full_is_lawful}
+use Rattle.wp_cuts.proofs.FullLegal.{full_is_legal}
 use Rattle.wp_cuts.proofs.Settled.{is_carried_is, settled_committed, committed_settled, below}
 
 -- ---- what is committed
@@ -41,9 +39,6 @@ module _ (history : List Entry) (c : Cut) (versions : List Version) (legal : IsL
 
   abbrev full : List Entry
   full = full_of c versions
-
-  lawful : IsLawful history
-  lawful = legal_lawful history legal
 
   numbered : AreNumbered c
   numbered = cut_numbered history c cut
@@ -73,13 +68,13 @@ module _ (history : List Entry) (c : Cut) (versions : List Version) (legal : IsL
     -- ---- the full list
 
     legal_cut : IsLegalCut c (base_value c versions)
-    legal_cut = cut_is_legal history c (base_value c versions) lawful cut base_is
+    legal_cut = cut_is_legal history c (base_value c versions) legal cut base_is
 
-    full_lawful : IsLawful full
-    full_lawful = full_is_lawful c versions order (below history c versions legal cut covered.part) legal_cut
+    full_legal : IsLegal full
+    full_legal = full_is_legal c versions order (below history c versions legal cut covered.part) legal_cut
 
     agree : AgreeFrom history full c.base
-    agree = cuts_agree history full c (lawful_naming history lawful.each) (lawful_naming full full_lawful.each) cut (full_is_cut c versions numbered) (λ key. base_is key ∙ sym (full_value c versions key numbered order))
+    agree = cuts_agree history full c (legal_naming history legal.each) (legal_naming full full_legal.each) cut (full_is_cut c versions numbered) (λ key. base_is key ∙ sym (full_value c versions key numbered order))
 
     -- what the versions have the full list has
     settled_version : (key : List ℕ) (p : ℕ) → is_settled c p ≡ true → entry_version full p key ≡ version_at versions key p
@@ -143,13 +138,13 @@ module _ (history : List Entry) (c : Cut) (versions : List Version) (legal : IsL
 
     undecided_there : (key : List ℕ) (p : ℕ) (value : Option (List ℕ)) → is_undecided full p ≡ true → entry_version full p key ≡ Some value → version_at versions key p ≡ Some value
     undecided_there key p value undecided_p there =
-        let stands = stands_for history c versions (lawful_naming history lawful.each) cut in
+        let stands = stands_for history c versions (legal_naming history legal.each) cut in
         let here : is_undecided history p ≡ true = stands.alike.same p ∙ undecided_p in
         covered.undecided key p value here (ap (λ (o : Option Entry). version_in o key) (stands.alike.prepares p here) ∙ there)
 
     undone_there : (key : List ℕ) (p : ℕ) (value : Option (List ℕ)) → undone_last full ≡ Some p → entry_version full (length full) key ≡ Some value → version_at versions key (length full) ≡ Some value
     undone_there key p value undone there =
-        let stands = stands_for history c versions (lawful_naming history lawful.each) cut in
+        let stands = stands_for history c versions (legal_naming history legal.each) cut in
         let here : undone_last history ≡ Some p = stands.alike.undone ∙ undone in
         elim (cases_lt c.base (length history)) [
           | inl behind ↦
@@ -163,7 +158,7 @@ module _ (history : List Entry) (c : Cut) (versions : List Version) (legal : IsL
     reopened = record {
       legal = legal_cut;
       below = below history c versions legal cut covered.part;
-      lawful = full_lawful;
+      full = full_legal;
       values = base_is;
       agree = agree;
       covered = record {

@@ -1,15 +1,14 @@
 -- A legal cut, with the values at its base; and how the versions of a store lie below what it carries.
-use Rattle.std.specs.Prelude.{◌≡◌, ℕ, ◌+◌, ◌^◌, ◌<◌, ◌≤◌, true, List, [], length, map, take, fold, Option, Some, slice_get}
+use Rattle.std.specs.Prelude.{◌≡◌, ℕ, ◌+◌, ◌<◌, ◌≤◌, true, List, [], length, map, take, fold, Option, Some, slice_get}
 use Rattle.std.specs.List.{AllByRecursion}
 use Rattle.wp_model.specs.declared.entry.Entry.{Entry}
 use Rattle.wp_model.specs.declared.entry.Entry.TheVariants.{Undo}
 use Rattle.wp_model.specs.declared.version.Version.{Version}
 use Rattle.wp_model.specs.Batch.{key_of, are_ascending}
 use Rattle.wp_model.specs.History.{batch_at, is_changed, value_after}
-use Rattle.wp_model.specs.Legal.{change_that_leaves}
+use Rattle.wp_model.specs.Legal.{change_that_leaves, IsOrderlyNext, log_end}
 use Rattle.wp_model.specs.Versions.{version_at}
 use Rattle.wp_history.specs.Growth.{AreAscending}
-use Rattle.wp_cuts.specs.Orderly.{IsOrderlyNext}
 use Rattle.wp_cuts.specs.Cut.{Carried, Cut, carried_at, is_settled, full_of}
 
 -- ---- what a base carries
@@ -50,7 +49,7 @@ RestoresBehind c values other = Unit {0}
 -- The prepares that it carries fit one another, each entry may follow those before it, and each undo restores what a key
 -- had, where the values are those at the base.
 pub record IsLegalCut (c : Cut) (values : List ℕ → Option (List ℕ)) : Type 0 where
-  pub few : c.base + length c.entries < 2 ^ 56
+  pub few : c.base + length c.entries < log_end
   pub numbered : AreNumbered c
   pub apart : AreApart c
   pub orderly : (n : ℕ) (entry : Entry) → slice_get c.entries n ≡ Some entry → IsOrderlyNext (prepares_of (cut_front c n)) entry

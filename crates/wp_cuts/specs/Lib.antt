@@ -1,4 +1,3 @@
-pub mod Orderly
 pub mod Cut
 pub mod Agree
 pub mod LegalCut

@@ -4,8 +4,8 @@ use Rattle.wp_model.specs.History.{value_at}
 use Rattle.wp_model.specs.declared.entry.Entry.{Entry}
 use Rattle.wp_model.specs.declared.version.Version.{Version}
 use Rattle.wp_model.specs.Covered.{is_among, IsCovered}
+use Rattle.wp_model.specs.Legal.{IsLegal}
 use Rattle.wp_cuts.specs.Cut.{Cut, base_value, full_of}
-use Rattle.wp_cuts.specs.Orderly.{IsLawful}
 use Rattle.wp_cuts.specs.LegalCut.{IsLegalCut, AreBelow}
 use Rattle.wp_cuts.specs.Agree.{AgreeFrom}
 
@@ -20,7 +20,7 @@ pub record AreFromBase (history : List Entry) (base : ℕ) (numbers : List ℕ) 
 pub record IsReopened (history : List Entry) (c : Cut) (versions : List Version) (numbers : List ℕ) (from : ℕ) : Type 0 where
   pub legal : IsLegalCut c (base_value c versions)
   pub below : AreBelow c versions
-  pub lawful : IsLawful (full_of c versions)
+  pub full : IsLegal (full_of c versions)
   pub values : (key : List ℕ) → value_at history key c.base ≡ base_value c versions key
   pub agree : AgreeFrom history (full_of c versions) c.base
   pub covered : IsCovered versions (full_of c versions) numbers from

@@ -5,19 +5,18 @@ ghost use Rattle.wp_model.specs.declared.version.Version.{Version};
 ghost use Rattle.wp_model.specs.Covered.{IsCovered};
 ghost use Rattle.wp_model.specs.Flushed.{later_versions};
 ghost use Rattle.wp_model.specs.History.{value_at};
-ghost use Rattle.wp_model.specs.Legal.{IsLegal, undone_last};
+ghost use Rattle.wp_model.specs.Legal.{IsLegal, undone_last, IsOrderlyNext};
 ghost use Rattle.wp_model.specs.Versions.{AreInOrder};
 ghost use Rattle.wp_cuts.specs.Agree.{HaveSameValues, AgreeFrom};
 ghost use Rattle.wp_cuts.specs.Copied.{AreNewest};
 ghost use Rattle.wp_cuts.specs.Cut.{Cut, cut_at, IsCut, base_value, full_of};
 ghost use Rattle.wp_cuts.specs.Kept.{carried_versions, HasKeysAt, AreKept};
 ghost use Rattle.wp_cuts.specs.LegalCut.{AreNumbered, prepares_of, IsLegalCut, AreBelow};
-ghost use Rattle.wp_cuts.specs.Orderly.{IsOrderlyNext, IsLawful};
 ghost use Rattle.wp_cuts.specs.Reopened.{AreFromBase, IsReopened};
 
 /// Lists with one cut and the same values at its base agree from there on, whatever stands below it.
 pub fn cuts_agree()
-    ensures { (one other : List Entry) (c : Cut) → IsLawful one → IsLawful other → IsCut one c → IsCut other c
+    ensures { (one other : List Entry) (c : Cut) → IsLegal one → IsLegal other → IsCut one c → IsCut other c
         → HaveSameValues one other c.base → AgreeFrom one other c.base }
 {}
 
@@ -38,21 +37,20 @@ pub fn full_list_has_the_cut()
 
 /// What is orderly behind a cut, by the prepares alone, is that behind each list with this cut.
 pub fn what_may_follow_a_cut()
-    ensures { (history : List Entry) (c : Cut) (entry : Entry) → IsLawful history → IsCut history c
+    ensures { (history : List Entry) (c : Cut) (entry : Entry) → IsLegal history → IsCut history c
         → (IsOrderlyNext (prepares_of c) entry ↔ IsOrderlyNext history entry) }
 {}
 
-/// A cut is legal, with a store's versions below what it carries, exactly where its full list is lawful.
+/// A cut is legal, with a store's versions below what it carries, exactly where its full list is legal.
 pub fn legal_cuts()
     ensures full { (c : Cut) (versions : List Version) → AreInOrder versions → AreBelow c versions
-        → IsLegalCut c (base_value c versions) → IsLawful (full_of c versions) }
+        → IsLegalCut c (base_value c versions) → IsLegal (full_of c versions) }
     ensures legal { (c : Cut) (versions : List Version) → AreInOrder versions → AreNumbered c
-        → IsLawful (full_of c versions) → IsLegalCut c (base_value c versions) }
-    ensures below { (c : Cut) (versions : List Version) → AreNumbered c → IsLawful (full_of c versions)
+        → IsLegal (full_of c versions) → IsLegalCut c (base_value c versions) }
+    ensures below { (c : Cut) (versions : List Version) → AreNumbered c → IsLegal (full_of c versions)
         → AreBelow c versions }
-    ensures any { (history : List Entry) (c : Cut) → IsLawful history → IsCut history c
+    ensures any { (history : List Entry) (c : Cut) → IsLegal history → IsCut history c
         → IsLegalCut c (λ key. value_at history key c.base) }
-    ensures lawful { (history : List Entry) → IsLegal history → IsLawful history }
 {}
 
 /// The newest versions at the end of a legal history, with those of its undecided prepares, cover it there, and open its

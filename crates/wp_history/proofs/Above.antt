@@ -119,14 +119,14 @@ undo_changes history p batch key restores =
 
 -- what an entry changes under a key that an undecided prepare holds: nothing, or the entry undoes that prepare
 kept_under_held : (history : List Entry) (entry : Entry) (key : List ℕ) (p : ℕ) → NoneAbove history → IsLegalNext history entry → Holds history key p → (change_to (changes_in entry) key ≡ None) ⊎ (undone_by entry ≡ Some p)
-kept_under_held history (Write batch) key p none after holds = inl (not_changed batch key (λ changed. not_free history key p holds.undecided holds.changed (free_key history batch key after.keys_are_free changed)))
-kept_under_held history (Prepare name batch) key p none after holds = inl (not_changed batch key (λ changed. not_free history key p holds.undecided holds.changed (free_key history batch key after.keys_are_free.0 changed)))
+kept_under_held history (Write batch) key p none after holds = inl (not_changed batch key (λ changed. not_free history key p holds.undecided holds.changed (free_key history batch key after.orderly.keys_are_free changed)))
+kept_under_held history (Prepare name batch) key p none after holds = inl (not_changed batch key (λ changed. not_free history key p holds.undecided holds.changed (free_key history batch key after.orderly.keys_are_free.0 changed)))
 kept_under_held history (Commit q) key p none after holds = inl refl
 kept_under_held history (Undo q batch) key p none after holds =
     elim (cases_Bool (is_changed batch key)) [
       | inl changed ↦
-          let other : Holds history key q = record { undecided = after.names_undecided; changed = sym (undo_changes history q batch key after.restores_prior) ∙ changed } in
-          let same : q ≡ p = same_holder history key p q none after.undo_is_closed holds other in
+          let other : Holds history key q = record { undecided = after.orderly.names_undecided; changed = sym (undo_changes history q batch key after.restores_prior) ∙ changed } in
+          let same : q ≡ p = same_holder history key p q none after.orderly.undo_is_closed holds other in
           inr (ap (λ (r : ℕ). Some r) same)
       | inr not_it ↦ inl (not_changed batch key (λ changed. absurd cc))
     ]
@@ -140,7 +140,7 @@ none_above_at history entry key p q none after holds other lt =
         | inr undone ↦ inr (next ∙ sym (length_next history entry), undone_next history entry ∙ undone)
       ]
       | inr apart ↦ elim apart [
-        | inl below ↦ inl (entry_version_old history (entry ∷ []) q key (omega arith) ∙ none_above_others history entry key p q none after.undo_is_closed holds other lt)
+        | inl below ↦ inl (entry_version_old history (entry ∷ []) q key (omega arith) ∙ none_above_others history entry key p q none after.orderly.undo_is_closed holds other lt)
         | inr past ↦ inl (entry_version_past (history ++ entry ∷ []) q key (omega (arith, length_next history entry)))
       ]
     ]

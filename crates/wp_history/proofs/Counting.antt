@@ -78,7 +78,7 @@ decided_after history p i legal at =
     let found = position-Some (decides p) history i (Commit 0) at in
     let here = get_or history i (Commit 0) in
     let after : IsLegalNext (take i history) here = legal.each i here (slice_get-get_or history i (Commit 0) found.0) in
-    let within = undecided_within (take i history) p (decides_undecided (take i history) here p after.names_undecided found.1) in
+    let within = undecided_within (take i history) p (decides_undecided (take i history) here p after.orderly.names_undecided found.1) in
     (found.0, omega (arith, within.1, length-take-le i history (omega (arith, found.0))), found.1)
 
 counted : (front more : List Entry) (p by : ℕ) (at : Option Entry) → IsLegal (front ++ more) → decision_in (front ++ more) p at ≡ Some by → by ≤ length front → (p ≤ length front) × (is_some (decision_in front p at) ≡ true)

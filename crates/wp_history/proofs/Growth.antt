@@ -102,4 +102,4 @@ decided_prepared_next history entry names before p h =
 
 pub decided_prepared : (history : List Entry) → IsLegal history → (p : ℕ) → list_any (decides p) history ≡ true → is_prepare (entry_at history p) ≡ true
 unfolding IsPreparedWhereDecided
-decided_prepared history legal = by_growth IsPreparedWhereDecided (λ p h. absurd cc) (λ h entry _ _ after before. decided_prepared_next h entry after.names_undecided before) history legal
+decided_prepared history legal = by_growth IsPreparedWhereDecided (λ p h. absurd cc) (λ h entry _ _ after before. decided_prepared_next h entry after.orderly.names_undecided before) history legal

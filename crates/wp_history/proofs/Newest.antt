@@ -46,7 +46,7 @@ unfolding IsNewestAmongMore
 newest_among_none more key = refl
 
 newest_among_more : (history : List Entry) → IsLegal history → IsNewestAmongMore history
-newest_among_more history legal = by_growth IsNewestAmongMore newest_among_none (λ h entry _ _ after among. among_more_next h entry after.names_undecided among) history legal
+newest_among_more history legal = by_growth IsNewestAmongMore newest_among_none (λ h entry _ _ after among. among_more_next h entry after.orderly.names_undecided among) history legal
 
 -- one entry more changes the store by what it commits
 pub newest_next : (history : List Entry) (entry : Entry) (key : List ℕ) → IsLegal history → NamesUndecided history entry → newest (history ++ entry ∷ []) key ≡ value_after history key (newest history key) entry
@@ -72,8 +72,8 @@ newest_at : (history : List Entry) (key : List ℕ) (i : ℕ) (here : Entry) →
 newest_at history key i here legal lt is =
     let after : IsLegalNext (take i history) here = after_at history i here legal lt is in
     ap (λ (h : List Entry). newest h key) (take_next history i here lt is)
-    ∙ newest_next (take i history) here key (legal_take history i legal) after.names_undecided
-    ∙ ap (λ (changes : List Change). unwrap_or (change_to changes key) (newest (take i history) key)) (changes_here history i here after.names_undecided)
+    ∙ newest_next (take i history) here key (legal_take history i legal) after.orderly.names_undecided
+    ∙ ap (λ (changes : List Change). unwrap_or (change_to changes key) (newest (take i history) key)) (changes_here history i here after.orderly.names_undecided)
 
 pub unchanged_at : (history : List Entry) (key : List ℕ) (i j : ℕ) (here : Entry) → IsLegal history → j ≡ i + 1 → i < length history → here ≡ get_or history i here → change_to (changes_of history here) key ≡ None
     → newest (take j history) key ≡ newest (take i history) key

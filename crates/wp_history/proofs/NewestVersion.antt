@@ -142,7 +142,7 @@ restored_same None value = refl
 restored_same (Some x) value = refl
 
 undo_keeps_store : (history : List Entry) (p : ℕ) (batch : List Change) (key : List ℕ) → IsLegal history → IsLegalNext history (Undo p batch) → newest (history ++ Undo p batch ∷ []) key ≡ newest history key
-undo_keeps_store history p batch key legal after = newest_next history (Undo p batch) key legal after.names_undecided
+undo_keeps_store history p batch key legal after = newest_next history (Undo p batch) key legal after.orderly.names_undecided
 
 -- what an undo holds under a key of its prepare
 undone_to : (history : List Entry) (p : ℕ) (batch : List Change) (key : List ℕ) → batch ≡ prior history (batch_at history p) → change_to batch key ≡ option_map (λ _. newest history key) (change_to (batch_at history p) key)
@@ -158,17 +158,17 @@ undo_lawful history p batch key legal after lawful =
 commit_lawful : (history : List Entry) (p : ℕ) (key : List ℕ) → IsLegal history → NoneAbove history → IsLegalNext history (Commit p) → IsLawful history key → IsLawful (history ++ Commit p ∷ []) key
 commit_lawful history p key legal none after lawful =
     let grown = history ++ Commit p ∷ [] in
-    let value = newest_next history (Commit p) key legal after.names_undecided in
+    let value = newest_next history (Commit p) key legal after.orderly.names_undecided in
     let next = next_version history (Commit p) key in
     elim (change_to (batch_at history p) key) as (λ change. change_to (batch_at history p) key ≡ change → IsLawful grown key) [
-      | None ↦ λ e. lawful_same history grown key lawful (same_versions history (Commit p) key next (nothing_decided history (Commit p) key p e after.names_undecided (λ q. eqb-true p q))) (value ∙ ap (λ (c : Option (Option (List ℕ))). unwrap_or c (newest history key)) e)
+      | None ↦ λ e. lawful_same history grown key lawful (same_versions history (Commit p) key next (nothing_decided history (Commit p) key p e after.orderly.names_undecided (λ q. eqb-true p q))) (value ∙ ap (λ (c : Option (Option (List ℕ))). unwrap_or c (newest history key)) e)
       | Some x ↦ λ e.
           let store : newest grown key ≡ x = value ∙ ap (λ (c : Option (Option (List ℕ))). unwrap_or c (newest history key)) e in
-          let version : committed_version grown p key ≡ Some x = decided_version history (Commit p) p key after.names_undecided (eq-eqb p p refl) ∙ undecided_version history key p after.names_undecided ∙ e in
-          let holds : Holds history key p = record { undecided = after.names_undecided; changed = is_changed_from (batch_at history p) key x e } in
+          let version : committed_version grown p key ≡ Some x = decided_version history (Commit p) p key after.orderly.names_undecided (eq-eqb p p refl) ∙ undecided_version history key p after.orderly.names_undecided ∙ e in
+          let holds : Holds history key p = record { undecided = after.orderly.names_undecided; changed = is_changed_from (batch_at history p) key x e } in
           lawful_top grown key p (version ∙ ap (λ (v : Option (List ℕ)). Some v) (sym store)) (λ q lt. elim (cases_lt (length history) q) [
             | inl past ↦ nothing_past history (Commit p) key next q past
-            | inr le ↦ no_version_counts grown q key (entry_version_old history (Commit p ∷ []) q key le ∙ none_above history key p q none after.undo_is_closed holds lt)
+            | inr le ↦ no_version_counts grown q key (entry_version_old history (Commit p ∷ []) q key le ∙ none_above history key p q none after.orderly.undo_is_closed holds lt)
           ])
     ] refl
 
@@ -182,7 +182,7 @@ undo_version front p batch key x legal changed =
     let history = front ++ Undo p batch ∷ [] in
     let before : IsLegal front = legal_before front (Undo p batch ∷ []) legal in
     let after : IsLegalNext front (Undo p batch) = after_front front (Undo p batch) [] legal in
-    let within : p ≤ length front = (undecided_within front p after.names_undecided).1 in
+    let within : p ≤ length front = (undecided_within front p after.orderly.names_undecided).1 in
     let old : change_to (batch_at front p) key ≡ Some x = ap (λ (changes : List Change). change_to changes key) (sym (batch_at_old front (Undo p batch ∷ []) p within)) ∙ changed in
     let held : change_to batch key ≡ Some (newest front key) = undone_to front p batch key after.restores_prior ∙ ap (option_map (λ _. newest front key)) old in
     record {
@@ -199,12 +199,12 @@ ends_undone history p key x legal undone changed =
 close_lawful : (history : List Entry) (p : ℕ) (key : List ℕ) → IsLegal history → IsLegalNext history (Close p) → IsLawful history key → IsLawful (history ++ Close p ∷ []) key
 close_lawful history p key legal after lawful =
     let grown = history ++ Close p ∷ [] in
-    let value : newest grown key ≡ newest history key = newest_next history (Close p) key legal after.names_undecided in
+    let value : newest grown key ≡ newest history key = newest_next history (Close p) key legal after.orderly.names_undecided in
     let next = next_version history (Close p) key in
     elim (change_to (batch_at history p) key) as (λ change. change_to (batch_at history p) key ≡ change → IsLawful grown key) [
-      | None ↦ λ e. lawful_same history grown key lawful (same_versions history (Close p) key next (nothing_decided history (Close p) key p e after.names_undecided (λ q. eqb-true p q))) value
+      | None ↦ λ e. lawful_same history grown key lawful (same_versions history (Close p) key next (nothing_decided history (Close p) key p e after.orderly.names_undecided (λ q. eqb-true p q))) value
       | Some x ↦ λ e.
-          let last = ends_undone history p key x legal after.undo_is_closed e in
+          let last = ends_undone history p key x legal after.orderly.undo_is_closed e in
           let below = last.below in
           let other : decides (length history) (Close p) ≡ false = ne_eqb p (length history) (λ same. omega arith) in
           lawful_top grown key (length history) (version_stays history (Close p) (length history) key (omega arith) other ∙ last.version ∙ ap (λ (v : Option (List ℕ)). Some v) (sym value)) (nothing_past history (Close p) key next)

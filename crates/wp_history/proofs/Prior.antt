@@ -15,7 +15,7 @@ use Rattle.wp_model.specs.declared.entry.Entry.{Entry}
 use Rattle.wp_model.specs.Batch.{key_cmp, key_of, with_change, are_ascending, is_batch}
 use Rattle.wp_model.specs.History.{newest, value_at}
 use Rattle.wp_model.specs.Legal.{change_that_leaves, prior}
-use Rattle.wp_model.proofs.BatchLemmas.{less_from_test, ascending_rest}
+use Rattle.wp_model.proofs.BatchLemmas.{less_from_test, ascending_rest, batch_ascends}
 use Rattle.wp_model.proofs.Entries.{left_key}
 
 -- ---- one change
@@ -92,7 +92,7 @@ prior_take history changes i here lt is =
 pub prior_more : (history : List Entry) (changes : List Change) (i : ℕ) (here : Change) → i < length changes → here ≡ get_or changes i here → is_batch changes ≡ true
     → with_change (prior history (take i changes)) (restored history here) ≡ prior history (take (i + 1) changes)
 prior_more history changes i here lt is batch =
-    let whole : are_ascending (take (i + 1) changes ++ drop (i + 1) changes) ≡ true = rw (take-append-drop (i + 1) changes) (and_parts (nat_le (length changes) MOST_KEYS) (are_ascending changes) batch).1 in
+    let whole : are_ascending (take (i + 1) changes ++ drop (i + 1) changes) ≡ true = rw (take-append-drop (i + 1) changes) (batch_ascends changes batch) in
     let front : are_ascending (prior history (take (i + 1) changes)) ≡ true = prior_ascending history (take (i + 1) changes) ∙ ascending_front (take (i + 1) changes) (drop (i + 1) changes) whole in
     let step = prior_take history changes i here lt is in
     with_change_last (prior history (take i changes)) (restored history here) (ap are_ascending (sym step) ∙ front) ∙ sym step

@@ -123,11 +123,13 @@ undo_undoes (first ∷ second ∷ others) p batch = undo_undoes (second ∷ othe
 
 pub close_follows : (history : List Entry) (p : ℕ) (batch : List Change) → IsLegalNext history (Undo p batch) → IsLegalNext (history ++ Undo p batch ∷ []) (Close p)
 close_follows history p batch after = record {
-  batch = refl;
-  names_undecided = undecided_old history (Undo p batch) p (undecided_within history p after.names_undecided).1 ∙ and_from _ true after.names_undecided refl;
-  undo_is_closed = undo_undoes history p batch;
+  orderly = record {
+    ascending = refl;
+    names_undecided = undecided_old history (Undo p batch) p (undecided_within history p after.orderly.names_undecided).1 ∙ and_from _ true after.orderly.names_undecided refl;
+    undo_is_closed = undo_undoes history p batch;
+    keys_are_free = tt;
+  };
   restores_prior = tt;
-  keys_are_free = tt;
 }
 
 -- ---- the numbers that are kept
@@ -139,5 +141,5 @@ grows_with history old numbers entry n grown left kept same after number few gro
     let kept_old : IsLegalWith old numbers = subst (λ (h : List Entry). IsLegalWith h numbers) same kept in
     record {
       legal = rw (grown-is, same) (legal_next old entry kept_old.legal after few);
-      numbered = rw (left-is, grown-is, same, kept_old.numbered, number) (sym (undecided_next old entry kept_old.legal after.names_undecided));
+      numbered = rw (left-is, grown-is, same, kept_old.numbered, number) (sym (undecided_next old entry kept_old.legal after.orderly.names_undecided));
     }

@@ -1,8 +1,7 @@
 //! Which entry may follow those of a history.
 ghost use Rattle.std.specs.Prelude.{◌≡◌, ◌↔◌, true};
-ghost use Rattle.wp_model.specs.Batch.{is_batch};
 ghost use Rattle.wp_model.specs.History.{is_undecided, batch_at, newest};
-ghost use Rattle.wp_model.specs.Legal.{AreFree, IsLegalNext, UndoIsClosed, undone_last, change_that_leaves, prior};
+ghost use Rattle.wp_model.specs.Legal.{AreFree, IsLegalNext, IsOrderlyNext, RestoresPrior, UndoIsClosed, undone_last, change_that_leaves, prior};
 ghost use Rattle.wp_history.specs.Growth.{undone_by};
 
 use crate::history::History;
@@ -23,15 +22,34 @@ impl History {
     pub fn is_legal_next(&self, entry: &Entry) -> bool
         ensures { (result ≡ true) ↔ IsLegalNext self.now.entries entry.now }
     {
+        self.is_orderly_next(entry) && self.restores_prior(entry)
+    }
+
+    /// Whether the entry may follow those of the history, but for what an undo restores.
+    fn is_orderly_next(&self, entry: &Entry) -> bool
+        ensures { (result ≡ true) ↔ IsOrderlyNext self.now.entries entry.now }
+    {
+        let changes = entry.changes();
         if !self.is_closed_by(entry) {
             return false;
         }
         match entry {
-            Entry::Write(batch) => self.are_free(batch),
-            Entry::Prepare(name, batch) => self.are_free(batch) && self.named(name).is_none(),
+            Entry::Write(_) => self.are_free(changes),
+            Entry::Prepare(name, _) => self.are_free(changes) && self.named(name).is_none(),
             Entry::Commit(p) => self.is_undecided(*p),
-            Entry::Undo(p, batch) => self.is_undecided(*p) && self.is_prior(*p, batch),
+            Entry::Undo(p, _) => self.is_undecided(*p),
             Entry::Close(p) => self.is_undecided(*p),
+        }
+    }
+
+    /// Whether the entry, if it is an undo, holds what the keys of its prepare have in the store.
+    fn restores_prior(&self, entry: &Entry) -> bool
+        requires { IsOrderlyNext self.now.entries entry.now }
+        ensures { (result ≡ true) ↔ RestoresPrior self.now.entries entry.now }
+    {
+        match entry {
+            Entry::Undo(p, batch) => self.is_prior(*p, batch),
+            Entry::Write(_) | Entry::Prepare(_, _) | Entry::Commit(_) | Entry::Close(_) => true,
         }
     }
 
@@ -55,11 +73,11 @@ impl History {
         undone_by(self.entries().last()?)
     }
 
-    fn are_free(&self, batch: &Batch) -> bool
-        ensures free { (result ≡ true) ↔ AreFree self.now.entries batch.now }
-        ensures batch { is_batch batch.now ≡ true }
+    /// Whether no undecided prepare holds a key of the changes.
+    fn are_free(&self, changes: &[Change]) -> bool
+        ensures { (result ≡ true) ↔ AreFree self.now.entries changes.now }
     {
-        for change in batch.changes() {
+        for change in changes {
             if self.holder_of(change.key()).is_some() {
                 return false;
             }
@@ -70,8 +88,7 @@ impl History {
     /// Whether the batch holds what the keys of an undecided prepare have in the store.
     fn is_prior(&self, p: Seq, batch: &Batch) -> bool
         requires { is_undecided self.now.entries p ≡ true }
-        ensures prior { (result ≡ true) ↔ (batch.now ≡ prior self.now.entries (batch_at self.now.entries p)) }
-        ensures batch { is_batch batch.now ≡ true }
+        ensures { (result ≡ true) ↔ (batch.now ≡ prior self.now.entries (batch_at self.now.entries p)) }
     {
         let prepared = self.batch_at(p).changes();
         let restored = batch.changes();

@@ -1,15 +1,13 @@
 -- Lists of versions, and how many are in them.
-use Rattle.std.proofs.Common.{◌≡◌, inl, inr, ℕ, zero, suc, ◌≤◌, nat_le, ◌==◌, Bool, true, false, cond, ne_eqb, Less, Equal, Greater, List, [], ◌∷◌, ◌++◌, length, drop, Option, Some, None, refl, sym, subst, ap, ◌∙◌, arith}
+use Rattle.std.proofs.Common.{◌≡◌, inl, inr, ℕ, zero, suc, ◌≤◌, ◌==◌, Bool, true, false, cond, ne_eqb, Less, Equal, Greater, List, [], ◌∷◌, ◌++◌, length, drop, Option, Some, None, refl, sym, subst, ap, ◌∙◌, arith}
 use Rattle.std.specs.declared.cmp.Ordering.{Ordering}
 use Rattle.std.specs.Prelude.{slice_get}
 use Rattle.std.specs.List.{list_all}
 use Rattle.std.specs.Option.{option_or}
-use Rattle.std.proofs.lemmas.Bool.{and_parts}
 use Rattle.wp_model.specs.declared.change.Change.{Change}
 use Rattle.wp_model.specs.declared.entry.Entry.{Entry}
 use Rattle.wp_model.specs.declared.version.Version.{Version}
-use Rattle.wp_model.specs.Batch.{key_of, change_to, are_ascending, is_batch}
-use Rattle.wp_model.specs.declared.batch.TheConstants.{MOST_KEYS}
+use Rattle.wp_model.specs.Batch.{key_of, change_to, are_ascending}
 use Rattle.wp_model.specs.Flushed.{versions_under, versions_after, later_versions}
 use Rattle.wp_model.specs.Legal.{IsLegal, changes_in}
 use Rattle.wp_model.specs.Versions.{AreInOrder, version_cmp, version_at}
@@ -153,26 +151,26 @@ distinct_under n (first ∷ others) rest ascending none distinct = (
     same true = refl
     same false = refl
 
--- each of the entries has a batch
-abbrev pub HaveBatches : List Entry → Type 0
-HaveBatches [] = Unit {0}
-HaveBatches (entry ∷ entries) = (is_batch (changes_in entry) ≡ true) × HaveBatches entries
+-- the changes of each of the entries ascend
+abbrev pub AscendInEach : List Entry → Type 0
+AscendInEach [] = Unit {0}
+AscendInEach (entry ∷ entries) = (are_ascending (changes_in entry) ≡ true) × AscendInEach entries
 
-pub distinct_after : (n : ℕ) (entries : List Entry) → HaveBatches entries → Distinct (versions_after n entries)
-distinct_after n [] batches = tt
-distinct_after n (entry ∷ entries) batches =
-    distinct_under (suc n) (changes_in entry) (versions_after (suc n) entries) (and_parts (nat_le (length (changes_in entry)) MOST_KEYS) (are_ascending (changes_in entry)) batches.0).1
-    (λ key. after_low (suc n) entries key (suc n) (omega arith)) (distinct_after (suc n) entries batches.1)
+pub distinct_after : (n : ℕ) (entries : List Entry) → AscendInEach entries → Distinct (versions_after n entries)
+distinct_after n [] each = tt
+distinct_after n (entry ∷ entries) each =
+    distinct_under (suc n) (changes_in entry) (versions_after (suc n) entries) each.0
+    (λ key. after_low (suc n) entries key (suc n) (omega arith)) (distinct_after (suc n) entries each.1)
 
-pub batches_from : (history entries : List Entry) → ((n : ℕ) (entry : Entry) → slice_get entries n ≡ Some entry → is_batch (changes_in entry) ≡ true) → HaveBatches entries
-batches_from history [] each = tt
-batches_from history (entry ∷ entries) each = (each 0 entry refl, batches_from history entries (λ n e there. each (suc n) e there))
+pub ascend_from : (history entries : List Entry) → ((n : ℕ) (entry : Entry) → slice_get entries n ≡ Some entry → are_ascending (changes_in entry) ≡ true) → AscendInEach entries
+ascend_from history [] each = tt
+ascend_from history (entry ∷ entries) each = (each 0 entry refl, ascend_from history entries (λ n e there. each (suc n) e there))
 
-batches_dropped : (n : ℕ) (entries : List Entry) → HaveBatches entries → HaveBatches (drop n entries)
-batches_dropped zero entries batches = batches
-batches_dropped (suc n) [] batches = tt
-batches_dropped (suc n) (entry ∷ entries) batches = batches_dropped n entries batches.1
+ascend_dropped : (n : ℕ) (entries : List Entry) → AscendInEach entries → AscendInEach (drop n entries)
+ascend_dropped zero entries each = each
+ascend_dropped (suc n) [] each = tt
+ascend_dropped (suc n) (entry ∷ entries) each = ascend_dropped n entries each.1
 
 pub distinct_later : (history : List Entry) (n : ℕ) → IsLegal history → Distinct (later_versions history n)
 distinct_later history n legal =
-    distinct_after n (drop n history) (batches_dropped n history (batches_from history history (λ m entry there. (legal.each m entry there).batch)))
+    distinct_after n (drop n history) (ascend_dropped n history (ascend_from history history (λ m entry there. (legal.each m entry there).orderly.ascending)))

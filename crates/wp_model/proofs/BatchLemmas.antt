@@ -132,6 +132,9 @@ changed_at changes key i here lt is same passed =
 
 -- ---- batches
 
+pub batch_ascends : (changes : List Change) → is_batch changes ≡ true → are_ascending changes ≡ true
+batch_ascends changes h = (and_parts (leb (length changes) MOST_KEYS) (are_ascending changes) h).1
+
 pub batch_changed : (changes : List Change) (i : ℕ) (change : Change) → is_batch changes ≡ true → IsChangedAt changes (key_of change) i → is_batch (set changes i change) ≡ true
 batch_changed changes i change h place =
     let parts = and_parts (leb (length changes) MOST_KEYS) (are_ascending changes) h in

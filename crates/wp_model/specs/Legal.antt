@@ -4,7 +4,7 @@ use Rattle.wp_model.specs.declared.change.Change.{Change}
 use Rattle.wp_model.specs.declared.change.Change.TheVariants.{Put, Del}
 use Rattle.wp_model.specs.declared.entry.Entry.{Entry}
 use Rattle.wp_model.specs.declared.entry.Entry.TheVariants.{Write, Prepare, Commit, Undo, Close}
-use Rattle.wp_model.specs.Batch.{key_of, is_batch}
+use Rattle.wp_model.specs.Batch.{key_of, are_ascending}
 use Rattle.wp_model.specs.History.{batch_at, is_undecided, named, holder_of, newest}
 
 -- ---- what an entry changes
@@ -64,13 +64,18 @@ KeysAreFree before other = Unit {0}
 
 -- ---- together
 
--- the entry may come right after these
-pub record IsLegalNext (before : List Entry) (entry : Entry) : Type 0 where
-  pub batch : is_batch (changes_in entry) ≡ true
+-- The entry may come right after these, but for what an undo restores: that alone looks at values, all else at the prepares
+-- that are undecided.
+pub record IsOrderlyNext (before : List Entry) (entry : Entry) : Type 0 where
+  pub ascending : are_ascending (changes_in entry) ≡ true
   pub names_undecided : NamesUndecided before entry
   pub undo_is_closed : UndoIsClosed before entry
-  pub restores_prior : RestoresPrior before entry
   pub keys_are_free : KeysAreFree before entry
+
+-- the entry may come right after these, however many changes it has
+pub record IsLegalNext (before : List Entry) (entry : Entry) : Type 0 where
+  pub orderly : IsOrderlyNext before entry
+  pub restores_prior : RestoresPrior before entry
 
 -- each entry may follow those before it
 abbrev pub AreLegal : List Entry → Type 0

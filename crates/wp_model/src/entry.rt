@@ -1,7 +1,10 @@
-ghost use Rattle.std.specs.Prelude.{◌≡◌, IfOk};
+ghost use Rattle.std.specs.Prelude.{◌≡◌, true, IfOk};
+ghost use Rattle.wp_model.specs.Batch.{are_ascending};
+ghost use Rattle.wp_model.specs.Legal.{changes_in};
 
 use crate::Seq;
 use crate::batch::Batch;
+use crate::change::Change;
 use crate::word::Name;
 use std::alloc::{AllocError, Global};
 
@@ -21,6 +24,20 @@ pub enum Entry {
 }
 
 impl Entry {
+    /// The changes of the entry, committed or not, in the order of their keys.
+    #[tactic(auto, using(crate::proofs::BatchLemmas::batch_ascends))]
+    pub fn changes(&self) -> &[Change]
+        ensures value { result.now ≡ changes_in self.now }
+        ensures ascending { are_ascending (changes_in self.now) ≡ true }
+    {
+        match self {
+            Entry::Write(batch) | Entry::Prepare(_, batch) | Entry::Undo(_, batch) => {
+                batch.changes()
+            }
+            Entry::Commit(_) | Entry::Close(_) => &[],
+        }
+    }
+
     /// The same entry once more.
     pub fn copy(&self, alloc: Global) -> Result<Entry, AllocError>
         ensures { IfOk result (λ entry. entry ≡ self.now) }

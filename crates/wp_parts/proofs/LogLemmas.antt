@@ -42,10 +42,10 @@ pub form_next : (history entries : List Entry) → IsOneRecord entries → IsLeg
 form_next history (entry.Write batch ∷ []) one legal = omega (arith, legal.few, length-append history (entry.Write batch ∷ []))
 form_next history (entry.Prepare name batch ∷ []) one legal = omega (arith, legal.few, length-append history (entry.Prepare name batch ∷ []))
 form_next history (entry.Commit p ∷ []) one legal =
-    (earlier history p (after_front history (entry.Commit p) [] legal).names_undecided, omega (arith, legal.few, length-append history (entry.Commit p ∷ [])))
+    (earlier history p (after_front history (entry.Commit p) [] legal).orderly.names_undecided, omega (arith, legal.few, length-append history (entry.Commit p ∷ [])))
 form_next history (entry.Undo p batch ∷ entry.Close q ∷ []) one legal = record {
   same = one;
-  earlier = earlier history p (after_front history (entry.Undo p batch) (entry.Close q ∷ []) legal).names_undecided;
+  earlier = earlier history p (after_front history (entry.Undo p batch) (entry.Close q ∷ []) legal).orderly.names_undecided;
   small = omega (arith, legal.few, length-append history (entry.Undo p batch ∷ entry.Close q ∷ []));
 }
 form_next history others one legal = absurd one

@@ -18,10 +18,10 @@ use Rattle.wp_core.proofs.Tests.{same_some}
 
 -- what comes next and does not decide the prepare commits no change of its keys
 commits_none : (history : List Entry) → IsLegal history → (entry : Entry) → IsLegalNext history entry → (p : ℕ) (key : List ℕ) → is_undecided history p ≡ true → is_changed (batch_at history p) key ≡ true → decides p entry ≡ false → change_to (changes_of history entry) key ≡ None
-commits_none history legal (Write batch) next p key u changed other = none_is (change_to batch key) (λ v e. not_free history key p u changed (free_key history batch key next.keys_are_free (is_changed_from batch key v e)))
+commits_none history legal (Write batch) next p key u changed other = none_is (change_to batch key) (λ v e. not_free history key p u changed (free_key history batch key next.orderly.keys_are_free (is_changed_from batch key v e)))
 commits_none history legal (Prepare name batch) next p key u changed other = refl
 commits_none history legal (Commit q) next p key u changed other = none_is (change_to (batch_at history q) key) (λ v e.
-    let its = holder_is history legal q key next.names_undecided (is_changed_from (batch_at history q) key v e) in
+    let its = holder_is history legal q key next.orderly.names_undecided (is_changed_from (batch_at history q) key v e) in
     let same : q ≡ p = same_some q p (sym its ∙ holder_is history legal p key u changed) in
     true≢false (sym (eq-eqb q p same) ∙ other))
 commits_none history legal (Undo q batch) next p key u changed other = refl

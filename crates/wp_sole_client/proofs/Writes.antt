@@ -77,7 +77,7 @@ module _ {D : Type 0} (z : SharedState D) (first : InstalledEdit) (old new : Sea
       let n_is : n ≡ next store.history =
       (let size : length new.knows.participant.seen ≡ length (history ++ entries) = ap (λ (h : List Entry). length h) put.seen in let both = length-append history entries in let same : length history ≡ length store.history = ap (λ (h : List Entry). length h) behind in
       let number = w.0 in omega (arith, size, both, same, number)) in
-      asks_for (ap (λ (h : List Entry). holder_of h (key_of c)) (sym behind) ∙ (after_front history (Write (c ∷ [])) [] legal).keys_are_free.0) n n_is)
+      asks_for (ap (λ (h : List Entry). holder_of h (key_of c)) (sym behind) ∙ (after_front history (Write (c ∷ [])) [] legal).orderly.keys_are_free.0) n n_is)
       (still_idle snapshots store.history c n)
 
   -- ---- the key is held

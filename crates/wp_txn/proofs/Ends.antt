@@ -129,7 +129,7 @@ module _ {D : Type 0} (z : SharedState D) (old mid : SeatState) (name : List ℕ
     pub commit_decides : (decision_of mid.knows.participant.seen number ≡ Some n) × (number ≤ n) × (n < seq_end)
     commit_decides =
         let k = r.1.1 in let history = r.1.0 in
-        let undecided = (after_front history (Commit number) [] k.legal).names_undecided in
+        let undecided = (after_front history (Commit number) [] k.legal).orderly.names_undecided in
         let long = length_next history (Commit number) in
         let last : n ≡ length history + 1 = r.0 ∙ ap (λ (es : List Entry). length es) k.put.seen ∙ long in
         let is : suc (length history) ≡ n = omega (arith, last) in

@@ -10,6 +10,7 @@ use Rattle.wp_model.specs.Legal.{IsLegal, IsLegalNext, AreFree, undone_last, pri
 use Rattle.wp_model.specs.declared.change.Change.{Change}
 use Rattle.wp_model.specs.declared.entry.Entry.{Entry}
 use Rattle.wp_model.specs.declared.entry.Entry.TheVariants.{Write, Prepare, Commit, Undo, Close}
+use Rattle.wp_model.proofs.BatchLemmas.{batch_ascends}
 use Rattle.wp_model.proofs.Entries.{entry_at_old, undecided_within}
 use Rattle.wp_model.proofs.Found.{found_named}
 use Rattle.wp_history.proofs.Growth.{legal_next, length_next}
@@ -82,7 +83,7 @@ module _ {D : Type 0} (z : SharedState D) (old new : SeatState) (log : LogState)
   grows_by entry one next = let a = o.within in let b = o.few in legal_next history entry legal_now next (omega (arith, a, b, one))
 
   writes_next : (batch : List Change) → is_batch batch ≡ true → ((key : List ℕ) → is_changed batch key ≡ true → holder_of history key ≡ None) → IsLegalNext history (Write batch)
-  writes_next batch whole free = record { batch = whole; names_undecided = tt; undo_is_closed = nothing_undone; restores_prior = tt; keys_are_free = all_free history batch free }
+  writes_next batch whole free = record { orderly = record { ascending = batch_ascends batch whole; names_undecided = tt; undo_is_closed = nothing_undone; keys_are_free = all_free history batch free }; restores_prior = tt }
 
   -- ---- a direct write
 
@@ -123,7 +124,7 @@ module _ {D : Type 0} (z : SharedState D) (old new : SeatState) (log : LogState)
 
     pub may_prepare : MayPut new.knows history (Prepare name batch ∷ [])
     may_prepare = record {
-      legal = grows_by (Prepare name batch) one (record { batch = whole; names_undecided = tt; undo_is_closed = nothing_undone; restores_prior = tt; keys_are_free = (all_free history batch open_so.1, open_so.0) });
+      legal = grows_by (Prepare name batch) one (record { orderly = record { ascending = batch_ascends batch whole; names_undecided = tt; undo_is_closed = nothing_undone; keys_are_free = (all_free history batch open_so.1, open_so.0) }; restores_prior = tt });
       owned = (
         record {
           keys = λ key changed. inr (name, h.transaction, has, h.keys key ∙ changed);
@@ -164,14 +165,14 @@ module _ {D : Type 0} (z : SharedState D) (old new : SeatState) (log : LogState)
 
     pub may_commit : 1 ≤ needed → MayPut new.knows history (Commit number ∷ [])
     may_commit one = record {
-      legal = grows_by (Commit number) one (record { batch = refl; names_undecided = undecided_still; undo_is_closed = nothing_undone; restores_prior = tt; keys_are_free = tt });
+      legal = grows_by (Commit number) one (record { orderly = record { ascending = refl; names_undecided = undecided_still; undo_is_closed = nothing_undone; keys_are_free = tt }; restores_prior = tt });
       owned = (owns_end history (Commit number) stands_still refl (λ key changed. ap (λ (b : List Change). is_changed b key) (sym (ap prepared_batch stands_still)) ∙ changed), tt);
     }
 
     -- the batch is what its keys have in the history
     pub may_roll_back : 2 ≤ needed → (restored : List Change) → is_batch restored ≡ true → restored ≡ prior history (batch_at history number) → MayPut new.knows history (Undo number restored ∷ Close number ∷ [])
     may_roll_back two restored whole is =
-        let undo : IsLegalNext history (Undo number restored) = record { batch = whole; names_undecided = undecided_still; undo_is_closed = nothing_undone; restores_prior = is; keys_are_free = tt } in
+        let undo : IsLegalNext history (Undo number restored) = record { orderly = record { ascending = batch_ascends restored whole; names_undecided = undecided_still; undo_is_closed = nothing_undone; keys_are_free = tt }; restores_prior = is } in
         let grown : List Entry = history ++ Undo number restored ∷ [] in
         let first : IsLegal grown = grows_by (Undo number restored) (omega (arith, two)) undo in
         let there : entry_at grown number ≡ Some (Prepare name batch) = entry_at_old history (Undo number restored ∷ []) number (undecided_within history number undecided_still).1 ∙ stands_still in

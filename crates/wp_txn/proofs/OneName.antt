@@ -13,7 +13,7 @@ use Rattle.wp_core.proofs.HistoryHolders.{none_named}
 
 -- a Prepare that comes next has a name that no undecided one has
 new_name : (history : List Entry) (entry : Entry) → IsLegalNext history entry → is_prepare (Some entry) ≡ true → named history (prepared_name (Some entry)) ≡ None
-new_name history (Prepare name batch) next is = next.keys_are_free.1
+new_name history (Prepare name batch) next is = next.orderly.keys_are_free.1
 new_name history (Write batch) next is = absurd (true≢false (sym is))
 new_name history (Commit p) next is = absurd (true≢false (sym is))
 new_name history (Undo p batch) next is = absurd (true≢false (sym is))

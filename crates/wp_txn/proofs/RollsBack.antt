@@ -124,7 +124,7 @@ module _ (history : List Entry) (p : ℕ) (batch : List Change) (legal : IsLegal
   -- the prepare is decided by the Close
   pub rollback_decides : (n : ℕ) → n ≡ length (history ++ Undo p batch ∷ Close p ∷ []) → (decision_of (history ++ Undo p batch ∷ Close p ∷ []) p ≡ Some n) × (p ≤ n) × (n < seq_end)
   rollback_decides n last =
-      let undecided = (after_front undone (Close p) [] both).names_undecided in
+      let undecided = (after_front undone (Close p) [] both).orderly.names_undecided in
       let long = length-append undone (Close p ∷ []) in
       let same = ap (λ (h : List Entry). length h) in_two in
       let is : suc (length undone) ≡ n = omega (arith, last, long, same) in

@@ -13,7 +13,7 @@ loop-i-preserved c = λ new after.
     let size = ap (λ (h : List Entry). length h) c.entries-entries.ensures.value in
     let lt : c.loop-i.i < length entries = omega (arith, size, c.published-i-end.ensures.value, c.loop-i-test.true) in
     c.loop-i.invariant new
-    (later_noted c.args.decisions.now c.args.n c.loop-i.i (drop c.loop-i.i entries) (drop (c.loop-i.i + 1) entries) c.index-entries-i.result c.changes_in.result.now c.loop-i.newest c.note_changes.new.newest new (next_item entries c.loop-i.i c.index-entries-i.result lt c.index-entries-i.is) c.changes_in.ensures c.in_ok-note_changes.ensures after)
+    (later_noted c.args.decisions.now c.args.n c.loop-i.i (drop c.loop-i.i entries) (drop (c.loop-i.i + 1) entries) c.index-entries-i.result c.changes.result.now c.loop-i.newest c.note_changes.new.newest new (next_item entries c.loop-i.i c.index-entries-i.result lt c.index-entries-i.is) c.changes.ensures.value c.in_ok-note_changes.ensures after)
 
 pub returns : goal.returns
 returns c =

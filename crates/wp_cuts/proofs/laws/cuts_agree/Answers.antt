@@ -1,5 +1,5 @@
-use Rattle.wp_cuts.proofs.Agreeing.{lawful_naming, cuts_agree}
+use Rattle.wp_cuts.proofs.Agreeing.{legal_naming, cuts_agree}
 use Rattle.wp_cuts.proofs.laws.cuts_agree.Goals as goal
 
 pub returns : goal.returns
-returns c = λ one other d lawful also. cuts_agree one other d (lawful_naming one lawful.each) (lawful_naming other also.each)
+returns c = λ one other d legal also. cuts_agree one other d (legal_naming one legal.each) (legal_naming other also.each)

@@ -4,7 +4,7 @@ use Rattle.wp_history.proofs.Undecided.{undecided_next, undecided_at_next}
 use Rattle.wp_history.proofs.laws.undecided_grows.Goals as goal
 
 pub returns-clause-each : goal.returns-clause-each
-returns-clause-each c = λ history entry legal after. undecided_next history entry legal after.names_undecided
+returns-clause-each c = λ history entry legal after. undecided_next history entry legal after.orderly.names_undecided
 
 pub returns-clause-prepared : goal.returns-clause-prepared
 returns-clause-prepared c = λ history name batch legal. undecided_at_next history (Prepare name batch) legal refl
