@@ -13,5 +13,4 @@ mod FullLegal
 mod Settled
 mod Reopening
 mod Copying
-mod Zero
 mod Keeping

@@ -71,12 +71,6 @@ pub fn covered_cut_reopens()
         → IsCovered versions history numbers from → IsReopened history c versions numbers from }
 {}
 
-/// Nothing is committed at the number 0, so that it may stand among the numbers of each covering.
-pub fn zero_is_covered()
-    ensures { (versions : List Version) (history : List Entry) (numbers : List ℕ) (from : ℕ)
-        → IsCovered versions history numbers from → IsCovered versions history (0 ∷ numbers) from }
-{}
-
 /// What is kept of a store's versions from a base on is no more than the keys that have a value there, what is carried, and what the
 /// entries from there to the floor have.
 pub fn kept_versions_are_few()

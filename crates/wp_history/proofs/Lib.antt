@@ -9,3 +9,4 @@ pub mod Held
 pub mod Above
 pub mod NewestVersion
 pub mod Opened
+pub mod Listed

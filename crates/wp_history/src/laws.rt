@@ -3,6 +3,8 @@ ghost use Rattle.std.specs.Prelude.{◌≡◌, ◌⊎◌, ℕ, ◌+◌, ◌<◌,
 ghost use Rattle.wp_model.specs.declared.change.Change.{Change};
 ghost use Rattle.wp_model.specs.declared.entry.Entry.{Entry};
 ghost use Rattle.wp_model.specs.declared.entry.Entry.TheVariants.{Prepare, Undo, Close};
+ghost use Rattle.wp_model.specs.declared.version.Version.{Version};
+ghost use Rattle.wp_model.specs.Covered.{IsCovered};
 ghost use Rattle.wp_model.specs.Decision.{IsNewestCommitted, HasNoneCommitted};
 ghost use Rattle.wp_model.specs.History.{undecided, is_undecided, name_at, batch_at, value_at};
 ghost use Rattle.wp_model.specs.Legal.{IsLegal, IsLegalNext, undone_last, log_end};
@@ -60,4 +62,10 @@ pub fn newest_committed_is_the_value()
         → (v : IsNewestCommitted history key n p) → value_at history key n ≡ v.value }
     ensures none { (history : List Entry) (key : List ℕ) (n : ℕ) → IsLegal history → n ≤ length history
         → HasNoneCommitted history key n → value_at history key n ≡ None }
+{}
+
+/// Nothing is committed at the number 0, so that it may stand among the numbers of each covering.
+pub fn zero_is_covered()
+    ensures { (versions : List Version) (history : List Entry) (numbers : List ℕ) (from : ℕ)
+        → IsCovered versions history numbers from → IsCovered versions history (0 ∷ numbers) from }
 {}

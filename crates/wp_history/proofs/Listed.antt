@@ -1,5 +1,5 @@
--- At the number 0 the store is empty, and nothing is committed.
-use Rattle.std.proofs.Common.{◌≡◌, ℕ, zero, suc, ◌≤◌, ◌==◌, List, ◌∷◌, Option, Some, None, refl, subst, inl, inr, arith}
+-- The numbers at which versions cover a history; and at the number 0 the store is empty, and nothing is committed.
+use Rattle.std.proofs.Common.{◌≡◌, ℕ, zero, suc, ◌≤◌, ◌==◌, true, List, [], ◌∷◌, Option, Some, None, refl, subst, inl, inr, arith}
 use Rattle.std.specs.Prelude.{option_map}
 use Rattle.std.specs.List.{position}
 use Rattle.std.proofs.lemmas.Bool.{or_cases, eqb-true}
@@ -9,6 +9,26 @@ use Rattle.wp_model.specs.declared.version.Version.{Version}
 use Rattle.wp_model.specs.History.{entry_at, decides}
 use Rattle.wp_model.specs.Decision.{decision_in, IsCommittedAt}
 use Rattle.wp_model.specs.Covered.{GivesStore, is_among, IsCovered}
+
+-- ---- the numbers
+
+pub only_listed : (n m : ℕ) → is_among (n ∷ []) m ≡ true → n ≡ m
+only_listed n m listed = elim (or_cases (n == m) (is_among [] m) listed) [
+  | inl here ↦ eqb-true n m here
+  | inr there ↦ absurd cc
+]
+
+-- what covers for some numbers covers without them
+pub none_listed : (versions : List Version) (history : List Entry) (numbers : List ℕ) (from : ℕ) → IsCovered versions history numbers from → IsCovered versions history [] from
+none_listed versions history numbers from covered = record {
+  part = covered.part;
+  undecided = covered.undecided;
+  undone = covered.undone;
+  listed = λ key n listed. absurd cc;
+  later = covered.later;
+}
+
+-- ---- the number 0
 
 some_above : (o : Option ℕ) (by : ℕ) → option_map suc o ≡ Some by → by ≤ 0 → ⊥
 some_above None by e le = absurd cc
