@@ -17,10 +17,11 @@ use Rattle.wp_model.specs.Versions.{version_at}
 use Rattle.wp_model.proofs.Entries.{entry_at_past}
 use Rattle.wp_history.proofs.Counting.{entry_version_old}
 use Rattle.wp_history.proofs.Growth.{by_growth}
+use Rattle.wp_history.proofs.Listed.{zero_covered}
 use Rattle.wp_history.proofs.Opened.{names_of, keys_of, tables_opened}
 use Rattle.wp_core.specs.Turns.{all_free}
 use Rattle.wp_core.specs.Tables.{StoreTable, live_numbers, up_to}
-use Rattle.wp_model.specs.Flushed.{InstalledEdit, versions_under, later_versions}
+use Rattle.wp_model.specs.Flushed.{InstalledEdit, versions_under, later_versions, first_segment}
 use Rattle.wp_core.specs.World.{World, new_actor}
 use Rattle.wp_core.specs.Runs.{IsOpening}
 use Rattle.wp_core.specs.Sound.Store.{IsStored, NoneFlushed}
@@ -113,7 +114,7 @@ all_versions history legal = by_growth (λ h. AreAll (later_versions h 0) h) rec
 -- ---- they are a store
 
 abbrev pub no_table : InstalledEdit
-no_table = record { flushed = 0; versions = []; tables = 0 }
+no_table = record { segment = first_segment; flushed = 0; versions = []; tables = 0 }
 
 abbrev pub all_in_memory : List Entry → StoreTable
 all_in_memory history = record { memory = later_versions history 0; tables = []; floor = 0 }
@@ -147,8 +148,9 @@ module _ (history : List Entry) (legal : IsLegal history) where
     next = λ key p value lt e. absurd (none_some (version_at versions key p) value (not_past key p lt) e);
     tables = λ key p value e. let q : None ≡ Some value = e in absurd (cc);
     last = record {
+      base = omega arith;
       flushed = omega arith;
-      covered = let k = all.covered in record { part = k.part; undecided = k.undecided; undone = k.undone; listed = k.listed; later = λ key n low high. k.later key n (omega arith) high };
+      covered = let k = all.covered in zero_covered versions history [] (length history) (record { part = k.part; undecided = k.undecided; undone = k.undone; listed = k.listed; later = λ key n low high. k.later key n (omega arith) high });
     };
     failed = λ edit e. let q : None ≡ Some edit = e in absurd (cc);
     in_memory = λ key p value lt e. all.at key p ∙ e;

@@ -13,6 +13,7 @@ use Rattle.wp_model.specs.Decision.{version_in, entry_version}
 use Rattle.wp_model.specs.Snapshots.{Snapshots}
 use Rattle.wp_model.specs.Versions.{version_at}
 use Rattle.wp_history.proofs.Counting.{entry_version_old}
+use Rattle.wp_history.proofs.Listed.{only_listed}
 use Rattle.wp_model.proofs.Entries.{entry_at_past}
 use Rattle.wp_core.specs.Entries.{next_of}
 use Rattle.wp_core.specs.Tables.{StoreTable, Installed, live_numbers, up_to, all_in}
@@ -93,13 +94,14 @@ module _ (history : List Entry) (entry : Entry) (legal : IsLegal (history ++ ent
       let nothing : (key : List ℕ) (p : ℕ) → length history < p → version_at xs key p ≡ None = λ key p lt. none_is (version_at xs key p) (λ v e. none_some (entry_version history p key) v (none_past history key p lt) (k.covered.part key p v e)) in
       let not_here : (key : List ℕ) (p : ℕ) → next ≢ p → version_at under key p ≡ None = λ key p ne. at_under next (changes_in entry) key p ∙ ap (λ (b : Bool). cond b (change_to (changes_in entry) key) None) (ne_eqb next p ne) in
       record {
+        base = k.base;
         flushed = omega (arith, l, low);
-        covered = subst (λ (z : List Version). IsCovered z grown [] (length grown)) (sym is)
-            (covered_grows history entry legal xs (xs ++ under) [] (length history) k.covered (omega arith)
+        covered = subst (λ (z : List Version). IsCovered z grown (edit.segment.base ∷ []) (length grown)) (sym is)
+            (covered_grows history entry legal xs (xs ++ under) (edit.segment.base ∷ []) (length history) k.covered (omega arith)
             (λ key p le. at_front xs under key p (not_here key p (λ e. absurd (omega (arith, e, le)))))
             (λ key. at_back xs under key next (nothing key next (omega arith)) ∙ (at_under next (changes_in entry) key next ∙ ap (λ (b : Bool). cond b (change_to (changes_in entry) key) None) (eq-eqb next next refl)))
             (λ key p lt. at_shared xs under key p (nothing key p (omega arith)) (not_here key p (λ e. absurd (omega (arith, e, lt)))))
-            (length grown) (omega (arith, l)) (λ m among. absurd cc));
+            (length grown) (omega (arith, l)) (λ m among. let same = only_listed edit.segment.base m among in let based = k.base in omega (arith, same, based, low)));
       }
 
   -- ---- the store

@@ -1,13 +1,13 @@
-ghost use Rattle.std.specs.Prelude.{◌≡◌, ◌++◌, [], None, false, IfOk, OnOk};
+ghost use Rattle.std.specs.Prelude.{◌≡◌, ◌++◌, None, false, IfOk, OnOk};
 ghost use Rattle.wp_core.specs.Effects.{with_failed};
-ghost use Rattle.wp_core.proofs.Openings.{all_in_memory};
+ghost use Rattle.wp_core.proofs.Openings.{all_in_memory, no_table};
 ghost use Rattle.wp_machine.specs.Machine.{without_number};
 
 use crate::copies::copy_versions;
 use crate::versions::{all_versions, take_number};
 use std::alloc::{AllocError, Global};
 use std::marker::Model;
-use wp_model::{Entry, Seq, Version};
+use wp_model::{Entry, Segment, Seq, Version};
 
 /// The versions in memory and in tables, and the floor: at each number from it on a reader finds all that it needs.
 #[derive(Drop)]
@@ -25,9 +25,10 @@ impl Model for StoreTable {
     ghost view = { λ t. record { memory = t.memory.items; tables = t.tables.items; floor = t.floor } };
 }
 
-/// What an installed edit says: the flushed number, the versions of its tables, and how many tables these are.
+/// What an installed edit says: the log's segment, the flushed number, the versions of its tables, and how many tables these are.
 #[derive(Drop)]
 pub struct InstalledEdit {
+    pub segment: Segment,
     pub flushed: Seq,
     pub versions: Vec<Version>,
     pub tables: u64,
@@ -38,7 +39,7 @@ impl Model for InstalledEdit {
 
     ghost Value = { InstalledEdit };
 
-    ghost view = { λ e. record { flushed = e.flushed; versions = e.versions.items; tables = e.tables } };
+    ghost view = { λ e. record { segment = e.segment; flushed = e.flushed; versions = e.versions.items; tables = e.tables } };
 }
 
 /// The last edit, the one whose install failed, if one did, and whether the devices of the tables failed.
@@ -74,6 +75,7 @@ impl InstalledEdit {
         ensures { IfOk result (λ copy. copy ≡ self.now) }
     {
         Ok(InstalledEdit {
+            segment: self.segment,
             flushed: self.flushed,
             versions: copy_versions(&self.versions, alloc)?,
             tables: self.tables,
@@ -151,9 +153,10 @@ impl StoreTable {
 
 impl InstalledEdit {
     pub fn new(alloc: Global) -> InstalledEdit
-        ensures { result ≡ record { flushed = 0; versions = []; tables = 0 } }
+        ensures { result ≡ no_table }
     {
         InstalledEdit {
+            segment: Segment { place: 0, base: 0 },
             flushed: 0,
             versions: Vec::new(alloc),
             tables: 0,
@@ -163,7 +166,7 @@ impl InstalledEdit {
 
 impl Installed {
     pub fn new(alloc: Global) -> Installed
-        ensures { result ≡ record { last = record { flushed = 0; versions = []; tables = 0 }; failed = None; halted = false } }
+        ensures { result ≡ record { last = no_table; failed = None; halted = false } }
     {
         Installed {
             last: InstalledEdit::new(alloc),

@@ -54,7 +54,7 @@ fn later_versions(entries: &[Entry], n: Seq, alloc: Global) -> Result<Vec<Versio
     Ok(later)
 }
 
-/// Whether the edit's versions, with the later ones of the history, cover it at its end.
+/// Whether the edit's versions, with the later ones of the history, cover it at the edit's base and at its end.
 pub(crate) fn is_edit_covered(
     history: &History,
     edit: &InstalledEdit,
@@ -62,12 +62,13 @@ pub(crate) fn is_edit_covered(
 ) -> Result<bool, AllocError>
     ensures { IfOk result (λ yes. yes ≡ true → IsEditCovered history.now.entries edit.now) }
 {
-    if edit.flushed > history.published() {
+    let base = edit.segment.base;
+    if base > edit.flushed || edit.flushed > history.published() {
         return Ok(false);
     }
     let later = later_versions(history.entries(), edit.flushed, alloc)?;
     let all = joined(&edit.versions, &later, alloc)?;
-    let yes = are_covered(history, &all, &[], history.published(), alloc)?;
+    let yes = are_covered(history, &all, &[base], history.published(), alloc)?;
     Ok(yes)
 }
 

@@ -13,6 +13,7 @@ use Rattle.wp_model.specs.Decision.{entry_version}
 use Rattle.wp_model.specs.Flushed.{IsEditCovered}
 use Rattle.wp_model.specs.History.{is_changed}
 use Rattle.wp_model.specs.Snapshots.{Snapshot, Snapshots}
+use Rattle.wp_history.proofs.Listed.{zero_covered}
 use Rattle.wp_judge.specs.Words.{CommitPair, word_of}
 use Rattle.wp_core.specs.Cache.{cached}
 use Rattle.wp_core.specs.Conditions.{MayBeEvicted}
@@ -262,7 +263,7 @@ covered numbers from none = let c = all.covered in record {
 }
 
 edit_covered : IsEditCovered committed edit
-edit_covered = record { flushed = omega arith; covered = covered [] 2 (λ n e. true≢false (sym e)) }
+edit_covered = record { base = omega arith; flushed = omega arith; covered = zero_covered memory committed [] 2 (covered [] 2 (λ n e. true≢false (sym e))) }
 
 none_among : (n : ℕ) → is_among (live_numbers no_snapshots) n ≡ true → ⊥
 none_among n e = true≢false (sym e ∙ (among_live no_snapshots n ∙ ap (λ (o : Option Snapshot). is_some o) (finite.get-empty nat_cmp n)))

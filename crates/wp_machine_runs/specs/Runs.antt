@@ -6,7 +6,7 @@ use Rattle.wp_model.specs.declared.change.Change.TheVariants.{Put, Del}
 use Rattle.wp_model.specs.declared.entry.Entry.{Entry}
 use Rattle.wp_model.specs.declared.entry.Entry.TheVariants.{Write, Prepare, Commit, Undo, Close}
 use Rattle.wp_model.specs.declared.version.Version.{Version}
-use Rattle.wp_model.specs.Flushed.{InstalledEdit, versions_under}
+use Rattle.wp_model.specs.Flushed.{InstalledEdit, versions_under, first_segment}
 use Rattle.wp_judge.specs.declared.observed.Load.TheVariants.{FirstWord, FirstMax, DelayedFlag, InPrepared, SecondWord, SecondMax, OldFlag, IsOldCommit}
 use Rattle.wp_core.specs.Turns.{write_turn, prepared_turn, snapshots_turn, store_turn, locks_turn, tables_turn}
 use Rattle.wp_core.specs.World.{Transaction}
@@ -114,7 +114,7 @@ overwrite =
 
 -- the edit of a flush of what the first two entries left in memory
 abbrev pub edit : InstalledEdit
-edit = record { flushed = 2; versions = memory; tables = 1 }
+edit = record { segment = first_segment; flushed = 2; versions = memory; tables = 1 }
 
 abbrev pub flush : List Step
 flush =

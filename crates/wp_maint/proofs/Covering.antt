@@ -1,19 +1,21 @@
 -- What is kept of the tables' versions is enough in their place, for an edit and for readers.
-use Rattle.std.proofs.Common.{◌≡◌, ◌⊎◌, ⊎_elim, inl, inr, ℕ, zero, suc, ◌<◌, ◌≤◌, true, List, [], ◌++◌, length, min, Option, Some, None, is_some, refl, sym, subst, ap, ◌∙◌, arith}
+use Rattle.std.proofs.Common.{◌≡◌, ◌⊎◌, ⊎_elim, inl, inr, ℕ, zero, suc, ◌<◌, ◌≤◌, true, List, [], ◌∷◌, ◌++◌, length, min, Option, Some, None, is_some, refl, sym, subst, ap, ◌∙◌, arith}
 use Rattle.std.proofs.lemmas.Bool.{cases_lt, le-leb, leb-true}
 use Rattle.std.specs.List.{list_all}
 use Rattle.std.specs.Option.{option_or}
 use Rattle.wp_model.specs.declared.entry.Entry.{Entry}
+use Rattle.wp_model.specs.declared.segment.Segment.{Segment}
 use Rattle.wp_model.specs.declared.version.Version.{Version}
 use Rattle.wp_model.specs.Covered.{IsCovered, is_among}
 use Rattle.wp_model.specs.Decision.{decision_of, is_by, is_committed, IsCommittedAt, entry_version}
-use Rattle.wp_model.specs.Flushed.{IsEditCovered, later_versions}
+use Rattle.wp_model.specs.Flushed.{IsEditCovered, later_versions, first_segment}
 use Rattle.wp_model.specs.Legal.{IsLegal}
 use Rattle.std.specs.FinMap as finite
 use Rattle.wp_model.specs.Snapshots.{Snapshot, IsLive}
 use Rattle.wp_model.specs.Versions.{AreInOrder, version_at}
 use Rattle.wp_history.proofs.Counting.{entry_version_old}
 use Rattle.wp_history.proofs.Growth.{legal_before}
+use Rattle.wp_history.proofs.Listed.{zero_covered}
 use Rattle.wp_keep.specs.Keep.{retained_of}
 use Rattle.wp_keep.specs.MayGo.{DecidesAt, MayGo}
 use Rattle.wp_keep.proofs.Covers.{covers}
@@ -201,10 +203,13 @@ module _ (w : World) (sound : IsSound w) (front : List Entry) (starts : StartsWi
       ∙ swapped (version_at kept key p) (version_at newer key p) (apart key p)
       ∙ sym (at_append newer kept key p)
 
-  pub kept_is_covered : length front ≤ length history → versions ≡ w.installed.last.versions → IsEditCovered history (after_compaction front live w.installed.last)
-  kept_is_covered le is = subst (λ (l : List Version). IsEditCovered history (record { flushed = flushed; versions = retained_of (is_committed front) l live (length front); tables = min (length (retained_of (is_committed front) l live (length front))) 1 })) is (record {
+  pub kept_is_covered : w.installed.last.segment ≡ first_segment → length front ≤ length history → versions ≡ w.installed.last.versions → IsEditCovered history (after_compaction front live w.installed.last)
+  kept_is_covered first le is = subst (λ (l : List Version). IsEditCovered history (record w.installed.last { versions = retained_of (is_committed front) l live (length front); tables = min (length (retained_of (is_committed front) l live (length front))) 1 })) is (record {
+    base = sound.versions.last.base;
     flushed = sound.versions.last.flushed;
-    covered = record { part = c.part; undecided = c.undecided; undone = c.undone; listed = λ key n among. absurd cc; later = λ key n above within. c.later key n (omega (arith, le, above)) within };
+    covered = subst (λ (s : Segment). IsCovered (kept ++ later_versions history flushed) history (s.base ∷ []) (length history)) (sym first)
+        (zero_covered (kept ++ later_versions history flushed) history [] (length history)
+        (record { part = c.part; undecided = c.undecided; undone = c.undone; listed = λ key n among. absurd cc; later = λ key n above within. c.later key n (omega (arith, le, above)) within }));
   })
     where
       c : IsCovered (kept ++ later_versions history flushed) history [] (length front)

@@ -39,7 +39,7 @@ same_edit a t f k =
     at_append (versions_of f) t.last.versions key p
     ∙ ap (λ (o : Found). option_or o (version_at t.last.versions key p)) (ap (λ (l : List Version). version_at l key p) k.versions ∙ at_sorted later key p)
     ∙ sym (at_append later t.last.versions key p)) in
-    λ i. record { flushed = k.at i; versions = list i; tables = suc t.last.tables }
+    λ i. record { segment = t.last.segment; flushed = k.at i; versions = list i; tables = suc t.last.tables }
 
 pub knows_flush : (a : Actor) (t : Installed) (f : Frozen) → HasFrozen a t f → t.halted ≡ false → KnowsInstalled a t (with_table (versions_of f) f.at t.last) false
 knows_flush a t f k running = record {

@@ -145,8 +145,9 @@ module _ (seen : List Entry) (legal : IsLegal seen) (e : InstalledEdit) (covered
 
   pub flush_covered : IsEditCovered seen (after_flush seen e)
   flush_covered = record {
+    base = let based = covered.base in let within = covered.flushed in omega (arith, based, within);
     flushed = omega arith;
-    covered = covers_same (e.versions ++ later) ((after_flush seen e).versions ++ later_versions seen (length seen)) seen [] (length seen) as_before covered.covered;
+    covered = covers_same (e.versions ++ later) ((after_flush seen e).versions ++ later_versions seen (length seen)) seen (e.segment.base ∷ []) (length seen) as_before covered.covered;
   }
 
   -- ---- nothing to write

@@ -4,7 +4,7 @@ use Rattle.std.specs.Prelude.{Result, Ok, Err}
 use Rattle.wp_model.specs.declared.entry.Entry.{Entry}
 use Rattle.wp_model.specs.declared.version.Version.{Version}
 use Rattle.wp_model.specs.Decision as decision
-use Rattle.wp_model.specs.Flushed.{InstalledEdit}
+use Rattle.wp_model.specs.Flushed.{InstalledEdit, first_segment}
 use Rattle.wp_keep.specs.declared.pair.Pair.{Pair}
 use Rattle.wp_keep.specs.Keep.{is_committed, retained_of}
 use Rattle.wp_replies.specs.Tables.{retained, after_compaction}
@@ -40,7 +40,7 @@ use Rattle.wp_maint.proofs.StillTabled.{decided_still}
 
 -- the tables that are told of where none were found
 pub no_tables : Installed
-no_tables = record { last = record { flushed = 0; versions = []; tables = 0 }; failed = None; halted = false }
+no_tables = record { last = record { segment = first_segment; flushed = 0; versions = []; tables = 0 }; failed = None; halted = false }
 
 -- ---- what was pinned
 

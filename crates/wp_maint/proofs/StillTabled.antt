@@ -5,7 +5,7 @@ use Rattle.std.specs.List.{list_all}
 use Rattle.wp_model.specs.declared.entry.Entry.{Entry}
 use Rattle.wp_model.specs.declared.version.Version.{Version}
 use Rattle.wp_model.specs.Covered.{is_among}
-use Rattle.wp_model.specs.Flushed.{IsEditCovered, later_versions}
+use Rattle.wp_model.specs.Flushed.{IsEditCovered, later_versions, first_segment}
 use Rattle.wp_model.specs.Versions.{AreInOrder}
 use Rattle.wp_merge.specs.Merge.{joined}
 use Rattle.wp_merge.proofs.Sorted.{in_order_sorted}
@@ -69,7 +69,7 @@ live_later s u floor live k same grown listed = record {
 }
 
 module _ {D : Type 0} {z : SharedState D} {s u : SeatState} {e : Installed} {beneath : List ℕ} (stock : StockState) (floor : ℕ) (live : List Registration) (saw : SawHistory z s u) (holds : HoldsTurn z s (store (store_table stock)) (installed e ∷ []) beneath) (settled_then : KnowsTables s.knows e.last) (known : KnowsLive s.knows floor live)
-    (low_tables : list_all (is_flushed e.last.flushed) e.last.versions ≡ true) (flushed_low : e.last.flushed ≤ floor) (given_up : stock.floor ≤ floor) where
+    (low_tables : list_all (is_flushed e.last.flushed) e.last.versions ≡ true) (first : e.last.segment ≡ first_segment) (flushed_low : e.last.flushed ≤ floor) (given_up : stock.floor ≤ floor) where
   abbrev w : World
   w = saw.world
 
@@ -141,6 +141,9 @@ module _ {D : Type 0} {z : SharedState D} {s u : SeatState} {e : Installed} {ben
   low_here : list_all (is_flushed w.installed.last.flushed) e.last.versions ≡ true
   low_here = subst (λ (x : Installed). list_all (is_flushed x.last.flushed) e.last.versions ≡ true) (sym edit_here) low_tables
 
+  first_here : w.installed.last.segment ≡ first_segment
+  first_here = ap (λ (x : Installed). x.last.segment) edit_here ∙ first
+
   given_up_here : w.store.floor ≤ length front
   given_up_here = let f = floor_here in let g = front_is in omega (arith, f, g)
 
@@ -152,7 +155,7 @@ module _ {D : Type 0} {z : SharedState D} {s u : SeatState} {e : Installed} {ben
     replace = replace_here;
     numbered = versions_numbered w sound front starts (numbers_of live) low e.last.versions named.0 in_order low_here gone given_up_here;
     covered = subst (λ (x : Installed × List Entry). IsEditCovered x.1 (after_compaction front (numbers_of live) x.0.last)) (λ i. (edit_here i, all_seen i))
-        (kept_is_covered w sound front starts (numbers_of live) low e.last.versions named.0 in_order low_here gone given_up_here length_here (ap (λ (x : Installed). x.last.versions) (sym edit_here)));
+        (kept_is_covered w sound front starts (numbers_of live) low e.last.versions named.0 in_order low_here gone given_up_here first_here length_here (ap (λ (x : Installed). x.last.versions) (sym edit_here)));
     few = kept_few w sound front starts (numbers_of live) low e.last.versions named.0 in_order low_here gone given_up_here (let f = front_is in let q = ap (λ (x : Installed). x.last.flushed) edit_here in omega (arith, f, q, flushed_low));
   }
 

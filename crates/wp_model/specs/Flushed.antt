@@ -2,6 +2,7 @@
 use Rattle.std.specs.Prelude.{ℕ, suc, ◌≤◌, List, [], ◌∷◌, ◌++◌, length, map, drop}
 use Rattle.wp_model.specs.declared.change.Change.{Change}
 use Rattle.wp_model.specs.declared.entry.Entry.{Entry}
+use Rattle.wp_model.specs.declared.segment.Segment.{Segment}
 use Rattle.wp_model.specs.declared.version.Version.{Version}
 use Rattle.wp_model.specs.Batch.{key_of, value_of}
 use Rattle.wp_model.specs.Covered.{IsCovered}
@@ -23,13 +24,19 @@ later_versions history n = versions_after n (drop n history)
 
 -- ---- the tables
 
--- what an installed edit says: the flushed number, the versions of its tables, and how many tables these are
+-- the segment that begins the log's device and has all entries
+abbrev pub first_segment : Segment
+first_segment = record { place = 0; base = 0 }
+
+-- what an installed edit says: the log's segment, the flushed number, the versions of its tables, and how many tables these are
 pub record InstalledEdit : Type 0 where
+  pub segment : Segment
   pub flushed : ℕ
   pub versions : List Version
   pub tables : ℕ
 
--- an edit's versions, with the later ones of the history, cover the history for readers of the published number
+-- an edit's versions, with the later ones of the history, cover the history for readers of the base and of the published number
 pub record IsEditCovered (history : List Entry) (edit : InstalledEdit) : Type 0 where
+  pub base : edit.segment.base ≤ edit.flushed
   pub flushed : edit.flushed ≤ length history
-  pub covered : IsCovered (edit.versions ++ later_versions history edit.flushed) history [] (length history)
+  pub covered : IsCovered (edit.versions ++ later_versions history edit.flushed) history (edit.segment.base ∷ []) (length history)

@@ -11,6 +11,7 @@ mod change;
 mod entry;
 mod holder;
 mod limits;
+mod segment;
 mod version;
 mod versions;
 mod word;
@@ -20,6 +21,7 @@ pub use change::Change;
 pub use entry::Entry;
 pub use holder::Holder;
 pub use limits::limits_are;
+pub use segment::Segment;
 pub use version::{Version, copy_value};
 pub use versions::Versions;
 pub use word::{

@@ -1,11 +1,12 @@
 -- Whether tables cover a history: what is asked of all versions, and what that says of the tables'.
-use Rattle.std.proofs.Common.{◌≡◌, ◌↔◌, ℕ, ◌≤◌, Bool, true, List, [], ◌++◌, length, inl, inr, sym, ap, ◌∙◌}
+use Rattle.std.proofs.Common.{◌≡◌, ◌↔◌, ℕ, ◌≤◌, Bool, true, List, [], ◌∷◌, ◌++◌, length, inl, inr, sym, ap, ◌∙◌, arith}
 use Rattle.std.specs.Option.{option_or}
 use Rattle.wp_model.specs.declared.entry.Entry.{Entry}
 use Rattle.wp_model.specs.declared.version.Version.{Version}
 use Rattle.wp_model.specs.Covered.{GivesStore, IsCovered}
 use Rattle.wp_model.specs.Flushed.{later_versions}
 use Rattle.wp_model.specs.Versions.{version_at}
+use Rattle.wp_history.proofs.Listed.{zero_covered, none_listed}
 use Rattle.wp_manifest.specs.Edit.{Edit}
 use Rattle.wp_merge.specs.Merge.{AreMerged, first_at, joined, sorted_of}
 use Rattle.wp_merge.proofs.Sorted.{at_sorted, merged_sorted}
@@ -51,7 +52,12 @@ module _ (history : List Entry) (edit : Edit) (parts : List (List Version)) wher
     λ e. record {
       all = sorted_of (joined parts);
       merged = merged_sorted parts;
-      covered = record { flushed = low; covered = covers_same (joined parts ++ later) (sorted_of (joined parts) ++ later) history [] (length history) (λ key p. sym (same_at (sorted_of (joined parts)) (merged_sorted parts) key p)) (asked.0 e) };
+      covered = record {
+        base = omega arith;
+        flushed = low;
+        covered = zero_covered (sorted_of (joined parts) ++ later) history [] (length history)
+            (covers_same (joined parts ++ later) (sorted_of (joined parts) ++ later) history [] (length history) (λ key p. sym (same_at (sorted_of (joined parts)) (merged_sorted parts) key p)) (asked.0 e));
+      };
     },
-    λ c. asked.1 (covers_same (c.all ++ later) (joined parts ++ later) history [] (length history) (same_at c.all c.merged) c.covered.covered),
+    λ c. asked.1 (covers_same (c.all ++ later) (joined parts ++ later) history [] (length history) (same_at c.all c.merged) (none_listed (c.all ++ later) history (0 ∷ []) (length history) c.covered.covered)),
   )

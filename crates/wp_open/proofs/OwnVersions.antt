@@ -9,6 +9,7 @@ use Rattle.wp_model.specs.Legal.{IsLegal}
 use Rattle.wp_model.specs.Versions.{version_at}
 use Rattle.wp_model.proofs.VersionLists.{in_order_nil}
 use Rattle.wp_history.proofs.NewestVersion.{one_or_none, newest_is_value, none_is_no_value}
+use Rattle.wp_history.proofs.Listed.{zero_covered}
 use Rattle.wp_manifest.specs.Edit.{Edit}
 use Rattle.wp_cover.proofs.Places.{none_later, own_later}
 use Rattle.wp_open.specs.Opens.{AreCovering}
@@ -48,8 +49,9 @@ all_in_memory history edit [] unflushed empty legal = record {
   all = [];
   merged = record { in_order = in_order_nil; each = λ key n. refl };
   covered = record {
+    base = omega arith;
     flushed = omega (arith, unflushed);
-    covered = subst (λ (n : ℕ). IsCovered (later_versions history n) history [] (length history)) (sym unflushed) (own_covered history legal);
+    covered = subst (λ (n : ℕ). IsCovered (later_versions history n) history (0 ∷ []) (length history)) (sym unflushed) (zero_covered (later_versions history 0) history [] (length history) (own_covered history legal));
   };
 }
 all_in_memory history edit (part ∷ parts) unflushed empty legal = absurd (omega (arith, empty))

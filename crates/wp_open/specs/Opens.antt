@@ -2,7 +2,7 @@
 use Rattle.std.specs.Prelude.{◌≡◌, ℕ, ◌<◌, ◌^◌, List, length}
 use Rattle.wp_model.specs.declared.entry.Entry.{Entry}
 use Rattle.wp_model.specs.declared.version.Version.{Version}
-use Rattle.wp_model.specs.Flushed.{InstalledEdit, IsEditCovered}
+use Rattle.wp_model.specs.Flushed.{InstalledEdit, IsEditCovered, first_segment}
 use Rattle.wp_model.specs.Legal.{IsLegal}
 use Rattle.wp_outside.specs.Disk.{Moment, IfKnown}
 use Rattle.wp_wal.specs.Spelling.{IsLogOf}
@@ -15,7 +15,7 @@ use Rattle.wp_merge.specs.Merge.{AreMerged, joined, sorted_of}
 pub record AreCovering (history : List Entry) (edit : Edit) (parts : List (List Version)) : Type 0 where
   pub all : List Version
   pub merged : AreMerged parts all
-  pub covered : IsEditCovered history (record { flushed = edit.flushed; versions = all; tables = length parts })
+  pub covered : IsEditCovered history (record { segment = first_segment; flushed = edit.flushed; versions = all; tables = length parts })
 
 -- The log spells the history, which is legal. The manifest spells edits under the log's id, and the tables that the last
 -- one names cover the history. A log that was not made has any id.
@@ -31,7 +31,7 @@ pub record Opens (id : ℕ) (history : List Entry) (log manifest tables : List �
 
 -- what the edit says, where these are its tables
 abbrev pub installed_of : Edit → List (List Version) → InstalledEdit
-installed_of edit parts = record { flushed = edit.flushed; versions = sorted_of (joined parts); tables = length parts }
+installed_of edit parts = record { segment = first_segment; flushed = edit.flushed; versions = sorted_of (joined parts); tables = length parts }
 
 -- ... and the manifest's last edit is this one
 abbrev pub OpensTo : ℕ → List Entry → InstalledEdit → (log manifest tables : List ℕ) → Type 0

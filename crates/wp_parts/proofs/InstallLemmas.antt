@@ -3,7 +3,7 @@ use Rattle.std.proofs.Common.{◌≡◌, ◌⊎◌, inl, inr, ℕ, suc, Bool, tr
 use Rattle.std.specs.List.{list_all}
 use Rattle.std.specs.Option.{option_or}
 use Rattle.wp_model.specs.declared.version.Version.{Version}
-use Rattle.wp_model.specs.Flushed.{InstalledEdit}
+use Rattle.wp_model.specs.Flushed.{InstalledEdit, first_segment}
 use Rattle.wp_model.specs.Versions.{AreInOrder, version_at}
 use Rattle.wp_outside.specs.Disk.{IfKnown, Passes}
 use Rattle.wp_outside.specs.Faults.{Rose}
@@ -58,10 +58,10 @@ one_counted [] = refl
 one_counted (v ∷ versions) = omega arith
 
 pub is_with_table : (edit next : Edit) (versions : List Version) (parts : List (List Version)) → installed_of next (versions ∷ parts) ≡ with_table versions next.flushed (installed_of edit parts)
-is_with_table edit next versions parts = λ i. record { flushed = next.flushed; versions = front_sorted versions parts i; tables = suc (length parts) }
+is_with_table edit next versions parts = λ i. record { segment = first_segment; flushed = next.flushed; versions = front_sorted versions parts i; tables = suc (length parts) }
 
 pub is_in_one_table : (edit next : Edit) (versions : List Version) (parts : List (List Version)) → AreInOrder versions → next.flushed ≡ edit.flushed → installed_of next (compacted_parts versions) ≡ in_one_table versions (installed_of edit parts)
-is_in_one_table edit next versions parts ordered same = λ i. record { flushed = same i; versions = one_sorted versions ordered i; tables = one_counted versions i }
+is_in_one_table edit next versions parts ordered same = λ i. record { segment = first_segment; flushed = same i; versions = one_sorted versions ordered i; tables = one_counted versions i }
 
 -- no version of its tables has a number above the flushed one
 pub front_flushed : (old flushed : ℕ) (versions : List Version) (parts : List (List Version)) → old < flushed → list_all (is_flushed flushed) versions ≡ true → list_all (is_flushed old) (sorted_of (joined parts)) ≡ true → list_all (is_flushed flushed) (sorted_of (joined (versions ∷ parts))) ≡ true

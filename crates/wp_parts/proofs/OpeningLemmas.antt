@@ -16,7 +16,7 @@ use Rattle.wp_model.specs.declared.entry.Entry.{Entry}
 use Rattle.wp_model.specs.declared.entry.Entry.TheVariants as entry
 use Rattle.wp_model.specs.declared.version.Version.{Version}
 use Rattle.wp_model.specs.Covered.{IsCovered, is_among}
-use Rattle.wp_model.specs.Flushed.{InstalledEdit, IsEditCovered, later_versions}
+use Rattle.wp_model.specs.Flushed.{InstalledEdit, IsEditCovered, later_versions, first_segment}
 use Rattle.wp_model.specs.History.{is_undecided, undecided}
 use Rattle.wp_model.specs.Legal.{undone_last}
 use Rattle.wp_model.specs.Snapshots.{Snapshots}
@@ -129,7 +129,7 @@ module _ (asked : ℕ) (log manifest tables : List Moment) (wal : WalState) (his
   last = installed_of edits.edit store.tables
 
   covered : IsEditCovered history last
-  covered = subst (λ (vs : List Version). IsEditCovered history (record { flushed = flushed; versions = vs; tables = length store.tables })) (merged_is_sorted store.tables opened.store.covering.all opened.store.covering.merged) opened.store.covering.covered
+  covered = subst (λ (vs : List Version). IsEditCovered history (record { segment = first_segment; flushed = flushed; versions = vs; tables = length store.tables })) (merged_is_sorted store.tables opened.store.covering.all opened.store.covering.merged) opened.store.covering.covered
 
   at_memory : (key : List ℕ) (p : ℕ) → version_at memory key p ≡ version_at later key p
   at_memory key p =
@@ -165,8 +165,8 @@ module _ (asked : ℕ) (log manifest tables : List Moment) (wal : WalState) (his
         ∙ sym (at_append in_tables later key p ∙ ap (λ (o : Found). option_or o (version_at later key p)) (at_tables key p (omega (arith, above, covered.flushed))) ∙ later_past history flushed key p opened.legal covered.flushed above)
   ]
 
-  shown : IsCovered (up_to (length history) (memory ++ in_tables)) history [] (length history)
-  shown = covers_same (in_tables ++ later) (up_to (length history) (memory ++ in_tables)) history [] (length history) within covered.covered
+  shown : IsCovered (up_to (length history) (memory ++ in_tables)) history (0 ∷ []) (length history)
+  shown = covers_same (in_tables ++ later) (up_to (length history) (memory ++ in_tables)) history (0 ∷ []) (length history) within covered.covered
 
   in_edit : (key : List ℕ) (p : ℕ) (value : Option (List ℕ)) → version_at in_tables key p ≡ Some value → version_at (in_tables ++ later) key p ≡ Some value
   in_edit key p value is = at_append in_tables later key p ∙ ap (λ (o : Found). option_or o (version_at later key p)) is

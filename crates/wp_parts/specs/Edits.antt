@@ -2,7 +2,7 @@
 use Rattle.std.specs.Prelude.{◌≡◌, ◌⊎◌, ℕ, ◌≤◌, Bool, true, false, List, ◌∷◌, length, Option, Some, None}
 use Rattle.std.specs.List.{list_all}
 use Rattle.wp_model.specs.declared.version.Version.{Version}
-use Rattle.wp_model.specs.Flushed.{InstalledEdit}
+use Rattle.wp_model.specs.Flushed.{InstalledEdit, first_segment}
 use Rattle.wp_outside.specs.Disk.{images}
 use Rattle.wp_outside.specs.Faults.{Rose}
 use Rattle.wp_gatelog.specs.Durability.{LosesNoRecord}
@@ -35,7 +35,7 @@ parts_after gone.Frozen versions parts = versions ∷ parts
 parts_after gone.Tables versions parts = compacted_parts versions
 
 abbrev pub asked_for : FailedInstall → List (List Version) → InstalledEdit
-asked_for f parts = record { flushed = f.flushed; versions = sorted_of (joined (parts_after f.gone f.versions.value parts)); tables = length (parts_after f.gone f.versions.value parts) }
+asked_for f parts = record { segment = first_segment; flushed = f.flushed; versions = sorted_of (joined (parts_after f.gone f.versions.value parts)); tables = length (parts_after f.gone f.versions.value parts) }
 
 -- only where the manifest's device failed can its edit be found later
 abbrev pub failed_edit : (closed : Bool) → Option FailedInstall → List (List Version) → Option InstalledEdit

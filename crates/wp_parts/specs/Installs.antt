@@ -18,7 +18,7 @@ use Rattle.wp_parts.specs.Edits.{EditsState}
 
 -- these versions are in one table more, the newest, and the entries up to this number are flushed
 abbrev pub with_table : List Version → ℕ → InstalledEdit → InstalledEdit
-with_table versions flushed last = record { flushed = flushed; versions = sorted_of (versions ++ last.versions); tables = suc last.tables }
+with_table versions flushed last = record last { flushed = flushed; versions = sorted_of (versions ++ last.versions); tables = suc last.tables }
 
 -- these versions are in one table in place of all, or in none where there are none
 abbrev pub in_one_table : List Version → InstalledEdit → InstalledEdit

@@ -3,6 +3,7 @@ ghost use Rattle.std.specs.Prelude.{◌≡◌, ◌≤◌, ◌<◌, true, false, 
 ghost use Rattle.std.specs.Arc.{arc_value};
 ghost use Rattle.std.specs.List.{list_all};
 ghost use Rattle.std.specs.Option.{option_map};
+ghost use Rattle.wp_model.specs.Flushed.{first_segment};
 ghost use Rattle.wp_model.specs.Legal.{log_end};
 ghost use Rattle.wp_model.specs.Versions.{AreInOrder};
 ghost use Rattle.wp_outside.specs.Disk.{images};
@@ -108,6 +109,7 @@ impl<D: Disk> Edits<D> {
     pub fn flushed(&self) -> Seq
         ensures number { result ≡ self.now.table.last.flushed }
         ensures tables { list_all (is_flushed result) self.now.table.last.versions ≡ true }
+        ensures segment { self.now.table.last.segment ≡ first_segment }
     {
         self.set.edit().flushed
     }

@@ -13,7 +13,7 @@ unflushed history edit = later_versions history edit.flushed
 
 -- the edit of a flush: the versions in memory are in one table more
 abbrev pub after_flush : List Entry → InstalledEdit → InstalledEdit
-after_flush history edit = record { flushed = length history; versions = sorted_of (unflushed history edit ++ edit.versions); tables = suc edit.tables }
+after_flush history edit = record edit { flushed = length history; versions = sorted_of (unflushed history edit ++ edit.versions); tables = suc edit.tables }
 
 -- the tables' versions that a compaction keeps, where snapshots with these numbers are live
 abbrev pub retained : List Entry → List ℕ → InstalledEdit → List Version

@@ -33,12 +33,12 @@ pub returns-clause-tables : goal.returns-clause-tables
 returns-clause-tables g c =
     let e = c.args.edits.now.table in let number = c.number-floor.ensures in let high = c.if-flushed-floor.false in let given = c.if-floor.false in let f = c.flushed.ensures.number in let g2 = c.floor.ensures in
     c.in_ok-copy_tables.ensures.tables
-    ∙ tables_here c.args.stock.now c.args.pinned.now.floor.number c.args.pinned.now.live.items c.shows_history.ensures c.requires.holds c.requires.settled c.requires.live (subst (λ (n : ℕ). list_all (is_flushed n) e.last.versions ≡ true) f c.flushed.ensures.tables) (omega (arith, f, number, high)) (omega (arith, g2, number, given))
+    ∙ tables_here c.args.stock.now c.args.pinned.now.floor.number c.args.pinned.now.live.items c.shows_history.ensures c.requires.holds c.requires.settled c.requires.live (subst (λ (n : ℕ). list_all (is_flushed n) e.last.versions ≡ true) f c.flushed.ensures.tables) c.flushed.ensures.segment (omega (arith, f, number, high)) (omega (arith, g2, number, given))
 
 pub returns-clause-may : goal.returns-clause-may
 returns-clause-may g c =
     let e = c.args.edits.now.table in let number = c.number-floor.ensures in let high = c.if-flushed-floor.false in let given = c.if-floor.false in let f = c.flushed.ensures.number in let g2 = c.floor.ensures in
-    may_merge c.args.stock.now c.args.pinned.now.floor.number c.args.pinned.now.live.items c.shows_history.ensures c.requires.holds c.requires.settled c.requires.live (subst (λ (n : ℕ). list_all (is_flushed n) e.last.versions ≡ true) f c.flushed.ensures.tables) (omega (arith, f, number, high)) (omega (arith, g2, number, given))
+    may_merge c.args.stock.now c.args.pinned.now.floor.number c.args.pinned.now.live.items c.shows_history.ensures c.requires.holds c.requires.settled c.requires.live (subst (λ (n : ℕ). list_all (is_flushed n) e.last.versions ≡ true) f c.flushed.ensures.tables) c.flushed.ensures.segment (omega (arith, f, number, high)) (omega (arith, g2, number, given))
 
 pub returns-then-flushed-floor-clause-tables : goal.returns-then-flushed-floor-clause-tables
 returns-then-flushed-floor-clause-tables g c = let f = c.flushed.ensures.number in let number = c.number-floor.ensures in let high = c.if-flushed-floor.true in inl (omega (arith, f, number, high))
