@@ -17,7 +17,7 @@ use Rattle.wp_model.specs.History.{entry_at, is_prepare, prepared_name, name_at,
 use Rattle.wp_model.specs.Legal.{IsLegal, IsLegalNext, change_that_leaves, prior}
 use Rattle.wp_model.specs.Decision.{decision_of, IsCommittedAt, version_in, entry_version}
 use Rattle.wp_history.specs.Growth.{undecided_after}
-use Rattle.wp_history.proofs.Growth.{entry_at_next, length_next, after_front, legal_before, decides_undecided}
+use Rattle.wp_history.proofs.Growth.{entry_at_next, length_next, after_front, legal_before, decides_undecided, legal_naming}
 use Rattle.wp_model.proofs.Entries.{entry_at_old, undecided_within, batch_at_old}
 use Rattle.wp_history.proofs.Undecided.{undecided_old, undecided_at_next, undecided_next}
 use Rattle.wp_history.proofs.Newest.{newest_next}
@@ -203,10 +203,10 @@ module _ (history : List Entry) (entry : Entry) (legal : IsLegal (history ++ ent
   value_whole h key = ap (λ (x : List Entry). newest x key) (take-length h)
 
   pub value_new : (key : List ℕ) → value_at grown key next ≡ unwrap_or (change_to (changes_of history entry) key) (value_at history key (length history))
-  value_new key = ap (value_at grown key) (sym grown_length) ∙ (value_whole grown key ∙ (newest_next history entry key before after.orderly.names_undecided ∙ ap (λ (v : Option (List ℕ)). unwrap_or (change_to (changes_of history entry) key) v) (sym (value_whole history key))))
+  value_new key = ap (value_at grown key) (sym grown_length) ∙ (value_whole grown key ∙ (newest_next history entry key (legal_naming history before.each) after.orderly.names_undecided ∙ ap (λ (v : Option (List ℕ)). unwrap_or (change_to (changes_of history entry) key) v) (sym (value_whole history key))))
 
   pub newest_kept : (key : List ℕ) → change_to (changes_of history entry) key ≡ None → newest grown key ≡ newest history key
-  newest_kept key none = newest_next history entry key before after.orderly.names_undecided ∙ ap (λ (o : Option (Option (List ℕ))). unwrap_or o (newest history key)) none
+  newest_kept key none = newest_next history entry key (legal_naming history before.each) after.orderly.names_undecided ∙ ap (λ (o : Option (Option (List ℕ))). unwrap_or o (newest history key)) none
 
 -- ---- what a batch would restore
 

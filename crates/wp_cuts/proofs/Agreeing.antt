@@ -7,18 +7,16 @@ use Rattle.std.proofs.lemmas.List.{take_at, drop_at, drop-drop, take-append-drop
 use Rattle.wp_model.specs.declared.entry.Entry.{Entry}
 use Rattle.wp_model.specs.declared.entry.Entry.TheVariants.{Write, Prepare, Commit, Undo, Close}
 use Rattle.wp_model.specs.History.{entry_at, is_prepare, prepared_name, prepared_batch, is_undecided, undecided, value_at, newest}
-use Rattle.wp_model.specs.Legal.{NamesUndecided, AreLegal}
+use Rattle.wp_model.specs.Legal.{NamesUndecided}
 use Rattle.wp_model.specs.Decision.{entry_version, is_by, is_committed}
 use Rattle.wp_model.proofs.Entries.{entry_at_old, undecided_prepared, undecided_within}
-use Rattle.wp_history.proofs.Undecided.{is_undecided_by_list}
+use Rattle.wp_history.proofs.Undecided.{is_undecided_by_list, never_decided}
+use Rattle.wp_history.proofs.Growth.{AreNaming}
+use Rattle.wp_history.proofs.Following.{follow_front}
 use Rattle.wp_cuts.specs.Cut.{Carried, Cut, carried_from, carried_of, cut_at, IsCut}
 use Rattle.wp_cuts.specs.Agree.{HaveSameValues, AgreeFrom}
-use Rattle.wp_cuts.proofs.Following.{AreNaming, follow_front, never_decided}
 use Rattle.wp_cuts.proofs.Alike.{AreAlike, alike_behind, values_behind, undecided_alike, named_alike, holder_alike}
 use Rattle.wp_cuts.proofs.Decided.{entry_at_behind, decision_behind, undecided_not_decided, settled_is_committed}
-
-pub legal_naming : (history : List Entry) → AreLegal history → AreNaming history
-legal_naming history each n entry at = (each n entry at).orderly.names_undecided
 
 -- ---- with the same entries behind
 

@@ -12,7 +12,7 @@ use Rattle.wp_model.proofs.Entries.{entry_at_old, undecided_prepared, undecided_
 use Rattle.wp_history.proofs.Growth.{entry_at_next, length_next}
 use Rattle.wp_history.proofs.Undecided.{is_undecided_by_list, undecided_old}
 use Rattle.wp_history.proofs.Held.{not_free, free_key}
-use Rattle.wp_cuts.proofs.Following.{by_following}
+use Rattle.wp_history.proofs.Following.{by_following}
 
 pub record AreDistinct (history : List Entry) : Type 0 where
   pub names : (p q : ℕ) → is_undecided history p ≡ true → is_undecided history q ≡ true → name_at history p ≡ name_at history q → p ≡ q

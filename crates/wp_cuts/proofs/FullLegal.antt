@@ -16,9 +16,10 @@ use Rattle.wp_model.specs.Versions.{AreInOrder, version_at}
 use Rattle.wp_model.proofs.Entries.{slice_get_old}
 use Rattle.wp_model.proofs.Found.{found_holder, found_named}
 use Rattle.wp_history.proofs.Held.{not_free, free_key}
+use Rattle.wp_history.proofs.Following.{Follow}
+use Rattle.wp_history.proofs.Growth.{AreNaming}
 use Rattle.wp_cuts.specs.Cut.{Carried, Cut, carried_at, is_carried, base_value, changes_at, front_entry_of, front_entry, full_of}
 use Rattle.wp_cuts.specs.LegalCut.{AreNumbered, AreApart, cut_front, prepares_of, IsLegalCut, AreBelow}
-use Rattle.wp_cuts.proofs.Following.{Follow, AreNaming}
 use Rattle.wp_cuts.proofs.Alike.{orderly_alike}
 use Rattle.wp_cuts.proofs.Decided.{slice_get_behind}
 use Rattle.wp_cuts.proofs.Agreeing.{take_behind, naming_to}

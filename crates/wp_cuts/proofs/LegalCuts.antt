@@ -11,11 +11,12 @@ use Rattle.wp_model.specs.History.{entry_at, prepared_name, prepared_batch, batc
 use Rattle.wp_model.specs.Legal.{IsLegalNext, AreLegal, IsLegal}
 use Rattle.wp_model.proofs.Entries.{undecided_within, undecided_prepared}
 use Rattle.wp_history.proofs.Undecided.{is_undecided_by_list}
+use Rattle.wp_history.proofs.Following.{follow_take}
+use Rattle.wp_history.proofs.Growth.{legal_naming}
 use Rattle.wp_cuts.specs.Cut.{Carried, Cut, carried_from, IsCut, carried_at}
 use Rattle.wp_cuts.specs.LegalCut.{AreApart, cut_front, IsLegalCut}
-use Rattle.wp_cuts.proofs.Following.{follow_take}
 use Rattle.wp_cuts.proofs.Decided.{slice_get_behind}
-use Rattle.wp_cuts.proofs.Agreeing.{legal_naming, prepare_whole, cut_front_long, cut_whole}
+use Rattle.wp_cuts.proofs.Agreeing.{prepare_whole, cut_front_long, cut_whole}
 use Rattle.wp_cuts.proofs.Growing.{cut_carried, entries_long, front_is_cut, value_of_front}
 use Rattle.wp_cuts.proofs.Standing.{cut_numbered, orderly_from, restores_from}
 use Rattle.wp_cuts.proofs.Distinct.{legal_distinct}

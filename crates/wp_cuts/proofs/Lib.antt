@@ -1,4 +1,3 @@
-mod Following
 mod Alike
 mod Decided
 mod Agreeing

@@ -11,12 +11,13 @@ use Rattle.wp_model.specs.Decision.{version_in, entry_version, decision_of, is_b
 use Rattle.wp_model.specs.Versions.{AreInOrder, version_at}
 use Rattle.wp_model.specs.Covered.{GivesStore, IsCovered}
 use Rattle.wp_history.proofs.Counting.{entry_version_old}
+use Rattle.wp_history.proofs.Growth.{legal_naming}
 use Rattle.wp_cuts.specs.Cut.{Carried, Cut, IsCut, carried_at, is_carried, is_settled, base_value, front_entry_of, full_of}
 use Rattle.wp_cuts.specs.LegalCut.{AreNumbered, IsLegalCut}
 use Rattle.wp_cuts.specs.Agree.{AgreeFrom}
 use Rattle.wp_cuts.specs.Reopened.{AreFromBase, IsReopened}
 use Rattle.wp_cuts.proofs.Decided.{by_committed}
-use Rattle.wp_cuts.proofs.Agreeing.{legal_naming, cuts_agree}
+use Rattle.wp_cuts.proofs.Agreeing.{cuts_agree}
 use Rattle.wp_cuts.proofs.Versions.{changes_to}
 use Rattle.wp_cuts.proofs.FullList.{settled_parts, settled_from, front, full_is, front_long, front_at, full_is_cut, full_value, base_newest, base_none}
 use Rattle.wp_cuts.proofs.Standing.{cut_numbered, stands_for}

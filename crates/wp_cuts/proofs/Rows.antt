@@ -9,7 +9,9 @@ use Rattle.wp_model.specs.History.{entry_at, is_prepare, decides, is_undecided, 
 use Rattle.wp_model.specs.Legal.{NamesUndecided, UndoIsClosed, undone_last}
 use Rattle.wp_history.specs.Growth.{undone_by}
 use Rattle.wp_history.proofs.Undone.{undone_next}
-use Rattle.wp_cuts.proofs.Following.{AreNaming, follow_none, follow_next, newest_next}
+use Rattle.wp_history.proofs.Following.{follow_none, follow_next}
+use Rattle.wp_history.proofs.Growth.{AreNaming}
+use Rattle.wp_history.proofs.Newest.{newest_next}
 
 abbrev pub is_start : Entry → Bool
 is_start (Write batch) = true

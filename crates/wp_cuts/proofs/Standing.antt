@@ -12,9 +12,11 @@ use Rattle.wp_model.specs.History.{prepared_batch, batch_at, is_undecided, undec
 use Rattle.wp_model.specs.Legal.{NamesUndecided, RestoresPrior, change_that_leaves, prior, IsOrderlyNext}
 use Rattle.wp_model.proofs.Entries.{undecided_within}
 use Rattle.wp_history.specs.Growth.{AreAscending}
+use Rattle.wp_history.proofs.Following.{follow_front, follows, follow_next}
+use Rattle.wp_history.proofs.Growth.{AreNaming}
+use Rattle.wp_history.proofs.Newest.{newest_next, changes_stay}
 use Rattle.wp_cuts.specs.Cut.{Carried, Cut, carried_from, IsCut, full_of}
 use Rattle.wp_cuts.specs.LegalCut.{AreNumbered, prepares_of, value_behind, RestoresBehind}
-use Rattle.wp_cuts.proofs.Following.{AreNaming, follow_front, follows, follow_next, newest_next, changes_stay}
 use Rattle.wp_cuts.proofs.Alike.{AreAlike, alike_back, alike_next, alike_behind, names_alike, changes_alike, orderly_alike}
 use Rattle.wp_cuts.proofs.Agreeing.{numbers_back, alike_at_base, cut_whole}
 use Rattle.wp_cuts.proofs.FullList.{front, full_is, front_naming, take_front, full_is_cut}

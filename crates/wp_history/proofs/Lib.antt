@@ -1,3 +1,4 @@
+pub mod Following
 pub mod Growth
 pub mod Undecided
 pub mod Ascending

@@ -1,5 +1,5 @@
 -- What the store has under a key, entry by entry.
-use Rattle.std.proofs.Common.{◌≡◌, ℕ, ◌+◌, ◌<◌, List, [], ◌∷◌, ◌++◌, length, get_or, take, drop, Option, Some, None, refl, sym, ap, ◌∙◌, subst, append_assoc}
+use Rattle.std.proofs.Common.{◌≡◌, ℕ, ◌+◌, ◌<◌, List, [], ◌∷◌, ◌++◌, length, get_or, take, drop, Option, Some, None, refl, sym, ap, ◌∙◌, append_assoc}
 use Rattle.std.specs.Prelude.{fold, unwrap_or}
 use Rattle.std.proofs.lemmas.List.{take-append-drop, take_more}
 use Rattle.std.proofs.lemmas.Option.{slice_get-get_or}
@@ -11,10 +11,11 @@ use Rattle.wp_model.specs.Batch.{change_to}
 use Rattle.wp_model.specs.History.{changes_of, value_after, newest}
 use Rattle.wp_model.specs.Legal.{IsLegal, IsLegalNext, NamesUndecided}
 use Rattle.wp_model.proofs.Entries.{batch_at_old, undecided_within}
-use Rattle.wp_history.proofs.Growth.{by_growth, legal_before}
+use Rattle.wp_history.proofs.Following.{follow_take, by_following}
+use Rattle.wp_history.proofs.Growth.{AreNaming, legal_naming}
 
 -- an entry makes the same changes, whatever follows
-changes_stay : (history more : List Entry) (entry : Entry) → NamesUndecided history entry → changes_of (history ++ more) entry ≡ changes_of history entry
+pub changes_stay : (history more : List Entry) (entry : Entry) → NamesUndecided history entry → changes_of (history ++ more) entry ≡ changes_of history entry
 changes_stay history more (Write batch) names = refl
 changes_stay history more (Prepare name batch) names = refl
 changes_stay history more (Commit p) names = batch_at_old history more p (undecided_within history p names).1
@@ -45,17 +46,14 @@ newest_among_none : IsNewestAmongMore []
 unfolding IsNewestAmongMore
 newest_among_none more key = refl
 
-newest_among_more : (history : List Entry) → IsLegal history → IsNewestAmongMore history
-newest_among_more history legal = by_growth IsNewestAmongMore newest_among_none (λ h entry _ _ after among. among_more_next h entry after.orderly.names_undecided among) history legal
+newest_among_more : (history : List Entry) → AreNaming history → IsNewestAmongMore history
+newest_among_more history naming = by_following NamesUndecided IsNewestAmongMore newest_among_none (λ h entry _ names among. among_more_next h entry names among) history naming
 
 -- one entry more changes the store by what it commits
-pub newest_next : (history : List Entry) (entry : Entry) (key : List ℕ) → IsLegal history → NamesUndecided history entry → newest (history ++ entry ∷ []) key ≡ value_after history key (newest history key) entry
-newest_next history entry key legal names = one_more (history ++ entry ∷ []) history entry (entry ∷ []) key refl names (newest_among_more history legal)
+pub newest_next : (history : List Entry) (entry : Entry) (key : List ℕ) → AreNaming history → NamesUndecided history entry → newest (history ++ entry ∷ []) key ≡ value_after history key (newest history key) entry
+newest_next history entry key naming names = one_more (history ++ entry ∷ []) history entry (entry ∷ []) key refl names (newest_among_more history naming)
 
 -- ---- backwards from an entry
-
-legal_take : (history : List Entry) (n : ℕ) → IsLegal history → IsLegal (take n history)
-legal_take history n legal = legal_before (take n history) (drop n history) (subst IsLegal (sym (take-append-drop n history)) legal)
 
 after_at : (history : List Entry) (i : ℕ) (here : Entry) → IsLegal history → i < length history → here ≡ get_or history i here → IsLegalNext (take i history) here
 after_at history i here legal lt is = legal.each i here (slice_get-get_or history i here lt ∙ ap (λ (e : Entry). Some e) (sym is))
@@ -72,7 +70,7 @@ newest_at : (history : List Entry) (key : List ℕ) (i : ℕ) (here : Entry) →
 newest_at history key i here legal lt is =
     let after : IsLegalNext (take i history) here = after_at history i here legal lt is in
     ap (λ (h : List Entry). newest h key) (take_next history i here lt is)
-    ∙ newest_next (take i history) here key (legal_take history i legal) after.orderly.names_undecided
+    ∙ newest_next (take i history) here key (follow_take NamesUndecided i history (legal_naming history legal.each)) after.orderly.names_undecided
     ∙ ap (λ (changes : List Change). unwrap_or (change_to changes key) (newest (take i history) key)) (changes_here history i here after.orderly.names_undecided)
 
 pub unchanged_at : (history : List Entry) (key : List ℕ) (i j : ℕ) (here : Entry) → IsLegal history → j ≡ i + 1 → i < length history → here ≡ get_or history i here → change_to (changes_of history here) key ≡ None

@@ -12,7 +12,7 @@ use Rattle.wp_model.specs.Batch.{change_to}
 use Rattle.wp_model.specs.History.{entry_at, is_prepare, batch_at, decides, is_undecided, newest, value_at}
 use Rattle.wp_model.specs.Legal.{changes_in, IsLegal, IsLegalNext, undone_last, prior}
 use Rattle.wp_model.specs.Decision.{version_in, entry_version, decision_in, IsCommittedAt, IsNewestCommitted, HasNoneCommitted}
-use Rattle.wp_history.proofs.Growth.{entry_at_next, length_next, by_growth, legal_before, after_front, decided_next}
+use Rattle.wp_history.proofs.Growth.{entry_at_next, length_next, by_growth, legal_before, after_front, decided_next, legal_naming}
 use Rattle.wp_model.proofs.Entries.{entry_at_old, entry_at_past, undecided_prepared, undecided_within, last_undo, batch_at_old}
 use Rattle.wp_history.proofs.Undecided.{never_decided}
 use Rattle.wp_history.proofs.Newest.{newest_next}
@@ -142,7 +142,7 @@ restored_same None value = refl
 restored_same (Some x) value = refl
 
 undo_keeps_store : (history : List Entry) (p : ℕ) (batch : List Change) (key : List ℕ) → IsLegal history → IsLegalNext history (Undo p batch) → newest (history ++ Undo p batch ∷ []) key ≡ newest history key
-undo_keeps_store history p batch key legal after = newest_next history (Undo p batch) key legal after.orderly.names_undecided
+undo_keeps_store history p batch key legal after = newest_next history (Undo p batch) key (legal_naming history legal.each) after.orderly.names_undecided
 
 -- what an undo holds under a key of its prepare
 undone_to : (history : List Entry) (p : ℕ) (batch : List Change) (key : List ℕ) → batch ≡ prior history (batch_at history p) → change_to batch key ≡ option_map (λ _. newest history key) (change_to (batch_at history p) key)
@@ -158,7 +158,7 @@ undo_lawful history p batch key legal after lawful =
 commit_lawful : (history : List Entry) (p : ℕ) (key : List ℕ) → IsLegal history → NoneAbove history → IsLegalNext history (Commit p) → IsLawful history key → IsLawful (history ++ Commit p ∷ []) key
 commit_lawful history p key legal none after lawful =
     let grown = history ++ Commit p ∷ [] in
-    let value = newest_next history (Commit p) key legal after.orderly.names_undecided in
+    let value = newest_next history (Commit p) key (legal_naming history legal.each) after.orderly.names_undecided in
     let next = next_version history (Commit p) key in
     elim (change_to (batch_at history p) key) as (λ change. change_to (batch_at history p) key ≡ change → IsLawful grown key) [
       | None ↦ λ e. lawful_same history grown key lawful (same_versions history (Commit p) key next (nothing_decided history (Commit p) key p e after.orderly.names_undecided (λ q. eqb-true p q))) (value ∙ ap (λ (c : Option (Option (List ℕ))). unwrap_or c (newest history key)) e)
@@ -199,7 +199,7 @@ ends_undone history p key x legal undone changed =
 close_lawful : (history : List Entry) (p : ℕ) (key : List ℕ) → IsLegal history → IsLegalNext history (Close p) → IsLawful history key → IsLawful (history ++ Close p ∷ []) key
 close_lawful history p key legal after lawful =
     let grown = history ++ Close p ∷ [] in
-    let value : newest grown key ≡ newest history key = newest_next history (Close p) key legal after.orderly.names_undecided in
+    let value : newest grown key ≡ newest history key = newest_next history (Close p) key (legal_naming history legal.each) after.orderly.names_undecided in
     let next = next_version history (Close p) key in
     elim (change_to (batch_at history p) key) as (λ change. change_to (batch_at history p) key ≡ change → IsLawful grown key) [
       | None ↦ λ e. lawful_same history grown key lawful (same_versions history (Close p) key next (nothing_decided history (Close p) key p e after.orderly.names_undecided (λ q. eqb-true p q))) value
@@ -214,12 +214,12 @@ close_lawful history p key legal after lawful =
 
 prepare_version : (history : List Entry) (name : List ℕ) (batch : List Change) (key : List ℕ) → IsLegal history → committed_version (history ++ Prepare name batch ∷ []) (length history + 1) key ≡ None
 prepare_version history name batch key legal =
-    let decided : is_some (decision_in (history ++ Prepare name batch ∷ []) (length history + 1) (Some (Prepare name batch))) ≡ false = decided_any (history ++ Prepare name batch ∷ []) (length history + 1) ∙ decided_next history (Prepare name batch) (length history + 1) ∙ or_false _ false refl ∙ never_decided history legal in
+    let decided : is_some (decision_in (history ++ Prepare name batch ∷ []) (length history + 1) (Some (Prepare name batch))) ≡ false = decided_any (history ++ Prepare name batch ∷ []) (length history + 1) ∙ decided_next history (Prepare name batch) (length history + 1) ∙ or_false _ false refl ∙ never_decided history (length history + 1) (legal_naming history legal.each) (omega arith) in
     next_version history (Prepare name batch) key ∙ ap (λ (b : Bool). cond b (change_to batch key) None) decided
 
 lawful_next : (history : List Entry) (entry : Entry) (key : List ℕ) → IsLegal history → IsLegalNext history entry → IsLawful history key → IsLawful (history ++ entry ∷ []) key
-lawful_next history (Write batch) key legal after lawful = kept_lawful history (Write batch) key lawful (λ q. refl) (next_version history (Write batch) key) (newest_next history (Write batch) key legal tt)
-lawful_next history (Prepare name batch) key legal after lawful = lawful_same history (history ++ Prepare name batch ∷ []) key lawful (same_versions history (Prepare name batch) key (prepare_version history name batch key legal) (λ q le it. absurd cc)) (newest_next history (Prepare name batch) key legal tt)
+lawful_next history (Write batch) key legal after lawful = kept_lawful history (Write batch) key lawful (λ q. refl) (next_version history (Write batch) key) (newest_next history (Write batch) key (legal_naming history legal.each) tt)
+lawful_next history (Prepare name batch) key legal after lawful = lawful_same history (history ++ Prepare name batch ∷ []) key lawful (same_versions history (Prepare name batch) key (prepare_version history name batch key legal) (λ q le it. absurd cc)) (newest_next history (Prepare name batch) key (legal_naming history legal.each) tt)
 lawful_next history (Commit p) key legal after lawful = commit_lawful history p key legal (legal_none_above history legal) after lawful
 lawful_next history (Undo p batch) key legal after lawful = undo_lawful history p batch key legal after lawful
 lawful_next history (Close p) key legal after lawful = close_lawful history p key legal after lawful

@@ -13,7 +13,7 @@ use Rattle.wp_model.specs.Legal.{IsLegal, IsLegalNext, NamesUndecided, undone_la
 use Rattle.wp_history.specs.Growth.{without_decided, undecided_after}
 use Rattle.wp_history.specs.History.{IsLegalWith}
 use Rattle.wp_model.proofs.Entries.{undecided_within, entry_at_old, prepared_within}
-use Rattle.wp_history.proofs.Growth.{entry_at_next, length_next, legal_next, decides_undecided, decided_next, decided_prepared}
+use Rattle.wp_history.proofs.Growth.{entry_at_next, length_next, legal_next, decides_undecided, decided_next, legal_naming, AreNaming, decided_prepared}
 
 -- ---- numbers in a row
 
@@ -65,20 +65,20 @@ pub undecided_old : (history : List Entry) (entry : Entry) (p : ℕ) → p ≤ l
 undecided_old history entry p le = rw (entry_at_old history (entry ∷ []) p le, decided_next history entry p) (and_not_or (is_prepare (entry_at history p)) (list_any (decides p) history) (decides p entry))
 
 -- nothing decides a number past the history
-pub never_decided : (history : List Entry) → IsLegal history → list_any (decides (length history + 1)) history ≡ false
-never_decided history legal =
-    false_from_ne_true _ (λ h. let within = prepared_within history (length history + 1) (decided_prepared history legal (length history + 1) h) in absurd (omega (arith, within.1)))
+pub never_decided : (history : List Entry) (p : ℕ) → AreNaming history → length history < p → list_any (decides p) history ≡ false
+never_decided history p naming past =
+    false_from_ne_true _ (λ h. let within = prepared_within history p (decided_prepared history naming p h) in absurd (omega (arith, within.1)))
 
-not_decided_by : (history : List Entry) (entry : Entry) → NamesUndecided history entry → decides (length history + 1) entry ≡ false
-not_decided_by history entry names =
-    false_from_ne_true _ (λ h. let within = undecided_within history (length history + 1) (decides_undecided history entry (length history + 1) names h) in absurd (omega (arith, within.1)))
+pub not_decided_by : (history : List Entry) (entry : Entry) (p : ℕ) → NamesUndecided history entry → length history < p → decides p entry ≡ false
+not_decided_by history entry p names past =
+    false_from_ne_true _ (λ h. let within = undecided_within history p (decides_undecided history entry p names h) in absurd (omega (arith, within.1)))
 
 and_true : (b : Bool) → (b && true) ≡ b
 and_true true = refl
 and_true false = refl
 
 pub undecided_at_next : (history : List Entry) (entry : Entry) → IsLegal history → decides (length history + 1) entry ≡ false → is_undecided (history ++ entry ∷ []) (length history + 1) ≡ is_prepare (Some entry)
-undecided_at_next history entry legal not_it = rw (entry_at_next history entry, decided_next history entry (length history + 1), never_decided history legal, not_it) (and_true (is_prepare (Some entry)))
+undecided_at_next history entry legal not_it = rw (entry_at_next history entry, decided_next history entry (length history + 1), never_decided history (length history + 1) (legal_naming history legal.each) (omega arith), not_it) (and_true (is_prepare (Some entry)))
 
 -- the undecided prepares with an entry more, by the test at each number
 undecided_split : (history : List Entry) (entry : Entry) → IsLegal history → NamesUndecided history entry
@@ -90,7 +90,7 @@ undecided_split history entry legal names =
     ap (range_with_len 1) (length_next history entry) ∙ range_more 1 (length history) ∙ ap (λ (m : ℕ). range_with_len 1 (length history) ++ m ∷ []) (omega arith) in
     let old : filter test (range_with_len 1 (length history)) ≡ filter (λ k. not (decides k entry)) (undecided history) =
     filter_range test (λ k. is_undecided history k && not (decides k entry)) 1 (length history) (λ k le lt. undecided_old history entry k (omega arith)) ∙ filter_both (is_undecided history) (λ k. not (decides k entry)) (range_with_len 1 (length history)) in
-    let last : filter test (next ∷ []) ≡ cond (is_prepare (Some entry)) (next ∷ []) [] = ap (λ (b : Bool). cond b (next ∷ []) []) (undecided_at_next history entry legal (not_decided_by history entry names)) in
+    let last : filter test (next ∷ []) ≡ cond (is_prepare (Some entry)) (next ∷ []) [] = ap (λ (b : Bool). cond b (next ∷ []) []) (undecided_at_next history entry legal (not_decided_by history entry next names (omega arith))) in
     ap (filter test) numbers ∙ filter-append test (range_with_len 1 (length history)) (next ∷ []) ∙ ap (λ (xs : List ℕ). xs ++ filter test (next ∷ [])) old ∙ ap (λ (xs : List ℕ). filter (λ k. not (decides k entry)) (undecided history) ++ xs) last
 
 filter_all : (xs : List ℕ) → filter (λ k. true) xs ≡ xs

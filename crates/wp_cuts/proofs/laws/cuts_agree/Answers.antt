@@ -1,4 +1,5 @@
-use Rattle.wp_cuts.proofs.Agreeing.{legal_naming, cuts_agree}
+use Rattle.wp_history.proofs.Growth.{legal_naming}
+use Rattle.wp_cuts.proofs.Agreeing.{cuts_agree}
 use Rattle.wp_cuts.proofs.laws.cuts_agree.Goals as goal
 
 pub returns : goal.returns
