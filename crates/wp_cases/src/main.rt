@@ -1,5 +1,6 @@
 //! Runs cases: scripts over stores in memory, with what they are answered and what they leave, as text in files. The files are
-//! named on the command line. A case that does not come out as it says is printed with its file and line; the last line counts.
+//! named on the command line. A case that does not come out as it says is told with its file and line on standard error; what is
+//! printed counts the cases.
 #![tactic(auto)]
 
 mod bytes;
@@ -26,8 +27,8 @@ use std::rt::Files;
 use std::{fs, io};
 use trouble::Trouble;
 
-/// Plays a case, and prints what is wrong with it. Answers whether it came out as it says.
-fn play_one<R: Plays + Print>(
+/// Plays a case, and tells what is wrong with it. Answers whether it came out as it says.
+fn play_one<R: Plays + Eprint>(
     rt: &R,
     file: &str,
     names: &mut Names,
@@ -42,12 +43,12 @@ fn play_one<R: Plays + Print>(
         Trouble::Unclear => "not understood",
         Trouble::Wrong(what) => what.as_str(),
     };
-    println!(rt; "{file}, line {line}: {why}")?;
+    eprintln!(rt; "{file}, line {line}: {why}")?;
     Ok(false)
 }
 
 /// Plays the cases of one file. Answers how many there were, and how many did not come out as they say.
-fn play_file<R: Plays + Files + Print>(rt: &R, file: &str) -> io::Result<(usize, usize)> {
+fn play_file<R: Plays + Files + Eprint>(rt: &R, file: &str) -> io::Result<(usize, usize)> {
     let text = fs::read_to_string(rt, file)?;
     let clauses = clauses_of(rt.alloc(), &text)?;
     let groups = groups(rt.alloc(), &clauses, "case")?;
@@ -63,7 +64,7 @@ fn play_file<R: Plays + Files + Print>(rt: &R, file: &str) -> io::Result<(usize,
 }
 
 /// Plays the cases of all files that are named on the command line. Answers whether all came out as they say.
-fn play_files<R: Plays + Env + Files + Print>(rt: &R) -> io::Result<bool> {
+fn play_files<R: Plays + Env + Files + Print + Eprint>(rt: &R) -> io::Result<bool> {
     let (mut cases, mut failed) = (0usize, 0usize);
     for file in env::args(rt)?.skip(1) {
         let (more, wrong) = play_file(rt, &file)?;
