@@ -1,0 +1,94 @@
+//! A case: the world that its steps have made so far.
+use crate::entry::entry_of;
+use crate::play::played;
+use crate::step::first_word;
+use crate::trouble::{Tried, Trouble, number};
+use std::alloc::Global;
+use wp_history::History;
+use wp_machine::World;
+use wp_model::{Entry, Name};
+
+/// The greatest number of an entry: 2^32 - 1.
+const MOST_ENTRIES: u64 = 4294967295;
+
+/// The name of the client.
+const CLIENT: &[u8] = b"a";
+
+#[derive(Drop)]
+pub(crate) struct Case {
+    /// What an opening finds.
+    found: History,
+    /// None where there is no case.
+    world: Option<World>,
+}
+
+fn client(alloc: Global) -> Tried<Name> {
+    match Name::read(alloc, CLIENT) {
+        Ok(name) => Ok(name),
+        Err(_) => Err(Trouble::Memory),
+    }
+}
+
+fn add(history: &mut History, entry: Entry) -> Tried<()> {
+    if history.published() == MOST_ENTRIES || !history.is_legal_next(&entry) {
+        return Err(Trouble::Wrong);
+    }
+    history.reserve(1)?;
+    history.push(entry);
+    Ok(())
+}
+
+/// The world that is opened on the history, with a commit cache of one word.
+fn opened(alloc: Global, history: &History) -> Tried<World> {
+    if history.undone_last().is_some() {
+        return Err(Trouble::Wrong);
+    }
+    let client = client(alloc)?;
+    Ok(World::opened(alloc, client, history, 0)?)
+}
+
+impl Case {
+    /// No case: its lines are passed over.
+    pub(crate) fn none(alloc: Global) -> Case {
+        Case {
+            found: History::new(alloc),
+            world: None,
+        }
+    }
+
+    /// Begins a case, on the empty history.
+    pub(crate) fn begin(&mut self, alloc: Global) -> Tried<()> {
+        self.found = History::new(alloc);
+        let client = client(alloc)?;
+        self.world = Some(World::new(alloc, client)?);
+        Ok(())
+    }
+
+    /// Reads `2 ENTRY`: twice this entry is found.
+    pub(crate) fn find(&mut self, alloc: Global, words: &str) -> Tried<()> {
+        let (times, words) = first_word(words);
+        for _ in 0..number(times)? {
+            let entry = entry_of(alloc, words)?;
+            add(&mut self.found, entry)?;
+        }
+        Ok(())
+    }
+
+    /// Opens the world on what was found.
+    pub(crate) fn open(&mut self, alloc: Global) -> Tried<()> {
+        if self.world.is_none() {
+            return Ok(());
+        }
+        self.world = Some(opened(alloc, &self.found)?);
+        Ok(())
+    }
+
+    /// Plays the lines.
+    pub(crate) fn play(&mut self, lines: &str) -> Tried<()> {
+        let Some(world) = self.world.take() else {
+            return Ok(());
+        };
+        self.world = Some(played(world, lines)?);
+        Ok(())
+    }
+}

@@ -1,0 +1,38 @@
+//! The steps of the client.
+use crate::so::is_so;
+use crate::step::kind_of;
+use crate::trouble::{Tried, Trouble};
+use wp_machine::{Step, World, apply};
+use wp_machine_permits::permits;
+
+/// The one client, which writes and reads.
+const SEAT: usize = 0;
+
+/// The world after the step, which has to be permitted.
+fn stepped(world: World, line: &str) -> Tried<World> {
+    let kind = kind_of(world.alloc, line)?;
+    let step = Step { by: SEAT, kind };
+    if !permits(&world, &step)? {
+        return Err(Trouble::Wrong);
+    }
+    Ok(apply(world, step)?)
+}
+
+/// The world after the line, which says what is so or is a step.
+fn after(world: World, line: &str) -> Tried<World> {
+    let Some(what) = line.strip_prefix("expect ") else {
+        return stepped(world, line);
+    };
+    if !is_so(&world, what)? {
+        return Err(Trouble::Wrong);
+    }
+    Ok(world)
+}
+
+/// The world after the lines.
+pub(crate) fn played(mut world: World, lines: &str) -> Tried<World> {
+    for line in lines.lines() {
+        world = after(world, line)?;
+    }
+    Ok(world)
+}
