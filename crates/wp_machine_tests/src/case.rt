@@ -48,7 +48,7 @@ fn opened(alloc: Global, history: &History) -> Tried<World> {
 }
 
 impl Case {
-    /// No case: its lines are passed over.
+    /// No case.
     pub(crate) fn none(alloc: Global) -> Case {
         Case {
             found: History::new(alloc),
@@ -56,11 +56,21 @@ impl Case {
         }
     }
 
+    fn put(&mut self, world: World) {
+        self.world = Some(world);
+    }
+
+    /// Ends the case: its other lines are passed over.
+    pub(crate) fn end(&mut self) {
+        self.world = None;
+    }
+
     /// Begins a case, on the empty history.
     pub(crate) fn begin(&mut self, alloc: Global) -> Tried<()> {
         self.found = History::new(alloc);
         let client = client(alloc)?;
-        self.world = Some(World::new(alloc, client)?);
+        let world = World::new(alloc, client)?;
+        self.put(world);
         Ok(())
     }
 
@@ -79,7 +89,8 @@ impl Case {
         if self.world.is_none() {
             return Ok(());
         }
-        self.world = Some(opened(alloc, &self.found)?);
+        let world = opened(alloc, &self.found)?;
+        self.put(world);
         Ok(())
     }
 
@@ -88,7 +99,8 @@ impl Case {
         let Some(world) = self.world.take() else {
             return Ok(());
         };
-        self.world = Some(played(world, lines)?);
+        let world = played(world, lines)?;
+        self.put(world);
         Ok(())
     }
 }

@@ -37,21 +37,20 @@ fn why(trouble: Trouble) -> &'static str {
     }
 }
 
-/// Plays the lines of one file. Groups serve the files behind it too.
-fn play_file<R: AllocGlobal + Files + Eprint>(
+/// Plays the lines of one file.
+fn play_lines<R: AllocGlobal + Eprint>(
     rt: &R,
-    file: &str,
+    (file, text): (&str, &str),
     groups: &mut Vec<Group>,
+    case: &mut Case,
     counts: &mut Counts,
 ) -> io::Result<()> {
-    let text = fs::read_to_string(rt, file)?;
-    let mut case = Case::none(rt.alloc());
     for (place, line) in text.lines().enumerate() {
         if line.starts_with("case ") {
             counts.cases = counts.cases.saturating_add(1);
         }
-        if let Err(trouble) = play_line(rt.alloc(), groups, &mut case, line) {
-            case = Case::none(rt.alloc());
+        if let Err(trouble) = play_line(rt.alloc(), groups, case, line) {
+            case.end();
             counts.failed = counts.failed.saturating_add(1);
             eprintln!(rt;
                 "{file}, line {}: {}",
@@ -61,6 +60,18 @@ fn play_file<R: AllocGlobal + Files + Eprint>(
         }
     }
     Ok(())
+}
+
+/// Plays one file. Groups serve the files behind it too.
+fn play_file<R: AllocGlobal + Files + Eprint>(
+    rt: &R,
+    file: &str,
+    groups: &mut Vec<Group>,
+    counts: &mut Counts,
+) -> io::Result<()> {
+    let text = fs::read_to_string(rt, file)?;
+    let mut case = Case::none(rt.alloc());
+    play_lines(rt, (file, &text), groups, &mut case, counts)
 }
 
 /// Plays all files that are named on the command line. Answers whether all came out as they say.
