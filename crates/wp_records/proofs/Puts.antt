@@ -11,22 +11,22 @@ use Rattle.wp_core.specs.Entries.{pair_by, transaction_of}
 use Rattle.wp_core.specs.Lists.{IsIn}
 use Rattle.wp_core.specs.Sound.Views.{guarded_by}
 use Rattle.wp_core.specs.Tables.{WriteTable, Content, writes}
-use Rattle.wp_core.specs.Views.{Fact, words_stay, versions_in_memory}
-use Rattle.wp_core.specs.World.{Participant}
+use Rattle.wp_core.specs.Views.{Fact, words_stay, versions_in_memory, none_waits}
+use Rattle.wp_core.specs.World.{Participant, World}
 use Rattle.wp_rule.specs.Knows.{Noted}
 use Rattle.wp_parts.specs.Log.{LogState}
-use Rattle.wp_shared.specs.Seats.{SharedState, SeatState}
+use Rattle.wp_shared.specs.Seats.{SharedState, SeatState, Stands}
 use Rattle.wp_shared.specs.Notes.{being, noting, GoesOn}
 use Rattle.wp_shared.proofs.Goes.{holds, notes}
 use Rattle.wp_commits.specs.declared.way.Way.{Way}
 use Rattle.wp_commits.specs.Bound.{bound_with, bound_for}
-use Rattle.wp_commits.specs.Ways.{way_of, ways_of, RisesFor, with_way, entered}
+use Rattle.wp_commits.specs.Ways.{way_of, ways_of, AnyClears, RisesFor, with_way, entered}
 use Rattle.wp_commits.proofs.Clears.{still_noted}
 use Rattle.wp_commits.proofs.Ways.{bound_for_more}
 use Rattle.wp_records.specs.declared.error.WriteError.{WriteError}
 use Rattle.wp_records.specs.declared.error.WriteError.TheVariants.{Memory, LogFault}
 use Rattle.wp_records.specs.Writing.{HoldsWrite}
-use Rattle.wp_records.specs.Records.{numbers_behind, putting, is_about, IsAboutNone, IsPutWith, IsPut, IsNotPut, IsUncalled, failing, FailsAppend, Puts}
+use Rattle.wp_records.specs.Records.{numbers_behind, putting, is_about, IsAboutNone, HasCleared, IsPutWith, IsPut, IsNotPut, IsUncalled, failing, FailsAppend, Puts}
 use Rattle.wp_records.specs.Stages.{is_of_stage, is_guarded, may_end, holding, as_failed, HoldsPending, IsLogged, Logs, HasJoined}
 use Rattle.wp_records.proofs.Facts.{not_stage, unguarded}
 use Rattle.wp_records.proofs.Holding.{as_write}
@@ -99,8 +99,8 @@ module _ {D : Type 0} (z : SharedState D) (s t new : SeatState) (log mid left : 
       words = λ bound words there. subst (λ (b : ℕ). Noted new.knows (words_stay b words)) (rose others bound words) (p.words (bound_for z.cells n bound words cleared) words (rises bound words there));
     }
 
-    put_before : (others : List Way) (entries : List Entry) → IsPutWith z t mid others entries new left → IsPutWith z s log (cleared ++ others) entries new left
-    put_before others entries p = record {
+    put_before : (others : List Way) (entries : List Entry) → (AnyClears (cleared ++ others) → HasCleared z s log.table.history entries) → IsPutWith z t mid others entries new left → IsPutWith z s log (cleared ++ others) entries new left
+    put_before others entries waited p = record {
       holds = p.holds;
       same_by = p.same_by ∙ ap (λ (x : SeatState). x.by) k.same;
       history = p.history ∙ ap (λ (e : List Entry). e ++ entries) same_history;
@@ -108,6 +108,7 @@ module _ {D : Type 0} (z : SharedState D) (s t new : SeatState) (log mid left : 
       knows = p.knows
           ∙ (λ i. record (k.same i).knows { participant = putting (same_history i) entries (k.same i).knows.participant; learned = []; held = writes left.table ∷ []; notes = new.knows.notes });
       notes = λ fact guard about there. p.notes fact guard (subst (λ (e : List Entry). IsAboutNone e entries fact) (sym same_history) about) (k.noted fact (unguarded fact guard) there);
+      waited = waited;
       words = λ bound words there.
           subst (λ (x : List Entry × ℕ). Noted new.knows (entered z.cells (length x.0) x.1 words (ways_of z.cells (suc (length x.0)) entries))) (λ i. (same_history i, rose others bound words i))
           (p.words (bound_for z.cells n bound words cleared) words (rises bound words there));
@@ -126,8 +127,23 @@ module _ {D : Type 0} (z : SharedState D) (s t new : SeatState) (log mid left : 
     ways_are : (entries : List Entry) → ways_of z.cells (suc (length mid.table.history)) entries ≡ ways_of z.cells (suc n) entries
     ways_are entries = ap (λ (e : List Entry). ways_of z.cells (suc (length e)) entries) same_history
 
+    cleared_before : (entries : List Entry) → HasCleared z t mid.table.history entries → HasCleared z s log.table.history entries
+    cleared_before entries h = record {
+      seat = h.seat;
+      world = h.world;
+      stands = h.stands;
+      same_by = h.same_by ∙ ap (λ (x : SeatState). x.by) k.same;
+      participant = h.participant ∙ ap (λ (x : SeatState). x.knows.participant) k.same;
+      table = h.table;
+      held = h.held;
+      history_is = h.history_is ∙ same_history;
+      pending_is = h.pending_is;
+      rises = subst (λ (e : List Entry). RisesFor z.cells (length e) s.knows h.seat.knows (ways_of z.cells (suc (length e)) entries)) same_history (λ bound words there. h.rises bound words (rises bound words there));
+      waits = h.waits;
+    }
+
     pub puts_before : (entries : List Entry) (answer : Result (Unit {0}) WriteError) → Puts z t mid entries answer new left → Puts z s log entries answer new left
-    puts_before entries (Ok done) p = subst (λ (w : List Way). IsPutWith z s log w entries new left) (ways_are entries) (put_before [] rises (ways_of z.cells (suc (length mid.table.history)) entries) entries p)
+    puts_before entries (Ok done) p = subst (λ (w : List Way). IsPutWith z s log w entries new left) (ways_are entries) (put_before [] rises (ways_of z.cells (suc (length mid.table.history)) entries) entries (λ any. cleared_before entries (p.waited any)) p)
     puts_before entries (Err Memory) p = (
       p.0,
       p.1,
@@ -168,6 +184,7 @@ put_none z s log h none running learned = record {
   running = running;
   knows = let seen = h.seen ∙ sym (append-nil log.table.history) in λ i. record s.knows { participant = record s.knows.participant { seen = seen i; own = sym (append-nil s.knows.participant.own) i }; learned = learned i; held = h.turn.held i };
   notes = λ fact guard about there. there;
+  waited = λ none. absurd none;
   words = λ bound words there. there;
 }
 
@@ -196,6 +213,7 @@ module _ {D : Type 0} (z : SharedState D) (s t new : SeatState) (log mid left : 
         ∙ ((λ i. record (joined.seat.same i).knows { participant = putting (history_is i) others (joined.seat.same i).knows.participant; learned = []; held = writes left.table ∷ []; notes = new.knows.notes })
         ∙ ap (λ (p : Participant). record s.knows { participant = p; learned = []; held = writes left.table ∷ []; notes = new.knows.notes }) (one_more log.table.history s.knows.participant));
     notes = λ fact guard about there. k.notes fact guard (subst (λ (e : List Entry). IsAboutNone e others fact) (sym history_is) about.1) (joined.seat.noted fact (may_end_not log.table.history entry fact guard about.0) there);
+    waited = λ none. absurd none;
     words = λ bound words there.
         let way = way_of z.cells (pair_by (suc (length log.table.history)) entry) in
         let next : ℕ = bound_with z.cells (length log.table.history) bound words way in
@@ -214,15 +232,34 @@ module _ {D : Type 0} (z : SharedState D) (s t : SeatState) (log mid : LogState)
   -- behind a fact that was noted
   pub put_noted : (r : SeatState) → s ≡ noting versions_in_memory r → (new : SeatState) (left : LogState) → IsPutWith z t mid [] mid.table.pending new left → IsPutWith z r log [] log.table.pending new left
   put_noted r noted new left p =
-      put_before z r s new log log left _ _ (notes is_guarded r s s versions_in_memory noted) refl [] (λ bound words there. still_noted r s versions_in_memory (words_stay bound words) noted there) [] log.table.pending (put_first new left p)
+      put_before z r s new log log left _ _ (notes is_guarded r s s versions_in_memory noted) refl [] (λ bound words there. still_noted r s versions_in_memory (words_stay bound words) noted there) [] log.table.pending (λ none. absurd none) (put_first new left p)
+
+-- the record was made ready, in a world of the store
+pub ready_cleared : {D : Type 0} (z : SharedState D) (s t v : SeatState) (log : LogState) → GoesOn is_guarded s.knows.held s.turns s t → HoldsPending z t log → v ≡ t → ((w : World) × Stands z v w)
+    → RisesFor z.cells (length log.table.history) s.knows t.knows (ways_of z.cells (suc (length log.table.history)) log.table.pending) → Noted t.knows none_waits → HasCleared z s log.table.history log.table.pending
+ready_cleared z s t v log k h same stands rises waits = record {
+  seat = t;
+  world = stands.0;
+  stands = subst (λ (x : SeatState). Stands z x stands.0) same stands.1;
+  same_by = ap (λ (x : SeatState). x.by) k.same;
+  participant = ap (λ (x : SeatState). x.knows.participant) k.same;
+  table = log.table;
+  held = h.turn.held;
+  history_is = refl;
+  pending_is = refl;
+  rises = rises;
+  waits = waits;
+}
 
 -- the record was made ready and logged before
 pub put_logged : {D : Type 0} (z : SharedState D) (s t u new : SeatState) (log mid left : LogState) → GoesOn is_guarded s.knows.held s.turns s t → RisesFor z.cells (length log.table.history) s.knows t.knows (ways_of z.cells (suc (length log.table.history)) log.table.pending)
-    → IsLogged z t log u mid → IsPutWith z u mid [] mid.table.pending new left → IsPut z s log log.table.pending new left
-put_logged z s t u new log mid left k rises logged p =
+    → (AnyClears (ways_of z.cells (suc (length log.table.history)) log.table.pending) → HasCleared z s log.table.history log.table.pending) → IsLogged z t log u mid → IsPutWith z u mid [] mid.table.pending new left
+    → IsPut z s log log.table.pending new left
+put_logged z s t u new log mid left k rises waited logged p =
     let history : mid.table.history ≡ log.table.history = ap (λ (x : WriteTable). x.history) logged.table in
     let pending : mid.table.pending ≡ log.table.pending = ap (λ (x : WriteTable). x.pending) logged.table in
     let ways = ways_of z.cells (suc (length log.table.history)) log.table.pending in
     let behind = put_before z t u new log mid left _ _ (holds is_guarded t u u (writes mid.table ∷ []) logged.seat) history [] (λ bound words there. subst (λ (x : SeatState). Noted x.knows (words_stay bound words)) (sym logged.seat) there)
-    [] log.table.pending (subst (λ (e : List Entry). IsPutWith z u mid [] e new left) pending p) in
-    subst (λ (w : List Way). IsPutWith z s log w log.table.pending new left) (append-nil ways) (put_before z s t new log log left _ _ k refl ways rises [] log.table.pending behind)
+    [] log.table.pending (λ none. absurd none) (subst (λ (e : List Entry). IsPutWith z u mid [] e new left) pending p) in
+    subst (λ (w : List Way). IsPutWith z s log w log.table.pending new left) (append-nil ways)
+    (put_before z s t new log log left _ _ k refl ways rises [] log.table.pending (λ any. waited (subst AnyClears (append-nil ways) any)) behind)

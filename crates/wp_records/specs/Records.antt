@@ -14,15 +14,15 @@ use Rattle.wp_core.specs.Entries.{transaction_of, changes_under}
 use Rattle.wp_core.specs.Lists.{IsIn}
 use Rattle.wp_core.specs.Notes.{is_name}
 use Rattle.wp_core.specs.Sound.Views.{guarded_by}
-use Rattle.wp_core.specs.Tables.{writes}
-use Rattle.wp_core.specs.Views.{Fact, words_stay, log_failed, undecided_at, prior_values, unprepared}
-use Rattle.wp_core.specs.World.{Transaction, Actor, Participant}
+use Rattle.wp_core.specs.Tables.{WriteTable, writes}
+use Rattle.wp_core.specs.Views.{Fact, words_stay, none_waits, log_failed, undecided_at, prior_values, unprepared}
+use Rattle.wp_core.specs.World.{Transaction, Actor, Participant, World}
 use Rattle.wp_rule.specs.Knows.{KnowsHeld, Noted}
 use Rattle.wp_parts.specs.Log.{LogState}
-use Rattle.wp_shared.specs.Seats.{SharedState, SeatState}
+use Rattle.wp_shared.specs.Seats.{SharedState, SeatState, Stands}
 use Rattle.wp_commits.specs.declared.way.Way.{Way}
 use Rattle.wp_commits.specs.Bound.{bound_for}
-use Rattle.wp_commits.specs.Ways.{ways_of, RisesFor, entered}
+use Rattle.wp_commits.specs.Ways.{ways_of, AnyClears, RisesFor, entered}
 use Rattle.wp_records.specs.declared.error.WriteError.{WriteError}
 use Rattle.wp_records.specs.declared.error.WriteError.TheVariants.{Memory, LogFault}
 use Rattle.wp_records.specs.Writing.{HoldsWrite}
@@ -68,9 +68,26 @@ abbrev pub IsAboutNone : List Entry → List Entry → Fact → Type 0
 IsAboutNone history [] fact = Unit {0}
 IsAboutNone history (entry ∷ entries) fact = (is_about (transaction_of history entry) fact ≡ false) × IsAboutNone (history ++ entry ∷ []) entries fact
 
+-- Before the entries were logged, and once the bound had risen for their pairs, the seat stood in a world of the store with the write
+-- turn and with them pending behind this history, and knew that no prepared number waited to be taken out: the bound had come to the
+-- decision of no delayed commit.
+pub record HasCleared {D : Type 0} (z : SharedState D) (old : SeatState) (history entries : List Entry) : Type 0 where
+  pub seat : SeatState
+  pub world : World
+  pub stands : Stands z seat world
+  pub same_by : seat.by ≡ old.by
+  pub participant : seat.knows.participant ≡ old.knows.participant
+  pub table : WriteTable
+  pub held : seat.knows.held ≡ writes table ∷ []
+  pub history_is : table.history ≡ history
+  pub pending_is : table.pending ≡ entries
+  pub rises : RisesFor z.cells (length history) old.knows seat.knows (ways_of z.cells (suc (length history)) entries)
+  pub waits : Noted seat.knows none_waits
+
 -- The entries stand behind the history, and the seat put them there, once the bound had risen for the pairs that are kept in these
--- ways. What it noted without a turn it has noted still, but for what was about the transaction of one of them. The bound and the
--- words are as they were but for that, and for the entries' own pairs.
+-- ways; where one of them clears, no commit waited then that the bound had come to. What it noted without a turn it has noted still, but
+-- for what was about the transaction of one of them. The bound and the words are as they were but for that, and for the entries' own
+-- pairs.
 pub record IsPutWith {D : Type 0} (z : SharedState D) (old : SeatState) (log : LogState) (cleared : List Way) (entries : List Entry) (new : SeatState) (left : LogState) : Type 0 where
   pub holds : HoldsWrite z new left
   pub same_by : new.by ≡ old.by
@@ -78,6 +95,7 @@ pub record IsPutWith {D : Type 0} (z : SharedState D) (old : SeatState) (log : L
   pub running : left.table.closed ≡ false
   pub knows : new.knows ≡ record old.knows { participant = putting log.table.history entries old.knows.participant; learned = []; held = writes left.table ∷ []; notes = new.knows.notes }
   pub notes : (fact : Fact) → guarded_by fact ≡ None → IsAboutNone log.table.history entries fact → IsIn fact old.knows.notes → IsIn fact new.knows.notes
+  pub waited : AnyClears cleared → HasCleared z old log.table.history entries
   pub words : (bound : ℕ) (words : List ℕ) → Noted old.knows (words_stay bound words)
       → Noted new.knows (entered z.cells (length log.table.history) (bound_for z.cells (length log.table.history) bound words cleared) words (ways_of z.cells (suc (length log.table.history)) entries))
 

@@ -2,11 +2,11 @@
 ghost use Rattle.std.specs.Prelude.{◌≡◌, ◌≢◌, suc, false, List, [], ◌∷◌, ◌++◌, length, OnOk, OnErr};
 ghost use Rattle.wp_model.specs.declared.entry.Entry.{Entry};
 ghost use Rattle.wp_core.specs.Entries.{IsOneRecord};
-ghost use Rattle.wp_core.specs.Views.{versions_in_memory, versions_nowhere, number_not_in_heap, pair_not_delayed};
+ghost use Rattle.wp_core.specs.Views.{versions_in_memory, versions_nowhere, number_not_in_heap, pair_not_delayed, none_waits};
 ghost use Rattle.wp_rule.specs.Knows.{Noted};
 ghost use Rattle.wp_shared.specs.Notes.{GoesOn};
 ghost use Rattle.wp_commits.specs.declared.way.Way.{Way};
-ghost use Rattle.wp_commits.specs.Ways.{ways_of, RisesFor, AreApart};
+ghost use Rattle.wp_commits.specs.Ways.{ways_of, AnyClears, RisesFor, AreApart};
 ghost use Rattle.wp_records.specs.declared.error.WriteError.TheVariants.{Memory};
 ghost use Rattle.wp_records.specs.Writing.{HoldsWrite};
 ghost use Rattle.wp_records.specs.Records.{MayPut, IsPutWith, IsNotPut, IsUncalled, Puts};
@@ -40,6 +40,7 @@ fn ready<D: Disk + Drop, R: Wait>(
     ensures undelayed { Noted seat.new.knows pair_not_delayed }
     ensures seat { GoesOn is_guarded seat.old.knows.held seat.old.turns seat.old seat.new }
     ensures ok { OnOk result (IsReadied seat.new.knows store.now.cells log.now.table) }
+    ensures waits { OnOk result (AnyClears (ways_of store.now.cells (suc (length log.now.table.history)) log.now.table.pending) → Noted seat.new.knows none_waits) }
     ensures bound { OnOk result (RisesFor store.now.cells (length log.now.table.history) seat.old.knows seat.new.knows (ways_of store.now.cells (suc (length log.now.table.history)) log.now.table.pending)) }
     ensures refused { OnErr result ((cleared : List Way) × (others : List Way) × (ways_of store.now.cells (suc (length log.now.table.history)) log.now.table.pending ≡ cleared ++ others)
         × RisesFor store.now.cells (length log.now.table.history) seat.old.knows seat.new.knows cleared) }
@@ -155,6 +156,7 @@ fn put_pending<D: Disk + Drop, R: Wait>(
     let Ok(()) = ready(store, rt, seat, log) else {
         return Err(give_up(store, rt, seat, log));
     };
+    store.shows_world(seat);
     append(store, rt, seat, log)?;
     publish_all(store, rt, seat, log);
     Ok(())

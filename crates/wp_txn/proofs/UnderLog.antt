@@ -308,6 +308,7 @@ put_noting z s t u log left entries fact put is =
         same_by = put.same_by;
         history = put.history;
         running = put.running;
+        waited = put.waited;
         knows = ap (with_note fact) put.knows;
         notes = λ other turnless apart there. inr (put.notes other turnless apart there);
         words = λ bound words there. inr (put.words bound words there);

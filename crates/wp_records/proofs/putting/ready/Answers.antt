@@ -1,10 +1,10 @@
 use Rattle.std.proofs.Common.{◌≡◌, true, suc, [], ◌∷◌, ◌++◌, length, append_assoc, append-nil, refl, sym, ◌∙◌, arith}
 use Rattle.wp_model.specs.History.{is_prepare}
 use Rattle.wp_core.specs.Entries.{next_of}
-use Rattle.wp_core.specs.Views.{versions_in_memory, versions_nowhere, number_in_heap, number_not_in_heap, pair_not_delayed, words_stay}
+use Rattle.wp_core.specs.Views.{versions_in_memory, versions_nowhere, number_in_heap, number_not_in_heap, pair_not_delayed, none_waits, words_stay}
 use Rattle.wp_rule.specs.Knows.{Noted}
 use Rattle.wp_commits.specs.Notes.{is_of_words}
-use Rattle.wp_commits.specs.Ways.{ways_of, RisesFor}
+use Rattle.wp_commits.specs.Ways.{ways_of, AnyClears, RisesFor}
 use Rattle.wp_commits.proofs.Clears.{on_ok, err_any}
 use Rattle.wp_commits.proofs.Ways.{keeps_ready, are_ready_still, cleared_ready}
 use Rattle.wp_records.specs.Stages.{is_guarded, is_of_number, is_of_versions, IsReadied}
@@ -93,3 +93,11 @@ returns-in_err-put_versions-clause-undelayed g c = c.put_versions.ensures.seat.n
 
 pub returns-clause-undelayed : goal.returns-clause-undelayed
 returns-clause-undelayed g c = c.put_number.ensures.seat.noted pair_not_delayed refl (c.put_versions.ensures.seat.noted pair_not_delayed refl (c.clear_all.ensures.seat.noted pair_not_delayed refl c.requires.undelayed))
+
+-- nor does a number wait by them
+pub returns-clause-waits : goal.returns-clause-waits
+returns-clause-waits g c =
+    let d = c.args.log.now.table in
+    on_ok c.put_number.result _ (AnyClears (ways_of c.args.store.now.cells (suc (length d.history)) d.pending) → Noted c.put_number.new.seat.knows none_waits)
+    (λ number any. c.put_number.ensures.seat.noted none_waits refl (c.put_versions.ensures.seat.noted none_waits refl (c.in_ok-clear_all.ensures.waits any)))
+    c.put_number.ensures.ok
