@@ -1,6 +1,6 @@
 //! The steps of the client.
 use crate::so::is_so;
-use crate::step::kind_of;
+use crate::step::{kind_of, unmade};
 use crate::trouble::{Tried, Trouble};
 use std::alloc::AllocError;
 use wp_machine::{Step, World, apply};
@@ -15,11 +15,13 @@ fn over(_world: World, why: Trouble) -> Tried<World> {
     Err(why)
 }
 
-fn refused(_world: World, _step: Step, permitted: Result<bool, AllocError>) -> Tried<World> {
-    Err(match permitted {
+fn refused(world: World, step: Step, permitted: Result<bool, AllocError>) -> Tried<World> {
+    unmade(step);
+    let why = match permitted {
         Ok(_) => Trouble::Wrong,
         Err(_) => Trouble::Memory,
-    })
+    };
+    over(world, why)
 }
 
 /// The world after the step, which has to be permitted.
