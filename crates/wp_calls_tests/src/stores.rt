@@ -11,7 +11,7 @@ use std::test::Fail;
 use wp_memory::MemDisk;
 use wp_model::{Name, Seq};
 use wp_open::{Parts, open_parts};
-use wp_outside::{Disk, Disks};
+use wp_outside::{Disks, Peek};
 use wp_shared::{Seat, Shared};
 
 /// The greatest number that an entry may get.
@@ -27,7 +27,7 @@ fn device(alloc: Global) -> Result<MemDisk, Fail> {
 
 fn parts(alloc: Global) -> Result<Parts<MemDisk>, Fail>
     ensures { IfOk result (λ parts. (asked : ℕ) × (log : List Moment) × (manifest : List Moment) × (tables : List Moment)
-        × PartsOpened asked log manifest tables parts.wal parts.history.entries parts.manifest (⟦<MemDisk as Disk>⟧.moments parts.tables) parts.store) }
+        × PartsOpened asked log manifest tables parts.wal parts.history.entries parts.manifest (⟦<MemDisk as Peek>⟧.moments parts.tables) parts.store) }
 {
     let disks = Disks {
         log: device(alloc)?,

@@ -38,6 +38,11 @@ sync_preserves P [] new itself syncs = ([], syncs, tt)
 sync_preserves P (m ∷ past) new itself syncs =
     (synced m.reads ∷ [], syncs, (λ has image h. subst P (sym (image_of_synced m.reads image h)) (has m.reads itself), tt))
 
+-- a sync changes nothing that a read shows
+pub sync_reads : (P : List ℕ → Type 0) (old new : List Moment) → new ≡ added after_sync old → Preserves (λ m. P m.reads) old new
+sync_reads P [] new syncs = ([], syncs, tt)
+sync_reads P (m ∷ past) new syncs = (synced m.reads ∷ [], syncs, (λ h. h, tt))
+
 module _ (P : List ℕ → Type 0) (step : Moment → Moment) (before : List ℕ) (spares : P before → (image : List ℕ) → IsImage (step (synced before)) image → P image) where
   step_preserves : (m : Moment) → m ≡ synced before → Leaves P m → Leaves P (step m)
   step_preserves m is has image h =

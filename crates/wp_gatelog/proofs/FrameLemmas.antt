@@ -6,10 +6,12 @@ use Rattle.wp_gatelog.specs.Changes.{Steps, BringsTo}
 use Rattle.wp_gatelog.specs.Log.{LogState, Rests, BeforeOrAfter, IsAtRest}
 use Rattle.wp_gatelog.specs.Moments.{IsSynced}
 use Rattle.wp_gatelog.specs.Spelling.{frame_of, log_of}
+use Rattle.wp_gatelog.specs.Stands.{Stands}
 use Rattle.wp_gatelog.proofs.AcknowledgedLemmas.{spares_frame, spares_gate, acknowledged_passes}
 use Rattle.wp_gatelog.proofs.AppendLemmas.{grows_staged, reads_staged, grows_opened, at_rest_more}
 use Rattle.wp_gatelog.proofs.ChangeLemmas.{brings_of}
 use Rattle.wp_gatelog.proofs.MomentLemmas.{put_gate}
+use Rattle.wp_gatelog.proofs.StandLemmas.{stands_behind, stands_gate}
 use Rattle.wp_gatelog.proofs.SurvivalLemmas.{before_or_after, goes_passes, left_before_or_after, rest_spells}
 
 module _ {T E : Type 0} (magic : List ℕ) (id end : ℕ) (records : List (List ℕ)) (frame bytes : List ℕ) (is : frame ≡ frame_of bytes) (m : Moment) (rest : IsAtRest magic id end records m) where
@@ -22,6 +24,7 @@ module _ {T E : Type 0} (magic : List ℕ) (id end : ℕ) (records : List (List 
       let stepped : Moment = after_write (end + 1) frame (synced (front ++ 0 ∷ [])) in
       brings_of magic (IsImage stepped) (BeforeOrAfter magic id records bytes) (λ n. n ≡ synced (front ++ 0 ∷ frame_of bytes)) (front ++ 0 ∷ []) stepped.reads old new result
       (λ other others. spares_frame magic other id others rest.gated (end + 1) frame rest.acknowledged.gates_open place)
+      (λ other others has. subst (Stands magic other others) (sym (reads_staged front frame (end + 1) place)) (stands_behind magic id 1 rest.gated (λ e. cc e) rest.acknowledged.gates_open other others [] frame has))
       (λ image h. before_or_after magic id records bytes rest.gated rest.acknowledged image (grows_staged front frame bytes (end + 1) place image h))
       (λ n on. on ∙ ap synced (reads_staged front frame (end + 1) place ∙ ap (λ (l : List ℕ). front ++ 0 ∷ l) is)) steps
 
@@ -33,6 +36,7 @@ module _ {T E : Type 0} (magic : List ℕ) (id end : ℕ) (records : List (List 
       let stepped : Moment = after_write end (1 ∷ []) (synced (front ++ 0 ∷ frame_of bytes)) in
       brings_of magic (IsImage stepped) (BeforeOrAfter magic id records bytes) (IsAtRest magic id (end + (length bytes + 9)) (records ++ bytes ∷ [])) (front ++ 0 ∷ frame_of bytes) stepped.reads old new result
       (λ other others. spares_gate magic other id others rest.gated end (frame_of bytes) rest.acknowledged.gates_open rest.place)
+      (λ other others has. subst (Stands magic other others) (sym (put_gate front 0 (frame_of bytes) end rest.place)) (stands_gate magic id 1 rest.gated (λ e. cc e) rest.acknowledged.gates_open other others 0 (frame_of bytes) has))
       (λ image h. before_or_after magic id records bytes rest.gated rest.acknowledged image (grows_opened front bytes end 0 rest.place fits image h))
       (λ n on. at_rest_more magic id end records bytes fits rest.gated rest.acknowledged rest.place n (on ∙ ap synced (put_gate front 0 (frame_of bytes) end rest.place))) steps
 
@@ -62,6 +66,7 @@ module _ {T E U F : Type 0} (bytes : List ℕ) (old new : LogState) (running : o
         acknowledged = acknowledged_passes magic old.id old.end records old.moments new.moments rest b.durable;
         rests = rested;
         spelled = rest_spells magic new.id new.end (records ++ bytes ∷ []) new.moments rested;
+        stands = b.stands;
       }
 
   pub appends_failed : (result : Result T E) (e : F) → BringsFrame bytes old.end old.moments new.moments result → Appends {T = U} bytes old new (Err e)
@@ -76,6 +81,7 @@ module _ {T E U F : Type 0} (bytes : List ℕ) (old new : LogState) (running : o
         acknowledged = acknowledged_passes magic old.id old.end records old.moments new.moments rest b.durable;
         rests = tt;
         spelled = tt;
+        stands = tt;
       }
 
 -- a closed log stays as it is
@@ -87,4 +93,5 @@ appends_none bytes old e = λ magic records rests. record {
   acknowledged = ([], refl, tt);
   rests = tt;
   spelled = tt;
+  stands = tt;
 }

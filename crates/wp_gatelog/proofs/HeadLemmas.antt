@@ -63,11 +63,10 @@ head_from_front magic bytes Bad h = record {
     ])
   ];
 }
-head_from_front magic bytes (Made gate id) h = (
-  h.0,
-  h.1 ++ drop 11 bytes,
-  h.2,
-  sym (take-append-drop 11 bytes) ∙ ap (λ (l : List ℕ). l ++ drop 11 bytes) h.3 ∙ ap (λ (l : List ℕ). gate ∷ l) (append_assoc (identity magic id) (h.0 ∷ h.1) (drop 11 bytes)),
+head_from_front magic bytes (Made gate id first) h = (
+  h.0 ++ drop 11 bytes,
+  h.1,
+  sym (take-append-drop 11 bytes) ∙ ap (λ (l : List ℕ). l ++ drop 11 bytes) h.2 ∙ ap (λ (l : List ℕ). gate ∷ l) (append_assoc (identity magic id) (first ∷ h.0) (drop 11 bytes)),
 )
 
 -- a read of eleven bytes shows the head

@@ -14,3 +14,5 @@ pub mod ScanLemmas
 pub mod SomeLemmas
 pub mod SurvivalLemmas
 pub mod FramedLemmas
+pub mod PatchLemmas
+pub mod StandLemmas

@@ -9,6 +9,7 @@ use Rattle.wp_gatelog.specs.Spelling.{identity, log_of, IsUnmade}
 use Rattle.wp_gatelog.proofs.AcknowledgedLemmas.{spares_unmade}
 use Rattle.wp_gatelog.proofs.ChangeLemmas.{brings_of}
 use Rattle.wp_gatelog.proofs.MomentLemmas.{image_after, image_of_gate, put_gate, reads_after}
+use Rattle.wp_gatelog.proofs.StandLemmas.{unmade_stands}
 
 -- ---- a closed gate alone
 
@@ -83,14 +84,14 @@ module _ {T E : Type 0} (magic : List ℕ) (id : ℕ) where
       → BringsTo magic (SpellsNone magic id) (λ m. m ≡ synced (0 ∷ [])) old new result
   brings_closed before unmade old new result changes =
       brings_of magic IsUnmade (SpellsNone magic id) (λ m. m ≡ synced (0 ∷ [])) before (0 ∷ []) old new result
-      (λ other records. spares_unmade magic other records before IsUnmade unmade) (unmade_none magic id) (λ m on. on) changes
+      (λ other records. spares_unmade magic other records before IsUnmade unmade) (λ other records has. absurd (unmade_stands magic other records before unmade has)) (unmade_none magic id) (λ m on. on) changes
 
   pub brings_staged : (bytes : List ℕ) → bytes ≡ identity magic id ++ 0 ∷ [] → (old new : List Moment) (result : Result T E) → Steps (after_write 1 bytes) (0 ∷ []) old new result
       → BringsTo magic (SpellsNone magic id) (λ m. m ≡ synced (0 ∷ (identity magic id ++ 0 ∷ []))) old new result
   brings_staged bytes is old new result changes =
       let stepped : Moment = after_write 1 bytes (synced (0 ∷ [])) in
       brings_of magic (IsImage stepped) (SpellsNone magic id) (λ m. m ≡ synced (0 ∷ (identity magic id ++ 0 ∷ []))) (0 ∷ []) stepped.reads old new result
-      (λ other records. spares_unmade magic other records (0 ∷ []) (IsImage stepped) tt) (none_staged magic bytes id)
+      (λ other records. spares_unmade magic other records (0 ∷ []) (IsImage stepped) tt) (λ other records has. absurd (unmade_stands magic other records (0 ∷ []) tt has)) (none_staged magic bytes id)
       (λ m on. on ∙ ap synced (reads_after (0 ∷ []) bytes 1 refl ∙ ap (λ (l : List ℕ). 0 ∷ l) is)) changes
 
   pub brings_opened : (old new : List Moment) (result : Result T E) → Steps (after_write 0 (1 ∷ [])) (0 ∷ (identity magic id ++ 0 ∷ [])) old new result
@@ -99,5 +100,6 @@ module _ {T E : Type 0} (magic : List ℕ) (id : ℕ) where
       let whole : List ℕ = 0 ∷ (identity magic id ++ 0 ∷ []) in
       let stepped : Moment = after_write 0 (1 ∷ []) (synced whole) in
       brings_of magic (IsImage stepped) (SpellsNone magic id) (λ m. m ≡ synced (log_of magic id 1 [] ++ 0 ∷ [])) whole stepped.reads old new result
-      (λ other records. spares_unmade magic other records whole (IsImage stepped) (closed_unmade (identity magic id ++ 0 ∷ []))) (none_opened magic id)
+      (λ other records. spares_unmade magic other records whole (IsImage stepped) (closed_unmade (identity magic id ++ 0 ∷ [])))
+      (λ other records has. absurd (unmade_stands magic other records whole (closed_unmade (identity magic id ++ 0 ∷ [])) has)) (none_opened magic id)
       (λ m on. on ∙ ap synced (reads_made magic id)) changes

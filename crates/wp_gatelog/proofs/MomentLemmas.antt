@@ -1,26 +1,12 @@
 -- The moments of one change and its sync, and the images that they leave.
 use Rattle.std.proofs.Common.{◌≡◌, inl, inr, ℕ, zero, suc, ◌+◌, ◌≤◌, max, List, [], ◌∷◌, ◌++◌, map, length, take, drop, Option, None, Some, Result, Ok, Err, OnOk, OnErr, refl, sym, ◌∙◌, ap, subst, arith, length-append, length-drop, length-take}
-use Rattle.std.proofs.lemmas.List.{append-nil, append_assoc, drop_all, take-map, take_at, length-map}
-use Rattle.wp_outside.specs.Disk.{Moment, Matches, IsImage, synced, put, hide, hide_at, after_write, after_cut, after_sync, IfKnown, added, Tears, Each, Passes, images}
+use Rattle.std.proofs.lemmas.List.{append-nil, drop_all, take-map, take_at, length-map}
+use Rattle.wp_outside.specs.Disk.{Moment, Matches, IsImage, synced, put, hide, hide_at, after_write, after_cut, after_sync, IfKnown, added, Tears, Each, Passes, images, Goes}
 use Rattle.wp_outside.specs.Images.{matches_itself}
 use Rattle.wp_outside.proofs.Moments.{image_of_synced}
-use Rattle.wp_gatelog.specs.Moments.{Leaves, Goes}
+use Rattle.wp_gatelog.specs.Moments.{Leaves}
 
 -- ---- moments, one after another
-
-each_append : (P : Moment → Type 0) (xs ys : List Moment) → Each P xs → Each P ys → Each P (xs ++ ys)
-each_append P [] ys p q = q
-each_append P (x ∷ xs) ys p q = (p.0, each_append P xs ys p.1 q)
-
-goes_on_from : (P : Moment → Type 0) (m : Moment) (past more new : List Moment) → Each P more → Goes P (more ++ m ∷ past) new → Goes P (m ∷ past) new
-goes_on_from P m past [] new each second = second
-goes_on_from P m past (x ∷ xs) new each second =
-    (second.0 ++ x ∷ xs, second.1 ∙ sym (append_assoc second.0 (x ∷ xs) (m ∷ past)), each_append P second.0 (x ∷ xs) second.2 each)
-
-pub goes_on : (P : Moment → Type 0) (old mid new : List Moment) → Goes P old mid → Goes P mid new → Goes P old new
-goes_on P [] mid new first second = subst (λ (l : List Moment). Goes P l new) first second
-goes_on P (m ∷ past) mid new first second =
-    goes_on_from P m past first.0 new first.2 (subst (λ (l : List Moment). Goes P l new) first.1 second)
 
 each_map : (P Q : Moment → Type 0) → ((m : Moment) → P m → Q m) → (ms : List Moment) → Each P ms → Each Q ms
 each_map P Q f [] each = tt

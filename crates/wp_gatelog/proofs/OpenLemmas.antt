@@ -1,8 +1,9 @@
 -- A log is opened.
-use Rattle.std.proofs.Common.{◌≡◌, inl, inr, ℕ, ◌<◌, List, [], ◌∷◌, ◌++◌, length, drop, Option, Result, Ok, Err, refl, sym, ◌∙◌, ap, subst, arith, length-append}
+use Rattle.std.proofs.Common.{◌≡◌, inl, inr, ℕ, ◌<◌, List, [], ◌∷◌, ◌++◌, length, drop, take, Option, Result, Ok, Err, OnOk, refl, sym, ◌∙◌, ap, subst, arith, length-append}
 use Rattle.std.proofs.lemmas.List.{append_assoc, drop_at}
-use Rattle.wp_outside.specs.Disk.{Moment, synced, IfKnown, added, after_sync, ReadsItself}
-use Rattle.wp_outside.proofs.Moments.{image_of_synced}
+use Rattle.std.proofs.lemmas.Result.{on_ok_weaker}
+use Rattle.wp_outside.specs.Disk.{Moment, synced, IfKnown, added, after_sync, ReadsItself, Goes}
+use Rattle.wp_outside.proofs.Moments.{image_of_synced, goes_on}
 use Rattle.wp_gatelog.specs.declared.error.LogError.{LogError}
 use Rattle.wp_gatelog.specs.declared.error.LogError.TheVariants.{Memory, DiskFault, BadHead, Cut}
 use Rattle.wp_gatelog.specs.declared.gate.GateByte.{GateByte}
@@ -14,13 +15,14 @@ use Rattle.wp_gatelog.specs.Durability.{HasAcknowledged, LosesNoRecord}
 use Rattle.wp_gatelog.specs.Heads.{BeginsLog, IsHead, SpellsNone}
 use Rattle.wp_gatelog.specs.Log.{IsAtRest}
 use Rattle.wp_gatelog.specs.Repair.{IsReadLog, IsRepaired}
-use Rattle.wp_gatelog.specs.Moments.{Leaves, Goes}
+use Rattle.wp_gatelog.specs.Moments.{Leaves}
 use Rattle.wp_gatelog.specs.Opening.{IsFound, IsRefused, Repairs}
 use Rattle.wp_gatelog.specs.Scanning.{HasRead, IsReadFault}
 use Rattle.wp_gatelog.specs.Spelling.{Gated, identity, all_gated, log_of, IsUnmade}
-use Rattle.wp_gatelog.proofs.DurabilityLemmas.{preserves_on, sync_preserves}
+use Rattle.wp_gatelog.specs.Stands.{Stands, StandsOn}
+use Rattle.wp_gatelog.proofs.DurabilityLemmas.{preserves_on, sync_preserves, sync_reads}
 use Rattle.wp_gatelog.proofs.HeadLemmas.{length-identity}
-use Rattle.wp_gatelog.proofs.MomentLemmas.{goes_on, goes_map}
+use Rattle.wp_gatelog.proofs.MomentLemmas.{goes_map}
 
 -- ---- a disk that is known
 
@@ -29,49 +31,49 @@ known_at P ms past m is known = subst (λ (l : List Moment). IfKnown l P) is kno
 
 -- ---- a log that was read
 
-module _ (magic : List ℕ) (id head len : ℕ) (bytes : List ℕ) (begins : BeginsLog magic id head len bytes) where
+module _ (magic : List ℕ) (id head first : ℕ) (bytes : List ℕ) (begins : BeginsLog magic id head first bytes) where
   -- the bytes after the head are all but its ten
+  behind_head : drop 10 bytes ≡ first ∷ begins.made.0
+  behind_head =
+      ap (λ (l : List ℕ). drop 10 l) begins.made.2 ∙ drop_at (head ∷ identity magic id) (first ∷ begins.made.0) 10 (omega (arith, length-identity magic id begins.magic_size))
+
   split_head : (following : List ℕ) → drop 10 bytes ≡ following → bytes ≡ head ∷ (identity magic id ++ following)
-  split_head following is =
-      let size : length (head ∷ identity magic id) ≡ 10 = omega (arith, length-identity magic id begins.magic_size) in
-      let rest : drop 10 bytes ≡ begins.made.0 ∷ begins.made.1 =
-      ap (λ (l : List ℕ). drop 10 l) begins.made.3 ∙ drop_at (head ∷ identity magic id) (begins.made.0 ∷ begins.made.1) 10 size in
-      begins.made.3 ∙ ap (λ (l : List ℕ). head ∷ (identity magic id ++ l)) (sym rest ∙ is)
+  split_head following is = begins.made.2 ∙ ap (λ (l : List ℕ). head ∷ (identity magic id ++ l)) (sym behind_head ∙ is)
+
+  -- the gate of the first record is the byte behind them
+  pub first_shown : take 1 (drop 10 bytes) ≡ first ∷ []
+  first_shown = ap (λ (l : List ℕ). take 1 l) behind_head
 
   split_log : (gated : List Gated) (following : List ℕ) → drop 10 bytes ≡ all_gated gated ++ following → bytes ≡ log_of magic id head gated ++ following
   split_log gated following is =
       split_head (all_gated gated ++ following) is ∙ ap (λ (l : List ℕ). head ∷ l) (sym (append_assoc (identity magic id) (all_gated gated) following))
 
-  pub begins_long : 10 < len
-  begins_long =
-      omega (arith, begins.size, ap length begins.made.3, length-identity magic id begins.magic_size, length-append (identity magic id) (begins.made.0 ∷ begins.made.1))
-
-  pub log_read : (records : List (List ℕ)) (last : Option GateByte) (end : ℕ) → (following : List ℕ) × HasRead (drop 10 bytes) (0 ∷ following) records last end → IsReadLog magic id head records last end len bytes
-  log_read records last end w = record {
+  pub log_read : (len : ℕ) → len ≡ length bytes → (records : List (List ℕ)) (last : Option GateByte) (end : ℕ) → (following : List ℕ) × HasRead (drop 10 bytes) (0 ∷ following) records last end → IsReadLog magic id head records last end len bytes
+  log_read len size records last end w = record {
     gated = w.1.gated;
     has_log = record {
       rest = w.0;
       spelling = split_log w.1.gated (0 ∷ w.0) w.1.spelling;
-      head_open = begins.made.2;
+      head_open = begins.made.1;
       gates_open = w.1.gates_open;
     };
     same = w.1.same;
     last_is = w.1.last_is;
     place = omega (arith, w.1.place, length-append (identity magic id) (all_gated w.1.gated), length-identity magic id begins.magic_size);
-    size = begins.size;
+    size = size;
     magic_size = begins.magic_size;
   }
 
-  pub log_found : (asked : ℕ) (records : List (List ℕ)) (last : Option GateByte) (end : ℕ) → IsReadLog magic id head records last end len bytes → IsFound magic asked bytes id records
-  log_found asked records last end log = record {
+  pub log_found : (len asked : ℕ) (records : List (List ℕ)) (last : Option GateByte) (end : ℕ) → IsReadLog magic id head records last end len bytes → IsFound magic asked bytes id records
+  log_found len asked records last end log = record {
     spelled = inr (head, log.gated, log.has_log, log.same);
-    unmade = λ unmade. absurd (opened (identity magic id ++ begins.made.0 ∷ begins.made.1)
-        (omega (arith, length-append (identity magic id) (begins.made.0 ∷ begins.made.1))) (subst IsUnmade begins.made.3 unmade));
+    unmade = λ unmade. absurd (opened (identity magic id ++ first ∷ begins.made.0)
+        (omega (arith, length-append (identity magic id) (first ∷ begins.made.0))) (subst IsUnmade begins.made.2 unmade));
   }
     where
       opened : (tail : List ℕ) → 0 < length tail → IsUnmade (head ∷ tail) → ⊥
       opened [] some unmade = omega arith
-      opened (b ∷ tail) some unmade = begins.made.2 unmade
+      opened (b ∷ tail) some unmade = begins.made.1 unmade
 
   pub log_refused : (why : LogError) → IsReadFault id (drop 10 bytes) why → IsRefused magic bytes why
   log_refused Memory w = tt
@@ -85,7 +87,7 @@ module _ (magic : List ℕ) (id head len : ℕ) (bytes : List ℕ) (begins : Beg
       gate = w.2;
       rest = w.3;
       spelling = split_log w.1 (w.2 ∷ w.3) w.8;
-      head_open = begins.made.2;
+      head_open = begins.made.1;
       gates_open = w.4;
       before = w.5;
       gate_open = w.6;
@@ -101,6 +103,7 @@ pub opens_refused : (magic : List ℕ) (asked : ℕ) (bytes : List ℕ) (why : L
 opens_refused magic asked bytes why old new same refused = record {
   passed = subst (λ (ms : List Moment). Goes (Leaves (Repairs magic asked bytes)) old ms) (sym same) (none old);
   durable = λ id records. ([], same, tt);
+  stands = tt;
   answered = refused;
 }
   where
@@ -110,10 +113,10 @@ opens_refused magic asked bytes why old new same refused = record {
 
 -- by cases on whether the disk is known
 module _ (magic : List ℕ) (asked : ℕ) (new : List Moment) (result : Result FoundLog LogError) where
-  pub made_cases : (id head len : ℕ) (old : List Moment) → ((past : List Moment) (m : Moment) → old ≡ m ∷ past → m ≡ synced m.reads → BeginsLog magic id head len m.reads → Opens magic asked m.reads old new result)
-      → IfKnown old (λ m. m ≡ synced m.reads → BeginsLog magic id head len m.reads → Opens magic asked m.reads old new result)
-  made_cases id head len [] f = tt
-  made_cases id head len (m ∷ past) f = f past m refl
+  pub made_cases : (id head first : ℕ) (old : List Moment) → ((past : List Moment) (m : Moment) → old ≡ m ∷ past → m ≡ synced m.reads → BeginsLog magic id head first m.reads → Opens magic asked m.reads old new result)
+      → IfKnown old (λ m. m ≡ synced m.reads → BeginsLog magic id head first m.reads → Opens magic asked m.reads old new result)
+  made_cases id head first [] f = tt
+  made_cases id head first (m ∷ past) f = f past m refl
 
   pub synced_cases : (old : List Moment) → ((past : List Moment) (m : Moment) → old ≡ m ∷ past → m ≡ synced m.reads → Opens magic asked m.reads old new result)
       → IfKnown old (λ m. m ≡ synced m.reads → Opens magic asked m.reads old new result)
@@ -126,11 +129,12 @@ module _ (magic : List ℕ) (asked : ℕ) (new : List Moment) (result : Result F
 
 -- by a call that brings the disk somewhere
 pub opens_brings : {T E : Type 0} (magic : List ℕ) (asked : ℕ) (bytes : List ℕ) (P : List ℕ → Type 0) (Q : Moment → Type 0) (old read new : List Moment) (done : Result T E) (result : Result FoundLog LogError)
-    → read ≡ old → ((image : List ℕ) → P image → Repairs magic asked bytes image) → IsAnswer magic asked bytes new result → BringsTo magic P Q read new done → Opens magic asked bytes old new result
-opens_brings magic asked bytes P Q old read new done result same f answered brings =
+    → read ≡ old → ((image : List ℕ) → P image → Repairs magic asked bytes image) → IsAnswer magic asked bytes new result → OnOk result (StandsOn magic read new) → BringsTo magic P Q read new done → Opens magic asked bytes old new result
+opens_brings magic asked bytes P Q old read new done result same f answered stands brings =
     subst (λ (ms : List Moment). Opens magic asked bytes ms new result) same (record {
       passed = goes_map (Leaves P) (Leaves (Repairs magic asked bytes)) (λ m leaves image h. f image (leaves image h)) read new brings.passed;
       durable = brings.durable;
+      stands = stands;
       answered = answered;
     })
 
@@ -141,8 +145,8 @@ repairs_made magic asked id head records last end len bytes log image repaired =
 pub repairs_unmade : (magic : List ℕ) (asked : ℕ) (bytes : List ℕ) → IsUnmade bytes → (image : List ℕ) → SpellsNone magic asked image → Repairs magic asked bytes image
 repairs_unmade magic asked bytes unmade image none = inr (inl (unmade, none))
 
-pub begins : (magic : List ℕ) (len : ℕ) (bytes : List ℕ) (gate id : ℕ) → length magic ≡ 4 → len ≡ length bytes → IsHead magic bytes (Made gate id) → BeginsLog magic id gate len bytes
-begins magic len bytes gate id four size head = record { magic_size = four; made = head; size = size }
+pub begins : (magic : List ℕ) (bytes : List ℕ) (gate id first : ℕ) → length magic ≡ 4 → IsHead magic bytes (Made gate id first) → BeginsLog magic id gate first bytes
+begins magic bytes gate id first four head = record { magic_size = four; made = head }
 
 -- the same, of a disk that was only read before
 pub opens_read : (magic : List ℕ) (asked : ℕ) (bytes : List ℕ) (old read new : List Moment) (result : Result FoundLog LogError) → read ≡ old → Opens magic asked bytes read new result → Opens magic asked bytes old new result
@@ -170,6 +174,7 @@ opens_synced magic asked result old mid new past m is itself by_sync opens =
     record {
       passed = goes_on (Leaves P) old mid new first rest.passed;
       durable = λ id records. preserves_on (Leaves (HasAcknowledged magic id records)) old mid new (sync_preserves (HasAcknowledged magic id records) old mid itself by_sync) (rest.durable id records);
+      stands = on_ok_weaker result (λ s id records. preserves_on (λ n. Stands magic id records n.reads) old mid new (sync_reads (Stands magic id records) old mid by_sync) (s id records)) rest.stands;
       answered = rest.answered;
     }
 
@@ -183,6 +188,10 @@ module _ (magic : List ℕ) (asked : ℕ) where
   pub opens_durable : (result : Result FoundLog LogError) (old new : List Moment) → (old ≡ [] → new ≡ []) → IfKnown old (λ m. Opens magic asked m.reads old new result) → LosesNoRecord magic old new
   opens_durable result [] new unknown opens = λ id records. ([], unknown refl, tt)
   opens_durable result (m ∷ past) new unknown opens = opens.durable
+
+  pub opens_stands : (found : FoundLog) (old new : List Moment) → (old ≡ [] → new ≡ []) → IfKnown old (λ m. Opens magic asked m.reads old new (Ok found)) → StandsOn magic old new
+  opens_stands found [] new unknown opens = λ id records. ([], unknown refl, tt)
+  opens_stands found (m ∷ past) new unknown opens = opens.stands
 
   pub opens_found : (found : FoundLog) (old new : List Moment) → IfKnown old (λ m. Opens magic asked m.reads old new (Ok found)) → IfKnown old (λ m. IsFound magic asked m.reads found.id found.records.items)
   opens_found found [] new opens = tt

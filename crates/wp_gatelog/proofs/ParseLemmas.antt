@@ -6,7 +6,7 @@ use Rattle.wp_outside.specs.Disk.{Each}
 use Rattle.wp_gatelog.specs.Damage.{IsShort, stated_length}
 use Rattle.wp_gatelog.specs.Spelling.{Gated, IsOpen, framed, identity, all_gated, log_of}
 use Rattle.wp_gatelog.proofs.AppendLemmas.{length-framed}
-use Rattle.wp_gatelog.proofs.ScanLemmas.{stated_length_is}
+use Rattle.wp_gatelog.proofs.ScanLemmas.{stated_length_framed}
 
 -- lists of equal lengths
 pub same_parts : {A : Type 0} (a b x y : List A) → length a ≡ length b → a ++ x ≡ b ++ y → (a ≡ b) × (x ≡ y)
@@ -14,11 +14,6 @@ same_parts a b x y size is = (
   sym (take_at a x (length b) size) ∙ ap (λ (l : List _). take (length b) l) is ∙ take_at b y (length b) refl,
   sym (drop_at a x (length b) size) ∙ ap (λ (l : List _). drop (length b) l) is ∙ drop_at b y (length b) refl,
 )
-
-stated_length_framed : (bytes rest : List ℕ) → length bytes < 2 ^ 64 → stated_length (framed bytes ++ rest) ≡ length bytes
-unfolding framed
-stated_length_framed bytes rest fits =
-    ap stated_length (append_assoc (to_be_bytes w64 (length bytes)) bytes rest) ∙ stated_length_is (length bytes) (bytes ++ rest) fits
 
 split_framed : (bytes rest : List ℕ) → drop 8 (framed bytes ++ rest) ≡ bytes ++ rest
 unfolding framed

@@ -14,6 +14,7 @@ use Rattle.wp_gatelog.proofs.AcknowledgedLemmas.{spares_cut, spares_head, spares
 use Rattle.wp_gatelog.proofs.ChangeLemmas.{brings_of, brings_on}
 use Rattle.wp_gatelog.proofs.HeadLemmas.{length-identity}
 use Rattle.wp_gatelog.proofs.MomentLemmas.{image_of_cut, image_of_gate, known_as, known_map}
+use Rattle.wp_gatelog.proofs.StandLemmas.{stands_behind, stands_gate, stands_head}
 
 -- ---- one step
 
@@ -124,15 +125,16 @@ module _ (magic : List ℕ) (id head : ℕ) (records : List (List ℕ)) (found :
       let front : List ℕ = log_of magic id head log.gated in
       let changes = cuts front log.has_log.rest log.place (log.size ∙ ap length log.has_log.spelling) (known_as _ _ _ log.has_log.spelling known) in
       brings_of magic (HasFront front) (IsRepaired magic id head log.gated) (λ m. m ≡ synced (front ++ 0 ∷ [])) (front ++ 0 ∷ log.has_log.rest) (front ++ 0 ∷ []) old new result
-      (λ other others. spares_cut magic other id head others log.gated log.has_log.rest log.has_log.gates_open) (repaired_cut magic id head log.gated) (λ m on. on) changes
+      (λ other others. spares_cut magic other id head others log.gated log.has_log.rest log.has_log.gates_open)
+      (λ other others. stands_behind magic id head log.gated log.has_log.head_open log.has_log.gates_open other others log.has_log.rest []) (repaired_cut magic id head log.gated) (λ m on. on) changes
 
   pub brings_head : {T U E : Type 0} (x : T) (old mid new : List Moment) (result : Result U E) → BringsCut {T = T} {E = E} old mid (Ok x) → OpensHead mid new result → BringsHead old new result
   brings_head x old mid new result cut opens =
       let tail : List ℕ = (identity magic id ++ all_gated log.gated) ++ 0 ∷ [] in
       let P = IsRepaired magic id head log.gated in
-      brings_on magic P (λ m. m ≡ synced (head ∷ tail)) (λ m. m ≡ synced (1 ∷ tail)) old mid new (Ok x) result cut
+      brings_on magic P (λ m. m ≡ synced (head ∷ tail)) (λ m. m ≡ synced (1 ∷ tail)) old mid new x result cut
       (brings_of magic (Reopens [] head tail) P (λ m. m ≡ synced (1 ∷ tail)) (head ∷ tail) (1 ∷ tail) mid new result
-      (λ other others. spares_head magic other head others tail) (repaired_head magic id head log.gated) (λ m on. on) (opens [] tail refl cut.done))
+      (λ other others. spares_head magic other head others tail) (λ other others. stands_head magic other head others tail) (repaired_head magic id head log.gated) (λ m on. on) (opens [] tail refl cut.done))
 
   pub brings_last : {T E : Type 0} (gate : GateByte) (last : IsLast (Some gate) log.gated) (old new : List Moment) (result : Result T E)
       → Changes (Reopens (log_of magic id 1 last.0) gate.byte (framed last.1 ++ 0 ∷ [])) (log_of magic id 1 last.0 ++ gate.byte ∷ (framed last.1 ++ 0 ∷ [])) (log_of magic id 1 last.0 ++ 1 ∷ (framed last.1 ++ 0 ∷ [])) old new result
@@ -142,6 +144,8 @@ module _ (magic : List ℕ) (id head : ℕ) (records : List (List ℕ)) (found :
       let tail : List ℕ = framed last.1 ++ 0 ∷ [] in
       brings_of magic (Reopens front gate.byte tail) (IsRepaired magic id head log.gated) (IsAtRest magic id end records) (front ++ gate.byte ∷ tail) (front ++ 1 ∷ tail) old new result
       (λ other others. spares_last magic other id others last.0 gate.byte last.1 (subst (λ (gs : List Gated). Each IsOpen gs) last.2 log.has_log.gates_open))
+      (λ other others. stands_gate magic id 1 last.0 (λ e. cc e)
+      (each_but_last last.0 (record { gate = gate.byte; bytes = last.1 }) (subst (λ (gs : List Gated). Each IsOpen gs) last.2 log.has_log.gates_open)).0 other others gate.byte tail)
       (repaired_last magic id head log.gated gate last) (rests_last gate last) changes
 
   -- a log without records is at rest once its head's gate is open wholly
@@ -152,4 +156,5 @@ module _ (magic : List ℕ) (id head : ℕ) (records : List (List ℕ)) (found :
     passed = brings.passed;
     durable = brings.durable;
     done = known_map (λ m. m ≡ synced (log_of magic id 1 log.gated ++ 0 ∷ [])) (IsAtRest magic id end records) (rests_none none) new brings.done;
+    stands = brings.stands;
   }

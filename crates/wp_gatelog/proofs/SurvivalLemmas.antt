@@ -2,11 +2,11 @@
 use Rattle.std.proofs.Common.{◌≡◌, ◌≢◌, inl, inr, ℕ, List, [], ◌∷◌, ◌++◌, refl, sym, ◌∙◌, ap, subst}
 use Rattle.std.proofs.lemmas.Bool.{cases_eq}
 use Rattle.std.proofs.lemmas.List.{append_assoc, map_push}
-use Rattle.wp_outside.specs.Disk.{Moment, IfKnown, IsImage, images, Each, Passes}
+use Rattle.wp_outside.specs.Disk.{Moment, IfKnown, IsImage, images, Each, Passes, Goes}
 use Rattle.wp_outside.proofs.Moments.{image_of_synced}
 use Rattle.wp_gatelog.specs.Log.{IsAcknowledged, IsAtRest, BeforeOrAfter, Grows}
 use Rattle.wp_gatelog.specs.Repair.{HasFront, IsRepaired}
-use Rattle.wp_gatelog.specs.Moments.{Leaves, Goes}
+use Rattle.wp_gatelog.specs.Moments.{Leaves}
 use Rattle.wp_gatelog.specs.Opening.{HasMost, Survives, Repairs, SurvivesThrough}
 use Rattle.wp_gatelog.specs.Spelling.{Gated, IsOpen, framed, identity, all_gated, log_of, records_of, IsUnmade, Spells}
 use Rattle.wp_gatelog.proofs.AppendLemmas.{records_more, log_more, log_longer}

@@ -8,6 +8,7 @@ use Rattle.wp_gatelog.specs.Durability.{HasAcknowledged, LosesNoRecord}
 use Rattle.wp_gatelog.specs.Log.{LogState, Rests, BeforeOrAfter}
 use Rattle.wp_gatelog.specs.Moments.{Leaves}
 use Rattle.wp_gatelog.specs.Spelling.{Spells, frame_of}
+use Rattle.wp_gatelog.specs.Stands.{StandsOn}
 
 -- ---- what a crash leaves
 
@@ -23,6 +24,7 @@ pub record AppendsAfter {T E : Type 0} (magic : List ℕ) (records : List (List 
   -- once it is acknowledged, the log is at rest with the new record too, and a crash leaves it
   pub rests : OnOk result (Rests magic new (records ++ bytes ∷ []))
   pub spelled : OnOk result ((image : List ℕ) → images new.moments image → Spells image magic new.id (records ++ bytes ∷ []))
+  pub stands : OnOk result (StandsOn magic old.moments new.moments)
 
 -- The same of each kind of log, and of all records with which it is at rest. A closed log stays as it is, at rest or not.
 abbrev pub Appends : {T E : Type 0} → List ℕ → LogState → LogState → Result T E → Type 0

@@ -9,6 +9,8 @@ pub mod Log
 pub mod Repair
 pub mod Moments
 pub mod Opening
+pub mod Patched
 pub mod Scanning
 pub mod Spelling
+pub mod Stands
 pub mod Left

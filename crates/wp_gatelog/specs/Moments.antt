@@ -1,6 +1,6 @@
--- What a disk passes through while a call changes it.
-use Rattle.std.specs.Prelude.{◌≡◌, List, [], ◌∷◌, ℕ}
-use Rattle.wp_outside.specs.Disk.{Moment, IsImage, IfKnown, Passes, synced}
+-- What a crash leaves of a disk at a moment.
+use Rattle.std.specs.Prelude.{◌≡◌, List, ℕ}
+use Rattle.wp_outside.specs.Disk.{Moment, IsImage, IfKnown, synced}
 
 -- each image of the moment has P
 abbrev pub Leaves : (List ℕ → Type 0) → Moment → Type 0
@@ -9,8 +9,3 @@ Leaves P m = (image : List ℕ) → IsImage m image → P image
 -- where the disk is known, it has these bytes, synced: a crash leaves them and nothing else
 abbrev pub IsSynced : List ℕ → List Moment → Type 0
 IsSynced bytes moments = IfKnown moments (λ m. m ≡ synced bytes)
-
--- each moment that came has P; an unknown disk stays unknown
-abbrev pub Goes : (Moment → Type 0) → List Moment → List Moment → Type 0
-Goes P [] new = new ≡ []
-Goes P (m ∷ past) new = Passes P (m ∷ past) new

@@ -10,6 +10,7 @@ use Rattle.wp_gatelog.specs.Log.{LogState, Rests}
 use Rattle.wp_gatelog.specs.Repair.{IsRepaired}
 use Rattle.wp_gatelog.specs.Moments.{Leaves}
 use Rattle.wp_gatelog.specs.Spelling.{Gated, IsUnmade, HasLog, Spells, records_of}
+use Rattle.wp_gatelog.specs.Stands.{StandsOn}
 
 -- the bytes spell these records under this id: the one that was asked for, where no log was made
 pub record IsFound (magic : List ℕ) (asked : ℕ) (bytes : List ℕ) (id : ℕ) (records : List (List ℕ)) : Type 0 where
@@ -60,11 +61,12 @@ SurvivesThrough magic asked old new = IfKnown old (λ m. Passes (Leaves (Survive
 -- ---- the whole
 
 -- The log was opened on a disk with these moments. Its records are those that the disk spelled, and a crash from now on
--- leaves them.
+-- leaves them. What stood on the disk stands on.
 pub record IsOpened (magic : List ℕ) (asked : ℕ) (old : List Moment) (log : LogState) (records : List (List ℕ)) : Type 0 where
   pub found : IfKnown old (λ m. IsFound magic asked m.reads log.id records)
   pub rests : Rests magic log records
   pub spelled : (image : List ℕ) → images log.moments image → Spells image magic log.id records
+  pub stands : StandsOn magic old log.moments
   pub counted : log.count ≡ length records
   pub running : log.closed ≡ false
 

@@ -1,34 +1,30 @@
 -- What an opening reads of a log's records.
-use Rattle.std.specs.Prelude.{◌≡◌, ◌≢◌, ◌⊎◌, ℕ, ◌+◌, ◌<◌, ◌^◌, List, [], ◌∷◌, ◌++◌, length, Option, Some, None, ⊤}
-use Rattle.std.specs.Int.{w64, to_be_bytes}
-use Rattle.wp_outside.specs.Disk.{Each}
+use Rattle.std.specs.Prelude.{◌≡◌, ◌≢◌, ℕ, ◌+◌, ◌<◌, List, [], ◌∷◌, ◌++◌, length, Option, Some, None, ⊤}
+use Rattle.wp_outside.specs.Disk.{Moment, IfKnown, Each}
 use Rattle.wp_gatelog.specs.declared.error.LogError.{LogError}
 use Rattle.wp_gatelog.specs.declared.error.LogError.TheVariants as error
 use Rattle.wp_gatelog.specs.declared.gate.GateByte.{GateByte}
 use Rattle.wp_gatelog.specs.declared.scan.Next.{Next}
 use Rattle.wp_gatelog.specs.declared.scan.Next.TheVariants as next
-use Rattle.wp_gatelog.specs.declared.scan.Start.{Start}
-use Rattle.wp_gatelog.specs.declared.scan.Start.TheVariants as start
 use Rattle.wp_gatelog.specs.Damage.{IsShort}
+use Rattle.wp_gatelog.specs.Patched.{Shows, EndsAt, ReadsTo}
 use Rattle.wp_gatelog.specs.Spelling.{Gated, IsOpen, framed, all_gated, records_of}
 
--- a gate and a length begin these bytes
-abbrev pub IsStart : List ℕ → Start → Type 0
-IsStart bytes start.Closed = (bytes ≡ []) ⊎ ((following : List ℕ) × (bytes ≡ 0 ∷ following))
-IsStart bytes start.Short = (gate : ℕ) × (following : List ℕ) × (gate ≢ 0) × (bytes ≡ gate ∷ following) × (length following < 8)
-IsStart bytes (start.Open gate len) = (following : List ℕ) × (gate ≢ 0) × (len < 2 ^ 64) × (bytes ≡ gate ∷ (to_be_bytes w64 len ++ following))
+-- no gate is there, or an open one without a record and a further gate behind it
+abbrev pub IsUnfinished : List ℕ → Type 0
+IsUnfinished [] = ⊤
+IsUnfinished (gate ∷ following) = (gate ≢ 0) × IsShort following
 
--- a gate, and after an open one a record and a further gate, begin these bytes
+-- A gate, and behind an open one a record of so many bytes and a further gate, begin these bytes; or they end before that.
 abbrev pub IsNext : List ℕ → Next → Type 0
 IsNext bytes next.Closed = (following : List ℕ) × (bytes ≡ 0 ∷ following)
-IsNext bytes next.Cut = (gate : ℕ) × (following : List ℕ) × (gate ≢ 0) × (bytes ≡ gate ∷ following) × IsShort following
-IsNext bytes (next.Open gate found) = (rest : List ℕ) × IsOpen (record { gate = gate; bytes = found }) × (0 < length rest) × (bytes ≡ gate ∷ (framed found ++ rest))
+IsNext bytes (next.Short whole) = IsUnfinished bytes
+IsNext bytes (next.Open gate len) = (found : List ℕ) × (rest : List ℕ) × (len ≡ length found) × IsOpen (record { gate = gate; bytes = found })
+    × (0 < length rest) × (bytes ≡ gate ∷ (framed found ++ rest))
 
--- the gate after the record, too, is before the log's end
-abbrev pub EndsWithin : ℕ → ℕ → Next → Type 0
-EndsWithin at len next.Closed = ⊤
-EndsWithin at len next.Cut = ⊤
-EndsWithin at len (next.Open gate found) = at + 9 + length found < len
+-- the bytes stand at that place at this moment; where no gate, or no whole record, begins them, they are all that is there
+abbrev pub IsWholeAt : ℕ → List ℕ → Moment → Type 0
+IsWholeAt at bytes m = Shows at bytes m × (IsUnfinished bytes → EndsAt at bytes m)
 
 -- the gate of the last record, and its place
 abbrev pub IsLast : Option GateByte → List Gated → Type 0
@@ -52,3 +48,11 @@ IsReadFault id bytes error.DiskFault = ⊤
 IsReadFault id bytes error.BadHead = ⊥
 IsReadFault id bytes (error.Cut index named) = (named ≡ id) × (gated : List Gated) × (gate : ℕ) × (following : List ℕ) × Each IsOpen gated
     × (length gated ≡ index) × (gate ≢ 0) × IsShort following × (bytes ≡ all_gated gated ++ gate ∷ following)
+
+-- Why the records of a device can't be read that went from old to new: texts that were put together of it have the
+-- fault, and it ended behind them at last.
+abbrev pub RefusedBy : ℕ → List Moment → List Moment → LogError → Type 0
+RefusedBy id old new error.Memory = ⊤
+RefusedBy id old new error.DiskFault = ⊤
+RefusedBy id old new error.BadHead = ⊥
+RefusedBy id old new (error.Cut index named) = ReadsTo 10 old new (λ text. IsReadFault id text (error.Cut index named) × IfKnown new (EndsAt 10 text))

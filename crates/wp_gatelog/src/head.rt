@@ -1,14 +1,14 @@
 //! The head of a log: its gate, magic, version and id, and the gate after it.
 
 ghost use Rattle.std.specs.Prelude.{◌≡◌, ◌≢◌, ◌⊎◌, ℕ, ◌<◌, ◌∷◌, [], ◌++◌, List, length, take, slice_index, IfSome, IfNone, IfOk};
-ghost use Rattle.wp_outside.specs.Disk.{IfKnown};
+ghost use Rattle.wp_outside.specs.Disk.{IfKnown, Looks};
 ghost use Rattle.wp_outside.specs.Faults.{HasCause};
 ghost use Rattle.wp_gatelog.specs.Heads.{IsHead};
 ghost use Rattle.wp_gatelog.specs.Spelling.{identity};
 
 use crate::gate::CLOSED;
 use wp_fields::Fields;
-use wp_outside::{Disk, Failed};
+use wp_outside::{Disk, Failed, Peek};
 
 /// How many bytes come before the first record's gate.
 pub const HEAD_LEN: u64 = 10;
@@ -19,19 +19,36 @@ const VERSION: u8 = 1;
 pub enum Head {
     Unmade,
     Bad,
-    Made { gate: u8, id: u32 },
+
+    /// The head's gate, the id, and the gate of the first record.
+    Made { gate: u8, id: u32, first: u8 },
 }
 
-/// Reads the head.
-pub fn read_head<D: Disk>(disk: &mut D, magic: &[u8]) -> Result<Head, Failed>
+/// Reads the head: its gate first, and where that is open all of it.
+pub fn read_head<P: Peek>(disk: &mut P, magic: &[u8]) -> Result<Head, Failed>
+    requires { length magic.now ≡ 4 }
+    ensures found { IfOk result (λ head. IfKnown (P.moments disk.new) (λ m. IsHead magic.now m.reads head)) }
+    ensures looks { Looks (P.moments disk.old) (P.moments disk.new) (P.is_alone disk.old) (P.is_alone disk.new) }
+    ensures cause { HasCause (P.faults disk.old) (P.faults disk.new) result }
+{
+    let mut gate = [CLOSED];
+    let there = disk.read_at(0, &mut gate)?;
+    if there == 0 || gate[0] == CLOSED {
+        return Ok(Head::Unmade);
+    }
+    let mut bytes = [0; 11];
+    let read = disk.read_at(0, &mut bytes)?;
+    Ok(head_of(&bytes[..read], magic))
+}
+
+/// Reads the head of a disk's log.
+pub fn own_head<D: Disk>(disk: &mut D, magic: &[u8]) -> Result<Head, Failed>
     requires { length magic.now ≡ 4 }
     ensures found { IfOk result (λ head. IfKnown (D.moments disk.old) (λ m. IsHead magic.now m.reads head)) }
     ensures unchanged { D.moments disk.new ≡ D.moments disk.old }
     ensures cause { HasCause (D.faults disk.old) (D.faults disk.new) result }
 {
-    let mut bytes = [0; 11];
-    let read = disk.read_at(0, &mut bytes)?;
-    Ok(head_of(&bytes[..read], magic))
+    read_head(disk, magic)
 }
 
 /// The head by its first eleven bytes, or by all where there are fewer.
@@ -42,17 +59,21 @@ fn head_of(bytes: &[u8], magic: &[u8]) -> Head
     match bytes {
         [] | [_] | [CLOSED, ..] => Head::Unmade,
         [gate, rest @ ..] => match id_of(rest, magic) {
-            Some(id) => Head::Made { gate: *gate, id },
+            Some((id, first)) => Head::Made {
+                gate: *gate,
+                id,
+                first,
+            },
             None => Head::Bad,
         },
     }
 }
 
-/// The id after this magic and version, where they follow the head's gate and a further gate follows them.
-fn id_of(bytes: &[u8], magic: &[u8]) -> Option<u32>
+/// The id after this magic and version and the gate after it, where they follow the head's gate.
+fn id_of(bytes: &[u8], magic: &[u8]) -> Option<(u32, u8)>
     requires { length magic.now ≡ 4 }
-    ensures found { IfSome result (λ id.
-        (next : ℕ) × (rest : List ℕ) × (bytes.now ≡ identity magic.now id ++ next ∷ rest)) }
+    ensures found { IfSome result (λ found.
+        (rest : List ℕ) × (bytes.now ≡ identity magic.now found.0 ++ found.1 ∷ rest)) }
     ensures none { IfNone result
         ((length bytes.now < 10) ⊎ (take 4 bytes.now ≢ magic.now) ⊎ (slice_index bytes.now 4 ≢ 1)) }
 {
@@ -60,14 +81,14 @@ fn id_of(bytes: &[u8], magic: &[u8]) -> Option<u32>
     let found = fields.piece(4)?;
     let version = fields.u8()?;
     let id = fields.u32()?;
-    fields.u8()?;
+    let first = fields.u8()?;
     if found != magic {
         return None;
     }
     if version != VERSION {
         return None;
     }
-    Some(id)
+    Some((id, first))
 }
 
 /// The bytes after the head's gate: magic, version, id and the closed gate of the first record.

@@ -17,6 +17,7 @@ mod laws;
 mod log;
 mod make;
 mod open;
+mod piece;
 mod record;
 mod repair;
 mod scan;

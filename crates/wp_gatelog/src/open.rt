@@ -1,6 +1,6 @@
 //! Opening a log.
 
-ghost use Rattle.std.specs.Prelude.{◌≡◌, ℕ, ◌≤◌, ◌^◌, [], List, length, vec_len, IfOk, IfErr};
+ghost use Rattle.std.specs.Prelude.{◌≡◌, ℕ, [], List, length, IfOk, IfErr};
 ghost use Rattle.wp_outside.specs.Disk.{IfKnown, added, after_sync, synced};
 ghost use Rattle.wp_gatelog.specs.Opens.{Opens, HasPlaces};
 ghost use Rattle.wp_gatelog.specs.Errors.{HasLogCause};
@@ -8,13 +8,13 @@ ghost use Rattle.wp_gatelog.specs.Heads.{BeginsLog};
 ghost use Rattle.wp_gatelog.specs.Opening.{IsUntouched};
 
 use crate::error::LogError;
-use crate::head::{HEAD_LEN, Head, read_head};
+use crate::head::{HEAD_LEN, Head, own_head};
 use crate::make::make;
 use crate::record::Record;
 use crate::repair::repair;
-use crate::scan::{Scan, read_records};
+use crate::scan::own_records;
 use std::alloc::Global;
-use wp_outside::Disk;
+use wp_outside::{Disk, own_len};
 
 /// What an opening found.
 #[derive(Drop)]
@@ -58,9 +58,9 @@ pub fn open_synced<D: Disk>(
     ensures unknown { D.moments disk.old ≡ [] → D.moments disk.new ≡ [] }
     ensures cause { HasLogCause (D.faults disk.old) (D.faults disk.new) result }
 {
-    let len = disk.len()?;
-    match read_head(disk, &magic)? {
+    match own_head(disk, &magic)? {
         Head::Unmade => {
+            let len = own_len(disk)?;
             make(disk, len, magic, id)?;
             Ok(FoundLog {
                 id,
@@ -69,31 +69,28 @@ pub fn open_synced<D: Disk>(
             })
         }
         Head::Bad => Err(LogError::BadHead),
-        Head::Made { gate, id } => open_made(alloc, disk, len, gate, id),
+        Head::Made { gate, id, first } => open_made(alloc, disk, gate, id, first),
     }
 }
 
-/// Reads and repairs the records of a log whose head was read, on a disk that has all of its `len` bytes for good.
+/// Reads and repairs the records of a log whose head was read, on a disk that has all of its bytes for good.
 pub fn open_made<D: Disk>(
     alloc: Global,
     disk: &mut D,
-    len: u64,
     head: u8,
     id: u32,
+    first: u8,
 ) -> Result<FoundLog, LogError>
-    requires { len ≤ 2 ^ 62 }
     ensures opens { (magic : List ℕ) (asked : ℕ) → IfKnown (D.moments disk.old) (λ m. m ≡ synced m.reads
-        → BeginsLog magic id head len m.reads
+        → BeginsLog magic id head first m.reads
         → Opens magic asked m.reads (D.moments disk.old) (D.moments disk.new) result) }
     ensures untouched { IfErr result (IsUntouched (D.moments disk.old) (D.moments disk.new)) }
     ensures places { IfOk result HasPlaces }
     ensures unknown { D.moments disk.old ≡ [] → D.moments disk.new ≡ [] }
     ensures cause { HasLogCause (D.faults disk.old) (D.faults disk.new) result }
 {
-    if len <= HEAD_LEN {
-        return Err(LogError::BadHead);
-    }
-    let scan = read_records(alloc, disk, len, id)?;
+    let scan = own_records(alloc, disk, id, first)?;
+    let len = own_len(disk)?;
     repair(disk, len, head, &scan)?;
     Ok(FoundLog {
         id,

@@ -1,6 +1,6 @@
 //! Repair a log that was read.
 
-ghost use Rattle.std.specs.Prelude.{◌≡◌, ℕ, ◌<◌, ◌≤◌, ◌^◌, [], ◌∷◌, ◌++◌, List, length};
+ghost use Rattle.std.specs.Prelude.{◌≡◌, ℕ, ◌≤◌, ◌^◌, [], ◌∷◌, ◌++◌, List, length};
 ghost use Rattle.wp_outside.specs.Faults.{HasCause};
 ghost use Rattle.wp_gatelog.specs.Changes.{BringsTo, Changes};
 ghost use Rattle.wp_gatelog.specs.Log.{IsAtRest};
@@ -15,8 +15,7 @@ use wp_outside::{Disk, Failed};
 /// Cuts what follows the gate that ends the log, and opens its head's gate and the last record's gate wholly. `len` is
 /// how many bytes the disk has, `head` the head's gate.
 pub fn repair<D: Disk>(disk: &mut D, len: u64, head: u8, scan: &Scan) -> Result<(), Failed>
-    requires within { scan.now.end < len }
-    requires bounded { len ≤ 2 ^ 62 }
+    requires { scan.now.end ≤ 2 ^ 62 }
     ensures repaired { (magic : List ℕ) (id : ℕ) (bytes : List ℕ)
         (log : IsReadLog magic id head scan.now.records.items scan.now.last scan.now.end len bytes)
         → IsSynced bytes (D.moments disk.old)
@@ -35,8 +34,7 @@ pub fn repair<D: Disk>(disk: &mut D, len: u64, head: u8, scan: &Scan) -> Result<
 
 /// Cuts what follows the closed gate at `end`.
 fn cut_rest<D: Disk>(disk: &mut D, end: u64, len: u64) -> Result<(), Failed>
-    requires within { end < len }
-    requires bounded { len ≤ 2 ^ 62 }
+    requires { end ≤ 2 ^ 62 }
     ensures changes { (front following : List ℕ) → end ≡ length front → len ≡ length (front ++ 0 ∷ following)
         → IsSynced (front ++ 0 ∷ following) (D.moments disk.old)
         → Changes (HasFront front) (front ++ 0 ∷ following) (front ++ 0 ∷ [])
@@ -44,7 +42,7 @@ fn cut_rest<D: Disk>(disk: &mut D, end: u64, len: u64) -> Result<(), Failed>
     ensures unknown { D.moments disk.old ≡ [] → D.moments disk.new ≡ [] }
     ensures cause { HasCause (D.faults disk.old) (D.faults disk.new) result }
 {
-    if len - end == 1 {
+    if len.saturating_sub(end) <= 1 {
         return Ok(());
     }
     cut_synced(disk, end + 1)

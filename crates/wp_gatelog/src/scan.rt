@@ -1,20 +1,32 @@
 //! Reading the records of a log.
+//!
+//! No byte is used that was read before its gate was seen open. So a gate is looked at first: that of the first record
+//! with the head, each other one with the record before it. A record is read whole in one read, with the gate behind it,
+//! and where it isn't there whole, that read saw the device's end.
 
-ghost use Rattle.std.specs.Prelude.{◌≡◌, ℕ, ◌+◌, ◌-◌, ◌<◌, ◌≤◌, ◌^◌, ◌∷◌, List, length, take, drop, vec_len, IfOk, IfErr, IfSome, IsSomeAnd};
-ghost use Rattle.wp_outside.specs.Disk.{IfKnown};
+ghost use Rattle.std.specs.Prelude.{◌≡◌, ◌⊎◌, ℕ, ◌+◌, ◌<◌, ◌≤◌, ◌^◌, [], ◌∷◌, List, length, take, drop, vec_len, IfOk, IfErr};
+ghost use Rattle.wp_outside.specs.Disk.{IfKnown, Looks};
 ghost use Rattle.wp_gatelog.specs.Errors.{FaultRose, IsOutside};
-ghost use Rattle.wp_gatelog.specs.Scanning.{IsStart, IsNext, EndsWithin, HasRead, IsReadFault};
+ghost use Rattle.wp_gatelog.specs.Patched.{Shows, ReadsTo};
+ghost use Rattle.wp_gatelog.specs.Scanning.{IsNext, IsUnfinished, IsWholeAt, HasRead, IsReadFault, RefusedBy};
 
 use crate::error::LogError;
 use crate::gate::{CLOSED, GateByte};
 use crate::head::HEAD_LEN;
+use crate::piece::Piece;
 use crate::record::Record;
-use std::alloc::Global;
+use std::alloc::{AllocError, Global};
 use wp_fields::Fields;
-use wp_outside::Disk;
+use wp_outside::{Disk, Peek};
 
 /// How many bytes a gate and the length after it take.
 const START_LEN: u64 = 9;
+
+/// How many bytes are read at first; most records are among them whole.
+const PIECE: u64 = 4096;
+
+/// No memory has so many bytes.
+const MOST: u64 = 1 << 62;
 
 /// The records of a log.
 #[derive(Drop)]
@@ -29,130 +41,176 @@ pub struct Scan {
 }
 
 /// What is at a gate.
-#[derive(Drop)]
+#[derive(Clone, Copy)]
 pub enum Next {
     Closed,
-    Cut,
-    Open { gate: u8, record: Record },
-}
 
-/// A gate and the length after it.
-pub enum Start {
-    Closed,
-    Short,
+    /// The bytes end before the gate, or before the gate behind its record. With it there would be at least so many, up to
+    /// the greatest `u64`.
+    Short { whole: u64 },
+
+    /// A whole record of so many bytes, and a further gate.
     Open { gate: u8, len: u64 },
 }
 
-/// Reads the records after the head of a log with so many bytes, up to the first closed gate. `id` is the head's.
-pub fn read_records<D: Disk>(
+/// Reads the records after the head of a log, up to the first closed gate. `id` is the head's, `first` the gate that was
+/// read with it. Of a read `reach` bytes behind a record are used: one where others may write, the next gate.
+pub fn read_records<P: Peek>(
     alloc: Global,
-    disk: &mut D,
-    len: u64,
+    disk: &mut P,
     id: u32,
+    first: u8,
+    reach: usize,
 ) -> Result<Scan, LogError>
-    requires within { 10 < len }
-    requires bounded { len ≤ 2 ^ 62 }
-    ensures found { IfOk result (λ scan. IfKnown (D.moments disk.old) (λ m. len ≡ length m.reads
-        → (following : List ℕ) × HasRead (drop 10 m.reads) (0 ∷ following) scan.records.items scan.last scan.end)) }
-    ensures refused { IfErr result (λ why. IfKnown (D.moments disk.old) (λ m. len ≡ length m.reads
-        → IsReadFault id (drop 10 m.reads) why)) }
-    ensures places { IfOk result (λ scan. (vec_len scan.records ≤ scan.end) × (scan.end < len)) }
-    ensures unchanged { D.moments disk.new ≡ D.moments disk.old }
-    ensures fault { IfErr result (FaultRose (D.faults disk.old) (D.faults disk.new)) }
-    ensures later { D.faults disk.old ≤ D.faults disk.new }
+    requires { 1 ≤ reach }
+    ensures found { IfOk result (λ scan. IfKnown (P.moments disk.old) (λ m. Shows 10 (first ∷ []) m
+        → ReadsTo 10 (P.moments disk.old) (P.moments disk.new)
+        (λ text. HasRead text (0 ∷ []) scan.records.items scan.last scan.end))) }
+    ensures refused { IfErr result (λ why. IfKnown (P.moments disk.old) (λ m. Shows 10 (first ∷ []) m
+        → RefusedBy id (P.moments disk.old) (P.moments disk.new) why)) }
+    ensures places { IfOk result (λ scan. (vec_len scan.records ≤ scan.end) × (scan.end < 2 ^ 62)) }
+    ensures looks { Looks (P.moments disk.old) (P.moments disk.new) (P.is_alone disk.old) (P.is_alone disk.new) }
+    ensures fault { IfErr result (FaultRose (P.faults disk.old) (P.faults disk.new)) }
+    ensures later { P.faults disk.old ≤ P.faults disk.new }
 {
     let mut records = Vec::new(alloc);
     let mut last = None;
     let mut end = HEAD_LEN;
-    'gates: loop {
-        match read_next(alloc, disk, end, len)? {
+    let mut piece = Piece::of(vec![in alloc; first]?);
+    'gates: while end < MOST {
+        match read_next(alloc, disk, end, &mut piece)? {
             Next::Closed => return Ok(Scan { records, last, end }),
-            Next::Cut => return Err(LogError::Cut {
+            Next::Short { .. } => return Err(LogError::Cut {
                 index: records.len() as u64,
                 id,
             }),
-            Next::Open { gate, record } => {
+            Next::Open { gate, len } => {
+                let record = record_in(alloc, piece.rest(), len)?;
+                let size = span_of(&record);
+                records.push(record)?;
                 last = Some(GateByte {
                     at: end,
                     byte: gate,
                 });
-                end += START_LEN + record.bytes().len() as u64;
-                records.push(record)?;
+                end += size;
+                piece.pass(size as usize, reach);
             }
         }
     }
+    Err(LogError::Memory)
 }
 
-/// Reads what is at the gate at `at` of a log with so many bytes.
-fn read_next<D: Disk>(alloc: Global, disk: &mut D, at: u64, len: u64) -> Result<Next, LogError>
-    requires within { at < len }
-    requires bounded { len ≤ 2 ^ 62 }
-    ensures found { IfOk result (λ next. IfKnown (D.moments disk.old) (λ m. len ≡ length m.reads
-        → IsNext (drop at m.reads) next)) }
-    ensures within { IfOk result (EndsWithin at len) }
+/// Reads the records after the head of a disk's log: as many as one read shows whole are taken of it.
+pub fn own_records<D: Disk>(
+    alloc: Global,
+    disk: &mut D,
+    id: u32,
+    first: u8,
+) -> Result<Scan, LogError>
+    ensures found { IfOk result (λ scan. IfKnown (D.moments disk.old) (λ m. Shows 10 (first ∷ []) m
+        → (following : List ℕ) × HasRead (drop 10 m.reads) (0 ∷ following) scan.records.items scan.last scan.end)) }
+    ensures refused { IfErr result (λ why. IfKnown (D.moments disk.old) (λ m. Shows 10 (first ∷ []) m
+        → IsReadFault id (drop 10 m.reads) why)) }
+    ensures places { IfOk result (λ scan. (vec_len scan.records ≤ scan.end) × (scan.end < 2 ^ 62)) }
     ensures unchanged { D.moments disk.new ≡ D.moments disk.old }
-    ensures refused { IfErr result (IsOutside (D.faults disk.old) (D.faults disk.new)) }
+    ensures fault { IfErr result (FaultRose (D.faults disk.old) (D.faults disk.new)) }
     ensures later { D.faults disk.old ≤ D.faults disk.new }
 {
-    let mut bytes = [0; 9];
-    let read = disk.read_at(at, &mut bytes)?;
-    match start_of(&bytes[..read]) {
-        Start::Closed => Ok(Next::Closed),
-        Start::Short => Ok(Next::Cut),
-        Start::Open {
-            gate,
-            len: record_len,
-        } => {
-            if (len - at).saturating_sub(START_LEN) <= record_len {
-                return Ok(Next::Cut);
-            }
-            match read_bytes(alloc, disk, at + START_LEN, record_len)? {
-                Some(bytes) => Ok(Next::Open {
-                    gate,
-                    record: Record::of(bytes),
-                }),
-                None => Ok(Next::Cut),
-            }
-        }
-    }
+    read_records(alloc, disk, id, first, PIECE as usize)
 }
 
-/// The gate and the length that begin these bytes.
-fn start_of(bytes: &[u8]) -> Start
-    ensures { IsStart bytes.now result }
+/// What is at the gate at `at`, with which the piece begins. Where the piece has less than the record and the gate behind
+/// it, it is read anew.
+fn read_next<P: Peek>(
+    alloc: Global,
+    disk: &mut P,
+    at: u64,
+    piece: &mut Piece,
+) -> Result<Next, LogError>
+    requires { at < 2 ^ 62 }
+    ensures found { IfOk result (IsNext piece.new) }
+    ensures shown { IfOk result (λ _. IfKnown (P.moments disk.old) (Shows at piece.old)
+        → IfKnown (P.moments disk.new) (IsWholeAt at piece.new)) }
+    ensures kept { IfOk result (λ _. ((piece.new ≡ piece.old) × (P.moments disk.new ≡ P.moments disk.old))
+        ⊎ IsUnfinished piece.old) }
+    ensures looks { Looks (P.moments disk.old) (P.moments disk.new) (P.is_alone disk.old) (P.is_alone disk.new) }
+    ensures refused { IfErr result (IsOutside (P.faults disk.old) (P.faults disk.new)) }
+    ensures later { P.faults disk.old ≤ P.faults disk.new }
+{
+    let known = next_in(piece.rest());
+    let Next::Short { .. } = known else {
+        return Ok(known);
+    };
+    *piece = Piece::of(read_whole(alloc, disk, at)?);
+    Ok(next_in(piece.rest()))
+}
+
+/// Reads from the gate at `at` on so far that its record is there whole, with the gate behind it; or to the device's end,
+/// or further.
+fn read_whole<P: Peek>(alloc: Global, disk: &mut P, at: u64) -> Result<Vec<u8>, LogError>
+    requires { at < 2 ^ 62 }
+    ensures found { IfOk result (λ bytes. IfKnown (P.moments disk.new) (IsWholeAt at bytes.items)) }
+    ensures looks { Looks (P.moments disk.old) (P.moments disk.new) (P.is_alone disk.old) (P.is_alone disk.new) }
+    ensures refused { IfErr result (IsOutside (P.faults disk.old) (P.faults disk.new)) }
+    ensures later { P.faults disk.old ≤ P.faults disk.new }
+{
+    let mut size = PIECE;
+    'sizes: while size < MOST {
+        let mut bytes = vec![in alloc; 0u8; size as usize]?;
+        let read = disk.read_at(at, &mut bytes)?;
+        bytes.truncate(read);
+        if (read as u64) < size {
+            return Ok(bytes);
+        }
+        let Next::Short { whole } = next_in(&bytes) else {
+            return Ok(bytes);
+        };
+        let left = disk.len()?.saturating_sub(at);
+        size = whole.min(left + 1).max(size + 1);
+    }
+    Err(LogError::Memory)
+}
+
+/// What begins these bytes.
+fn next_in(bytes: &[u8]) -> Next
+    ensures { IsNext bytes.now result }
 {
     let mut fields = Fields::of(bytes);
     let Some(gate) = fields.u8() else {
-        return Start::Closed;
+        return Next::Short {
+            whole: START_LEN + 1,
+        };
     };
     if gate == CLOSED {
-        return Start::Closed;
+        return Next::Closed;
     }
-    match fields.u64() {
-        Some(len) => Start::Open { gate, len },
-        None => Start::Short,
+    let Some(len) = fields.u64() else {
+        return Next::Short {
+            whole: START_LEN + 1,
+        };
+    };
+    if fields.left() as u64 <= len {
+        return Next::Short {
+            whole: len.saturating_add(START_LEN + 1),
+        };
     }
+    Next::Open { gate, len }
 }
 
-/// Reads so many bytes from `at` on, or none where there are fewer.
-fn read_bytes<D: Disk>(
-    alloc: Global,
-    disk: &mut D,
-    at: u64,
-    len: u64,
-) -> Result<Option<Vec<u8>>, LogError>
-    requires { at + len ≤ 2 ^ 63 - 1 }
-    ensures found { IfOk result (λ found. IfKnown (D.moments disk.old) (λ m. at + len ≤ length m.reads
-        → IsSomeAnd found (λ bytes. bytes.items ≡ take len (drop at m.reads)))) }
-    ensures size { IfOk result (λ found. IfSome found (λ bytes. vec_len bytes ≡ len)) }
-    ensures unchanged { D.moments disk.new ≡ D.moments disk.old }
-    ensures refused { IfErr result (IsOutside (D.faults disk.old) (D.faults disk.new)) }
-    ensures later { D.faults disk.old ≤ D.faults disk.new }
+/// The record of so many bytes behind the gate and the length that begin these.
+fn record_in(alloc: Global, bytes: &[u8], len: u64) -> Result<Record, AllocError>
+    requires { 9 + len ≤ length bytes.now }
+    ensures { IfOk result (λ found. found ≡ take len (drop 9 bytes.now)) }
 {
-    let mut bytes = vec![in alloc; 0u8; len as usize]?;
-    let read = disk.read_at(at, &mut bytes)?;
-    if read < bytes.len() {
-        return Ok(None);
-    }
-    Ok(Some(bytes))
+    let start = START_LEN as usize;
+    let bytes = bytes[start..start + len as usize].to_vec(alloc)?;
+    Ok(Record::of(bytes))
+}
+
+/// How many bytes a record takes in a log, with its gate and its length.
+fn span_of(record: &Record) -> u64
+    ensures size { result ≡ 9 + length record.now }
+    ensures small { result < 2 ^ 63 + 9 }
+{
+    START_LEN + record.bytes().len() as u64
 }

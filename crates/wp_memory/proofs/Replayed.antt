@@ -68,9 +68,10 @@ at_newest : (moments : List Moment) (m : Moment) (P : Moment → Type 0) → IfK
 at_newest [] m P e now = tt
 at_newest (k ∷ past) m P e now = subst P (sym e) now
 
--- what holds of the disk now holds of the moment that it shows first
-pub known_now : (d : DiskState) (P : Moment → Type 0) → P (now_of d) → IfKnown (moments_of d) P
-known_now d P now = at_newest (moments_of d) (now_of d) P (newest_from (synced d.start) [] d.effects) now
+-- what holds of the disk now holds of the moment that it shows first, behind a call that changed nothing too
+pub known_now : (d : DiskState) (moments : List Moment) (P : Moment → Type 0) → moments ≡ moments_of d → P (now_of d) → IfKnown moments P
+known_now d moments P same now =
+    subst (λ (ms : List Moment). IfKnown ms P) (sym same) (at_newest (moments_of d) (now_of d) P (newest_from (synced d.start) [] d.effects) now)
 
 -- one more effect, one more moment
 pub moments_of-more : (d : DiskState) (effect : Effect) → moments_of (record d { effects = d.effects ++ effect ∷ [] }) ≡ added (after effect) (moments_of d)

@@ -1,5 +1,5 @@
 -- A disk in memory, as it reads, is one of its images.
-use Rattle.std.specs.Prelude.{◌≡◌, ℕ, zero, suc, ◌+◌, ◌-◌, max, List, [], ◌∷◌, ◌++◌, map, length, take, drop, fold, Option, None, Some, refl}
+use Rattle.std.specs.Prelude.{◌≡◌, ℕ, zero, suc, ◌+◌, ◌-◌, max, List, [], ◌∷◌, ◌++◌, length, take, drop, fold, Option, None, Some}
 use Rattle.std.proofs.Common.{sym, ◌∙◌, ap, le_refl, le_trans, le_of_eq, zero-add, suc-add, add_comm, length-append, length-drop}
 use Rattle.std.proofs.Math.Nat.{zero-max, suc-max-suc, sub-add-eq-max, max-le, le-max_left, le-max_right, min-le_right}
 use Rattle.std.proofs.lemmas.List.{length-take}

@@ -1,4 +1,4 @@
-ghost use Rattle.std.specs.Prelude.{◌≡◌, IfOk};
+ghost use Rattle.std.specs.Prelude.{◌≡◌, true, refl, IfOk};
 ghost use Rattle.wp_memory.specs.MemDisk.{contents, moments_of};
 
 use crate::mem_disk::MemDisk;
@@ -6,7 +6,7 @@ use std::alloc::{AllocError, Global};
 use std::marker::Model;
 use std::sync::atomic::AtomicU64;
 use std::sync::atomic::Ordering::SeqCst;
-use wp_outside::{Disk, Failed, Gate};
+use wp_outside::{Disk, Failed, Gate, Peek};
 
 /// The client as which the disk comes to its gate; those of a script have lesser numbers.
 const CLIENT: usize = 17;
@@ -99,8 +99,10 @@ impl<'a, G: Gate> GateDisk<'a, G> {
     }
 }
 
-impl<'a, G: Gate> Disk for GateDisk<'a, G> {
+impl<'a, G: Gate> Peek for GateDisk<'a, G> {
     ghost moments = { λ d. moments_of d };
+
+    ghost is_alone = { λ _. true };
 
     ghost faults = { λ d. d.calls.faults };
 
@@ -114,6 +116,12 @@ impl<'a, G: Gate> Disk for GateDisk<'a, G> {
         self.disk.read_at(at, buf)
     }
 
+    ghost use Rattle.wp_memory.specs.Images.{reads_itself};
+
+    ghost itself = { λ d. reads_itself d };
+}
+
+impl<'a, G: Gate> Disk for GateDisk<'a, G> {
     fn write_at(&mut self, at: u64, bytes: &[u8]) -> Result<(), Failed> {
         self.pass();
         self.disk.write_at(at, bytes)
@@ -131,7 +139,5 @@ impl<'a, G: Gate> Disk for GateDisk<'a, G> {
         Ok(())
     }
 
-    ghost use Rattle.wp_memory.specs.Images.{reads_itself};
-
-    ghost itself = { λ d. reads_itself d };
+    ghost owned = { λ _. refl };
 }

@@ -1,6 +1,6 @@
-ghost use Rattle.std.specs.Prelude.{◌≡◌, ℕ, ◌+◌, ◌-◌, ◌^◌, ◌≤◌, ◌<◌, not, [], ◌∷◌, ◌++◌, List, drop, replicate, min, max, length, vec_capacity, is_err, IsTrue, IfOk, OnOk, OnErr};
+ghost use Rattle.std.specs.Prelude.{◌≡◌, ℕ, ◌+◌, ◌-◌, ◌^◌, ◌≤◌, ◌<◌, true, not, [], ◌∷◌, ◌++◌, List, drop, replicate, min, max, length, vec_capacity, is_err, IsTrue, IfOk, OnOk, OnErr};
 ghost use Rattle.wp_memory.specs.Counter.{no_calls, counted};
-ghost use Rattle.wp_outside.specs.Disk.{Moment, synced, put, write_end, after_write, after_cut, after_sync, added, IfKnown, IsRead, Tears, images};
+ghost use Rattle.wp_outside.specs.Disk.{Moment, synced, put, write_end, after_write, after_cut, after_sync, added, IfKnown, IsRead, Looks, Tears, images};
 ghost use Rattle.wp_outside.specs.Faults.{HasCause};
 ghost use Rattle.wp_memory.specs.Fits.{Fits};
 ghost use Rattle.wp_memory.specs.MemDisk.{Wrote, Shortened, Synced, contents, moments_of, is_used_up, refuses, after_call};
@@ -9,7 +9,7 @@ use crate::copy::copy_from;
 use crate::counter::Counter;
 use std::alloc::{AllocError, Global};
 use std::marker::Model;
-use wp_outside::{Disk, Failed};
+use wp_outside::{Disk, Failed, Peek};
 
 const MOST_ROOM: u64 = 1 << 62;
 
@@ -161,15 +161,17 @@ fn keep(written: &mut Vec<u8>, piece: &[u8])
     written.extend_from_slice(piece).unwrap();
 }
 
-impl Disk for MemDisk {
+impl Peek for MemDisk {
     ghost moments = { λ d. moments_of d };
+
+    ghost is_alone = { λ _. true };
 
     ghost faults = { λ d. d.calls.faults };
 
     fn len(&mut self) -> Result<u64, Failed>
         ensures bounded { IfOk result (λ n. n ≤ 2 ^ 62) }
-        ensures length { IfOk result (λ n. IfKnown (moments_of self.old) (λ m. n ≡ length m.reads)) }
-        ensures unchanged { moments_of self.new ≡ moments_of self.old }
+        ensures length { IfOk result (λ n. IfKnown (moments_of self.new) (λ m. n ≡ length m.reads)) }
+        ensures looks { Looks (moments_of self.old) (moments_of self.new) true true }
         ensures cause { HasCause self.old.calls.faults self.new.calls.faults result }
         ensures exact { is_err result ≡ refuses self.old (length (contents self.old)) 0 }
         ensures after { self.new ≡ record self.old { calls = counted result self.old.calls } }
@@ -183,8 +185,8 @@ impl Disk for MemDisk {
     fn read_at(&mut self, at: u64, buf: &mut [u8]) -> Result<usize, Failed>
         requires { at + length buf.old ≤ 2 ^ 63 - 1 }
         ensures count { IfOk result (λ n. n ≤ length buf.new) }
-        ensures bytes { IfOk result (λ n. IfKnown (moments_of self.old) (λ m. IsRead m.reads at buf.new n)) }
-        ensures unchanged { moments_of self.new ≡ moments_of self.old }
+        ensures bytes { IfOk result (λ n. IfKnown (moments_of self.new) (λ m. IsRead m.reads at buf.new n)) }
+        ensures looks { Looks (moments_of self.old) (moments_of self.new) true true }
         ensures cause { HasCause self.old.calls.faults self.new.calls.faults result }
         ensures rest { IfOk result (λ n. drop n buf.new ≡ drop n buf.old) }
         ensures refused { OnErr result (buf.new ≡ buf.old) }
@@ -196,6 +198,12 @@ impl Disk for MemDisk {
         Ok(copy_from(&self.bytes, at as usize, buf))
     }
 
+    ghost use Rattle.wp_memory.specs.Images.{reads_itself};
+
+    ghost itself = { λ d. reads_itself d };
+}
+
+impl Disk for MemDisk {
     fn write_at(&mut self, at: u64, bytes: &[u8]) -> Result<(), Failed>
         ensures bounded { OnOk result (write_end at bytes.now ≤ 2 ^ 62) }
         ensures done { OnOk result (moments_of self.new ≡ added (after_write at bytes.now) (moments_of self.old)) }
@@ -242,7 +250,7 @@ impl Disk for MemDisk {
         Ok(())
     }
 
-    ghost use Rattle.wp_memory.specs.Images.{reads_itself};
+    ghost use Rattle.std.specs.Prelude.{refl};
 
-    ghost itself = { λ d. reads_itself d };
+    ghost owned = { λ _. refl };
 }

@@ -2,6 +2,7 @@ pub mod Later
 pub mod AllVersions
 pub mod OwnVersions
 pub mod Reading
+pub mod Shown
 pub mod OneWay
 pub mod Stages
 pub mod OneFault

@@ -1,12 +1,14 @@
 -- The tables at their places: what is read there, and what is wrong.
-use Rattle.std.proofs.Common.{◌≡◌, ℕ, suc, get_or, ◌+◌, ◌<◌, ◌≤◌, List, [], ◌∷◌, ◌++◌, length, take, drop, inl, inr, refl, sym, subst, ap, ◌∙◌, arith, length-take, length-drop}
+use Rattle.std.specs.Prelude.{⊤}
+use Rattle.std.proofs.Common.{◌≡◌, ◌⊎◌, ℕ, suc, get_or, ◌+◌, ◌<◌, ◌≤◌, List, [], ◌∷◌, ◌++◌, length, take, drop, inl, inr, refl, sym, subst, ap, ◌∙◌, arith, length-take, length-drop}
 use Rattle.std.specs.Prelude.{IfSome}
 use Rattle.std.specs.List.{AllByRecursion}
 use Rattle.std.proofs.Math.Seq.{drop-cons}
-use Rattle.std.proofs.lemmas.List.{take-append-drop, length-take-le, take_more}
+use Rattle.std.proofs.lemmas.List.{take-append-drop, length-take-le, nil_from_length, take_more}
 use Rattle.wp_outside.specs.declared.disk.Device.TheVariants as device
-use Rattle.wp_outside.specs.Disk.{Moment, IfKnown}
+use Rattle.wp_outside.specs.Disk.{Moment, IfKnown, IsRead, Goes}
 use Rattle.wp_outside.specs.Faults.{Rose}
+use Rattle.wp_gatelog.specs.Patched.{Shows}
 use Rattle.wp_gatelog.proofs.MomentLemmas.{known_map}
 use Rattle.wp_model.specs.declared.version.Version.{Version}
 use Rattle.wp_manifest.specs.Edit.{Edit}
@@ -21,9 +23,21 @@ use Rattle.wp_open.specs.declared.opening.OpenError.{OpenError}
 use Rattle.wp_open.specs.declared.opening.OpenError.TheVariants as open_error
 use Rattle.wp_open.specs.Damage.{bytes_at, HasTableFault, IsFirstBadTable}
 use Rattle.wp_open.specs.Refused.{IsTableReason}
+use Rattle.wp_open.specs.Shown.{WereShown}
 use Rattle.wp_open.specs.Tables.{WasWrong, IsTableCause, IsFirstWrong, AreTablesCause}
+use Rattle.wp_open.proofs.Shown.{shown_later, shown_push, sometime_now}
 
 -- ---- one table
+
+-- what a read gave stands at its place; bytes of which none were asked for stand anywhere
+pub read_shows : (m : Moment) (buf bytes : List ℕ) (place at n : ℕ) → bytes ≡ take n buf → (place ≡ at) ⊎ (length buf ≡ 0) → IsRead m.reads place buf n → Shows at bytes m
+read_shows m buf bytes place at n is where_is read =
+    let size : length bytes ≡ n = ap length is ∙ length-take-le n buf (omega (arith, read.count)) in
+    let there : take (length bytes) (drop place m.reads) ≡ bytes = ap (λ (k : ℕ). take k (drop place m.reads)) size ∙ sym read.bytes ∙ sym is in
+    elim where_is [
+      | inl same ↦ subst (λ (k : ℕ). Shows k bytes m) same there
+      | inr none ↦ (let no_bytes : bytes ≡ [] = nil_from_length bytes (omega (arith, size, read.count, none)) in subst (λ (l : List ℕ). Shows at l m) (sym no_bytes) refl)
+    ]
 
 some_bytes : (id : ℕ) (versions : List Version) → 1 ≤ length (table_bytes id versions)
 some_bytes id versions = omega arith
@@ -45,11 +59,12 @@ table_at_place id flushed bytes placed versions is spelled whole =
       is = is;
     }
 
-pub found_table : (id flushed len : ℕ) (found : List ℕ) (placed : ℕ × ℕ) (versions : List Version) (moments : List Moment) → IsTable id flushed versions → found ≡ table_bytes id versions → placed.1 ≤ length found → IfKnown moments (λ m. len ≡ length m.reads → found ≡ bytes_at m.reads placed) → IfKnown moments (λ m. len ≡ length m.reads → HasTable id flushed m.reads placed versions)
-found_table id flushed len found placed versions moments is spelled whole read =
-    known_map (λ m. len ≡ length m.reads → found ≡ bytes_at m.reads placed) (λ m. len ≡ length m.reads → HasTable id flushed m.reads placed versions)
-    (λ m there len_is. let same : found ≡ bytes_at m.reads placed = there len_is in
-    table_at_place id flushed m.reads placed versions is (sym same ∙ spelled) (let size = ap length same in omega (arith, size, whole))) moments read
+pub found_table : (id flushed : ℕ) (found : List ℕ) (placed : ℕ × ℕ) (versions : List Version) (moments : List Moment) → IsTable id flushed versions → found ≡ table_bytes id versions → placed.1 ≤ length found → length found ≤ placed.1 → IfKnown moments (Shows placed.0 found) → IfKnown moments (λ m. HasTable id flushed m.reads placed versions)
+found_table id flushed found placed versions moments is spelled whole fits read =
+    let size : length found ≡ placed.1 = omega (arith, whole, fits) in
+    known_map (Shows placed.0 found) (λ m. HasTable id flushed m.reads placed versions)
+    (λ m there. let same : bytes_at m.reads placed ≡ found = ap (λ (n : ℕ). take n (drop placed.0 m.reads)) (sym size) ∙ there in
+    table_at_place id flushed m.reads placed versions is (same ∙ spelled) (let n = ap length same in omega (arith, n, whole))) moments read
 
 -- a table that ends before its place does
 pub short_named : (id flushed len : ℕ) (found : List ℕ) (placed : ℕ × ℕ) (versions : List Version) (moments : List Moment) → IsTable id flushed versions → found ≡ table_bytes id versions → length found < placed.1 → IfKnown moments (λ m. len ≡ length m.reads → found ≡ bytes_at m.reads placed) → WasWrong id flushed placed len moments table.Short
@@ -63,12 +78,6 @@ fault_named id flushed len placed rose moments found other error fault read is =
     rw is (refl, tt, record { read = found; wrong = inl fault; known = read })
 
 -- ---- table after table
-
-pub tables_push : (id flushed : ℕ) (bytes : List ℕ) (places : List (ℕ × ℕ)) (parts : List (List Version)) (placed : ℕ × ℕ) (versions : List Version) → HasTables id flushed bytes places parts → HasTable id flushed bytes placed versions → HasTables id flushed bytes (places ++ placed ∷ []) (parts ++ versions ∷ [])
-tables_push id flushed bytes [] [] placed versions has one = (one, tt)
-tables_push id flushed bytes [] (part ∷ parts) placed versions has one = absurd has
-tables_push id flushed bytes (place ∷ places) [] placed versions has one = absurd has
-tables_push id flushed bytes (place ∷ places) (part ∷ parts) placed versions has one = (has.0, tables_push id flushed bytes places parts placed versions has.1 one)
 
 module _ (id : ℕ) (edit : Edit) (len start mid now : ℕ) (moments : List Moment) (before after : List (ℕ × ℕ)) (placed : ℕ × ℕ) (parts : List (List Version)) (listed : edit.tables ≡ before ++ placed ∷ after) (right : IfKnown moments (λ m. HasTables id edit.flushed m.reads before parts)) (size : IfKnown moments (λ m. len ≡ length m.reads)) (as_many : length parts ≡ length before) (are : AllByRecursion (IsTable id edit.flushed) parts) (later : start ≤ mid) where
   first_bad : (why : TableError) → WasWrong id edit.flushed placed len moments why → IsFirstWrong id edit moments placed.0 why
@@ -98,10 +107,19 @@ module _ (id : ℕ) (edit : Edit) (len start mid now : ℕ) (moments : List Mome
 pub at_place : (items tables : List (ℕ × ℕ)) (i : ℕ) (d : ℕ × ℕ) → i < length items → items ≡ tables → tables ≡ take i items ++ get_or items i d ∷ drop (suc i) items
 at_place items tables i d lt same = sym same ∙ sym (take-append-drop i items) ∙ ap (λ (l : List (ℕ × ℕ)). take i items ++ l) (drop-cons items i d lt)
 
-pub tables_more : (id flushed len : ℕ) (items : List (ℕ × ℕ)) (i : ℕ) (d : ℕ × ℕ) (parts more : List (List Version)) (versions : List Version) (moments : List Moment) → i < length items → more ≡ parts ++ versions ∷ [] → IfKnown moments (λ m. HasTables id flushed m.reads (take i items) parts) → IfKnown moments (λ m. len ≡ length m.reads) → IfKnown moments (λ m. len ≡ length m.reads → HasTable id flushed m.reads (get_or items i d) versions) → IfKnown moments (λ m. HasTables id flushed m.reads (take (i + 1) items) more)
-tables_more id flushed len items i d parts more versions [] lt is has size one = tt
-tables_more id flushed len items i d parts more versions (m ∷ past) lt is has size one =
-    rw (take_more items i d lt, is) (tables_push id flushed m.reads (take i items) parts (get_or items i d) versions has (one size))
+pub tables_more : (id flushed : ℕ) (items : List (ℕ × ℕ)) (i : ℕ) (d : ℕ × ℕ) (parts more : List (List Version)) (versions : List Version) (old mid new : List Moment) → i < length items → more ≡ parts ++ versions ∷ [] → Goes (λ m. ⊤) mid new → Goes (λ m. ⊤) old new
+    → WereShown id flushed old mid (take i items) parts → IfKnown new (λ m. HasTable id flushed m.reads (get_or items i d) versions) → WereShown id flushed old new (take (i + 1) items) more
+tables_more id flushed items i d parts more versions old mid new lt is looked all shown one =
+    rw (take_more items i d lt, is) (shown_push id flushed old new (take i items) parts (get_or items i d) versions (shown_later id flushed old mid new looked (take i items) parts shown)
+    (sometime_now (λ m. HasTable id flushed m.reads (get_or items i d) versions) old new all one))
+
+-- of a device that isn't known no more is said
+pub cause_forgets : (id flushed len : ℕ) (placed : ℕ × ℕ) (rose : Type 0) (moments : List Moment) (error : OpenError) → IsTableCause id flushed placed len rose moments error → IsTableCause id flushed placed len rose [] error
+cause_forgets id flushed len placed rose moments open_error.Memory cause = cause
+cause_forgets id flushed len placed rose moments (open_error.OpenFault which) cause = cause
+cause_forgets id flushed len placed rose moments (open_error.Contents (bad.Stranger log found)) cause = (cause.0, record { read = cause.1.read; wrong = cause.1.wrong; known = tt })
+cause_forgets id flushed len placed rose moments (open_error.Contents (bad.BadTable place why)) cause = (cause.0, cause.1, record { read = cause.2.read; wrong = cause.2.wrong; known = tt })
+cause_forgets id flushed len placed rose moments (open_error.Contents other) cause = absurd cause
 
 -- one more at the end
 pub all_more : (P : List Version → Type 0) (xs ys : List (List Version)) (x : List Version) → ys ≡ xs ++ x ∷ [] → AllByRecursion P xs → P x → AllByRecursion P ys

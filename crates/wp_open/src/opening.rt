@@ -15,7 +15,7 @@ use crate::covering::are_covering;
 use crate::laws::a_store_is_opened_in_one_way;
 use crate::memory::later_memory;
 use crate::reason::{log_reason, manifest_reason};
-use crate::tables::read_tables;
+use crate::tables::own_tables;
 use std::alloc::{AllocError, AllocFailed, Global};
 use wp_gatelog::DiskRefused;
 use wp_history::History;
@@ -101,7 +101,7 @@ fn open_store<D: Disk>(
     let Ok(()) = tables.sync() else {
         return Err(OpenError::OpenFault(Device::Tables));
     };
-    let parts = read_tables(alloc, tables, id, edit)?;
+    let parts = own_tables(alloc, tables, id, edit)?;
     let memory = later_memory(alloc, history, edit.flushed)?;
     let store = Store::new(alloc, memory, parts);
     if !are_covering(alloc, history, edit.flushed, &store)? {

@@ -2,7 +2,7 @@
 --
 -- Between two syncs each written range, and everything past the shortest length since the last sync, may hold any
 -- bytes, and the length may be any from the shortest to the longest since then; other bytes stay.
-use Rattle.std.specs.Prelude.{◌≡◌, ◌⊎◌, ℕ, zero, suc, ◌+◌, ◌-◌, ◌≤◌, min, max, List, [], ◌∷◌, ◌++◌, map, length, take, drop, ⊤, Option, None, Some}
+use Rattle.std.specs.Prelude.{◌≡◌, ◌⊎◌, ℕ, zero, suc, ◌+◌, ◌-◌, ◌≤◌, min, max, Bool, true, List, [], ◌∷◌, ◌++◌, map, length, take, drop, ⊤, Option, None, Some}
 
 -- a disk at one moment
 pub record Moment : Type 0 where
@@ -95,6 +95,18 @@ Each P (x ∷ xs) = P x × Each P xs
 -- each moment that came since old has P
 abbrev pub Passes : (Moment → Type 0) → List Moment → List Moment → Type 0
 Passes P old new = (more : List Moment) × (new ≡ more ++ old) × Each P more
+
+-- each moment that came has P; an unknown disk stays unknown
+abbrev pub Goes : (Moment → Type 0) → List Moment → List Moment → Type 0
+Goes P [] new = new ≡ []
+Goes P (m ∷ past) new = Passes P (m ∷ past) new
+
+-- What a call that changes nothing does to the moments: those that others make may come with it, none where nobody else
+-- writes. Whether others write stays.
+pub record Looks (old new : List Moment) (was_alone is_alone : Bool) : Type 0 where
+  pub passes : Goes (λ m. ⊤) old new
+  pub unchanged : was_alone ≡ true → new ≡ old
+  pub alone : is_alone ≡ was_alone
 
 -- what a crash now may leave
 abbrev pub images : List Moment → List ℕ → Type 0

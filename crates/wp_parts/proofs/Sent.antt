@@ -5,7 +5,7 @@ use denote.Param.Send.{IsSend, view_send, recorded_send, struct_send, enum_send,
 use denote.Struct.Declared.{shape}
 use Rattle.std.proofs.Crossing.{crosses, Box-send, Vec-send}
 use Rattle.std.proofs.alloc.Global.TheSendSync as heap
-use Rattle.wp_outside.specs.declared.disk.Disk.{Ghosts}
+use Rattle.wp_outside.specs.declared.disk.Peek.{Ghosts}
 use Rattle.wp_model.proofs.entry.Entry.TheSendSync as entry
 use Rattle.wp_history.proofs.history.History.TheSendSync as history
 use Rattle.wp_wal.proofs.wal.Wal.TheSendSync as wal

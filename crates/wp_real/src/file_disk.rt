@@ -1,10 +1,10 @@
-ghost use Rattle.std.specs.Prelude.{◌≡◌, []};
+ghost use Rattle.std.specs.Prelude.{◌≡◌, true, refl, []};
 
 use crate::counted::counted;
 use crate::file::File;
 use std::marker::Model;
 use std::rt::Files;
-use wp_outside::{Disk, Failed};
+use wp_outside::{Disk, Failed, Peek};
 
 /// A file as a device. Its first call opens it, and makes it where there is none; until one can, each call fails.
 /// Nobody else may write to the file meanwhile.
@@ -34,8 +34,10 @@ impl<'a, R: Files> FileDisk<'a, R> {
     }
 }
 
-impl<R: Files> Disk for FileDisk<'_, R> {
+impl<R: Files> Peek for FileDisk<'_, R> {
     ghost moments = { λ _. [] };
+
+    ghost is_alone = { λ _. true };
 
     ghost faults = { λ d. d.faults };
 
@@ -49,6 +51,10 @@ impl<R: Files> Disk for FileDisk<'_, R> {
         counted(&mut self.faults, answer)
     }
 
+    ghost itself = { λ _. tt };
+}
+
+impl<R: Files> Disk for FileDisk<'_, R> {
     fn write_at(&mut self, at: u64, bytes: &[u8]) -> Result<(), Failed> {
         let answer = self.file.write_at(at, bytes);
         counted(&mut self.faults, answer)
@@ -64,5 +70,5 @@ impl<R: Files> Disk for FileDisk<'_, R> {
         counted(&mut self.faults, answer)
     }
 
-    ghost itself = { λ _. tt };
+    ghost owned = { λ _. refl };
 }

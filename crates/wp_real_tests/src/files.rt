@@ -1,6 +1,6 @@
 use std::fs;
 use std::test::Fail;
-use wp_outside::{Disk, Failed, Got, Sink, Source};
+use wp_outside::{Disk, Failed, Got, Peek, Sink, Source};
 use wp_real::{FileDisk, StdinSource, StdoutSink};
 
 /// Takes a disk that another thread may be given.

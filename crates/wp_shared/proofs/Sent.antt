@@ -3,7 +3,8 @@ use denote.RattleType.{RattleType}
 use denote.Param.{number}
 use denote.Param.Send.{IsSend, IsSync, view_send, view_sync, recorded_send, recorded_sync, struct_send, struct_sync, plain_sync}
 use denote.Struct.Declared.{shape}
-use Rattle.wp_outside.specs.declared.disk.Disk.{Ghosts}
+use Rattle.wp_outside.specs.declared.disk.Disk as disk
+use Rattle.wp_outside.specs.declared.disk.Peek.{Ghosts}
 use Rattle.atomic_table.proofs.badge.Badge.TheSendSync as badge
 use Rattle.atomic_table.proofs.shared.Seat.TheSendSync as table
 use Rattle.wp_model.proofs.word.Word.TheSendSync as word
@@ -18,11 +19,11 @@ use Rattle.wp_shared.specs.contracts.seat.Seat.TheInside as SeatInside
 use Rattle.wp_shared.specs.contracts.note.Note as Note
 use Rattle.wp_shared.specs.contracts.note.Note.TheInside as NoteInside
 
-pub shared_sync : (D : RattleType) (g : Ghosts D.Denot) → IsSend D → IsSync (Shared.the_row D g)
-shared_sync D g d =
-    view_sync (SharedInside.the_row D g) _ _ _ _
-    (recorded_sync (SharedInside.the_field D g).row _ _ (SharedInside.the_type D g).to_one
-    (struct_sync (shape (SharedInside.the_type D g)) (words.the_sync (Part.the_row D g) (ghosts D g no_dict) (part_send D g d), (plain_sync _ _ _ _ _, (plain_sync _ _ _ _ _, tt)))))
+pub shared_sync : (D : RattleType) (k : disk.Ghosts D.Denot) (g : Ghosts D.Denot) → IsSend D → IsSync (Shared.the_row D k g)
+shared_sync D k g d =
+    view_sync (SharedInside.the_row D k g) _ _ _ _
+    (recorded_sync (SharedInside.the_field D k g).row _ _ (SharedInside.the_type D k g).to_one
+    (struct_sync (shape (SharedInside.the_type D k g)) (words.the_sync (Part.the_row D g) (ghosts D k no_dict g no_dict) (part_send D g d), (plain_sync _ _ _ _ _, (plain_sync _ _ _ _ _, tt)))))
 
 pub seat_send : (D : RattleType) (g : Ghosts D.Denot) → IsSend D → IsSend (Seat.the_row D g)
 seat_send D g d =

@@ -7,7 +7,7 @@ use std::alloc::Global;
 use std::test::Fail;
 use wp_memory::MemDisk;
 use wp_open::{Parts, open_parts};
-use wp_outside::{Disk, Disks};
+use wp_outside::{Disks, Peek};
 
 /// The log, with the put of `1` under `k`.
 const LOG: &[u8; 32] =
@@ -37,7 +37,7 @@ fn devices(alloc: Global) -> Result<Disks<MemDisk>, Fail> {
 /// The parts of the store.
 pub(super) fn opened(alloc: Global) -> Result<Parts<MemDisk>, Fail>
     ensures { IfOk result (λ parts. (asked : ℕ) × (log : List Moment) × (manifest : List Moment) × (tables : List Moment)
-        × PartsOpened asked log manifest tables parts.wal parts.history.entries parts.manifest (⟦<MemDisk as Disk>⟧.moments parts.tables) parts.store) }
+        × PartsOpened asked log manifest tables parts.wal parts.history.entries parts.manifest (⟦<MemDisk as Peek>⟧.moments parts.tables) parts.store) }
 {
     match open_parts(alloc, devices(alloc)?, 1) {
         Ok(parts) => Ok(parts),

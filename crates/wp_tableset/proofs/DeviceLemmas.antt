@@ -1,8 +1,8 @@
 -- What a write behind all bytes, and the sync after it, make of the tables' device.
 use Rattle.std.proofs.Common.{◌≡◌, inl, inr, ℕ, List, [], ◌∷◌, ◌++◌, length, Result, Ok, Err, OnOk, OnErr, refl, sym, ◌∙◌, ap, subst}
 use Rattle.std.proofs.lemmas.List.{append_assoc}
-use Rattle.wp_outside.specs.Disk.{Moment, IsImage, IfKnown, synced, added, after_write, after_sync, Tears}
-use Rattle.wp_gatelog.specs.Moments.{Goes, Leaves, IsSynced}
+use Rattle.wp_outside.specs.Disk.{Moment, IsImage, IfKnown, synced, added, after_write, after_sync, Tears, Goes}
+use Rattle.wp_gatelog.specs.Moments.{Leaves, IsSynced}
 use Rattle.wp_gatelog.proofs.DurabilityLemmas.{torn_preserves, synced_preserves}
 use Rattle.wp_gatelog.proofs.MomentLemmas.{goes_map, torn_goes, synced_goes, image_after, reads_after, write_reads_image}
 use Rattle.wp_tableset.specs.Device.{BeginsWith, GrowsFrom, IsEnd}

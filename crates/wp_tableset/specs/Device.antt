@@ -1,8 +1,8 @@
 -- The device of the table files, whose bytes stay once they are on it for good.
 use Rattle.std.specs.Prelude.{◌≡◌, ℕ, List, ◌++◌, length}
-use Rattle.wp_outside.specs.Disk.{Moment, IfKnown}
+use Rattle.wp_outside.specs.Disk.{Moment, IfKnown, Goes}
 use Rattle.wp_gatelog.specs.Durability.{Preserves}
-use Rattle.wp_gatelog.specs.Moments.{Goes, Leaves}
+use Rattle.wp_gatelog.specs.Moments.{Leaves}
 
 abbrev pub BeginsWith : List ℕ → List ℕ → Type 0
 BeginsWith front bytes = (rest : List ℕ) × (bytes ≡ front ++ rest)

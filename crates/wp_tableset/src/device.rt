@@ -6,7 +6,7 @@ ghost use Rattle.wp_outside.specs.Disk.{IfKnown, added, after_write, after_sync}
 ghost use Rattle.wp_outside.specs.Faults.{HasCause};
 ghost use Rattle.wp_tableset.specs.Device.{GrowsFrom, IsEnd};
 
-use wp_outside::{Disk, Failed};
+use wp_outside::{Disk, Failed, own_len};
 
 /// Writes the bytes behind all others, and puts them on the disk for good. It answers their place.
 pub(crate) fn write_behind<D: Disk>(disk: &mut D, bytes: &[u8]) -> Result<u64, Failed>
@@ -17,7 +17,7 @@ pub(crate) fn write_behind<D: Disk>(disk: &mut D, bytes: &[u8]) -> Result<u64, F
     ensures synced { OnOk result (IfKnown (D.moments disk.old) (λ m. IsSynced (m.reads ++ bytes.now) (D.moments disk.new))) }
     ensures cause { HasCause (D.faults disk.old) (D.faults disk.new) result }
 {
-    let place = disk.len()?;
+    let place = own_len(disk)?;
     disk.write_at(place, bytes)?;
     disk.sync()?;
     Ok(place)

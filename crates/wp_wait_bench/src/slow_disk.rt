@@ -1,10 +1,11 @@
+ghost use Rattle.std.specs.Prelude.{true, refl};
 ghost use Rattle.wp_memory.specs.MemDisk.{moments_of};
 ghost use Rattle.wp_memory.specs.Images.{reads_itself};
 
 use std::thread;
 use std::time::{Clock, Duration};
 use wp_memory::MemDisk;
-use wp_outside::{Disk, Failed};
+use wp_outside::{Disk, Failed, Peek};
 
 /// A disk in memory whose sync takes a millisecond and some.
 #[derive(Drop)]
@@ -19,8 +20,10 @@ impl<'a, R> SlowDisk<'a, R> {
     }
 }
 
-impl<'a, R: Clock> Disk for SlowDisk<'a, R> {
+impl<'a, R: Clock> Peek for SlowDisk<'a, R> {
     ghost moments = { λ d. moments_of d.disk };
+
+    ghost is_alone = { λ _. true };
 
     ghost faults = { λ d. d.disk.calls.faults };
 
@@ -32,6 +35,10 @@ impl<'a, R: Clock> Disk for SlowDisk<'a, R> {
         self.disk.read_at(at, buf)
     }
 
+    ghost itself = { λ d. reads_itself d.disk };
+}
+
+impl<'a, R: Clock> Disk for SlowDisk<'a, R> {
     fn write_at(&mut self, at: u64, bytes: &[u8]) -> Result<(), Failed> {
         self.disk.write_at(at, bytes)
     }
@@ -45,5 +52,5 @@ impl<'a, R: Clock> Disk for SlowDisk<'a, R> {
         self.disk.sync()
     }
 
-    ghost itself = { λ d. reads_itself d.disk };
+    ghost owned = { λ _. refl };
 }

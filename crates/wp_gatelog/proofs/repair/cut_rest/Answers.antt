@@ -1,13 +1,13 @@
-use Rattle.std.proofs.Common.{◌+◌, ◌∷◌, [], ◌++◌, arith}
+use Rattle.std.proofs.Common.{◌+◌, ◌∷◌, [], ◌++◌, arith, length-append}
 use Rattle.wp_outside.specs.Disk.{IsImage, synced, after_cut}
 use Rattle.wp_gatelog.specs.Repair.{HasFront}
 use Rattle.wp_gatelog.proofs.ChangeLemmas.{unchanged, changes_map}
 use Rattle.wp_gatelog.proofs.RepairLemmas.{nothing_follows, has_front_cut, taken_cut}
 use Rattle.wp_gatelog.proofs.repair.cut_rest.Goals as goal
 
-pub returns-then-len-end-eq1-clause-changes : goal.returns-then-len-end-eq1-clause-changes
-returns-then-len-end-eq1-clause-changes g c = λ front following ends size known.
-    unchanged _ (HasFront front) (front ++ 0 ∷ following) (front ++ 0 ∷ []) _ (nothing_follows front following (omega (arith, ends, size))) known
+pub returns-then-saturating_sub-le1-clause-changes : goal.returns-then-saturating_sub-le1-clause-changes
+returns-then-saturating_sub-le1-clause-changes g c = λ front following ends size known.
+    unchanged _ (HasFront front) (front ++ 0 ∷ following) (front ++ 0 ∷ []) _ (nothing_follows front following (omega (arith, ends, size, length-append front (0 ∷ following)))) known
 
 pub returns-clause-changes : goal.returns-clause-changes
 returns-clause-changes g c = λ front following ends size known.

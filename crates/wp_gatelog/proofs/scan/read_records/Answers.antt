@@ -1,24 +1,93 @@
-use Rattle.std.proofs.Common.{◌≡◌, ◌∙◌, ◌+◌, ◌++◌, ◌∷◌, [], Some, length, drop, ap, arith}
-use Rattle.wp_outside.specs.Disk.{Moment, IfKnown}
-use Rattle.wp_gatelog.specs.declared.scan.Next.TheVariants as next
-use Rattle.wp_gatelog.specs.Scanning.{IsNext, HasRead}
-use Rattle.wp_gatelog.proofs.MomentLemmas.{known_both}
-use Rattle.wp_gatelog.proofs.ScanLemmas.{read_more}
+use Rattle.std.proofs.Common.{◌≡◌, ◌∙◌, ◌+◌, ◌∷◌, [], ◌++◌, Some, List, ℕ, length, take, drop, refl, ap, rules, arith}
+use Rattle.wp_outside.specs.Disk.{Moment}
+use Rattle.wp_outside.proofs.Moments.{looks_on, looks_same}
+use Rattle.wp_gatelog.specs.declared.error.LogError.TheVariants as error
+use Rattle.wp_gatelog.specs.Patched.{Shows, ReadsTo}
+use Rattle.wp_gatelog.specs.Scanning.{IsUnfinished, HasRead, RefusedBy}
+use Rattle.wp_gatelog.proofs.MomentLemmas.{known_map}
+use Rattle.wp_gatelog.proofs.ScanLemmas.{HasScanned, next_long, record_long, scan_begins, scan_more, scan_ends, scan_cut}
 use Rattle.wp_gatelog.proofs.scan.read_records.Goals as goal
+
+pub gates-init : goal.gates-init
+gates-init g c = record {
+  looks = looks_same _ _ _ _ refl refl;
+  later = omega arith;
+  count = omega arith;
+  scanned = (let one : c.of-piece.result ≡ c.args.first ∷ [] = search rules in rw (one, c.new-records.ensures.items) (scan_begins (g.P.Peek.moments c.args.disk.now) c.args.first));
+}
+
+pub record_in-requires : goal.record_in-requires
+record_in-requires g c =
+    let found = rw c.in-Open.is at c.in_ok-read_next.ensures.found in
+    rw c.rest.ensures (next_long c.read_next.new.piece c.in-Open.gate c.in-Open.len found)
+
+pub pass-requires : goal.pass-requires
+pass-requires g c =
+    let found = rw c.in-Open.is at c.in_ok-read_next.ensures.found in
+    let is = c.in_ok-record-in-Open.ensures ∙ ap (λ (l : List ℕ). take c.in-Open.len (drop 9 l)) c.rest.ensures in
+    let long = record_long c.read_next.new.piece c.in_ok-record-in-Open.record c.in-Open.gate c.in-Open.len is found in
+    omega (arith, c.span_of-size.ensures.size, long, next_long c.read_next.new.piece c.in-Open.gate c.in-Open.len found)
 
 pub gates-preserved : goal.gates-preserved
 gates-preserved g c =
-    let found = rw (c.in-Open.is, c.gates.invariant.unchanged) at c.in_ok-read_next.ensures.found in
-    let within = rw c.in-Open.is at c.in_ok-read_next.ensures.within in
-    let size : length c.bytes.result.now ≡ length c.in-Open.record = ap length c.bytes.ensures in
-    let P : Moment → Type 0 = λ m. c.args.len ≡ length m.reads → HasRead (drop 10 m.reads) (drop c.gates.end m.reads) c.gates.records.items c.gates.last c.gates.end in
-    let Q : Moment → Type 0 = λ m. c.args.len ≡ length m.reads → IsNext (drop c.gates.end m.reads) (next.Open c.in-Open.gate c.in-Open.record) in
-    let R : Moment → Type 0 = λ m. c.args.len ≡ length m.reads → HasRead (drop 10 m.reads) (drop (c.gates.end + (9 + length c.in-Open.record)) m.reads) (c.gates.records.items ++ c.in-Open.record ∷ []) (Some (record { at = c.gates.end; byte = c.in-Open.gate })) (c.gates.end + (9 + length c.in-Open.record)) in
-    let read : IfKnown (g.D.Disk.moments c.args.disk.now) R = known_both P Q R (λ m h n len_is. read_more m.reads c.gates.records.items c.gates.last c.gates.end c.in-Open.gate c.in-Open.record (h len_is) (n len_is)) _ c.gates.invariant.read found in
+    let old = g.P.Peek.moments c.args.disk.now in
+    let mid = g.P.Peek.moments c.gates.disk in
+    let new = g.P.Peek.moments c.read_next.new.disk in
+    let piece : List ℕ = c.read_next.new.piece in
+    let len : ℕ = c.in-Open.len in
+    let record_is : List ℕ = c.in_ok-record-in-Open.record in
+    let found = rw c.in-Open.is at c.in_ok-read_next.ensures.found in
+    let is : record_is ≡ take len (drop 9 piece) = c.in_ok-record-in-Open.ensures ∙ ap (λ (l : List ℕ). take len (drop 9 l)) c.rest.ensures in
+    let size : c.span_of-size.result ≡ 9 + len = c.span_of-size.ensures.size ∙ ap (λ (n : ℕ). 9 + n) (record_long piece record_is c.in-Open.gate len is found) in
+    let P : Moment → Type 0 = λ m. Shows 10 (c.args.first ∷ []) m → HasScanned old mid c.gates.piece c.gates.records.items c.gates.last c.gates.end in
+    let Q : Moment → Type 0 = λ m. Shows 10 (c.args.first ∷ []) m
+    → HasScanned old new (take c.args.reach (drop (9 + len) piece)) (c.gates.records.items ++ record_is ∷ []) (Some (record { at = c.gates.end; byte = c.in-Open.gate })) (c.gates.end + (9 + len)) in
+    let scanned = known_map P Q (λ m h shown.
+    scan_more old mid new c.gates.piece piece c.gates.records.items c.gates.last c.gates.end c.read_next.ensures.looks.passes c.in_ok-read_next.ensures.shown (h shown)
+    c.in-Open.gate len c.args.reach record_is c.requires is found) old c.gates.invariant.scanned in
     record {
-      unchanged = c.in_ok-read_next.ensures.unchanged ∙ c.gates.invariant.unchanged;
-      later = omega arith;
-      within = omega (arith, within, size);
-      count = omega (arith, c.gates.invariant.count, c.in_ok-push-in-Open.ensures.len);
-      read = rw (c.bytes.ensures, c.in_ok-push-in-Open.ensures.items) read;
+      looks = looks_on _ _ _ _ _ _ c.gates.invariant.looks c.read_next.ensures.looks;
+      later = omega (arith, c.gates.invariant.later, c.read_next.ensures.later);
+      count = omega (arith, c.gates.invariant.count, c.in_ok-push-in-Open.ensures.len, size);
+      scanned = rw (c.in_ok-push-in-Open.ensures.items, c.pass.ensures, size) scanned;
     }
+
+pub returns-in-Closed-clause-found : goal.returns-in-Closed-clause-found
+returns-in-Closed-clause-found g c =
+    let old = g.P.Peek.moments c.args.disk.now in
+    let mid = g.P.Peek.moments c.gates.disk in
+    let new = g.P.Peek.moments c.read_next.new.disk in
+    let P : Moment → Type 0 = λ m. Shows 10 (c.args.first ∷ []) m → HasScanned old mid c.gates.piece c.gates.records.items c.gates.last c.gates.end in
+    let Q : Moment → Type 0 = λ m. Shows 10 (c.args.first ∷ []) m → ReadsTo 10 old new (λ text. HasRead text (0 ∷ []) c.gates.records.items c.gates.last c.gates.end) in
+    known_map P Q (λ m h shown.
+    scan_ends old mid new c.gates.piece c.read_next.new.piece c.gates.records.items c.gates.last c.gates.end c.read_next.ensures.looks.passes c.in_ok-read_next.ensures.shown (h shown)
+    (rw c.in-Closed.is at c.in_ok-read_next.ensures.found)) old c.gates.invariant.scanned
+
+pub returns-in-Short-clause-refused : goal.returns-in-Short-clause-refused
+returns-in-Short-clause-refused g c =
+    let old = g.P.Peek.moments c.args.disk.now in
+    let mid = g.P.Peek.moments c.gates.disk in
+    let new = g.P.Peek.moments c.read_next.new.disk in
+    let unfinished : IsUnfinished c.read_next.new.piece = rw c.in-Short.is at c.in_ok-read_next.ensures.found in
+    let index : c.len.result ≡ length c.gates.records.items = search rules in
+    let P : Moment → Type 0 = λ m. Shows 10 (c.args.first ∷ []) m → HasScanned old mid c.gates.piece c.gates.records.items c.gates.last c.gates.end in
+    let Q : Moment → Type 0 = λ m. Shows 10 (c.args.first ∷ []) m → RefusedBy c.args.id old new (error.Cut (length c.gates.records.items) c.args.id) in
+    let cut = known_map P Q (λ m h shown.
+    scan_cut old mid new c.gates.piece c.read_next.new.piece c.gates.records.items c.gates.last c.gates.end c.read_next.ensures.looks.passes c.in_ok-read_next.ensures.shown (h shown) c.args.id c.in_ok-read_next.ensures.kept unfinished) old c.gates.invariant.scanned in
+    rw index cut
+
+-- nothing but the last look came behind what was known before
+pub returns-in-Closed-clause-looks : goal.returns-in-Closed-clause-looks
+returns-in-Closed-clause-looks g c = looks_on _ _ _ _ _ _ c.gates.invariant.looks c.read_next.ensures.looks
+
+pub returns-in-Short-clause-looks : goal.returns-in-Short-clause-looks
+returns-in-Short-clause-looks g c = looks_on _ _ _ _ _ _ c.gates.invariant.looks c.read_next.ensures.looks
+
+pub returns-in_err-read_next-clause-looks : goal.returns-in_err-read_next-clause-looks
+returns-in_err-read_next-clause-looks g c = looks_on _ _ _ _ _ _ c.gates.invariant.looks c.read_next.ensures.looks
+
+pub returns-in_err-record-in-Open-clause-looks : goal.returns-in_err-record-in-Open-clause-looks
+returns-in_err-record-in-Open-clause-looks g c = looks_on _ _ _ _ _ _ c.gates.invariant.looks c.read_next.ensures.looks
+
+pub returns-in_err-push-in-Open-clause-looks : goal.returns-in_err-push-in-Open-clause-looks
+returns-in_err-push-in-Open-clause-looks g c = looks_on _ _ _ _ _ _ c.gates.invariant.looks c.read_next.ensures.looks

@@ -1,16 +1,16 @@
-use Rattle.std.proofs.Common.{◌≡◌, ◌-◌, ◌<◌, ◌≤◌, length, drop, vec_len}
-use Rattle.wp_outside.specs.Disk.{IfKnown}
-use Rattle.wp_gatelog.specs.Scanning.{HasRead}
+use Rattle.std.proofs.Common.{◌-◌, ◌≤◌, ◌^◌, ◌∷◌, [], vec_len}
+use Rattle.wp_outside.specs.Disk.{IfKnown, Looks}
+use Rattle.wp_gatelog.specs.Patched.{Shows}
+use Rattle.wp_gatelog.proofs.ScanLemmas.{HasScanned}
 use Rattle.wp_gatelog.proofs.scan.read_records.Given as goal
 
 abbrev pub invariant-gates : goal.invariant-gates
 invariant-gates g l = record {
-  unchanged : g.D.Disk.moments l.disk ≡ g.D.Disk.moments l.initial.disk;
-  later : g.D.Disk.faults l.initial.disk ≤ g.D.Disk.faults l.disk;
-  within : l.end < l.len;
+  looks : Looks (g.P.Peek.moments l.initial.disk) (g.P.Peek.moments l.disk) (g.P.Peek.is_alone l.initial.disk) (g.P.Peek.is_alone l.disk);
+  later : g.P.Peek.faults l.initial.disk ≤ g.P.Peek.faults l.disk;
   count : vec_len l.records ≤ l.end;
-  read : IfKnown (g.D.Disk.moments l.initial.disk) (λ m. l.len ≡ length m.reads → HasRead (drop 10 m.reads) (drop l.end m.reads) l.records.items l.last l.end);
+  scanned : IfKnown (g.P.Peek.moments l.initial.disk) (λ m. Shows 10 (l.first ∷ []) m → HasScanned (g.P.Peek.moments l.initial.disk) (g.P.Peek.moments l.disk) l.piece l.records.items l.last l.end);
 }
 
 abbrev pub decreases-gates : goal.decreases-gates
-decreases-gates g l = l.len - l.end
+decreases-gates g l = 2 ^ 62 - l.end

@@ -28,8 +28,8 @@ returns-in-Err-clause-refused g c =
 
 pub returns-in-Err-open-clause-refused : goal.returns-in-Err-open-clause-refused
 returns-in-Err-open-clause-refused g c =
-    let log = g.D.Disk.moments c.args.disks.log in
-    let now = g.D.Disk.moments c.into_disk.result in
+    let log = g.D.Peek.moments c.args.disks.log in
+    let now = g.D.Peek.moments c.into_disk.result in
     let wal = c.in-Ok.opened.0 in let history = c.in-Ok.opened.1.entries in
     let e = c.in-Ok.ensures in let refused = c.in-Err-open.ensures in let why = c.in-Err-open.field-0.why in
     let fits : wal.id < 2 ^ 32 = omega (arith, c.id-found.type_inv, c.id-found.ensures) in
@@ -46,7 +46,7 @@ returns-in-Err-open-clause-refused g c =
 
 pub returns-in-Ok-open_store-clause-opened : goal.returns-in-Ok-open_store-clause-opened
 returns-in-Ok-open_store-clause-opened g c =
-    let tables = g.D.Disk.moments c.args.disks.tables in
+    let tables = g.D.Peek.moments c.args.disks.tables in
     let wal = c.in-Ok.opened.0 in
     let history = c.in-Ok.opened.1.entries in
     let edit = c.in-Ok-open.manifest.edit in
@@ -61,12 +61,12 @@ returns-in-Ok-open_store-clause-opened g c =
       id_fits = omega (arith, c.id-found.type_inv, c.id-found.ensures);
       found = c.in-Ok.ensures.opened.found;
       made = c.in-Ok.ensures.opened.made;
-      installed = subst (λ (n : ℕ). Opened n (g.D.Disk.moments c.args.disks.manifest) c.in-Ok-open.manifest) c.id-found.ensures c.in-Ok-open.ensures.opened;
+      installed = subst (λ (n : ℕ). Opened n (g.D.Peek.moments c.args.disks.manifest) c.in-Ok-open.manifest) c.id-found.ensures c.in-Ok-open.ensures.opened;
       store = subst (λ (e : Edit). IsStoreOf history e c.in-Ok-open_store.store) c.edit.ensures c.in-Ok-open_store.ensures.store;
       synced = c.in-Ok-open_store.ensures.synced;
       there = there;
       are = subst (λ (n : ℕ). AllByRecursion (IsTable n edit.flushed) parts) c.id-found.ensures (subst (λ (e : Edit). AllByRecursion (IsTable c.id-found.result e.flushed) parts) c.edit.ensures c.in-Ok-open_store.ensures.are);
-      kept = kept_tables (λ bytes. HasTables wal.id edit.flushed bytes edit.tables parts) tables (g.D.Disk.moments c.open_store.new.tables) c.in-Ok-open_store.ensures.synced there;
+      kept = kept_tables (λ bytes. HasTables wal.id edit.flushed bytes edit.tables parts) tables (g.D.Peek.moments c.open_store.new.tables) c.in-Ok-open_store.ensures.synced there;
     }
 
 pub returns-in-Ok-open_store-clause-found : goal.returns-in-Ok-open_store-clause-found
@@ -81,11 +81,11 @@ returns-in-Ok-open_store-clause-found g c = record {
 
 pub returns-in-Err-open_store-clause-refused : goal.returns-in-Err-open_store-clause-refused
 returns-in-Err-open_store-clause-refused g c =
-    let log = g.D.Disk.moments c.args.disks.log in
-    let manifest = g.D.Disk.moments c.args.disks.manifest in
-    let tables = g.D.Disk.moments c.args.disks.tables in
-    let log_now = g.D.Disk.moments c.into_disk-in-Err-open_store.result in
-    let rose = Rose (g.D.Disk.faults c.args.disks.tables) (g.D.Disk.faults c.open_store.new.tables) in
+    let log = g.D.Peek.moments c.args.disks.log in
+    let manifest = g.D.Peek.moments c.args.disks.manifest in
+    let tables = g.D.Peek.moments c.args.disks.tables in
+    let log_now = g.D.Peek.moments c.into_disk-in-Err-open_store.result in
+    let rose = Rose (g.D.Peek.faults c.args.disks.tables) (g.D.Peek.faults c.open_store.new.tables) in
     let wal = c.in-Ok.opened.0 in let history = c.in-Ok.opened.1.entries in
     let e = c.in-Ok.ensures in let opened = c.in-Ok-open.ensures.opened in
     let back = c.into_disk-in-Err-open_store-2.ensures.moments in
@@ -94,7 +94,7 @@ returns-in-Err-open_store-clause-refused g c =
     (was_read c.args.id wal.id history log fits e.opened.legal e.opened.found e.opened.made) in
     let left = subst (λ (n : ℕ). IsLogLeft n history log log_now) (sym c.id-found.ensures)
     (log_left wal.id history log log_now wal.moments c.into_disk-in-Err-open_store.ensures.moments e.opened.found (c.into_disk-in-Err-open_store.ensures.left history [] e.opened.stores e.opened.running)) in
-    let rests : IsManifestLeft c.id-found.result opened.edits manifest (g.D.Disk.moments c.into_disk-in-Err-open_store-2.result) = record {
+    let rests : IsManifestLeft c.id-found.result opened.edits manifest (g.D.Peek.moments c.into_disk-in-Err-open_store-2.result) = record {
       found = opened.found;
       rests = subst (λ (ms : List Moment). IsLeftAtRest edits.MAGIC manifest ms) (sym back) (manifest_rests c.id-found.result manifest c.in-Ok-open.manifest opened);
       survives = subst (λ (ms : List Moment). SurvivesThrough edits.MAGIC c.id-found.result manifest ms) (sym back) c.in-Ok-open.ensures.kept.survives;

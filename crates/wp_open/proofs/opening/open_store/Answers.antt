@@ -18,5 +18,5 @@ returns-then-not-branch-clause-cause g c =
     let memory_is = c.new-store.ensures.memory ∙ c.in_ok-memory.ensures.memory ∙ ap (λ (n : ℕ). sorted_of (later_versions history n)) flushed_is in
     let covering = c.in_ok-are_covering.ensures edit flushed_is low c.in_ok-memory.ensures.legal memory_is c.new-store.ensures.frozen in
     let parts_is = c.new-store.ensures.tables in
-    not_covered low refl (uncovered_here c.args.id history edit (g.D.Disk.moments c.args.tables.now) (g.D.Disk.moments c.sync.new.self) (map arc_value c.in_ok-parts.parts.items) c.in-Ok.ensures.done c.in_ok-parts.ensures.as_many c.in_ok-parts.ensures.are c.in_ok-parts.ensures.found
+    not_covered low refl (uncovered_here c.args.id history edit (g.D.Peek.moments c.args.tables.now) (g.D.Peek.moments c.sync.new.self) (map arc_value c.in_ok-parts.parts.items) c.in-Ok.ensures.done c.in_ok-parts.ensures.as_many c.in_ok-parts.ensures.are c.in_ok-parts.ensures.found
     (subst (λ (parts : List (List Version)). AreCovering history edit parts → ⊥) parts_is (not_covering c.in_ok-are_covering.field-0 (AreCovering history edit c.new-store.result.tables) covering c.if-not-branch.true)))

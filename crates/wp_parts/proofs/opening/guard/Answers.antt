@@ -22,5 +22,5 @@ pub returns-in-Ok-make_guarded-clause-founds : goal.returns-in-Ok-make_guarded-c
 unfolding returns-in-Ok-make_guarded-clause-slots
 returns-in-Ok-make_guarded-clause-founds g c client cells flag some flagged =
     let o = c.requires.opened in let parts = c.args.parts in
-    founds o.0 o.1 o.2 o.3 parts.wal parts.history.entries parts.manifest _ parts.store o.4 (g.D.Disk.faults parts.tables) c.fill.result.items (returns-in-Ok-make_guarded-clause-slots g c) client cells flag some flagged
+    founds o.0 o.1 o.2 o.3 parts.wal parts.history.entries parts.manifest _ parts.store o.4 (g.D.Peek.faults parts.tables) c.fill.result.items (returns-in-Ok-make_guarded-clause-slots g c) client cells flag some flagged
     c.fill.ensures.log c.fill.ensures.edits

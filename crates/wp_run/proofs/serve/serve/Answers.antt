@@ -18,14 +18,14 @@ finish-requires g c = as_many c.args.parts.now c.run_script-run.ensures.run c.ru
 pub returns-in-Ok-clause-serves : goal.returns-in-Ok-clause-serves
 returns-in-Ok-clause-serves g c =
     let left = c.run_script-run.result in
-    let ran = subst (λ (ds : Disks g.row.D.Denot). HaveRun c.in-Ok.store c.args.parts.now left.answers.items left.history.entries (devices_of g.D.Disk.moments g.D.Disk.faults ds)) (sym c.finish.ensures.disks) c.run_script-run.ensures in
+    let ran = subst (λ (ds : Disks g.row.D.Denot). HaveRun c.in-Ok.store c.args.parts.now left.answers.items left.history.entries (devices_of g.D.Peek.moments g.D.Peek.faults ds)) (sym c.finish.ensures.disks) c.run_script-run.ensures in
     serves_run c.in-Ok.store _ left.answers.items left.history.entries c.in-Ok.ensures.store.0 c.in-Ok.ensures.store.1
     c.in-Ok.first.knows c.in-Ok.ensures.stands (ap (λ (seat : SeatState). seat.knows.participant.seen) c.in-Ok.ensures.seat) c.in-Ok.ensures.opened ran c.finish.result.status c.finish.ensures.ended
 
 pub returns-in-Ok-clause-durable : goal.returns-in-Ok-clause-durable
 returns-in-Ok-clause-durable g c =
     let left = c.run_script-run.result in
-    let ran = subst (λ (ds : Disks g.row.D.Denot). HaveRun c.in-Ok.store c.args.parts.now left.answers.items left.history.entries (devices_of g.D.Disk.moments g.D.Disk.faults ds)) (sym c.finish.ensures.disks) c.run_script-run.ensures in
+    let ran = subst (λ (ds : Disks g.row.D.Denot). HaveRun c.in-Ok.store c.args.parts.now left.answers.items left.history.entries (devices_of g.D.Peek.moments g.D.Peek.faults ds)) (sym c.finish.ensures.disks) c.run_script-run.ensures in
     is_durable c.args.choice.id _ c.in-Ok.ensures.opened ran.ended c.shows_reading.ensures
 
 pub returns-in-Err-clause-serves : goal.returns-in-Err-clause-serves
@@ -40,7 +40,7 @@ returns-in-Err-clause-durable g c =
     record {
       log = refused.log_durable;
       manifest = refused.manifest_durable;
-      tables = refused_fronts _ _ _ _ _ _ _ _ c.in-Err.field-0.why (λ e. ap (λ disk. g.D.Disk.moments disk) e) c.shows_reading.ensures refused.left;
+      tables = refused_fronts _ _ _ _ _ _ _ _ c.in-Err.field-0.why (λ e. ap (λ disk. g.D.Peek.moments disk) e) c.shows_reading.ensures refused.left;
       log_later = refused.log_later;
       manifest_later = refused.manifest_later;
       tables_later = refused.tables_later;

@@ -1,4 +1,4 @@
 use Rattle.wp_run.proofs.serve.shows_reading.Goals as goal
 
 pub returns : goal.returns
-returns g c = g.met.D.Disk.itself c.args.disks.now.tables
+returns g c = g.met.D.Peek.itself c.args.disks.now.tables

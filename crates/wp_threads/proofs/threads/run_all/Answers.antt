@@ -17,12 +17,12 @@ pub for_each_mut-requires-clause-accepts : goal.for_each_mut-requires-clause-acc
 for_each_mut-requires-clause-accepts g c κs within = λ i p lt e. new_at c.args.store.now c.args.parts.now c.args.sessions.now i p.now lt e c.requires
 
 pub for_each_mut-requires-send-T : goal.for_each_mut-requires-send-T
-for_each_mut-requires-send-T g c κs within = let d = c.type_bounds.send-D in param_send 1 (lts.arg-1-1 g.row.D g.row.G g.row.R g.D.laws g.G.laws g.R.laws g.D.Disk g.D.Disk-dict g.G.Gate g.G.Gate-dict g.R.Threads g.R.Threads-dict g.R.Wait g.R.Wait-dict g.D.Destruct-dict κs) (search (sendable, seat_send, answers.the_send) depth 24)
+for_each_mut-requires-send-T g c κs within = let d = c.type_bounds.send-D in param_send 1 (lts.arg-1-1 g.row.D g.row.G g.row.R g.D.laws g.G.laws g.R.laws g.D.Disk g.D.Disk-dict g.D.Peek g.D.Peek-dict g.G.Gate g.G.Gate-dict g.R.Threads g.R.Threads-dict g.R.Wait g.R.Wait-dict g.D.Destruct-dict κs) (search (sendable, seat_send, answers.the_send) depth 24)
 
 pub for_each_mut-requires-sync-F : goal.for_each_mut-requires-sync-F
 for_each_mut-requires-sync-F g c κs within =
-    param_sync 2 (lts.arg-1-2 g.row.D g.row.G g.row.R g.D.laws g.G.laws g.R.laws g.D.Disk g.D.Disk-dict g.G.Gate g.G.Gate-dict g.R.Threads g.R.Threads-dict g.R.Wait g.R.Wait-dict g.D.Destruct-dict κs)
-    (captured_sync _ no _ _ _ _ _ _ (shr_sync _ _ _ (shared_sync _ _ c.type_bounds.send-D)) (shr_sync _ _ _ c.type_bounds.sync-R) (shr_sync _ _ _ sync) (shr_sync _ _ _ c.type_bounds.sync-G)
+    param_sync 2 (lts.arg-1-2 g.row.D g.row.G g.row.R g.D.laws g.G.laws g.R.laws g.D.Disk g.D.Disk-dict g.D.Peek g.D.Peek-dict g.G.Gate g.G.Gate-dict g.R.Threads g.R.Threads-dict g.R.Wait g.R.Wait-dict g.D.Destruct-dict κs)
+    (captured_sync _ no _ _ _ _ _ _ (shr_sync _ _ _ (shared_sync _ _ g.D.Peek c.type_bounds.send-D)) (shr_sync _ _ _ c.type_bounds.sync-R) (shr_sync _ _ _ sync) (shr_sync _ _ _ c.type_bounds.sync-G)
     (shr_slice_sync _ _ _ part.the_sync))
 
 pub returns : goal.returns

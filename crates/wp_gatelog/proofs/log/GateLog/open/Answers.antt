@@ -1,5 +1,5 @@
 use Rattle.std.proofs.Common.{◌≡◌, length, refl, rules}
-use Rattle.wp_gatelog.proofs.OpenLemmas.{opens_passed, opens_durable, opens_found, opens_rests, opens_why}
+use Rattle.wp_gatelog.proofs.OpenLemmas.{opens_passed, opens_durable, opens_stands, opens_found, opens_rests, opens_why}
 use Rattle.wp_gatelog.proofs.SurvivalLemmas.{survives_through, rest_spells}
 use Rattle.wp_gatelog.proofs.log.GateLog.open.Goals as goal
 
@@ -11,6 +11,7 @@ returns-in-Ok-clause-opened g c =
       found = opens_found c.args.magic c.args.id _ _ _ c.in-Ok.ensures.opens;
       rests = rests;
       spelled = rest_spells c.args.magic _ _ _ _ rests;
+      stands = opens_stands c.args.magic c.args.id _ _ _ c.find.ensures.unknown c.in-Ok.ensures.opens;
       counted = counted;
       running = refl;
     }

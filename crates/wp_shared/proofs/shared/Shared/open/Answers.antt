@@ -7,18 +7,18 @@ use Rattle.wp_shared.proofs.Opened.{refused_late}
 use Rattle.wp_shared.proofs.shared.Shared.open.Goals as goal
 
 pub new-requires-clause-opened : goal.new-requires-clause-opened
-new-requires-clause-opened g c = (c.args.id, g.D.Disk.moments c.args.disks.log, g.D.Disk.moments c.args.disks.manifest, g.D.Disk.moments c.args.disks.tables, c.in-Ok.ensures.opened)
+new-requires-clause-opened g c = (c.args.id, g.D.Peek.moments c.args.disks.log, g.D.Peek.moments c.args.disks.manifest, g.D.Peek.moments c.args.disks.tables, c.in-Ok.ensures.opened)
 
 pub returns-in-Ok-new-clause-opened : goal.returns-in-Ok-new-clause-opened
 returns-in-Ok-new-clause-opened g c =
     let e = c.in-Ok.ensures in let parts = c.in-Ok.parts in
-    let tables = g.D.Disk.moments parts.tables in
+    let tables = g.D.Peek.moments parts.tables in
     let same = sym c.in-Ok-new.ensures.store.0 in
-    let old : DevicesLeft = devices_of g.D.Disk.moments g.D.Disk.faults c.args.disks in record {
+    let old : DevicesLeft = devices_of g.D.Peek.moments g.D.Peek.faults c.args.disks in record {
       wal = parts.wal;
       edits = parts.manifest;
       tables = tables;
-      tables_faults = g.D.Disk.faults parts.tables;
+      tables_faults = g.D.Peek.faults parts.tables;
       versions = parts.store;
       log_is = c.in-Ok-new.ensures.log;
       set_is = c.in-Ok-new.ensures.set;
@@ -37,5 +37,5 @@ returns-in-Ok-new-clause-opened g c =
 pub returns-in-Err-new-clause-refused : goal.returns-in-Err-new-clause-refused
 returns-in-Err-new-clause-refused g c =
     let e = c.in-Ok.ensures in let parts = c.in-Ok.parts in
-    refused_late _ _ c.args.id (devices_of g.D.Disk.moments g.D.Disk.faults c.args.disks) _ parts.wal parts.history.entries parts.manifest (g.D.Disk.moments parts.tables) (g.D.Disk.faults parts.tables) parts.store
+    refused_late _ _ c.args.id (devices_of g.D.Peek.moments g.D.Peek.faults c.args.disks) _ parts.wal parts.history.entries parts.manifest (g.D.Peek.moments parts.tables) (g.D.Peek.faults parts.tables) parts.store
     c.in-Err-new.ensures.refused e.opened e.found

@@ -35,7 +35,7 @@ pub install-requires-clause-there : goal.install-requires-clause-there
 install-requires-clause-there g c =
     let e : c.edit_of.result ≡ record { flushed = c.args.flushed; tables = placed c.self.inside.manifest.log.id c.args.versions.now c.in-Ok.place ∷ c.args.places.items } =
     c.edit_of.ensures ∙ ap (λ (n : ℕ). record { flushed = c.args.flushed; tables = (c.in-Ok.place, n) ∷ c.args.places.items }) (ap length (c.bytes-spelling.ensures ∙ c.in_ok-built.ensures.bytes ∙ ap (λ (n : ℕ). table_bytes n c.args.versions.now) c.id.ensures)) in
-    let set : TableSetState = record { manifest = c.self.inside.manifest; moments = g.D.Disk.moments c.self.inside.tables; faults = g.D.Disk.faults c.self.inside.tables; halted = c.self.inside.halted } in
+    let set : TableSetState = record { manifest = c.self.inside.manifest; moments = g.D.Peek.moments c.self.inside.tables; faults = g.D.Peek.faults c.self.inside.tables; halted = c.self.inside.halted } in
     rw e (table_next set _ 0 c.args.versions.now c.args.flushed c.in-Ok.place c.args.places.items c.write_behind.ensures.grows c.in-Ok.ensures.place
     (rw (← c.id.ensures, ← c.in_ok-built.ensures.bytes, ← c.bytes-spelling.ensures) c.in-Ok.ensures.synced) (rw (← c.id.ensures) (c.in_ok-built.ensures.table c.args.flushed c.requires.flushed)) (subst (λ (s : TableSetState). (after : List (List Version) → List (List Version)) × Remain s.manifest.edit c.args.flushed c.args.places.items after) (sym c.self.view_is) c.requires.remain))
 

@@ -5,7 +5,7 @@ use Rattle.wp_wal.proofs.wal.Wal.open.Goals as goal
 
 pub returns-clause-refused : goal.returns-clause-refused
 returns-clause-refused g c = record {
-  cause = refused_records _ (g.D.Disk.moments c.args.disk) c.args.id _ _ c.in-Err-history_of.why c.in-Ok.ensures.opened.found (subst (λ (records : List (List ℕ)). IsRecordCause records c.in-Err-history_of.why) c.deref.ensures.value c.in-Err-history_of.ensures.err);
+  cause = refused_records _ (g.D.Peek.moments c.args.disk) c.args.id _ _ c.in-Err-history_of.why c.in-Ok.ensures.opened.found (subst (λ (records : List (List ℕ)). IsRecordCause records c.in-Err-history_of.why) c.deref.ensures.value c.in-Err-history_of.ensures.err);
   left = search rules;
 }
 
