@@ -62,7 +62,7 @@ impl Prepared {
     }
 
     /// Puts the number of a Prepare entry into the heap, before the entry is published. It takes the memory that
-    /// `advance` and `remove` need.
+    /// `advance`, `note_evicted` and `add_commit` need.
     pub fn add(&mut self, p: Seq) -> Result<(), AllocError>
         requires { AreBelow self.old.heap p }
         ensures ok { OnOk result (self.new ≡ record self.old { heap = set.insert self.old.heap p }) }
