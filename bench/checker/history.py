@@ -295,14 +295,15 @@ def history_in(data):
 
 def versions_in(table, store, flushed):
     fields = Fields(table)
-    if fields.take(5) != b"WPTB\x01" or fields.number(4) != store:
+    width = {b"WPTB\x01": 4, b"WPTB\x02": 8}.get(fields.take(5))
+    if width is None or fields.number(4) != store:
         raise Damaged("another head")
     count, blocks = fields.number(8), fields.number(8)
     versions, places = [], []
     for _ in range(blocks):
         places.append(fields.at)
         for _ in range(fields.number(2)):
-            versions.append((fields.word(1), fields.number(4), fields.value()))
+            versions.append((fields.word(1), fields.number(width), fields.value()))
     index = fields.at
     if [fields.number(8) for _ in range(blocks)] != places or fields.number(8) != index:
         raise Damaged("another index")

@@ -1,9 +1,12 @@
 -- A field that is read is the field that was written, and what was written is read again.
-use Rattle.std.proofs.Common.{◌≡◌, ℕ, suc, ◌+◌, ◌^◌, ◌<◌, ◌≤◌, Bool, true, false, cond, ltb, List, [], ◌∷◌, ◌++◌, length, get_or, take, drop, Result, Ok, Err, refl, sym, ap, ◌∙◌, append_assoc, arith, inl, inr}
-use Rattle.std.specs.Int.{Width, w16, w32, byte_len, from_be_bytes, to_be_bytes}
+use Rattle.std.proofs.Common.{◌≡◌, ℕ, zero, suc, ◌+◌, ◌^◌, ◌<◌, ◌≤◌, Bool, true, false, cond, ltb, List, [], ◌∷◌, ◌++◌, length, get_or, take, drop, Some, Result, Ok, Err, refl, sym, ap, ◌∙◌, append_assoc, arith, inl, inr}
+use Rattle.std.specs.Int.{Width, w16, w32, w64, byte_len, from_be_bytes, to_be_bytes}
 use Rattle.std.proofs.lemmas.Bool.{cases_lt, ltb-false, ltb-true, lt-ltb, le-ltb}
 use Rattle.std.proofs.lemmas.List.{take_at, drop_at, take-append-drop, length-append, length-take-le, get_or-drop, get_or-take, get_or_past}
-use Rattle.std.proofs.lemmas.Nat.{be_bytes_2, be_bytes_4, from_be_bytes-to_be_bytes_2, from_be_bytes-to_be_bytes_4}
+use Rattle.std.proofs.lemmas.Nat.{be_bytes_2, be_bytes_4, be_bytes_8, from_be_bytes-to_be_bytes_2, from_be_bytes-to_be_bytes_4, from_be_bytes-to_be_bytes_8}
+use Rattle.wp_fields.specs.Format.{format_byte, format_of, number_width, number_end}
+use Rattle.wp_fields.specs.declared.format.Format.{Format}
+use Rattle.wp_fields.specs.declared.format.Format.TheVariants.{One, Two}
 use Rattle.wp_fields.specs.Reading.{byte_at, number_at, piece_at}
 use Rattle.wp_fields.proofs.Results.{chosen, ok_is, err_is, ok_or_err}
 
@@ -17,6 +20,19 @@ refusal_missed false fault read x e = (refl, e)
 pub test_met : {X E : Type 0} (b : Bool) (fault : E) (read : Result X E) (x : X) → cond b read (Err fault) ≡ Ok x → (b ≡ true) × (read ≡ Ok x)
 test_met true fault read x e = (refl, e)
 test_met false fault read x e = absurd cc
+
+-- ---- versions of formats
+
+-- a byte names no version but its own
+pub byte_of_format : (byte : ℕ) (format : Format) → format_of byte ≡ Some format → byte ≡ format_byte format
+byte_of_format zero format e = absurd cc
+byte_of_format (suc zero) format e = let same : One ≡ format = cc in ap format_byte same
+byte_of_format (suc (suc zero)) format e = let same : Two ≡ format = cc in ap format_byte same
+byte_of_format (suc (suc (suc n))) format e = absurd cc
+
+pub format_again : (format : Format) → format_of (format_byte format) ≡ Some format
+format_again One = refl
+format_again Two = refl
 
 -- ---- texts at the front
 
@@ -96,6 +112,19 @@ fields_32 = record {
   read = λ n lt. from_be_bytes-to_be_bytes_4 n lt;
   below = λ bytes h. omega (arith, h 0, h 1, h 2, h 3);
 }
+
+pub fields_64 : AreFields w64 (2 ^ 64)
+fields_64 = record {
+  len = λ n. refl;
+  spelled = λ bytes len h. be_bytes_8 bytes _ len h refl;
+  read = λ n lt. from_be_bytes-to_be_bytes_8 n lt;
+  below = λ bytes h. omega (arith, h 0, h 1, h 2, h 3, h 4, h 5, h 6, h 7);
+}
+
+-- the numbers of entries, in each version of a format
+pub fields_of : (format : Format) → AreFields (number_width format) (number_end format)
+fields_of One = fields_32
+fields_of Two = fields_64
 
 pub number_takes : {E : Type 0} (short : E) (w : Width) (limit : ℕ) → AreFields w limit → (bytes : List ℕ) (x : ℕ × List ℕ) → AreBytes bytes → number_at short w bytes ≡ Ok x → Begins bytes (to_be_bytes w x.0) x.1 × (x.0 < limit)
 number_takes {E} short w limit laws bytes x h e =

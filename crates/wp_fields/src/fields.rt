@@ -1,9 +1,11 @@
 //! Taking fields from the front of bytes.
 
 ghost use Rattle.std.specs.Prelude.{◌≡◌, ℕ, List, ◌∷◌, ◌++◌, length, take, IfSome};
-ghost use Rattle.std.specs.Int.{w16, w32, w64, from_be_bytes, to_be_bytes};
+ghost use Rattle.std.specs.Int.{w16, w32, w64, byte_len, from_be_bytes, to_be_bytes};
+ghost use Rattle.wp_fields.specs.Format.{number_width};
 ghost use Rattle.wp_fields.specs.Taken.{TakesField};
 
+use crate::format::Format;
 use byteorder::{BigEndian, ByteOrder};
 use std::marker::Model;
 
@@ -90,6 +92,17 @@ impl<'a> Fields<'a> {
     {
         let field = self.piece(8)?;
         Some(number_u64(field))
+    }
+
+    /// The number of an entry, in as many bytes as it has in that version of the format.
+    pub fn number(&mut self, format: Format) -> Option<u64>
+        ensures taken { TakesField (byte_len (number_width format)) result self.old self.new }
+        ensures number { IfSome result (λ number. number ≡ from_be_bytes (number_width format) (take (byte_len (number_width format)) self.old)) }
+    {
+        match format {
+            Format::One => Some(u64::from(self.u32()?)),
+            Format::Two => self.u64(),
+        }
     }
 }
 

@@ -2,8 +2,10 @@
 
 ghost use Rattle.std.specs.Prelude.{◌≡◌, ◌+◌, ◌<◌, ◌∷◌, [], ◌++◌, length, OnOk, OnErr};
 ghost use Rattle.std.specs.Vec.{vec_len, vec_capacity};
-ghost use Rattle.std.specs.Int.{w16, w32, w64, to_be_bytes};
+ghost use Rattle.std.specs.Int.{w16, w32, w64, byte_len, to_be_bytes};
+ghost use Rattle.wp_fields.specs.Format.{number_width, number_end};
 
+use crate::format::Format;
 use byteorder::{BigEndian, ByteOrder};
 use std::alloc::AllocError;
 
@@ -56,4 +58,17 @@ pub fn push_u64(out: &mut Vec<u8>, number: u64) -> Result<(), AllocError>
     let mut field = [0; 8];
     BigEndian::write_u64(&mut field, number);
     push_piece(out, &field)
+}
+
+/// Puts the number of an entry at the end, in as many bytes as it has in that version of the format.
+pub fn push_number(out: &mut Vec<u8>, format: Format, number: u64) -> Result<(), AllocError>
+    requires { number < number_end format }
+    ensures pushed { OnOk result (out.new.items ≡ out.old.items ++ to_be_bytes (number_width format) number) }
+    ensures unchanged { OnErr result (out.new.items ≡ out.old.items) }
+    ensures without_room { OnErr result (vec_capacity out.old < vec_len out.old + byte_len (number_width format)) }
+{
+    match format {
+        Format::One => push_u32(out, number as u32),
+        Format::Two => push_u64(out, number),
+    }
 }

@@ -17,7 +17,6 @@ use Rattle.wp_table.specs.declared.error.TableError.{TableError}
 use Rattle.wp_table.specs.declared.error.TableError.TheVariants as table
 use Rattle.wp_table.specs.Faults.{IsTableFault}
 use Rattle.wp_table.specs.File.{HasTables}
-use Rattle.wp_table.specs.Table.{IsTable, table_bytes}
 use Rattle.wp_open.specs.declared.bad.Bad.{Bad}
 use Rattle.wp_open.specs.declared.bad.Bad.TheVariants as bad
 use Rattle.wp_open.specs.Damage.{IsLogDamaged, Finds, IsManifestDamaged, bytes_at, IsBadTable, IsFirstBadTable, IsOwnFault, IsTableNamed, IsEditDamaged, log_behind, in_tables, uncovered, IsDamaged, in_log, in_manifest, in_edit}
@@ -88,14 +87,11 @@ one_of_manifest laws id bytes one other fits is too = absurd is
 -- ---- the tables
 
 module _ (laws : TableLaws) (faults : TablesHaveOneFault) (id flushed : ℕ) (bytes : List ℕ) where
-  whole_or_fault : (placed : ℕ × ℕ) (versions : List Version) (why : TableError) → IsTable id flushed versions → bytes_at bytes placed ≡ table_bytes id versions → IsTableFault id flushed (bytes_at bytes placed) why → ⊥
-  whole_or_fault placed versions why is spelled fault = laws.not_both id flushed versions why is (subst (λ (l : List ℕ). IsTableFault id flushed l why) spelled fault)
-
   one_of_table : (placed : ℕ × ℕ) (why also : TableError) → IsBadTable id flushed bytes placed why → IsBadTable id flushed bytes placed also → why ≡ also
   one_of_table placed why also (inl fault) (inl other) = faults id flushed (bytes_at bytes placed) why also fault other
-  one_of_table placed why also (inl fault) (inr (versions, is, spelled, short, named)) = absurd (whole_or_fault placed versions why is spelled fault)
-  one_of_table placed why also (inr (versions, is, spelled, short, named)) (inl fault) = absurd (whole_or_fault placed versions also is spelled fault)
-  one_of_table placed why also (inr one) (inr other) = one.4 ∙ sym other.4
+  one_of_table placed why also (inl fault) (inr (versions, spells, short, named)) = absurd (laws.not_both id flushed (bytes_at bytes placed) versions why spells fault)
+  one_of_table placed why also (inr (versions, spells, short, named)) (inl fault) = absurd (laws.not_both id flushed (bytes_at bytes placed) versions also spells fault)
+  one_of_table placed why also (inr one) (inr other) = one.3 ∙ sym other.3
 
   same_first : (before others after behind : List (ℕ × ℕ)) (placed other : ℕ × ℕ) (parts more : List (List Version)) (why also : TableError) → before ++ placed ∷ after ≡ others ++ other ∷ behind → HasTables id flushed bytes before parts → HasTables id flushed bytes others more → IsBadTable id flushed bytes placed why → IsBadTable id flushed bytes other also → (placed ≡ other) × (why ≡ also)
   same_first [] [] after behind placed other parts more why also is right too wrong bad =

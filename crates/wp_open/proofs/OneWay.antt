@@ -17,7 +17,7 @@ use Rattle.wp_table.specs.declared.error.TableError.{TableError}
 use Rattle.wp_table.specs.declared.error.TableError.TheVariants as table
 use Rattle.wp_table.specs.Faults.{IsTableFault}
 use Rattle.wp_table.specs.File.{HasTable, HasTables}
-use Rattle.wp_table.specs.Table.{IsTable, table_bytes}
+use Rattle.wp_table.specs.Table.{SpellsTable}
 use Rattle.wp_open.specs.declared.bad.Bad.{Bad}
 use Rattle.wp_open.specs.declared.bad.Bad.TheVariants as bad
 use Rattle.wp_open.specs.Damage.{IsLogDamaged, Finds, IsManifestDamaged, bytes_at, IsBadTable, IsFirstBadTable, IsTableNamed, IsEditDamaged, log_behind, in_tables, uncovered, IsDamaged, in_log, in_manifest, in_edit}
@@ -41,8 +41,8 @@ pub record ManifestLaws : Type 0 where
   pub stranger : (bytes : List ℕ) (id log found : ℕ) (list : List Edit) → id < 2 ^ 32 → found < 2 ^ 32 → edits.IsManifestOf id list bytes → IsStranger id log found bytes → ⊥
 
 pub record TableLaws : Type 0 where
-  pub one_table : (id flushed : ℕ) (one other : List Version) → IsTable id flushed one → IsTable id flushed other → table_bytes id one ≡ table_bytes id other → one ≡ other
-  pub not_both : (id flushed : ℕ) (versions : List Version) (fault : TableError) → IsTable id flushed versions → IsTableFault id flushed (table_bytes id versions) fault → ⊥
+  pub one_table : (id flushed : ℕ) (bytes : List ℕ) (one other : List Version) → SpellsTable id flushed one bytes → SpellsTable id flushed other bytes → one ≡ other
+  pub not_both : (id flushed : ℕ) (bytes : List ℕ) (versions : List Version) (fault : TableError) → SpellsTable id flushed versions bytes → IsTableFault id flushed bytes fault → ⊥
 
 -- ---- the log
 
@@ -77,15 +77,15 @@ manifest_is_right laws bytes id list other fits spells is = is
 
 -- ---- the tables
 
-there : (id flushed : ℕ) (bytes : List ℕ) (placed : ℕ × ℕ) (versions : List Version) → HasTable id flushed bytes placed versions → bytes_at bytes placed ≡ table_bytes id versions
+there : (id flushed : ℕ) (bytes : List ℕ) (placed : ℕ × ℕ) (versions : List Version) → (has : HasTable id flushed bytes placed versions) → bytes_at bytes placed ≡ has.spelling
 there id flushed bytes placed versions has =
     ap (λ (l : List ℕ). take placed.1 (drop placed.0 l)) has.parts
-    ∙ ap (λ (l : List ℕ). take placed.1 l) (drop_at has.before (table_bytes id versions ++ has.after) placed.0 has.place)
-    ∙ take_at (table_bytes id versions) has.after placed.1 has.size
+    ∙ ap (λ (l : List ℕ). take placed.1 l) (drop_at has.before (has.spelling ++ has.after) placed.0 has.place)
+    ∙ take_at has.spelling has.after placed.1 has.size
 
 pub table_is_right : TableLaws → (id flushed : ℕ) (bytes : List ℕ) (placed : ℕ × ℕ) (versions : List Version) (why : TableError) → HasTable id flushed bytes placed versions → IsBadTable id flushed bytes placed why → ⊥
-table_is_right laws id flushed bytes placed versions why has (inl fault) = laws.not_both id flushed versions why has.is (subst (λ (l : List ℕ). IsTableFault id flushed l why) (there id flushed bytes placed versions has) fault)
-table_is_right laws id flushed bytes placed versions why has (inr (others, is, spelled, short, named)) =
+table_is_right laws id flushed bytes placed versions why has (inl fault) = laws.not_both id flushed has.spelling versions why has.is (subst (λ (l : List ℕ). IsTableFault id flushed l why) (there id flushed bytes placed versions has) fault)
+table_is_right laws id flushed bytes placed versions why has (inr (others, spells, short, named)) =
     let size = ap length (there id flushed bytes placed versions has) in
     let whole = has.size in
     omega (arith, size, whole, short)
@@ -112,7 +112,7 @@ same_parts laws id flushed bytes [] (part ∷ parts) others has too = absurd has
 same_parts laws id flushed bytes (placed ∷ tables) [] others has too = absurd has
 same_parts laws id flushed bytes (placed ∷ tables) (part ∷ parts) [] has too = absurd too
 same_parts laws id flushed bytes (placed ∷ tables) (part ∷ parts) (other ∷ others) has too =
-    let first : part ≡ other = laws.one_table id flushed part other has.0.is too.0.is (sym (there id flushed bytes placed part has.0) ∙ there id flushed bytes placed other too.0) in
+    let first : part ≡ other = laws.one_table id flushed has.0.spelling part other has.0.is (subst (SpellsTable id flushed other) (sym (there id flushed bytes placed other too.0) ∙ there id flushed bytes placed part has.0) too.0.is) in
     let rest = same_parts laws id flushed bytes tables parts others has.1 too.1 in
     λ i. first i ∷ rest i
 

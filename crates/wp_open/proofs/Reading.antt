@@ -17,7 +17,7 @@ use Rattle.wp_table.specs.declared.error.TableError.TheVariants as table
 use Rattle.wp_table.specs.Errors.{table_fault}
 use Rattle.wp_table.specs.Faults.{IsTableFault}
 use Rattle.wp_table.specs.File.{HasTable, HasTables}
-use Rattle.wp_table.specs.Table.{IsTable, table_bytes}
+use Rattle.wp_table.specs.Table.{IsTable, SpellsTable}
 use Rattle.wp_open.specs.declared.bad.Bad.TheVariants as bad
 use Rattle.wp_open.specs.declared.opening.OpenError.{OpenError}
 use Rattle.wp_open.specs.declared.opening.OpenError.TheVariants as open_error
@@ -39,36 +39,36 @@ read_shows m buf bytes place at n is where_is read =
       | inr none ↦ (let no_bytes : bytes ≡ [] = nil_from_length bytes (omega (arith, size, read.count, none)) in subst (λ (l : List ℕ). Shows at l m) (sym no_bytes) refl)
     ]
 
-some_bytes : (id : ℕ) (versions : List Version) → 1 ≤ length (table_bytes id versions)
-some_bytes id versions = omega arith
+some_bytes : (id flushed : ℕ) (versions : List Version) (bytes : List ℕ) → SpellsTable id flushed versions bytes → 1 ≤ length bytes
+some_bytes id flushed versions bytes spells = omega (arith, ap length spells.2)
 
-pub table_at_place : (id flushed : ℕ) (bytes : List ℕ) (placed : ℕ × ℕ) (versions : List Version) → IsTable id flushed versions → bytes_at bytes placed ≡ table_bytes id versions → placed.1 ≤ length (bytes_at bytes placed) → HasTable id flushed bytes placed versions
-table_at_place id flushed bytes placed versions is spelled whole =
+pub table_at_place : (id flushed : ℕ) (bytes : List ℕ) (placed : ℕ × ℕ) (versions : List Version) → SpellsTable id flushed versions (bytes_at bytes placed) → placed.1 ≤ length (bytes_at bytes placed) → HasTable id flushed bytes placed versions
+table_at_place id flushed bytes placed versions spells whole =
     let rest : List ℕ = drop placed.0 bytes in
     let taken = length-take placed.1 rest in
     let left = length-drop placed.0 bytes in
-    let some = some_bytes id versions in
-    let size = ap length spelled in
-    let within : placed.0 ≤ length bytes = omega (arith, taken, left, some, size) in
+    let some = some_bytes id flushed versions (bytes_at bytes placed) spells in
+    let within : placed.0 ≤ length bytes = omega (arith, taken, left, some) in
     record {
       before = take placed.0 bytes;
+      spelling = bytes_at bytes placed;
       after = drop placed.1 rest;
-      parts = sym (take-append-drop placed.0 bytes) ∙ ap (λ (l : List ℕ). take placed.0 bytes ++ l) (sym (take-append-drop placed.1 rest) ∙ ap (λ (l : List ℕ). l ++ drop placed.1 rest) spelled);
+      parts = sym (take-append-drop placed.0 bytes) ∙ ap (λ (l : List ℕ). take placed.0 bytes ++ l) (sym (take-append-drop placed.1 rest));
       place = length-take-le placed.0 bytes within;
-      size = omega (arith, taken, size, whole);
-      is = is;
+      size = omega (arith, taken, whole);
+      is = spells;
     }
 
-pub found_table : (id flushed : ℕ) (found : List ℕ) (placed : ℕ × ℕ) (versions : List Version) (moments : List Moment) → IsTable id flushed versions → found ≡ table_bytes id versions → placed.1 ≤ length found → length found ≤ placed.1 → IfKnown moments (Shows placed.0 found) → IfKnown moments (λ m. HasTable id flushed m.reads placed versions)
-found_table id flushed found placed versions moments is spelled whole fits read =
+pub found_table : (id flushed : ℕ) (found : List ℕ) (placed : ℕ × ℕ) (versions : List Version) (moments : List Moment) → SpellsTable id flushed versions found → placed.1 ≤ length found → length found ≤ placed.1 → IfKnown moments (Shows placed.0 found) → IfKnown moments (λ m. HasTable id flushed m.reads placed versions)
+found_table id flushed found placed versions moments spells whole fits read =
     let size : length found ≡ placed.1 = omega (arith, whole, fits) in
     known_map (Shows placed.0 found) (λ m. HasTable id flushed m.reads placed versions)
     (λ m there. let same : bytes_at m.reads placed ≡ found = ap (λ (n : ℕ). take n (drop placed.0 m.reads)) (sym size) ∙ there in
-    table_at_place id flushed m.reads placed versions is (same ∙ spelled) (let n = ap length same in omega (arith, n, whole))) moments read
+    table_at_place id flushed m.reads placed versions (subst (SpellsTable id flushed versions) (sym same) spells) (let n = ap length same in omega (arith, n, whole))) moments read
 
 -- a table that ends before its place does
-pub short_named : (id flushed len : ℕ) (found : List ℕ) (placed : ℕ × ℕ) (versions : List Version) (moments : List Moment) → IsTable id flushed versions → found ≡ table_bytes id versions → length found < placed.1 → IfKnown moments (λ m. len ≡ length m.reads → found ≡ bytes_at m.reads placed) → WasWrong id flushed placed len moments table.Short
-short_named id flushed len found placed versions moments is spelled short read = record { read = found; wrong = inr (versions, is, spelled, short, refl); known = read }
+pub short_named : (id flushed len : ℕ) (found : List ℕ) (placed : ℕ × ℕ) (versions : List Version) (moments : List Moment) → SpellsTable id flushed versions found → length found < placed.1 → IfKnown moments (λ m. len ≡ length m.reads → found ≡ bytes_at m.reads placed) → WasWrong id flushed placed len moments table.Short
+short_named id flushed len found placed versions moments spells short read = record { read = found; wrong = inr (versions, spells, short, refl); known = read }
 
 pub fault_named : (id flushed len : ℕ) (placed : ℕ × ℕ) (rose : Type 0) (moments : List Moment) (found : List ℕ) (why : TableError) (error : OpenError) → IfSome (table_fault why) (λ fault. IsTableFault id flushed found fault) → IfKnown moments (λ m. len ≡ length m.reads → found ≡ bytes_at m.reads placed) → IsTableReason id placed.0 why error → IsTableCause id flushed placed len rose moments error
 fault_named id flushed len placed rose moments found table.Memory error fault read is = rw is tt

@@ -16,7 +16,7 @@ use Rattle.wp_table.specs.declared.error.TableError.{TableError}
 use Rattle.wp_table.specs.declared.error.TableError.TheVariants as table
 use Rattle.wp_table.specs.Faults.{IsTableFault}
 use Rattle.wp_table.specs.File.{HasTables}
-use Rattle.wp_table.specs.Table.{IsTable, table_bytes}
+use Rattle.wp_table.specs.Table.{SpellsTable}
 use Rattle.wp_open.specs.declared.bad.Bad.{Bad}
 use Rattle.wp_open.specs.declared.bad.Bad.TheVariants as bad
 use Rattle.wp_open.specs.Opens.{AreCovering}
@@ -54,7 +54,7 @@ bytes_at bytes placed = take placed.1 (drop placed.0 bytes)
 abbrev pub HasTableFault : ℕ → ℕ → ℕ → List ℕ → TableError → Type 0
 HasTableFault id flushed size read why =
     IsTableFault id flushed read why
-    ⊎ ((versions : List Version) × IsTable id flushed versions × (read ≡ table_bytes id versions) × (length read < size) × (why ≡ table.Short))
+    ⊎ ((versions : List Version) × SpellsTable id flushed versions read × (length read < size) × (why ≡ table.Short))
 
 -- the bytes at the place have this fault
 abbrev pub IsBadTable : ℕ → ℕ → List ℕ → ℕ × ℕ → TableError → Type 0

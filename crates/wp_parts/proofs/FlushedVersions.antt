@@ -8,7 +8,7 @@ use Rattle.std.specs.declared.cmp.Ordering.{Ordering}
 use Rattle.wp_model.specs.declared.version.Version.{Version}
 use Rattle.wp_model.specs.Versions.{version_cmp}
 use Rattle.wp_merge.specs.Merge.{joined, sorted_of, merge_of, choose_by_order}
-use Rattle.wp_table.specs.Table.{IsTable, is_version, is_flushed, is_numbered, has_words}
+use Rattle.wp_table.specs.Table.{IsTable, is_version, is_flushed, has_number, has_words}
 
 -- ---- what is so of each version
 
@@ -39,14 +39,15 @@ module _ (P : Version → Bool) where
 
 -- ---- of tables
 
-in_table : (flushed : ℕ) (versions : List Version) → list_all (is_version flushed) versions ≡ true → list_all (is_flushed flushed) versions ≡ true
-in_table flushed = each_weaker (is_version flushed) (is_flushed flushed) (λ v all. (and_parts (is_numbered v) (is_flushed flushed v) (and_parts (has_words v) (is_numbered v && is_flushed flushed v) all).1).1)
+pub in_table : (id flushed : ℕ) (versions : List Version) → IsTable id flushed versions → list_all (is_flushed flushed) versions ≡ true
+in_table id flushed versions (format, is) =
+    each_weaker (is_version format flushed) (is_flushed flushed) (λ v all. (and_parts (has_number format v) (is_flushed flushed v) (and_parts (has_words v) (has_number format v && is_flushed flushed v) all).1).1) versions is.in_range
 
 in_all : (id flushed : ℕ) (parts : List (List Version)) → AllByRecursion (IsTable id flushed) parts → list_all (is_flushed flushed) (joined parts) ≡ true
 in_all id flushed [] all = refl
 in_all id flushed (versions ∷ parts) all =
     rw (flat_map-cons (λ (s : List Version). s) versions parts, list_all-append (is_flushed flushed) versions (joined parts))
-    (and_from (list_all (is_flushed flushed) versions) (list_all (is_flushed flushed) (joined parts)) (in_table flushed versions all.0.in_range) (in_all id flushed parts all.1))
+    (and_from (list_all (is_flushed flushed) versions) (list_all (is_flushed flushed) (joined parts)) (in_table id flushed versions all.0) (in_all id flushed parts all.1))
 
 pub tables_flushed : (id flushed : ℕ) (parts : List (List Version)) → AllByRecursion (IsTable id flushed) parts → list_all (is_flushed flushed) (sorted_of (joined parts)) ≡ true
 tables_flushed id flushed parts all = each_sorted (is_flushed flushed) (joined parts) (in_all id flushed parts all)

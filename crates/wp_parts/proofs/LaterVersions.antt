@@ -16,7 +16,8 @@ use Rattle.wp_merge.specs.Merge.{first_at}
 use Rattle.wp_open.proofs.Later.{at_append}
 use Rattle.wp_core.proofs.Openings.{all_versions}
 use Rattle.wp_core.proofs.PublishesVersions.{at_under}
-use Rattle.wp_table.specs.Table.{IsTable, is_version}
+use Rattle.wp_table.specs.Table.{IsTable, is_flushed}
+use Rattle.wp_parts.proofs.FlushedVersions.{in_table}
 
 abbrev Found : Type 0
 Found = Option (Option (List ℕ))
@@ -62,7 +63,7 @@ later_past history flushed key p legal within above =
 
 -- ---- of tables
 
-in_range_only : (flushed : ℕ) (versions : List Version) → list_all (is_version flushed) versions ≡ true → (key : List ℕ) (p : ℕ) → flushed < p → version_at versions key p ≡ None
+in_range_only : (flushed : ℕ) (versions : List Version) → list_all (is_flushed flushed) versions ≡ true → (key : List ℕ) (p : ℕ) → flushed < p → version_at versions key p ≡ None
 in_range_only flushed [] all key p above = refl
 in_range_only flushed (v ∷ versions) all key p above =
     let rest = in_range_only flushed versions (grind arith) key p above in
@@ -79,4 +80,4 @@ pub tables_none : (id flushed : ℕ) (parts : List (List Version)) → AllByRecu
 tables_none id flushed [] all key p above = refl
 tables_none id flushed (versions ∷ parts) all key p above =
     let rest = tables_none id flushed parts all.1 key p above in
-    rw (in_range_only flushed versions all.0.in_range key p above, rest) refl
+    rw (in_range_only flushed versions (in_table id flushed versions all.0) key p above, rest) refl

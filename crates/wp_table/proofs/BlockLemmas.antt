@@ -11,6 +11,7 @@ use Rattle.wp_model.specs.Versions.{AreInOrder}
 use Rattle.wp_fields.specs.Reading.{◌>>=◌, number_at}
 use Rattle.wp_fields.proofs.Results.{bind_ok, ok_is}
 use Rattle.wp_fields.proofs.FieldLemmas.{AreBytes, Begins, Begins-then, number_takes, number_again, fields_16}
+use Rattle.wp_fields.specs.declared.format.Format.{Format}
 use Rattle.wp_table.specs.declared.layout.TheConstants.{BLOCK}
 use Rattle.wp_table.specs.declared.error.TableError.{TableError}
 use Rattle.wp_table.specs.declared.error.TableError.TheVariants.{Short, Count}
@@ -58,25 +59,25 @@ one_block block more left counted others =
 
 -- ---- one block
 
-pub block_takes : (count flushed : ℕ) (before : List Version) (bytes : List ℕ) (x : List Version × List ℕ) → AreBytes bytes → block_after count flushed before bytes ≡ Ok x
-    → (middle : List ℕ) × Begins bytes (to_be_bytes w16 count) middle × TakesVersions count flushed before middle x
+pub block_takes : (format : Format) (count flushed : ℕ) (before : List Version) (bytes : List ℕ) (x : List Version × List ℕ) → AreBytes bytes → block_after format count flushed before bytes ≡ Ok x
+    → (middle : List ℕ) × Begins bytes (to_be_bytes w16 count) middle × TakesVersions format count flushed before middle x
 unfolding block_after
-block_takes count flushed before bytes x h e =
-    let s = bind_ok (number_at Short w16 bytes) (λ found. if_right (eqb found.0 count) Count found.1 >>= versions_after count flushed before) x e in
-    let t = bind_ok (if_right (eqb s.0.0 count) Count s.0.1) (versions_after count flushed before) x s.2 in
+block_takes format count flushed before bytes x h e =
+    let s = bind_ok (number_at Short w16 bytes) (λ found. if_right (eqb found.0 count) Count found.1 >>= versions_after format count flushed before) x e in
+    let t = bind_ok (if_right (eqb s.0.0 count) Count s.0.1) (versions_after format count flushed before) x s.2 in
     let right = was_right (eqb s.0.0 count) Count s.0.1 t.0 t.1 in
     let number = (number_takes Short w16 (2 ^ 16) fields_16 bytes s.0 h s.1).0 in
     let counted : Begins bytes (to_be_bytes w16 count) s.0.1 = subst (λ (n : ℕ). Begins bytes (to_be_bytes w16 n) s.0.1) (eqb-true s.0.0 count right.0) number in
     let middle : Begins bytes (to_be_bytes w16 count) t.0 = subst (Begins bytes (to_be_bytes w16 count)) right.1 counted in
-    (t.0, middle, versions_take count flushed before t.0 x middle.rest_bytes t.2)
+    (t.0, middle, versions_take format count flushed before t.0 x middle.rest_bytes t.2)
 
-pub block_again : (block : List Version) (flushed : ℕ) (before : List Version) (rest : List ℕ) → length block < 2 ^ 16 → AreInOrder (before ++ block) → list_all (is_version flushed) block ≡ true → block_after (length block) flushed before (block_bytes block ++ rest) ≡ Ok (before ++ block, rest)
+pub block_again : (format : Format) (block : List Version) (flushed : ℕ) (before : List Version) (rest : List ℕ) → length block < 2 ^ 16 → AreInOrder (before ++ block) → list_all (is_version format flushed) block ≡ true → block_after format (length block) flushed before (block_bytes format block ++ rest) ≡ Ok (before ++ block, rest)
 unfolding block_after
-block_again block flushed before rest small order range =
+block_again format block flushed before rest small order range =
     let count = to_be_bytes w16 (length block) in
-    let regrouped : block_bytes block ++ rest ≡ count ++ (flat_map version_bytes block ++ rest) = append_assoc count (flat_map version_bytes block) rest in
-    ap (block_after (length block) flushed before) regrouped
-    ∙ rw (number_again Short w16 (2 ^ 16) fields_16 (length block) (flat_map version_bytes block ++ rest) small, eq-eqb (length block) (length block) refl) (versions_again block flushed before rest order range)
+    let regrouped : block_bytes format block ++ rest ≡ count ++ (flat_map (version_bytes format) block ++ rest) = append_assoc count (flat_map (version_bytes format) block) rest in
+    ap (block_after format (length block) flushed before) regrouped
+    ∙ rw (number_again Short w16 (2 ^ 16) fields_16 (length block) (flat_map (version_bytes format) block ++ rest) small, eq-eqb (length block) (length block) refl) (versions_again format block flushed before rest order range)
 
 -- ---- all blocks
 
@@ -84,24 +85,24 @@ abbrev pub Found : Type 0
 Found = (List Version × List ℕ) × List ℕ
 
 -- so many blocks more were read
-pub record TakesBlocks (blocks size flushed left : ℕ) (before : List Version) (places bytes : List ℕ) (x : Found) : Type 0 where
+pub record TakesBlocks (format : Format) (blocks size flushed left : ℕ) (before : List Version) (places bytes : List ℕ) (x : Found) : Type 0 where
   pub more : List Version
   pub appended : x.0.0 ≡ before ++ more
   pub counted : length more ≡ left
-  pub parts : Begins bytes (flat_map block_bytes (blocks_in blocks more)) x.1
-  pub placed : x.0.1 ≡ places ++ places_from (size - length bytes) (blocks_in blocks more)
-  pub in_range : list_all (is_version flushed) more ≡ true
+  pub parts : Begins bytes (flat_map (block_bytes format) (blocks_in blocks more)) x.1
+  pub placed : x.0.1 ≡ places ++ places_from format (size - length bytes) (blocks_in blocks more)
+  pub in_range : list_all (is_version format flushed) more ≡ true
   pub in_order : AreInOrder before → AreInOrder x.0.0
 
-abbrev others_after : ℕ → ℕ → ℕ → ℕ → List ℕ → List Version × List ℕ → Result Found TableError
-others_after blocks size flushed left places block = blocks_after blocks size flushed left block.0 places block.1
+abbrev others_after : Format → ℕ → ℕ → ℕ → ℕ → List ℕ → List Version × List ℕ → Result Found TableError
+others_after format blocks size flushed left places block = blocks_after format blocks size flushed left block.0 places block.1
 
-pub blocks_take : (blocks size flushed left : ℕ) (before : List Version) (places bytes : List ℕ) (x : Found) → blocks ≡ block_count left → length bytes ≤ size → AreBytes bytes
-    → blocks_after blocks size flushed left before places bytes ≡ Ok x → TakesBlocks blocks size flushed left before places bytes x
+pub blocks_take : (format : Format) (blocks size flushed left : ℕ) (before : List Version) (places bytes : List ℕ) (x : Found) → blocks ≡ block_count left → length bytes ≤ size → AreBytes bytes
+    → blocks_after format blocks size flushed left before places bytes ≡ Ok x → TakesBlocks format blocks size flushed left before places bytes x
 unfolding blocks_after
-blocks_take zero size flushed left before places bytes x is long h e =
+blocks_take format zero size flushed left before places bytes x is long h e =
     let last : Found = ((before, places ++ (size - length bytes) ∷ []), bytes) in
-    let all : TakesBlocks 0 size flushed left before places bytes last = record {
+    let all : TakesBlocks format 0 size flushed left before places bytes last = record {
       more = [];
       appended = sym (append-nil before);
       counted = sym (no_blocks left is);
@@ -111,43 +112,43 @@ blocks_take zero size flushed left before places bytes x is long h e =
       in_order = λ order. order;
     } in
     rw (← ok_is {E = TableError} last x e) all
-blocks_take (suc blocks) size flushed left before places bytes x is long h e =
+blocks_take format (suc blocks) size flushed left before places bytes x is long h e =
     let here = size - length bytes in
-    let s = bind_ok (block_after (min left BLOCK) flushed before bytes) (others_after blocks size flushed (left - min left BLOCK) (places ++ here ∷ [])) x e in
-    let block = block_takes (min left BLOCK) flushed before bytes s.0 h s.1 in
+    let s = bind_ok (block_after format (min left BLOCK) flushed before bytes) (others_after format blocks size flushed (left - min left BLOCK) (places ++ here ∷ [])) x e in
+    let block = block_takes format (min left BLOCK) flushed before bytes s.0 h s.1 in
     let versions = block.2 in
     let count : Begins bytes (to_be_bytes w16 (length versions.more)) block.0 = subst (λ (n : ℕ). Begins bytes (to_be_bytes w16 n) block.0) (sym versions.counted) block.1 in
-    let whole : Begins bytes (block_bytes versions.more) s.0.1 = Begins-then bytes (to_be_bytes w16 (length versions.more)) block.0 (flat_map version_bytes versions.more) s.0.1 count versions.parts in
-    let lengths : length bytes ≡ length (block_bytes versions.more) + length s.0.1 = ap length whole.parts ∙ length-append (block_bytes versions.more) s.0.1 in
-    let rest = blocks_take blocks size flushed (left - min left BLOCK) s.0.0 (places ++ here ∷ []) s.0.1 x (blocks_left left blocks is) (omega (arith, lengths)) whole.rest_bytes s.2 in
+    let whole : Begins bytes (block_bytes format versions.more) s.0.1 = Begins-then bytes (to_be_bytes w16 (length versions.more)) block.0 (flat_map (version_bytes format) versions.more) s.0.1 count versions.parts in
+    let lengths : length bytes ≡ length (block_bytes format versions.more) + length s.0.1 = ap length whole.parts ∙ length-append (block_bytes format versions.more) s.0.1 in
+    let rest = blocks_take format blocks size flushed (left - min left BLOCK) s.0.0 (places ++ here ∷ []) s.0.1 x (blocks_left left blocks is) (omega (arith, lengths)) whole.rest_bytes s.2 in
     let cut = one_block versions.more rest.more left versions.counted rest.counted in
     let split : blocks_in (suc blocks) (versions.more ++ rest.more) ≡ versions.more ∷ blocks_in blocks rest.more = rw (cut.0, cut.1) refl in
     let others = blocks_in blocks rest.more in
-    let next : size - length s.0.1 ≡ here + length (block_bytes versions.more) = omega (arith, lengths) in
-    let placed : x.0.1 ≡ places ++ places_from here (versions.more ∷ others) = rest.placed ∙ append_assoc places (here ∷ []) (places_from (size - length s.0.1) others) ∙ ap (λ (p : ℕ). places ++ here ∷ places_from p others) next in
+    let next : size - length s.0.1 ≡ here + length (block_bytes format versions.more) = omega (arith, lengths) in
+    let placed : x.0.1 ≡ places ++ places_from format here (versions.more ∷ others) = rest.placed ∙ append_assoc places (here ∷ []) (places_from format (size - length s.0.1) others) ∙ ap (λ (p : ℕ). places ++ here ∷ places_from format p others) next in
     record {
       more = versions.more ++ rest.more;
       appended = rest.appended ∙ ap (λ (t : List Version). t ++ rest.more) versions.appended ∙ append_assoc before versions.more rest.more;
       counted = omega (arith, length-append versions.more rest.more, versions.counted, rest.counted);
-      parts = subst (λ (bs : List (List Version)). Begins bytes (flat_map block_bytes bs) x.1) (sym split) (Begins-then bytes (block_bytes versions.more) s.0.1 (flat_map block_bytes others) x.1 whole rest.parts);
-      placed = placed ∙ ap (λ (bs : List (List Version)). places ++ places_from here bs) (sym split);
-      in_range = list_all-append (is_version flushed) versions.more rest.more ∙ and_from _ _ versions.in_range rest.in_range;
+      parts = subst (λ (bs : List (List Version)). Begins bytes (flat_map (block_bytes format) bs) x.1) (sym split) (Begins-then bytes (block_bytes format versions.more) s.0.1 (flat_map (block_bytes format) others) x.1 whole rest.parts);
+      placed = placed ∙ ap (λ (bs : List (List Version)). places ++ places_from format here bs) (sym split);
+      in_range = list_all-append (is_version format flushed) versions.more rest.more ∙ and_from _ _ versions.in_range rest.in_range;
       in_order = λ order. rest.in_order (versions.in_order order);
     }
 
 -- what blocks are read as that are spelled so
-abbrev read_blocks : ℕ → ℕ → List Version → List Version → List ℕ → List ℕ → Found
-read_blocks blocks here more before places rest = ((before ++ more, places ++ places_from here (blocks_in blocks more)), rest)
+abbrev read_blocks : Format → ℕ → ℕ → List Version → List Version → List ℕ → List ℕ → Found
+read_blocks format blocks here more before places rest = ((before ++ more, places ++ places_from format here (blocks_in blocks more)), rest)
 
-pub blocks_again : (blocks size flushed : ℕ) (more before : List Version) (places rest : List ℕ) → blocks ≡ block_count (length more) → length (flat_map block_bytes (blocks_in blocks more) ++ rest) ≤ size
-    → AreInOrder (before ++ more) → list_all (is_version flushed) more ≡ true
-    → blocks_after blocks size flushed (length more) before places (flat_map block_bytes (blocks_in blocks more) ++ rest) ≡ Ok (read_blocks blocks (size - length (flat_map block_bytes (blocks_in blocks more) ++ rest)) more before places rest)
+pub blocks_again : (format : Format) (blocks size flushed : ℕ) (more before : List Version) (places rest : List ℕ) → blocks ≡ block_count (length more) → length (flat_map (block_bytes format) (blocks_in blocks more) ++ rest) ≤ size
+    → AreInOrder (before ++ more) → list_all (is_version format flushed) more ≡ true
+    → blocks_after format blocks size flushed (length more) before places (flat_map (block_bytes format) (blocks_in blocks more) ++ rest) ≡ Ok (read_blocks format blocks (size - length (flat_map (block_bytes format) (blocks_in blocks more) ++ rest)) more before places rest)
 unfolding blocks_after
-blocks_again zero size flushed more before places rest is long order range =
+blocks_again format zero size flushed more before places rest is long order range =
     let none : more ≡ [] = nil_from_length more (no_blocks (length more) is) in
     let same : before ≡ before ++ more = sym (ap (λ (t : List Version). before ++ t) none ∙ append-nil before) in
     ap (λ (all : List Version). Ok ((all, places ++ (size - length rest) ∷ []), rest)) same
-blocks_again (suc blocks) size flushed more before places rest is long order range =
+blocks_again format (suc blocks) size flushed more before places rest is long order range =
     let block = take BLOCK more in
     let others = drop BLOCK more in
     let split : more ≡ block ++ others = sym (take-append-drop BLOCK more) in
@@ -156,46 +157,46 @@ blocks_again (suc blocks) size flushed more before places rest is long order ran
     let left : length others ≡ length more - min (length more) BLOCK = omega (arith, length-drop BLOCK more) in
     let all : (before ++ block) ++ others ≡ before ++ more = append_assoc before block others ∙ ap (λ (t : List Version). before ++ t) (sym split) in
     let whole_order : AreInOrder ((before ++ block) ++ others) = subst AreInOrder (sym all) order in
-    let ranges = and_parts (list_all (is_version flushed) block) (list_all (is_version flushed) others) (sym (list_all-append (is_version flushed) block others) ∙ ap (list_all (is_version flushed)) (sym split) ∙ range) in
-    let text = flat_map block_bytes (blocks_in blocks others) in
-    let here = size - length ((block_bytes block ++ text) ++ rest) in
-    let regrouped : (block_bytes block ++ text) ++ rest ≡ block_bytes block ++ (text ++ rest) = append_assoc (block_bytes block) text rest in
-    let lengths : length ((block_bytes block ++ text) ++ rest) ≡ length (block_bytes block) + length (text ++ rest) = ap length regrouped ∙ length-append (block_bytes block) (text ++ rest) in
-    let one : block_after (min (length more) BLOCK) flushed before ((block_bytes block ++ text) ++ rest) ≡ Ok (before ++ block, text ++ rest) =
-    ap (λ (n : ℕ). block_after n flushed before ((block_bytes block ++ text) ++ rest)) (sym counted) ∙ ap (block_after (length block) flushed before) regrouped
-    ∙ block_again block flushed before (text ++ rest) (omega (arith, counted)) (in_order_front (before ++ block) others whole_order) ranges.0 in
+    let ranges = and_parts (list_all (is_version format flushed) block) (list_all (is_version format flushed) others) (sym (list_all-append (is_version format flushed) block others) ∙ ap (list_all (is_version format flushed)) (sym split) ∙ range) in
+    let text = flat_map (block_bytes format) (blocks_in blocks others) in
+    let here = size - length ((block_bytes format block ++ text) ++ rest) in
+    let regrouped : (block_bytes format block ++ text) ++ rest ≡ block_bytes format block ++ (text ++ rest) = append_assoc (block_bytes format block) text rest in
+    let lengths : length ((block_bytes format block ++ text) ++ rest) ≡ length (block_bytes format block) + length (text ++ rest) = ap length regrouped ∙ length-append (block_bytes format block) (text ++ rest) in
+    let one : block_after format (min (length more) BLOCK) flushed before ((block_bytes format block ++ text) ++ rest) ≡ Ok (before ++ block, text ++ rest) =
+    ap (λ (n : ℕ). block_after format n flushed before ((block_bytes format block ++ text) ++ rest)) (sym counted) ∙ ap (block_after format (length block) flushed before) regrouped
+    ∙ block_again format block flushed before (text ++ rest) (omega (arith, counted)) (in_order_front (before ++ block) others whole_order) ranges.0 in
     let less : blocks ≡ block_count (length others) = blocks_left (length more) blocks is ∙ ap block_count (sym left) in
-    let after = blocks_again blocks size flushed others (before ++ block) (places ++ here ∷ []) rest less (omega (arith, lengths, long)) whole_order ranges.1 in
-    let next : size - length (text ++ rest) ≡ here + length (block_bytes block) = omega (arith, lengths, long) in
-    let placed : (places ++ here ∷ []) ++ places_from (size - length (text ++ rest)) (blocks_in blocks others) ≡ places ++ places_from here (block ∷ blocks_in blocks others) =
-    append_assoc places (here ∷ []) (places_from (size - length (text ++ rest)) (blocks_in blocks others)) ∙ ap (λ (p : ℕ). places ++ here ∷ places_from p (blocks_in blocks others)) next in
-    let same : read_blocks blocks (size - length (text ++ rest)) others (before ++ block) (places ++ here ∷ []) rest ≡ read_blocks (suc blocks) here more before places rest =
-    ap (λ (versions : List Version). ((versions, (places ++ here ∷ []) ++ places_from (size - length (text ++ rest)) (blocks_in blocks others)), rest)) all ∙ ap (λ (ps : List ℕ). ((before ++ more, ps), rest)) placed in
-    let go_on : blocks_after blocks size flushed (length more - min (length more) BLOCK) (before ++ block) (places ++ here ∷ []) (text ++ rest) ≡ Ok (read_blocks blocks (size - length (text ++ rest)) others (before ++ block) (places ++ here ∷ []) rest) =
-    ap (λ (n : ℕ). blocks_after blocks size flushed n (before ++ block) (places ++ here ∷ []) (text ++ rest)) (sym left) ∙ after in
+    let after = blocks_again format blocks size flushed others (before ++ block) (places ++ here ∷ []) rest less (omega (arith, lengths, long)) whole_order ranges.1 in
+    let next : size - length (text ++ rest) ≡ here + length (block_bytes format block) = omega (arith, lengths, long) in
+    let placed : (places ++ here ∷ []) ++ places_from format (size - length (text ++ rest)) (blocks_in blocks others) ≡ places ++ places_from format here (block ∷ blocks_in blocks others) =
+    append_assoc places (here ∷ []) (places_from format (size - length (text ++ rest)) (blocks_in blocks others)) ∙ ap (λ (p : ℕ). places ++ here ∷ places_from format p (blocks_in blocks others)) next in
+    let same : read_blocks format blocks (size - length (text ++ rest)) others (before ++ block) (places ++ here ∷ []) rest ≡ read_blocks format (suc blocks) here more before places rest =
+    ap (λ (versions : List Version). ((versions, (places ++ here ∷ []) ++ places_from format (size - length (text ++ rest)) (blocks_in blocks others)), rest)) all ∙ ap (λ (ps : List ℕ). ((before ++ more, ps), rest)) placed in
+    let go_on : blocks_after format blocks size flushed (length more - min (length more) BLOCK) (before ++ block) (places ++ here ∷ []) (text ++ rest) ≡ Ok (read_blocks format blocks (size - length (text ++ rest)) others (before ++ block) (places ++ here ∷ []) rest) =
+    ap (λ (n : ℕ). blocks_after format blocks size flushed n (before ++ block) (places ++ here ∷ []) (text ++ rest)) (sym left) ∙ after in
     rw one (go_on ∙ ap (λ (found : Found). Ok found) same)
 
 -- ---- how many bytes there are
 
-versions_take_bytes : (versions : List Version) → length versions ≤ length (flat_map version_bytes versions)
-versions_take_bytes [] = omega arith
-versions_take_bytes (v ∷ vs) = omega (arith, versions_take_bytes vs, length-append (version_bytes v) (flat_map version_bytes vs))
+versions_take_bytes : (format : Format) (versions : List Version) → length versions ≤ length (flat_map (version_bytes format) versions)
+versions_take_bytes format [] = omega arith
+versions_take_bytes format (v ∷ vs) = omega (arith, versions_take_bytes format vs, length-append (version_bytes format v) (flat_map (version_bytes format) vs))
 
 -- versions are no more than the bytes of their blocks
-pub blocks_take_bytes : (blocks : ℕ) (versions : List Version) → blocks ≡ block_count (length versions) → length versions ≤ length (flat_map block_bytes (blocks_in blocks versions))
-blocks_take_bytes zero versions is = omega (arith, no_blocks (length versions) is)
-blocks_take_bytes (suc blocks) versions is =
+pub blocks_take_bytes : (format : Format) (blocks : ℕ) (versions : List Version) → blocks ≡ block_count (length versions) → length versions ≤ length (flat_map (block_bytes format) (blocks_in blocks versions))
+blocks_take_bytes format zero versions is = omega (arith, no_blocks (length versions) is)
+blocks_take_bytes format (suc blocks) versions is =
     let block = take BLOCK versions in
     let others = drop BLOCK versions in
     let left : length others ≡ length versions - min (length versions) BLOCK = omega (arith, length-drop BLOCK versions) in
     let less : blocks ≡ block_count (length others) = blocks_left (length versions) blocks is ∙ ap block_count (sym left) in
-    let text = flat_map block_bytes (blocks_in blocks others) in
+    let text = flat_map (block_bytes format) (blocks_in blocks others) in
     omega (
       arith,
-      blocks_take_bytes blocks others less,
+      blocks_take_bytes format blocks others less,
       length-drop BLOCK versions,
       length-take BLOCK versions,
-      versions_take_bytes block,
-      length-append (to_be_bytes w16 (length block)) (flat_map version_bytes block),
-      length-append (block_bytes block) text,
+      versions_take_bytes format block,
+      length-append (to_be_bytes w16 (length block)) (flat_map (version_bytes format) block),
+      length-append (block_bytes format block) text,
     )

@@ -1,13 +1,15 @@
 -- Faults of a table's fields: what is refused has the fault, and what has a fault is refused for it.
-use Rattle.std.proofs.Common.{◌≡◌, ℕ, zero, suc, ◌^◌, Bool, true, false, leb, ◌&&◌, List, [], ◌∷◌, ◌++◌, Some, None, Result, Ok, Err, refl, sym, ap, ◌∙◌, append_assoc, inl, inr}
-use Rattle.std.specs.Int.{Width, w32, to_be_bytes}
+use Rattle.std.proofs.Common.{◌≡◌, ℕ, zero, suc, Bool, true, false, leb, ◌&&◌, List, [], ◌∷◌, ◌++◌, Some, None, Result, Ok, Err, refl, sym, ap, ◌∙◌, append_assoc, inl, inr}
+use Rattle.std.specs.Int.{Width, to_be_bytes}
 use Rattle.wp_model.specs.declared.version.Version.{Version}
 use Rattle.wp_fields.specs.Reading.{◌>>=◌, map_err, number_at}
 use Rattle.wp_fields.proofs.Results.{bind_err, ok_or_err, err_is, map_failed, map_ok}
-use Rattle.wp_fields.proofs.FieldLemmas.{AreBytes, Begins-byte, AreFields, number_takes, number_fails, number_again, number_short, fields_32}
+use Rattle.wp_fields.proofs.FieldLemmas.{AreBytes, Begins-byte, AreFields, number_takes, number_fails, number_again, number_short, fields_of}
 use Rattle.wp_encoding.specs.Encoding.{word_bytes}
 use Rattle.wp_encoding.specs.Reading.{word_field_at, value_field_at}
 use Rattle.wp_encoding.proofs.WordLemmas.{word_takes, word_again, word_fails, word_refused, value_fails, value_refused}
+use Rattle.wp_fields.specs.declared.format.Format.{Format}
+use Rattle.wp_fields.specs.Format.{number_width, number_end}
 use Rattle.wp_table.specs.declared.error.TableError.{TableError}
 use Rattle.wp_table.specs.declared.error.TableError.TheVariants.{Short, Number, Order, Word}
 use Rattle.wp_table.specs.Errors.{table_error}
@@ -65,56 +67,56 @@ stored_refused (zero ∷ bytes) fault is = absurd is
 stored_refused (suc zero ∷ bytes) fault (field, wrong, is) = rw (value_refused bytes field wrong, is) refl
 stored_refused (suc (suc n) ∷ bytes) fault is = rw is refl
 
-place_again : (flushed : ℕ) (before : List Version) (bytes : List ℕ) (v : Version) (rest : List ℕ) → HasPlace flushed bytes v rest → is_after_last before v ≡ true → next_place_at flushed (last_of before) bytes ≡ Ok (record { key = v.key; number = v.number; value = None }, rest)
+place_again : (format : Format) (flushed : ℕ) (before : List Version) (bytes : List ℕ) (v : Version) (rest : List ℕ) → HasPlace format flushed bytes v rest → is_after_last before v ≡ true → next_place_at format flushed (last_of before) bytes ≡ Ok (record { key = v.key; number = v.number; value = None }, rest)
 unfolding next_place_at
-place_again flushed before bytes v rest has after =
+place_again format flushed before bytes v rest has after =
     let same : is_after_last before (record { key = v.key; number = v.number; value = None }) ≡ true = after-any_value (last_of before) v.key v.number None v.value ∙ after in
-    ap (next_place_at flushed (last_of before)) has.parts ∙ rw (word_again 64 v.key (to_be_bytes w32 v.number ++ rest) has.word, flushed_number_again flushed v.number rest has.numbered has.flushed_number, same) refl
+    ap (next_place_at format flushed (last_of before)) has.parts ∙ rw (word_again 64 v.key (to_be_bytes (number_width format) v.number ++ rest) has.word, flushed_number_again format flushed v.number rest has.numbered has.flushed_number, same) refl
 
-place_fails : (flushed : ℕ) (before : List Version) (bytes : List ℕ) (fault : TableError) → AreBytes bytes → next_place_at flushed (last_of before) bytes ≡ Err fault → IsVersionFault flushed before bytes fault
+place_fails : (format : Format) (flushed : ℕ) (before : List Version) (bytes : List ℕ) (fault : TableError) → AreBytes bytes → next_place_at format flushed (last_of before) bytes ≡ Err fault → IsVersionFault format flushed before bytes fault
 unfolding next_place_at flushed_number_at
-place_fails flushed before bytes fault h e =
-    elim (bind_err (map_err table_error (word_field_at 64 bytes)) (λ key. flushed_number_at flushed key.1 >>= place_after (last_of before) key.0) fault e) [
+place_fails format flushed before bytes fault h e =
+    elim (bind_err (map_err table_error (word_field_at 64 bytes)) (λ key. flushed_number_at format flushed key.1 >>= place_after (last_of before) key.0) fault e) [
       | inl wrong ↦
           let field = map_failed table_error (word_field_at 64 bytes) fault wrong in
           in_key field.0 (word_fails 64 bytes field.0 field.1) (sym field.2)
       | inr there ↦
           let word = word_takes 64 bytes there.0 h (map_ok table_error (word_field_at 64 bytes) there.0 there.1) in
-          elim (bind_err (flushed_number_at flushed there.0.1) (place_after (last_of before) there.0.0) fault there.2) [
+          elim (bind_err (flushed_number_at format flushed there.0.1) (place_after (last_of before) there.0.0) fault there.2) [
             | inl wrong ↦
                 in_number there.0.0 there.0.1 (record { parts = word.0.parts; in_range = word.1 })
-                (tested_fails w32 (2 ^ 32) fields_32 (λ n. leb 1 n && leb n flushed) (λ _. Number) (λ n. n) there.0.1 fault word.0.rest_bytes wrong)
+                (tested_fails (number_width format) (number_end format) (fields_of format) (λ n. leb 1 n && leb n flushed) (λ _. Number) (λ n. n) there.0.1 fault word.0.rest_bytes wrong)
             | inr read ↦
-                let n = flushed_number_takes flushed there.0.1 read.0 word.0.rest_bytes read.1 in
+                let n = flushed_number_takes format flushed there.0.1 read.0 word.0.rest_bytes read.1 in
                 let v : Version = record { key = there.0.0; number = read.0.0; value = None } in
                 let wrong = was_wrong (is_after_last before v) Order fault (v, read.0.1) read.2 in
-                let parts : bytes ≡ word_bytes there.0.0 ++ (to_be_bytes w32 read.0.0 ++ read.0.1) = word.0.parts ∙ ap (λ (t : List ℕ). word_bytes there.0.0 ++ t) n.parts.parts in
+                let parts : bytes ≡ word_bytes there.0.0 ++ (to_be_bytes (number_width format) read.0.0 ++ read.0.1) = word.0.parts ∙ ap (λ (t : List ℕ). word_bytes there.0.0 ++ t) n.parts.parts in
                 out_of_order v read.0.1 (record { parts = parts; word = word.1; numbered = n.numbered; flushed_number = n.is_in }) wrong.0 (sym wrong.1)
           ]
     ]
 
-pub version_fails : (flushed : ℕ) (before : List Version) (bytes : List ℕ) (fault : TableError) → AreBytes bytes → next_version_at flushed (last_of before) bytes ≡ Err fault → IsVersionFault flushed before bytes fault
+pub version_fails : (format : Format) (flushed : ℕ) (before : List Version) (bytes : List ℕ) (fault : TableError) → AreBytes bytes → next_version_at format flushed (last_of before) bytes ≡ Err fault → IsVersionFault format flushed before bytes fault
 unfolding next_version_at
-version_fails flushed before bytes fault h e =
-    elim (bind_err (next_place_at flushed (last_of before) bytes) (λ place. stored_at place.1 >>= with_value place.0) fault e) [
-      | inl wrong ↦ place_fails flushed before bytes fault h wrong
+version_fails format flushed before bytes fault h e =
+    elim (bind_err (next_place_at format flushed (last_of before) bytes) (λ place. stored_at place.1 >>= with_value place.0) fault e) [
+      | inl wrong ↦ place_fails format flushed before bytes fault h wrong
       | inr there ↦
-          let place = place_takes flushed (last_of before) bytes there.0 h there.1 in
+          let place = place_takes format flushed (last_of before) bytes there.0 h there.1 in
           let v = there.0.0 in
-          let parts : bytes ≡ word_bytes v.key ++ (to_be_bytes w32 v.number ++ there.0.1) = place.parts.parts ∙ append_assoc (word_bytes v.key) (to_be_bytes w32 v.number) there.0.1 in
-          let has : HasPlace flushed bytes v there.0.1 = record { parts = parts; word = place.word; numbered = place.numbered; flushed_number = place.is_in } in
+          let parts : bytes ≡ word_bytes v.key ++ (to_be_bytes (number_width format) v.number ++ there.0.1) = place.parts.parts ∙ append_assoc (word_bytes v.key) (to_be_bytes (number_width format) v.number) there.0.1 in
+          let has : HasPlace format flushed bytes v there.0.1 = record { parts = parts; word = place.word; numbered = place.numbered; flushed_number = place.is_in } in
           elim (bind_err (stored_at there.0.1) (with_value v) fault there.2) [
             | inl wrong ↦ in_value v there.0.1 has (after-any_value (last_of before) v.key v.number v.value None ∙ place.after) (stored_fails there.0.1 fault place.parts.rest_bytes wrong)
             | inr read ↦ let whole : Version = record { key = v.key; number = v.number; value = read.0.0 } in absurd (ok_or_err (whole, read.0.1) fault read.2)
           ]
     ]
 
-pub version_refused : (flushed : ℕ) (before : List Version) (bytes : List ℕ) (fault : TableError) → IsVersionFault flushed before bytes fault → next_version_at flushed (last_of before) bytes ≡ Err fault
+pub version_refused : (format : Format) (flushed : ℕ) (before : List Version) (bytes : List ℕ) (fault : TableError) → IsVersionFault format flushed before bytes fault → next_version_at format flushed (last_of before) bytes ≡ Err fault
 unfolding next_version_at next_place_at flushed_number_at
-version_refused flushed before bytes fault (in_key field wrong is) = rw (word_refused 64 bytes field wrong, is) refl
-version_refused flushed before bytes fault (in_number word rest has wrong) =
-    ap (next_version_at flushed (last_of before)) has.parts ∙ rw (word_again 64 word rest has.in_range, tested_refused w32 (2 ^ 32) fields_32 (λ n. leb 1 n && leb n flushed) (λ _. Number) (λ n. n) rest fault wrong) refl
-version_refused flushed before bytes fault (out_of_order v rest has after is) =
+version_refused format flushed before bytes fault (in_key field wrong is) = rw (word_refused 64 bytes field wrong, is) refl
+version_refused format flushed before bytes fault (in_number word rest has wrong) =
+    ap (next_version_at format flushed (last_of before)) has.parts ∙ rw (word_again 64 word rest has.in_range, tested_refused (number_width format) (number_end format) (fields_of format) (λ n. leb 1 n && leb n flushed) (λ _. Number) (λ n. n) rest fault wrong) refl
+version_refused format flushed before bytes fault (out_of_order v rest has after is) =
     let same : is_after_last before (record { key = v.key; number = v.number; value = None }) ≡ false = after-any_value (last_of before) v.key v.number None v.value ∙ after in
-    ap (next_version_at flushed (last_of before)) has.parts ∙ rw (word_again 64 v.key (to_be_bytes w32 v.number ++ rest) has.word, flushed_number_again flushed v.number rest has.numbered has.flushed_number, same, is) refl
-version_refused flushed before bytes fault (in_value v rest has after wrong) = rw (place_again flushed before bytes v rest has after, stored_refused rest fault wrong) refl
+    ap (next_version_at format flushed (last_of before)) has.parts ∙ rw (word_again 64 v.key (to_be_bytes (number_width format) v.number ++ rest) has.word, flushed_number_again format flushed v.number rest has.numbered has.flushed_number, same, is) refl
+version_refused format flushed before bytes fault (in_value v rest has after wrong) = rw (place_again format flushed before bytes v rest has after, stored_refused rest fault wrong) refl

@@ -3,6 +3,7 @@ use Rattle.std.proofs.Common.{◌≡◌, ℕ, suc, ◌-◌, ◌+◌, ◌≤◌, 
 use Rattle.std.proofs.lemmas.List.{drop_all}
 use Rattle.wp_model.specs.declared.version.Version.{Version}
 use Rattle.wp_fields.specs.Reading.{◌>>=◌, Fails}
+use Rattle.wp_fields.specs.declared.format.Format.{Format}
 use Rattle.wp_table.specs.declared.layout.TheConstants.{BLOCK}
 use Rattle.wp_table.specs.declared.error.TableError.{TableError}
 use Rattle.wp_table.specs.declared.error.TableError.TheVariants.{Memory, Short, Head, Stranger, Count, Word, Number, Order, Index, Extra}
@@ -28,50 +29,50 @@ fails_as_well Extra read total f on = on f
 abbrev Last : Type 0
 Last = Result (Option Version × List ℕ) TableError
 
-one_version : (count i flushed : ℕ) (last : Option Version) (bytes : List ℕ) → i < count → last_after (count - i) flushed last bytes ≡ next_version_at flushed last bytes >>= λ x. last_after (count - (i + 1)) flushed (Some x.0) x.1
+one_version : (format : Format) (count i flushed : ℕ) (last : Option Version) (bytes : List ℕ) → i < count → last_after format (count - i) flushed last bytes ≡ next_version_at format flushed last bytes >>= λ x. last_after format (count - (i + 1)) flushed (Some x.0) x.1
 unfolding last_after
-one_version count i flushed last bytes lt = let k : count - i ≡ suc (count - (i + 1)) = omega arith in rw k refl
+one_version format count i flushed last bytes lt = let k : count - i ≡ suc (count - (i + 1)) = omega arith in rw k refl
 
-pub version_read : (count i flushed : ℕ) (last : Option Version) (bytes : List ℕ) (version : Version) (rest : List ℕ) (total : Last) → i < count → next_version_at flushed last bytes ≡ Ok (version, rest)
-    → last_after (count - i) flushed last bytes ≡ total → last_after (count - (i + 1)) flushed (Some version) rest ≡ total
-version_read count i flushed last bytes version rest total lt read so_far =
-    let step : last_after (count - i) flushed last bytes ≡ last_after (count - (i + 1)) flushed (Some version) rest = one_version count i flushed last bytes lt ∙ rw read refl in
+pub version_read : (format : Format) (count i flushed : ℕ) (last : Option Version) (bytes : List ℕ) (version : Version) (rest : List ℕ) (total : Last) → i < count → next_version_at format flushed last bytes ≡ Ok (version, rest)
+    → last_after format (count - i) flushed last bytes ≡ total → last_after format (count - (i + 1)) flushed (Some version) rest ≡ total
+version_read format count i flushed last bytes version rest total lt read so_far =
+    let step : last_after format (count - i) flushed last bytes ≡ last_after format (count - (i + 1)) flushed (Some version) rest = one_version format count i flushed last bytes lt ∙ rw read refl in
     sym step ∙ so_far
 
-pub version_fails : (count i flushed : ℕ) (last : Option Version) (bytes : List ℕ) (error : TableError) (total : Last) → i < count → Fails table_fault error (next_version_at flushed last bytes)
-    → last_after (count - i) flushed last bytes ≡ total → Fails table_fault error total
-version_fails count i flushed last bytes error total lt read so_far =
-    fails_as_well error (next_version_at flushed last bytes) total read (λ e. sym so_far ∙ one_version count i flushed last bytes lt ∙ rw e refl)
+pub version_fails : (format : Format) (count i flushed : ℕ) (last : Option Version) (bytes : List ℕ) (error : TableError) (total : Last) → i < count → Fails table_fault error (next_version_at format flushed last bytes)
+    → last_after format (count - i) flushed last bytes ≡ total → Fails table_fault error total
+version_fails format count i flushed last bytes error total lt read so_far =
+    fails_as_well error (next_version_at format flushed last bytes) total read (λ e. sym so_far ∙ one_version format count i flushed last bytes lt ∙ rw e refl)
 
-pub versions_read : (count i flushed : ℕ) (last : Option Version) (bytes : List ℕ) (total : Last) → count ≤ i → last_after (count - i) flushed last bytes ≡ total → total ≡ Ok (last, bytes)
+pub versions_read : (format : Format) (count i flushed : ℕ) (last : Option Version) (bytes : List ℕ) (total : Last) → count ≤ i → last_after format (count - i) flushed last bytes ≡ total → total ≡ Ok (last, bytes)
 unfolding last_after
-versions_read count i flushed last bytes total le so_far = let k : count - i ≡ 0 = omega arith in sym so_far ∙ rw k refl
+versions_read format count i flushed last bytes total le so_far = let k : count - i ≡ 0 = omega arith in sym so_far ∙ rw k refl
 
 -- ---- blocks
 
 abbrev Places : Type 0
 Places = Result (List ℕ × List ℕ) TableError
 
-one_block : (count i size flushed left : ℕ) (last : Option Version) (places bytes : List ℕ) → i < count
-    → places_after (count - i) size flushed left last places bytes ≡ last_of_block (min left BLOCK) flushed last bytes >>= λ x. places_after (count - (i + 1)) size flushed (left - min left BLOCK) x.0 (places ++ (size - length bytes) ∷ []) x.1
+one_block : (format : Format) (count i size flushed left : ℕ) (last : Option Version) (places bytes : List ℕ) → i < count
+    → places_after format (count - i) size flushed left last places bytes ≡ last_of_block format (min left BLOCK) flushed last bytes >>= λ x. places_after format (count - (i + 1)) size flushed (left - min left BLOCK) x.0 (places ++ (size - length bytes) ∷ []) x.1
 unfolding places_after
-one_block count i size flushed left last places bytes lt = let k : count - i ≡ suc (count - (i + 1)) = omega arith in rw k refl
+one_block format count i size flushed left last places bytes lt = let k : count - i ≡ suc (count - (i + 1)) = omega arith in rw k refl
 
-pub block_read : (count i size flushed left : ℕ) (last : Option Version) (places bytes : List ℕ) (found : Option Version × List ℕ) (total : Places) → i < count → last_of_block (min left BLOCK) flushed last bytes ≡ Ok found
-    → places_after (count - i) size flushed left last places bytes ≡ total → places_after (count - (i + 1)) size flushed (left - min left BLOCK) found.0 (places ++ (size - length bytes) ∷ []) found.1 ≡ total
-block_read count i size flushed left last places bytes found total lt read so_far =
-    let step : places_after (count - i) size flushed left last places bytes ≡ places_after (count - (i + 1)) size flushed (left - min left BLOCK) found.0 (places ++ (size - length bytes) ∷ []) found.1 =
-    one_block count i size flushed left last places bytes lt ∙ rw read refl in
+pub block_read : (format : Format) (count i size flushed left : ℕ) (last : Option Version) (places bytes : List ℕ) (found : Option Version × List ℕ) (total : Places) → i < count → last_of_block format (min left BLOCK) flushed last bytes ≡ Ok found
+    → places_after format (count - i) size flushed left last places bytes ≡ total → places_after format (count - (i + 1)) size flushed (left - min left BLOCK) found.0 (places ++ (size - length bytes) ∷ []) found.1 ≡ total
+block_read format count i size flushed left last places bytes found total lt read so_far =
+    let step : places_after format (count - i) size flushed left last places bytes ≡ places_after format (count - (i + 1)) size flushed (left - min left BLOCK) found.0 (places ++ (size - length bytes) ∷ []) found.1 =
+    one_block format count i size flushed left last places bytes lt ∙ rw read refl in
     sym step ∙ so_far
 
-pub block_fails : (count i size flushed left : ℕ) (last : Option Version) (places bytes : List ℕ) (error : TableError) (total : Places) → i < count → Fails table_fault error (last_of_block (min left BLOCK) flushed last bytes)
-    → places_after (count - i) size flushed left last places bytes ≡ total → Fails table_fault error total
-block_fails count i size flushed left last places bytes error total lt read so_far =
-    fails_as_well error (last_of_block (min left BLOCK) flushed last bytes) total read (λ e. sym so_far ∙ one_block count i size flushed left last places bytes lt ∙ rw e refl)
+pub block_fails : (format : Format) (count i size flushed left : ℕ) (last : Option Version) (places bytes : List ℕ) (error : TableError) (total : Places) → i < count → Fails table_fault error (last_of_block format (min left BLOCK) flushed last bytes)
+    → places_after format (count - i) size flushed left last places bytes ≡ total → Fails table_fault error total
+block_fails format count i size flushed left last places bytes error total lt read so_far =
+    fails_as_well error (last_of_block format (min left BLOCK) flushed last bytes) total read (λ e. sym so_far ∙ one_block format count i size flushed left last places bytes lt ∙ rw e refl)
 
-pub blocks_read : (count i size flushed left : ℕ) (last : Option Version) (places bytes : List ℕ) (total : Places) → count ≤ i → places_after (count - i) size flushed left last places bytes ≡ total → total ≡ Ok (places, bytes)
+pub blocks_read : (format : Format) (count i size flushed left : ℕ) (last : Option Version) (places bytes : List ℕ) (total : Places) → count ≤ i → places_after format (count - i) size flushed left last places bytes ≡ total → total ≡ Ok (places, bytes)
 unfolding places_after
-blocks_read count i size flushed left last places bytes total le so_far = let k : count - i ≡ 0 = omega arith in sym so_far ∙ rw k refl
+blocks_read format count i size flushed left last places bytes total le so_far = let k : count - i ≡ 0 = omega arith in sym so_far ∙ rw k refl
 
 -- ---- places
 

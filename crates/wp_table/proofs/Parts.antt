@@ -1,10 +1,7 @@
--- Parts of a table that hold for every field: tests, numbers of eight bytes, lists of tests.
-use Rattle.std.proofs.Common.{◌≡◌, ◌^◌, Bool, true, false, ◌&&◌, List, [], ◌∷◌, filter, Ok, refl, arith}
-use Rattle.std.specs.Int.{w64}
+-- Parts of a table that hold for every field: tests, lists of tests.
+use Rattle.std.proofs.Common.{◌≡◌, Bool, true, false, ◌&&◌, List, [], ◌∷◌, filter, Ok, refl}
 use Rattle.std.specs.List.{list_all}
 use Rattle.std.proofs.lemmas.Bool.{and_parts, and_from, cond_both}
-use Rattle.std.proofs.lemmas.Nat.{be_bytes_8, from_be_bytes-to_be_bytes_8}
-use Rattle.wp_fields.proofs.FieldLemmas.{AreFields}
 use Rattle.wp_fields.proofs.Results.{ok_is}
 use Rattle.wp_table.specs.declared.error.TableError.{TableError}
 use Rattle.wp_table.specs.Reading.{if_right}
@@ -13,14 +10,6 @@ use Rattle.wp_table.specs.Reading.{if_right}
 pub was_right : {X : Type 0} (right : Bool) (fault : TableError) (read x : X) → if_right right fault read ≡ Ok x → (right ≡ true) × (read ≡ x)
 was_right true fault read x e = (refl, ok_is {E = TableError} read x e)
 was_right false fault read x e = absurd cc
-
-pub fields_64 : AreFields w64 (2 ^ 64)
-fields_64 = record {
-  len = λ n. refl;
-  spelled = λ bytes len h. be_bytes_8 bytes _ len h refl;
-  read = λ n lt. from_be_bytes-to_be_bytes_8 n lt;
-  below = λ bytes h. omega (arith, h 0, h 1, h 2, h 3, h 4, h 5, h 6, h 7);
-}
 
 pub list_all-both : {X : Type 0} (p q : X → Bool) (xs : List X) → list_all p xs ≡ true → list_all q xs ≡ true → list_all (λ x. p x && q x) xs ≡ true
 list_all-both p q [] h k = refl

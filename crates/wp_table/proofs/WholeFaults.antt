@@ -1,28 +1,30 @@
 -- Faults of a head and of a whole table: what is refused has the fault, and what has a fault is refused for it.
-use Rattle.std.proofs.Common.{◌≡◌, ℕ, ◌^◌, ◌<◌, ◌≤◌, true, false, eqb, leb, List, [], ◌∷◌, ◌++◌, length, take, Result, Ok, Err, refl, sym, ap, subst, ◌∙◌, arith, inl, inr, ◌⊎◌}
+use Rattle.std.proofs.Common.{◌≡◌, ℕ, ◌^◌, ◌<◌, ◌≤◌, true, false, eqb, leb, List, [], ◌∷◌, ◌++◌, length, take, Option, Some, None, Result, Ok, Err, refl, sym, ap, subst, ◌∙◌, arith, inl, inr, ◌⊎◌}
 use Rattle.std.specs.Prelude.{codes, IfErr, IfSome}
 use Rattle.std.specs.Int.{w32, w64, to_be_bytes}
 use Rattle.std.specs.List.{AllByRecursion, flat_map}
 use Rattle.std.specs.Str.{bytes_eq}
-use Rattle.std.proofs.lemmas.Bool.{eqb-false, eq-eqb, ne_eqb, leb-true, le-leb}
+use Rattle.std.proofs.lemmas.Bool.{eq-eqb, ne_eqb, leb-true, le-leb}
 use Rattle.wp_model.specs.declared.version.Version.{Version}
+use Rattle.wp_fields.specs.declared.format.Format.{Format}
+use Rattle.wp_fields.specs.Format.{format_of}
 use Rattle.wp_fields.specs.Reading.{◌>>=◌, byte_at, number_at, piece_at, Gives}
-use Rattle.wp_fields.proofs.Results.{bind_err, either}
-use Rattle.wp_fields.proofs.FieldLemmas.{AreBytes, Begins, Begins-piece, byte_takes, byte_fails, piece_takes, piece_fails, piece_there, piece_short, number_takes, number_fails, number_again, number_short, fields_32}
+use Rattle.wp_fields.proofs.Results.{bind_err, either, err_is, ok_or_err}
+use Rattle.wp_fields.proofs.FieldLemmas.{AreBytes, Begins, Begins-piece, byte_takes, byte_fails, piece_takes, piece_fails, piece_there, piece_short, number_takes, number_fails, number_again, number_short, fields_32, fields_64}
 use Rattle.wp_table.specs.declared.error.TableError.{TableError}
 use Rattle.wp_table.specs.declared.error.TableError.TheVariants.{Memory, Short, Head, Stranger, Count, Word, Number, Order, Index, Extra}
 use Rattle.wp_table.specs.Errors.{table_fault}
-use Rattle.wp_table.specs.Table.{block_count, blocks_of, places_from, table_bytes, IsTable}
-use Rattle.wp_table.specs.Reading.{if_right, after_magic, after_id, count_at, head_at, blocks_after, after_places, table_at}
+use Rattle.wp_table.specs.Table.{block_count, blocks_of, places_from, table_bytes, SpellsTable}
+use Rattle.wp_table.specs.Reading.{if_right, named_format, format_at, after_id, count_at, head_at, blocks_after, after_places, table_at}
 use Rattle.wp_table.specs.Faults.{IsNumberFault, ends, is_wrong, magic_bytes, IsMagicFault, IsHeadFault, in_magic, in_id, in_version_count, in_block_count, FitsField, IsTableFault, in_head, in_blocks, in_places, behind}
-use Rattle.wp_table.proofs.Parts.{was_right, fields_64}
+use Rattle.wp_table.proofs.Parts.{was_right}
 use Rattle.wp_table.proofs.FieldFaults.{was_wrong, tested_fails, tested_refused}
 use Rattle.wp_table.proofs.TableFaults.{all_blocks_fail, all_blocks_refused, places_fail, places_refused}
-use Rattle.wp_table.proofs.Whole.{same_bytes, format_after, magic_takes, magic_again, id_takes, blocks_counted, head_takes, head_again, places_take, at_end, places_to_end, blocks_to_end, index_bytes, blocks_read_there, table_before, blocks_there, table_there, table_takes}
+use Rattle.wp_table.proofs.Whole.{same_bytes, format_after, with_format, magic_takes, magic_again, id_takes, blocks_counted, head_takes, head_again, places_take, at_end, places_to_end, blocks_to_end, index_bytes, blocks_read_there, table_before, blocks_there, table_there, table_takes}
 
 -- ---- the magic
 
-abbrev format_read : List ℕ → Result (List ℕ) TableError
+abbrev format_read : List ℕ → Result (Format × List ℕ) TableError
 format_read rest = byte_at Short rest >>= format_after
 
 absurd_test : true ≡ false → ⊥
@@ -38,8 +40,12 @@ not_magic bytes differ =
       | inr other ↦ other
     ]
 
-magic_fails : (bytes : List ℕ) (fault : TableError) → AreBytes bytes → after_magic bytes ≡ Err fault → IsMagicFault bytes fault
-unfolding after_magic
+named_fails : (named : Option Format) (bytes : List ℕ) (fault : TableError) → named_format named bytes ≡ Err fault → (named ≡ None) × (Head ≡ fault)
+named_fails None bytes fault e = (refl, err_is {A = Format × List ℕ} Head fault e)
+named_fails (Some format) bytes fault e = absurd (ok_or_err (format, bytes) fault e)
+
+magic_fails : (bytes : List ℕ) (fault : TableError) → AreBytes bytes → format_at bytes ≡ Err fault → IsMagicFault bytes fault
+unfolding format_at
 magic_fails bytes fault h e =
     let named : (other : TableError) → other ≡ fault → IsMagicFault bytes other → IsMagicFault bytes fault = λ other same is. subst (IsMagicFault bytes) same is in
     elim (bind_err (piece_at Short 4 bytes) (λ magic. if_right (bytes_eq magic.0 (codes "WPTB")) Head magic.1 >>= format_read) fault e) [
@@ -59,18 +65,18 @@ magic_fails bytes fault h e =
                   | inl short ↦ let byte = byte_fails Short read.0 fault short in named Short byte.1 (inr (magic.parts ∙ ap (λ (t : List ℕ). codes "WPTB" ++ t) byte.0))
                   | inr format ↦
                       let byte = byte_takes Short read.0 format.0 magic.rest_bytes format.1 in
-                      let wrong = was_wrong (eqb format.0.0 1) Head fault format.0.1 format.2 in
-                      named Head wrong.1 (inr (format.0.0, format.0.1, magic.parts ∙ ap (λ (t : List ℕ). codes "WPTB" ++ t) byte.parts, eqb-false format.0.0 1 wrong.0))
+                      let wrong = named_fails (format_of format.0.0) format.0.1 fault format.2 in
+                      named Head wrong.1 (inr (format.0.0, format.0.1, magic.parts ∙ ap (λ (t : List ℕ). codes "WPTB" ++ t) byte.parts, wrong.0))
                 ]
           ]
     ]
 
-magic_refused : (bytes : List ℕ) (fault : TableError) → IsMagicFault bytes fault → after_magic bytes ≡ Err fault
-unfolding after_magic
+magic_refused : (bytes : List ℕ) (fault : TableError) → IsMagicFault bytes fault → format_at bytes ≡ Err fault
+unfolding format_at
 magic_refused bytes Short (inl short) = rw (piece_short Short 4 bytes short) refl
 magic_refused bytes Short (inr is) = rw is refl
 magic_refused bytes Head (inl (long, differ)) = rw (piece_there Short 4 bytes long, not_magic (take 4 bytes) differ) refl
-magic_refused bytes Head (inr (format, rest, parts, differ)) = ap after_magic parts ∙ rw (piece_there Short 4 (codes "WPTB" ++ (format ∷ rest)) (omega arith), ne_eqb format 1 differ) refl
+magic_refused bytes Head (inr (byte, rest, parts, unnamed)) = ap format_at parts ∙ rw (piece_there Short 4 (codes "WPTB" ++ (byte ∷ rest)) (omega arith), unnamed) refl
 magic_refused bytes Memory is = absurd is
 magic_refused bytes (Stranger id) is = absurd is
 magic_refused bytes Count is = absurd is
@@ -122,21 +128,26 @@ id_again : (id : ℕ) (rest : List ℕ) → id < 2 ^ 32 → after_id id (to_be_b
 unfolding after_id
 id_again id rest fits = rw (number_again Short w32 (2 ^ 32) fields_32 id rest fits, eq-eqb id id refl) refl
 
+count_failed : (format : Format) (read : Result (ℕ × List ℕ) TableError) (fault : TableError) → (read >>= with_format format) ≡ Err fault → read ≡ Err fault
+count_failed format (Ok count) fault e = absurd (ok_or_err ((format, count.0), count.1) fault e)
+count_failed format (Err other) fault e = ap (λ (d : TableError). Err d) (err_is {A = (Format × ℕ) × List ℕ} other fault e)
+
 head_fails : (id : ℕ) (bytes : List ℕ) (fault : TableError) → AreBytes bytes → head_at id bytes ≡ Err fault → IsHeadFault id bytes fault
 unfolding head_at after_id
 head_fails id bytes fault h e =
-    elim (bind_err (after_magic bytes) (λ rest. after_id id rest >>= count_at) fault e) [
+    elim (bind_err (format_at bytes) (λ format. after_id id format.1 >>= λ rest. count_at rest >>= with_format format.0) fault e) [
       | inl wrong ↦ in_magic (magic_fails bytes fault h wrong)
       | inr there ↦
+          let format = there.0.0 in
           let magic = magic_takes bytes there.0 h there.1 in
-          elim (bind_err (after_id id there.0) count_at fault there.2) [
-            | inl wrong ↦ in_id there.0 magic.parts (tested_fails w32 (2 ^ 32) fields_32 (λ found. eqb found id) Stranger (λ found. found.1) there.0 fault magic.rest_bytes wrong)
+          elim (bind_err (after_id id there.0.1) (λ rest. count_at rest >>= with_format format) fault there.2) [
+            | inl wrong ↦ in_id format there.0.1 magic.parts (tested_fails w32 (2 ^ 32) fields_32 (λ found. eqb found id) Stranger (λ found. found.1) there.0.1 fault magic.rest_bytes wrong)
             | inr read ↦
-                let store = id_takes id there.0 read.0 magic.rest_bytes read.1 in
-                let parts : bytes ≡ magic_bytes ++ (to_be_bytes w32 id ++ read.0) = magic.parts ∙ ap (λ (t : List ℕ). magic_bytes ++ t) store.0.parts in
-                elim (count_fails read.0 fault store.0.rest_bytes read.2) [
-                  | inl wrong ↦ in_version_count read.0 parts store.1 wrong
-                  | inr (count, rest, is, some, fits, wrong) ↦ in_block_count count rest (parts ∙ ap (λ (t : List ℕ). magic_bytes ++ (to_be_bytes w32 id ++ t)) is) store.1 some fits wrong
+                let store = id_takes id there.0.1 read.0 magic.rest_bytes read.1 in
+                let parts : bytes ≡ magic_bytes format ++ (to_be_bytes w32 id ++ read.0) = magic.parts ∙ ap (λ (t : List ℕ). magic_bytes format ++ t) store.0.parts in
+                elim (count_fails read.0 fault store.0.rest_bytes (count_failed format (count_at read.0) fault read.2)) [
+                  | inl wrong ↦ in_version_count format read.0 parts store.1 wrong
+                  | inr (count, rest, is, some, fits, wrong) ↦ in_block_count format count rest (parts ∙ ap (λ (t : List ℕ). magic_bytes format ++ (to_be_bytes w32 id ++ t)) is) store.1 some fits wrong
                 ]
           ]
     ]
@@ -144,12 +155,12 @@ head_fails id bytes fault h e =
 head_refused : (id : ℕ) (bytes : List ℕ) (fault : TableError) → IsHeadFault id bytes fault → head_at id bytes ≡ Err fault
 unfolding head_at after_id
 head_refused id bytes fault (in_magic wrong) = rw (magic_refused bytes fault wrong) refl
-head_refused id bytes fault (in_id rest parts wrong) =
-    ap (head_at id) parts ∙ rw (magic_again rest, tested_refused w32 (2 ^ 32) fields_32 (λ found. eqb found id) Stranger (λ found. found.1) rest fault wrong) refl
-head_refused id bytes fault (in_version_count rest parts fits wrong) =
-    ap (head_at id) parts ∙ rw (magic_again (to_be_bytes w32 id ++ rest), id_again id rest fits) (count_refused rest fault wrong)
-head_refused id bytes fault (in_block_count count rest parts id_fits some fits wrong) =
-    ap (head_at id) parts ∙ rw (magic_again (to_be_bytes w32 id ++ (to_be_bytes w64 count ++ rest)), id_again id (to_be_bytes w64 count ++ rest) id_fits) (blocks_refused count rest fault some fits wrong)
+head_refused id bytes fault (in_id format rest parts wrong) =
+    ap (head_at id) parts ∙ rw (magic_again format rest, tested_refused w32 (2 ^ 32) fields_32 (λ found. eqb found id) Stranger (λ found. found.1) rest fault wrong) refl
+head_refused id bytes fault (in_version_count format rest parts fits wrong) =
+    ap (head_at id) parts ∙ rw (magic_again format (to_be_bytes w32 id ++ rest), id_again id rest fits, count_refused rest fault wrong) refl
+head_refused id bytes fault (in_block_count format count rest parts id_fits some fits wrong) =
+    ap (head_at id) parts ∙ rw (magic_again format (to_be_bytes w32 id ++ (to_be_bytes w64 count ++ rest)), id_again id (to_be_bytes w64 count ++ rest) id_fits, blocks_refused count rest fault some fits wrong) refl
 
 -- ---- all of the bytes
 
@@ -164,21 +175,21 @@ table_fails id flushed bytes fault h e =
       | inl wrong ↦ in_head (head_fails id bytes fault h wrong)
       | inr c ↦
           let head = head_takes id bytes c.0 h c.1 in
-          elim (bind_err (blocks_after (block_count c.0.0) (length bytes) flushed c.0.0 [] [] c.0.1) places_to_end fault c.2) [
+          elim (bind_err (blocks_after c.0.0.0 (block_count c.0.0.1) (length bytes) flushed c.0.0.1 [] [] c.0.1) places_to_end fault c.2) [
             | inl wrong ↦
-                in_blocks c.0.0 c.0.1 (record { parts = head.parts.parts; id_fits = head.id_fits; some = head.some; count_fits = head.count_fits })
-                (all_blocks_fail c.0.0 (length bytes) flushed c.0.1 fault head.parts.rest_bytes wrong)
+                in_blocks c.0.0.0 c.0.0.1 c.0.1 (record { parts = head.parts.parts; id_fits = head.id_fits; some = head.some; count_fits = head.count_fits })
+                (all_blocks_fail c.0.0.0 c.0.0.1 (length bytes) flushed c.0.1 fault head.parts.rest_bytes wrong)
             | inr b ↦
                 let blocks = blocks_read_there id flushed bytes c.0 b.0 h c.1 b.1 in
                 elim (bind_err (after_places b.0.0.1 b.0.1) (at_end b.0) fault b.2) [
-                  | inl wrong ↦ in_places b.0.0.0 b.0.1 blocks.has (places_fail (places_from 25 (blocks_of b.0.0.0)) b.0.1 fault blocks.rest_bytes (ap (λ (ps : List ℕ). after_places ps b.0.1) (sym blocks.placed) ∙ wrong))
+                  | inl wrong ↦ in_places c.0.0.0 b.0.0.0 b.0.1 blocks.has (places_fail (places_from c.0.0.0 25 (blocks_of b.0.0.0)) b.0.1 fault blocks.rest_bytes (ap (λ (ps : List ℕ). after_places ps b.0.1) (sym blocks.placed) ∙ wrong))
                   | inr p ↦
                       let wrong = was_wrong (eqb (length p.0) 0) Extra fault b.0.0.0 p.2 in
                       let index = places_take b.0.0.1 b.0.1 p.0 blocks.rest_bytes p.1 in
-                      let last : b.0.1 ≡ index_bytes b.0.0.0 ++ p.0 = index.0.parts ∙ ap (λ (ps : List ℕ). flat_map (to_be_bytes w64) ps ++ p.0) blocks.placed in
-                      let table = table_before id flushed b.0.0.0 bytes b.0.1 p.0 blocks.has last (subst (AllByRecursion FitsField) blocks.placed index.1) in
+                      let last : b.0.1 ≡ index_bytes c.0.0.0 b.0.0.0 ++ p.0 = index.0.parts ∙ ap (λ (ps : List ℕ). flat_map (to_be_bytes w64) ps ++ p.0) blocks.placed in
+                      let table = table_before c.0.0.0 id flushed b.0.0.0 bytes b.0.1 p.0 blocks.has last (subst (AllByRecursion FitsField) blocks.placed index.1) in
                       let more = more_bytes p.0 wrong.0 in
-                      behind b.0.0.0 more.0 more.1 table.0 (table.1 ∙ ap (λ (t : List ℕ). table_bytes id b.0.0.0 ++ t) more.2) (sym wrong.1)
+                      behind c.0.0.0 b.0.0.0 more.0 more.1 table.0 (table.1 ∙ ap (λ (t : List ℕ). table_bytes c.0.0.0 id b.0.0.0 ++ t) more.2) (sym wrong.1)
                 ]
           ]
     ]
@@ -186,21 +197,21 @@ table_fails id flushed bytes fault h e =
 pub table_refused : (id flushed : ℕ) (bytes : List ℕ) (fault : TableError) → IsTableFault id flushed bytes fault → table_at id flushed bytes ≡ Err fault
 unfolding table_at
 table_refused id flushed bytes fault (in_head wrong) = rw (head_refused id bytes fault wrong) refl
-table_refused id flushed bytes fault (in_blocks count rest has wrong) =
-    let head : head_at id bytes ≡ Ok (count, rest) = ap (head_at id) has.parts ∙ head_again id count rest has.id_fits has.some has.count_fits in
-    rw (head, all_blocks_refused count (length bytes) flushed rest fault wrong) refl
-table_refused id flushed bytes fault (in_places versions rest has wrong) =
-    blocks_there id flushed versions bytes rest has ∙ rw (places_refused (places_from 25 (blocks_of versions)) rest fault wrong) refl
-table_refused id flushed bytes fault (behind versions byte rest table parts is) =
+table_refused id flushed bytes fault (in_blocks format count rest has wrong) =
+    let head : head_at id bytes ≡ Ok ((format, count), rest) = ap (head_at id) has.parts ∙ head_again format id count rest has.id_fits has.some has.count_fits in
+    rw (head, all_blocks_refused format count (length bytes) flushed rest fault wrong) refl
+table_refused id flushed bytes fault (in_places format versions rest has wrong) =
+    blocks_there format id flushed versions bytes rest has ∙ rw (places_refused (places_from format 25 (blocks_of versions)) rest fault wrong) refl
+table_refused id flushed bytes fault (behind format versions byte rest table parts is) =
     let more : eqb (length (byte ∷ rest)) 0 ≡ false = ne_eqb _ _ (λ none. omega arith) in
-    ap (table_at id flushed) parts ∙ table_there id flushed versions (byte ∷ rest) table ∙ rw (more, is) refl
+    ap (table_at id flushed) parts ∙ table_there format id flushed versions (byte ∷ rest) table ∙ rw (more, is) refl
 
 -- each list of bytes is a table, or has a first fault
 abbrev pub Reading : ℕ → ℕ → List ℕ → Type 0
-Reading id flushed bytes = ((versions : List Version) × IsTable id flushed versions × (bytes ≡ table_bytes id versions)) ⊎ ((fault : TableError) × IsTableFault id flushed bytes fault)
+Reading id flushed bytes = ((versions : List Version) × SpellsTable id flushed versions bytes) ⊎ ((fault : TableError) × IsTableFault id flushed bytes fault)
 
 reading_of : (id flushed : ℕ) (bytes : List ℕ) (read : Result (List Version) TableError) → AreBytes bytes → table_at id flushed bytes ≡ read → Reading id flushed bytes
-reading_of id flushed bytes (Ok versions) h e = let found = table_takes id flushed bytes versions h e in inl (versions, found.0, found.1)
+reading_of id flushed bytes (Ok versions) h e = inl (versions, table_takes id flushed bytes versions h e)
 reading_of id flushed bytes (Err fault) h e = inr (fault, table_fails id flushed bytes fault h e)
 
 pub table_or_fault : (id flushed : ℕ) (bytes : List ℕ) → AreBytes bytes → Reading id flushed bytes

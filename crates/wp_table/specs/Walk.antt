@@ -1,14 +1,16 @@
 -- The versions that the bytes of a table have, read again without looking for faults.
 use Rattle.std.specs.Prelude.{◌≡◌, ℕ, zero, suc, ◌-◌, ◌≤◌, ◌<◌, ◌*◌, List, [], ◌∷◌, ◌++◌, length, drop, filter, false, Option, Some, None, Result, Ok, Err}
-use Rattle.std.specs.Int.{w16, w32}
+use Rattle.std.specs.Int.{w16}
 use Rattle.std.specs.Str.{bytes_eq}
 use Rattle.wp_model.specs.declared.version.Version.{Version}
 use Rattle.wp_fields.specs.Reading.{◌>>=◌, byte_at, number_at, piece_at}
+use Rattle.wp_fields.specs.declared.format.Format.{Format}
+use Rattle.wp_fields.specs.Format.{number_width}
 use Rattle.wp_table.specs.declared.layout.TheConstants.{BLOCK}
 use Rattle.wp_table.specs.declared.error.TableError.{TableError}
 use Rattle.wp_table.specs.declared.error.TableError.TheVariants.{Short}
 use Rattle.wp_table.specs.Borrowed.{begins_below}
-use Rattle.wp_table.specs.Table.{block_count, blocks_of, places_from, table_bytes, IsTable}
+use Rattle.wp_table.specs.Table.{block_count, blocks_of, places_from, table_bytes, IsTableIn}
 
 -- ---- one version
 
@@ -29,21 +31,21 @@ stored_in (suc n ∷ bytes) = do
   value ← value_in bytes
   Ok (Some value.0, value.1)
 
-unfoldable pub version_in : List ℕ → Result (Version × List ℕ) TableError
-version_in bytes = do
+unfoldable pub version_in : Format → List ℕ → Result (Version × List ℕ) TableError
+version_in format bytes = do
   key ← word_in bytes
-  number ← number_at Short w32 key.1
+  number ← number_at Short (number_width format) key.1
   value ← stored_in number.1
   Ok (record { key = key.0; number = number.0; value = value.0 }, value.1)
 
 -- ---- all versions
 
 -- the next version, where so many come before the count of the next block
-unfoldable pub next_in : ℕ → List ℕ → Result (Version × List ℕ) TableError
-next_in zero bytes = do
+unfoldable pub next_in : Format → ℕ → List ℕ → Result (Version × List ℕ) TableError
+next_in format zero bytes = do
   count ← number_at Short w16 bytes
-  version_in count.1
-next_in (suc in_block) bytes = version_in bytes
+  version_in format count.1
+next_in format (suc in_block) bytes = version_in format bytes
 
 -- how many come before the count of the next block, behind one version more
 abbrev pub one_less : ℕ → ℕ
@@ -56,26 +58,26 @@ with_rest rest (Ok read) = read.0 ∷ rest read.1
 with_rest rest (Err fault) = []
 
 -- the versions that the bytes have, `left` of them at most
-unfoldable pub versions_in : ℕ → ℕ → List ℕ → List Version
-versions_in zero in_block bytes = []
-versions_in (suc left) in_block bytes = with_rest (versions_in left (one_less in_block)) (next_in in_block bytes)
+unfoldable pub versions_in : Format → ℕ → ℕ → List ℕ → List Version
+versions_in format zero in_block bytes = []
+versions_in format (suc left) in_block bytes = with_rest (versions_in format left (one_less in_block)) (next_in format in_block bytes)
 
 -- the versions of a table of so many
-abbrev pub stored_versions : List ℕ → ℕ → List Version
-stored_versions bytes count = versions_in count 0 (drop 25 bytes)
+abbrev pub stored_versions : Format → List ℕ → ℕ → List Version
+stored_versions format bytes count = versions_in format count 0 (drop 25 bytes)
 
 -- ---- a table with its index
 
--- the bytes are a table of so many versions, and these are the places where its blocks begin
-pub record IsIndexed (bytes : List ℕ) (count : ℕ) (places : List ℕ) : Type 0 where
+-- the bytes are a table of so many versions in this version of the format, and these are the places where its blocks begin
+pub record IsIndexed (format : Format) (bytes : List ℕ) (count : ℕ) (places : List ℕ) : Type 0 where
   pub id : ℕ
   pub flushed : ℕ
   pub versions : List Version
   pub end : ℕ
-  pub is : IsTable id flushed versions
-  pub parts : bytes ≡ table_bytes id versions
+  pub is : IsTableIn format id flushed versions
+  pub parts : bytes ≡ table_bytes format id versions
   pub counted : count ≡ length versions
-  pub placed : places ++ end ∷ [] ≡ places_from 25 (blocks_of versions)
+  pub placed : places ++ end ∷ [] ≡ places_from format 25 (blocks_of versions)
 
 -- a table that was built: its bytes, and the versions that they have
 pub record BuiltTable : Type 0 where

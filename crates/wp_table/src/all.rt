@@ -11,7 +11,7 @@ use crate::error::TableError;
 use crate::layout::{BLOCK, DELETION};
 use crate::version::VersionRef;
 use std::marker::Model;
-use wp_fields::Fields;
+use wp_fields::{Fields, Format};
 
 #[tactic(auto, unfolding(crate::specs::Walk::word_in))]
 fn word<'a>(fields: &mut Fields<'a>) -> Result<&'a [u8], TableError>
@@ -40,26 +40,30 @@ fn stored<'a>(fields: &mut Fields<'a>) -> Result<Option<&'a [u8]>, TableError>
 }
 
 #[tactic(auto, unfolding(crate::specs::Walk::version_in))]
-fn version<'a>(fields: &mut Fields<'a>) -> Result<VersionRef<'a>, TableError>
-    ensures { Gives (λ fault. Some fault) (λ version. (seen version, fields.new)) result (version_in fields.old) }
+fn version<'a>(fields: &mut Fields<'a>, format: Format) -> Result<VersionRef<'a>, TableError>
+    ensures { Gives (λ fault. Some fault) (λ version. (seen version, fields.new)) result (version_in format fields.old) }
 {
     let key = word(fields)?;
-    let number = u64::from(fields.u32().ok_or(TableError::Short)?);
+    let number = fields.number(format).ok_or(TableError::Short)?;
     let value = stored(fields)?;
     Ok(VersionRef { key, number, value })
 }
 
 /// The next version, where so many come before the count of the next block.
 #[tactic(auto, unfolding(crate::specs::Walk::next_in))]
-fn next<'a>(fields: &mut Fields<'a>, in_block: u64) -> Result<VersionRef<'a>, TableError>
-    ensures { Gives (λ fault. Some fault) (λ version. (seen version, fields.new)) result (next_in in_block fields.old) }
+fn next<'a>(
+    fields: &mut Fields<'a>,
+    format: Format,
+    in_block: u64,
+) -> Result<VersionRef<'a>, TableError>
+    ensures { Gives (λ fault. Some fault) (λ version. (seen version, fields.new)) result (next_in format in_block fields.old) }
 {
     match in_block {
         0 => {
             fields.u16().ok_or(TableError::Short)?;
-            version(fields)
+            version(fields, format)
         }
-        _ => version(fields),
+        _ => version(fields, format),
     }
 }
 
@@ -76,15 +80,16 @@ fn one_less(in_block: u64) -> u64
 /// Takes the next of the versions that are left, where so many come before the count of the next block.
 fn take_next<'a>(
     fields: &mut Fields<'a>,
+    format: Format,
     left: &mut u64,
     in_block: &mut u64,
 ) -> Option<VersionRef<'a>>
-    ensures { MatchOption result ((versions_in left.old in_block.old fields.old ≡ []) × (versions_in left.new in_block.new fields.new ≡ [])) (λ version. versions_in left.old in_block.old fields.old ≡ seen version ∷ versions_in left.new in_block.new fields.new) }
+    ensures { MatchOption result ((versions_in format left.old in_block.old fields.old ≡ []) × (versions_in format left.new in_block.new fields.new ≡ [])) (λ version. versions_in format left.old in_block.old fields.old ≡ seen version ∷ versions_in format left.new in_block.new fields.new) }
 {
     if *left == 0 {
         return None;
     }
-    match next(fields, *in_block) {
+    match next(fields, format, *in_block) {
         Ok(version) => {
             *left -= 1;
             *in_block = one_less(*in_block);
@@ -102,6 +107,7 @@ fn take_next<'a>(
 #[derive(Drop)]
 pub struct All<'a> {
     fields: Fields<'a>,
+    format: Format,
     /// How many versions are left.
     left: u64,
     /// How many of them come before the count of the next block.
@@ -115,18 +121,19 @@ impl<'a> Model for All<'a> {
 
     ghost Value = { List Version };
 
-    ghost view = { λ a. versions_in a.left a.in_block a.fields };
+    ghost view = { λ a. versions_in a.format a.left a.in_block a.fields };
 }
 
 impl<'a> All<'a> {
     /// The versions from the block on that begins at that place, `left` of them at most.
-    pub(crate) fn at(bytes: &'a [u8], place: u64, left: u64) -> All<'a>
+    pub(crate) fn at(bytes: &'a [u8], format: Format, place: u64, left: u64) -> All<'a>
         requires { place ≤ length bytes.now }
-        ensures { result ≡ versions_in left 0 (drop place bytes.now) }
+        ensures { result ≡ versions_in format left 0 (drop place bytes.now) }
     {
         let (_, rest) = bytes.split_at(place as usize);
         All {
             fields: Fields::of(rest),
+            format,
             left,
             in_block: 0,
         }
@@ -148,6 +155,11 @@ impl<'a> Iterator for All<'a> {
     ghost remaining = { item_count (λ a. a) };
 
     fn next(&mut self) -> Option<VersionRef<'a>> {
-        take_next(&mut self.fields, &mut self.left, &mut self.in_block)
+        take_next(
+            &mut self.fields,
+            self.format,
+            &mut self.left,
+            &mut self.in_block,
+        )
     }
 }

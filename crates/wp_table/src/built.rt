@@ -1,11 +1,13 @@
 ghost use Rattle.std.specs.Prelude.{◌≡◌};
+ghost use Rattle.wp_fields.specs.declared.format.Format.TheVariants.{Two};
 ghost use Rattle.wp_table.specs.Walk.{stored_versions, IsIndexed};
 
 use crate::table::Table;
 use std::marker::Model;
+use wp_fields::Format;
 
-/// A table as it was built, for a device and then for readers: the bytes, and eight more for each block. Clauses see the
-/// bytes and the versions that they have.
+/// A table as it was built, in the second version of the format, for a device and then for readers: the bytes, and eight
+/// more for each block. Clauses see the bytes and the versions that they have.
 #[derive(Drop)]
 pub struct Built {
     bytes: Vec<u8>,
@@ -16,19 +18,20 @@ pub struct Built {
 }
 
 impl Model for Built {
+    ghost use Rattle.wp_fields.specs.declared.format.Format.TheVariants.{Two};
     ghost use Rattle.wp_table.specs.Walk.{BuiltTable, stored_versions, IsIndexed};
 
     ghost Value = { BuiltTable };
 
-    ghost view = { λ b. record { bytes = b.bytes.items; versions = stored_versions b.bytes.items b.count } };
+    ghost view = { λ b. record { bytes = b.bytes.items; versions = stored_versions Two b.bytes.items b.count } };
 
-    ghost invariant = { λ b. IsIndexed b.bytes.items b.count b.index.items };
+    ghost invariant = { λ b. IsIndexed Two b.bytes.items b.count b.index.items };
 }
 
 impl Built {
     pub(crate) fn of(bytes: Vec<u8>, count: u64, index: Vec<u64>) -> Built
-        requires { IsIndexed bytes.items count index.items }
-        ensures { result ≡ record { bytes = bytes.items; versions = stored_versions bytes.items count } }
+        requires { IsIndexed Two bytes.items count index.items }
+        ensures { result ≡ record { bytes = bytes.items; versions = stored_versions Two bytes.items count } }
     {
         Built {
             bytes,
@@ -53,6 +56,6 @@ impl Built {
             count,
             index,
         } = self;
-        Table::new(bytes, count, index)
+        Table::new(bytes, Format::Two, count, index)
     }
 }

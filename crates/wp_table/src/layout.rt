@@ -6,9 +6,6 @@ ghost use Rattle.wp_table.specs.Table.{block_count};
 /// The first bytes of each table.
 pub const MAGIC: [u8; 4] = *b"WPTB";
 
-/// The number of the table format.
-pub const FORMAT: u8 = 1;
-
 /// How many bytes the head has, behind which the first block begins.
 pub const HEAD: u64 = 25;
 

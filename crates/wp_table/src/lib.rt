@@ -1,9 +1,10 @@
 //! The tables: sorted lists of versions as bytes, written once and never changed.
 //!
 //! A table is a head, blocks of sixteen versions, an index with the place of each block, and the place of the index.
-//! Each list of versions has one spelling. `build` gives it, with the table that it is, and `Table::of` takes nothing
-//! else: it names the first fault from the left. Above, a table is its list of versions. It keeps its bytes and the
-//! places of its blocks, and is searched there: what it gives is borrowed from the bytes.
+//! Each list of versions has one spelling in each of the two versions of the format, which differ in how wide the numbers
+//! of entries are. `build` gives the second, with the table that it is. `Table::of` takes either and nothing else: it names
+//! the first fault from the left. Above, a table is its list of versions. It keeps its bytes and the places of its blocks,
+//! and is searched there: what it gives is borrowed from the bytes.
 #![tactic(auto)]
 
 mod all;

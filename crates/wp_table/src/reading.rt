@@ -6,32 +6,30 @@ ghost use Rattle.wp_table.specs.declared.error.TableError.{TableError};
 ghost use Rattle.wp_table.specs.Borrowed.{seen};
 ghost use Rattle.wp_table.specs.Errors.{table_fault};
 ghost use Rattle.wp_table.specs.Faults.{IsTableFault};
-ghost use Rattle.wp_table.specs.Table.{block_count, table_bytes, IsTable};
-ghost use Rattle.wp_table.specs.Reading.{after_magic, after_id, count_at, head_at, flushed_number_at, stored_at, is_after, next_place_at, next_version_at, after_place, after_places, table_at};
+ghost use Rattle.wp_table.specs.Table.{block_count, SpellsTable};
+ghost use Rattle.wp_table.specs.Reading.{format_at, after_id, count_at, head_at, flushed_number_at, stored_at, is_after, next_place_at, next_version_at, after_place, after_places, table_at};
 ghost use Rattle.wp_table.specs.Judging.{last_after, last_of_block, places_after, table_judged};
 ghost use Rattle.wp_table.specs.Walk.{stored_versions, IsIndexed};
 
 use crate::error::TableError;
-use crate::layout::{BLOCK, DELETION, FORMAT, MAGIC, PUT, blocks_for};
+use crate::layout::{BLOCK, DELETION, MAGIC, PUT, blocks_for};
 use crate::version::VersionRef;
 use std::alloc::Global;
 use wp_encoding::{read_value_bytes, read_word_bytes};
-use wp_fields::Fields;
+use wp_fields::{Fields, Format};
 use wp_model::{MOST_KEY_BYTES, Seq};
 
-#[tactic(auto, unfolding(crate::specs::Reading::after_magic))]
-fn magic(fields: &mut Fields<'_>) -> Result<(), TableError>
-    ensures { Gives table_fault (λ _. fields.new) result (after_magic fields.old) }
+/// The version of the format, after the magic.
+#[tactic(auto, unfolding(crate::specs::Reading::format_at))]
+fn format(fields: &mut Fields<'_>) -> Result<Format, TableError>
+    ensures { Gives table_fault (λ format. (format, fields.new)) result (format_at fields.old) }
 {
     let magic = fields.piece(MAGIC.len()).ok_or(TableError::Short)?;
     if magic != MAGIC.as_slice() {
         return Err(TableError::Head);
     }
-    let format = fields.u8().ok_or(TableError::Short)?;
-    if format != FORMAT {
-        return Err(TableError::Head);
-    }
-    Ok(())
+    let byte = fields.u8().ok_or(TableError::Short)?;
+    Format::of(byte).ok_or(TableError::Head)
 }
 
 #[tactic(auto, unfolding(crate::specs::Reading::after_id))]
@@ -62,19 +60,20 @@ fn count(fields: &mut Fields<'_>) -> Result<u64, TableError>
 }
 
 #[tactic(auto, unfolding(crate::specs::Reading::head_at))]
-fn head(fields: &mut Fields<'_>, id: u32) -> Result<u64, TableError>
-    ensures { Gives table_fault (λ count. (count, fields.new)) result (head_at id fields.old) }
+fn head(fields: &mut Fields<'_>, id: u32) -> Result<(Format, u64), TableError>
+    ensures { Gives table_fault (λ head. (head, fields.new)) result (head_at id fields.old) }
 {
-    magic(fields)?;
+    let format = format(fields)?;
     store_id(fields, id)?;
-    count(fields)
+    let count = count(fields)?;
+    Ok((format, count))
 }
 
 #[tactic(auto, unfolding(crate::specs::Reading::flushed_number_at))]
-fn flushed_number(fields: &mut Fields<'_>, flushed: Seq) -> Result<Seq, TableError>
-    ensures { Gives table_fault (λ number. (number, fields.new)) result (flushed_number_at flushed fields.old) }
+fn flushed_number(fields: &mut Fields<'_>, format: Format, flushed: Seq) -> Result<Seq, TableError>
+    ensures { Gives table_fault (λ number. (number, fields.new)) result (flushed_number_at format flushed fields.old) }
 {
-    let number = u64::from(fields.u32().ok_or(TableError::Short)?);
+    let number = fields.number(format).ok_or(TableError::Short)?;
     if number == 0 || number > flushed {
         return Err(TableError::Number);
     }
@@ -106,13 +105,14 @@ fn is_after(last: Option<VersionRef<'_>>, version: &VersionRef<'_>) -> bool
 #[tactic(auto, unfolding(crate::specs::Reading::next_place_at))]
 fn next_place<'a>(
     fields: &mut Fields<'a>,
+    format: Format,
     flushed: Seq,
     last: Option<VersionRef<'a>>,
 ) -> Result<VersionRef<'a>, TableError>
-    ensures { Gives table_fault (λ version. (seen version, fields.new)) result (next_place_at flushed (option_map seen last.entry) fields.old) }
+    ensures { Gives table_fault (λ version. (seen version, fields.new)) result (next_place_at format flushed (option_map seen last.entry) fields.old) }
 {
     let key = read_word_bytes(fields, MOST_KEY_BYTES)?;
-    let number = flushed_number(fields, flushed)?;
+    let number = flushed_number(fields, format, flushed)?;
     let version = VersionRef {
         key,
         number,
@@ -127,12 +127,13 @@ fn next_place<'a>(
 #[tactic(auto, unfolding(crate::specs::Reading::next_version_at))]
 fn next_version<'a>(
     fields: &mut Fields<'a>,
+    format: Format,
     flushed: Seq,
     last: Option<VersionRef<'a>>,
 ) -> Result<VersionRef<'a>, TableError>
-    ensures { Gives table_fault (λ version. (seen version, fields.new)) result (next_version_at flushed (option_map seen last.entry) fields.old) }
+    ensures { Gives table_fault (λ version. (seen version, fields.new)) result (next_version_at format flushed (option_map seen last.entry) fields.old) }
 {
-    let VersionRef { key, number, .. } = next_place(fields, flushed, last)?;
+    let VersionRef { key, number, .. } = next_place(fields, format, flushed, last)?;
     let value = stored(fields)?;
     Ok(VersionRef { key, number, value })
 }
@@ -140,15 +141,16 @@ fn next_version<'a>(
 /// The last version after so many more.
 fn last_after<'a>(
     fields: &mut Fields<'a>,
+    format: Format,
     count: u64,
     flushed: Seq,
     before: Option<VersionRef<'a>>,
 ) -> Result<Option<VersionRef<'a>>, TableError>
-    ensures { Gives table_fault (λ last. (option_map seen last, fields.new)) result (last_after count flushed (option_map seen before.entry) fields.old) }
+    ensures { Gives table_fault (λ last. (option_map seen last, fields.new)) result (last_after format count flushed (option_map seen before.entry) fields.old) }
 {
     let mut last = before;
     for _ in 0..count {
-        last = Some(next_version(fields, flushed, last)?);
+        last = Some(next_version(fields, format, flushed, last)?);
     }
     Ok(last)
 }
@@ -157,17 +159,18 @@ fn last_after<'a>(
 #[tactic(auto, unfolding(crate::specs::Judging::last_of_block))]
 fn last_of_block<'a>(
     fields: &mut Fields<'a>,
+    format: Format,
     count: u64,
     flushed: Seq,
     last: Option<VersionRef<'a>>,
 ) -> Result<Option<VersionRef<'a>>, TableError>
-    ensures { Gives table_fault (λ last. (option_map seen last, fields.new)) result (last_of_block count flushed (option_map seen last.entry) fields.old) }
+    ensures { Gives table_fault (λ last. (option_map seen last, fields.new)) result (last_of_block format count flushed (option_map seen last.entry) fields.old) }
 {
     let found = u64::from(fields.u16().ok_or(TableError::Short)?);
     if found != count {
         return Err(TableError::Count);
     }
-    last_after(fields, count, flushed, last)
+    last_after(fields, format, count, flushed, last)
 }
 
 /// Where the next field is in a table of `size` bytes.
@@ -182,11 +185,12 @@ fn place_of(fields: &Fields<'_>, size: usize) -> u64
 fn all_blocks(
     alloc: Global,
     fields: &mut Fields<'_>,
+    format: Format,
     size: usize,
     flushed: Seq,
     count: u64,
 ) -> Result<Vec<u64>, TableError>
-    ensures { Gives table_fault (λ places. (places.items, fields.new)) result (places_after (block_count count) size flushed count None [] fields.old) }
+    ensures { Gives table_fault (λ places. (places.items, fields.new)) result (places_after format (block_count count) size flushed count None [] fields.old) }
 {
     let blocks = blocks_for(count);
     let mut places = Vec::with_capacity(alloc, blocks.min((size / 8) as u64) as usize)?;
@@ -195,7 +199,7 @@ fn all_blocks(
     for _ in 0..blocks {
         let in_block = left.min(BLOCK);
         places.push(place_of(fields, size))?;
-        last = last_of_block(fields, in_block, flushed, last)?;
+        last = last_of_block(fields, format, in_block, flushed, last)?;
         left -= in_block;
     }
     Ok(places)
@@ -223,37 +227,42 @@ fn same_places(fields: &mut Fields<'_>, places: &[u64]) -> Result<(), TableError
 }
 
 #[tactic(auto, unfolding(crate::specs::Judging::table_judged))]
-fn table(alloc: Global, bytes: &[u8], id: u32, flushed: Seq) -> Result<(u64, Vec<u64>), TableError>
-    ensures { Gives table_fault (λ read. (read.0, read.1.items)) result (table_judged id flushed bytes.now) }
+fn table(
+    alloc: Global,
+    bytes: &[u8],
+    id: u32,
+    flushed: Seq,
+) -> Result<(Format, u64, Vec<u64>), TableError>
+    ensures { Gives table_fault (λ read. (read.0, read.1, read.2.items)) result (table_judged id flushed bytes.now) }
 {
     let mut fields = Fields::of(bytes);
-    let count = head(&mut fields, id)?;
-    let places = all_blocks(alloc, &mut fields, bytes.len(), flushed, count)?;
+    let (format, count) = head(&mut fields, id)?;
+    let places = all_blocks(alloc, &mut fields, format, bytes.len(), flushed, count)?;
     let end = place_of(&fields, bytes.len());
     same_places(&mut fields, &places)?;
     same_place(&mut fields, end)?;
     if fields.left() != 0 {
         return Err(TableError::Extra);
     }
-    Ok((count, places))
+    Ok((format, count, places))
 }
 
-/// Judges the bytes of a table in one pass, for the first fault from the left: how many versions it has, and the places
-/// where its blocks begin.
+/// Judges the bytes of a table in one pass, for the first fault from the left: the version of its format, how many versions
+/// it has, and the places where its blocks begin.
 pub fn judge(
     alloc: Global,
     bytes: &[u8],
     id: u32,
     flushed: Seq,
-) -> Result<(u64, Vec<u64>), TableError>
-    ensures found { IfOk result (λ read. IsTable id flushed (stored_versions bytes.now read.0) × (bytes.now ≡ table_bytes id (stored_versions bytes.now read.0))) }
-    ensures only { (written : List Version) → IsTable id flushed written → bytes.now ≡ table_bytes id written
-        → Gives table_fault (λ read. stored_versions bytes.now read.0) result (Ok written) }
+) -> Result<(Format, u64, Vec<u64>), TableError>
+    ensures found { IfOk result (λ read. SpellsTable id flushed (stored_versions read.0 bytes.now read.1) bytes.now) }
+    ensures only { (written : List Version) → SpellsTable id flushed written bytes.now
+        → Gives table_fault (λ read. stored_versions read.0 bytes.now read.1) result (Ok written) }
     ensures refused { IfErr result (λ error. IfSome (table_fault error) (λ fault. IsTableFault id flushed bytes.now fault)) }
     ensures each_fault { (fault : TableError) → IsTableFault id flushed bytes.now fault
-        → Gives table_fault (λ read. stored_versions bytes.now read.0) result (Err fault) }
-    ensures exact { Gives table_fault (λ read. stored_versions bytes.now read.0) result (table_at id flushed bytes.now) }
-    ensures indexed { IfOk result (λ read. IsIndexed bytes.now read.0 read.1.items) }
+        → Gives table_fault (λ read. stored_versions read.0 bytes.now read.1) result (Err fault) }
+    ensures exact { Gives table_fault (λ read. stored_versions read.0 bytes.now read.1) result (table_at id flushed bytes.now) }
+    ensures indexed { IfOk result (λ read. IsIndexed read.0 bytes.now read.1 read.2.items) }
 {
     table(alloc, bytes, id, flushed)
 }

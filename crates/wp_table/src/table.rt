@@ -10,7 +10,7 @@ ghost use Rattle.wp_table.specs.Borrowed.{begins_below};
 ghost use Rattle.wp_table.specs.Errors.{table_fault};
 ghost use Rattle.wp_table.specs.Faults.{IsTableFault};
 ghost use Rattle.wp_table.specs.Reading.{table_at};
-ghost use Rattle.wp_table.specs.Table.{block_count, has_words, IsTable, table_bytes};
+ghost use Rattle.wp_table.specs.Table.{block_count, has_words, SpellsTable};
 ghost use Rattle.wp_table.specs.Walk.{stored_versions, IsIndexed, StandsFrom};
 
 use crate::all::All;
@@ -22,12 +22,14 @@ use crate::steps::Steps;
 use std::alloc::Global;
 use std::marker::{Brand, Model};
 use std::sync::ledger::{Blank, Ledger};
+use wp_fields::Format;
 use wp_model::{Key, Seq};
 
 /// A table that was judged or built: its bytes, and eight for each block. Threads may share it.
 #[derive(Drop)]
 pub struct Table {
     bytes: Vec<u8>,
+    format: Format,
     /// How many versions it has.
     count: u64,
     /// Where each block begins.
@@ -41,31 +43,32 @@ impl Model for Table {
 
     ghost Value = { List Version };
 
-    ghost view = { λ t. stored_versions t.bytes.items t.count };
+    ghost view = { λ t. stored_versions t.format t.bytes.items t.count };
 
-    ghost invariant = { λ t. IsIndexed t.bytes.items t.count t.index.items };
+    ghost invariant = { λ t. IsIndexed t.format t.bytes.items t.count t.index.items };
 }
 
 impl Table {
     /// The table of so many versions that the bytes are, whose blocks begin at these places.
-    pub(crate) fn new(bytes: Vec<u8>, count: u64, index: Vec<u64>) -> Table
-        requires { IsIndexed bytes.items count index.items }
-        ensures { result ≡ stored_versions bytes.items count }
+    pub(crate) fn new(bytes: Vec<u8>, format: Format, count: u64, index: Vec<u64>) -> Table
+        requires { IsIndexed format bytes.items count index.items }
+        ensures { result ≡ stored_versions format bytes.items count }
     {
         Table {
             bytes,
+            format,
             count,
             index,
         }
     }
 
-    /// The table that the bytes are, in the store with that id, where the entries up to `flushed` were flushed. It reads
-    /// the bytes once, and makes no list of the versions.
+    /// The table that the bytes are, in the store with that id, where the entries up to `flushed` were flushed, in
+    /// either version of the format. It reads the bytes once, and makes no list of the versions.
     pub fn of(alloc: Global, bytes: Vec<u8>, id: u32, flushed: Seq) -> Result<Table, TableError>
         // What is read is a table, and the bytes are its spelling.
-        ensures found { IfOk result (λ table. IsTable id flushed table × (bytes.items ≡ table_bytes id table)) }
+        ensures found { IfOk result (λ table. SpellsTable id flushed table bytes.items) }
         // What is spelled so is read, unless memory runs out.
-        ensures only { (versions : List Version) → IsTable id flushed versions → bytes.items ≡ table_bytes id versions
+        ensures only { (versions : List Version) → SpellsTable id flushed versions bytes.items
             → Gives table_fault (λ table. table) result (Ok versions) }
         // What is refused has that fault, and what has a fault is refused for it, unless memory runs out.
         ensures refused { IfErr result (λ error. IfSome (table_fault error) (λ fault. IsTableFault id flushed bytes.items fault)) }
@@ -73,9 +76,10 @@ impl Table {
             → Gives table_fault (λ table. table) result (Err fault) }
         ensures exact { Gives table_fault (λ table. table) result (table_at id flushed bytes.items) }
     {
-        let (count, index) = judge(alloc, &bytes, id, flushed)?;
+        let (format, count, index) = judge(alloc, &bytes, id, flushed)?;
         Ok(Table {
             bytes,
+            format,
             count,
             index,
         })
@@ -105,6 +109,7 @@ impl Table {
     {
         All::at(
             &self.bytes,
+            self.format,
             self.index[block],
             self.count - block as u64 * BLOCK,
         )
@@ -194,6 +199,6 @@ impl Table {
         ensures in_range { list_all has_words self.now ≡ true }
         ensures in_order { AreInOrder self.now }
     {
-        All::at(&self.bytes, HEAD, self.count)
+        All::at(&self.bytes, self.format, HEAD, self.count)
     }
 }

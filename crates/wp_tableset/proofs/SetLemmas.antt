@@ -14,7 +14,7 @@ use Rattle.wp_manifest.specs.Manifest.{ManifestState, StoresEdits, InstallRefuse
 use Rattle.wp_manifest.specs.Spelling.{MAGIC, IsManifestOrNext, last_edit}
 use Rattle.wp_manifest.specs.declared.error.InstallError.TheVariants as install
 use Rattle.wp_table.specs.File.{HasTables}
-use Rattle.wp_table.specs.Table.{IsTable, table_bytes}
+use Rattle.wp_table.specs.Table.{SpellsTable, written_bytes}
 use Rattle.wp_tableset.specs.Changes.{placed, NewestIsWritten, NextRefused, Installs, LosesNoTable}
 use Rattle.wp_tableset.specs.Device.{BeginsWith, IsEnd, KeepsFronts, GrowsFrom}
 use Rattle.wp_tableset.specs.Install.{IsReady, InstallsEdit, LeavesNext, Remain}
@@ -82,36 +82,36 @@ module _ (id : ℕ) (last : Edit) (parts : List (List Version)) where
       }) mid syncs
 
 -- the new table is there too
-module _ (id : ℕ) (last : Edit) (parts : List (List Version)) (versions : List Version) (flushed place : ℕ) (others : List (ℕ × ℕ)) (after : List (List Version) → List (List Version)) (old mid : List Moment) (grows : Grows old mid) (end : IsEnd old place) (syncs : SyncsBehind old mid (table_bytes id versions)) (is : IsTable id flushed versions) (remain : Remain last flushed others after) where
+module _ (id : ℕ) (last : Edit) (parts : List (List Version)) (versions : List Version) (flushed place : ℕ) (others : List (ℕ × ℕ)) (after : List (List Version) → List (List Version)) (old mid : List Moment) (grows : Grows old mid) (end : IsEnd old place) (syncs : SyncsBehind old mid (written_bytes id versions)) (is : SpellsTable id flushed versions (written_bytes id versions)) (remain : Remain last flushed others after) where
   abbrev next : Edit
   next = record { flushed = flushed; tables = placed id versions place ∷ others }
 
   -- behind bytes that have the old ones
-  both_there : (m : Moment) → place ≡ length m.reads → HasTables id last.flushed (m.reads ++ table_bytes id versions) last.tables parts → HasTables id flushed (m.reads ++ table_bytes id versions) next.tables (versions ∷ after parts)
-  both_there m at has = (table_behind id flushed m.reads place versions at is, remain id (m.reads ++ table_bytes id versions) parts has)
+  both_there : (m : Moment) → place ≡ length m.reads → HasTables id last.flushed (m.reads ++ written_bytes id versions) last.tables parts → HasTables id flushed (m.reads ++ written_bytes id versions) next.tables (versions ∷ after parts)
+  both_there m at has = (table_behind id flushed m.reads (written_bytes id versions) place versions at is, remain id (m.reads ++ written_bytes id versions) parts has)
 
   pub table_rests : IfKnown old (RestsWith id last parts) → IfKnown mid (RestsWith id next (versions ∷ after parts))
   table_rests rests = by old grows end syncs rests
     where
-      by : (ms : List Moment) → Grows ms mid → IsEnd ms place → SyncsBehind ms mid (table_bytes id versions) → IfKnown ms (RestsWith id last parts) → IfKnown mid (RestsWith id next (versions ∷ after parts))
+      by : (ms : List Moment) → Grows ms mid → IsEnd ms place → SyncsBehind ms mid (written_bytes id versions) → IfKnown ms (RestsWith id last parts) → IfKnown mid (RestsWith id next (versions ∷ after parts))
       by [] grows end syncs rests = unknown_still id last parts (RestsWith id next (versions ∷ after parts)) mid grows
       by (m ∷ past) grows end syncs rests =
-          known_map (λ n. n ≡ synced (m.reads ++ table_bytes id versions)) (RestsWith id next (versions ∷ after parts))
+          known_map (λ n. n ≡ synced (m.reads ++ written_bytes id versions)) (RestsWith id next (versions ∷ after parts))
           (λ n on_disk. record {
-            bytes = m.reads ++ table_bytes id versions;
+            bytes = m.reads ++ written_bytes id versions;
             on_disk = on_disk;
-            tables = both_there m end (tables_in_front id last.flushed m.reads (table_bytes id versions) last.tables parts (subst (λ (l : List ℕ). HasTables id last.flushed l last.tables parts) (sym (read_bytes m rests.bytes rests.on_disk)) rests.tables));
+            tables = both_there m end (tables_in_front id last.flushed m.reads (written_bytes id versions) last.tables parts (subst (λ (l : List ℕ). HasTables id last.flushed l last.tables parts) (sym (read_bytes m rests.bytes rests.on_disk)) rests.tables));
           }) mid syncs
 
   pub table_left : IfKnown mid (LeavesTables id last parts) → IfKnown mid (LeavesTables id next (versions ∷ after parts))
   table_left left = by old grows end syncs
     where
-      by : (ms : List Moment) → Grows ms mid → IsEnd ms place → SyncsBehind ms mid (table_bytes id versions) → IfKnown mid (LeavesTables id next (versions ∷ after parts))
+      by : (ms : List Moment) → Grows ms mid → IsEnd ms place → SyncsBehind ms mid (written_bytes id versions) → IfKnown mid (LeavesTables id next (versions ∷ after parts))
       by [] grows end syncs = unknown_still id last parts (LeavesTables id next (versions ∷ after parts)) mid grows
       by (m ∷ past) grows end syncs =
-          known_both (λ n. n ≡ synced (m.reads ++ table_bytes id versions)) (LeavesTables id last parts) (LeavesTables id next (versions ∷ after parts))
+          known_both (λ n. n ≡ synced (m.reads ++ written_bytes id versions)) (LeavesTables id last parts) (LeavesTables id next (versions ∷ after parts))
           (λ n on_disk leaves image h.
-          let same : image ≡ m.reads ++ table_bytes id versions = image_of_synced (m.reads ++ table_bytes id versions) image (subst (λ (x : Moment). IsImage x image) on_disk h) in
+          let same : image ≡ m.reads ++ written_bytes id versions = image_of_synced (m.reads ++ written_bytes id versions) image (subst (λ (x : Moment). IsImage x image) on_disk h) in
           subst (λ (l : List ℕ). HasTables id flushed l next.tables (versions ∷ after parts)) (sym same) (both_there m end (subst (λ (l : List ℕ). HasTables id last.flushed l last.tables parts) same (leaves image h)))) mid syncs left
 
 -- ---- the manifest alone
@@ -207,17 +207,17 @@ module _ (old new : TableSetState) (mid : List Moment) (faults : ℕ) (next : Ed
 
 -- ---- the exits of the calls
 
-pub table_ready : (old : TableSetState) (mid : List Moment) (versions : List Version) (flushed place : ℕ) (others : List (ℕ × ℕ)) → old.halted ≡ false → Grows old.moments mid → IsEnd old.moments place → SyncsBehind old.moments mid (table_bytes old.manifest.log.id versions) → mid ≡ added after_sync (added (after_write place (table_bytes old.manifest.log.id versions)) old.moments)
-    → IsTable old.manifest.log.id flushed versions → (after : List (List Version) → List (List Version)) → Remain old.manifest.edit flushed others after → Ready old mid (record { flushed = flushed; tables = placed old.manifest.log.id versions place ∷ others }) (λ parts. versions ∷ after parts)
+pub table_ready : (old : TableSetState) (mid : List Moment) (versions : List Version) (flushed place : ℕ) (others : List (ℕ × ℕ)) → old.halted ≡ false → Grows old.moments mid → IsEnd old.moments place → SyncsBehind old.moments mid (written_bytes old.manifest.log.id versions) → mid ≡ added after_sync (added (after_write place (written_bytes old.manifest.log.id versions)) old.moments)
+    → SpellsTable old.manifest.log.id flushed versions (written_bytes old.manifest.log.id versions) → (after : List (List Version) → List (List Version)) → Remain old.manifest.edit flushed others after → Ready old mid (record { flushed = flushed; tables = placed old.manifest.log.id versions place ∷ others }) (λ parts. versions ∷ after parts)
 table_ready old mid versions flushed place others running grows end syncs written is after remain = record {
   was_running = running;
-  written = (end, (table_bytes old.manifest.log.id versions, refl, written));
-  last_rests = λ parts rests. rests_grown old.manifest.log.id old.manifest.edit parts (table_bytes old.manifest.log.id versions) old.moments mid grows syncs rests;
+  written = (end, (written_bytes old.manifest.log.id versions, refl, written));
+  last_rests = λ parts rests. rests_grown old.manifest.log.id old.manifest.edit parts (written_bytes old.manifest.log.id versions) old.moments mid grows syncs rests;
   next_rests = λ parts rests. table_rests old.manifest.log.id old.manifest.edit parts versions flushed place others after old.moments mid grows end syncs is remain rests;
 }
 
 -- the tables of that edit are there as it is installed
-pub table_next : (old : TableSetState) (mid : List Moment) (faults : ℕ) (versions : List Version) (flushed place : ℕ) (others : List (ℕ × ℕ)) → Grows old.moments mid → IsEnd old.moments place → SyncsBehind old.moments mid (table_bytes old.manifest.log.id versions) → IsTable old.manifest.log.id flushed versions
+pub table_next : (old : TableSetState) (mid : List Moment) (faults : ℕ) (versions : List Version) (flushed place : ℕ) (others : List (ℕ × ℕ)) → Grows old.moments mid → IsEnd old.moments place → SyncsBehind old.moments mid (written_bytes old.manifest.log.id versions) → SpellsTable old.manifest.log.id flushed versions (written_bytes old.manifest.log.id versions)
     → (after : List (List Version) → List (List Version)) × Remain old.manifest.edit flushed others after → LeavesNext (record old { moments = mid; faults = faults }) (record { flushed = flushed; tables = placed old.manifest.log.id versions place ∷ others })
 table_next old mid faults versions flushed place others grows end syncs is (after, remain) =
     λ parts left. (versions ∷ after parts, table_left old.manifest.log.id old.manifest.edit parts versions flushed place others after old.moments mid grows end syncs is remain left)

@@ -8,7 +8,7 @@ use Rattle.wp_gatelog.specs.Moments.{Leaves}
 use Rattle.wp_manifest.specs.Edit.{Edit, no_edit}
 use Rattle.wp_manifest.specs.Manifest.{StoresEdits}
 use Rattle.wp_manifest.specs.Spelling.{MAGIC, IsManifestOrNext}
-use Rattle.wp_table.specs.Table.{table_bytes}
+use Rattle.wp_table.specs.Table.{written_bytes}
 use Rattle.wp_tableset.specs.Device.{IsEnd, KeepsFronts}
 use Rattle.wp_tableset.specs.Set.{TableSetState, LeavesTables, StoresTables}
 use Rattle.wp_tableset.specs.declared.error.TableSetError.{TableSetError}
@@ -18,7 +18,7 @@ use Rattle.wp_tableset.specs.declared.error.TableSetError.TheVariants.{Memory, F
 
 -- a table of the versions at that place, in the store with that id
 abbrev pub placed : ℕ → List Version → ℕ → ℕ × ℕ
-placed id versions place = (place, length (table_bytes id versions))
+placed id versions place = (place, length (written_bytes id versions))
 
 -- the old edit's tables and one more, the newest; the entries up to `flushed` are in them
 abbrev pub flushed_edit : TableSetState → List Version → ℕ → ℕ → Edit

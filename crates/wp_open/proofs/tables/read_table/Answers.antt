@@ -5,12 +5,12 @@ use Rattle.wp_open.proofs.tables.read_table.Goals as goal
 pub returns-in-Ok-2-clause-found : goal.returns-in-Ok-2-clause-found
 returns-in-Ok-2-clause-found g c =
     let found = c.in-Ok.ensures.found in
-    found_table c.args.id c.args.flushed c.in_ok-bytes.bytes.items c.args.placed c.in-Ok.field-0 _ found.0 found.1 (search rules) c.in_ok-bytes.ensures.size c.in_ok-bytes.ensures.shown
+    found_table c.args.id c.args.flushed c.in_ok-bytes.bytes.items c.args.placed c.in-Ok.field-0 _ found (search rules) c.in_ok-bytes.ensures.size c.in_ok-bytes.ensures.shown
 
 pub returns-in-Ok-clause-cause : goal.returns-in-Ok-clause-cause
 returns-in-Ok-clause-cause g c =
     let found = c.in-Ok.ensures.found in
-    (refl, tt, short_named c.args.id c.args.flushed c.args.len c.in_ok-bytes.bytes.items c.args.placed c.in-Ok.field-0 _ found.0 found.1 (search rules) c.in_ok-bytes.ensures.found)
+    (refl, tt, short_named c.args.id c.args.flushed c.args.len c.in_ok-bytes.bytes.items c.args.placed c.in-Ok.field-0 _ found (search rules) c.in_ok-bytes.ensures.found)
 
 pub returns-in-Err-clause-cause : goal.returns-in-Err-clause-cause
 returns-in-Err-clause-cause g c = fault_named c.args.id c.args.flushed c.args.len c.args.placed _ _ c.in_ok-bytes.bytes.items c.in-Err.why c.table_reason.result c.in-Err.ensures.refused c.in_ok-bytes.ensures.found c.table_reason.ensures

@@ -1,9 +1,9 @@
-use Rattle.wp_table.proofs.Whole.{table_takes, table_again}
+use Rattle.wp_table.proofs.Whole.{table_takes, table_spelled}
 use Rattle.wp_table.proofs.WholeFaults.{table_fails, table_refused}
 use Rattle.wp_table.proofs.laws.tables_are_read.Goals as goal
 
 pub returns-clause-spelled : goal.returns-clause-spelled
-returns-clause-spelled c = table_again
+returns-clause-spelled c = table_spelled
 
 pub returns-clause-only : goal.returns-clause-only
 returns-clause-only c = table_takes

@@ -7,4 +7,4 @@ use Rattle.wp_table.proofs.reading.all_blocks.Given as goal
 
 abbrev pub invariant-loop : goal.invariant-loop
 invariant-loop l =
-    places_after (l.blocks - l.counter) l.size l.flushed l.left (option_map seen l.last) l.places.items l.fields ≡ places_after (block_count l.count) l.size l.flushed l.count None [] l.fn.fields
+    places_after l.format (l.blocks - l.counter) l.size l.flushed l.left (option_map seen l.last) l.places.items l.fields ≡ places_after l.format (block_count l.count) l.size l.flushed l.count None [] l.fn.fields

@@ -1,9 +1,10 @@
-use Rattle.std.proofs.Common.{◌≡◌, length, sym, ap, ◌∙◌, arith}
+use Rattle.std.proofs.Common.{◌≡◌, length, ap, ◌∙◌, arith}
 use Rattle.std.specs.List.{list_all}
 use Rattle.std.specs.Slice.Iter.{chunks_rest}
-use Rattle.std.proofs.lemmas.Bool.{and_parts, and_from}
+use Rattle.std.proofs.lemmas.Bool.{and_from}
 use Rattle.std.proofs.lemmas.List.Folds.{list_all-append}
-use Rattle.wp_table.specs.Table.{is_numbered, has_words}
+use Rattle.wp_fields.specs.declared.format.Format.TheVariants.{Two}
+use Rattle.wp_table.specs.Table.{has_words}
 use Rattle.wp_table.proofs.NextBlock.{next_block, pushed_more, placed_more}
 use Rattle.wp_table.proofs.writing.push_blocks.Goals as goal
 
@@ -13,15 +14,13 @@ loop-block-preserved c =
     let all = chunks_rest c.loop-block.block-iterator in
     let block = c.in-Some.block.now in
     let rest = chunks_rest c.next.new.self in
-    let parts = list_all-append is_numbered block rest in
     let words = list_all-append has_words block rest in
     let next = next_block all block rest step.0 (rw c.loop-block.invariant.size at step.1) step.2 in
     let now = c.in_ok-push_block.ensures.pushed in
     let len : c.loop-block.out.len ≡ length c.loop-block.out.items = omega (arith, c.loop-block.out.ok.0) in
     record {
       size = c.in-Some.ensures.steps.0 ∙ c.loop-block.invariant.size;
-      pushed = rw now (pushed_more c.loop-block.out.items _ all block rest next c.loop-block.invariant.pushed);
-      placed = rw (now, c.in_ok-push.ensures.items, c.len.ensures, len) (placed_more c.loop-block.places.items c.loop-block.out.items _ all block rest next c.loop-block.invariant.placed);
+      pushed = rw now (pushed_more Two c.loop-block.out.items _ all block rest next c.loop-block.invariant.pushed);
+      placed = rw (now, c.in_ok-push.ensures.items, c.len.ensures, len) (placed_more Two c.loop-block.places.items c.loop-block.out.items _ all block rest next c.loop-block.invariant.placed);
       in_range = λ others. c.loop-block.invariant.in_range (ap (list_all has_words) step.0 ∙ words ∙ and_from _ _ c.in_ok-push_block.ensures.in_range others);
-      numbered = (and_parts (list_all is_numbered block) (list_all is_numbered rest) (sym parts ∙ sym (ap (list_all is_numbered) step.0) ∙ c.loop-block.invariant.numbered)).1;
     }
