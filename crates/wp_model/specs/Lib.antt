@@ -1,4 +1,5 @@
 pub mod Word
+pub mod WordBytes
 pub mod Batch
 pub mod Place
 pub mod History

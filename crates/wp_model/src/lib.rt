@@ -15,6 +15,7 @@ mod segment;
 mod version;
 mod versions;
 mod word;
+mod word_bytes;
 
 pub use batch::{Batch, MOST_KEYS, SetError};
 pub use change::Change;

@@ -8,6 +8,7 @@ ghost use Rattle.std.proofs.Common.{rules};
 ghost use Rattle.wp_model.specs.Word.{is_word, is_word_byte};
 ghost use Rattle.wp_model.specs.declared.word.WordError.TheVariants.{Memory};
 
+use crate::word_bytes::WordBytes;
 use std::alloc::{AllocError, Global};
 use std::cmp::Ordering;
 use std::marker::Model;
@@ -32,7 +33,7 @@ impl From<AllocError> for WordError {
 /// 1 to `MOST` bytes, each printable ASCII other than the space: from `!` (0x21) to `~` (0x7E).
 #[derive(Debug, Drop)]
 pub struct Word<const MOST: usize> {
-    bytes: Vec<u8>,
+    bytes: WordBytes,
 }
 
 /// How many bytes a key has at most.
@@ -56,12 +57,13 @@ pub type Name = Word<MOST_NAME_BYTES>;
 impl<const MOST: usize> Model for Word<MOST> {
     ghost use Rattle.std.specs.Prelude.{◌≡◌, ℕ, List, true};
     ghost use Rattle.wp_model.specs.Word.{is_word};
+    ghost use Rattle.wp_model.specs.WordBytes.{bytes_in, Fits};
 
     ghost Value = { List ℕ };
 
-    ghost view = { λ w. w.bytes.items };
+    ghost view = { λ w. bytes_in w.bytes };
 
-    ghost invariant = { λ w. is_word MOST w.bytes.items ≡ true };
+    ghost invariant = { λ w. (is_word MOST (bytes_in w.bytes) ≡ true) × Fits w.bytes };
 }
 
 fn are_word_bytes(bytes: &[u8]) -> bool
@@ -92,7 +94,7 @@ impl<const MOST: usize> Word<MOST> {
             return Err(WordError::BadWord);
         }
         Ok(Word {
-            bytes: Vec::from_slice(alloc, bytes)?,
+            bytes: WordBytes::of(alloc, bytes)?,
         })
     }
 
@@ -101,7 +103,7 @@ impl<const MOST: usize> Word<MOST> {
         ensures value { result.now ≡ self.now }
         ensures in_range { is_word MOST self.now ≡ true }
     {
-        &self.bytes
+        self.bytes.as_slice()
     }
 
     /// The same word once more.
@@ -109,7 +111,7 @@ impl<const MOST: usize> Word<MOST> {
         ensures { IfOk result (λ word. word ≡ self.now) }
     {
         Ok(Word {
-            bytes: Vec::from_slice(alloc, &self.bytes)?,
+            bytes: WordBytes::of(alloc, self.bytes())?,
         })
     }
 }
@@ -120,7 +122,7 @@ impl<const MOST: usize> PartialEq for Word<MOST> {
     ghost laws = { Prim.search (comparing, rules) };
 
     fn eq(&self, other: &Word<MOST>) -> bool {
-        self.bytes == other.bytes
+        self.bytes() == other.bytes()
     }
 }
 
@@ -149,6 +151,6 @@ impl<const MOST: usize> Ord for Word<MOST> {
     ghost matches_eq = { Prim.search (comparing, rules) };
 
     fn cmp(&self, other: &Word<MOST>) -> Ordering {
-        self.bytes.cmp(&other.bytes)
+        self.bytes().cmp(&other.bytes())
     }
 }
