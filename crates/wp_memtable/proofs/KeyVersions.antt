@@ -28,6 +28,9 @@ newest_cons : (e : ℕ × Option (List ℕ)) (es : Numbered) → AreBelow e.0 es
 unfolding IsStrictlySortedBy
 newest_cons e es below h = (below, h)
 
+pub newest_one : (n : ℕ) → IsStrictlySortedBy newest_cmp (n ∷ [])
+newest_one n = newest_cons (n, None) [] tt newest_none
+
 cond_map : (b : Bool) (x : ℕ × Option (List ℕ)) (xs : Numbered) → cond b (x.0 ∷ keys_of xs) (keys_of xs) ≡ keys_of (cond b (x ∷ xs) xs)
 cond_map true x xs = refl
 cond_map false x xs = refl

@@ -1,6 +1,6 @@
 -- What the keys' versions are as one list.
 use Rattle.std.proofs.Common.{◌≡◌, ℕ, zero, suc, ◌+◌, ◌<◌, ◌≤◌, Bool, true, false, cond, not, ◌&&◌, ◌||◌, ◌==◌, Less, Equal, Greater, List, [], ◌∷◌, ◌++◌, length, get_or, take, nat_eq, nat_lt, map, filter, Option, Some, None, is_some, ◌⊎◌, inl, inr, refl, sym, ap, ◌∙◌, subst, arith, length-append}
-use Rattle.std.specs.Option.{option_or, option_and_then}
+use Rattle.std.specs.Option.{option_or, option_map_or, option_and_then}
 use Rattle.std.specs.Ordering.{nat_cmp, is_eq, ordering_then, match_ordering}
 use Rattle.std.specs.declared.cmp.Ordering.{Ordering}
 use Rattle.std.specs.Str.{bytes_eq}
@@ -115,8 +115,7 @@ numbered_under k (p ∷ ps) = ap (λ (qs : Numbered). p ∷ qs) (numbered_under 
 
 -- the versions that a key has in the places
 abbrev pub versions_at : Option RoomyVersions → Numbered
-versions_at None = []
-versions_at (Some r) = r.versions
+versions_at found = option_map_or (λ r. r.versions) found []
 
 pub numbered_of-versions_in : (es : Places) (key : List ℕ) → IsStrictlySortedBy key_cmp (keys_of es) → numbered_of key (versions_in es) ≡ versions_at (lookup (is_at (key_cmp key)) es)
 numbered_of-versions_in [] key sorted = refl

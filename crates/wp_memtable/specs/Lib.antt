@@ -1,3 +1,4 @@
 pub mod KeyVersions
+pub mod Kept
 pub mod Memtable
 pub mod Bounds

@@ -1,88 +1,83 @@
-ghost use Rattle.std.specs.Prelude.{◌≡◌, ℕ, ◌+◌, ◌<◌, ◌≤◌, ◌==◌, [], not, IsTrue, OnOk, Some, is_some, length, filter, nat_eq, nat_lt, if◌then◌else◌};
-ghost use Rattle.std.specs.List.{list_any, prefix_len};
+ghost use Rattle.std.specs.Prelude.{◌≡◌, ℕ, ◌+◌, ◌^◌, ◌<◌, ◌≤◌, ◌==◌, ◌↔◌, [], IsTrue, IsSome, IfSome, OnOk, Some, length, filter, nat_eq, nat_lt, slice_index_or, if◌then◌else◌};
+ghost use Rattle.std.specs.List.{list_any};
 ghost use Rattle.std.specs.Map.{lookup};
-ghost use Rattle.std.specs.VecDeque.{deque_len, deque_capacity};
-ghost use Rattle.std.specs.VecDeque.Iter.{deque_iter_rest};
 ghost use Rattle.wp_memtable.specs.Bounds.{is_between};
 ghost use Rattle.wp_memtable.specs.KeyVersions.{AreNewestFirst, has_place};
 
 use crate::bounds::Bounds;
+use crate::several::Several;
 use std::alloc::{AllocError, Global};
-use std::collections::VecDeque;
-use std::collections::vec_deque::Iter;
 use std::marker::Model;
+use std::mem;
 use wp_model::{Seq, Value};
 
-/// The versions of one key, the newest first.
+/// The versions of one key, the newest first. Most keys have one, which takes no memory beside its key's.
 #[derive(Drop)]
 pub struct KeyVersions {
-    newest_first: VecDeque<(Seq, Option<Value>)>,
+    kept: Kept,
+}
+
+#[derive(Drop)]
+pub(crate) enum Kept {
+    Empty,
+    One((Seq, Option<Value>)),
+    Many(Several),
 }
 
 impl Model for KeyVersions {
-    ghost use Rattle.std.specs.Prelude.{◌-◌};
-    ghost use Rattle.std.specs.VecDeque.{deque_len, deque_capacity};
+    ghost use Rattle.wp_memtable.specs.Kept.{kept_versions};
     ghost use Rattle.wp_memtable.specs.KeyVersions.{RoomyVersions, roomy_versions_code, AreNewestFirst};
 
     ghost Value = { RoomyVersions };
 
     ghost coded = { roomy_versions_code };
 
-    ghost view = { λ k. record { versions = k.newest_first.items; room = deque_capacity k.newest_first - deque_len k.newest_first } };
+    ghost view = { λ k. kept_versions k.kept };
 
-    ghost invariant = { λ k. AreNewestFirst k.newest_first.items };
-}
-
-/// How many versions are newer than `n`.
-fn newer_than(versions: &VecDeque<(Seq, Option<Value>)>, n: Seq) -> usize
-    ensures { result ≡ prefix_len (λ e. nat_lt n e.0) versions.now.items }
-{
-    let mut i = 0;
-    while let Some((number, _)) = versions.get(i) {
-        if *number <= n {
-            return i;
-        }
-        i += 1;
-    }
-    i
-}
-
-/// Takes room for one version more. The first one gets just that, since most keys have no other.
-fn reserve_one(versions: &mut VecDeque<(Seq, Option<Value>)>) -> Result<(), AllocError>
-    ensures ok { OnOk result (deque_len versions.new + 1 ≤ deque_capacity versions.new) }
-    ensures items { versions.new.items ≡ versions.old.items }
-{
-    if versions.is_empty() {
-        return versions.reserve_exact(1);
-    }
-    versions.reserve(1)
+    ghost invariant = { λ k. AreNewestFirst (kept_versions k.kept).versions };
 }
 
 impl KeyVersions {
-    pub fn new(alloc: Global) -> KeyVersions
-        ensures { result.versions ≡ [] }
+    /// None, with room for one.
+    #[tactic(auto, using(crate::proofs::KeyVersions::newest_none))]
+    pub fn new() -> KeyVersions
+        ensures versions { result.versions ≡ [] }
+        ensures room { 0 < result.room }
+        ensures newest_first { AreNewestFirst result.versions }
     {
-        KeyVersions {
-            newest_first: VecDeque::new(alloc),
-        }
+        KeyVersions { kept: Kept::Empty }
     }
 
     pub fn len(&self) -> usize
         ensures { result ≡ length self.now.versions }
     {
-        self.newest_first.len()
+        match &self.kept {
+            Kept::Empty => 0,
+            Kept::One(_) => 1,
+            Kept::Many(several) => several.len(),
+        }
     }
 
     /// Takes the memory for one version more.
-    pub fn reserve(&mut self) -> Result<(), AllocError>
+    pub fn reserve(&mut self, alloc: Global) -> Result<(), AllocError>
         ensures ok { OnOk result (0 < self.new.room) }
         ensures same_versions { self.new.versions ≡ self.old.versions }
         ensures newest_first { AreNewestFirst self.new.versions }
     {
-        reserve_one(&mut self.newest_first)
+        match &mut self.kept {
+            Kept::Empty => Ok(()),
+            Kept::One(version) => {
+                let mut several = Several::for_two(alloc)?;
+                several.begin(mem::replace(version, (0, None)));
+                self.kept = Kept::Many(several);
+                Ok(())
+            }
+            Kept::Many(several) => several.reserve(),
+        }
     }
 
     /// Puts a version under `n`, in place of one that is there. Returns how many versions more there are.
+    #[tactic(auto, using(crate::proofs::KeyVersions::newest_one))]
     pub fn put(&mut self, n: Seq, value: Option<Value>) -> usize
         requires { IsTrue (has_place self.old n) }
         ensures each { (m : ℕ) → lookup (nat_eq m) self.new.versions ≡ (if n == m then Some value else lookup (nat_eq m) self.old.versions) }
@@ -90,60 +85,75 @@ impl KeyVersions {
         ensures most { result ≤ 1 }
         ensures newest_first { AreNewestFirst self.new.versions }
     {
-        let had = self.remove(n);
-        let place = newer_than(&self.newest_first, n);
-        self.newest_first.insert(place, (n, value)).unwrap();
-        if had { 0 } else { 1 }
-    }
-
-    /// Takes the version under `n` out. Returns whether there was one.
-    pub fn remove(&mut self, n: Seq) -> bool
-        ensures had { result ≡ is_some (lookup (nat_eq n) self.old.versions) }
-        ensures versions { self.new.versions ≡ filter (λ e. not (e.0 == n)) self.old.versions }
-        ensures count { length self.new.versions + (if result then 1 else 0) ≡ length self.old.versions }
-        ensures room { self.old.room + (if result then 1 else 0) ≤ self.new.room }
-        ensures newest_first { AreNewestFirst self.new.versions }
-    {
-        let place = newer_than(&self.newest_first, n);
-        match self.newest_first.get(place) {
-            Some((number, _)) if *number == n => {
-                self.newest_first.remove(place);
-                true
+        match &mut self.kept {
+            Kept::Empty => {
+                self.kept = Kept::One((n, value));
+                1
             }
-            _ => false,
+            Kept::One(version) => {
+                *version = (n, value);
+                0
+            }
+            Kept::Many(several) => several.put(n, value),
         }
     }
 
     /// Takes the versions up to `n` out.
+    #[tactic(auto, using(crate::proofs::KeyVersions::newest_none))]
     pub fn remove_up_to(&mut self, n: Seq)
         ensures versions { self.new.versions ≡ filter (λ e. nat_lt n e.0) self.old.versions }
         ensures newest_first { AreNewestFirst self.new.versions }
     {
-        let newer = newer_than(&self.newest_first, n);
-        self.newest_first.truncate(newer);
+        match &mut self.kept {
+            Kept::Empty => {}
+            Kept::One((number, _)) => {
+                if *number <= n {
+                    self.kept = Kept::Empty;
+                }
+            }
+            Kept::Many(several) => several.remove_up_to(n),
+        }
     }
 
     /// Takes the versions from `n` on out.
+    #[tactic(auto, using(crate::proofs::KeyVersions::newest_none))]
     pub fn remove_from(&mut self, n: Seq)
         ensures versions { self.new.versions ≡ filter (λ e. nat_lt e.0 n) self.old.versions }
         ensures newest_first { AreNewestFirst self.new.versions }
     {
-        self.newest_first.retain(|version| version.0 < n);
+        match &mut self.kept {
+            Kept::Empty => {}
+            Kept::One((number, _)) => {
+                if n <= *number {
+                    self.kept = Kept::Empty;
+                }
+            }
+            Kept::Many(several) => several.remove_from(n),
+        }
     }
 
     /// Whether one of the versions has a number between the bounds.
     pub fn has_between(&self, bounds: Bounds) -> bool
         ensures { result ≡ list_any (λ e. is_between bounds e.0) self.now.versions }
     {
-        self.newest_first
-            .iter()
-            .any(|version| bounds.have(version.0))
+        match &self.kept {
+            Kept::Empty => false,
+            Kept::One((number, _)) => bounds.have(*number),
+            Kept::Many(several) => several.has_between(bounds),
+        }
     }
 
-    pub fn iter(&self) -> Iter<'_, (Seq, Option<Value>)>
-        ensures rest { deque_iter_rest result ≡ self.now.versions }
+    /// The version of that place, from 0 on.
+    pub fn get(&self, i: usize) -> Option<&(Seq, Option<Value>)>
+        ensures variant { IsSome result ↔ (i < length self.now.versions) }
+        ensures lookup { IfSome result (λ version. version.now ≡ slice_index_or self.now.versions i version.now) }
+        ensures few { length self.now.versions < 2 ^ 63 }
         ensures newest_first { AreNewestFirst self.now.versions }
     {
-        self.newest_first.iter()
+        match &self.kept {
+            Kept::One(version) if i == 0 => Some(version),
+            Kept::Many(several) => several.get(i),
+            Kept::Empty | Kept::One(_) => None,
+        }
     }
 }

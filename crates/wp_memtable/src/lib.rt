@@ -17,3 +17,4 @@ mod frozen;
 mod key_versions;
 mod memtable;
 mod places;
+mod several;

@@ -73,8 +73,10 @@ fn copy_under(
 ) -> Result<(), AllocError>
     ensures { OnOk result (list.new.items ≡ list.old.items ++ between bounds (under key.now versions.now.versions)) }
 {
-    for (number, value) in versions.iter() {
+    let mut i = 0;
+    while let Some((number, value)) = versions.get(i) {
         copy_between(alloc, key, *number, value.as_ref(), bounds, list)?;
+        i += 1;
     }
     Ok(())
 }
@@ -160,10 +162,7 @@ impl Memtable {
         ensures found { result ≡ numbered_of key.now (between bounds self.now) }
         ensures in_order { AreInOrder self.now }
     {
-        match self.places.get(key) {
-            Some(versions) => Found::new(Some(versions.iter()), bounds),
-            None => Found::new(None, bounds),
-        }
+        Found::new(self.places.get(key), bounds)
     }
 
     /// A copy of all versions.

@@ -35,11 +35,9 @@ fn reserve(
     ensures well_ordered { AreWellOrdered places.new.entries }
 {
     if let Some(versions) = places.get_mut(key) {
-        return versions.reserve();
+        return versions.reserve(alloc);
     }
-    let mut versions = KeyVersions::new(alloc);
-    versions.reserve()?;
-    places.insert(key.copy(alloc)?, versions)?;
+    places.insert(key.copy(alloc)?, KeyVersions::new())?;
     Ok(())
 }
 

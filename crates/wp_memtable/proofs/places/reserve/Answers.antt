@@ -1,4 +1,3 @@
-use Rattle.std.proofs.Common.{◌∙◌}
 use Rattle.wp_memtable.proofs.Listed.{changed_same, changed_ordered, inserted_same, inserted_ordered}
 use Rattle.wp_memtable.proofs.places.reserve.Goals as goal
 
@@ -13,9 +12,9 @@ returns-in-Some-clause-well_ordered c =
 pub returns-clause-same_versions : goal.returns-clause-same_versions
 returns-clause-same_versions c =
     let is = rw (c.get_mut.follows.holds-at-none, c.in_ok-copy.ensures) at c.in_ok-insert.ensures.entries in
-    inserted_same c.args.places.now.entries _ c.args.key.now c.reserve-2.new.self is c.in_default.ensures.value (c.reserve-2.ensures.same_versions ∙ c.new-versions.ensures)
+    inserted_same c.args.places.now.entries _ c.args.key.now c.new.result is c.in_default.ensures.value c.new.ensures.versions
 
 pub returns-clause-well_ordered : goal.returns-clause-well_ordered
 returns-clause-well_ordered c =
     let is = rw (c.get_mut.follows.holds-at-none, c.in_ok-copy.ensures) at c.in_ok-insert.ensures.entries in
-    inserted_ordered c.args.places.now.entries _ c.args.key.now c.reserve-2.new.self is c.requires c.in_ok-insert.ensures.ordered c.reserve-2.ensures.newest_first
+    inserted_ordered c.args.places.now.entries _ c.args.key.now c.new.result is c.requires c.in_ok-insert.ensures.ordered c.new.ensures.newest_first

@@ -1,6 +1,6 @@
 use Rattle.std.proofs.Common.{◌≡◌, ◌+◌, ◌-◌, ◌≤◌, drop, length, nat_lt}
 use Rattle.std.specs.List.{prefix_len}
-use Rattle.wp_memtable.proofs.key_versions.newer_than.Given as goal
+use Rattle.wp_memtable.proofs.several.newer_than.Given as goal
 
 abbrev pub invariant-loop-number : goal.invariant-loop-number
 invariant-loop-number l = record {

@@ -1,7 +1,7 @@
 use Rattle.std.proofs.Common.{nat_lt, rules}
 use Rattle.std.proofs.lemmas.Fn.{filter_same}
 use Rattle.wp_memtable.proofs.KeyVersions.{newest-older}
-use Rattle.wp_memtable.proofs.key_versions.KeyVersions.remove_from.Goals as goal
+use Rattle.wp_memtable.proofs.several.Several.remove_from.Goals as goal
 
 pub invariant_of-self : goal.invariant_of-self
 invariant_of-self c = newest-older c.args.n _ _ c.self.invariant (filter_same _ (λ e. nat_lt e.0 c.args.n) _ (λ e b f called. search rules) _ _ c.retain.ensures.filtered)

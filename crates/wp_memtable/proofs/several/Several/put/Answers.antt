@@ -2,7 +2,7 @@ use Rattle.std.proofs.Common.{sym, ap, subst, ◌∙◌, nat_eq, arith}
 use Rattle.std.proofs.lemmas.List.Sums.{prefix_len-le-length}
 use Rattle.std.proofs.lemmas.Map.{NonePasses}
 use Rattle.wp_memtable.proofs.KeyVersions.{newer, newest-put, lookup-put, none_is, room_left, ok_from_room}
-use Rattle.wp_memtable.proofs.key_versions.KeyVersions.put.Goals as goal
+use Rattle.wp_memtable.proofs.several.Several.put.Goals as goal
 
 pub insert-requires : goal.insert-requires
 insert-requires c = omega (arith, c.newer_than-place.ensures, prefix_len-le-length (newer c.args.n) c.self.inside.newest_first.items, c.self.inside.newest_first.ok.0)

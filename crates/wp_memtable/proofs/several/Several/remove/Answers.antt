@@ -1,6 +1,6 @@
 use Rattle.std.proofs.Common.{◌≡◌, ◌<◌, filter, length, refl, sym, arith}
 use Rattle.wp_memtable.proofs.KeyVersions.{other, removed_by, changes_in, found_at, found_nowhere, newest-removed}
-use Rattle.wp_memtable.proofs.key_versions.KeyVersions.remove.Goals as goal
+use Rattle.wp_memtable.proofs.several.Several.remove.Goals as goal
 
 removed : (c : goal.Joined-remove) → c.remove.new.self.items ≡ filter (other c.args.n) c.self.inside.newest_first.items
 removed c =
