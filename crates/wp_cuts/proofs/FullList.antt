@@ -1,6 +1,6 @@
 -- The full list of a cut: what stands where, what it leaves at the base, and that the cut is its cut.
-use Rattle.std.proofs.Common.{◌≡◌, ℕ, zero, suc, ◌+◌, ◌<◌, ◌≤◌, Bool, true, false, ◌==◌, ◌&&◌, not, cond, List, [], ◌∷◌, ◌++◌, length, map, take, drop, Option, Some, None, refl, sym, ap, ◌∙◌, inl, inr, length-append, arith}
-use Rattle.std.specs.Prelude.{is_some, unwrap_or, nat_le}
+use Rattle.std.proofs.Common.{◌≡◌, ℕ, zero, suc, ◌+◌, ◌-◌, ◌<◌, ◌≤◌, Bool, true, false, ◌==◌, ◌&&◌, not, cond, List, [], ◌∷◌, ◌++◌, length, map, take, drop, Option, Some, None, refl, sym, ap, ◌∙◌, inl, inr, length-append, arith}
+use Rattle.std.specs.Prelude.{is_some, unwrap_or, nat_le, slice_get}
 use Rattle.std.specs.List.{AllByRecursion, filter, find, range_with_len}
 use Rattle.std.proofs.lemmas.Bool.{cases_eq, and_parts, and_from, not-true, not_from_false, leb-true, le-leb, eqb-true, eq-eqb, ne_eqb}
 use Rattle.std.proofs.lemmas.List.{take_at, drop_at}
@@ -11,11 +11,12 @@ use Rattle.wp_model.specs.Batch.{change_to}
 use Rattle.wp_model.specs.History.{entry_at, is_prepare, prepared_name, prepared_batch, is_undecided, undecided, changes_of, newest, value_at}
 use Rattle.wp_model.specs.Legal.{undone_last}
 use Rattle.wp_model.specs.Versions.{AreInOrder, version_at}
-use Rattle.wp_model.proofs.Entries.{undecided_within}
+use Rattle.wp_model.proofs.Entries.{entry_at_old, undecided_within}
 use Rattle.wp_history.specs.Growth.{AreAscending}
 use Rattle.wp_history.proofs.Growth.{AreNaming}
 use Rattle.wp_cuts.specs.Cut.{Carried, Cut, carried_from, carried_of, IsCut, carried_at, is_carried, is_settled, value_in, base_value, front_entry_of, front_entry, full_of}
 use Rattle.wp_cuts.specs.LegalCut.{AreNumbered}
+use Rattle.wp_cuts.proofs.Decided.{entry_at_behind}
 use Rattle.wp_cuts.proofs.Rows.{is_start, rows, rows_long, rows_at, rows_take, rows_undecided, rows_undone, rows_naming, rows_newest}
 use Rattle.wp_cuts.proofs.Versions.{changes_to, newest_passing, IsNewestPassing, NonePassing, found_none, found_some}
 
@@ -207,7 +208,7 @@ module _ (c : Cut) (versions : List Version) where
     within_range [] all = tt
     within_range (x ∷ xs) all = let top = all.0.1 in ((all.0.0, omega (arith, top)), within_range xs all.1)
 
-    front_numbers : undecided (front c.base) ≡ map number_of c.carried
+    pub front_numbers : undecided (front c.base) ≡ map number_of c.carried
     front_numbers =
         ap (λ (n : ℕ). filter (is_undecided (front c.base)) (range_with_len 1 n)) (front_long c.base)
         ∙ filter_within (is_undecided (front c.base)) (is_carried c) 1 c.base (λ k low top. front_undecided c.base k low (omega arith))
@@ -284,3 +285,32 @@ module _ (c : Cut) (versions : List Version) where
 
   pub base_none : (key : List ℕ) → AreInOrder versions → NonePassing (is_settled c) key versions → base_value c versions key ≡ None
   base_none key order none = sym (front_value key order) ∙ value_none key c.base (omega arith) none
+
+  -- ---- what is where in the whole
+
+  pub full_long : length (full_of c versions) ≡ c.base + length c.entries
+  full_long = omega (arith, ap length full_is, length-append (front c.base) c.entries, front_long c.base)
+
+  pub full_carried : (p : ℕ) (x : Carried) → AreNumbered c → carried_at c p ≡ Some x → entry_at (full_of c versions) p ≡ Some (Prepare x.name x.batch)
+  full_carried p x numbered found =
+      let within = carried_within c.carried p x numbered.within found in
+      ap (λ (h : List Entry). entry_at h p) full_is
+      ∙ entry_at_old (front c.base) c.entries p (omega (arith, within.1, front_long c.base))
+      ∙ carried_entry c.base p x within.0 within.1 found
+    where
+      carried_within : (xs : List Carried) (q : ℕ) (y : Carried) → AllByRecursion (λ (z : Carried). (1 ≤ z.number) × (z.number ≤ c.base)) xs → find (λ z. z.number == q) xs ≡ Some y → (1 ≤ q) × (q ≤ c.base)
+      carried_within [] q y all e = absurd cc
+      carried_within (z ∷ zs) q y all e = by (z.number == q) refl e (carried_within zs q y all.1)
+        where
+          by : (b : Bool) → (z.number == q) ≡ b → cond b (Some z) (find (λ u. u.number == q) zs) ≡ Some y → (find (λ u. u.number == q) zs ≡ Some y → (1 ≤ q) × (q ≤ c.base)) → (1 ≤ q) × (q ≤ c.base)
+          by true here is rest = let low = all.0.0 in let top = all.0.1 in let same = eqb-true z.number q here in (omega (arith, low, same), omega (arith, top, same))
+          by false other is rest = rest is
+
+  pub full_undecided : AreNumbered c → undecided (take c.base (full_of c versions)) ≡ map number_of c.carried
+  full_undecided numbered = ap undecided (take_front numbered) ∙ front_numbers numbered
+
+  pub full_behind : (p : ℕ) → c.base < p → entry_at (full_of c versions) p ≡ slice_get c.entries (p - 1 - c.base)
+  full_behind p above =
+      ap (λ (h : List Entry). entry_at h p) full_is
+      ∙ entry_at_behind (front c.base) c.entries p (omega (arith, above, front_long c.base))
+      ∙ ap (λ (n : ℕ). slice_get c.entries (p - 1 - n)) (front_long c.base)

@@ -1,6 +1,6 @@
 -- A cut of a list that grows, and of what a list begins with.
-use Rattle.std.proofs.Common.{◌≡◌, ℕ, ◌+◌, ◌≤◌, List, ◌++◌, length, take, drop, None, refl, sym, ap, ◌∙◌, length-append, length-drop, arith}
-use Rattle.std.proofs.lemmas.List.{take-append-le, drop-append-le, take-take, drop-take, length-take-le}
+use Rattle.std.proofs.Common.{◌≡◌, ℕ, ◌+◌, ◌≤◌, List, [], ◌++◌, length, take, drop, None, refl, sym, ap, ◌∙◌, length-append, length-drop, take_all, arith}
+use Rattle.std.proofs.lemmas.List.{drop_all, take-append-le, drop-append-le, take-take, drop-take, length-take-le}
 use Rattle.wp_model.specs.declared.entry.Entry.{Entry}
 use Rattle.wp_model.specs.History.{value_at, newest}
 use Rattle.wp_model.specs.Legal.{undone_last}
@@ -26,6 +26,17 @@ cut_grows history more c cut =
 
 pub cut_again : (history : List Entry) (m : ℕ) → m ≤ length history → undone_last (take m history) ≡ None → IsCut history (cut_at history m)
 cut_again history m within whole = record { within = within; whole = whole; is = refl }
+
+pub cut_at_end : (history : List Entry) → undone_last history ≡ None → IsCut history (record { base = length history; carried = carried_of history; entries = [] })
+cut_at_end history whole =
+    let all : take (length history) history ≡ history = take_all (length history) history (omega arith) in
+    let carried : carried_of history ≡ carried_of (take (length history) history) = ap carried_of (sym all) in
+    let entries : [] ≡ drop (length history) history = sym (drop_all (length history) history (omega arith)) in
+    record {
+      within = omega arith;
+      whole = ap undone_last all ∙ whole;
+      is = λ i. record { base = length history; carried = carried i; entries = entries i };
+    }
 
 pub entries_long : (history : List Entry) (c : Cut) → IsCut history c → length history ≡ c.base + length c.entries
 entries_long history c cut = omega (arith, cut.within, ap length (cut_entries history c cut), length-drop c.base history)

@@ -13,3 +13,6 @@ mod Settled
 mod Reopening
 mod Copying
 mod Keeping
+mod UpTo
+mod Fronts
+mod Several

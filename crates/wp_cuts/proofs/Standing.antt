@@ -1,5 +1,5 @@
 -- The full list of a cut is like each list that has this cut; what follows one follows the other.
-use Rattle.std.proofs.Common.{◌≡◌, ℕ, zero, suc, ◌+◌, ◌<◌, ◌≤◌, Bool, true, false, cond, List, [], ◌∷◌, ◌++◌, length, map, take, Option, sym, ap, ◌∙◌, subst, inl, inr, append_assoc, append-nil, length-take-le, arith}
+use Rattle.std.proofs.Common.{◌≡◌, ℕ, zero, suc, ◌+◌, ◌-◌, ◌<◌, ◌≤◌, Bool, true, false, cond, List, [], ◌∷◌, ◌++◌, length, map, take, Option, sym, ap, ◌∙◌, subst, inl, inr, append_assoc, append-nil, length-take-le, arith}
 use Rattle.std.specs.Prelude.{fold, unwrap_or}
 use Rattle.std.specs.List.{AllByRecursion, filter, range_with_len}
 use Rattle.std.proofs.lemmas.Bool.{cases_Bool}
@@ -12,13 +12,14 @@ use Rattle.wp_model.specs.History.{prepared_batch, batch_at, is_undecided, undec
 use Rattle.wp_model.specs.Legal.{NamesUndecided, RestoresPrior, change_that_leaves, prior, IsOrderlyNext}
 use Rattle.wp_model.proofs.Entries.{undecided_within}
 use Rattle.wp_history.specs.Growth.{AreAscending}
-use Rattle.wp_history.proofs.Following.{follow_front, follows, follow_next}
+use Rattle.wp_history.proofs.Following.{follow_front, follows, follow_next, follow_take}
 use Rattle.wp_history.proofs.Growth.{AreNaming}
 use Rattle.wp_history.proofs.Newest.{newest_next, changes_stay}
 use Rattle.wp_cuts.specs.Cut.{Carried, Cut, carried_from, IsCut, full_of}
-use Rattle.wp_cuts.specs.LegalCut.{AreNumbered, prepares_of, value_behind, RestoresBehind}
+use Rattle.wp_cuts.specs.LegalCut.{AreNumbered, cut_front, prepares_of, value_behind, RestoresBehind}
 use Rattle.wp_cuts.proofs.Alike.{AreAlike, alike_back, alike_next, alike_behind, names_alike, changes_alike, orderly_alike}
 use Rattle.wp_cuts.proofs.Agreeing.{numbers_back, alike_at_base, cut_whole}
+use Rattle.wp_cuts.proofs.Growing.{entries_long, front_is_cut, value_of_front}
 use Rattle.wp_cuts.proofs.FullList.{front, full_is, front_naming, take_front, full_is_cut}
 
 -- ---- the numbers that a cut carries
@@ -138,3 +139,11 @@ module _ (history : List Entry) (c : Cut) (values : List ℕ → Option (List �
   restores_to (Commit p) names is = tt
   restores_to (Undo p batch) names is = is ∙ sym (restored p names)
   restores_to (Close p) names is = tt
+
+-- what the first entries leave, from the values at the base on
+pub value_from_base : (history : List Entry) (c : Cut) (values : List ℕ → Option (List ℕ)) (key : List ℕ) (n : ℕ) → AreNaming history → IsCut history c → ((k : List ℕ) → value_at history k c.base ≡ values k) → c.base ≤ n → n ≤ length history → value_at history key n ≡ value_behind (cut_front c (n - c.base)) values key
+value_from_base history c values key n naming cut same above within =
+    let k = n - c.base in
+    let split : n ≡ c.base + k = omega (arith, above) in
+    ap (λ (m : ℕ). newest (take m history) key) split
+    ∙ cut_value (take (c.base + k) history) (cut_front c k) values (follow_take NamesUndecided (c.base + k) history naming) (front_is_cut history c k cut (omega (arith, above, within, entries_long history c cut))) (λ x. value_of_front history c k x ∙ same x) key

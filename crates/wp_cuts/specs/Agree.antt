@@ -1,8 +1,9 @@
 -- What two lists have in common from a base on.
-use Rattle.std.specs.Prelude.{◌≡◌, ℕ, ◌<◌, ◌≤◌, true, List, length, take, Option, Some}
+use Rattle.std.specs.Prelude.{◌≡◌, ℕ, ◌<◌, ◌≤◌, true, List, length, take, drop, Option, Some}
 use Rattle.wp_model.specs.declared.entry.Entry.{Entry}
 use Rattle.wp_model.specs.History.{entry_at, is_undecided, undecided, named, holder_of, value_at}
 use Rattle.wp_model.specs.Decision.{entry_version, decision_of, is_committed}
+use Rattle.wp_model.specs.Flushed.{later_versions}
 use Rattle.wp_cuts.specs.Cut.{cut_at}
 
 -- both have the same values at the base
@@ -24,3 +25,15 @@ pub record AgreeFrom (one other : List Entry) (base : ℕ) : Type 0 where
   pub carried_decisions : (p : ℕ) → is_undecided (take base one) p ≡ true → decision_of one p ≡ decision_of other p
   pub committed : (key : List ℕ) (p n : ℕ) (value its : Option (List ℕ)) → base ≤ n → entry_version one p key ≡ Some value → entry_version other p key ≡ Some its → is_committed one p n ≡ is_committed other p n
   pub cuts : (m : ℕ) → base ≤ m → m ≤ length one → cut_at one m ≡ cut_at other m
+
+-- What a reply may be judged by is the same in both, at each number n from the base on: all that lists agree in also when cut short
+-- there, which prepares were undecided then, their entries, then and in the whole list, the entries behind, and the versions of
+-- those between two numbers.
+pub record TellAlike (one other : List Entry) (base : ℕ) : Type 0 where
+  pub whole : AgreeFrom one other base
+  pub fronts : (n : ℕ) → base ≤ n → n ≤ length one → AgreeFrom (take n one) (take n other) base
+  pub undecided : (p n : ℕ) → base ≤ n → n ≤ length one → is_undecided (take n one) p ≡ is_undecided (take n other) p
+  pub prepared : (p n : ℕ) → base ≤ n → n ≤ length one → is_undecided (take n one) p ≡ true → entry_at (take n one) p ≡ entry_at (take n other) p
+  pub own : (p n : ℕ) → base ≤ n → n ≤ length one → is_undecided (take n one) p ≡ true → entry_at one p ≡ entry_at other p
+  pub behind : (n : ℕ) → base ≤ n → n ≤ length one → drop n one ≡ drop n other
+  pub later : (m n : ℕ) → base ≤ m → m ≤ n → n ≤ length one → later_versions (take n one) m ≡ later_versions (take n other) m

@@ -1,5 +1,5 @@
 -- A legal cut, with the values at its base; and how the versions of a store lie below what it carries.
-use Rattle.std.specs.Prelude.{◌≡◌, ℕ, ◌+◌, ◌<◌, ◌≤◌, true, List, [], length, map, take, fold, Option, Some, slice_get}
+use Rattle.std.specs.Prelude.{◌≡◌, ℕ, ◌+◌, ◌<◌, ◌≤◌, true, List, [], ◌++◌, length, map, take, fold, Option, Some, slice_get}
 use Rattle.std.specs.List.{AllByRecursion}
 use Rattle.wp_model.specs.declared.entry.Entry.{Entry}
 use Rattle.wp_model.specs.declared.entry.Entry.TheVariants.{Undo}
@@ -59,3 +59,7 @@ pub record IsLegalCut (c : Cut) (values : List ℕ → Option (List ℕ)) : Type
 abbrev pub AreBelow : Cut → List Version → Type 0
 AreBelow c versions = (key : List ℕ) (q p : ℕ) (value : Option (List ℕ)) (x : Carried) → version_at versions key q ≡ Some value → is_settled c q ≡ true
     → carried_at c p ≡ Some x → is_changed x.batch key ≡ true → q < p
+
+-- each of these entries is orderly behind a list and those of them that are before it
+abbrev pub AreOrderlyBehind : List Entry → List Entry → Type 0
+AreOrderlyBehind before entries = (n : ℕ) (entry : Entry) → slice_get entries n ≡ Some entry → IsOrderlyNext (before ++ take n entries) entry

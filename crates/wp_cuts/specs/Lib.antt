@@ -4,3 +4,4 @@ pub mod LegalCut
 pub mod Reopened
 pub mod Copied
 pub mod Kept
+pub mod UpTo

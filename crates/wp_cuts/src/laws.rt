@@ -1,23 +1,32 @@
 //! Which lists have a cut, which agree from its base on, and which cuts are legal, over plain lists.
-ghost use Rattle.std.specs.Prelude.{◌≡◌, ◌↔◌, ℕ, ◌+◌, ◌≤◌, None, List, [], ◌∷◌, ◌++◌, length, take};
+ghost use Rattle.std.specs.Prelude.{◌≡◌, ◌↔◌, ℕ, ◌+◌, ◌-◌, ◌<◌, ◌≤◌, Option, Some, None, List, [], ◌∷◌, ◌++◌, length, map, take, slice_get};
 ghost use Rattle.wp_model.specs.declared.entry.Entry.{Entry};
+ghost use Rattle.wp_model.specs.declared.entry.Entry.TheVariants as entry;
 ghost use Rattle.wp_model.specs.declared.version.Version.{Version};
-ghost use Rattle.wp_model.specs.Covered.{IsCovered};
+ghost use Rattle.wp_model.specs.Covered.{GivesStore, IsCovered};
 ghost use Rattle.wp_model.specs.Flushed.{later_versions};
-ghost use Rattle.wp_model.specs.History.{value_at};
+ghost use Rattle.wp_model.specs.History.{entry_at, undecided, value_at};
 ghost use Rattle.wp_model.specs.Legal.{IsLegal, undone_last, IsOrderlyNext};
 ghost use Rattle.wp_model.specs.Versions.{AreInOrder};
-ghost use Rattle.wp_cuts.specs.Agree.{HaveSameValues, AgreeFrom};
+ghost use Rattle.wp_cuts.specs.Agree.{HaveSameValues, AgreeFrom, TellAlike};
 ghost use Rattle.wp_cuts.specs.Copied.{AreNewest};
-ghost use Rattle.wp_cuts.specs.Cut.{Cut, cut_at, IsCut, base_value, full_of};
+ghost use Rattle.wp_cuts.specs.Cut.{Carried, Cut, carried_of, cut_at, IsCut, carried_at, base_value, full_of};
 ghost use Rattle.wp_cuts.specs.Kept.{carried_versions, HasKeysAt, AreKept};
-ghost use Rattle.wp_cuts.specs.LegalCut.{AreNumbered, prepares_of, IsLegalCut, AreBelow};
+ghost use Rattle.wp_cuts.specs.LegalCut.{AreNumbered, cut_front, prepares_of, value_behind, IsLegalCut, AreBelow, AreOrderlyBehind};
 ghost use Rattle.wp_cuts.specs.Reopened.{AreFromBase, IsReopened};
+ghost use Rattle.wp_cuts.specs.UpTo.{HaveSameUpTo};
 
 /// Lists with one cut and the same values at its base agree from there on, whatever stands below it.
 pub fn cuts_agree()
     ensures { (one other : List Entry) (c : Cut) → IsLegal one → IsLegal other → IsCut one c → IsCut other c
         → HaveSameValues one other c.base → AgreeFrom one other c.base }
+{}
+
+/// So they tell alike of all that a reply is judged by, at each number from the base on: no row of replies depends on what stands
+/// below it.
+pub fn lists_tell_alike()
+    ensures { (one other : List Entry) (c : Cut) → IsLegal one → IsLegal other → IsCut one c → IsCut other c
+        → HaveSameValues one other c.base → TellAlike one other c.base }
 {}
 
 /// A list that grows has the cut with what follows; and it may be cut at each number that no undo ends.
@@ -26,19 +35,55 @@ pub fn cuts_grow()
         → IsCut (history ++ more) (record c { entries = c.entries ++ more }) }
     ensures again { (history : List Entry) (m : ℕ) → m ≤ length history → undone_last (take m history) ≡ None
         → IsCut history (cut_at history m) }
+    ensures end { (history : List Entry) → undone_last history ≡ None
+        → IsCut history (record { base = length history; carried = carried_of history; entries = [] }) }
 {}
 
-/// The full list of a cut and a store's versions has that cut, and at its base the values of the versions.
+/// The full list of a cut and a store's versions has that cut, and at its base the values of the versions. It has what is carried at
+/// its numbers and the entries behind, and grows as they do.
 pub fn full_list_has_the_cut()
     ensures cut { (c : Cut) (versions : List Version) → AreNumbered c → IsCut (full_of c versions) c }
     ensures values { (c : Cut) (versions : List Version) (key : List ℕ) → AreNumbered c → AreInOrder versions
         → value_at (full_of c versions) key c.base ≡ base_value c versions key }
+    ensures long { (c : Cut) (versions : List Version) → length (full_of c versions) ≡ c.base + length c.entries }
+    ensures carried { (c : Cut) (versions : List Version) (p : ℕ) (x : Carried) → AreNumbered c → carried_at c p ≡ Some x
+        → entry_at (full_of c versions) p ≡ Some (entry.Prepare x.name x.batch) }
+    ensures undecided { (c : Cut) (versions : List Version) → AreNumbered c
+        → undecided (take c.base (full_of c versions)) ≡ map (λ x. x.number) c.carried }
+    ensures behind { (c : Cut) (versions : List Version) (p : ℕ) → c.base < p
+        → entry_at (full_of c versions) p ≡ slice_get c.entries (p - 1 - c.base) }
+    ensures grows { (c : Cut) (versions : List Version) (more : List Entry)
+        → full_of (record c { entries = c.entries ++ more }) versions ≡ full_of c versions ++ more }
 {}
 
-/// What is orderly behind a cut, by the prepares alone, is that behind each list with this cut.
+/// What the first entries of a list leave under a key is what those behind the base do, from the values at the base on.
+pub fn values_go_on_from_the_base()
+    ensures { (history : List Entry) (c : Cut) (values : List ℕ → Option (List ℕ)) (key : List ℕ) (n : ℕ) → IsLegal history → IsCut history c
+        → ((k : List ℕ) → value_at history k c.base ≡ values k) → c.base ≤ n → n ≤ length history
+        → value_at history key n ≡ value_behind (cut_front c (n - c.base)) values key }
+{}
+
+/// What versions have at a base hangs on those that are numbered up to it: with later ones they have the same values there, stand for
+/// the same list, and show readers at the base the same.
+pub fn later_versions_are_apart()
+    ensures same { (history : List Entry) (versions : List Version) (base flushed : ℕ) → base ≤ flushed
+        → HaveSameUpTo base (versions ++ later_versions history flushed) versions }
+    ensures full { (history : List Entry) (c : Cut) (versions : List Version) (flushed : ℕ) → c.base ≤ flushed
+        → full_of c (versions ++ later_versions history flushed) ≡ full_of c versions }
+    ensures value { (history : List Entry) (c : Cut) (versions : List Version) (key : List ℕ) (flushed : ℕ) → c.base ≤ flushed
+        → base_value c (versions ++ later_versions history flushed) key ≡ base_value c versions key }
+    ensures values { (c : Cut) (one other : List Version) (key : List ℕ) → AreInOrder one → AreInOrder other → HaveSameUpTo c.base one other
+        → base_value c one key ≡ base_value c other key }
+    ensures gives { (history : List Entry) (one other : List Version) (base : ℕ) (key : List ℕ) → IsLegal history → base ≤ length history
+        → HaveSameUpTo base one other → GivesStore one history key base → GivesStore other history key base }
+{}
+
+/// What is orderly behind a cut, by the prepares alone, is that behind each list with this cut: one entry, or several one after another.
 pub fn what_may_follow_a_cut()
-    ensures { (history : List Entry) (c : Cut) (entry : Entry) → IsLegal history → IsCut history c
+    ensures one { (history : List Entry) (c : Cut) (entry : Entry) → IsLegal history → IsCut history c
         → (IsOrderlyNext (prepares_of c) entry ↔ IsOrderlyNext history entry) }
+    ensures several { (history : List Entry) (c : Cut) (entries : List Entry) → IsLegal history → IsCut history c
+        → (AreOrderlyBehind (prepares_of c) entries ↔ AreOrderlyBehind history entries) }
 {}
 
 /// A cut is legal, with a store's versions below what it carries, exactly where its full list is legal.

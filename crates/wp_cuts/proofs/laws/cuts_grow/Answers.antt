@@ -1,4 +1,4 @@
-use Rattle.wp_cuts.proofs.Growing.{cut_grows, cut_again}
+use Rattle.wp_cuts.proofs.Growing.{cut_grows, cut_again, cut_at_end}
 use Rattle.wp_cuts.proofs.laws.cuts_grow.Goals as goal
 
 pub returns-clause-more : goal.returns-clause-more
@@ -6,3 +6,6 @@ returns-clause-more c = cut_grows
 
 pub returns-clause-again : goal.returns-clause-again
 returns-clause-again c = cut_again
+
+pub returns-clause-end : goal.returns-clause-end
+returns-clause-end c = cut_at_end

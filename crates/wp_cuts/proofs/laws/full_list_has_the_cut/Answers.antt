@@ -1,4 +1,5 @@
-use Rattle.wp_cuts.proofs.FullList.{full_is_cut, full_value}
+use Rattle.wp_cuts.proofs.FullList.{full_is_cut, full_value, full_long, full_carried, full_undecided, full_behind}
+use Rattle.wp_cuts.proofs.Several.{full_grows}
 use Rattle.wp_cuts.proofs.laws.full_list_has_the_cut.Goals as goal
 
 pub returns-clause-cut : goal.returns-clause-cut
@@ -6,3 +7,18 @@ returns-clause-cut c = full_is_cut
 
 pub returns-clause-values : goal.returns-clause-values
 returns-clause-values c = full_value
+
+pub returns-clause-long : goal.returns-clause-long
+returns-clause-long c = full_long
+
+pub returns-clause-carried : goal.returns-clause-carried
+returns-clause-carried c = full_carried
+
+pub returns-clause-undecided : goal.returns-clause-undecided
+returns-clause-undecided c = full_undecided
+
+pub returns-clause-behind : goal.returns-clause-behind
+returns-clause-behind c = full_behind
+
+pub returns-clause-grows : goal.returns-clause-grows
+returns-clause-grows c = full_grows
