@@ -33,7 +33,7 @@ naming_to front more k naming =
     let whole : front ++ more ≡ (front ++ take k more) ++ drop k more = ap (λ (h : List Entry). front ++ h) (sym (take-append-drop k more)) ∙ sym (append_assoc front (take k more) (drop k more)) in
     follow_front NamesUndecided (front ++ take k more) (drop k more) (subst AreNaming whole naming)
 
-drop_behind : (front more : List Entry) (n : ℕ) → length front ≤ n → drop n (front ++ more) ≡ drop (n - length front) more
+pub drop_behind : (front more : List Entry) (n : ℕ) → length front ≤ n → drop n (front ++ more) ≡ drop (n - length front) more
 drop_behind front more n above =
     let k = n - length front in
     let split : n ≡ length front + k = omega arith in

@@ -1,11 +1,11 @@
 -- Lists with one cut and the same values at its base tell alike at each number from there on.
-use Rattle.std.proofs.Common.{◌≡◌, ℕ, ◌+◌, ◌-◌, ◌≤◌, Bool, true, false, ◌||◌, not, eqb, List, ◌++◌, length, take, drop, refl, sym, ap, ◌∙◌, subst, inl, inr, length-take-le, take-append-drop, arith}
+use Rattle.std.proofs.Common.{◌≡◌, ℕ, ◌+◌, ◌-◌, ◌≤◌, Bool, true, false, ◌||◌, not, eqb, List, ◌++◌, length, take, drop, refl, sym, ap, ◌∙◌, inl, inr, length-take-le, take-append-drop, arith}
 use Rattle.std.specs.List.{list_any}
 use Rattle.std.proofs.lemmas.Bool.{cases_lt, and_parts, and_from}
 use Rattle.std.proofs.lemmas.List.Folds.{list_any-append}
 use Rattle.std.proofs.lemmas.List.{take-take, drop-take}
 use Rattle.wp_model.specs.declared.entry.Entry.{Entry}
-use Rattle.wp_model.specs.History.{entry_at, is_prepare, decides, is_undecided}
+use Rattle.wp_model.specs.History.{entry_at, is_prepare, decides, is_undecided, value_at, newest}
 use Rattle.wp_model.specs.Flushed.{versions_after, later_versions}
 use Rattle.wp_model.specs.Legal.{NamesUndecided}
 use Rattle.wp_model.proofs.Entries.{entry_at_old, undecided_within}
@@ -16,7 +16,7 @@ use Rattle.wp_cuts.specs.Cut.{Cut, IsCut}
 use Rattle.wp_cuts.specs.Agree.{HaveSameValues, AgreeFrom, TellAlike}
 use Rattle.wp_cuts.specs.LegalCut.{cut_front}
 use Rattle.wp_cuts.proofs.Agreeing.{cuts_agree}
-use Rattle.wp_cuts.proofs.Growing.{entries_long, front_is_cut, value_of_front}
+use Rattle.wp_cuts.proofs.Growing.{cut_to}
 
 not_left : (a b : Bool) → not (a || b) ≡ true → not a ≡ true
 not_left true b h = absurd cc
@@ -39,18 +39,12 @@ module _ (one other : List Entry) (c : Cut) (naming : AreNaming one) (also : Are
   whole : AgreeFrom one other base
   whole = cuts_agree one other c naming also cut cut_too values
 
-  fronts_behind : (k : ℕ) → base + k ≤ length one → AgreeFrom (take (base + k) one) (take (base + k) other) base
-  fronts_behind k within =
-      let n = base + k in
-      cuts_agree (take n one) (take n other) (cut_front c k) (follow_take NamesUndecided n one naming) (follow_take NamesUndecided n other also)
-      (front_is_cut one c k cut (omega (arith, within, entries_long one c cut)))
-      (front_is_cut other c k cut_too (omega (arith, within, entries_long one c cut)))
-      (λ key. value_of_front one c k key ∙ values key ∙ sym (value_of_front other c k key))
-
   fronts : (n : ℕ) → base ≤ n → n ≤ length one → AgreeFrom (take n one) (take n other) base
   fronts n above within =
-      let same : base + (n - base) ≡ n = omega (arith, above) in
-      subst (λ (m : ℕ). AgreeFrom (take m one) (take m other) base) same (fronts_behind (n - base) (omega (arith, above, within)))
+      let at_base : (history : List Entry) (key : List ℕ) → value_at (take n history) key base ≡ value_at history key base = λ history key. ap (λ (h : List Entry). newest h key) (take-take base n history above) in
+      cuts_agree (take n one) (take n other) (cut_front c (n - base)) (follow_take NamesUndecided n one naming) (follow_take NamesUndecided n other also)
+      (cut_to one c n cut above within) (cut_to other c n cut_too above (omega (arith, within, whole.long)))
+      (λ key. at_base one key ∙ values key ∙ sym (at_base other key))
 
   undecided_same : (p n : ℕ) → base ≤ n → n ≤ length one → is_undecided (take n one) p ≡ is_undecided (take n other) p
   undecided_same p n above within =

@@ -1,5 +1,5 @@
 -- A cut of a list that grows, and of what a list begins with.
-use Rattle.std.proofs.Common.{◌≡◌, ℕ, ◌+◌, ◌≤◌, List, [], ◌++◌, length, take, drop, None, refl, sym, ap, ◌∙◌, length-append, length-drop, take_all, arith}
+use Rattle.std.proofs.Common.{◌≡◌, ℕ, ◌+◌, ◌-◌, ◌≤◌, List, [], ◌++◌, length, take, drop, None, refl, sym, ap, ◌∙◌, subst, length-append, length-drop, take_all, arith}
 use Rattle.std.proofs.lemmas.List.{drop_all, take-append-le, drop-append-le, take-take, drop-take, length-take-le}
 use Rattle.wp_model.specs.declared.entry.Entry.{Entry}
 use Rattle.wp_model.specs.History.{value_at, newest}
@@ -52,6 +52,12 @@ front_is_cut history c n cut within =
       whole = ap undone_last front ∙ cut.whole;
       is = λ i. record { base = c.base; carried = carried i; entries = entries i };
     }
+
+pub cut_to : (history : List Entry) (c : Cut) (n : ℕ) → IsCut history c → c.base ≤ n → n ≤ length history → IsCut (take n history) (cut_front c (n - c.base))
+cut_to history c n cut above within =
+    let k = n - c.base in
+    let same : c.base + k ≡ n = omega (arith, above) in
+    subst (λ (m : ℕ). IsCut (take m history) (cut_front c k)) same (front_is_cut history c k cut (omega (arith, above, within, entries_long history c cut)))
 
 pub value_of_front : (history : List Entry) (c : Cut) (n : ℕ) (key : List ℕ) → value_at (take (c.base + n) history) key c.base ≡ value_at history key c.base
 value_of_front history c n key = ap (λ (h : List Entry). newest h key) (take-take c.base (c.base + n) history (omega arith))

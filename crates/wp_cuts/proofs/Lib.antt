@@ -16,3 +16,4 @@ mod Keeping
 mod UpTo
 mod Fronts
 mod Several
+mod Whole

@@ -3,6 +3,7 @@ use Rattle.std.proofs.Common.{◌≡◌, ℕ, zero, suc, ◌+◌, ◌-◌, ◌<�
 use Rattle.std.specs.Prelude.{fold, unwrap_or}
 use Rattle.std.specs.List.{AllByRecursion, filter, range_with_len}
 use Rattle.std.proofs.lemmas.Bool.{cases_Bool}
+use Rattle.std.proofs.lemmas.List.{take-take}
 use Rattle.wp_model.specs.declared.change.Change.{Change}
 use Rattle.wp_model.specs.declared.entry.Entry.{Entry}
 use Rattle.wp_model.specs.declared.entry.Entry.TheVariants.{Write, Prepare, Commit, Undo, Close}
@@ -19,7 +20,7 @@ use Rattle.wp_cuts.specs.Cut.{Carried, Cut, carried_from, IsCut, full_of}
 use Rattle.wp_cuts.specs.LegalCut.{AreNumbered, cut_front, prepares_of, value_behind, RestoresBehind}
 use Rattle.wp_cuts.proofs.Alike.{AreAlike, alike_back, alike_next, alike_behind, names_alike, changes_alike, orderly_alike}
 use Rattle.wp_cuts.proofs.Agreeing.{numbers_back, alike_at_base, cut_whole}
-use Rattle.wp_cuts.proofs.Growing.{entries_long, front_is_cut, value_of_front}
+use Rattle.wp_cuts.proofs.Growing.{cut_to}
 use Rattle.wp_cuts.proofs.FullList.{front, full_is, front_naming, take_front, full_is_cut}
 
 -- ---- the numbers that a cut carries
@@ -143,7 +144,5 @@ module _ (history : List Entry) (c : Cut) (values : List ℕ → Option (List �
 -- what the first entries leave, from the values at the base on
 pub value_from_base : (history : List Entry) (c : Cut) (values : List ℕ → Option (List ℕ)) (key : List ℕ) (n : ℕ) → AreNaming history → IsCut history c → ((k : List ℕ) → value_at history k c.base ≡ values k) → c.base ≤ n → n ≤ length history → value_at history key n ≡ value_behind (cut_front c (n - c.base)) values key
 value_from_base history c values key n naming cut same above within =
-    let k = n - c.base in
-    let split : n ≡ c.base + k = omega (arith, above) in
-    ap (λ (m : ℕ). newest (take m history) key) split
-    ∙ cut_value (take (c.base + k) history) (cut_front c k) values (follow_take NamesUndecided (c.base + k) history naming) (front_is_cut history c k cut (omega (arith, above, within, entries_long history c cut))) (λ x. value_of_front history c k x ∙ same x) key
+    cut_value (take n history) (cut_front c (n - c.base)) values (follow_take NamesUndecided n history naming) (cut_to history c n cut above within)
+    (λ k. ap (λ (h : List Entry). newest h k) (take-take c.base n history above) ∙ same k) key

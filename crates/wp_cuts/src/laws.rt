@@ -1,5 +1,5 @@
 //! Which lists have a cut, which agree from its base on, and which cuts are legal, over plain lists.
-ghost use Rattle.std.specs.Prelude.{◌≡◌, ◌↔◌, ℕ, ◌+◌, ◌-◌, ◌<◌, ◌≤◌, Option, Some, None, List, [], ◌∷◌, ◌++◌, length, map, take, slice_get};
+ghost use Rattle.std.specs.Prelude.{◌≡◌, ◌↔◌, ℕ, ◌+◌, ◌-◌, ◌<◌, ◌≤◌, Option, Some, None, List, [], ◌∷◌, ◌++◌, true, length, map, take, drop, slice_get};
 ghost use Rattle.wp_model.specs.declared.entry.Entry.{Entry};
 ghost use Rattle.wp_model.specs.declared.entry.Entry.TheVariants as entry;
 ghost use Rattle.wp_model.specs.declared.version.Version.{Version};
@@ -10,7 +10,7 @@ ghost use Rattle.wp_model.specs.Legal.{IsLegal, undone_last, IsOrderlyNext};
 ghost use Rattle.wp_model.specs.Versions.{AreInOrder};
 ghost use Rattle.wp_cuts.specs.Agree.{HaveSameValues, AgreeFrom, TellAlike};
 ghost use Rattle.wp_cuts.specs.Copied.{AreNewest};
-ghost use Rattle.wp_cuts.specs.Cut.{Carried, Cut, carried_of, cut_at, IsCut, carried_at, base_value, full_of};
+ghost use Rattle.wp_cuts.specs.Cut.{Carried, Cut, carried_of, cut_at, IsCut, carried_at, is_settled, base_value, changes_at, full_of};
 ghost use Rattle.wp_cuts.specs.Kept.{carried_versions, HasKeysAt, AreKept};
 ghost use Rattle.wp_cuts.specs.LegalCut.{AreNumbered, cut_front, prepares_of, value_behind, IsLegalCut, AreBelow, AreOrderlyBehind};
 ghost use Rattle.wp_cuts.specs.Reopened.{AreFromBase, IsReopened};
@@ -29,18 +29,21 @@ pub fn lists_tell_alike()
         → HaveSameValues one other c.base → TellAlike one other c.base }
 {}
 
-/// A list that grows has the cut with what follows; and it may be cut at each number that no undo ends.
+/// A list that grows has the cut with what follows, and what it begins with has it with less. It may be cut at each number that no undo
+/// ends, at its end too.
 pub fn cuts_grow()
     ensures more { (history more : List Entry) (c : Cut) → IsCut history c
         → IsCut (history ++ more) (record c { entries = c.entries ++ more }) }
     ensures again { (history : List Entry) (m : ℕ) → m ≤ length history → undone_last (take m history) ≡ None
         → IsCut history (cut_at history m) }
+    ensures front { (history : List Entry) (c : Cut) (n : ℕ) → IsCut history c → c.base ≤ n → n ≤ length history
+        → IsCut (take n history) (cut_front c (n - c.base)) }
     ensures end { (history : List Entry) → undone_last history ≡ None
         → IsCut history (record { base = length history; carried = carried_of history; entries = [] }) }
 {}
 
 /// The full list of a cut and a store's versions has that cut, and at its base the values of the versions. It has what is carried at
-/// its numbers and the entries behind, and grows as they do.
+/// its numbers, Writes at the others up to the base, and the entries behind; it grows and is cut short as they are.
 pub fn full_list_has_the_cut()
     ensures cut { (c : Cut) (versions : List Version) → AreNumbered c → IsCut (full_of c versions) c }
     ensures values { (c : Cut) (versions : List Version) (key : List ℕ) → AreNumbered c → AreInOrder versions
@@ -52,6 +55,13 @@ pub fn full_list_has_the_cut()
         → undecided (take c.base (full_of c versions)) ≡ map (λ x. x.number) c.carried }
     ensures behind { (c : Cut) (versions : List Version) (p : ℕ) → c.base < p
         → entry_at (full_of c versions) p ≡ slice_get c.entries (p - 1 - c.base) }
+    ensures settled { (c : Cut) (versions : List Version) (p : ℕ) → is_settled c p ≡ true
+        → entry_at (full_of c versions) p ≡ Some (entry.Write (changes_at versions p)) }
+    ensures undone { (c : Cut) (versions : List Version) → undone_last (full_of c versions) ≡ undone_last c.entries }
+    ensures front { (c : Cut) (versions : List Version) (n : ℕ) → c.base ≤ n → n ≤ c.base + length c.entries
+        → take n (full_of c versions) ≡ full_of (cut_front c (n - c.base)) versions }
+    ensures rest { (c : Cut) (versions : List Version) (n : ℕ) → c.base ≤ n
+        → drop n (full_of c versions) ≡ drop (n - c.base) c.entries }
     ensures grows { (c : Cut) (versions : List Version) (more : List Entry)
         → full_of (record c { entries = c.entries ++ more }) versions ≡ full_of c versions ++ more }
 {}
