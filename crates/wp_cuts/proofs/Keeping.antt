@@ -122,7 +122,7 @@ has_carried (y ∷ ys) p x key value found there = by (y.number == p) refl found
 
 -- ---- where each of a list in order goes to a place of its own
 
-abbrev own : List Version → Version → Type 0
+abbrev pub own : List Version → Version → Type 0
 own versions v = version_at versions v.key v.number ≡ Some v.value
 
 apart : (v w : Version) → version_cmp v w ≡ Less → AreAtOne v w → ⊥
@@ -136,7 +136,7 @@ own_behind v vs (w ∷ ws) before all = (by (is_here w.key w.number v) refl all.
     by true is e = let one = at_parts w v is in absurd (apart v w before.0 (sym one.0, sym one.1))
     by false is e = e
 
-all_own : (vs : List Version) → AreInOrder vs → AllByRecursion (own vs) vs
+pub all_own : (vs : List Version) → AreInOrder vs → AllByRecursion (own vs) vs
 all_own [] order = tt
 all_own (v ∷ vs) order = let parts = in_order_parts v vs order in (rw (at_from v v (refl, refl)) refl, own_behind v vs vs parts.0 (all_own vs parts.1))
 

@@ -17,3 +17,5 @@ mod UpTo
 mod Fronts
 mod Several
 mod Whole
+mod Members
+mod Staying

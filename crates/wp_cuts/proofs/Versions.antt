@@ -18,7 +18,7 @@ use Rattle.wp_cuts.specs.Cut.{change_in, changes_at}
 same_key : (a b : List ℕ) → bytes_eq a b ≡ true → a ≡ b
 same_key a b h = (bytes_eq-Decides a b).0 h
 
-key_itself : (a : List ℕ) → bytes_eq a a ≡ true
+pub key_itself : (a : List ℕ) → bytes_eq a a ≡ true
 key_itself a = (bytes_eq-Decides a a).1 refl
 
 left_value : (key : List ℕ) (value : Option (List ℕ)) → value_of (change_that_leaves key value) ≡ value

@@ -4,7 +4,7 @@ use Rattle.std.specs.List.{list_any}
 use Rattle.std.specs.Str.{bytes_eq}
 use Rattle.wp_model.specs.declared.entry.Entry.{Entry}
 use Rattle.wp_model.specs.declared.version.Version.{Version}
-use Rattle.wp_model.specs.Covered.{GivesStore}
+use Rattle.wp_model.specs.Covered.{GivesStore, is_among}
 use Rattle.wp_model.specs.Decision.{entry_version, IsCommittedAt}
 use Rattle.wp_model.specs.Flushed.{versions_under}
 use Rattle.wp_model.specs.History.{value_at}
@@ -43,3 +43,13 @@ pub record AreKept (history : List Entry) (base floor : ℕ) (kept : List Versio
   pub gives : (key : List ℕ) → GivesStore kept history key base
   pub newest : (key : List ℕ) (p : ℕ) (value : Option (List ℕ)) → version_at kept key p ≡ Some value → IsCommittedAt history p floor → IsNewestFrom history kept base key p
   pub deletions : (key : List ℕ) (p : ℕ) → version_at kept key p ≡ Some None → IsCommittedAt history p floor → HasOlder kept key p
+
+-- Some of the history's versions, none above the floor, by which each key has at the base what the store had there. They may stay
+-- for readers at these numbers too: the base is one of them, and none is below it.
+pub record StayFrom (history : List Entry) (versions : List Version) (numbers : List ℕ) (base floor : ℕ) : Type 0 where
+  pub above : base ≤ floor
+  pub listed : is_among numbers base ≡ true
+  pub from_base : (n : ℕ) → is_among numbers n ≡ true → base ≤ n
+  pub part : (key : List ℕ) (p : ℕ) (value : Option (List ℕ)) → version_at versions key p ≡ Some value → entry_version history p key ≡ Some value
+  pub within : (key : List ℕ) (p : ℕ) (value : Option (List ℕ)) → version_at versions key p ≡ Some value → p ≤ floor
+  pub gives : (key : List ℕ) → GivesStore versions history key base

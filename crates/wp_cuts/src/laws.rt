@@ -1,5 +1,5 @@
 //! Which lists have a cut, which agree from its base on, and which cuts are legal, over plain lists.
-ghost use Rattle.std.specs.Prelude.{◌≡◌, ◌↔◌, ℕ, ◌+◌, ◌-◌, ◌<◌, ◌≤◌, Option, Some, None, List, [], ◌∷◌, ◌++◌, true, length, map, take, drop, slice_get};
+ghost use Rattle.std.specs.Prelude.{◌≡◌, ◌↔◌, ℕ, Bool, ◌+◌, ◌-◌, ◌<◌, ◌≤◌, Option, Some, None, List, [], ◌∷◌, ◌++◌, true, length, map, take, drop, slice_get};
 ghost use Rattle.wp_model.specs.declared.entry.Entry.{Entry};
 ghost use Rattle.wp_model.specs.declared.entry.Entry.TheVariants as entry;
 ghost use Rattle.wp_model.specs.declared.version.Version.{Version};
@@ -8,10 +8,12 @@ ghost use Rattle.wp_model.specs.Flushed.{later_versions};
 ghost use Rattle.wp_model.specs.History.{entry_at, undecided, value_at};
 ghost use Rattle.wp_model.specs.Legal.{IsLegal, undone_last, IsOrderlyNext};
 ghost use Rattle.wp_model.specs.Versions.{AreInOrder};
+ghost use Rattle.wp_keep.specs.Keep.{retained_of};
+ghost use Rattle.wp_keep.specs.MayGo.{MayGo};
 ghost use Rattle.wp_cuts.specs.Agree.{HaveSameValues, AgreeFrom, TellAlike};
 ghost use Rattle.wp_cuts.specs.Copied.{AreNewest};
 ghost use Rattle.wp_cuts.specs.Cut.{Carried, Cut, carried_of, cut_at, IsCut, carried_at, is_settled, base_value, changes_at, full_of};
-ghost use Rattle.wp_cuts.specs.Kept.{carried_versions, HasKeysAt, AreKept};
+ghost use Rattle.wp_cuts.specs.Kept.{carried_versions, HasKeysAt, AreKept, StayFrom};
 ghost use Rattle.wp_cuts.specs.LegalCut.{AreNumbered, cut_front, prepares_of, value_behind, IsLegalCut, AreBelow, AreOrderlyBehind};
 ghost use Rattle.wp_cuts.specs.Reopened.{AreFromBase, IsReopened};
 ghost use Rattle.wp_cuts.specs.UpTo.{HaveSameUpTo};
@@ -132,4 +134,16 @@ pub fn kept_versions_are_few()
     ensures { (history : List Entry) (c : Cut) (kept : List Version) (keys : List (List ℕ)) (floor : ℕ) → IsLegal history → IsCut history c
         → c.base ≤ floor → AreKept history c.base floor kept → HasKeysAt history c.base keys
         → length kept ≤ length keys + (length (carried_versions c.carried) + length (later_versions (take floor history) c.base)) }
+{}
+
+/// What stays of versions for readers at the floor and at numbers from a base on, the base among them, is kept from there on.
+/// So it is as few, in a history with a cut at the base.
+pub fn what_stays_is_few()
+    ensures kept { (committed : ℕ → ℕ → Bool) (history : List Entry) (newer versions : List Version) (numbers : List ℕ) (base floor : ℕ)
+        → MayGo committed history newer versions numbers floor → StayFrom history versions numbers base floor
+        → AreKept history base floor (retained_of committed versions numbers floor) }
+    ensures few { (committed : ℕ → ℕ → Bool) (history : List Entry) (c : Cut) (newer versions : List Version) (numbers : List ℕ)
+        (keys : List (List ℕ)) (floor : ℕ) → IsLegal history → IsCut history c
+        → MayGo committed history newer versions numbers floor → StayFrom history versions numbers c.base floor → HasKeysAt history c.base keys
+        → length (retained_of committed versions numbers floor) ≤ length keys + (length (carried_versions c.carried) + length (later_versions (take floor history) c.base)) }
 {}
