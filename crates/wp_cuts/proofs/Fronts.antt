@@ -3,7 +3,7 @@ use Rattle.std.proofs.Common.{◌≡◌, ℕ, ◌+◌, ◌-◌, ◌≤◌, Bool,
 use Rattle.std.specs.List.{list_any}
 use Rattle.std.proofs.lemmas.Bool.{cases_lt, and_parts, and_from}
 use Rattle.std.proofs.lemmas.List.Folds.{list_any-append}
-use Rattle.std.proofs.lemmas.List.{take-take, drop-take}
+use Rattle.std.proofs.lemmas.List.{take-take, drop-take, drop_all}
 use Rattle.wp_model.specs.declared.entry.Entry.{Entry}
 use Rattle.wp_model.specs.History.{entry_at, is_prepare, decides, is_undecided, value_at, newest}
 use Rattle.wp_model.specs.Flushed.{versions_after, later_versions}
@@ -72,10 +72,16 @@ module _ (one other : List Entry) (c : Cut) (naming : AreNaming one) (also : Are
   behind : (n : ℕ) → base ≤ n → n ≤ length one → drop n one ≡ drop n other
   behind n above within = ap (λ (d : Cut). d.entries) (whole.cuts n above within)
 
-  later : (m n : ℕ) → base ≤ m → m ≤ n → n ≤ length one → later_versions (take n one) m ≡ later_versions (take n other) m
-  later m n above le within =
-      let entries : (history : List Entry) → drop m (take n history) ≡ take (n - m) (drop m history) = λ history. ap (λ (k : ℕ). drop m (take k history)) (let same : n ≡ m + (n - m) = omega (arith, le) in same) ∙ drop-take m (n - m) history in
-      ap (versions_after m) (entries one ∙ ap (take (n - m)) (behind m above (omega (arith, le, within))) ∙ sym (entries other))
+  later : (m n : ℕ) → base ≤ m → n ≤ length one → later_versions (take n one) m ≡ later_versions (take n other) m
+  later m n above within = ap (versions_after m) (elim (cases_lt m n) [
+    | inl lt ↦
+        let split : n ≡ m + (n - m) = omega (arith, lt) in
+        let rest : (history : List Entry) → drop m (take n history) ≡ take (n - m) (drop m history) = λ history. ap (λ (k : ℕ). drop m (take k history)) split ∙ drop-take m (n - m) history in
+        rest one ∙ ap (take (n - m)) (behind m above (omega (arith, lt, within))) ∙ sym (rest other)
+    | inr le ↦
+        drop_all m (take n one) (omega (arith, le, length-take-le n one within))
+        ∙ sym (drop_all m (take n other) (omega (arith, le, length-take-le n other (omega (arith, within, whole.long)))))
+  ])
 
   pub tell_alike : TellAlike one other base
   tell_alike = record { whole = whole; fronts = fronts; undecided = undecided_same; prepared = prepared; own = own; behind = behind; later = later }

@@ -28,7 +28,7 @@ pub record AgreeFrom (one other : List Entry) (base : ℕ) : Type 0 where
 
 -- What a reply may be judged by is the same in both, at each number n from the base on: all that lists agree in also when cut short
 -- there, which prepares were undecided then, their entries, then and in the whole list, the entries behind, and the versions of
--- those between two numbers.
+-- those above one number and up to another.
 pub record TellAlike (one other : List Entry) (base : ℕ) : Type 0 where
   pub whole : AgreeFrom one other base
   pub fronts : (n : ℕ) → base ≤ n → n ≤ length one → AgreeFrom (take n one) (take n other) base
@@ -36,4 +36,4 @@ pub record TellAlike (one other : List Entry) (base : ℕ) : Type 0 where
   pub prepared : (p n : ℕ) → base ≤ n → n ≤ length one → is_undecided (take n one) p ≡ true → entry_at (take n one) p ≡ entry_at (take n other) p
   pub own : (p n : ℕ) → base ≤ n → n ≤ length one → is_undecided (take n one) p ≡ true → entry_at one p ≡ entry_at other p
   pub behind : (n : ℕ) → base ≤ n → n ≤ length one → drop n one ≡ drop n other
-  pub later : (m n : ℕ) → base ≤ m → m ≤ n → n ≤ length one → later_versions (take n one) m ≡ later_versions (take n other) m
+  pub later : (m n : ℕ) → base ≤ m → n ≤ length one → later_versions (take n one) m ≡ later_versions (take n other) m

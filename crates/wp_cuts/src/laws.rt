@@ -25,10 +25,13 @@ pub fn cuts_agree()
 {}
 
 /// So they tell alike of all that a reply is judged by, at each number from the base on: no row of replies depends on what stands
-/// below it.
+/// below it, and so not on which versions a full list was made of.
 pub fn lists_tell_alike()
-    ensures { (one other : List Entry) (c : Cut) → IsLegal one → IsLegal other → IsCut one c → IsCut other c
+    ensures any { (one other : List Entry) (c : Cut) → IsLegal one → IsLegal other → IsCut one c → IsCut other c
         → HaveSameValues one other c.base → TellAlike one other c.base }
+    ensures full { (c : Cut) (one other : List Version) → AreNumbered c → AreInOrder one → AreInOrder other
+        → IsLegal (full_of c one) → IsLegal (full_of c other) → ((key : List ℕ) → base_value c one key ≡ base_value c other key)
+        → TellAlike (full_of c one) (full_of c other) c.base }
 {}
 
 /// A list that grows has the cut with what follows, and what it begins with has it with less. It may be cut at each number that no undo
