@@ -64,7 +64,7 @@ fn read_fresh<D: Disk + Drop, R: Wait>(
     ensures read { IfOk result (λ read. ReadsFresh store.now seat.old seat.new key.now read.0 read.1) }
     ensures refused { OnErr result (Keeps store.now seat.old seat.new) }
 {
-    let snapshot = wp_read::snapshot(store, rt, seat)?;
+    let snapshot = wp_read::brief_snapshot(store, rt, seat)?;
     let at = snapshot.number();
     let outcome = wp_read::get(store, rt, seat, key, &snapshot);
     wp_read::release(store, rt, seat, snapshot);

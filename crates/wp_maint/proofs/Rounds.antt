@@ -158,8 +158,8 @@ pinned_by z a b history floor live seat same k = let t = k.taken in record {
     live = t.live;
     history_is = t.history_is;
     number = t.number;
-    smallest = t.smallest;
   };
+  least = k.least;
   are_again = k.are_again;
   are_live = k.are_live;
 }

@@ -25,7 +25,7 @@ use Rattle.wp_shared.specs.Clients.{KeepClient}
 use Rattle.wp_shared.specs.Seats.{SharedState, SeatState, place_at}
 use Rattle.wp_shared.proofs.OneStep.{becomes}
 use Rattle.wp_shared.proofs.Tables.{held_table}
-use Rattle.wp_read.specs.Registers.{ChangesSnapshots, IsTakenAt, IsPinned, AreCounted, AreLive, MayPin, again, numbers_of, with_each, pinning, pinned}
+use Rattle.wp_read.specs.Registers.{ChangesSnapshots, HasLeast, IsTakenAt, IsPinned, AreCounted, AreLive, MayPin, again, numbers_of, with_each, pinning, pinned}
 use Rattle.wp_read.proofs.Counts.{live_still, live_before}
 use Rattle.wp_read.proofs.Registers.{registered_and_released}
 use Rattle.wp_read.proofs.Seated.{changes_then, pinned_more}
@@ -162,11 +162,12 @@ module _ {D : Type 0} {z : SharedState D} {s0 s1 s2 : SeatState} {m1 : Snapshots
       subst (λ (x : ℕ × List ℕ). IsIn (live_listed x.0 x.1) s2.knows.notes) (λ i. (number i, (sym (ap numbers_of made ∙ numbers_again numbers)) i))
       (subst (λ (x : SeatState). IsIn (live_listed n numbers) x.knows.notes) (sym is) (inl refl))
 
-pub is_pinned : {D : Type 0} (z : SharedState D) (old : SeatState) (history : List Entry) (floor : Registration) (m : Snapshots) (numbers : List ℕ) (live : List Registration) → IsTakenAt z old history floor m → live ≡ map again numbers → AreLive m numbers → IsPinned z old history floor live
-is_pinned z old history floor m numbers live taken made are =
+pub is_pinned : {D : Type 0} (z : SharedState D) (old : SeatState) (history : List Entry) (floor : Registration) (m : Snapshots) (numbers : List ℕ) (live : List Registration) (taken : IsTakenAt z old history floor m) → HasLeast taken.world floor → live ≡ map again numbers → AreLive m numbers → IsPinned z old history floor live
+is_pinned z old history floor m numbers live taken least made are =
     let same : numbers_of live ≡ numbers = ap numbers_of made ∙ numbers_again numbers in record {
       before = m;
       taken = taken;
+      least = least;
       are_again = made ∙ ap (map again) (sym same);
       are_live = subst (AreLive m) (sym same) are;
     }

@@ -29,7 +29,7 @@ use Rattle.wp_shared.specs.Clients.{KeepClient}
 use Rattle.wp_shared.specs.Seats.{SharedState, SeatState, place_at}
 use Rattle.wp_shared.proofs.OneStep.{made, becomes}
 use Rattle.wp_shared.proofs.Tables.{held_table}
-use Rattle.wp_read.specs.Registers.{all_but_last_of, all_but_last, last_of, before_last, behind_last, registration_of, Registers, Unregisters}
+use Rattle.wp_read.specs.Registers.{all_but_last_of, all_but_last, last_of, before_last, behind_last, registration_of, MayRegister, Registers, Unregisters}
 use Rattle.wp_read.proofs.Readings.{held_live}
 
 -- ---- places in lists of registrations
@@ -186,9 +186,11 @@ registered_at z s t smallest number m same held n =
     record { world = w; there = n.before; number_is = n.so_is; seat = becomes s t (actor number m) same knows }
 
 module _ {D : Type 0} (z : SharedState D) (p : Place) (steps : World → List Step) (s t : SeatState) (smallest : Option ℕ) (is : steps ≡ (λ w. register (unwrap_or smallest (suc (length w.writes.history))) ∷ [])) where
-  pub may_register : (m : Snapshots) (tables : PreparedTables) → IsIn (snapshots m) s.knows.held → IsIn (prepared tables) s.knows.held → MatchOption smallest (NonePrepared tables) (IsSmallest tables) → MayMake p s.knows steps
-  may_register m tables held has least =
-      subst (MayMake p s.knows) (sym is) (registers_at p s.knows smallest (record { table = m; held = held; so_is = tt }) (record { table = tables; held = has; so_is = least }))
+  pub may_register : (m : Snapshots) → IsIn (snapshots m) s.knows.held → MayRegister s.knows.held smallest → MayMake p s.knows steps
+  may_register m held may = subst (MayMake p s.knows) (sym is) (⊎_elim
+      (λ (one : smallest ≡ Some 1). subst (λ (o : Option ℕ). MayMake p s.knows (λ w. registering o w ∷ [])) (sym one) (known_made p s.knows (register 1) tt (record { table = m; held = held; so_is = inl refl })))
+      (λ (known : (t : PreparedTables) × IsIn (prepared t) s.knows.held × MatchOption smallest (NonePrepared t) (IsSmallest t)). registers_at p s.knows smallest (record { table = m; held = held; so_is = tt }) (record { table = known.0; held = known.1; so_is = known.2 }))
+      may)
 
   pub register_keeps : (w : World) → KeepClient (steps w)
   register_keeps w = subst (λ (x : World → List Step). KeepClient (x w)) (sym is) (tt, tt)

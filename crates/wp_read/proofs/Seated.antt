@@ -1,6 +1,6 @@
 -- A seat under a turn, and what it is again once it gave what it took.
 use Rattle.std.proofs.Common.{◌≡◌, ◌⊎◌, inl, inr, ℕ, suc, ◌≤◌, List, [], ◌∷◌, ◌++◌, length, map, refl, sym, subst, ap, ◌∙◌, Option, Some, None, append-nil}
-use Rattle.std.specs.Prelude.{MatchOption, Result, Ok}
+use Rattle.std.specs.Prelude.{MatchOption, Result, Ok, unwrap_or}
 use Rattle.std.specs.FinMap as finite
 use Rattle.wp_model.specs.declared.entry.Entry.{Entry}
 use Rattle.wp_model.specs.PreparedTables.{PreparedTables, IsSmallest, NonePrepared}
@@ -27,7 +27,7 @@ use Rattle.wp_shared.proofs.Goes.{then}
 use Rattle.wp_shared.proofs.Tables.{held_table, knows_to_give}
 use Rattle.wp_shared.proofs.Onward.{IsBlind, starts_equal, loose_none, loose_under, goes_same, goes_fewer, goes_then, goes_still, goes_free, holds_next, holds_alone, holds_two}
 use Rattle.wp_read.specs.Reads.{reading, KeepsNotes, Loads}
-use Rattle.wp_read.specs.Registers.{again, registration_of, with_each, pinned, Registers, Unregisters, ChangesSnapshots, IsTakenAt, registered_by}
+use Rattle.wp_read.specs.Registers.{again, registration_of, with_each, pinned, Registers, Unregisters, ChangesSnapshots, HasLeast, IsTakenAt, registered_by}
 use Rattle.wp_read.proofs.Registers.{registered_and_released, kept_by_register}
 
 -- ---- the live snapshots that it holds change
@@ -67,15 +67,12 @@ module _ {D : Type 0} {z : SharedState D} {others : List Content} {beneath : Lis
       let p = s.knows.participant in changes_by s t p.seen s.knows.learned s.knows.reading (p.registered ++ map again numbers) (with_each m numbers) (live_listed floor numbers ∷ s.knows.notes) was is (starts_equal p.seen p.seen refl) (λ fact there. inr there)
 
 -- the number is registered
-module _ {D : Type 0} {z : SharedState D} {s t : SeatState} {n : ℕ} {least : Option ℕ} {m : Snapshots} {tables : PreparedTables} {beneath : List ℕ} (k : Registers z s t n least m) (was : HoldsTurn z s (snapshots m) (prepared tables ∷ []) beneath) where
+module _ {D : Type 0} {z : SharedState D} {s t : SeatState} {n : ℕ} {least : Option ℕ} {m : Snapshots} {others : List Content} {beneath : List ℕ} (k : Registers z s t n least m) (was : HoldsTurn z s (snapshots m) others beneath) where
   abbrev history : List Entry
   history = k.world.writes.history
 
   seen_after : t.knows.participant.seen ≡ history
   seen_after = ap (λ (x : SeatState). x.knows.participant.seen) k.seat
-
-  tables_are : k.world.prepared ≡ tables
-  tables_are = held_table (place_at z s.by) s.knows k.world (prepared tables) k.there (subst (IsIn (prepared tables)) (sym was.held) (inr (inl refl)))
 
   snapshots_are : k.world.snapshots ≡ m
   snapshots_are = held_table (place_at z s.by) s.knows k.world (snapshots m) k.there (subst (IsIn (snapshots m)) (sym was.held) (inl refl))
@@ -83,23 +80,26 @@ module _ {D : Type 0} {z : SharedState D} {s t : SeatState} {n : ℕ} {least : O
   abbrev adding : Registration → Participant
   adding r = record s.knows.participant { registered = s.knows.participant.registered ++ r ∷ [] }
 
-  pub changed_so : (m' : Snapshots) → m' ≡ with_registered m n → ChangesSnapshots z s t (adding (registration_of n least)) m' (prepared tables ∷ []) beneath
+  pub changed_so : (m' : Snapshots) → m' ≡ with_registered m n → ChangesSnapshots z s t (adding (registration_of n least)) m' others beneath
   changed_so m' same =
-      let held : held_with s.knows.held (snapshots (with_registered m n)) ≡ snapshots m' ∷ prepared tables ∷ [] = ap (λ h. held_with h (snapshots (with_registered m n))) was.held ∙ ap (λ (x : Snapshots). snapshots x ∷ prepared tables ∷ []) (sym same) in
+      let held : held_with s.knows.held (snapshots (with_registered m n)) ≡ snapshots m' ∷ others = ap (λ h. held_with h (snapshots (with_registered m n))) was.held ∙ ap (λ (x : Snapshots). snapshots x ∷ others) (sym same) in
       changes_by s t history [] s.knows.reading (adding (registration_of n least)).registered m' s.knows.notes was
       (k.seat ∙ (λ i. record s { knows = record (registers (sees history s.knows) (registration_of n least)) { held = held i } }))
       (seen_is (place_at z s.by) s.knows k.world k.there)
       (λ fact there. there)
 
   module _ (r : Registration) (is : r ≡ registration_of n least) where
-    pub changed : (m' : Snapshots) → m' ≡ with_registered m n → ChangesSnapshots z s t (adding r) m' (prepared tables ∷ []) beneath
-    changed m' same = subst (λ (x : Registration). ChangesSnapshots z s t (adding x) m' (prepared tables ∷ []) beneath) (sym is) (changed_so m' same)
+    pub changed : (m' : Snapshots) → m' ≡ with_registered m n → ChangesSnapshots z s t (adding r) m' others beneath
+    changed m' same = subst (λ (x : Registration). ChangesSnapshots z s t (adding x) m' others beneath) (sym is) (changed_so m' same)
 
     pub number_seen : r.number ≡ length t.knows.participant.seen
     number_seen = ap (λ (x : Registration). x.number) is ∙ (k.number_is ∙ ap length (sym seen_after))
 
-    pub was_taken : MatchOption least (NonePrepared tables) (IsSmallest tables) → IsTakenAt z s t.knows.participant.seen r m
-    was_taken found = record {
+    pub smallest_is : r.smallest ≡ unwrap_or least (suc r.number)
+    smallest_is = ap (λ (x : Registration). x.smallest) is ∙ ap (λ (x : Registration). unwrap_or least (suc x.number)) (sym is)
+
+    abbrev taken_at : IsTakenAt z s t.knows.participant.seen r m
+    taken_at = record {
       world = k.world;
       actor = s.knows;
       there = k.there;
@@ -110,22 +110,24 @@ module _ {D : Type 0} {z : SharedState D} {s t : SeatState} {n : ℕ} {least : O
       live = snapshots_are;
       history_is = sym seen_after;
       number = ap (λ (x : Registration). x.number) is ∙ k.number_is;
-      smallest = by least is found;
     }
+
+    pub was_taken : (taken : IsTakenAt z s t.knows.participant.seen r m) × ((tables : PreparedTables) → IsIn (prepared tables) s.knows.held → MatchOption least (NonePrepared tables) (IsSmallest tables) → HasLeast taken.world r)
+    was_taken = (taken_at, λ tables there found. by tables least (held_table (place_at z s.by) s.knows k.world (prepared tables) k.there there) smallest_is found)
       where
-        by : (o : Option ℕ) → r ≡ registration_of n o → MatchOption o (NonePrepared tables) (IsSmallest tables) → (NonePrepared k.world.prepared × (r.smallest ≡ suc r.number)) ⊎ IsSmallest k.world.prepared r.smallest
-        by None e none = inl (subst NonePrepared (sym tables_are) none, ap (λ (x : Registration). x.smallest) e ∙ ap (λ (x : Registration). suc x.number) (sym e))
-        by (Some p) e least = inr (subst (λ (x : PreparedTables × ℕ). IsSmallest x.0 x.1) (λ i. ((sym tables_are) i, ((sym e) i).smallest)) least)
+        by : (tables : PreparedTables) (o : Option ℕ) → k.world.prepared ≡ tables → r.smallest ≡ unwrap_or o (suc r.number) → MatchOption o (NonePrepared tables) (IsSmallest tables) → HasLeast k.world r
+        by tables None are e none = inl (subst NonePrepared (sym are) none, e)
+        by tables (Some p) are e least = inr (subst (λ (x : PreparedTables × ℕ). IsSmallest x.0 x.1) (λ i. ((sym are) i, (sym e) i)) least)
 
   none_zero : (x : snaps.Snapshot) → finite.get m n ≡ Some x → 1 ≤ x.registrations
   none_zero x e = ((at_sound (place_at z s.by) s.knows k.world k.there).registrations.live n x (ap (λ (y : Snapshots). finite.get y n) snapshots_are ∙ e)).0
 
   -- it is taken back
-  pub changed_back : (u : SeatState) (m' : Snapshots) → Unregisters t u s.knows.participant.registered [] (registration_of n least) (with_registered m n) → m' ≡ m → ChangesSnapshots z s u s.knows.participant m' (prepared tables ∷ []) beneath
+  pub changed_back : (u : SeatState) (m' : Snapshots) → Unregisters t u s.knows.participant.registered [] (registration_of n least) (with_registered m n) → m' ≡ m → ChangesSnapshots z s u s.knows.participant m' others beneath
   changed_back u m' back same =
       let rs = s.knows.participant.registered in
       let first = changed_so (with_registered m n) refl in
-      subst (λ (l : List Registration). ChangesSnapshots z s u (record s.knows.participant { registered = l }) m' (prepared tables ∷ []) beneath) (append-nil rs)
+      subst (λ (l : List Registration). ChangesSnapshots z s u (record s.knows.participant { registered = l }) m' others beneath) (append-nil rs)
       (changes_then s t u (adding (registration_of n least)) (rs ++ []) (with_registered m n) m' first (released_one t u rs [] (registration_of n least) (with_registered m n) m' back first.holds (same ∙ sym (registered_and_released m n none_zero))))
 
 -- what is kept where it was registered
@@ -192,19 +194,43 @@ module _ {D : Type 0} {z : SharedState D} {s t u : SeatState} {table : Content} 
   pub same_look : u.knows.participant ≡ s.knows.participant
   same_look = ap (λ (x : SeatState). x.knows.participant) given.goes.same ∙ ap (λ (x : SeatState). x.knows.participant) taken.goes.same
 
+-- ---- the snapshots turn alone is taken, lent, and given
+
+module _ {D : Type 0} {z : SharedState D} {s0 s1 : SeatState} {m : Snapshots} (first : Taken z s0 s1 (snapshots m)) where
+  continues_under : (s2 s3 : SeatState) (f : Participant → Participant) → IsBlind f → GoesOnAs s1 s2 (f s1.knows.participant) → Given z snapshots_turn s2 s3 [] [] → Continues z s0 s3 (f s0.knows.participant)
+  continues_under s2 s3 f blind changed gave =
+      goes_free z s0 s3 (f s0.knows.participant) (gave.free refl refl)
+      (goes_still s0 s2 s3 (f s0.knows.participant) (goes_then s0 s1 s2 s0.knows.participant f blind (goes_same s0 s1 no_fact (snapshots m ∷ s0.knows.held) (2 ∷ s0.turns) loose_none first.goes) changed)
+      (goes_same s2 s3 (is_under snapshots_turn) [] [] (loose_under snapshots_turn) gave.goes))
+
+  module _ {m1 : Snapshots} (lent : m1 ≡ m) where
+    pub holds_lent : IsFree z.table s0 → HoldsTurn z s1 (snapshots m1) [] []
+    holds_lent free = subst (λ (x : Snapshots). HoldsTurn z s1 (snapshots x) [] []) (sym lent) (holds_alone free first)
+
+    module _ {s2 : SeatState} {m' : Snapshots} {after : Participant} (changes : ChangesSnapshots z s1 s2 after m' [] []) where
+      -- the old commit map has nothing that it did not have
+      pub gives_lent : (NoOldCommits m' → NoOldCommits m1) → KnowsToGive s2.knows (snapshots m')
+      gives_lent kept none = changes.goes.notes (old_flag_stays 0) tt (knows_to_give s1.knows (snapshots m) first.knows (subst NoOldCommits lent (kept none)))
+
+      module _ {s3 : SeatState} (gives : (others : List Content) (beneath : List ℕ) → HoldsTurn z s2 (snapshots m') others beneath → Given z snapshots_turn s2 s3 others beneath) where
+        gave_lent : Given z snapshots_turn s2 s3 [] []
+        gave_lent = gives [] [] changes.holds
+
+        pub seen_lent : s2.knows.participant.seen ≡ s3.knows.participant.seen
+        seen_lent = sym (ap (λ (s : SeatState). s.knows.participant.seen) gave_lent.goes.same)
+
+        pub continues_lent : (f : Participant → Participant) → IsBlind f → after ≡ f s1.knows.participant → Continues z s0 s3 (f s0.knows.participant)
+        continues_lent f blind is = continues_under s2 s3 f blind (subst (GoesOnAs s1 s2) is (goes_fewer s1 s2 after (λ fact loose. tt) changes.goes)) gave_lent
+
 -- ---- a registration is taken back under the snapshots turn alone, and the old-map flag is seen to
 
 module _ {D : Type 0} {z : SharedState D} {s0 s1 s2 s3 s4 : SeatState} {m m' : Snapshots} (rs : List Registration) (first : Taken z s0 s1 (snapshots m)) (changes : ChangesSnapshots z s1 s2 (record s1.knows.participant { registered = rs }) m' [] [])
     (settled : GoesOn (is_under snapshots_turn) s2.knows.held s2.turns s2 s3) (gave : Given z snapshots_turn s3 s4 [] []) where
   pub continues_one : Continues z s0 s4 (record s0.knows.participant { registered = rs })
   continues_one =
-      let p : Participant = record s0.knows.participant { registered = rs } in
-      let test = is_under snapshots_turn in
-      let changed : GoesOnAs s1 s2 (record s1.knows.participant { registered = rs }) = goes_fewer s1 s2 (record s1.knows.participant { registered = rs }) (λ fact loose. tt) changes.goes in
-      goes_free z s0 s4 p (gave.free refl refl)
-      (goes_still s0 s3 s4 p
-      (goes_still s0 s2 s3 p (goes_then s0 s1 s2 s0.knows.participant (λ q. record q { registered = rs }) (λ q h k. refl) (goes_same s0 s1 no_fact (snapshots m ∷ s0.knows.held) (2 ∷ s0.turns) loose_none first.goes) changed) (goes_same s2 s3 test s2.knows.held s2.turns (loose_under snapshots_turn) settled))
-      (goes_same s3 s4 test [] [] (loose_under snapshots_turn) gave.goes))
+      let p : Participant = record s1.knows.participant { registered = rs } in
+      let changed : GoesOnAs s1 s2 p = goes_fewer s1 s2 p (λ fact loose. tt) changes.goes in
+      continues_under first s3 s4 (λ q. record q { registered = rs }) (λ q h k. refl) (goes_still s1 s2 s3 p changed (goes_same s2 s3 (is_under snapshots_turn) s2.knows.held s2.turns (loose_under snapshots_turn) settled)) gave
 
 -- ---- a look under a turn
 

@@ -1,18 +1,18 @@
 -- How a snapshot is registered and released.
-use Rattle.std.specs.Prelude.{◌≡◌, ◌⊎◌, ◌↔◌, ℕ, suc, ◌≤◌, true, List, [], ◌∷◌, ◌++◌, length, map, fold, unwrap_or, Option, Some, Result, Ok, Err, if◌then◌else◌}
+use Rattle.std.specs.Prelude.{◌≡◌, ◌⊎◌, ◌↔◌, ℕ, suc, ◌≤◌, true, List, [], ◌∷◌, ◌++◌, length, map, fold, unwrap_or, Option, Some, Result, Ok, Err, MatchOption, if◌then◌else◌}
 use Rattle.std.specs.FinMap as finite
 use Rattle.std.specs.List.{Contains, list_any}
 use Rattle.std.specs.List.Sorted.{IsStrictlyIncreasing}
 use Rattle.wp_model.specs.declared.entry.Entry.{Entry}
 use Rattle.wp_model.specs.Covered.{is_among}
-use Rattle.wp_model.specs.PreparedTables.{IsSmallest, NonePrepared}
+use Rattle.wp_model.specs.PreparedTables.{PreparedTables, IsSmallest, NonePrepared}
 use Rattle.wp_model.specs.Snapshots as snaps
 use Rattle.wp_model.specs.Snapshots.{Snapshots, IsLive}
 use Rattle.wp_core.specs.Changes.{sees, registers, releases, held_with, is_same_registration, with_registered, with_released}
 use Rattle.wp_core.specs.Lists.{IsIn}
 use Rattle.wp_core.specs.Reading.{Registration}
 use Rattle.wp_core.specs.Steps.{Step, register_again, note}
-use Rattle.wp_core.specs.Tables.{Content, snapshots}
+use Rattle.wp_core.specs.Tables.{Content, prepared, snapshots}
 use Rattle.wp_core.specs.Views.{live_listed}
 use Rattle.wp_core.specs.World.{Participant, Actor, World, published}
 use Rattle.wp_rule.specs.Words.{IsAt}
@@ -52,6 +52,11 @@ behind_last r (s ∷ others) = if list_any (is_same_registration r) others then 
 abbrev pub registration_of : ℕ → Option ℕ → Registration
 registration_of number smallest = record { number = number; smallest = unwrap_or smallest (suc number) }
 
+-- A snapshot may be registered with this smallest by who holds these tables: 1, or the least number that is prepared in one of them,
+-- or none where none is.
+abbrev pub MayRegister : List Content → Option ℕ → Type 0
+MayRegister held smallest = (smallest ≡ Some 1) ⊎ ((t : PreparedTables) × IsIn (prepared t) held × MatchOption smallest (NonePrepared t) (IsSmallest t))
+
 -- The number that is published was loaded and registered, with this smallest: the seat has seen the history then. These are
 -- the live snapshots that it held.
 pub record Registers {D : Type 0} (z : SharedState D) (old new : SeatState) (number : ℕ) (smallest : Option ℕ) (m : Snapshots) : Type 0 where
@@ -81,8 +86,7 @@ registered_by adds (Err error) p = p
 -- ---- calls
 
 -- The snapshot was taken in a world of the store with this history, while the seat held the snapshots turn with these live
--- snapshots, and had done no more than before the call. Its number is the one that was published, and its smallest is the least
--- prepared number, or the next number where none was prepared.
+-- snapshots, and had done no more than before the call. Its number is the one that was published.
 pub record IsTakenAt {D : Type 0} (z : SharedState D) (old : SeatState) (history : List Entry) (snapshot : Registration) (m : Snapshots) : Type 0 where
   pub world : World
   pub actor : Actor
@@ -94,11 +98,18 @@ pub record IsTakenAt {D : Type 0} (z : SharedState D) (old : SeatState) (history
   pub live : world.snapshots ≡ m
   pub history_is : world.writes.history ≡ history
   pub number : snapshot.number ≡ published world
-  pub smallest : (NonePrepared world.prepared × (snapshot.smallest ≡ suc snapshot.number)) ⊎ IsSmallest world.prepared snapshot.smallest
 
 -- the snapshot was taken in a world of the store with this history
 abbrev pub IsTaken : {D : Type 0} → SharedState D → SeatState → List Entry → Registration → Type 0
 IsTaken z old history snapshot = (m : Snapshots) × IsTakenAt z old history snapshot m
+
+-- its smallest is the world's least prepared number, or the next number where none is prepared
+abbrev pub HasLeast : World → Registration → Type 0
+HasLeast w snapshot = (NonePrepared w.prepared × (snapshot.smallest ≡ suc snapshot.number)) ⊎ IsSmallest w.prepared snapshot.smallest
+
+-- the snapshot was taken with the least number that was prepared then
+abbrev pub IsTakenWithLeast : {D : Type 0} → SharedState D → SeatState → List Entry → Registration → Type 0
+IsTakenWithLeast z old history snapshot = (m : Snapshots) × (taken : IsTakenAt z old history snapshot m) × HasLeast taken.world snapshot
 
 -- ---- all that is live
 
@@ -147,5 +158,6 @@ pinned s floor numbers m others = record s {
 pub record IsPinned {D : Type 0} (z : SharedState D) (old : SeatState) (history : List Entry) (floor : Registration) (live : List Registration) : Type 0 where
   pub before : Snapshots
   pub taken : IsTakenAt z old history floor before
+  pub least : HasLeast taken.world floor
   pub are_again : live ≡ map again (numbers_of live)
   pub are_live : AreLive before (numbers_of live)

@@ -1,7 +1,8 @@
 //! The reads of the shared store: snapshots, whether a version is visible at one, and the value of a key there.
 //!
-//! A snapshot is a number that its seat registers as it loads it, with the prepared turn and the snapshots turn held: so nothing is
-//! evicted unseen between the two. It keeps the least prepared number of that moment, below which each version is committed.
+//! A snapshot is a number that its seat registers as it loads it, with the snapshots turn held: so nothing is evicted unseen between
+//! the two. One that a client keeps is taken with the prepared turn held too, and has the least prepared number of that moment, below
+//! which each version is committed. One for a read or two goes without.
 //!
 //! A version is decided by loads in the order of `wp_judge`. Mostly its word or the bound decides, and no turn is taken: that is
 //! what `look` and `decide_free` do. Where something is delayed, or the old commit map has something, `visible` takes the turn of
@@ -33,6 +34,6 @@ pub use answers::{Free, Look};
 pub use deciding::{decide_free, look, visible};
 pub use pinning::pin_all;
 pub use priors::prior;
-pub use registering::{release, snapshot};
+pub use registering::{brief_snapshot, release, snapshot};
 pub use registration::{Pinned, Snapshot};
 pub use values::get;

@@ -10,7 +10,7 @@ ghost use Rattle.wp_shared.specs.Turns.{HoldsTurn};
 ghost use Rattle.wp_read.specs.Registers.{AreCounted, AreLive, ChangesSnapshots, IsPinned, again, numbers_of, registered_by, with_each};
 
 use crate::registering::{register_in, release_last};
-use crate::registration::{Pinned, Snapshot};
+use crate::registration::{NOTHING_KNOWN, Pinned, Snapshot};
 use crate::steps::register_again;
 use std::alloc::{AllocError, Global};
 use std::sync::Wait;
@@ -19,9 +19,6 @@ use wp_outside::Disk;
 use wp_prepared::Prepared;
 use wp_shared::{Seat, Shared};
 use wp_snaps::Snaps;
-
-/// The smallest of a number that is registered once more.
-const NOTHING_KNOWN: Seq = 1;
 
 /// The live numbers, ascending.
 fn live_numbers(alloc: Global, snaps: &Snaps) -> Result<Vec<Seq>, AllocError>
@@ -115,7 +112,7 @@ fn pin_in<D: Disk + Drop>(
 {
     let found = live_numbers(alloc, snaps)?;
     let numbers: &[Seq] = &found;
-    let floor = register_in(store, seat, tables, snaps)?;
+    let floor = register_in(store, seat, snaps, tables.smallest())?;
     match enter_each(alloc, snaps, numbers) {
         Ok(live) => {
             register_again(store, seat, floor.number(), numbers);

@@ -1,5 +1,6 @@
 //! Snapshots are registered and released.
-ghost use Rattle.std.specs.Prelude.{◌≡◌, suc, true, ℕ, List, [], ◌∷◌, ◌++◌, length, unwrap_or, IfOk, OnOk, OnErr, IsTrue};
+ghost use Rattle.std.specs.Prelude.{◌≡◌, suc, true, ℕ, List, [], ◌∷◌, ◌++◌, length, unwrap_or, Some, MatchOption, IfOk, OnOk, OnErr, IsTrue};
+ghost use Rattle.wp_model.specs.PreparedTables.{PreparedTables, IsSmallest, NonePrepared};
 ghost use Rattle.wp_model.specs.Snapshots.{IsLive, NoOldCommits};
 ghost use Rattle.wp_core.specs.Changes.{with_registered, with_released};
 ghost use Rattle.wp_core.specs.Lists.{IsIn};
@@ -12,9 +13,9 @@ ghost use Rattle.wp_shared.specs.Calls.{Continues};
 ghost use Rattle.wp_shared.specs.Notes.{is_under, GoesOn};
 ghost use Rattle.wp_shared.specs.Seats.{IsFree};
 ghost use Rattle.wp_shared.specs.Turns.{HoldsTurn};
-ghost use Rattle.wp_read.specs.Registers.{ChangesSnapshots, IsTaken, IsTakenAt, registered_by, registration_of};
+ghost use Rattle.wp_read.specs.Registers.{ChangesSnapshots, HasLeast, IsTaken, IsTakenAt, IsTakenWithLeast, MayRegister, registered_by, registration_of};
 
-use crate::registration::Snapshot;
+use crate::registration::{NOTHING_KNOWN, Snapshot};
 use crate::steps::{lower_old_flag, register, unregister, unregister_last};
 use std::alloc::AllocError;
 use std::sync::Wait;
@@ -51,21 +52,25 @@ fn withdraw(snaps: &mut Snaps, snapshot: Snapshot)
     snaps.release(number);
 }
 
-/// Registers the published number, under the prepared turn and the snapshots turn. A refusal leaves no registration.
+/// Registers the published number with this smallest, or with the next number where none is given, under the snapshots turn. A
+/// refusal leaves no registration.
 pub fn register_in<D: Disk + Drop>(
     store: &Shared<D>,
     seat: &mut Seat<D>,
-    tables: &Prepared,
     snaps: &mut Snaps,
+    smallest: Option<Seq>,
 ) -> Result<Snapshot, AllocError>
-    requires holds { HoldsTurn store.now seat.old (table.snapshots snaps.old) (table.prepared tables.now ∷ []) (1 ∷ []) }
-    ensures changes { ChangesSnapshots store.now seat.old seat.new (registered_by (λ s. s ∷ []) result seat.old.knows.participant) snaps.new (table.prepared tables.now ∷ []) (1 ∷ []) }
+    requires holds { (others : List Content) × (beneath : List ℕ) × HoldsTurn store.now seat.old (table.snapshots snaps.old) others beneath }
+    requires smallest { MayRegister seat.old.knows.held smallest }
+    ensures changes { (others : List Content) (beneath : List ℕ) → HoldsTurn store.now seat.old (table.snapshots snaps.old) others beneath
+        → ChangesSnapshots store.now seat.old seat.new (registered_by (λ s. s ∷ []) result seat.old.knows.participant) snaps.new others beneath }
     ensures number { IfOk result (λ s. s.number ≡ length seat.new.knows.participant.seen) }
-    ensures taken { IfOk result (λ s. IsTakenAt store.now seat.old seat.new.knows.participant.seen s snaps.old) }
+    ensures smallest { IfOk result (λ s. s.smallest ≡ unwrap_or smallest (suc s.number)) }
+    ensures taken { IfOk result (λ s. (taken : IsTakenAt store.now seat.old seat.new.knows.participant.seen s snaps.old)
+        × ((t : PreparedTables) → IsIn (table.prepared t) seat.old.knows.held → MatchOption smallest (NonePrepared t) (IsSmallest t) → HasLeast taken.world s)) }
     ensures entered { IfOk result (λ s. snaps.new ≡ with_registered snaps.old s.number) }
     ensures kept { NoOldCommits snaps.new → NoOldCommits snaps.old }
 {
-    let smallest = tables.smallest();
     let number = register(store, seat, smallest);
     match enter(snaps, number, smallest) {
         Ok(snapshot) => Ok(snapshot),
@@ -76,7 +81,8 @@ pub fn register_in<D: Disk + Drop>(
     }
 }
 
-/// Takes a snapshot: registers the published number. Want of memory leaves no registration.
+/// Takes a snapshot: registers the published number, with the least number that is prepared then. Want of memory leaves no
+/// registration.
 pub fn snapshot<D: Disk + Drop, R: Wait>(
     store: &Shared<D>,
     rt: &R,
@@ -85,14 +91,35 @@ pub fn snapshot<D: Disk + Drop, R: Wait>(
     requires { IsFree store.now.table seat.old }
     ensures registered { IfOk result (λ s. Continues store.now seat.old seat.new (record seat.old.knows.participant { registered = seat.old.knows.participant.registered ++ s ∷ [] })) }
     ensures number { IfOk result (λ s. s.number ≡ length seat.new.knows.participant.seen) }
-    ensures taken { IfOk result (λ s. IsTaken store.now seat.old seat.new.knows.participant.seen s) }
+    ensures taken { IfOk result (λ s. IsTakenWithLeast store.now seat.old seat.new.knows.participant.seen s) }
     ensures refused { OnErr result (Continues store.now seat.old seat.new seat.old.knows.participant) }
 {
     let tables = store.take_turn::<Prepared, R>(rt, seat);
     let mut snaps = store.take_turn::<Snaps, R>(rt, seat);
-    let taken = register_in(store, seat, &tables, &mut snaps);
+    let smallest = tables.smallest();
+    let taken = register_in(store, seat, &mut snaps, smallest);
     store.give_turn::<Snaps>(seat, snaps);
     store.give_turn::<Prepared>(seat, tables);
+    taken
+}
+
+/// Takes a snapshot that is released as soon as a few keys were read: without the prepared turn, so its smallest is 1, and each of
+/// their versions is decided by loads. Want of memory leaves no registration.
+pub fn brief_snapshot<D: Disk + Drop, R: Wait>(
+    store: &Shared<D>,
+    rt: &R,
+    seat: &mut Seat<D>,
+) -> Result<Snapshot, AllocError>
+    requires { IsFree store.now.table seat.old }
+    ensures registered { IfOk result (λ s. Continues store.now seat.old seat.new (record seat.old.knows.participant { registered = seat.old.knows.participant.registered ++ s ∷ [] })) }
+    ensures number { IfOk result (λ s. s.number ≡ length seat.new.knows.participant.seen) }
+    ensures smallest { IfOk result (λ s. s.smallest ≡ 1) }
+    ensures taken { IfOk result (λ s. IsTaken store.now seat.old seat.new.knows.participant.seen s) }
+    ensures refused { OnErr result (Continues store.now seat.old seat.new seat.old.knows.participant) }
+{
+    let mut snaps = store.take_turn::<Snaps, R>(rt, seat);
+    let taken = register_in(store, seat, &mut snaps, Some(NOTHING_KNOWN));
+    store.give_turn::<Snaps>(seat, snaps);
     taken
 }
 

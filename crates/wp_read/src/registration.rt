@@ -4,6 +4,9 @@ ghost use Rattle.std.specs.Prelude.{◌≡◌};
 use std::marker::Model;
 use wp_model::Seq;
 
+/// The smallest of a number of which nothing better is known than that no version is below 1.
+pub(crate) const NOTHING_KNOWN: Seq = 1;
+
 /// A snapshot that is registered, at which its seat reads. It has to be released.
 pub struct Snapshot {
     pub(crate) number: Seq,

@@ -4,7 +4,7 @@
 //! an argument has a helper that is passed the argument and makes the load.
 ghost use Rattle.std.specs.FinMap as finite;
 ghost use Rattle.std.specs.FinSet as set;
-ghost use Rattle.std.specs.Prelude.{◌≡◌, ◌≤◌, ◌<◌, ◌^◌, suc, true, List, [], ◌∷◌, ◌++◌, length, unwrap_or, MatchOption};
+ghost use Rattle.std.specs.Prelude.{◌≡◌, ◌≤◌, ◌<◌, ◌^◌, suc, true, List, [], ◌∷◌, ◌++◌, length, unwrap_or};
 ghost use Rattle.wp_core.specs.Changes.{found_in};
 ghost use Rattle.wp_core.specs.Lists.{IsIn};
 ghost use Rattle.wp_core.specs.Reading.{Registration, reads};
@@ -14,13 +14,12 @@ ghost use Rattle.wp_core.specs.Tables as table;
 ghost use Rattle.wp_core.specs.World.{World};
 ghost use Rattle.wp_shared.specs.Notes.{is_under, GoesOn};
 ghost use Rattle.wp_shared.specs.Seats.{place_at};
-ghost use Rattle.wp_model.specs.PreparedTables.{PreparedTables, IsSmallest, NonePrepared};
 ghost use Rattle.wp_model.specs.Snapshots.{Snapshots, NoOldCommits};
 ghost use Rattle.wp_core.specs.Tables.{Content};
 ghost use Rattle.wp_core.specs.Turns.{snapshots_turn};
 ghost use Rattle.wp_core.specs.Views.{old_flag_stays};
 ghost use Rattle.wp_read.specs.Reads.{Reads, Loads, IsNext, IsOfWord};
-ghost use Rattle.wp_read.specs.Registers.{MayPin, Registers, Unregisters, before_last, behind_last, pinned, pinning};
+ghost use Rattle.wp_read.specs.Registers.{MayPin, MayRegister, Registers, Unregisters, before_last, behind_last, pinned, pinning};
 
 use crate::registration::Snapshot;
 use std::marker::Brand;
@@ -207,18 +206,18 @@ fn register_with<D: Disk + Drop, J: Moves>(
     requires seat { (seat.old.table ≡ store.now.table) × (J.place ≡ place_at store.now seat.old.by) }
     requires steps { J.steps ≡ (λ w. step.register (unwrap_or smallest (suc (length w.writes.history))) ∷ []) }
     requires snapshots { (m : Snapshots) × IsIn (table.snapshots m) seat.old.knows.held }
-    requires prepared { (t : PreparedTables) × IsIn (table.prepared t) seat.old.knows.held × MatchOption smallest (NonePrepared t) (IsSmallest t) }
+    requires smallest { MayRegister seat.old.knows.held smallest }
     ensures { (m : Snapshots) → IsIn (table.snapshots m) seat.old.knows.held → Registers store.now seat.old seat.new result smallest m }
 {
     store.make::<J>(seat)
 }
 
-/// Loads the published number, and registers it with this smallest, or with the next number where no number is prepared. The
-/// seat holds the prepared turn and the snapshots turn.
+/// Loads the published number, and registers it with this smallest, or with the next number where none is given. The seat holds the
+/// snapshots turn, and the prepared turn too where the smallest is not 1.
 pub fn register<D: Disk + Drop>(store: &Shared<D>, seat: &mut Seat<D>, smallest: Option<Seq>) -> Seq
     requires seat { seat.old.table ≡ store.now.table }
     requires snapshots { (m : Snapshots) × IsIn (table.snapshots m) seat.old.knows.held }
-    requires prepared { (t : PreparedTables) × IsIn (table.prepared t) seat.old.knows.held × MatchOption smallest (NonePrepared t) (IsSmallest t) }
+    requires smallest { MayRegister seat.old.knows.held smallest }
     ensures { (m : Snapshots) → IsIn (table.snapshots m) seat.old.knows.held → Registers store.now seat.old seat.new result smallest m }
 {
     register_with::<D, Brand>(store, seat, smallest)

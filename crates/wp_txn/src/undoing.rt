@@ -14,7 +14,7 @@ use std::alloc::{AllocError, Global};
 use std::sync::Wait;
 use wp_model::{Batch, Seq};
 use wp_outside::Disk;
-use wp_read::{prior, release, snapshot};
+use wp_read::{brief_snapshot, prior, release};
 use wp_shared::{Seat, Shared};
 
 /// What the keys of the batch have now, as a batch that restores it: as of a snapshot that is taken for that alone.
@@ -29,7 +29,7 @@ fn prior_now<D: Disk + Drop, R: Wait>(
     ensures seat { Continues store.now seat.old seat.new seat.old.knows.participant }
     ensures prior { IfOk result (λ found. IsPriorSince seat.old seat.new batch.now found) }
 {
-    let taken = snapshot(store, rt, seat)?;
+    let taken = brief_snapshot(store, rt, seat)?;
     let found = prior(store, rt, alloc, seat, batch, &taken);
     release(store, rt, seat, taken);
     found

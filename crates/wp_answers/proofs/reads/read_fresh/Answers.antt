@@ -7,16 +7,16 @@ use Rattle.wp_answers.proofs.WholeClients.{if_broken}
 use Rattle.wp_answers.proofs.reads.read_fresh.Goals as goal
 
 pub get-outcome-requires-clause-registered : goal.get-outcome-requires-clause-registered
-get-outcome-requires-clause-registered g c = is_registered_then c.args.store.now c.args.seat.now c.snapshot.new.seat c.in_ok-snapshot.snapshot c.in_ok-snapshot.ensures.registered
+get-outcome-requires-clause-registered g c = is_registered_then c.args.store.now c.args.seat.now c.brief_snapshot.new.seat c.in_ok-snapshot.snapshot c.in_ok-snapshot.ensures.registered
 
 pub release-requires-clause-registered : goal.release-requires-clause-registered
 release-requires-clause-registered g c =
-    is_registered_still c.args.store.now c.args.seat.now c.snapshot.new.seat c.in_ok-snapshot.snapshot c.in_ok-snapshot.ensures.registered c.get-outcome.new.seat c.get-outcome.ensures.continues
+    is_registered_still c.args.store.now c.args.seat.now c.brief_snapshot.new.seat c.in_ok-snapshot.snapshot c.in_ok-snapshot.ensures.registered c.get-outcome.new.seat c.get-outcome.ensures.continues
 
 pub returns-in_err-outcome-clause-refused : goal.returns-in_err-outcome-clause-refused
 returns-in_err-outcome-clause-refused g c =
     let gone = c.release.ensures in
-    if_broken c.from_residual-in_err-outcome.result (released c.args.store.now c.args.seat.now c.snapshot.new.seat c.in_ok-snapshot.snapshot c.in_ok-snapshot.ensures.registered c.get-outcome.new.seat c.get-outcome.ensures.continues c.release.new.seat gone.0 gone.1 gone.2 gone.3 gone.4)
+    if_broken c.from_residual-in_err-outcome.result (released c.args.store.now c.args.seat.now c.brief_snapshot.new.seat c.in_ok-snapshot.snapshot c.in_ok-snapshot.ensures.registered c.get-outcome.new.seat c.get-outcome.ensures.continues c.release.new.seat gone.0 gone.1 gone.2 gone.3 gone.4)
 
 pub returns-clause-read : goal.returns-clause-read
 returns-clause-read g c =
@@ -24,4 +24,4 @@ returns-clause-read g c =
     let gone = c.release.ensures in
     let shown = IfOk-at_ok (λ (v : Option (List ℕ)). v ≡ value_at c.get-outcome.new.seat.knows.participant.seen key snapshot.number) c.in_ok-outcome.was c.get-outcome.ensures.value in
     subst (λ (n : ℕ). ReadsFresh z s d key value n) (sym c.number-at.ensures)
-    (read_once z s c.snapshot.new.seat snapshot c.in_ok-snapshot.ensures.registered c.get-outcome.new.seat c.get-outcome.ensures.continues d gone.0 gone.1 gone.2 gone.3 gone.4 key value c.in_ok-snapshot.ensures.number c.in_ok-snapshot.ensures.taken shown)
+    (read_once z s c.brief_snapshot.new.seat snapshot c.in_ok-snapshot.ensures.registered c.get-outcome.new.seat c.get-outcome.ensures.continues d gone.0 gone.1 gone.2 gone.3 gone.4 key value c.in_ok-snapshot.ensures.number c.in_ok-snapshot.ensures.taken shown)

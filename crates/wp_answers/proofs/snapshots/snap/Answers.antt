@@ -59,5 +59,5 @@ returns-in-Some-clause-published g c =
 
 pub returns-clause-published : goal.returns-clause-published
 returns-clause-published g c =
-    let t = c.snapshot.new.seat in
-    record { snapshot = c.in_ok-snapshot.snapshot; history = t.knows.participant.seen; taken = c.in_ok-snapshot.ensures.taken; number = sym c.number-number.ensures; seen = whole t.knows.participant.seen }
+    let t = c.snapshot.new.seat in let taken = c.in_ok-snapshot.ensures.taken in
+    record { snapshot = c.in_ok-snapshot.snapshot; history = t.knows.participant.seen; taken = (taken.0, taken.1); number = sym c.number-number.ensures; seen = whole t.knows.participant.seen }

@@ -2,8 +2,8 @@ use Rattle.wp_read.proofs.Registers.{may_register, register_keeps, registered}
 use Rattle.wp_read.proofs.steps.register_with.Goals as goal
 
 pub make-requires-clause-may : goal.make-requires-clause-may
-make-requires-clause-may g c = let m = c.requires.snapshots in let t = c.requires.prepared in
-    may_register c.args.store.now g.J.Moves.place g.J.Moves.steps c.args.seat.now c.args.seat.now c.args.smallest c.requires.steps m.0 t.0 m.1 t.1 t.2
+make-requires-clause-may g c = let m = c.requires.snapshots in
+    may_register c.args.store.now g.J.Moves.place g.J.Moves.steps c.args.seat.now c.args.seat.now c.args.smallest c.requires.steps m.0 m.1 c.requires.smallest
 
 pub make-requires-clause-client : goal.make-requires-clause-client
 make-requires-clause-client g c = register_keeps c.args.store.now g.J.Moves.place g.J.Moves.steps c.args.seat.now c.args.seat.now c.args.smallest c.requires.steps
