@@ -10,3 +10,4 @@ pub mod Rounds
 pub mod HeldKeys
 pub mod Counts
 pub mod AllPinned
+pub mod AtOnce

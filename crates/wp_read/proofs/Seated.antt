@@ -1,5 +1,5 @@
 -- A seat under a turn, and what it is again once it gave what it took.
-use Rattle.std.proofs.Common.{◌≡◌, ◌⊎◌, inl, inr, ℕ, suc, ◌≤◌, List, [], ◌∷◌, ◌++◌, length, map, refl, sym, subst, ap, ◌∙◌, Option, Some, None, append-nil}
+use Rattle.std.proofs.Common.{◌≡◌, inl, inr, ℕ, suc, ◌≤◌, List, [], ◌∷◌, ◌++◌, length, map, refl, sym, subst, ap, ◌∙◌, Option, Some, None, append-nil}
 use Rattle.std.specs.Prelude.{MatchOption, Result, Ok, unwrap_or}
 use Rattle.std.specs.FinMap as finite
 use Rattle.wp_model.specs.declared.entry.Entry.{Entry}
@@ -14,12 +14,12 @@ use Rattle.wp_core.specs.Reading.{Registration}
 use Rattle.wp_core.specs.Sound.Actors.{StartsWith}
 use Rattle.wp_core.specs.Sound.Reader.{IsRight}
 use Rattle.wp_core.specs.Tables.{Content, prepared, snapshots, turn_of}
-use Rattle.wp_core.specs.Turns.{Turn, prepared_turn, snapshots_turn}
+use Rattle.wp_core.specs.Turns.{prepared_turn, snapshots_turn}
 use Rattle.wp_core.specs.Views.{Fact, delayed_flag_stays, old_flag_stays, live_listed}
 use Rattle.wp_core.specs.World.{Participant}
 use Rattle.wp_rule.specs.Words.{IsAt}
 use Rattle.wp_rule.proofs.Knows.{at_sound, seen_is}
-use Rattle.wp_shared.specs.Calls.{IsLoose, GoesOnAs, Continues}
+use Rattle.wp_shared.specs.Calls.{IsLoose, GoesOnWith, GoesOnAs, Continues}
 use Rattle.wp_shared.specs.Notes.{no_fact, is_under, noting_only, GoesOn}
 use Rattle.wp_shared.specs.Seats.{SharedState, SeatState, IsFree, place_at}
 use Rattle.wp_shared.specs.Turns.{HoldsTurn, KnowsToGive, Taken, Given}
@@ -119,7 +119,7 @@ module _ {D : Type 0} {z : SharedState D} {s t : SeatState} {n : ℕ} {least : O
         by tables None are e none = inl (subst NonePrepared (sym are) none, e)
         by tables (Some p) are e least = inr (subst (λ (x : PreparedTables × ℕ). IsSmallest x.0 x.1) (λ i. ((sym are) i, (sym e) i)) least)
 
-  none_zero : (x : snaps.Snapshot) → finite.get m n ≡ Some x → 1 ≤ x.registrations
+  pub none_zero : (x : snaps.Snapshot) → finite.get m n ≡ Some x → 1 ≤ x.registrations
   none_zero x e = ((at_sound (place_at z s.by) s.knows k.world k.there).registrations.live n x (ap (λ (y : Snapshots). finite.get y n) snapshots_are ∙ e)).0
 
   -- it is taken back
@@ -183,17 +183,6 @@ module _ {D : Type 0} {z : SharedState D} {s0 s1 s2 : SeatState} {m : Snapshots}
               goes_free z s0 s5 (f s0.knows.participant) (gave_last.free refl refl)
               (goes_still s0 s3 s5 (f s0.knows.participant) (goes_then s0 s2 s3 s0.knows.participant f blind (goes_same s0 s2 no_fact (snapshots m ∷ s1.knows.held) (2 ∷ s1.turns) loose_none took_both) changed) gives_both)
 
--- ---- a turn is taken and given
-
-module _ {D : Type 0} {z : SharedState D} {s t u : SeatState} {table : Content} {turn : Turn} (taken : Taken z s t table) (given : Given z turn t u [] []) where
-  pub looked_on : Continues z s u s.knows.participant
-  looked_on =
-      goes_free z s u s.knows.participant (given.free refl refl)
-      (goes_still s t u s.knows.participant (goes_same s t no_fact (table ∷ s.knows.held) (turn_index (turn_of table) ∷ s.turns) loose_none taken.goes) (goes_same t u (is_under turn) [] [] (loose_under turn) given.goes))
-
-  pub same_look : u.knows.participant ≡ s.knows.participant
-  same_look = ap (λ (x : SeatState). x.knows.participant) given.goes.same ∙ ap (λ (x : SeatState). x.knows.participant) taken.goes.same
-
 -- ---- the snapshots turn alone is taken, lent, and given
 
 module _ {D : Type 0} {z : SharedState D} {s0 s1 : SeatState} {m : Snapshots} (first : Taken z s0 s1 (snapshots m)) where
@@ -207,20 +196,20 @@ module _ {D : Type 0} {z : SharedState D} {s0 s1 : SeatState} {m : Snapshots} (f
     pub holds_lent : IsFree z.table s0 → HoldsTurn z s1 (snapshots m1) [] []
     holds_lent free = subst (λ (x : Snapshots). HoldsTurn z s1 (snapshots x) [] []) (sym lent) (holds_alone free first)
 
-    module _ {s2 : SeatState} {m' : Snapshots} {after : Participant} (changes : ChangesSnapshots z s1 s2 after m' [] []) where
+    module _ {s2 : SeatState} {m' : Snapshots} {after : Participant} {Stays : Fact → Type 0} (loose : (fact : Fact) → IsLoose fact → Stays fact) (goes : GoesOnWith Stays s1 s2 after) (holds : HoldsTurn z s2 (snapshots m') [] []) where
       -- the old commit map has nothing that it did not have
-      pub gives_lent : (NoOldCommits m' → NoOldCommits m1) → KnowsToGive s2.knows (snapshots m')
-      gives_lent kept none = changes.goes.notes (old_flag_stays 0) tt (knows_to_give s1.knows (snapshots m) first.knows (subst NoOldCommits lent (kept none)))
+      pub gives_lent : Stays (old_flag_stays 0) → (NoOldCommits m' → NoOldCommits m1) → KnowsToGive s2.knows (snapshots m')
+      gives_lent stays kept none = goes.notes (old_flag_stays 0) stays (knows_to_give s1.knows (snapshots m) first.knows (subst NoOldCommits lent (kept none)))
 
       module _ {s3 : SeatState} (gives : (others : List Content) (beneath : List ℕ) → HoldsTurn z s2 (snapshots m') others beneath → Given z snapshots_turn s2 s3 others beneath) where
         gave_lent : Given z snapshots_turn s2 s3 [] []
-        gave_lent = gives [] [] changes.holds
+        gave_lent = gives [] [] holds
 
         pub seen_lent : s2.knows.participant.seen ≡ s3.knows.participant.seen
         seen_lent = sym (ap (λ (s : SeatState). s.knows.participant.seen) gave_lent.goes.same)
 
         pub continues_lent : (f : Participant → Participant) → IsBlind f → after ≡ f s1.knows.participant → Continues z s0 s3 (f s0.knows.participant)
-        continues_lent f blind is = continues_under s2 s3 f blind (subst (GoesOnAs s1 s2) is (goes_fewer s1 s2 after (λ fact loose. tt) changes.goes)) gave_lent
+        continues_lent f blind is = continues_under s2 s3 f blind (subst (GoesOnAs s1 s2) is (goes_fewer s1 s2 after loose goes)) gave_lent
 
 -- ---- a registration is taken back under the snapshots turn alone, and the old-map flag is seen to
 

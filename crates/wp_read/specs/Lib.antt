@@ -2,3 +2,4 @@ pub mod Reads
 pub mod Decides
 pub mod Registers
 pub mod Values
+pub mod AtOnce

@@ -60,7 +60,7 @@ pub fn decide_free<D: Disk + Drop>(
     p: Seq,
     snapshot: &Snapshot,
 ) -> Free
-    requires free { IsFree store.now.table seat.old }
+    requires seat { seat.old.table ≡ store.now.table }
     requires registered { IsIn snapshot.now seat.old.knows.participant.registered }
     requires version { p ≤ snapshot.now.number → has_versions_at seat.old.knows.participant.seen p ≡ true }
     ensures { DecidesFree store.now seat.old seat.new p snapshot.now result }

@@ -12,6 +12,9 @@
 //! `get` copies the newest few versions of a key under the store turn, and decides them without it, the newest first. Which of
 //! them the store still has may change between two rounds of copies; what was decided of a version does not.
 //!
+//! `begin_read` reads a key as it is now under the snapshots turn, without a snapshot that others see, where loads that need no turn
+//! show its newest version. Else it gives a snapshot for a `get`.
+//!
 //! `prior` is what a rollback restores: the changes that leave the keys of a batch with what they had at a snapshot.
 //!
 //! `pin_all` registers each live number once more, with the published one as their floor: while these registrations last, a
@@ -21,6 +24,7 @@
 #![tactic(auto)]
 
 mod answers;
+mod at_once;
 mod deciding;
 pub mod laws;
 mod pinning;
@@ -31,6 +35,7 @@ mod steps;
 mod values;
 
 pub use answers::{Free, Look};
+pub use at_once::{Begun, begin_read};
 pub use deciding::{decide_free, look, visible};
 pub use pinning::pin_all;
 pub use priors::prior;

@@ -3,11 +3,14 @@ ghost use Rattle.std.specs.Prelude.{◌≡◌, ◌≤◌, ◌<◌, ◌==◌, ◌
 ghost use Rattle.std.specs.List.{list_any};
 ghost use Rattle.wp_model.specs.Decision.{IsCommittedAt};
 ghost use Rattle.wp_model.specs.History.{value_at};
+ghost use Rattle.wp_core.specs.Changes.{held_without};
 ghost use Rattle.wp_core.specs.Lists.{IsIn};
 ghost use Rattle.wp_core.specs.Reading.{Registration};
 ghost use Rattle.wp_core.specs.Sound.Reader.{IsRight};
 ghost use Rattle.wp_core.specs.Sound.Snapshots.{has_versions_at};
+ghost use Rattle.wp_core.specs.Turns.{store_turn};
 ghost use Rattle.wp_shared.specs.Calls.{Continues};
+ghost use Rattle.wp_shared.specs.Notes.{is_under, GoesOn};
 ghost use Rattle.wp_shared.specs.Seats.{IsFree};
 ghost use Rattle.wp_read.specs.Values.{AreVersions, IsFirstCommitted, NoneCommitted, NoneLater, Says, ShowsValue};
 
@@ -20,23 +23,23 @@ use wp_outside::Disk;
 use wp_parts::Stock;
 use wp_shared::{Seat, Shared};
 
-/// How many versions of a key are copied at first: mostly one of the newest is the one.
-const FIRST_COPIES: usize = 2;
+/// How many versions of a key are copied at first: mostly the newest is the one.
+pub const FIRST_COPIES: usize = 1;
 
 /// How many times as many are copied next.
 const GROWTH: usize = 4;
 
 /// Copies the newest `most` versions of the key, under the store turn.
-fn copy_newest<D: Disk + Drop, R: Wait>(
+pub fn copy_newest<D: Disk + Drop, R: Wait>(
     store: &Shared<D>,
     rt: &R,
     seat: &mut Seat<D>,
     key: &Key,
     most: usize,
 ) -> Result<Versions, AllocError>
-    requires { IsFree store.now.table seat.old }
-    ensures continues { Continues store.now seat.old seat.new seat.old.knows.participant }
-    ensures same { seat.new.knows.participant ≡ seat.old.knows.participant }
+    requires seat { (seat.old.table ≡ store.now.table) × (seat.old.knows.live ≡ true) }
+    requires others { held_without seat.old.knows.held store_turn ≡ seat.old.knows.held }
+    ensures goes { GoesOn (is_under store_turn) seat.old.knows.held seat.old.turns seat.old seat.new }
     ensures found { IfOk result (λ found. (r : Registration) → IsIn r seat.old.knows.participant.registered → ShowsValue seat.old.knows.participant.seen key.now r.number most found) }
 {
     let stock = store.take_turn::<Stock, R>(rt, seat);
@@ -106,7 +109,7 @@ fn first_visible<D: Disk + Drop, R: Wait>(
 }
 
 /// The value of the version with this place.
-fn take_value(found: Versions, i: usize) -> Option<Value>
+pub fn take_value(found: Versions, i: usize) -> Option<Value>
     requires { i < length found }
     ensures { (front back : List Version) (v : Version) → found ≡ front ++ v ∷ back → length front ≡ i → result ≡ v.value }
 {

@@ -4,10 +4,9 @@ use Rattle.wp_merge.specs.Merge.{joined}
 use Rattle.wp_merge.proofs.Sorted.{in_order_sorted}
 use Rattle.wp_parts.specs.Stock.{StockState, store_table}
 use Rattle.wp_shared.proofs.Onward.{holds_alone}
-use Rattle.wp_read.proofs.Seated.{looked_on, same_look}
 use Rattle.wp_maint.specs.Compaction.{HadVersions}
 use Rattle.wp_maint.specs.Decided.{AreSeen}
-use Rattle.wp_maint.proofs.Tabled.{are_seen, had_versions}
+use Rattle.wp_maint.proofs.Tabled.{are_seen, had_versions, looked_on, same_look}
 use Rattle.wp_maint.proofs.decided.tabled.Goals as goal
 
 pub give_turn-requires-clause-holds : goal.give_turn-requires-clause-holds
