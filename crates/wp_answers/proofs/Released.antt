@@ -7,6 +7,9 @@ use Rattle.wp_core.specs.Reading.{Registration}
 use Rattle.wp_core.specs.World.{Participant}
 use Rattle.wp_core.proofs.KeepsSeen.{shorter, whole}
 use Rattle.wp_core.proofs.PastsGrow.{in_last}
+use Rattle.wp_read.specs.declared.at_once.Begun.{Begun}
+use Rattle.wp_read.specs.declared.at_once.Begun.TheVariants.{Read, Registered}
+use Rattle.wp_read.specs.AtOnce.{BeginsRead}
 use Rattle.wp_read.specs.Registers.{IsTaken}
 use Rattle.wp_shared.specs.Calls.{Continues}
 use Rattle.wp_shared.specs.Seats.{SharedState, SeatState}
@@ -38,6 +41,21 @@ last_out [] (y ∷ front) back x e none = let e' : [] ≡ front ++ x ∷ back = 
 last_out (y ∷ xs) (z ∷ front) back x e none =
     let here : y ≡ z = cc in let e' : xs ++ x ∷ [] ≡ front ++ x ∷ back = cc in
     (λ i. sym here i ∷ last_out xs front back x e' none i)
+
+-- the snapshot is registered
+pub begun : {D : Type 0} (z : SharedState D) (a b : SeatState) (key : List ℕ) (r : Registration) {x : Begun} → x ≡ Registered r → BeginsRead z a b key x → BeginsRead z a b key (Registered r)
+begun z a b key r is k = subst (BeginsRead z a b key) is k
+
+-- the value was read at once
+pub read_now : {D : Type 0} (z : SharedState D) (a d : SeatState) (key : List ℕ) (value : Option (List ℕ)) (n : ℕ) → BeginsRead z a d key (Read value n) → ReadsFresh z a d key value n
+read_now z a d key value n k =
+    let goes = k.0 in let is = k.1 in let all = is.3 in let first = shorter d.knows.participant.seen a.knows.participant.seen goes.seen in record {
+      goes_on = subst (λ (rs : List Registration). Continues z a d (record a.knows.participant { registered = rs })) (append-nil a.knows.participant.registered) goes;
+      fresh = omega (arith, first, all);
+      within = omega (arith, all);
+      published = record { snapshot = is.0; history = d.knows.participant.seen; taken = is.1; number = is.2; seen = whole d.knows.participant.seen };
+      value_is = is.4;
+    }
 
 module _ {D : Type 0} (z : SharedState D) (a b : SeatState) (r : Registration) (took : Continues z a b (record a.knows.participant { registered = a.knows.participant.registered ++ r ∷ [] })) where
   abbrev more : List Registration

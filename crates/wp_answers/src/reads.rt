@@ -15,6 +15,7 @@ use std::alloc::{AllocError, Global};
 use std::sync::Wait;
 use wp_model::{Batch, Key, Name, Seq, Value};
 use wp_outside::Disk;
+use wp_read::Begun;
 use wp_shared::{Seat, Shared};
 use wp_text::Reply;
 
@@ -53,7 +54,7 @@ fn read_reply(value: Option<Value>, at: Seq) -> Reply
     }
 }
 
-/// The value of the key at a snapshot for this alone, and the snapshot's number.
+/// The value of the key as it is now, and the number of the last entry that it is of.
 fn read_fresh<D: Disk + Drop, R: Wait>(
     store: &Shared<D>,
     rt: &R,
@@ -64,7 +65,10 @@ fn read_fresh<D: Disk + Drop, R: Wait>(
     ensures read { IfOk result (λ read. ReadsFresh store.now seat.old seat.new key.now read.0 read.1) }
     ensures refused { OnErr result (Keeps store.now seat.old seat.new) }
 {
-    let snapshot = wp_read::brief_snapshot(store, rt, seat)?;
+    let snapshot = match wp_read::begin_read(store, rt, seat, key)? {
+        Begun::Read(value, at) => return Ok((value, at)),
+        Begun::Registered(snapshot) => snapshot,
+    };
     let at = snapshot.number();
     let outcome = wp_read::get(store, rt, seat, key, &snapshot);
     wp_read::release(store, rt, seat, snapshot);
