@@ -1,83 +1,85 @@
 -- What is spelled as a record is read as it.
-use Rattle.std.proofs.Common.{◌≡◌, ℕ, ◌^◌, ◌<◌, true, false, leb, eqb, ◌||◌, ◌&&◌, List, [], ◌∷◌, ◌++◌, Ok, refl, sym, ap, ◌∙◌, append_assoc, arith}
-use Rattle.std.specs.Int.{w32, to_be_bytes}
-use Rattle.std.proofs.lemmas.Bool.{ne_eqb, eq-eqb, lt-leb, and_parts, or_from}
+use Rattle.std.proofs.Common.{◌≡◌, ℕ, ◌≤◌, true, false, leb, eqb, ◌||◌, ◌&&◌, List, [], ◌∷◌, ◌++◌, Ok, refl, sym, ap, ◌∙◌, append_assoc, arith}
+use Rattle.std.specs.Int.{to_be_bytes}
+use Rattle.std.proofs.lemmas.Bool.{ne_eqb, eq-eqb, le-ltb, lt-leb, and_parts, or_from}
 use Rattle.std.proofs.lemmas.List.{append-nil}
 use Rattle.wp_model.specs.declared.word.TheConstants.{MOST_NAME_BYTES}
 use Rattle.wp_model.specs.declared.entry.Entry.{Entry}
 use Rattle.wp_model.specs.declared.entry.Entry.TheVariants.{Write, Prepare, Commit, Undo, Close}
 use Rattle.wp_model.specs.Word.{is_name}
-use Rattle.wp_fields.proofs.FieldLemmas.{number_again, fields_32}
+use Rattle.wp_fields.proofs.FieldLemmas.{number_again, fields_of}
+use Rattle.wp_fields.specs.declared.format.Format.{Format}
+use Rattle.wp_fields.specs.Format.{number_width, number_end}
 use Rattle.wp_encoding.specs.Encoding.{word_bytes, batch_bytes, are_changes}
 use Rattle.wp_encoding.proofs.WordLemmas.{word_again}
 use Rattle.wp_encoding.proofs.ChangeLemmas.{batch_again}
-use Rattle.wp_entry.specs.declared.layout.TheConstants.{LAST_NUMBER}
 use Rattle.wp_entry.specs.declared.error.RecordError.TheVariants.{Short}
-use Rattle.wp_entry.specs.Record.{entries_bytes, record_bytes, IsEarlier, IsRecord}
+use Rattle.wp_entry.specs.Record.{last_number, entries_bytes, record_bytes, IsEarlier, IsRecord}
 use Rattle.wp_entry.specs.Reading.{after_number, write_at, prepare_at, earlier_at, commit_at, rollback_at, entries_at, record_at}
-use Rattle.wp_entry.proofs.Grammar.{kind_and_entries}
+use Rattle.wp_entry.proofs.Grammar.{last_fits, kind_and_entries}
 
-pub number_again_due : (due : ℕ) (rest : List ℕ) → due < 2 ^ 32 → after_number due (to_be_bytes w32 due ++ rest) ≡ Ok rest
+pub number_again_due : (format : Format) (due : ℕ) (rest : List ℕ) → due ≤ last_number format → after_number format due (to_be_bytes (number_width format) due ++ rest) ≡ Ok rest
 unfolding after_number
-number_again_due due rest small = rw (number_again Short w32 (2 ^ 32) fields_32 due rest small, eq-eqb due due refl) refl
+number_again_due format due rest small =
+    rw (number_again Short (number_width format) (number_end format) (fields_of format) due rest (omega (arith, small, last_fits format)), eq-eqb due due refl, le-ltb _ _ small) refl
 
 -- reading goes on after the number
-pub record_after_number : (due : ℕ) (rest : List ℕ) → due < 2 ^ 32 → record_at due (to_be_bytes w32 due ++ rest) ≡ kind_and_entries due rest
+pub record_after_number : (format : Format) (due : ℕ) (rest : List ℕ) → due ≤ last_number format → record_at format due (to_be_bytes (number_width format) due ++ rest) ≡ kind_and_entries format due rest
 unfolding record_at
-record_after_number due rest small = rw (number_again_due due rest small) refl
+record_after_number format due rest small = rw (number_again_due format due rest small) refl
 
-pub earlier_again : (due p : ℕ) (rest : List ℕ) → due < 2 ^ 32 → IsEarlier due p → earlier_at due (to_be_bytes w32 p ++ rest) ≡ Ok (p, rest)
+pub earlier_again : (format : Format) (due p : ℕ) (rest : List ℕ) → due ≤ last_number format → IsEarlier due p → earlier_at format due (to_be_bytes (number_width format) p ++ rest) ≡ Ok (p, rest)
 unfolding earlier_at
-earlier_again due p rest small is =
+earlier_again format due p rest small is =
     let from = is.from in
     let below = is.below in
     let in_range : (eqb p 0 || leb due p) ≡ false = or_from _ _ (ne_eqb _ _ (λ zero. omega arith)) (lt-leb _ _ below) in
-    rw (number_again Short w32 (2 ^ 32) fields_32 p rest (omega arith), in_range) refl
+    rw (number_again Short (number_width format) (number_end format) (fields_of format) p rest (omega (arith, small, last_fits format)), in_range) refl
 
 -- The entries' bytes begin with a kind, and they are read after it, whatever follows.
-pub record EntriesRead (first : ℕ) (entries : List Entry) (rest : List ℕ) : Type 0 where
+pub record EntriesRead (format : Format) (first : ℕ) (entries : List Entry) (rest : List ℕ) : Type 0 where
   pub kind : ℕ
   pub fields : List ℕ
-  pub spelled : entries_bytes entries ≡ kind ∷ fields
-  pub read : entries_at first kind (fields ++ rest) ≡ Ok (entries, rest)
-  pub small : first < 2 ^ 32
+  pub spelled : entries_bytes format entries ≡ kind ∷ fields
+  pub read : entries_at format first kind (fields ++ rest) ≡ Ok (entries, rest)
+  pub small : first ≤ last_number format
 
-pub entries_again : (first : ℕ) (entries : List Entry) (rest : List ℕ) → IsRecord first entries → EntriesRead first entries rest
+pub entries_again : (format : Format) (first : ℕ) (entries : List Entry) (rest : List ℕ) → IsRecord format first entries → EntriesRead format first entries rest
 unfolding entries_at write_at prepare_at commit_at rollback_at
-entries_again first [] rest is = absurd is.form
-entries_again first (Write batch ∷ []) rest is =
+entries_again format first [] rest is = absurd is.form
+entries_again format first (Write batch ∷ []) rest is =
     let entry = (and_parts (are_changes batch) true is.in_range).0 in
     record { kind = 1; fields = batch_bytes batch; spelled = refl; read = rw (batch_again batch rest entry) refl; small = is.form }
-entries_again first (Prepare name batch ∷ []) rest is =
+entries_again format first (Prepare name batch ∷ []) rest is =
     let entry = and_parts (is_name name) (are_changes batch) (and_parts (is_name name && are_changes batch) true is.in_range).0 in
     let regrouped : (word_bytes name ++ batch_bytes batch) ++ rest ≡ word_bytes name ++ (batch_bytes batch ++ rest) = append_assoc (word_bytes name) (batch_bytes batch) rest in
     let read : prepare_at (word_bytes name ++ (batch_bytes batch ++ rest)) ≡ Ok (Prepare name batch ∷ [], rest) = rw (word_again MOST_NAME_BYTES name (batch_bytes batch ++ rest) entry.0, batch_again batch rest entry.1) refl in
     record { kind = 2; fields = word_bytes name ++ batch_bytes batch; spelled = refl; read = ap prepare_at regrouped ∙ read; small = is.form }
-entries_again first (Commit p ∷ []) rest is =
-    record { kind = 3; fields = to_be_bytes w32 p; spelled = refl; read = rw (earlier_again first p rest is.form.1 is.form.0) refl; small = is.form.1 }
-entries_again first (Undo p batch ∷ Close q ∷ []) rest is =
+entries_again format first (Commit p ∷ []) rest is =
+    record { kind = 3; fields = to_be_bytes (number_width format) p; spelled = refl; read = rw (earlier_again format first p rest is.form.1 is.form.0) refl; small = is.form.1 }
+entries_again format first (Undo p batch ∷ Close q ∷ []) rest is =
     let entry = (and_parts (are_changes batch) true is.in_range).0 in
     let room = is.form.small in
-    let few : leb LAST_NUMBER first ≡ false = lt-leb _ _ (omega arith) in
-    let small : first < 2 ^ 32 = omega arith in
-    let regrouped : (to_be_bytes w32 p ++ batch_bytes batch) ++ rest ≡ to_be_bytes w32 p ++ (batch_bytes batch ++ rest) = append_assoc (to_be_bytes w32 p) (batch_bytes batch) rest in
-    let read : rollback_at first (to_be_bytes w32 p ++ (batch_bytes batch ++ rest)) ≡ Ok (Undo p batch ∷ Close p ∷ [], rest) = rw (few, earlier_again first p (batch_bytes batch ++ rest) small is.form.earlier, batch_again batch rest entry) refl in
-    rw (← is.form.same) (record { kind = 4; fields = to_be_bytes w32 p ++ batch_bytes batch; spelled = refl; read = ap (rollback_at first) regrouped ∙ read; small = small })
-entries_again first (Close p ∷ others) rest is = absurd is.form
-entries_again first (Write batch ∷ second ∷ others) rest is = absurd is.form
-entries_again first (Prepare name batch ∷ second ∷ others) rest is = absurd is.form
-entries_again first (Commit p ∷ second ∷ others) rest is = absurd is.form
-entries_again first (Undo p batch ∷ []) rest is = absurd is.form
-entries_again first (Undo p batch ∷ Write other ∷ others) rest is = absurd is.form
-entries_again first (Undo p batch ∷ Prepare name other ∷ others) rest is = absurd is.form
-entries_again first (Undo p batch ∷ Commit q ∷ others) rest is = absurd is.form
-entries_again first (Undo p batch ∷ Undo q other ∷ others) rest is = absurd is.form
-entries_again first (Undo p batch ∷ Close q ∷ third ∷ others) rest is = absurd is.form
+    let few : leb (last_number format) first ≡ false = lt-leb _ _ room in
+    let small : first ≤ last_number format = omega arith in
+    let regrouped : (to_be_bytes (number_width format) p ++ batch_bytes batch) ++ rest ≡ to_be_bytes (number_width format) p ++ (batch_bytes batch ++ rest) = append_assoc (to_be_bytes (number_width format) p) (batch_bytes batch) rest in
+    let read : rollback_at format first (to_be_bytes (number_width format) p ++ (batch_bytes batch ++ rest)) ≡ Ok (Undo p batch ∷ Close p ∷ [], rest) = rw (few, earlier_again format first p (batch_bytes batch ++ rest) small is.form.earlier, batch_again batch rest entry) refl in
+    rw (← is.form.same) (record { kind = 4; fields = to_be_bytes (number_width format) p ++ batch_bytes batch; spelled = refl; read = ap (rollback_at format first) regrouped ∙ read; small = small })
+entries_again format first (Close p ∷ others) rest is = absurd is.form
+entries_again format first (Write batch ∷ second ∷ others) rest is = absurd is.form
+entries_again format first (Prepare name batch ∷ second ∷ others) rest is = absurd is.form
+entries_again format first (Commit p ∷ second ∷ others) rest is = absurd is.form
+entries_again format first (Undo p batch ∷ []) rest is = absurd is.form
+entries_again format first (Undo p batch ∷ Write other ∷ others) rest is = absurd is.form
+entries_again format first (Undo p batch ∷ Prepare name other ∷ others) rest is = absurd is.form
+entries_again format first (Undo p batch ∷ Commit q ∷ others) rest is = absurd is.form
+entries_again format first (Undo p batch ∷ Undo q other ∷ others) rest is = absurd is.form
+entries_again format first (Undo p batch ∷ Close q ∷ third ∷ others) rest is = absurd is.form
 
 -- what is spelled so is read
-pub record_again : (first : ℕ) (entries : List Entry) → IsRecord first entries → record_at first (record_bytes first entries) ≡ Ok entries
-record_again first entries is =
-    let found = entries_again first entries [] is in
-    let whole : entries_at first found.kind found.fields ≡ Ok (entries, []) = ap (entries_at first found.kind) (sym (append-nil found.fields)) ∙ found.read in
-    let read : kind_and_entries first (found.kind ∷ found.fields) ≡ Ok entries = rw whole refl in
-    ap (λ (after : List ℕ). record_at first (to_be_bytes w32 first ++ after)) found.spelled ∙ record_after_number first (found.kind ∷ found.fields) found.small ∙ read
+pub record_again : (format : Format) (first : ℕ) (entries : List Entry) → IsRecord format first entries → record_at format first (record_bytes format first entries) ≡ Ok entries
+record_again format first entries is =
+    let found = entries_again format first entries [] is in
+    let whole : entries_at format first found.kind found.fields ≡ Ok (entries, []) = ap (entries_at format first found.kind) (sym (append-nil found.fields)) ∙ found.read in
+    let read : kind_and_entries format first (found.kind ∷ found.fields) ≡ Ok entries = rw whole refl in
+    ap (λ (after : List ℕ). record_at format first (to_be_bytes (number_width format) first ++ after)) found.spelled ∙ record_after_number format first (found.kind ∷ found.fields) found.small ∙ read

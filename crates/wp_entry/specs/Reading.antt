@@ -1,22 +1,23 @@
 -- Reading a record from left to right, with the first fault that is met.
-use Rattle.std.specs.Prelude.{ℕ, ◌||◌, List, [], ◌∷◌, length, Result, Ok, Err, nat_le, ◌==◌, if◌then◌else◌}
-use Rattle.std.specs.Int.{w32}
+use Rattle.std.specs.Prelude.{ℕ, ◌||◌, List, [], ◌∷◌, length, Result, Ok, Err, nat_le, nat_lt, ◌==◌, if◌then◌else◌}
 use Rattle.wp_model.specs.declared.word.TheConstants.{MOST_NAME_BYTES}
 use Rattle.wp_model.specs.declared.change.Change.{Change}
 use Rattle.wp_model.specs.declared.entry.Entry.{Entry}
 use Rattle.wp_model.specs.declared.entry.Entry.TheVariants.{Write, Prepare, Commit, Undo, Close}
 use Rattle.wp_fields.specs.Reading.{◌>>=◌, map_err, byte_at, number_at}
+use Rattle.wp_fields.specs.declared.format.Format.{Format}
+use Rattle.wp_fields.specs.Format.{number_width}
 use Rattle.wp_encoding.specs.Reading as encoding
-use Rattle.wp_entry.specs.declared.layout.TheConstants.{LAST_NUMBER}
 use Rattle.wp_entry.specs.declared.error.RecordError.{RecordError}
 use Rattle.wp_entry.specs.declared.error.RecordError.TheVariants.{Short, BadNumber, BadKind, BadWord, Extra}
 use Rattle.wp_entry.specs.Errors.{record_error}
+use Rattle.wp_entry.specs.Record.{last_number}
 
--- the bytes after the number that is due
-unfoldable pub after_number : ℕ → List ℕ → Result (List ℕ) RecordError
-after_number due bytes = do
-  number ← number_at Short w32 bytes
-  if number.0 == due then Ok number.1 else Err (BadNumber number.0 due)
+-- the bytes after the number that is due, which is that of an entry
+unfoldable pub after_number : Format → ℕ → List ℕ → Result (List ℕ) RecordError
+after_number format due bytes = do
+  number ← number_at Short (number_width format) bytes
+  if number.0 == due then (if nat_lt (last_number format) due then Err BadWord else Ok number.1) else Err (BadNumber number.0 due)
 
 -- a name, and a batch, in a record
 abbrev pub name_in_record : List ℕ → Result (List ℕ × List ℕ) RecordError
@@ -39,36 +40,36 @@ prepare_at bytes = do
   Ok (Prepare name.0 batch.0 ∷ [], batch.1)
 
 -- the number of an entry before the one with the number that is due
-unfoldable pub earlier_at : ℕ → List ℕ → Result (ℕ × List ℕ) RecordError
-earlier_at due bytes = do
-  number ← number_at Short w32 bytes
+unfoldable pub earlier_at : Format → ℕ → List ℕ → Result (ℕ × List ℕ) RecordError
+earlier_at format due bytes = do
+  number ← number_at Short (number_width format) bytes
   if number.0 == 0 || nat_le due number.0 then Err BadWord else Ok number
 
 -- one Commit
-unfoldable pub commit_at : ℕ → List ℕ → Result (List Entry × List ℕ) RecordError
-commit_at due bytes = do
-  p ← earlier_at due bytes
+unfoldable pub commit_at : Format → ℕ → List ℕ → Result (List Entry × List ℕ) RecordError
+commit_at format due bytes = do
+  p ← earlier_at format due bytes
   Ok (Commit p.0 ∷ [], p.1)
 
 -- an Undo and its Close, which has a number too
-unfoldable pub rollback_at : ℕ → List ℕ → Result (List Entry × List ℕ) RecordError
-rollback_at due bytes =
-    if nat_le LAST_NUMBER due then Err BadWord
-    else (earlier_at due bytes >>= λ p. batch_in_record p.1 >>= λ batch. Ok (Undo p.0 batch.0 ∷ Close p.0 ∷ [], batch.1))
+unfoldable pub rollback_at : Format → ℕ → List ℕ → Result (List Entry × List ℕ) RecordError
+rollback_at format due bytes =
+    if nat_le (last_number format) due then Err BadWord
+    else (earlier_at format due bytes >>= λ p. batch_in_record p.1 >>= λ batch. Ok (Undo p.0 batch.0 ∷ Close p.0 ∷ [], batch.1))
 
 -- the entries of a record of that kind
-unfoldable pub entries_at : ℕ → ℕ → List ℕ → Result (List Entry × List ℕ) RecordError
-entries_at due kind bytes =
+unfoldable pub entries_at : Format → ℕ → ℕ → List ℕ → Result (List Entry × List ℕ) RecordError
+entries_at format due kind bytes =
     if kind == 1 then write_at bytes
     else (if kind == 2 then prepare_at bytes
-    else (if kind == 3 then commit_at due bytes
-    else (if kind == 4 then rollback_at due bytes
+    else (if kind == 3 then commit_at format due bytes
+    else (if kind == 4 then rollback_at format due bytes
     else Err (BadKind kind))))
 
 -- all of the bytes
-unfoldable pub record_at : ℕ → List ℕ → Result (List Entry) RecordError
-record_at due bytes = do
-  rest ← after_number due bytes
+unfoldable pub record_at : Format → ℕ → List ℕ → Result (List Entry) RecordError
+record_at format due bytes = do
+  rest ← after_number format due bytes
   kind ← byte_at Short rest
-  entries ← entries_at due kind.0 kind.1
+  entries ← entries_at format due kind.0 kind.1
   if length entries.1 == 0 then Ok entries.0 else Err (Extra (length entries.1))

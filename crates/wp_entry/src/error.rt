@@ -20,7 +20,8 @@ pub enum RecordError {
     #[error("kind {0}")]
     BadKind(u8),
     /// A length, a count or a byte of a word is out of range, a key is not above the one before it, a number is none
-    /// of an earlier entry, or there is no number for the entry after an Undo.
+    /// of an earlier entry, or is past the last that an entry may have, or there is no number for the entry after an
+    /// Undo.
     #[error("word")]
     BadWord,
     /// So many bytes follow the record.

@@ -1,5 +1,9 @@
-//! The bytes that tell kinds apart, and the last number that fits.
+//! The bytes that tell kinds apart, and the last number of an entry.
 
+ghost use Rattle.std.specs.Prelude.{◌≡◌};
+ghost use Rattle.wp_entry.specs.Record.{last_number};
+
+use wp_fields::Format;
 use wp_model::Seq;
 
 /// The kind of the record of one Write.
@@ -14,5 +18,12 @@ pub const COMMIT: u8 = 3;
 /// The kind of the record of an Undo and its Close.
 pub const ROLLBACK: u8 = 4;
 
-/// The last number that fits in four bytes.
-pub const LAST_NUMBER: Seq = 0xFFFF_FFFF;
+/// The last number that an entry may have: the last one that fits in four bytes, or 2^56 - 1.
+pub fn last_number(format: Format) -> Seq
+    ensures { result ≡ last_number format }
+{
+    match format {
+        Format::One => u64::from(u32::MAX),
+        Format::Two => (1 << 56) - 1,
+    }
+}

@@ -1,8 +1,9 @@
 //! The records of the log: what one append makes durable, as one run of bytes.
 //!
 //! A record is the number of its first entry, its kind, and what the entries of that kind hold. Each list of
-//! entries that is a record has one spelling. `push_record` gives it, and `read_record` takes nothing else: it
-//! names the first fault from the left. Whether an entry may be in a history at all is asked elsewhere.
+//! entries that is a record has one spelling in each version of the format, and these differ in how wide numbers are:
+//! the caller says which. `push_record` gives it, and `read_record` takes nothing else: it names the first fault from
+//! the left. Whether an entry may be in a history at all is asked elsewhere.
 #![tactic(auto)]
 
 mod error;

@@ -8,19 +8,22 @@ ghost use Rattle.wp_entry.specs.Record.{IsRecord, record_bytes};
 ghost use Rattle.wp_entry.specs.Reading.{after_number, write_at, prepare_at, earlier_at, commit_at, rollback_at, entries_at, record_at};
 
 use crate::error::RecordError;
-use crate::layout::{COMMIT, LAST_NUMBER, PREPARE, ROLLBACK, WRITE};
+use crate::layout::{COMMIT, PREPARE, ROLLBACK, WRITE, last_number};
 use std::alloc::Global;
 use wp_encoding::{read_batch, read_word};
-use wp_fields::Fields;
+use wp_fields::{Fields, Format};
 use wp_model::{Entry, Seq};
 
 #[tactic(auto, unfolding(crate::specs::Reading::after_number))]
-fn due_number(fields: &mut Fields<'_>, due: Seq) -> Result<(), RecordError>
-    ensures { Gives record_fault (λ _. fields.new) result (after_number due fields.old) }
+fn due_number(fields: &mut Fields<'_>, format: Format, due: Seq) -> Result<(), RecordError>
+    ensures { Gives record_fault (λ _. fields.new) result (after_number format due fields.old) }
 {
-    let found = u64::from(fields.u32().ok_or(RecordError::Short)?);
+    let found = fields.number(format).ok_or(RecordError::Short)?;
     if found != due {
         return Err(RecordError::BadNumber { found, due });
+    }
+    if due > last_number(format) {
+        return Err(RecordError::BadWord);
     }
     Ok(())
 }
@@ -44,10 +47,10 @@ fn one_prepare(alloc: Global, fields: &mut Fields<'_>) -> Result<Vec<Entry>, Rec
 
 /// The number of an entry before the one with the number that is due.
 #[tactic(auto, unfolding(crate::specs::Reading::earlier_at))]
-fn earlier(fields: &mut Fields<'_>, due: Seq) -> Result<Seq, RecordError>
-    ensures { Gives record_fault (λ p. (p, fields.new)) result (earlier_at due fields.old) }
+fn earlier(fields: &mut Fields<'_>, format: Format, due: Seq) -> Result<Seq, RecordError>
+    ensures { Gives record_fault (λ p. (p, fields.new)) result (earlier_at format due fields.old) }
 {
-    let p = u64::from(fields.u32().ok_or(RecordError::Short)?);
+    let p = fields.number(format).ok_or(RecordError::Short)?;
     if p == 0 || p >= due {
         return Err(RecordError::BadWord);
     }
@@ -55,21 +58,31 @@ fn earlier(fields: &mut Fields<'_>, due: Seq) -> Result<Seq, RecordError>
 }
 
 #[tactic(auto, unfolding(crate::specs::Reading::commit_at))]
-fn one_commit(alloc: Global, fields: &mut Fields<'_>, due: Seq) -> Result<Vec<Entry>, RecordError>
-    ensures { Gives record_fault (λ entries. (entries.items, fields.new)) result (commit_at due fields.old) }
+fn one_commit(
+    alloc: Global,
+    fields: &mut Fields<'_>,
+    format: Format,
+    due: Seq,
+) -> Result<Vec<Entry>, RecordError>
+    ensures { Gives record_fault (λ entries. (entries.items, fields.new)) result (commit_at format due fields.old) }
 {
-    let commit = Entry::Commit(earlier(fields, due)?);
+    let commit = Entry::Commit(earlier(fields, format, due)?);
     Ok(vec![in alloc; commit]?)
 }
 
 #[tactic(auto, unfolding(crate::specs::Reading::rollback_at))]
-fn one_rollback(alloc: Global, fields: &mut Fields<'_>, due: Seq) -> Result<Vec<Entry>, RecordError>
-    ensures { Gives record_fault (λ entries. (entries.items, fields.new)) result (rollback_at due fields.old) }
+fn one_rollback(
+    alloc: Global,
+    fields: &mut Fields<'_>,
+    format: Format,
+    due: Seq,
+) -> Result<Vec<Entry>, RecordError>
+    ensures { Gives record_fault (λ entries. (entries.items, fields.new)) result (rollback_at format due fields.old) }
 {
-    if due >= LAST_NUMBER {
+    if due >= last_number(format) {
         return Err(RecordError::BadWord);
     }
-    let p = earlier(fields, due)?;
+    let p = earlier(fields, format, due)?;
     let undo = Entry::Undo(p, read_batch(alloc, fields)?);
     Ok(vec![in alloc; undo, Entry::Close(p)]?)
 }
@@ -78,47 +91,59 @@ fn one_rollback(alloc: Global, fields: &mut Fields<'_>, due: Seq) -> Result<Vec<
 fn entries(
     alloc: Global,
     fields: &mut Fields<'_>,
+    format: Format,
     due: Seq,
     kind: u8,
 ) -> Result<Vec<Entry>, RecordError>
-    ensures { Gives record_fault (λ entries. (entries.items, fields.new)) result (entries_at due kind fields.old) }
+    ensures { Gives record_fault (λ entries. (entries.items, fields.new)) result (entries_at format due kind fields.old) }
 {
     match kind {
         WRITE => one_write(alloc, fields),
         PREPARE => one_prepare(alloc, fields),
-        COMMIT => one_commit(alloc, fields, due),
-        ROLLBACK => one_rollback(alloc, fields, due),
+        COMMIT => one_commit(alloc, fields, format, due),
+        ROLLBACK => one_rollback(alloc, fields, format, due),
         other => Err(RecordError::BadKind(other)),
     }
 }
 
 #[tactic(auto, unfolding(crate::specs::Reading::record_at))]
-fn record(alloc: Global, bytes: &[u8], first: Seq) -> Result<Vec<Entry>, RecordError>
-    ensures { Gives record_fault (λ entries. entries.items) result (record_at first bytes.now) }
+fn record(
+    alloc: Global,
+    bytes: &[u8],
+    format: Format,
+    first: Seq,
+) -> Result<Vec<Entry>, RecordError>
+    ensures { Gives record_fault (λ entries. entries.items) result (record_at format first bytes.now) }
 {
     let mut fields = Fields::of(bytes);
-    due_number(&mut fields, first)?;
+    due_number(&mut fields, format, first)?;
     let kind = fields.u8().ok_or(RecordError::Short)?;
-    let entries = entries(alloc, &mut fields, first, kind)?;
+    let entries = entries(alloc, &mut fields, format, first, kind)?;
     match fields.left() {
         0 => Ok(entries),
         extra => Err(RecordError::Extra(extra)),
     }
 }
 
-/// Reads the record whose first entry's number is `first`: the bytes are it, and nothing follows.
-pub fn read_record(alloc: Global, bytes: &[u8], first: Seq) -> Result<Vec<Entry>, RecordError>
+/// Reads the record of that version of the format whose first entry has the number `first`: the bytes are it, and
+/// nothing follows.
+pub fn read_record(
+    alloc: Global,
+    bytes: &[u8],
+    format: Format,
+    first: Seq,
+) -> Result<Vec<Entry>, RecordError>
     // What is read is a record, and the bytes are its spelling.
-    ensures found { IfOk result (λ entries. IsRecord first entries.items
-        × (bytes.now ≡ record_bytes first entries.items)) }
+    ensures found { IfOk result (λ entries. IsRecord format first entries.items
+        × (bytes.now ≡ record_bytes format first entries.items)) }
     // What is spelled so is read, unless memory runs out.
-    ensures only { (written : List Entry) → IsRecord first written → bytes.now ≡ record_bytes first written
+    ensures only { (written : List Entry) → IsRecord format first written → bytes.now ≡ record_bytes format first written
         → Gives record_fault (λ entries. entries.items) result (Ok written) }
     // What is refused has that fault, and what has a fault is refused for it, unless memory runs out.
-    ensures refused { IfErr result (λ error. IfSome (record_fault error) (λ fault. IsRecordFault first bytes.now fault)) }
-    ensures each_fault { (fault : RecordError) → IsRecordFault first bytes.now fault
+    ensures refused { IfErr result (λ error. IfSome (record_fault error) (λ fault. IsRecordFault format first bytes.now fault)) }
+    ensures each_fault { (fault : RecordError) → IsRecordFault format first bytes.now fault
         → Gives record_fault (λ entries. entries.items) result (Err fault) }
-    ensures exact { Gives record_fault (λ entries. entries.items) result (record_at first bytes.now) }
+    ensures exact { Gives record_fault (λ entries. entries.items) result (record_at format first bytes.now) }
 {
-    record(alloc, bytes, first)
+    record(alloc, bytes, format, first)
 }

@@ -12,6 +12,7 @@ use Rattle.wp_outside.specs.Faults.{Rose}
 use Rattle.wp_gatelog.specs.Moments.{Leaves}
 use Rattle.wp_gatelog.proofs.DurabilityLemmas.{preserves_on}
 use Rattle.wp_gatelog.proofs.SurvivalLemmas.{rest_spells}
+use Rattle.wp_fields.specs.declared.format.Format.TheVariants.{One}
 use Rattle.wp_entry.specs.Record.{FormRecord, IsRecord, IsEarlier}
 use Rattle.wp_wal.specs.Spelling.{MAGIC, IsLogOf}
 use Rattle.wp_gatelog.specs.declared.log.AppendError.TheVariants.{DiskFault}
@@ -38,7 +39,7 @@ earlier : (history : List Entry) (p : ℕ) → is_undecided history p ≡ true �
 earlier history p is = let within = undecided_within history p is in record { from = within.0; below = omega (arith, within.1) }
 
 -- one record that may come next has numbers that fit
-pub form_next : (history entries : List Entry) → IsOneRecord entries → IsLegal (history ++ entries) → FormRecord (length history + 1) entries
+pub form_next : (history entries : List Entry) → IsOneRecord entries → IsLegal (history ++ entries) → FormRecord One (length history + 1) entries
 form_next history (entry.Write batch ∷ []) one legal = omega (arith, legal.few, length-append history (entry.Write batch ∷ []))
 form_next history (entry.Prepare name batch ∷ []) one legal = omega (arith, legal.few, length-append history (entry.Prepare name batch ∷ []))
 form_next history (entry.Commit p ∷ []) one legal =
@@ -68,7 +69,7 @@ with_record wal entries = record wal { reserved = Some (reserved_of wal.due entr
 module _ (wal first : WalState) (history pending failed : List Entry) (logged closed : Bool) (room : ℕ) (kept : IsKept (log_state wal first history pending logged failed) room closed) where
   -- nothing is pending, and the entries may come next
   module _ (none : pending ≡ []) (entries : List Entry) (legal : IsLegal (history ++ entries)) where
-    pub form_due : IsOneRecord entries → FormRecord wal.due entries
+    pub form_due : IsOneRecord entries → FormRecord One wal.due entries
     form_due one =
         let due : wal.due ≡ length history + 1 = kept.log.stores.numbered ∙ ap (λ (xs : List Entry). length xs + 1) (unlogged logged history pending none) in
         rw due (form_next history entries one legal)
@@ -76,7 +77,7 @@ module _ (wal first : WalState) (history pending failed : List Entry) (logged cl
     still_stored : StoresHistory (with_record wal entries) history failed
     still_stored = stores_reserved wal history failed (Some (reserved_of wal.due entries)) (subst (λ (xs : List Entry). StoresHistory wal xs failed) (unlogged logged history pending none) kept.log.stores)
 
-    pub made_pending : (ready : WalState) (more : ℕ) → wal.closed ≡ false → ready ≡ with_record wal entries → IsRecord wal.due entries → length entries ≤ more → IsKept (log_state ready first history entries false failed) more closed
+    pub made_pending : (ready : WalState) (more : ℕ) → wal.closed ≡ false → ready ≡ with_record wal entries → IsRecord One wal.due entries → length entries ≤ more → IsKept (log_state ready first history entries false failed) more closed
     made_pending ready more running is record_is fits = subst (λ (w : WalState). IsKept (log_state w first history entries false failed) more closed) (sym is) record {
       log = record {
         stores = still_stored;
@@ -102,7 +103,7 @@ module _ (wal first : WalState) (history pending failed : List Entry) (logged cl
       stores = subst (λ (xs : List Entry). StoresHistory wal xs failed) (same logged not_logged) kept.log.stores;
       legal = subst IsLegal (sym (append-nil history)) (legal_before history pending kept.log.legal);
       none_failed = kept.log.none_failed;
-      whole = λ shut. subst (λ (xs : List Entry). IsRecord (length xs + 1) failed) (same logged not_logged) (kept.log.whole shut);
+      whole = λ shut. subst (λ (xs : List Entry). IsRecord One (length xs + 1) failed) (same logged not_logged) (kept.log.whole shut);
       id = kept.log.id;
       later = kept.log.later;
       cause = kept.log.cause;
@@ -156,7 +157,7 @@ module _ (wal first : WalState) (history pending failed : List Entry) (logged cl
               stores = stores;
               legal = kept.log.legal;
               none_failed = λ open_. absurd cc;
-              whole = λ _. subst (λ (n : ℕ). IsRecord n pending) is_reserved.stores.numbered is_reserved.is;
+              whole = λ _. subst (λ (n : ℕ). IsRecord One n pending) is_reserved.stores.numbered is_reserved.is;
               id = ap (λ (w : WalState). w.id) refused.2 ∙ kept.log.id;
               later = omega (arith, kept.log.later, later);
               cause = λ _. rose_since first.faults wal.faults new.faults kept.log.later refused.1;

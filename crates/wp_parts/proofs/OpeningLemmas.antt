@@ -23,6 +23,7 @@ use Rattle.wp_model.specs.Snapshots.{Snapshots}
 use Rattle.wp_model.specs.Versions.{version_at}
 use Rattle.wp_model.proofs.Entries.{undone_after}
 use Rattle.wp_outside.specs.Disk.{Moment, IfKnown, added, after_sync}
+use Rattle.wp_fields.specs.declared.format.Format.TheVariants.{One}
 use Rattle.wp_entry.specs.Record.{FormRecord}
 use Rattle.wp_manifest.specs.Edit.{Edit}
 use Rattle.wp_manifest.specs.Manifest.{ManifestState}
@@ -65,7 +66,7 @@ Found = Option (Option (List ℕ))
 
 -- ---- what the log spells ends in no undo
 
-record_closes : (first : ℕ) (entries : List Entry) → FormRecord first entries → undone_last entries ≡ None
+record_closes : (first : ℕ) (entries : List Entry) → FormRecord One first entries → undone_last entries ≡ None
 record_closes first (entry.Write batch ∷ []) form = refl
 record_closes first (entry.Prepare name batch ∷ []) form = refl
 record_closes first (entry.Commit p ∷ []) form = refl

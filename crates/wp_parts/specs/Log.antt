@@ -3,6 +3,7 @@ use Rattle.std.specs.Prelude.{◌≡◌, ◌≢◌, ℕ, ◌+◌, ◌≤◌, Boo
 use Rattle.wp_model.specs.declared.entry.Entry.{Entry}
 use Rattle.wp_model.specs.Legal.{IsLegal}
 use Rattle.wp_outside.specs.Faults.{Rose}
+use Rattle.wp_fields.specs.declared.format.Format.TheVariants.{One}
 use Rattle.wp_entry.specs.Record.{IsRecord}
 use Rattle.wp_wal.specs.Spelling.{IsLogOf}
 use Rattle.wp_wal.specs.Wal.{WalState, LosesNothing, StoresHistory, IsReserved}
@@ -39,7 +40,7 @@ pub record IsLog (s : LogState) : Type 0 where
   pub stores : StoresHistory s.wal s.table.log s.table.failed
   pub legal : IsLegal (s.table.history ++ s.table.pending)
   pub none_failed : s.table.closed ≡ false → s.table.failed ≡ []
-  pub whole : s.table.closed ≡ true → IsRecord (length s.table.log + 1) s.table.failed
+  pub whole : s.table.closed ≡ true → IsRecord One (length s.table.log + 1) s.table.failed
   pub id : s.wal.id ≡ s.first.id
   pub later : s.first.faults ≤ s.wal.faults
   pub cause : s.table.closed ≡ true → Rose s.first.faults s.wal.faults

@@ -5,6 +5,7 @@ use Rattle.wp_model.specs.Flushed.{InstalledEdit}
 use Rattle.wp_outside.specs.Disk.{IfKnown}
 use Rattle.wp_outside.specs.Faults.{Rose}
 use Rattle.wp_gatelog.specs.Spelling.{IsUnmade}
+use Rattle.wp_fields.specs.declared.format.Format.TheVariants.{One}
 use Rattle.wp_entry.specs.Record.{IsRecord}
 use Rattle.wp_core.specs.World.{World}
 use Rattle.wp_core.specs.Runs.{Reaches}
@@ -35,7 +36,7 @@ pub record IsStored (disks : DisksUse) (asked id : ℕ) (found left : StoredStat
   pub spelled : IfKnown disks.log.before (λ m. IsLogOf id found.history m.reads)
   pub stored : IfKnown disks.log.after (LeavesHistoryOrNext id left.history failed.entries)
   pub unfailed : faults.log ≡ 0 → failed.entries ≡ []
-  pub whole : 1 ≤ faults.log → IsRecord (length left.history + 1) failed.entries
+  pub whole : 1 ≤ faults.log → IsRecord One (length left.history + 1) failed.entries
   pub once : faults.log ≤ 1
   pub cause : 1 ≤ faults.log → Rose disks.log.faults_before disks.log.faults_after
   pub tables_once : faults.tables ≤ 1

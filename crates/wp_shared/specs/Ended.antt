@@ -6,6 +6,7 @@ use Rattle.wp_model.specs.Legal.{IsLegal}
 use Rattle.wp_model.specs.LockTables.{LockTables}
 use Rattle.wp_outside.specs.Disk.{images, IfKnown}
 use Rattle.wp_outside.specs.Faults.{Rose}
+use Rattle.wp_fields.specs.declared.format.Format.TheVariants.{One}
 use Rattle.wp_entry.specs.Record.{IsRecord}
 use Rattle.wp_gatelog.specs.Durability.{LosesNoRecord}
 use Rattle.wp_wal.specs.Wal.{WalState, LosesNothing, LeavesHistoryOrNext}
@@ -71,7 +72,7 @@ pub record IsEnded {D : Type 0} (z : SharedState D) (seats : List SeatState) (hi
   -- of the tables has failed, the manifest names the last edit.
   pub log : writes.log ≡ history
   pub none_failed : writes.closed ≡ false → writes.failed ≡ []
-  pub whole : writes.closed ≡ true → IsRecord (length history + 1) writes.failed
+  pub whole : writes.closed ≡ true → IsRecord One (length history + 1) writes.failed
   pub none_asked : edits.halted ≡ false → edits.failed ≡ None
   -- so a crash leaves the log with the history acknowledged, and perhaps with the failed record behind it, under the store's id;
   -- and what it leaves of the three devices opens

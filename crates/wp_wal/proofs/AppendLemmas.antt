@@ -3,6 +3,7 @@ use Rattle.std.proofs.Common.{◌≡◌, ℕ, ◌+◌, Bool, true, false, List, 
 use Rattle.std.specs.Prelude.{IfSome}
 use Rattle.wp_model.specs.declared.entry.Entry.{Entry}
 use Rattle.wp_outside.specs.Disk.{Moment, IsImage, IfKnown, Each, Passes}
+use Rattle.wp_fields.specs.declared.format.Format.TheVariants.{One}
 use Rattle.wp_entry.specs.Record.{IsRecord, record_bytes}
 use Rattle.wp_gatelog.specs.declared.log.AppendError.{AppendError}
 use Rattle.wp_gatelog.specs.declared.log.AppendError.TheVariants.{DiskFault, Closed}
@@ -71,10 +72,10 @@ left_both P Q old new before ps qs =
 
 -- The bytes are the record of the next entries, which is reserved with their count.
 record IsNext (history next : List Entry) (due : ℕ) (r : Reserved) : Type 0 where
-  spelled : r.bytes ≡ record_bytes (length history + 1) next
+  spelled : r.bytes ≡ record_bytes One (length history + 1) next
   numbered : due ≡ length history + 1
   counted : r.count ≡ length next
-  is : IsRecord (length history + 1) next
+  is : IsRecord One (length history + 1) next
 
 next_reserved : (log : LogState) (due : ℕ) (reserved : Option Reserved) (r : Reserved) (history next : List Entry) → reserved ≡ Some r → IsReserved (wal_state log due reserved) history next → IsNext history next due r
 next_reserved log due reserved r history next there is =
@@ -82,10 +83,10 @@ next_reserved log due reserved r history next there is =
     let lies : reserved ≡ Some (reserved_of due next) = is.reserved in
     let same : r ≡ reserved_of due next = cc in
     record {
-      spelled = ap (λ (s : Reserved). s.bytes) same ∙ ap (λ (n : ℕ). record_bytes n next) numbered;
+      spelled = ap (λ (s : Reserved). s.bytes) same ∙ ap (λ (n : ℕ). record_bytes One n next) numbered;
       numbered = numbered;
       counted = ap (λ (s : Reserved). s.count) same;
-      is = subst (λ (n : ℕ). IsRecord n next) numbered is.is;
+      is = subst (λ (n : ℕ). IsRecord One n next) numbered is.is;
     }
 
 pub appended_reserved : (old new : LogState) (due : ℕ) (reserved : Option Reserved) (r : Reserved) → reserved ≡ Some r → FrameAppended old new r.bytes

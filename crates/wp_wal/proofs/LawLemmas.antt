@@ -5,6 +5,7 @@ use Rattle.std.proofs.lemmas.Bool.{cases_order}
 use Rattle.std.proofs.lemmas.Option.{none-some, same_Some}
 use Rattle.wp_model.specs.declared.entry.Entry.{Entry}
 use Rattle.wp_model.specs.Legal.{IsLegal, IsLegalNext}
+use Rattle.wp_fields.specs.declared.format.Format.TheVariants.{One}
 use Rattle.wp_entry.specs.declared.error.RecordError.{RecordError}
 use Rattle.wp_entry.specs.Record.{IsRecord, record_bytes}
 use Rattle.wp_entry.specs.Reading.{record_at}
@@ -18,7 +19,7 @@ use Rattle.wp_wal.specs.Reading.{IsNoRecord, IsIllegalAmong, IsIllegalRecord, Li
 
 -- records are read from their spelling
 abbrev pub AreRead : Type 0
-AreRead = (first : ℕ) (entries : List Entry) → IsRecord first entries → record_at first (record_bytes first entries) ≡ Ok entries
+AreRead = (first : ℕ) (entries : List Entry) → IsRecord One first entries → record_at One first (record_bytes One first entries) ≡ Ok entries
 
 -- what a legal history begins with is legal
 abbrev pub HasLegalFronts : Type 0
@@ -40,14 +41,14 @@ err_not_ok : (why : RecordError) (entries : List Entry) → ◌≡◌ {A = Resul
 err_not_ok why entries e = absurd cc
 
 -- what is spelled so is read so
-spelled_read : AreRead → (first : ℕ) (bytes : List ℕ) (entries : List Entry) → IsRecord first entries → bytes ≡ record_bytes first entries → record_at first bytes ≡ Ok entries
-spelled_read read first bytes entries is spelled = ap (record_at first) spelled ∙ read first entries is
+spelled_read : AreRead → (first : ℕ) (bytes : List ℕ) (entries : List Entry) → IsRecord One first entries → bytes ≡ record_bytes One first entries → record_at One first bytes ≡ Ok entries
+spelled_read read first bytes entries is spelled = ap (record_at One first) spelled ∙ read first entries is
 
-same_entries : AreRead → (first : ℕ) (bytes : List ℕ) (one other : List Entry) → IsRecord first one → bytes ≡ record_bytes first one → IsRecord first other → bytes ≡ record_bytes first other → one ≡ other
+same_entries : AreRead → (first : ℕ) (bytes : List ℕ) (one other : List Entry) → IsRecord One first one → bytes ≡ record_bytes One first one → IsRecord One first other → bytes ≡ record_bytes One first other → one ≡ other
 same_entries read first bytes one other is_one one_spelled is_other other_spelled =
     same_ok one other (sym (spelled_read read first bytes one is_one one_spelled) ∙ spelled_read read first bytes other is_other other_spelled)
 
-no_record : AreRead → (history : List Entry) (bytes : List ℕ) (why : RecordError) (entries : List Entry) → IsNoRecord history bytes why → IsRecord (length history + 1) entries → bytes ≡ record_bytes (length history + 1) entries → ⊥
+no_record : AreRead → (history : List Entry) (bytes : List ℕ) (why : RecordError) (entries : List Entry) → IsNoRecord history bytes why → IsRecord One (length history + 1) entries → bytes ≡ record_bytes One (length history + 1) entries → ⊥
 no_record read history bytes why entries refused is spelled = err_not_ok why entries (sym refused.wrong ∙ spelled_read read (length history + 1) bytes entries is spelled)
 
 -- ---- the entries of the first records
@@ -89,8 +90,8 @@ cut_at (first ∷ records) (suc index) bytes at = ap (λ (rest : List (List ℕ)
 record TakenAt (history whole : List Entry) (bytes : List ℕ) : Type 0 where
   entries : List Entry
   rest : List Entry
-  is : IsRecord (length history + 1) entries
-  spelling : bytes ≡ record_bytes (length history + 1) entries
+  is : IsRecord One (length history + 1) entries
+  spelling : bytes ≡ record_bytes One (length history + 1) entries
   parts : whole ≡ history ++ (entries ++ rest)
 
 taken_after : (history whole : List Entry) (bytes : List ℕ) (following : List (List ℕ)) → Splits 1 (bytes ∷ following) history whole → TakenAt history whole bytes
@@ -100,8 +101,8 @@ taken_after history whole bytes following split =
     record {
       entries = found.0;
       rest = found.1;
-      is = subst (λ (n : ℕ). IsRecord n found.0) place found.3;
-      spelling = found.4 ∙ ap (λ (n : ℕ). record_bytes n found.0) place;
+      is = subst (λ (n : ℕ). IsRecord One n found.0) place found.3;
+      spelling = found.4 ∙ ap (λ (n : ℕ). record_bytes One n found.0) place;
       parts = split.parts ∙ ap (λ (e : List Entry). history ++ e) found.2;
     }
 

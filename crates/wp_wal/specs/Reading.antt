@@ -2,6 +2,7 @@
 use Rattle.std.specs.Prelude.{◌≡◌, ℕ, ◌+◌, List, ◌∷◌, ◌++◌, length, take, Some, Err, slice_get}
 use Rattle.wp_model.specs.declared.entry.Entry.{Entry}
 use Rattle.wp_model.specs.Legal.{IsLegal, IsLegalNext}
+use Rattle.wp_fields.specs.declared.format.Format.TheVariants.{One}
 use Rattle.wp_entry.specs.declared.error.RecordError.{RecordError}
 use Rattle.wp_entry.specs.Record.{IsRecord, record_bytes}
 use Rattle.wp_entry.specs.Reading.{record_at}
@@ -14,14 +15,14 @@ use Rattle.wp_wal.specs.Spelling.{AreEntries}
 -- the record is the entries that come after the history
 pub record TakesRecord (history longer : List Entry) (bytes : List ℕ) : Type 0 where
   pub entries : List Entry
-  pub is : IsRecord (length history + 1) entries
-  pub spelling : bytes ≡ record_bytes (length history + 1) entries
+  pub is : IsRecord One (length history + 1) entries
+  pub spelling : bytes ≡ record_bytes One (length history + 1) entries
   pub whole : longer ≡ history ++ entries
 
 -- the bytes after the legal history are no record at their number, for this reason
 pub record IsNoRecord (history : List Entry) (bytes : List ℕ) (why : RecordError) : Type 0 where
   pub legal : IsLegal history
-  pub wrong : record_at (length history + 1) bytes ≡ Err why
+  pub wrong : record_at One (length history + 1) bytes ≡ Err why
 
 -- Of the entries after the history the one with this number is the first that may not come there.
 pub record IsIllegalAmong (history entries : List Entry) (number : ℕ) : Type 0 where
@@ -36,8 +37,8 @@ pub record IsIllegalAmong (history entries : List Entry) (number : ℕ) : Type 0
 -- the bytes after the history are a record, and the entry with this number may not be where it is
 pub record IsIllegalRecord (history : List Entry) (bytes : List ℕ) (number : ℕ) : Type 0 where
   pub entries : List Entry
-  pub is : IsRecord (length history + 1) entries
-  pub spelling : bytes ≡ record_bytes (length history + 1) entries
+  pub is : IsRecord One (length history + 1) entries
+  pub spelling : bytes ≡ record_bytes One (length history + 1) entries
   pub among : IsIllegalAmong history entries number
 
 -- why the bytes are no record that may come after the history; of memory it says nothing

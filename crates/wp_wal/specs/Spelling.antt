@@ -1,6 +1,7 @@
 -- The log of a store: records that spell its history.
 use Rattle.std.specs.Prelude.{◌≡◌, ◌⊎◌, ℕ, ◌+◌, List, [], ◌∷◌, ◌++◌, length, codes}
 use Rattle.wp_model.specs.declared.entry.Entry.{Entry}
+use Rattle.wp_fields.specs.declared.format.Format.TheVariants.{One}
 use Rattle.wp_entry.specs.Record.{IsRecord, record_bytes}
 use Rattle.wp_gatelog.specs.Durability.{HasAcknowledged}
 use Rattle.wp_gatelog.specs.Spelling.{Spells}
@@ -12,7 +13,7 @@ MAGIC = codes "WPLG"
 -- These records spell these entries in order, of which the first has that number.
 abbrev pub AreEntries : ℕ → List (List ℕ) → List Entry → Type 0
 AreEntries first [] entries = entries ≡ []
-AreEntries first (bytes ∷ others) entries = (front rest : List Entry) × (entries ≡ front ++ rest) × IsRecord first front × (bytes ≡ record_bytes first front) × AreEntries (first + length front) others rest
+AreEntries first (bytes ∷ others) entries = (front rest : List Entry) × (entries ≡ front ++ rest) × IsRecord One first front × (bytes ≡ record_bytes One first front) × AreEntries (first + length front) others rest
 
 -- The bytes spell the history under the id.
 abbrev pub IsLogOf : ℕ → List Entry → List ℕ → Type 0

@@ -4,6 +4,7 @@ use Rattle.wp_model.specs.Legal.{log_end}
 use Rattle.wp_model.specs.declared.entry.Entry.{Entry}
 use Rattle.wp_outside.specs.Disk.{Moment, IfKnown, Passes}
 use Rattle.wp_outside.specs.Faults.{Rose}
+use Rattle.wp_fields.specs.declared.format.Format.TheVariants.{One}
 use Rattle.wp_entry.specs.Record.{IsRecord, record_bytes}
 use Rattle.wp_gatelog.specs.declared.log.AppendError.{AppendError}
 use Rattle.wp_gatelog.specs.declared.log.AppendError.TheVariants.{DiskFault, Closed}
@@ -21,7 +22,7 @@ pub record Reserved : Type 0 where
 
 -- the record of these entries, of which the first has that number
 abbrev pub reserved_of : ℕ → List Entry → Reserved
-reserved_of first entries = record { bytes = record_bytes first entries; count = length entries }
+reserved_of first entries = record { bytes = record_bytes One first entries; count = length entries }
 
 pub record WalState : Type 0 where
   pub moments : List Moment  -- its disk's
@@ -75,7 +76,7 @@ pub record StoresHistory (wal : WalState) (history next : List Entry) : Type 0 w
 pub record IsReserved (wal : WalState) (history next : List Entry) : Type 0 where
   pub stores : StoresHistory wal history []
   pub running : wal.closed ≡ false
-  pub is : IsRecord wal.due next
+  pub is : IsRecord One wal.due next
   pub reserved : wal.reserved ≡ Some (reserved_of wal.due next)
 
 -- The record of these entries, which is reserved, is appended to a log that stores the history.

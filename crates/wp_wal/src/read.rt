@@ -8,6 +8,7 @@ ghost use Rattle.wp_wal.specs.Reading.{IsRecordCause, IsRefusedRecord, IsIllegal
 use crate::error::WalError;
 use std::alloc::Global;
 use wp_entry::{RecordError, read_record};
+use wp_fields::Format;
 use wp_gatelog::Record;
 use wp_history::History;
 use wp_model::{Entry, Seq};
@@ -39,7 +40,7 @@ fn take_record(
     ensures err { IfErr result (IsRefusedRecord history.old.entries index bytes.now) }
 {
     let due = history.entries().len() as u64 + 1;
-    let entries = match read_record(alloc, bytes, due) {
+    let entries = match read_record(alloc, bytes, Format::One, due) {
         Ok(entries) => entries,
         Err(RecordError::Memory) => return Err(WalError::Memory),
         Err(why) => return Err(WalError::BadRecord { index, why }),

@@ -2,6 +2,7 @@
 ghost use Rattle.std.specs.Prelude.{◌≡◌, ◌≤◌, List, Some, true, false, is_some, IfOk, IfErr, IfSome, OnOk, OnErr, MatchResult};
 ghost use Rattle.wp_model.specs.declared.entry.Entry.{Entry};
 ghost use Rattle.wp_outside.specs.Disk.{IfKnown};
+ghost use Rattle.wp_fields.specs.declared.format.Format.TheVariants.{One};
 ghost use Rattle.wp_entry.specs.Record.{FormRecord, IsRecord};
 ghost use Rattle.wp_gatelog.specs.Opening.{KeepsLog};
 ghost use Rattle.wp_wal.specs.Spelling.{MAGIC};
@@ -92,9 +93,9 @@ impl<D: Disk> Wal<D> {
     /// Makes the record of the entries for the next append, in place of the one that was reserved. Their numbers are
     /// the next ones.
     pub fn reserve(&mut self, entries: &[Entry]) -> Result<(), AllocError>
-        requires { FormRecord self.old.due entries.now }
+        requires { FormRecord One self.old.due entries.now }
         ensures ok { OnOk result (self.new ≡ record self.old { reserved = Some (reserved_of self.old.due entries.now) }) }
-        ensures record { OnOk result (IsRecord self.old.due entries.now) }
+        ensures record { OnOk result (IsRecord One self.old.due entries.now) }
         ensures err { OnErr result (self.new ≡ self.old) }
     {
         self.reserved = Some(Reserved::of(self.alloc, self.due, entries)?);

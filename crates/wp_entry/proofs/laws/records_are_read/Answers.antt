@@ -10,4 +10,4 @@ pub returns-clause-only : goal.returns-clause-only
 returns-clause-only c = record_takes
 
 pub returns-clause-refused : goal.returns-clause-refused
-returns-clause-refused c = λ first bytes fault h. (record_fails first bytes fault h, record_refused first bytes fault)
+returns-clause-refused c = λ format first bytes fault h. (record_fails format first bytes fault h, record_refused format first bytes fault)
