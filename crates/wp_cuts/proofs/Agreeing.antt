@@ -4,6 +4,7 @@ use Rattle.std.specs.Prelude.{slice_get}
 use Rattle.std.specs.List.{list_any, filter, range_with_len}
 use Rattle.std.proofs.lemmas.Bool.{cases_lt, cases_Bool, or_cases, eqb-true}
 use Rattle.std.proofs.lemmas.List.{take_at, drop_at, drop-drop, take-append-drop, length-take-le}
+use Rattle.wp_model.specs.declared.carried.Carried.{Carried}
 use Rattle.wp_model.specs.declared.entry.Entry.{Entry}
 use Rattle.wp_model.specs.declared.entry.Entry.TheVariants.{Write, Prepare, Commit, Undo, Close}
 use Rattle.wp_model.specs.History.{entry_at, is_prepare, prepared_name, prepared_batch, is_undecided, undecided, value_at, newest}
@@ -13,7 +14,7 @@ use Rattle.wp_model.proofs.Entries.{entry_at_old, undecided_prepared, undecided_
 use Rattle.wp_history.proofs.Undecided.{is_undecided_by_list, never_decided}
 use Rattle.wp_history.proofs.Growth.{AreNaming}
 use Rattle.wp_history.proofs.Following.{follow_front}
-use Rattle.wp_cuts.specs.Cut.{Carried, Cut, carried_from, carried_of, cut_at, IsCut}
+use Rattle.wp_cuts.specs.Cut.{Cut, carried_from, carried_of, cut_at, IsCut}
 use Rattle.wp_cuts.specs.Agree.{HaveSameValues, AgreeFrom}
 use Rattle.wp_cuts.proofs.Alike.{AreAlike, alike_behind, values_behind, undecided_alike, named_alike, holder_alike}
 use Rattle.wp_cuts.proofs.Decided.{entry_at_behind, decision_behind, undecided_not_decided, settled_is_committed}

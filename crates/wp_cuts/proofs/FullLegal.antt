@@ -6,6 +6,7 @@ use Rattle.std.proofs.lemmas.Bool.{cases_lt, cases_order}
 use Rattle.std.proofs.lemmas.List.{take-append-le}
 use Rattle.std.proofs.lemmas.Option.{same_Some, slice_get_within}
 use Rattle.std.proofs.lemmas.Slice.Eq.{bytes_eq-Decides}
+use Rattle.wp_model.specs.declared.carried.Carried.{Carried}
 use Rattle.wp_model.specs.declared.change.Change.{Change}
 use Rattle.wp_model.specs.declared.entry.Entry.{Entry}
 use Rattle.wp_model.specs.declared.version.Version.{Version}
@@ -18,7 +19,7 @@ use Rattle.wp_model.proofs.Found.{found_holder, found_named}
 use Rattle.wp_history.proofs.Held.{not_free, free_key}
 use Rattle.wp_history.proofs.Following.{Follow}
 use Rattle.wp_history.proofs.Growth.{AreNaming}
-use Rattle.wp_cuts.specs.Cut.{Carried, Cut, carried_at, is_carried, base_value, changes_at, front_entry_of, front_entry, full_of}
+use Rattle.wp_cuts.specs.Cut.{Cut, carried_at, is_carried, base_value, changes_at, front_entry_of, front_entry, full_of}
 use Rattle.wp_cuts.specs.LegalCut.{AreNumbered, AreApart, cut_front, prepares_of, IsLegalCut, AreBelow}
 use Rattle.wp_cuts.proofs.Alike.{orderly_alike}
 use Rattle.wp_cuts.proofs.Decided.{slice_get_behind}

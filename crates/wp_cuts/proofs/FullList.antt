@@ -4,6 +4,7 @@ use Rattle.std.specs.Prelude.{is_some, unwrap_or, nat_le, slice_get}
 use Rattle.std.specs.List.{AllByRecursion, filter, find, range_with_len}
 use Rattle.std.proofs.lemmas.Bool.{cases_eq, and_parts, and_from, not-true, not_from_false, leb-true, le-leb, eqb-true, eq-eqb, ne_eqb}
 use Rattle.std.proofs.lemmas.List.{take_at, drop_at}
+use Rattle.wp_model.specs.declared.carried.Carried.{Carried}
 use Rattle.wp_model.specs.declared.entry.Entry.{Entry}
 use Rattle.wp_model.specs.declared.entry.Entry.TheVariants.{Prepare}
 use Rattle.wp_model.specs.declared.version.Version.{Version}
@@ -14,7 +15,7 @@ use Rattle.wp_model.specs.Versions.{AreInOrder, version_at}
 use Rattle.wp_model.proofs.Entries.{entry_at_old, undecided_within}
 use Rattle.wp_history.specs.Growth.{AreAscending}
 use Rattle.wp_history.proofs.Growth.{AreNaming}
-use Rattle.wp_cuts.specs.Cut.{Carried, Cut, carried_from, carried_of, IsCut, carried_at, is_carried, is_settled, value_in, base_value, front_entry_of, front_entry, full_of}
+use Rattle.wp_cuts.specs.Cut.{Cut, carried_from, carried_of, IsCut, carried_at, is_carried, is_settled, value_in, base_value, front_entry_of, front_entry, full_of}
 use Rattle.wp_cuts.specs.LegalCut.{AreNumbered}
 use Rattle.wp_cuts.proofs.Decided.{entry_at_behind}
 use Rattle.wp_cuts.proofs.Rows.{is_start, rows, rows_long, rows_at, rows_take, rows_undecided, rows_undone, rows_naming, rows_newest}

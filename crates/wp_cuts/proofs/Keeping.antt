@@ -10,6 +10,7 @@ use Rattle.std.proofs.lemmas.List.{length-map}
 use Rattle.std.proofs.lemmas.List.Folds.{list_any-append}
 use Rattle.std.proofs.lemmas.Map.Made.{length-le_from_is_member}
 use Rattle.std.proofs.lemmas.Slice.Eq.{bytes_eq-Decides}
+use Rattle.wp_model.specs.declared.carried.Carried.{Carried}
 use Rattle.wp_model.specs.declared.change.Change.{Change}
 use Rattle.wp_model.specs.declared.entry.Entry.{Entry}
 use Rattle.wp_model.specs.declared.version.Version.{Version}
@@ -22,7 +23,7 @@ use Rattle.wp_model.specs.Versions.{AreInOrder, version_cmp, version_at}
 use Rattle.wp_model.proofs.VersionLists.{IsBefore, in_order_parts}
 use Rattle.wp_history.proofs.Counting.{entry_version_old}
 use Rattle.wp_history.proofs.Above.{undecided_version}
-use Rattle.wp_cuts.specs.Cut.{Carried, Cut, IsCut, carried_at, is_settled}
+use Rattle.wp_cuts.specs.Cut.{Cut, IsCut, carried_at, is_settled}
 use Rattle.wp_cuts.specs.Kept.{carried_versions, HasKeysAt, AreKept}
 use Rattle.wp_cuts.proofs.Agreeing.{cut_front_long, cut_whole}
 use Rattle.wp_cuts.proofs.FullList.{settled_parts, settled_from}

@@ -4,6 +4,7 @@ use Rattle.std.specs.Prelude.{slice_get}
 use Rattle.std.specs.List.{list_any, filter, find, range_with_len}
 use Rattle.std.proofs.lemmas.Bool.{cases_eq, or_cases, eqb-true, eq-eqb, ne_eqb}
 use Rattle.std.proofs.lemmas.Option.{slice_get_within}
+use Rattle.wp_model.specs.declared.carried.Carried.{Carried}
 use Rattle.wp_model.specs.declared.entry.Entry.{Entry}
 use Rattle.wp_model.specs.declared.entry.Entry.TheVariants.{Prepare}
 use Rattle.wp_model.specs.Batch.{are_ascending}
@@ -13,7 +14,7 @@ use Rattle.wp_model.proofs.Entries.{undecided_within, undecided_prepared}
 use Rattle.wp_history.proofs.Undecided.{is_undecided_by_list}
 use Rattle.wp_history.proofs.Following.{follow_take}
 use Rattle.wp_history.proofs.Growth.{legal_naming}
-use Rattle.wp_cuts.specs.Cut.{Carried, Cut, carried_from, IsCut, carried_at}
+use Rattle.wp_cuts.specs.Cut.{Cut, carried_from, IsCut, carried_at}
 use Rattle.wp_cuts.specs.LegalCut.{AreApart, cut_front, IsLegalCut}
 use Rattle.wp_cuts.proofs.Decided.{slice_get_behind}
 use Rattle.wp_cuts.proofs.Agreeing.{prepare_whole, cut_front_long, cut_whole}

@@ -3,6 +3,7 @@ use Rattle.std.proofs.Common.{◌≡◌, ℕ, zero, suc, ◌≤◌, true, false,
 use Rattle.std.specs.Prelude.{is_some}
 use Rattle.std.proofs.lemmas.Bool.{cases_lt, cases_Bool, leb-true}
 use Rattle.std.proofs.lemmas.List.{take_all}
+use Rattle.wp_model.specs.declared.carried.Carried.{Carried}
 use Rattle.wp_model.specs.declared.entry.Entry.{Entry}
 use Rattle.wp_model.specs.declared.version.Version.{Version}
 use Rattle.wp_model.specs.History.{is_undecided, value_at}
@@ -12,7 +13,7 @@ use Rattle.wp_model.specs.Versions.{AreInOrder, version_at}
 use Rattle.wp_model.specs.Covered.{GivesStore, IsCovered}
 use Rattle.wp_history.proofs.Counting.{entry_version_old}
 use Rattle.wp_history.proofs.Growth.{legal_naming}
-use Rattle.wp_cuts.specs.Cut.{Carried, Cut, IsCut, carried_at, is_carried, is_settled, base_value, front_entry_of, full_of}
+use Rattle.wp_cuts.specs.Cut.{Cut, IsCut, carried_at, is_carried, is_settled, base_value, front_entry_of, full_of}
 use Rattle.wp_cuts.specs.LegalCut.{AreNumbered, IsLegalCut}
 use Rattle.wp_cuts.specs.Agree.{AgreeFrom}
 use Rattle.wp_cuts.specs.Reopened.{AreFromBase, IsReopened}

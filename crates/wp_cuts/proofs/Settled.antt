@@ -3,6 +3,7 @@ use Rattle.std.proofs.Common.{◌≡◌, ℕ, zero, suc, ◌≤◌, true, false,
 use Rattle.std.specs.Prelude.{is_some}
 use Rattle.std.specs.List.{list_any}
 use Rattle.std.proofs.lemmas.Bool.{cases_order, and_parts, false_from_ne_true}
+use Rattle.wp_model.specs.declared.carried.Carried.{Carried}
 use Rattle.wp_model.specs.declared.entry.Entry.{Entry}
 use Rattle.wp_model.specs.declared.entry.Entry.TheVariants.{Write, Prepare, Commit, Undo, Close}
 use Rattle.wp_model.specs.declared.version.Version.{Version}
@@ -13,7 +14,7 @@ use Rattle.wp_model.specs.Versions.{version_at}
 use Rattle.wp_history.proofs.Growth.{legal_before}
 use Rattle.wp_history.proofs.Counting.{counts, counts_within, counts_from, decided_any, entry_version_old}
 use Rattle.wp_history.proofs.Above.{Holds, legal_none_above, none_above}
-use Rattle.wp_cuts.specs.Cut.{Carried, Cut, IsCut, carried_at, is_carried, is_settled}
+use Rattle.wp_cuts.specs.Cut.{Cut, IsCut, carried_at, is_carried, is_settled}
 use Rattle.wp_cuts.specs.LegalCut.{AreBelow}
 use Rattle.wp_cuts.proofs.Decided.{undecided_not_decided, settled_counts}
 use Rattle.wp_cuts.proofs.Agreeing.{cut_front_long, cut_whole}

@@ -4,6 +4,7 @@ use Rattle.std.specs.Prelude.{fold, unwrap_or}
 use Rattle.std.specs.List.{AllByRecursion, filter, range_with_len}
 use Rattle.std.proofs.lemmas.Bool.{cases_Bool}
 use Rattle.std.proofs.lemmas.List.{take-take}
+use Rattle.wp_model.specs.declared.carried.Carried.{Carried}
 use Rattle.wp_model.specs.declared.change.Change.{Change}
 use Rattle.wp_model.specs.declared.entry.Entry.{Entry}
 use Rattle.wp_model.specs.declared.entry.Entry.TheVariants.{Write, Prepare, Commit, Undo, Close}
@@ -16,7 +17,7 @@ use Rattle.wp_history.specs.Growth.{AreAscending}
 use Rattle.wp_history.proofs.Following.{follow_front, follows, follow_next, follow_take}
 use Rattle.wp_history.proofs.Growth.{AreNaming}
 use Rattle.wp_history.proofs.Newest.{newest_next, changes_stay}
-use Rattle.wp_cuts.specs.Cut.{Carried, Cut, carried_from, IsCut, full_of}
+use Rattle.wp_cuts.specs.Cut.{Cut, carried_from, IsCut, full_of}
 use Rattle.wp_cuts.specs.LegalCut.{AreNumbered, cut_front, prepares_of, value_behind, RestoresBehind}
 use Rattle.wp_cuts.proofs.Alike.{AreAlike, alike_back, alike_next, alike_behind, names_alike, changes_alike, orderly_alike}
 use Rattle.wp_cuts.proofs.Agreeing.{numbers_back, alike_at_base, cut_whole}

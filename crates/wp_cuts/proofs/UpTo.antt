@@ -6,6 +6,7 @@ use Rattle.std.specs.Str.{bytes_eq}
 use Rattle.std.proofs.lemmas.Bool.{lt-leb, ne_eqb}
 use Rattle.std.proofs.lemmas.List.Elements.{filter-append}
 use Rattle.std.proofs.lemmas.List.Folds.{find-append}
+use Rattle.wp_model.specs.declared.carried.Carried.{Carried}
 use Rattle.wp_model.specs.declared.change.Change.{Change}
 use Rattle.wp_model.specs.declared.entry.Entry.{Entry}
 use Rattle.wp_model.specs.declared.entry.Entry.TheVariants.{Write}
@@ -17,7 +18,7 @@ use Rattle.wp_model.specs.Legal.{IsLegal, changes_in}
 use Rattle.wp_model.specs.Versions.{AreInOrder, version_at}
 use Rattle.wp_model.proofs.VersionLists.{or_cond}
 use Rattle.wp_history.proofs.Counting.{counts_from, counts_within}
-use Rattle.wp_cuts.specs.Cut.{Cut, Carried, is_settled, carried_at, value_in, base_value, change_in, changes_at, front_entry_of, front_entry, full_of}
+use Rattle.wp_cuts.specs.Cut.{Cut, is_settled, carried_at, value_in, base_value, change_in, changes_at, front_entry_of, front_entry, full_of}
 use Rattle.wp_cuts.specs.UpTo.{HaveSameUpTo}
 use Rattle.wp_cuts.proofs.FullList.{settled_parts, full_is, base_newest, base_none}
 use Rattle.wp_cuts.proofs.Versions.{newest_passing, found_none, found_some}

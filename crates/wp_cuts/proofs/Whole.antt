@@ -1,13 +1,14 @@
 -- The full list of a cut, cut short and from a number on, and what is last in it.
 use Rattle.std.proofs.Common.{◌≡◌, ℕ, ◌+◌, ◌-◌, ◌≤◌, false, true, List, [], ◌∷◌, ◌++◌, length, take, drop, Option, Some, None, refl, sym, ap, ◌∙◌, length-append, append-nil, arith}
 use Rattle.std.specs.Prelude.{is_some}
+use Rattle.wp_model.specs.declared.carried.Carried.{Carried}
 use Rattle.wp_model.specs.declared.entry.Entry.{Entry}
 use Rattle.wp_model.specs.declared.entry.Entry.TheVariants.{Write, Prepare, Commit, Undo, Close}
 use Rattle.wp_model.specs.declared.version.Version.{Version}
 use Rattle.wp_model.specs.History.{entry_at}
 use Rattle.wp_model.specs.Legal.{undone_last}
 use Rattle.wp_model.proofs.Entries.{entry_at_old}
-use Rattle.wp_cuts.specs.Cut.{Carried, Cut, carried_at, is_settled, changes_at, front_entry_of, full_of}
+use Rattle.wp_cuts.specs.Cut.{Cut, carried_at, is_settled, changes_at, front_entry_of, full_of}
 use Rattle.wp_cuts.specs.LegalCut.{cut_front}
 use Rattle.wp_cuts.proofs.Agreeing.{take_behind, drop_behind}
 use Rattle.wp_cuts.proofs.FullList.{front, full_is, front_long, front_at, front_undone, settled_parts}

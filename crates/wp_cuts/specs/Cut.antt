@@ -2,18 +2,13 @@
 use Rattle.std.specs.Prelude.{◌≡◌, ℕ, ◌≤◌, Bool, ◌==◌, ◌&&◌, not, nat_le, List, ◌++◌, length, map, take, drop, Option, Some, None, is_some}
 use Rattle.std.specs.List.{filter, find, range_with_len}
 use Rattle.std.specs.Str.{bytes_eq}
+use Rattle.wp_model.specs.declared.carried.Carried.{Carried}
 use Rattle.wp_model.specs.declared.change.Change.{Change}
 use Rattle.wp_model.specs.declared.entry.Entry.{Entry}
 use Rattle.wp_model.specs.declared.entry.Entry.TheVariants.{Write, Prepare}
 use Rattle.wp_model.specs.declared.version.Version.{Version}
 use Rattle.wp_model.specs.History.{undecided, name_at, batch_at}
 use Rattle.wp_model.specs.Legal.{undone_last, change_that_leaves}
-
--- a prepare from before a base
-pub record Carried : Type 0 where
-  pub number : ℕ
-  pub name : List ℕ
-  pub batch : List Change
 
 -- a base, the prepares that are undecided there, and the entries behind it, numbered from the next number on
 pub record Cut : Type 0 where

@@ -2,6 +2,7 @@
 use Rattle.std.specs.Prelude.{◌≡◌, ℕ, ◌<◌, ◌≤◌, true, List, [], ◌∷◌, ◌++◌, Option, Some, None}
 use Rattle.std.specs.List.{list_any}
 use Rattle.std.specs.Str.{bytes_eq}
+use Rattle.wp_model.specs.declared.carried.Carried.{Carried}
 use Rattle.wp_model.specs.declared.entry.Entry.{Entry}
 use Rattle.wp_model.specs.declared.version.Version.{Version}
 use Rattle.wp_model.specs.Covered.{GivesStore, is_among}
@@ -9,7 +10,7 @@ use Rattle.wp_model.specs.Decision.{entry_version, IsCommittedAt}
 use Rattle.wp_model.specs.Flushed.{versions_under}
 use Rattle.wp_model.specs.History.{value_at}
 use Rattle.wp_model.specs.Versions.{AreInOrder, version_at}
-use Rattle.wp_cuts.specs.Cut.{Carried}
+use Rattle.wp_cuts.specs.Cut.{}
 
 -- the versions of what a base carries
 abbrev pub carried_versions : List Carried → List Version

@@ -1,6 +1,7 @@
 -- A legal cut, with the values at its base; and how the versions of a store lie below what it carries.
 use Rattle.std.specs.Prelude.{◌≡◌, ℕ, ◌+◌, ◌<◌, ◌≤◌, true, List, [], ◌++◌, length, map, take, fold, Option, Some, slice_get}
 use Rattle.std.specs.List.{AllByRecursion}
+use Rattle.wp_model.specs.declared.carried.Carried.{Carried}
 use Rattle.wp_model.specs.declared.entry.Entry.{Entry}
 use Rattle.wp_model.specs.declared.entry.Entry.TheVariants.{Undo}
 use Rattle.wp_model.specs.declared.version.Version.{Version}
@@ -9,7 +10,7 @@ use Rattle.wp_model.specs.History.{batch_at, is_changed, value_after}
 use Rattle.wp_model.specs.Legal.{change_that_leaves, IsOrderlyNext, log_end}
 use Rattle.wp_model.specs.Versions.{version_at}
 use Rattle.wp_history.specs.Growth.{AreAscending}
-use Rattle.wp_cuts.specs.Cut.{Carried, Cut, carried_at, is_settled, full_of}
+use Rattle.wp_cuts.specs.Cut.{Cut, carried_at, is_settled, full_of}
 
 -- ---- what a base carries
 

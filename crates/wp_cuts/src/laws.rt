@@ -1,5 +1,6 @@
 //! Which lists have a cut, which agree from its base on, and which cuts are legal, over plain lists.
 ghost use Rattle.std.specs.Prelude.{◌≡◌, ◌↔◌, ℕ, Bool, ◌+◌, ◌-◌, ◌<◌, ◌≤◌, Option, Some, None, List, [], ◌∷◌, ◌++◌, true, length, map, take, drop, slice_get};
+ghost use Rattle.wp_model.specs.declared.carried.Carried.{Carried};
 ghost use Rattle.wp_model.specs.declared.entry.Entry.{Entry};
 ghost use Rattle.wp_model.specs.declared.entry.Entry.TheVariants as entry;
 ghost use Rattle.wp_model.specs.declared.version.Version.{Version};
@@ -12,7 +13,7 @@ ghost use Rattle.wp_keep.specs.Keep.{retained_of};
 ghost use Rattle.wp_keep.specs.MayGo.{MayGo};
 ghost use Rattle.wp_cuts.specs.Agree.{HaveSameValues, AgreeFrom, TellAlike};
 ghost use Rattle.wp_cuts.specs.Copied.{AreNewest};
-ghost use Rattle.wp_cuts.specs.Cut.{Carried, Cut, carried_of, cut_at, IsCut, carried_at, is_settled, base_value, changes_at, full_of};
+ghost use Rattle.wp_cuts.specs.Cut.{Cut, carried_of, cut_at, IsCut, carried_at, is_settled, base_value, changes_at, full_of};
 ghost use Rattle.wp_cuts.specs.Kept.{carried_versions, HasKeysAt, AreKept, StayFrom};
 ghost use Rattle.wp_cuts.specs.LegalCut.{AreNumbered, cut_front, prepares_of, value_behind, IsLegalCut, AreBelow, AreOrderlyBehind};
 ghost use Rattle.wp_cuts.specs.Reopened.{AreFromBase, IsReopened};

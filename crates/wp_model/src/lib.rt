@@ -7,6 +7,7 @@
 #![tactic(auto)]
 
 mod batch;
+mod carried;
 mod change;
 mod entry;
 mod holder;
@@ -18,6 +19,7 @@ mod word;
 mod word_bytes;
 
 pub use batch::{Batch, MOST_KEYS, SetError};
+pub use carried::Carried;
 pub use change::Change;
 pub use entry::Entry;
 pub use holder::Holder;
