@@ -1,3 +1,6 @@
 pub mod Grammar
 pub mod Spelled
 pub mod FaultLemmas
+mod BaseGrammar
+mod BaseFaultLemmas
+mod BaseLoop
