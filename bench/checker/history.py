@@ -317,8 +317,12 @@ def versions_in(table, store, flushed):
 
 def edit_in(record, tables, store):
     fields = Fields(record)
-    flushed = fields.number(4)
-    places = [(fields.number(8), fields.number(8)) for _ in range(fields.number(4))]
+    flushed, count = fields.number(4), fields.number(4)
+    if (flushed, count) == (0, 0xFFFFFFFF):
+        flushed, place, count = fields.number(8), fields.number(8), fields.number(8)
+        if place:
+            raise Damaged("no log at that place")
+    places = [(fields.number(8), fields.number(8)) for _ in range(count)]
     fields.end()
     versions = [version for at, length in places for version in versions_in(tables[at : at + length], store, flushed)]
     return Edit(flushed, in_order(versions), len(places))

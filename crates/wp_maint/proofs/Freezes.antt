@@ -99,7 +99,6 @@ module _ {D : Type 0} (z : SharedState D) (s : SeatState) (d : WriteTable) (stoc
       numbered = rw versions_are (all_numbered s.knows.participant.seen seen_legal e.last seen_covered);
       flushed = rw (versions_are, at_seen) (all_flushed s.knows.participant.seen seen_legal e.last seen_covered);
       later = let r = rises s.knows.participant.seen seen_legal e.last seen_covered some_sorted in omega (arith, r, at_seen);
-      fits = let few = seen_legal.few in omega (arith, few, at_seen);
       tables = k.tables ∙ tables_are;
       room = k.room;
       covered = flush_covered s.knows.participant.seen seen_legal e.last seen_covered;
@@ -192,7 +191,6 @@ module _ {D : Type 0} {z : SharedState D} {s0 s1 s2 : SeatState} {e : EditsState
         numbered = k.numbered;
         flushed = k.flushed;
         later = k.later;
-        fits = k.fits;
         tables = k.tables;
         room = k.room;
         covered = subst (λ (h : List Entry). IsEditCovered h (after_flush h e.table.last)) seen_same k.covered;

@@ -9,7 +9,7 @@ use Rattle.wp_outside.specs.Disk.{Moment, Each, Passes, images}
 use Rattle.wp_gatelog.specs.Moments.{Leaves}
 use Rattle.wp_gatelog.proofs.SurvivalLemmas.{rest_spells}
 use Rattle.wp_wal.specs.Spelling.{IsLogOf}
-use Rattle.wp_manifest.specs.Edit.{Edit}
+use Rattle.wp_manifest.specs.Edit.{Edit, place_of}
 use Rattle.wp_manifest.specs.Spelling.{MAGIC, IsManifestOf, IsManifestOrNext, last_edit}
 use Rattle.wp_manifest.proofs.EditLemmas.{last-push}
 use Rattle.wp_merge.specs.Merge.{joined, sorted_of}
@@ -91,14 +91,15 @@ module _ (seen : List Entry) (old new : EditsState) (next : InstalledEdit) (k : 
     covered_next : IsEditCovered entries next
     covered_next = edit_later entries (history w) next left.0 left.1 (edit_later (history w) seen next starts sound.history.legal covers)
 
-    opens_as : (edits : List Edit) (parts : List (List Version)) (edit : InstalledEdit) → edit ≡ installed_of (last_edit edits) parts → IsEditCovered entries edit → IsManifestOf id edits manifest → HasTables id (last_edit edits).flushed tables (last_edit edits).tables parts → OpensTo id entries edit log manifest tables
-    opens_as edits parts edit is covered named there = (
+    opens_as : (edits : List Edit) (parts : List (List Version)) (edit : InstalledEdit) → place_of (last_edit edits) ≡ 0 → edit ≡ installed_of (last_edit edits) parts → IsEditCovered entries edit → IsManifestOf id edits manifest → HasTables id (last_edit edits).flushed tables (last_edit edits).tables parts → OpensTo id entries edit log manifest tables
+    opens_as edits parts edit here is covered named there = (
       record {
         id_fits = fits;
         spelled = spelled;
         legal = left.1;
         edits = edits;
         installed = named;
+        place = here;
         parts = parts;
         there = there;
         covering = record { all = sorted_of (joined parts); merged = merged_sorted parts; covered = subst (IsEditCovered entries) is covered };
@@ -107,12 +108,12 @@ module _ (seen : List Entry) (old new : EditsState) (next : InstalledEdit) (k : 
     )
 
     abbrev opens_last : IsManifestOf id s.edits manifest → Last tables → (edit : InstalledEdit) × ((edit ≡ old.table.last) ⊎ (edit ≡ next)) × OpensTo id entries edit log manifest tables
-    opens_last named there = (old.table.last, inl refl, opens_as s.edits old.parts old.table.last s.last_is covered_last named there)
+    opens_last named there = (old.table.last, inl refl, opens_as s.edits old.parts old.table.last s.last_place s.last_is covered_last named there)
 
     abbrev opens_next : IsManifestOf id (s.edits ++ s.next ∷ []) manifest → HasTables id s.next.flushed tables s.next.tables s.next_parts → (edit : InstalledEdit) × ((edit ≡ old.table.last) ⊎ (edit ≡ next)) × OpensTo id entries edit log manifest tables
     opens_next named there =
         let last : s.next ≡ last_edit (s.edits ++ s.next ∷ []) = sym (last-push s.edits s.next) in
-        (next, inr refl, opens_as (s.edits ++ s.next ∷ []) s.next_parts next (s.next_is ∙ ap (λ (e : Edit). installed_of e s.next_parts) last) covered_next named (subst (λ (e : Edit). HasTables id e.flushed tables e.tables s.next_parts) last there))
+        (next, inr refl, opens_as (s.edits ++ s.next ∷ []) s.next_parts next (rw (← last) s.next_place) (s.next_is ∙ ap (λ (e : Edit). installed_of e s.next_parts) last) covered_next named (subst (λ (e : Edit). HasTables id e.flushed tables e.tables s.next_parts) last there))
 
     pub opens_amid : LeftInInstall old new manifest tables → (edit : InstalledEdit) × ((edit ≡ old.table.last) ⊎ (edit ≡ next)) × OpensTo id entries edit log manifest tables
     opens_amid (inl (at, since)) = opens_last (manifest_rests manifest at) (tables_since tables since)

@@ -3,7 +3,6 @@ use Rattle.std.specs.Prelude.{◌≡◌, ℕ, ◌<◌, ◌≤◌, true, List, []
 use Rattle.std.specs.Arc.{arc_value}
 use Rattle.std.specs.List.{list_all}
 use Rattle.std.specs.Vec.{vec_capacity}
-use Rattle.wp_model.specs.Legal.{log_end}
 use Rattle.wp_model.specs.declared.version.Version.{Version}
 use Rattle.wp_model.specs.Flushed.{IsEditCovered}
 use Rattle.wp_merge.specs.Merge.{joined, sorted_of}
@@ -42,7 +41,6 @@ pub record HasFrozen (a : Actor) (e : Installed) (f : Frozen) : Type 0 where
   pub numbered : list_all is_numbered (versions_of f) ≡ true
   pub flushed : list_all (is_flushed f.at) (versions_of f) ≡ true
   pub later : e.last.flushed < f.at
-  pub fits : f.at < log_end
   pub tables : sorted_of (joined (map arc_value f.tables.items)) ≡ e.last.versions
   pub room : length f.tables.items < vec_capacity f.tables
   pub covered : IsEditCovered a.participant.seen (after_flush a.participant.seen e.last)

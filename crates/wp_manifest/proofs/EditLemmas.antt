@@ -1,11 +1,14 @@
 -- Edits, and what records are as edits.
-use Rattle.std.proofs.Common.{◌≡◌, ℕ, ◌+◌, ◌*◌, ◌<◌, ◌^◌, List, [], ◌∷◌, ◌++◌, length, take, get_or, drop, refl, sym, ap, ◌∙◌, arith, append_assoc, length-append}
+use Rattle.std.proofs.Common.{◌≡◌, ℕ, ◌+◌, ◌*◌, ◌<◌, ◌^◌, List, [], ◌∷◌, ◌++◌, length, take, get_or, drop, Option, Some, None, refl, sym, ap, ◌∙◌, arith, append_assoc, length-append}
 use Rattle.std.proofs.lemmas.List.{append-nil, map-append, take_more}
 use Rattle.std.proofs.lemmas.Grind.{flat_map-append}
 use Rattle.std.proofs.lemmas.Nat.{from_be_bytes-to_be_bytes_4, from_be_bytes-to_be_bytes_8}
 use Rattle.std.specs.Int.{w32, w64, to_be_bytes, from_be_bytes}
 use Rattle.wp_outside.specs.Disk.{Each}
-use Rattle.wp_manifest.specs.Edit.{Edit, IsEdit, ArePlaces, IsSpelling, place_bytes, places_bytes, edit_bytes}
+use Rattle.wp_manifest.specs.declared.edit.TheConstants.{MARK}
+use Rattle.wp_manifest.specs.declared.read.Front.{Front}
+use Rattle.wp_manifest.specs.Edit.{Edit, IsEdit, IsFront, IsNoEdit, ArePlaces, IsSpelling, front_bytes, place_bytes, places_bytes, edit_bytes}
+use Rattle.wp_manifest.specs.Reading.{FrontRead}
 use Rattle.wp_manifest.specs.Spelling.{AreEdits, last_edit}
 
 -- ---- tables
@@ -85,33 +88,89 @@ one_places (table ∷ tables) (second ∷ others) are too is =
     let rest = one_places tables others are.2 too.2 len.1 in
     rw (place.0, len.0, rest) refl
 
-abbrev edit_with : ℕ → List (ℕ × ℕ) → Edit
-edit_with flushed tables = record { flushed = flushed; tables = tables }
+abbrev edit_with : ℕ → Option ℕ → List (ℕ × ℕ) → Edit
+edit_with flushed place tables = record { flushed = flushed; place = place; tables = tables }
 
-same_edit : (f g : ℕ) (t u : List (ℕ × ℕ)) → f ≡ g → t ≡ u → edit_with f t ≡ edit_with g u
-same_edit f g t u flushed tables = rw (flushed, tables) refl
+same_edit : (f g : ℕ) (p q : Option ℕ) (t u : List (ℕ × ℕ)) → f ≡ g → p ≡ q → t ≡ u → edit_with f p t ≡ edit_with g q u
+same_edit f g p q t u flushed place tables = rw (flushed, place, tables) refl
+
+-- numbers at the front that are the same, with what is behind them
+abbrev Same : Option ℕ → Option ℕ → ℕ → ℕ → ℕ → ℕ → List ℕ → List ℕ → Type 0
+Same p q f g c d rest more = (p ≡ q) × (f ≡ g) × (c ≡ d) × (rest ≡ more)
+
+same_front : (p q : Option ℕ) (f g c d : ℕ) (rest more : List ℕ) → IsFront p f c → IsFront q g d → front_bytes p f c ++ rest ≡ front_bytes q g d ++ more → Same p q f g c d rest more
+same_front None None f g c d rest more fits less is =
+    let flushed = front_4 f g (to_be_bytes w32 c ++ rest) (to_be_bytes w32 d ++ more) fits.0 less.0 is in
+    let count = front_4 c d rest more fits.1 less.1 flushed.1 in
+    (refl, flushed.0, count.0, count.1)
+same_front None (Some q) f g c d rest more fits less is =
+    let behind = to_be_bytes w64 g ++ (to_be_bytes w64 q ++ (to_be_bytes w64 d ++ more)) in
+    let flushed = front_4 f 0 (to_be_bytes w32 c ++ rest) (to_be_bytes w32 MARK ++ behind) fits.0 (omega arith) is in
+    let count = front_4 c MARK rest behind fits.1 (omega arith) flushed.1 in
+    absurd (fits.2 flushed.0 count.0)
+same_front (Some p) None f g c d rest more fits less is =
+    let behind = to_be_bytes w64 f ++ (to_be_bytes w64 p ++ (to_be_bytes w64 c ++ rest)) in
+    let flushed = front_4 g 0 (to_be_bytes w32 d ++ more) (to_be_bytes w32 MARK ++ behind) less.0 (omega arith) (sym is) in
+    let count = front_4 d MARK more behind less.1 (omega arith) flushed.1 in
+    absurd (less.2 flushed.0 count.0)
+same_front (Some p) (Some q) f g c d rest more fits less is =
+    let numbers : to_be_bytes w64 f ++ (to_be_bytes w64 p ++ (to_be_bytes w64 c ++ rest)) ≡ to_be_bytes w64 g ++ (to_be_bytes w64 q ++ (to_be_bytes w64 d ++ more)) = ap (λ (bytes : List ℕ). drop 8 bytes) is in
+    let flushed = front_8 f g (to_be_bytes w64 p ++ (to_be_bytes w64 c ++ rest)) (to_be_bytes w64 q ++ (to_be_bytes w64 d ++ more)) fits.0 less.0 numbers in
+    let place = front_8 p q (to_be_bytes w64 c ++ rest) (to_be_bytes w64 d ++ more) fits.1 less.1 flushed.1 in
+    let count = front_8 c d rest more fits.2 less.2 place.1 in
+    (ap (λ (n : ℕ). Some n) place.0, flushed.0, count.0, count.1)
 
 pub one_edit : (one other : Edit) → IsEdit one → IsEdit other → edit_bytes one ≡ edit_bytes other → one ≡ other
 one_edit one other is too same =
-    let flushed = front_4 one.flushed other.flushed (to_be_bytes w32 (length one.tables) ++ places_bytes one.tables) (to_be_bytes w32 (length other.tables) ++ places_bytes other.tables) is.flushed too.flushed same in
-    let count = front_4 (length one.tables) (length other.tables) (places_bytes one.tables) (places_bytes other.tables) (omega (arith, is.flushed, is.count)) (omega (arith, too.flushed, too.count)) flushed.1 in
-    same_edit one.flushed other.flushed one.tables other.tables flushed.0 (one_places one.tables other.tables is.places too.places count.1)
+    let front = same_front one.place other.place one.flushed other.flushed (length one.tables) (length other.tables) (places_bytes one.tables) (places_bytes other.tables) is.front too.front same in
+    same_edit one.flushed other.flushed one.place other.place one.tables other.tables front.1 front.0 (one_places one.tables other.tables is.places too.places front.3)
+
+-- ---- what is written
+
+-- five pieces, one behind the other
+five : (start first second third fourth fifth a b c d e : List ℕ) → a ≡ start ++ first → b ≡ a ++ second → c ≡ b ++ third → d ≡ c ++ fourth → e ≡ d ++ fifth → e ≡ start ++ (first ++ (second ++ (third ++ (fourth ++ fifth))))
+five start first second third fourth fifth a b c d e one two three four last =
+    last ∙ ap (λ (l : List ℕ). l ++ fifth) four ∙ append_assoc c fourth fifth
+    ∙ ap (λ (l : List ℕ). l ++ (fourth ++ fifth)) three ∙ append_assoc b third (fourth ++ fifth)
+    ∙ ap (λ (l : List ℕ). l ++ (third ++ (fourth ++ fifth))) two ∙ append_assoc a second (third ++ (fourth ++ fifth))
+    ∙ ap (λ (l : List ℕ). l ++ (second ++ (third ++ (fourth ++ fifth)))) one ∙ append_assoc start first (second ++ (third ++ (fourth ++ fifth)))
+
+pub front_pushed : (start a b c d e : List ℕ) (flushed place count : ℕ) → a ≡ start ++ to_be_bytes w32 0 → b ≡ a ++ to_be_bytes w32 MARK → c ≡ b ++ to_be_bytes w64 flushed → d ≡ c ++ to_be_bytes w64 place → e ≡ d ++ to_be_bytes w64 count → e ≡ start ++ front_bytes (Some place) flushed count
+front_pushed start a b c d e flushed place count = five start (to_be_bytes w32 0) (to_be_bytes w32 MARK) (to_be_bytes w64 flushed) (to_be_bytes w64 place) (to_be_bytes w64 count) a b c d e
+
+pub edit_pushed : (start front all : List ℕ) (edit : Edit) (place : ℕ) → edit.place ≡ Some place → front ≡ start ++ front_bytes (Some place) edit.flushed (length edit.tables) → all ≡ front ++ places_bytes edit.tables → all ≡ start ++ edit_bytes edit
+edit_pushed start front all edit place named first last =
+    last ∙ ap (λ (l : List ℕ). l ++ places_bytes edit.tables) first ∙ append_assoc start (front_bytes (Some place) edit.flushed (length edit.tables)) (places_bytes edit.tables)
+    ∙ ap (λ (p : Option ℕ). start ++ (front_bytes p edit.flushed (length edit.tables) ++ places_bytes edit.tables)) (sym named)
 
 -- ---- bytes that are no edit
 
 -- An edit's bytes begin with its numbers, and have sixteen for each table.
-pub record Counted (bytes : List ℕ) (edit : Edit) (flushed count : ℕ) (rest : List ℕ) : Type 0 where
-  pub flushed_is : edit.flushed ≡ flushed
-  pub count_is : length edit.tables ≡ count
-  pub rest_is : length rest ≡ count * 16
+pub record Counted (edit : Edit) (front : Front) (rest : List ℕ) : Type 0 where
+  pub flushed_is : edit.flushed ≡ front.flushed
+  pub count_is : length edit.tables ≡ front.count
+  pub rest_is : length rest ≡ front.count * 16
 
-pub counted : (bytes after rest : List ℕ) (edit : Edit) (flushed count : ℕ) → IsSpelling bytes edit → flushed ≡ from_be_bytes w32 (take 4 bytes) → after ≡ drop 4 bytes → count ≡ from_be_bytes w32 (take 4 after) → rest ≡ drop 4 after → Counted bytes edit flushed count rest
-counted bytes after rest edit flushed count spelled first is second left =
-    let tables = edit.tables in
-    let count_bytes = to_be_bytes w32 (length tables) ++ places_bytes tables in
-    let whole : after ≡ count_bytes = is ∙ ap (λ (xs : List ℕ). drop 4 xs) spelled.spelling in
-    let flushed_is : edit.flushed ≡ flushed = sym (first ∙ ap (λ (xs : List ℕ). from_be_bytes w32 (take 4 xs)) spelled.spelling ∙ from_be_bytes-to_be_bytes_4 edit.flushed spelled.is.flushed) in
-    let few : length tables < 2 ^ 32 = omega (arith, spelled.is.flushed, spelled.is.count) in
-    let count_is : length tables ≡ count = sym (second ∙ ap (λ (xs : List ℕ). from_be_bytes w32 (take 4 xs)) whole ∙ from_be_bytes-to_be_bytes_4 (length tables) few) in
-    let places : rest ≡ places_bytes tables = left ∙ ap (λ (xs : List ℕ). drop 4 xs) whole in
-    record { flushed_is = flushed_is; count_is = count_is; rest_is = ap (λ (xs : List ℕ). length xs) places ∙ length-places tables ∙ ap (λ (n : ℕ). n * 16) count_is }
+pub counted : (bytes rest : List ℕ) (edit : Edit) (front : Front) → IsSpelling bytes edit → FrontRead bytes rest (Some front) → Counted edit front rest
+counted bytes rest edit front spelled read =
+    let same = same_front edit.place front.place edit.flushed front.flushed (length edit.tables) front.count (places_bytes edit.tables) rest spelled.is.front read.1 (sym spelled.spelling ∙ read.0) in
+    record { flushed_is = same.1; count_is = same.2; rest_is = ap (λ (xs : List ℕ). length xs) (sym same.3) ∙ length-places edit.tables ∙ ap (λ (n : ℕ). n * 16) same.2 }
+
+-- bytes that are shorter than the numbers at the front are none
+pub too_short : (bytes : List ℕ) → length bytes < 8 → IsNoEdit bytes
+too_short bytes short edit spelled = by edit.place (omega (arith, short, ap length spelled.spelling))
+  where
+    by : (place : Option ℕ) → length (front_bytes place edit.flushed (length edit.tables) ++ places_bytes edit.tables) < 8 → ⊥
+    by None less = omega (arith, less)
+    by (Some place) less = omega (arith, less)
+
+-- and so are those that have the mark, and fewer bytes behind it
+pub marked_short : (bytes rest : List ℕ) → bytes ≡ to_be_bytes w32 0 ++ (to_be_bytes w32 MARK ++ rest) → length rest < 24 → IsNoEdit bytes
+marked_short bytes rest is short edit spelled = by edit.place spelled.is.front (sym is ∙ spelled.spelling)
+  where
+    by : (place : Option ℕ) → IsFront place edit.flushed (length edit.tables) → to_be_bytes w32 0 ++ (to_be_bytes w32 MARK ++ rest) ≡ front_bytes place edit.flushed (length edit.tables) ++ places_bytes edit.tables → ⊥
+    by None fits same =
+        let flushed = front_4 0 edit.flushed (to_be_bytes w32 MARK ++ rest) (to_be_bytes w32 (length edit.tables) ++ places_bytes edit.tables) (omega arith) fits.0 same in
+        let count = front_4 MARK (length edit.tables) rest (places_bytes edit.tables) (omega arith) fits.1 flushed.1 in
+        fits.2 (sym flushed.0) (sym count.0)
+    by (Some place) fits same = let behind = ap (λ (xs : List ℕ). length (drop 8 xs)) same in omega (arith, behind, short)

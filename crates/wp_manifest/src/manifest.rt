@@ -1,7 +1,6 @@
 //! An open manifest.
 
-ghost use Rattle.std.specs.Prelude.{◌≡◌, ◌≤◌, ◌<◌, ◌++◌, [], ◌∷◌, List, length, false, IfOk, IfErr, OnOk, MatchResult};
-ghost use Rattle.wp_model.specs.Legal.{log_end};
+ghost use Rattle.std.specs.Prelude.{◌≡◌, ◌≤◌, ◌++◌, [], ◌∷◌, List, length, true, is_some, false, IfOk, IfErr, OnOk, MatchResult};
 ghost use Rattle.wp_outside.specs.Disk.{Passes};
 ghost use Rattle.wp_gatelog.specs.Durability.{LosesNoRecord};
 ghost use Rattle.wp_gatelog.specs.Moments.{Leaves};
@@ -111,9 +110,9 @@ impl<D: Disk> Manifest<D> {
         &self.edit
     }
 
-    /// Makes the edit the last one. The tables that it names are durable before.
+    /// Makes the edit, which is of the second form, the last one. The tables that it names are durable before.
     pub fn install(&mut self, edit: Edit) -> Result<(), InstallError>
-        requires flushed { edit.flushed < log_end }
+        requires place { is_some edit.place ≡ true }
         requires count { length edit.tables ≤ edit.flushed }
 
         // At each moment since its beginning a crash leaves the edits before it, or those and the new one, whole.

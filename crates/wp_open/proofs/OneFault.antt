@@ -19,7 +19,7 @@ use Rattle.wp_table.specs.Faults.{IsTableFault}
 use Rattle.wp_table.specs.File.{HasTables}
 use Rattle.wp_open.specs.declared.bad.Bad.{Bad}
 use Rattle.wp_open.specs.declared.bad.Bad.TheVariants as bad
-use Rattle.wp_open.specs.Damage.{IsLogDamaged, Finds, IsManifestDamaged, bytes_at, IsBadTable, IsFirstBadTable, IsOwnFault, IsTableNamed, IsEditDamaged, log_behind, in_tables, uncovered, IsDamaged, in_log, in_manifest, in_edit}
+use Rattle.wp_open.specs.Damage.{IsLogDamaged, Finds, IsManifestDamaged, bytes_at, IsBadTable, IsFirstBadTable, IsOwnFault, IsTableNamed, IsEditDamaged, elsewhere, log_behind, in_tables, uncovered, IsDamaged, in_log, in_manifest, in_edit}
 use Rattle.wp_open.proofs.OneWay.{SpellOneId, LogLaws, ManifestLaws, TableLaws, log_is_right, found_id, manifest_is_right, table_is_right, none_named}
 
 -- ---- what the laws below say
@@ -136,15 +136,22 @@ module _ (laws : TableLaws) (faults : TablesHaveOneFault) (id flushed : ℕ) (by
   one_named tables one other is too = absurd is
 
   one_of_edit : (history : List Entry) (edit : Edit) (one other : Bad) → edit.flushed ≡ flushed → IsEditDamaged id history edit bytes one → IsEditDamaged id history edit bytes other → one ≡ other
-  one_of_edit history edit one other at (log_behind lt named) (log_behind less also) = named ∙ sym also
-  one_of_edit history edit one other at (log_behind lt named) (in_tables low also) = absurd (omega (arith, lt, low))
-  one_of_edit history edit one other at (log_behind lt named) (uncovered low none also) = absurd (omega (arith, lt, low))
-  one_of_edit history edit one other at (in_tables low named) (log_behind lt also) = absurd (omega (arith, lt, low))
-  one_of_edit history edit one other at (in_tables low named) (in_tables small also) = one_named edit.tables one other (subst (λ (n : ℕ). IsTableNamed id n bytes edit.tables one) at named) (subst (λ (n : ℕ). IsTableNamed id n bytes edit.tables other) at also)
-  one_of_edit history edit one other at (in_tables low named) (uncovered small none also) = absurd (none_named laws id edit.flushed bytes edit.tables none.0 one none.1 named)
-  one_of_edit history edit one other at (uncovered low none named) (log_behind lt also) = absurd (omega (arith, lt, low))
-  one_of_edit history edit one other at (uncovered low none named) (in_tables small also) = absurd (none_named laws id edit.flushed bytes edit.tables none.0 other none.1 also)
-  one_of_edit history edit one other at (uncovered low none named) (uncovered small none_too also) = named ∙ sym also
+  one_of_edit history edit one other at (elsewhere there named) (elsewhere there_too also) = named ∙ sym also
+  one_of_edit history edit one other at (elsewhere there named) (log_behind too lt also) = absurd (there too)
+  one_of_edit history edit one other at (elsewhere there named) (in_tables too low also) = absurd (there too)
+  one_of_edit history edit one other at (elsewhere there named) (uncovered too low none also) = absurd (there too)
+  one_of_edit history edit one other at (log_behind here lt named) (elsewhere there also) = absurd (there here)
+  one_of_edit history edit one other at (in_tables here low named) (elsewhere there also) = absurd (there here)
+  one_of_edit history edit one other at (uncovered here low none named) (elsewhere there also) = absurd (there here)
+  one_of_edit history edit one other at (log_behind here lt named) (log_behind too less also) = named ∙ sym also
+  one_of_edit history edit one other at (log_behind here lt named) (in_tables too low also) = absurd (omega (arith, lt, low))
+  one_of_edit history edit one other at (log_behind here lt named) (uncovered too low none also) = absurd (omega (arith, lt, low))
+  one_of_edit history edit one other at (in_tables here low named) (log_behind too lt also) = absurd (omega (arith, lt, low))
+  one_of_edit history edit one other at (in_tables here low named) (in_tables too small also) = one_named edit.tables one other (subst (λ (n : ℕ). IsTableNamed id n bytes edit.tables one) at named) (subst (λ (n : ℕ). IsTableNamed id n bytes edit.tables other) at also)
+  one_of_edit history edit one other at (in_tables here low named) (uncovered too small none also) = absurd (none_named laws id edit.flushed bytes edit.tables none.0 one none.1 named)
+  one_of_edit history edit one other at (uncovered here low none named) (log_behind too lt also) = absurd (omega (arith, lt, low))
+  one_of_edit history edit one other at (uncovered here low none named) (in_tables too small also) = absurd (none_named laws id edit.flushed bytes edit.tables none.0 other none.1 also)
+  one_of_edit history edit one other at (uncovered here low none named) (uncovered too small none_too also) = named ∙ sym also
 
 -- ---- all three
 

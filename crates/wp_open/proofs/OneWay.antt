@@ -10,7 +10,7 @@ use Rattle.wp_gatelog.specs.Spelling.{IsUnmade, Spells}
 use Rattle.wp_entry.specs.declared.error.RecordError.{RecordError}
 use Rattle.wp_wal.specs.Opening.{IsBadLog, IsIllegalLog}
 use Rattle.wp_wal.specs.Spelling as wal
-use Rattle.wp_manifest.specs.Edit.{Edit}
+use Rattle.wp_manifest.specs.Edit.{Edit, place_of}
 use Rattle.wp_manifest.specs.Opening.{IsBadEdit, IsStranger}
 use Rattle.wp_manifest.specs.Spelling as edits
 use Rattle.wp_table.specs.declared.error.TableError.{TableError}
@@ -20,7 +20,7 @@ use Rattle.wp_table.specs.File.{HasTable, HasTables}
 use Rattle.wp_table.specs.Table.{SpellsTable}
 use Rattle.wp_open.specs.declared.bad.Bad.{Bad}
 use Rattle.wp_open.specs.declared.bad.Bad.TheVariants as bad
-use Rattle.wp_open.specs.Damage.{IsLogDamaged, Finds, IsManifestDamaged, bytes_at, IsBadTable, IsFirstBadTable, IsTableNamed, IsEditDamaged, log_behind, in_tables, uncovered, IsDamaged, in_log, in_manifest, in_edit}
+use Rattle.wp_open.specs.Damage.{IsLogDamaged, Finds, IsManifestDamaged, bytes_at, IsBadTable, IsFirstBadTable, IsTableNamed, IsEditDamaged, elsewhere, log_behind, in_tables, uncovered, IsDamaged, in_log, in_manifest, in_edit}
 use Rattle.wp_open.specs.Opens.{AreCovering, Opens, installed_of}
 
 -- ---- what the laws below say
@@ -144,10 +144,11 @@ same_edit one lists laws manifest tables id other list others parts more fits le
     no_parts n bytes [] h = refl
     no_parts n bytes (part ∷ versions) h = absurd h
 
-edit_is_right : TableLaws → (id : ℕ) (history : List Entry) (edit : Edit) (bytes : List ℕ) (damage : Bad) (parts : List (List Version)) → HasTables id edit.flushed bytes edit.tables parts → AreCovering history edit parts → IsEditDamaged id history edit bytes damage → ⊥
-edit_is_right laws id history edit bytes damage parts has covering (log_behind lt named) = let low = covering.covered.flushed in omega (arith, low, lt)
-edit_is_right laws id history edit bytes damage parts has covering (in_tables low named) = none_named laws id edit.flushed bytes edit.tables parts damage has named
-edit_is_right laws id history edit bytes damage parts has covering (uncovered low (others, too, not) named) =
+edit_is_right : TableLaws → (id : ℕ) (history : List Entry) (edit : Edit) (bytes : List ℕ) (damage : Bad) (parts : List (List Version)) → HasTables id edit.flushed bytes edit.tables parts → AreCovering history edit parts → place_of edit ≡ 0 → IsEditDamaged id history edit bytes damage → ⊥
+edit_is_right laws id history edit bytes damage parts has covering at (elsewhere other named) = other at
+edit_is_right laws id history edit bytes damage parts has covering at (log_behind here lt named) = let low = covering.covered.flushed in omega (arith, low, lt)
+edit_is_right laws id history edit bytes damage parts has covering at (in_tables here low named) = none_named laws id edit.flushed bytes edit.tables parts damage has named
+edit_is_right laws id history edit bytes damage parts has covering at (uncovered here low (others, too, not) named) =
     not (subst (λ (l : List (List Version)). AreCovering history edit l) (same_parts laws id edit.flushed bytes edit.tables parts others has too) covering)
 
 -- ---- all three
@@ -161,7 +162,7 @@ opens_or_damaged one logs lists parts log manifest tables asked id history damag
     let same : found ≡ id = found_id one asked id found history another log asks o.id_fits o.spelled finds in
     let histories : another ≡ history = logs.one_history log found id another history finds.spelled o.spelled in
     let same_list : others ≡ o.edits = lists.one_list manifest found id others o.edits spells o.installed in
-    edit_is_right parts id history (edits.last_edit o.edits) tables damage o.parts o.there o.covering
+    edit_is_right parts id history (edits.last_edit o.edits) tables damage o.parts o.there o.covering o.place
     (subst (λ (n : ℕ). IsEditDamaged n history (edits.last_edit o.edits) tables damage) same
     (subst (λ (h : List Entry). IsEditDamaged found h (edits.last_edit o.edits) tables damage) histories
     (subst (λ (l : List Edit). IsEditDamaged found another (edits.last_edit l) tables damage) same_list is)))

@@ -7,7 +7,7 @@ use Rattle.wp_gatelog.proofs.SurvivalLemmas.{rest_spells}
 use Rattle.wp_wal.specs.Spelling.{IsLogOf}
 use Rattle.wp_wal.specs.Spelling as wal
 use Rattle.wp_wal.specs.Wal.{WalState, StoresHistory}
-use Rattle.wp_manifest.specs.Edit.{Edit}
+use Rattle.wp_manifest.specs.Edit.{Edit, place_of}
 use Rattle.wp_manifest.specs.Manifest.{ManifestState, Opened}
 use Rattle.wp_manifest.specs.Spelling as edits
 use Rattle.wp_store.specs.Store.{StoreParts}
@@ -36,6 +36,7 @@ spelled_opens asked log manifest tables state history list tables_now parts p l 
         legal = p.legal;
         edits = p.installed.edits;
         installed = in_manifest;
+        place = subst (λ (e : Edit). place_of e ≡ 0) last p.store.place;
         parts = parts.tables;
         there = subst (λ (e : Edit). HasTables state.id e.flushed t e.tables parts.tables) last in_tables;
         covering = subst (λ (e : Edit). AreCovering history e parts.tables) last p.store.covering;

@@ -36,11 +36,11 @@ use Rattle.wp_open.specs.declared.bad.Bad.{Bad}
 use Rattle.wp_open.specs.declared.bad.Bad.TheVariants as bad
 use Rattle.wp_open.specs.declared.opening.OpenError.{OpenError}
 use Rattle.wp_open.specs.declared.opening.OpenError.TheVariants as open_error
-use Rattle.wp_open.specs.Damage.{Finds, IsLogDamaged, IsManifestDamaged, IsTableNamed, IsEditDamaged, log_behind, in_tables, uncovered, IsDamaged, in_log, in_manifest, in_edit}
+use Rattle.wp_open.specs.Damage.{Finds, IsLogDamaged, IsManifestDamaged, IsTableNamed, IsEditDamaged, elsewhere, log_behind, in_tables, uncovered, IsDamaged, in_log, in_manifest, in_edit}
 use Rattle.wp_open.specs.Devices.{DevicesLeft}
 use Rattle.wp_open.specs.Opens.{AreCovering, Opens, AllKnown}
-use Rattle.wp_open.specs.Refused.{WasRead, IsCause, of_log, of_manifest, of_edit, IsOfTables, IsOutside, IsLogReason, IsManifestReason, IsLogLeft, IsManifestLeft, IsLeft, at_edit, at_tables, IsRefusedFrom}
-use Rattle.wp_open.specs.Tables.{AreTablesCause, WereUncovered, IsStoreCause, behind, of_tables, not_covered, LeavesSynced}
+use Rattle.wp_open.specs.Refused.{WasRead, IsCause, of_log, of_manifest, of_edit, IsOfTables, IsOutside, IsLogReason, IsManifestReason, IsLogLeft, IsManifestLeft, IsLeft, at_place, at_edit, at_tables, IsRefusedFrom}
+use Rattle.wp_open.specs.Tables.{AreTablesCause, WereUncovered, IsStoreCause, not_there, behind, of_tables, not_covered, LeavesSynced}
 
 -- ---- the tables, once synced
 
@@ -97,9 +97,10 @@ tables_named id edit rose t past (bad.BadTable place why) cause = (cause.0, caus
 tables_named id edit rose t past other cause = absurd cause
 
 edit_damaged : (id : ℕ) (history : List Entry) (edit : Edit) (rose : Type 0) (t : Moment) (past : List Moment) (damage : Bad) → IsStoreCause id history edit rose (t ∷ past) (open_error.Contents damage) → IsEditDamaged id history edit t.reads damage
-edit_damaged id history edit rose t past damage (behind lt is) = log_behind lt (same_damage damage (bad.LogBehind edit.flushed (length history)) is)
-edit_damaged id history edit rose t past damage (of_tables low cause) = in_tables low (tables_named id edit rose t past damage cause)
-edit_damaged id history edit rose t past damage (not_covered low is were) = uncovered low (were.parts, were.known, were.uncovered) (same_damage damage bad.Uncovered is)
+edit_damaged id history edit rose t past damage (not_there there is) = elsewhere there (same_damage damage (bad.BadHead device.Log) is)
+edit_damaged id history edit rose t past damage (behind here lt is) = log_behind here lt (same_damage damage (bad.LogBehind edit.flushed (length history)) is)
+edit_damaged id history edit rose t past damage (of_tables here low cause) = in_tables here low (tables_named id edit rose t past damage cause)
+edit_damaged id history edit rose t past damage (not_covered here low is were) = uncovered here low (were.parts, were.known, were.uncovered) (same_damage damage bad.Uncovered is)
 
 -- where all three devices are known, they are damaged as the refusal says
 damaged : (asked : ℕ) (log_rose manifest_rose tables_rose : Type 0) (l m t : Moment) (ls ms ts : List Moment) (damage : Bad) → IsCause asked log_rose manifest_rose tables_rose (l ∷ ls) (m ∷ ms) (t ∷ ts) (open_error.Contents damage) → IsDamaged asked l.reads m.reads t.reads damage
@@ -163,11 +164,13 @@ of_the_tables id edit rose moments (open_error.Contents other) cause = absurd ca
 -- after a log and a manifest that are right
 pub edit_left : (same_manifest same_tables rose : Type 0) (log log_now manifest manifest_now tables tables_now : List Moment) (id : ℕ) (history : List Entry) (list : List Edit) (edit : Edit) (why : OpenError) → edit ≡ edits.last_edit list → IsLogLeft id history log log_now → IsManifestLeft id list manifest manifest_now → IsStoreCause id history edit rose tables why → LeavesSynced same_tables tables tables_now why
     → IsLeft same_manifest same_tables log log_now manifest manifest_now tables tables_now why
-edit_left same_manifest same_tables rose log log_now manifest manifest_now tables tables_now id history list edit why is log_rests rests (behind lt named) left =
+edit_left same_manifest same_tables rose log log_now manifest manifest_now tables tables_now id history list edit why is log_rests rests (not_there there named) left =
+    at_place id history list log_rests rests (rw (← is) there) named (subst (LeavesSynced same_tables tables tables_now) named left)
+edit_left same_manifest same_tables rose log log_now manifest manifest_now tables tables_now id history list edit why is log_rests rests (behind here lt named) left =
     at_edit id history list log_rests rests (rw (← is) lt) (rw (← is) named) (subst (LeavesSynced same_tables tables tables_now) named left)
-edit_left same_manifest same_tables rose log log_now manifest manifest_now tables tables_now id history list edit why is log_rests rests (of_tables low cause) left =
+edit_left same_manifest same_tables rose log log_now manifest manifest_now tables tables_now id history list edit why is log_rests rests (of_tables here low cause) left =
     at_tables id history list log_rests rests (rw (← is) low) (of_the_tables id edit rose tables why cause) left
-edit_left same_manifest same_tables rose log log_now manifest manifest_now tables tables_now id history list edit why is log_rests rests (not_covered low named none) left =
+edit_left same_manifest same_tables rose log log_now manifest manifest_now tables tables_now id history list edit why is log_rests rests (not_covered here low named none) left =
     at_tables id history list log_rests rests (rw (← is) low) (subst (IsOfTables id) (sym named) tt) left
 
 -- ---- a refusal, as a whole

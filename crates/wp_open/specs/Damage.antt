@@ -1,5 +1,5 @@
 -- What is wrong with the bytes of a store's devices: the first fault, in the order of an opening.
-use Rattle.std.specs.Prelude.{◌≡◌, ◌⊎◌, ℕ, ◌<◌, ◌≤◌, ◌^◌, List, ◌∷◌, ◌++◌, length, take, drop}
+use Rattle.std.specs.Prelude.{◌≡◌, ◌≢◌, ◌⊎◌, ℕ, ◌<◌, ◌≤◌, ◌^◌, List, ◌∷◌, ◌++◌, length, take, drop}
 use Rattle.wp_model.specs.declared.entry.Entry.{Entry}
 use Rattle.wp_model.specs.declared.version.Version.{Version}
 use Rattle.wp_model.specs.Legal.{IsLegal}
@@ -8,7 +8,7 @@ use Rattle.wp_gatelog.specs.Damage.{IsBadHead}
 use Rattle.wp_gatelog.specs.Spelling.{IsUnmade}
 use Rattle.wp_wal.specs.Opening.{IsBadLog, IsIllegalLog}
 use Rattle.wp_wal.specs.Spelling as wal
-use Rattle.wp_manifest.specs.Edit.{Edit}
+use Rattle.wp_manifest.specs.Edit.{Edit, place_of}
 use Rattle.wp_manifest.specs.Opening.{IsBadEdit, IsStranger}
 use Rattle.wp_manifest.specs.Spelling as edits
 use Rattle.wp_manifest.specs.Spelling.{IsManifestOf, last_edit}
@@ -86,12 +86,13 @@ IsTableNamed id flushed bytes tables other = ⊥
 abbrev pub IsUncovered : ℕ → List Entry → Edit → List ℕ → Type 0
 IsUncovered id history edit bytes = (parts : List (List Version)) × HasTables id edit.flushed bytes edit.tables parts × (AreCovering history edit parts → ⊥)
 
--- The edit has flushed more entries than the log has; or one of its tables is wrong; or all are right, and do not cover the
--- history.
+-- The edit names another place of the log's device than its beginning, where no log stands; or it has flushed more entries
+-- than the log has; or one of its tables is wrong; or all are right, and do not cover the history.
 pub data IsEditDamaged (id : ℕ) (history : List Entry) (edit : Edit) (bytes : List ℕ) (damage : Bad) : Type 0 where
-  log_behind : length history < edit.flushed → damage ≡ bad.LogBehind edit.flushed (length history) → IsEditDamaged id history edit bytes damage
-  in_tables : edit.flushed ≤ length history → IsTableNamed id edit.flushed bytes edit.tables damage → IsEditDamaged id history edit bytes damage
-  uncovered : edit.flushed ≤ length history → IsUncovered id history edit bytes → damage ≡ bad.Uncovered → IsEditDamaged id history edit bytes damage
+  elsewhere : place_of edit ≢ 0 → damage ≡ bad.BadHead device.Log → IsEditDamaged id history edit bytes damage
+  log_behind : place_of edit ≡ 0 → length history < edit.flushed → damage ≡ bad.LogBehind edit.flushed (length history) → IsEditDamaged id history edit bytes damage
+  in_tables : place_of edit ≡ 0 → edit.flushed ≤ length history → IsTableNamed id edit.flushed bytes edit.tables damage → IsEditDamaged id history edit bytes damage
+  uncovered : place_of edit ≡ 0 → edit.flushed ≤ length history → IsUncovered id history edit bytes → damage ≡ bad.Uncovered → IsEditDamaged id history edit bytes damage
 
 -- ---- all three
 

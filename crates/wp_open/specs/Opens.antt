@@ -6,7 +6,7 @@ use Rattle.wp_model.specs.Flushed.{InstalledEdit, IsEditCovered, first_segment}
 use Rattle.wp_model.specs.Legal.{IsLegal}
 use Rattle.wp_outside.specs.Disk.{Moment, IfKnown}
 use Rattle.wp_wal.specs.Spelling.{IsLogOf}
-use Rattle.wp_manifest.specs.Edit.{Edit}
+use Rattle.wp_manifest.specs.Edit.{Edit, place_of}
 use Rattle.wp_manifest.specs.Spelling.{IsManifestOf, last_edit}
 use Rattle.wp_table.specs.File.{HasTables}
 use Rattle.wp_merge.specs.Merge.{AreMerged, joined, sorted_of}
@@ -17,14 +17,15 @@ pub record AreCovering (history : List Entry) (edit : Edit) (parts : List (List 
   pub merged : AreMerged parts all
   pub covered : IsEditCovered history (record { segment = first_segment; flushed = edit.flushed; versions = all; tables = length parts })
 
--- The log spells the history, which is legal. The manifest spells edits under the log's id, and the tables that the last
--- one names cover the history. A log that was not made has any id.
+-- The log spells the history, which is legal. The manifest spells edits under the log's id. The last one says that the log
+-- begins where its device does, and the tables that it names cover the history. A log that was not made has any id.
 pub record Opens (id : ℕ) (history : List Entry) (log manifest tables : List ℕ) : Type 0 where
   pub id_fits : id < 2 ^ 32
   pub spelled : IsLogOf id history log
   pub legal : IsLegal history
   pub edits : List Edit
   pub installed : IsManifestOf id edits manifest
+  pub place : place_of (last_edit edits) ≡ 0
   pub parts : List (List Version)
   pub there : HasTables id (last_edit edits).flushed tables (last_edit edits).tables parts
   pub covering : AreCovering history (last_edit edits) parts

@@ -9,7 +9,7 @@ use Rattle.wp_gatelog.specs.Spelling.{IsUnmade}
 use Rattle.wp_wal.specs.Spelling as log_spelling
 use Rattle.wp_wal.specs.Spelling.{IsLogOf}
 use Rattle.wp_wal.specs.Wal.{WalState, StoresHistory}
-use Rattle.wp_manifest.specs.Edit.{Edit}
+use Rattle.wp_manifest.specs.Edit.{Edit, place_of}
 use Rattle.wp_manifest.specs.Manifest.{ManifestState, Opened}
 use Rattle.wp_manifest.specs.Spelling as edits_spelling
 use Rattle.std.specs.List.{AllByRecursion}
@@ -20,9 +20,10 @@ use Rattle.wp_store.specs.Store.{StoreParts}
 use Rattle.wp_open.specs.Devices.{DevicesLeft}
 use Rattle.wp_open.specs.Opens.{AreCovering, OpensTo, AllKnown, installed_of}
 
--- The store has in memory the versions of the entries after the edit's flushed number, and nothing frozen. With these its
--- tables cover the history.
+-- The edit says that the log begins where its device does. The store has in memory the versions of the entries after the
+-- edit's flushed number, and nothing frozen. With these its tables cover the history.
 pub record IsStoreOf (history : List Entry) (edit : Edit) (store : StoreParts) : Type 0 where
+  pub place : place_of edit ≡ 0
   pub covering : AreCovering history edit store.tables
   pub memory : store.memory ≡ sorted_of (later_versions history edit.flushed)
   pub frozen : store.frozen ≡ []

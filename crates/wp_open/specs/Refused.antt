@@ -1,5 +1,5 @@
 -- Why a store is not opened, and what that leaves of its devices.
-use Rattle.std.specs.Prelude.{◌≡◌, ℕ, ◌<◌, ◌≤◌, ◌^◌, List, length}
+use Rattle.std.specs.Prelude.{◌≡◌, ◌≢◌, ℕ, ◌<◌, ◌≤◌, ◌^◌, List, length}
 use Rattle.wp_model.specs.declared.entry.Entry.{Entry}
 use Rattle.wp_outside.specs.declared.disk.Device.TheVariants as device
 use Rattle.wp_model.specs.Legal.{IsLegal}
@@ -17,7 +17,7 @@ use Rattle.wp_wal.specs.Spelling as log_spelling
 use Rattle.wp_wal.specs.Wal.{LeavesHistory}
 use Rattle.wp_manifest.specs.declared.error.ManifestError.{ManifestError}
 use Rattle.wp_manifest.specs.declared.error.ManifestError.TheVariants as manifest_error
-use Rattle.wp_manifest.specs.Edit.{Edit, IsEdit}
+use Rattle.wp_manifest.specs.Edit.{Edit, IsEdit, place_of}
 use Rattle.wp_manifest.specs.Opening.{IsManifestCause, LeavesEdits}
 use Rattle.wp_manifest.specs.Spelling.{MAGIC, IsManifestOf, last_edit}
 use Rattle.wp_table.specs.declared.error.TableError.{TableError}
@@ -107,6 +107,7 @@ pub record IsManifestLeft (id : ℕ) (edits : List Edit) (old new : List Moment)
 pub data IsLeft (same_manifest same_tables : Type 0) (log log_now manifest manifest_now tables tables_now : List Moment) (why : OpenError) : Type 0 where
   at_log : (refusal : WalError) → IsLogReason refusal why → LeavesRecords log log_now refusal → same_manifest → same_tables → IsLeft same_manifest same_tables log log_now manifest manifest_now tables tables_now why
   at_manifest : (id : ℕ) (history : List Entry) (refusal : ManifestError) → IsLogLeft id history log log_now → IsManifestReason refusal why → LeavesEdits manifest manifest_now refusal → SurvivesThrough MAGIC id manifest manifest_now → same_tables → IsLeft same_manifest same_tables log log_now manifest manifest_now tables tables_now why
+  at_place : (id : ℕ) (history : List Entry) (edits : List Edit) → IsLogLeft id history log log_now → IsManifestLeft id edits manifest manifest_now → place_of (last_edit edits) ≢ 0 → why ≡ open_error.Contents (bad.BadHead device.Log) → same_tables → IsLeft same_manifest same_tables log log_now manifest manifest_now tables tables_now why
   at_edit : (id : ℕ) (history : List Entry) (edits : List Edit) → IsLogLeft id history log log_now → IsManifestLeft id edits manifest manifest_now → length history < (last_edit edits).flushed → why ≡ open_error.Contents (bad.LogBehind (last_edit edits).flushed (length history)) → same_tables → IsLeft same_manifest same_tables log log_now manifest manifest_now tables tables_now why
   at_tables : (id : ℕ) (history : List Entry) (edits : List Edit) → IsLogLeft id history log log_now → IsManifestLeft id edits manifest manifest_now → (last_edit edits).flushed ≤ length history → IsOfTables id why → LeavesSynced same_tables tables tables_now why → IsLeft same_manifest same_tables log log_now manifest manifest_now tables tables_now why
 

@@ -1,11 +1,11 @@
 -- Why the tables of an edit, or one of them, could not be read, or are none of the history; and what that leaves of their device.
-use Rattle.std.specs.Prelude.{◌≡◌, ◌⊎◌, ℕ, ◌<◌, ◌≤◌, List, ◌∷◌, ◌++◌, length}
+use Rattle.std.specs.Prelude.{◌≡◌, ◌≢◌, ◌⊎◌, ℕ, ◌<◌, ◌≤◌, List, ◌∷◌, ◌++◌, length}
 use Rattle.std.specs.List.{AllByRecursion}
 use Rattle.wp_model.specs.declared.entry.Entry.{Entry}
 use Rattle.wp_model.specs.declared.version.Version.{Version}
 use Rattle.wp_outside.specs.declared.disk.Device.TheVariants as device
 use Rattle.wp_outside.specs.Disk.{Moment, IfKnown, added, after_sync}
-use Rattle.wp_manifest.specs.Edit.{Edit}
+use Rattle.wp_manifest.specs.Edit.{Edit, place_of}
 use Rattle.wp_table.specs.declared.error.TableError.{TableError}
 use Rattle.wp_table.specs.declared.error.TableError.TheVariants as table
 use Rattle.wp_table.specs.File.{HasTables}
@@ -68,12 +68,13 @@ pub record WereUncovered (id : ℕ) (history : List Entry) (edit : Edit) (moment
   pub uncovered : AreCovering history edit parts → ⊥
   pub known : IfKnown moments (λ m. HasTables id edit.flushed m.reads edit.tables parts)
 
--- Why the store of an edit was not opened. The log is behind the edit; or it is not, and the tables were refused, or they
--- do not cover the history.
+-- Why the store of an edit was not opened. The edit names another place than the one where the log is; or the log is behind
+-- the edit; or it is neither, and the tables were refused, or they do not cover the history.
 pub data IsStoreCause (id : ℕ) (history : List Entry) (edit : Edit) (rose : Type 0) (moments : List Moment) (why : OpenError) : Type 0 where
-  behind : length history < edit.flushed → why ≡ open_error.Contents (bad.LogBehind edit.flushed (length history)) → IsStoreCause id history edit rose moments why
-  of_tables : edit.flushed ≤ length history → AreTablesCause id edit rose moments why → IsStoreCause id history edit rose moments why
-  not_covered : edit.flushed ≤ length history → why ≡ open_error.Contents bad.Uncovered → WereUncovered id history edit moments → IsStoreCause id history edit rose moments why
+  not_there : place_of edit ≢ 0 → why ≡ open_error.Contents (bad.BadHead device.Log) → IsStoreCause id history edit rose moments why
+  behind : place_of edit ≡ 0 → length history < edit.flushed → why ≡ open_error.Contents (bad.LogBehind edit.flushed (length history)) → IsStoreCause id history edit rose moments why
+  of_tables : place_of edit ≡ 0 → edit.flushed ≤ length history → AreTablesCause id edit rose moments why → IsStoreCause id history edit rose moments why
+  not_covered : place_of edit ≡ 0 → edit.flushed ≤ length history → why ≡ open_error.Contents bad.Uncovered → WereUncovered id history edit moments → IsStoreCause id history edit rose moments why
 
 -- ---- what is left
 
@@ -81,8 +82,9 @@ pub data IsStoreCause (id : ℕ) (history : List Entry) (edit : Edit) (rose : Ty
 abbrev pub IsAtMostSynced : List Moment → List Moment → Type 0
 IsAtMostSynced old new = (new ≡ old) ⊎ (new ≡ added after_sync old)
 
--- The device was not called where the log is behind the edit; else it was synced, unless it failed.
+-- The device was not called where the log is elsewhere, or behind the edit; else it was synced, unless it failed.
 abbrev pub LeavesSynced : (same : Type 0) → List Moment → List Moment → OpenError → Type 0
+LeavesSynced same old new (open_error.Contents (bad.BadHead failed)) = same
 LeavesSynced same old new (open_error.Contents (bad.LogBehind flushed published)) = same
 LeavesSynced same old new (open_error.OpenFault failed) = IsAtMostSynced old new
 LeavesSynced same old new other = new ≡ added after_sync old

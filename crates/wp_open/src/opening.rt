@@ -74,8 +74,8 @@ pub struct OpenRefused<D> {
     pub why: OpenError,
 }
 
-/// Reads the edit's tables and puts the versions of the later entries into memory. It asks first whether the log has all
-/// entries that were flushed, and syncs the device before it reads.
+/// Reads the edit's tables and puts the versions of the later entries into memory. It asks first whether the log begins where
+/// its device does and has all entries that were flushed, and syncs the device before it reads.
 fn open_store<D: Disk>(
     alloc: Global,
     tables: &mut D,
@@ -91,6 +91,9 @@ fn open_store<D: Disk>(
     ensures left { IfErr result (LeavesSynced (tables.new ≡ tables.old) (D.moments tables.old) (D.moments tables.new)) }
     ensures later { D.faults tables.old ≤ D.faults tables.new }
 {
+    if edit.place.unwrap_or(0) != 0 {
+        return Err(OpenError::Contents(Bad::BadHead(Device::Log)));
+    }
     let published = history.published();
     if edit.flushed > published {
         return Err(OpenError::Contents(Bad::LogBehind {

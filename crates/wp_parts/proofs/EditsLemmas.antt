@@ -30,11 +30,11 @@ module _ (s : EditsState) (k : IsEdits s) (last_is : s.table.last ≡ installed_
 
   named_last : (image : List ℕ) → IsManifestOf s.set.manifest.log.id k.edits image → (edit : InstalledEdit) × IsNamed s image edit × MayName s.table edit
   named_last image spelled =
-      (s.table.last, record { edits = k.edits; spelled = spelled; parts = s.parts; is = rw (← k.stores.manifest.last) last_is; there = rw (← k.stores.manifest.last) last_there }, inl refl)
+      (s.table.last, record { edits = k.edits; spelled = spelled; place = rw (← k.stores.manifest.last) k.place; parts = s.parts; is = rw (← k.stores.manifest.last) last_is; there = rw (← k.stores.manifest.last) last_there }, inl refl)
 
   named_next : (image : List ℕ) → s.set.manifest.log.closed ≡ true → IsManifestOf s.set.manifest.log.id (k.edits ++ k.next ∷ []) image → (edit : InstalledEdit) × IsNamed s image edit × MayName s.table edit
   named_next image closed spelled =
-      (installed_of k.next k.next_parts, record { edits = k.edits ++ k.next ∷ []; spelled = spelled; parts = k.next_parts; is = rw (last-push k.edits k.next) refl; there = rw (last-push k.edits k.next) next_there }, inr (k.failed closed))
+      (installed_of k.next k.next_parts, record { edits = k.edits ++ k.next ∷ []; spelled = spelled; place = rw (last-push k.edits k.next) (k.next_place closed); parts = k.next_parts; is = rw (last-push k.edits k.next) refl; there = rw (last-push k.edits k.next) next_there }, inr (k.failed closed))
 
   pub manifest_tells : (image : List ℕ) → images s.set.manifest.log.moments image → (edit : InstalledEdit) × IsNamed s image edit × MayName s.table edit
   manifest_tells image at = elim (cases_Bool s.set.manifest.log.closed) [

@@ -10,7 +10,7 @@ use Rattle.wp_outside.specs.Faults.{Rose}
 use Rattle.wp_gatelog.specs.Durability.{LosesNoRecord}
 use Rattle.wp_gatelog.specs.Moments.{Leaves}
 use Rattle.wp_gatelog.proofs.DurabilityLemmas.{preserves_on}
-use Rattle.wp_manifest.specs.Edit.{Edit, no_edit}
+use Rattle.wp_manifest.specs.Edit.{Edit, no_edit, place_of}
 use Rattle.wp_manifest.specs.Manifest.{ManifestState, StoresEdits}
 use Rattle.wp_manifest.specs.Spelling.{MAGIC, last_edit, IsManifestOrNext}
 use Rattle.wp_merge.specs.Merge.{first_at, joined, sorted_of}
@@ -115,17 +115,19 @@ module _ (set first : TableSetState) (parts : List (List Version)) (failed : Opt
 
   -- ---- while it is being installed
 
-  pub survives : (next : Edit) (after : List (List Version) → List (List Version)) (edit : InstalledEdit) (now : EditsState) → edit ≡ installed_of next (after parts) → now.set ≡ new
+  pub survives : (next : Edit) (after : List (List Version) → List (List Version)) (edit : InstalledEdit) (now : EditsState) → edit ≡ installed_of next (after parts) → place_of next ≡ 0 → now.set ≡ new
       → ((edits : List Edit) → StoresEdits set.manifest edits no_edit → set.manifest.log.closed ≡ false → Passes (Leaves (IsManifestOrNext set.manifest.log.id edits next)) set.manifest.log.moments new.manifest.log.moments)
       → ((edits : List Edit) (ps : List (List Version)) → StoresTables set edits no_edit ps [] → (new.manifest.log.moments ≡ set.manifest.log.moments) ⊎ IfKnown new.moments (LeavesTables set.manifest.log.id next (after ps)))
       → SurvivesInstall (edits_state set first parts failed) now edit
-  survives next after edit now made same passed there =
+  survives next after edit now made here same passed there =
       let last : set.manifest.edit ≡ last_edit k.edits = k.stores.manifest.last in
       rw same record {
         edits = k.edits;
         next = next;
         next_parts = after parts;
         stores = stored;
+        last_place = rw (← last) k.place;
+        next_place = here;
         last_is = ap (λ (e : Edit). installed_of e parts) last;
         next_is = made;
         manifest = passed k.edits stored.manifest open_before;
@@ -136,12 +138,14 @@ module _ (set first : TableSetState) (parts : List (List Version)) (failed : Opt
   -- ---- the edit is installed
 
   module _ (next : Edit) (after : List (List Version) → List (List Version)) (installed : NextInstalled set new next after) (open_ : new.manifest.log.closed ≡ false) (now : List (List Version)) (is : now ≡ after parts) where
-    pub installed_edits : list_all (is_flushed next.flushed) (sorted_of (joined (after parts))) ≡ true → IsEdits (edits_state new first now failed)
-    installed_edits flushed = record {
+    pub installed_edits : place_of next ≡ 0 → list_all (is_flushed next.flushed) (sorted_of (joined (after parts))) ≡ true → IsEdits (edits_state new first now failed)
+    installed_edits here flushed = record {
       edits = k.edits ++ next ∷ [];
       next = no_edit;
       next_parts = [];
       stores = subst (λ (ps : List (List Version)). StoresTables new (k.edits ++ next ∷ []) no_edit ps []) (sym is) (installed.stores k.edits parts stored);
+      place = rw installed.last here;
+      next_place = λ closed. refl;
       flushed = rw (installed.last, is) flushed;
       none_failed = λ _. open_asked new.manifest.log.closed failed now open_;
       failed = λ closed. absurd cc;
@@ -174,6 +178,8 @@ module _ (set first : TableSetState) (parts : List (List Version)) (failed : Opt
       next = no_edit;
       next_parts = [];
       stores = stores;
+      place = rw (ap (λ (m : ManifestState). m.edit) same) k.place;
+      next_place = λ closed. refl;
       flushed = rw (ap (λ (m : ManifestState). m.edit) same) k.flushed;
       none_failed = λ open_. open_asked new.manifest.log.closed (Some f) parts open_;
       failed = λ closed. let open_ = same_open same in absurd cc;
@@ -186,17 +192,19 @@ module _ (set first : TableSetState) (parts : List (List Version)) (failed : Opt
       durable = durable;
     }
 
-    pub refused_edits : (why : TableSetError) → NextRefused set new next after why → IsEdits (edits_state new first parts (Some f))
-    refused_edits Memory refused =
+    pub refused_edits : place_of next ≡ 0 → (why : TableSetError) → NextRefused set new next after why → IsEdits (edits_state new first parts (Some f))
+    refused_edits here Memory refused =
         let halted : new.halted ≡ set.halted = ap (λ (s : TableSetState). s.halted) refused.0 in
         still_open (ap (λ (s : TableSetState). s.manifest) refused.0) (refused.1 k.edits parts stored) (λ stopped. absurd cc)
-    refused_edits Fault refused = elim refused.2 [
+    refused_edits here Fault refused = elim refused.2 [
       | inl stopped ↦ still_open stopped.manifest (stopped.stores k.edits parts stored) (λ _. inr (rose_since first.faults set.faults new.faults k.later stopped.rose))
       | inr stopped ↦ record {
         edits = k.edits;
         next = next;
         next_parts = after parts;
         stores = stopped.stores k.edits parts stored;
+        place = rw stopped.last k.place;
+        next_place = λ closed. here;
         flushed = rw stopped.last k.flushed;
         none_failed = λ open_. open_asked new.manifest.log.closed (Some f) parts open_;
         failed = λ closed. rw closed (ap Some asked);
@@ -209,7 +217,7 @@ module _ (set first : TableSetState) (parts : List (List Version)) (failed : Opt
         durable = durable;
       }
     ]
-    refused_edits Halted refused = let halted = refused.0 in absurd cc
+    refused_edits here Halted refused = let halted = refused.0 in absurd cc
 
     module _ (edit : InstalledEdit) (made : installed_of next (after parts) ≡ edit) where
       halted_by : (closed : Bool) → new.manifest.log.closed ≡ closed → new.manifest.edit ≡ set.manifest.edit → new.halted ≡ true → HasHalted (edits_state set first parts failed).table (edits_state new first parts (Some f)).table edit
@@ -229,12 +237,14 @@ module _ (set first : TableSetState) (parts : List (List Version)) (failed : Opt
 
 -- an install that called no device
 pub nothing_called : (set first : TableSetState) (parts : List (List Version)) (failed : Option FailedInstall) → IsEdits (edits_state set first parts failed) → set.halted ≡ false → (next : Edit) (after : List (List Version) → List (List Version)) (edit : InstalledEdit) (now : EditsState)
-    → edit ≡ installed_of next (after parts) → now.set ≡ set → SurvivesInstall (edits_state set first parts failed) now edit
-nothing_called set first parts failed k running next after edit now made same = rw same record {
+    → edit ≡ installed_of next (after parts) → place_of next ≡ 0 → now.set ≡ set → SurvivesInstall (edits_state set first parts failed) now edit
+nothing_called set first parts failed k running next after edit now made here same = rw same record {
   edits = k.edits;
   next = next;
   next_parts = after parts;
   stores = running_stores set k.edits k.next parts k.next_parts (k.running running) k.stores;
+  last_place = rw (← k.stores.manifest.last) k.place;
+  next_place = here;
   last_is = ap (λ (e : Edit). installed_of e parts) k.stores.manifest.last;
   next_is = made;
   manifest = ([], refl, tt);

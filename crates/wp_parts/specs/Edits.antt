@@ -6,7 +6,7 @@ use Rattle.wp_model.specs.Flushed.{InstalledEdit, first_segment}
 use Rattle.wp_outside.specs.Disk.{images}
 use Rattle.wp_outside.specs.Faults.{Rose}
 use Rattle.wp_gatelog.specs.Durability.{LosesNoRecord}
-use Rattle.wp_manifest.specs.Edit.{Edit}
+use Rattle.wp_manifest.specs.Edit.{Edit, place_of}
 use Rattle.wp_manifest.specs.Spelling.{MAGIC, IsManifestOf, last_edit}
 use Rattle.wp_merge.specs.Merge.{joined, sorted_of}
 use Rattle.wp_open.specs.Opens.{installed_of}
@@ -52,10 +52,12 @@ edits_state set first parts failed = record {
 
 -- ---- what its devices have
 
--- the bytes are a manifest whose last edit is this one, and a crash leaves that one's tables
+-- the bytes are a manifest whose last edit is this one, which names the beginning of the log's device, and a crash leaves its
+-- tables
 pub record IsNamed (s : EditsState) (image : List ℕ) (edit : InstalledEdit) : Type 0 where
   pub edits : List Edit
   pub spelled : IsManifestOf s.set.manifest.log.id edits image
+  pub place : place_of (last_edit edits) ≡ 0
   pub parts : List (List Version)
   pub is : edit ≡ installed_of (last_edit edits) parts
   pub there : (tables : List ℕ) → images s.set.moments tables → HasTables s.set.manifest.log.id (last_edit edits).flushed tables (last_edit edits).tables parts
@@ -69,14 +71,16 @@ pub record HasTablesOf (s : EditsState) (image : List ℕ) (installed : Installe
 
 -- ---- what is so of it
 
--- The set stores its edits, and the tables of the last one; once an install has failed, those of its edit too. No version of
--- the last one's tables has a number above the flushed one. The set has the id that it was opened with. No fault was forgotten
--- since then, and what was for good then is so still.
+-- The set stores its edits, and the tables of the last one; once an install has failed, those of its edit too. Both edits name
+-- the beginning of the log's device. No version of the last one's tables has a number above the flushed one. The set has the
+-- id that it was opened with. No fault was forgotten since then, and what was for good then is so still.
 pub record IsEdits (s : EditsState) : Type 0 where
   pub edits : List Edit
   pub next : Edit
   pub next_parts : List (List Version)
   pub stores : StoresTables s.set edits next s.parts next_parts
+  pub place : place_of s.set.manifest.edit ≡ 0
+  pub next_place : s.set.manifest.log.closed ≡ true → place_of next ≡ 0
   pub flushed : list_all (is_flushed s.table.last.flushed) s.table.last.versions ≡ true
   pub none_failed : s.set.manifest.log.closed ≡ false → s.table.failed ≡ None
   pub failed : s.set.manifest.log.closed ≡ true → s.table.failed ≡ Some (installed_of next next_parts)

@@ -5,7 +5,7 @@ use Rattle.wp_model.specs.Flushed.{InstalledEdit}
 use Rattle.wp_outside.specs.Disk.{IfKnown, Passes}
 use Rattle.wp_outside.specs.Faults.{Rose}
 use Rattle.wp_gatelog.specs.Moments.{Leaves}
-use Rattle.wp_manifest.specs.Edit.{Edit, no_edit}
+use Rattle.wp_manifest.specs.Edit.{Edit, no_edit, place_of}
 use Rattle.wp_manifest.specs.Spelling.{last_edit, IsManifestOrNext}
 use Rattle.wp_merge.specs.Merge.{sorted_of}
 use Rattle.wp_open.specs.Opens.{installed_of}
@@ -47,6 +47,8 @@ pub record SurvivesInstall (old new : EditsState) (edit : InstalledEdit) : Type 
   pub next : Edit
   pub next_parts : List (List Version)
   pub stores : StoresTables old.set edits no_edit old.parts []
+  pub last_place : place_of (last_edit edits) ≡ 0
+  pub next_place : place_of next ≡ 0
   pub last_is : old.table.last ≡ installed_of (last_edit edits) old.parts
   pub next_is : edit ≡ installed_of next next_parts
   pub manifest : Passes (Leaves (IsManifestOrNext old.set.manifest.log.id edits next)) old.set.manifest.log.moments new.set.manifest.log.moments

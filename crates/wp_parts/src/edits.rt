@@ -4,10 +4,9 @@ ghost use Rattle.std.specs.Arc.{arc_value};
 ghost use Rattle.std.specs.List.{list_all};
 ghost use Rattle.std.specs.Option.{option_map};
 ghost use Rattle.wp_model.specs.Flushed.{first_segment};
-ghost use Rattle.wp_model.specs.Legal.{log_end};
 ghost use Rattle.wp_model.specs.Versions.{AreInOrder};
 ghost use Rattle.wp_outside.specs.Disk.{images};
-ghost use Rattle.wp_manifest.specs.Edit.{Edit, no_edit};
+ghost use Rattle.wp_manifest.specs.Edit.{Edit, no_edit, place_of};
 ghost use Rattle.wp_merge.specs.Merge.{joined, sorted_of};
 ghost use Rattle.wp_store.specs.Store.{with_newest};
 ghost use Rattle.wp_table.specs.Table.{is_flushed, is_numbered};
@@ -86,6 +85,7 @@ impl<D: Disk> Edits<D> {
     pub fn new(set: TableSet<D>, tables: Vec<TableVersions>) -> Edits<D>
         requires stores { (edits : List Edit) × StoresTables set edits no_edit tables.items [] }
         requires flushed { list_all (is_flushed set.manifest.edit.flushed) (sorted_of (joined tables.items)) ≡ true }
+        requires place { place_of set.manifest.edit ≡ 0 }
         requires running { set.halted ≡ false }
         ensures { result ≡ edits_state set set tables.items None }
     {
@@ -129,7 +129,6 @@ impl<D: Disk> Edits<D> {
         requires numbered { list_all is_numbered versions.now ≡ true }
         requires flushed { list_all (is_flushed flushed) versions.now ≡ true }
         requires later { self.old.table.last.flushed < flushed }
-        requires fits { flushed < log_end }
         ensures table { IfOk result (λ table. arc_value table ≡ versions.now) }
         ensures installed { OnOk result (self.new.table ≡ record self.old.table { last = with_table versions.now flushed self.old.table.last }) }
         ensures parts { OnOk result (self.new.parts ≡ versions.now ∷ self.old.parts) }

@@ -6,7 +6,7 @@ use Rattle.wp_gatelog.specs.Moments.{Leaves}
 use Rattle.wp_open.specs.declared.bad.Bad.TheVariants as bad
 use Rattle.wp_open.specs.declared.opening.OpenError.{OpenError}
 use Rattle.wp_open.specs.declared.opening.OpenError.TheVariants as open_error
-use Rattle.wp_open.specs.Refused.{IsLeft, at_log, at_manifest, at_edit, at_tables}
+use Rattle.wp_open.specs.Refused.{IsLeft, at_log, at_manifest, at_place, at_edit, at_tables}
 use Rattle.wp_open.specs.Tables.{IsAtMostSynced, LeavesSynced}
 use Rattle.wp_tableset.specs.Device.{BeginsWith, KeepsFronts}
 use Rattle.wp_run.proofs.Keeping.{fronts_same}
@@ -26,6 +26,7 @@ fronts_at_most_synced old new itself left = elim left [
 ]
 
 fronts_left : (same : Type 0) (old new : List Moment) (why : OpenError) → (same → KeepsFronts old new) → ReadsItself old → LeavesSynced same old new why → KeepsFronts old new
+fronts_left same old new (open_error.Contents (bad.BadHead device)) unchanged itself left = unchanged left
 fronts_left same old new (open_error.Contents (bad.LogBehind flushed published)) unchanged itself left = unchanged left
 fronts_left same old new (open_error.OpenFault device) unchanged itself left = fronts_at_most_synced old new itself left
 fronts_left same old new other unchanged itself left = fronts_at_most_synced old new itself (inr left)
@@ -38,6 +39,7 @@ refused_fronts same_manifest same log log_now manifest manifest_now tables table
     elim left [
       | at_log refusal reason records manifest_same tables_same ↦ unchanged tables_same
       | at_manifest id history refusal log_left reason edits survives tables_same ↦ unchanged tables_same
+      | at_place id history edits log_left manifest_left elsewhere named tables_same ↦ unchanged tables_same
       | at_edit id history edits log_left manifest_left behind named tables_same ↦ unchanged tables_same
       | at_tables id history edits log_left manifest_left within reason synced ↦ fronts_left same tables tables_now why unchanged itself synced
     ]

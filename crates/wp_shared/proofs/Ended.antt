@@ -126,6 +126,7 @@ module _ {D : Type 0} (z : SharedState D) (first : SeatState) (others : List Sea
             legal = (left_by_crash w l.alone told.0 spelled).1;
             edits = it.edits;
             installed = subst (λ (n : ℕ). IsManifestOf n it.edits manifest_image) edits_id it.spelled;
+            place = it.place;
             parts = it.parts;
             there = subst (λ (n : ℕ). HasTables n (last_edit it.edits).flushed tables_image (last_edit it.edits).tables it.parts) edits_id (it.there tables_image at_tables);
             covering = record { all = sorted_of (joined it.parts); merged = merged_sorted it.parts; covered = subst (IsEditCovered told.0) it.is (edit_by_crash w l.alone told.0 named.0 spelled last) };

@@ -1,5 +1,5 @@
 -- What the calls of a set make of it.
-use Rattle.std.proofs.Common.{◌≡◌, ℕ, ◌≤◌, ◌<◌, true, false, List, [], ◌∷◌, length, Result, Ok, Err, refl, arith}
+use Rattle.std.proofs.Common.{◌≡◌, ℕ, ◌≤◌, ◌<◌, true, false, List, [], ◌∷◌, length, Some, Result, Ok, Err, refl, arith}
 use Rattle.std.specs.List.{list_all}
 use Rattle.wp_model.specs.declared.version.Version.{Version}
 use Rattle.wp_manifest.specs.Edit.{Edit}
@@ -52,12 +52,12 @@ compact_refused old new (v ∷ versions) flushed others why some none same puts 
     let named = rw (none, same) at installs in
     (puts.0, record { passed = named.passed; there = named.there; installed = tt; refused = named.refused })
 
-pub none_installed : {T : Type 0} (old new : TableSetState) (versions : List Version) (flushed : ℕ) (tables : List (ℕ × ℕ)) (x : T) → old.halted ≡ false → versions ≡ [] → tables ≡ [] → flushed ≡ old.manifest.edit.flushed → InstallsEdit {T = Unit {0}} old new (record { flushed = flushed; tables = tables }) (Ok tt)
+pub none_installed : {T : Type 0} (old new : TableSetState) (versions : List Version) (flushed : ℕ) (tables : List (ℕ × ℕ)) (x : T) → old.halted ≡ false → versions ≡ [] → tables ≡ [] → flushed ≡ old.manifest.edit.flushed → InstallsEdit {T = Unit {0}} old new (record { flushed = flushed; place = Some 0; tables = tables }) (Ok tt)
     → (place : ℕ) × Installs {T = T} old new (compacted_edit old versions place) (λ _. compacted_parts versions) (Ok x)
 none_installed old new versions flushed tables x running empty none same installs =
-    (0, rw empty (ready_installed old new old.moments old.faults (record { flushed = old.manifest.edit.flushed; tables = [] }) (λ _. []) (none_ready old old.manifest.edit.flushed running) x (rw (none, same) at installs)))
+    (0, rw empty (ready_installed old new old.moments old.faults (record { flushed = old.manifest.edit.flushed; place = Some 0; tables = [] }) (λ _. []) (none_ready old old.manifest.edit.flushed running) x (rw (none, same) at installs)))
 
-pub none_refused : {T : Type 0} (old new : TableSetState) (versions : List Version) (flushed : ℕ) (tables : List (ℕ × ℕ)) (why : TableSetError) → old.halted ≡ false → versions ≡ [] → tables ≡ [] → flushed ≡ old.manifest.edit.flushed → InstallsEdit {T = Unit {0}} old new (record { flushed = flushed; tables = tables }) (Err why)
+pub none_refused : {T : Type 0} (old new : TableSetState) (versions : List Version) (flushed : ℕ) (tables : List (ℕ × ℕ)) (why : TableSetError) → old.halted ≡ false → versions ≡ [] → tables ≡ [] → flushed ≡ old.manifest.edit.flushed → InstallsEdit {T = Unit {0}} old new (record { flushed = flushed; place = Some 0; tables = tables }) (Err why)
     → (place : ℕ) × Installs {T = T} old new (compacted_edit old versions place) (λ _. compacted_parts versions) (Err why)
 none_refused old new versions flushed tables why running empty none same installs =
-    (0, rw empty (ready_refused old new old.moments old.faults (record { flushed = old.manifest.edit.flushed; tables = [] }) (λ _. []) (none_ready old old.manifest.edit.flushed running) why (rw (none, same) at installs)))
+    (0, rw empty (ready_refused old new old.moments old.faults (record { flushed = old.manifest.edit.flushed; place = Some 0; tables = [] }) (λ _. []) (none_ready old old.manifest.edit.flushed running) why (rw (none, same) at installs)))

@@ -1,6 +1,5 @@
 -- What the two devices store while a table is written and an edit is installed.
-use Rattle.std.proofs.Common.{◌≡◌, ◌⊎◌, inl, inr, ℕ, ◌≤◌, ◌<◌, Bool, true, false, List, [], ◌∷◌, ◌++◌, length, Result, Ok, Err, refl, sym, ap, subst, le_refl, arith}
-use Rattle.wp_model.specs.Legal.{log_end}
+use Rattle.std.proofs.Common.{◌≡◌, ◌⊎◌, inl, inr, ℕ, ◌≤◌, ◌<◌, Bool, true, false, List, [], ◌∷◌, ◌++◌, length, Some, Result, Ok, Err, refl, sym, ap, subst, le_refl, arith}
 use Rattle.wp_model.specs.declared.version.Version.{Version}
 use Rattle.wp_outside.specs.Disk.{Moment, IsImage, IfKnown, Each, Passes, synced, added, after_write, after_sync}
 use Rattle.wp_outside.specs.Faults.{Rose}
@@ -84,7 +83,7 @@ module _ (id : ℕ) (last : Edit) (parts : List (List Version)) where
 -- the new table is there too
 module _ (id : ℕ) (last : Edit) (parts : List (List Version)) (versions : List Version) (flushed place : ℕ) (others : List (ℕ × ℕ)) (after : List (List Version) → List (List Version)) (old mid : List Moment) (grows : Grows old mid) (end : IsEnd old place) (syncs : SyncsBehind old mid (written_bytes id versions)) (is : SpellsTable id flushed versions (written_bytes id versions)) (remain : Remain last flushed others after) where
   abbrev next : Edit
-  next = record { flushed = flushed; tables = placed id versions place ∷ others }
+  next = record { flushed = flushed; place = Some 0; tables = placed id versions place ∷ others }
 
   -- behind bytes that have the old ones
   both_there : (m : Moment) → place ≡ length m.reads → HasTables id last.flushed (m.reads ++ written_bytes id versions) last.tables parts → HasTables id flushed (m.reads ++ written_bytes id versions) next.tables (versions ∷ after parts)
@@ -208,7 +207,7 @@ module _ (old new : TableSetState) (mid : List Moment) (faults : ℕ) (next : Ed
 -- ---- the exits of the calls
 
 pub table_ready : (old : TableSetState) (mid : List Moment) (versions : List Version) (flushed place : ℕ) (others : List (ℕ × ℕ)) → old.halted ≡ false → Grows old.moments mid → IsEnd old.moments place → SyncsBehind old.moments mid (written_bytes old.manifest.log.id versions) → mid ≡ added after_sync (added (after_write place (written_bytes old.manifest.log.id versions)) old.moments)
-    → SpellsTable old.manifest.log.id flushed versions (written_bytes old.manifest.log.id versions) → (after : List (List Version) → List (List Version)) → Remain old.manifest.edit flushed others after → Ready old mid (record { flushed = flushed; tables = placed old.manifest.log.id versions place ∷ others }) (λ parts. versions ∷ after parts)
+    → SpellsTable old.manifest.log.id flushed versions (written_bytes old.manifest.log.id versions) → (after : List (List Version) → List (List Version)) → Remain old.manifest.edit flushed others after → Ready old mid (record { flushed = flushed; place = Some 0; tables = placed old.manifest.log.id versions place ∷ others }) (λ parts. versions ∷ after parts)
 table_ready old mid versions flushed place others running grows end syncs written is after remain = record {
   was_running = running;
   written = (end, (written_bytes old.manifest.log.id versions, refl, written));
@@ -218,16 +217,16 @@ table_ready old mid versions flushed place others running grows end syncs writte
 
 -- the tables of that edit are there as it is installed
 pub table_next : (old : TableSetState) (mid : List Moment) (faults : ℕ) (versions : List Version) (flushed place : ℕ) (others : List (ℕ × ℕ)) → Grows old.moments mid → IsEnd old.moments place → SyncsBehind old.moments mid (written_bytes old.manifest.log.id versions) → SpellsTable old.manifest.log.id flushed versions (written_bytes old.manifest.log.id versions)
-    → (after : List (List Version) → List (List Version)) × Remain old.manifest.edit flushed others after → LeavesNext (record old { moments = mid; faults = faults }) (record { flushed = flushed; tables = placed old.manifest.log.id versions place ∷ others })
+    → (after : List (List Version) → List (List Version)) × Remain old.manifest.edit flushed others after → LeavesNext (record old { moments = mid; faults = faults }) (record { flushed = flushed; place = Some 0; tables = placed old.manifest.log.id versions place ∷ others })
 table_next old mid faults versions flushed place others grows end syncs is (after, remain) =
     λ parts left. (versions ∷ after parts, table_left old.manifest.log.id old.manifest.edit parts versions flushed place others after old.moments mid grows end syncs is remain left)
 
-pub none_ready : (old : TableSetState) (flushed : ℕ) → old.halted ≡ false → Ready old old.moments (record { flushed = flushed; tables = [] }) (λ _. [])
+pub none_ready : (old : TableSetState) (flushed : ℕ) → old.halted ≡ false → Ready old old.moments (record { flushed = flushed; place = Some 0; tables = [] }) (λ _. [])
 none_ready old flushed running = record {
   was_running = running;
   written = refl;
   last_rests = λ parts rests. rests;
-  next_rests = λ parts rests. known_map (RestsWith old.manifest.log.id old.manifest.edit parts) (RestsWith old.manifest.log.id (record { flushed = flushed; tables = [] }) []) (λ m r. record { bytes = r.bytes; on_disk = r.on_disk; tables = tt }) old.moments rests;
+  next_rests = λ parts rests. known_map (RestsWith old.manifest.log.id old.manifest.edit parts) (RestsWith old.manifest.log.id (record { flushed = flushed; place = Some 0; tables = [] }) []) (λ m r. record { bytes = r.bytes; on_disk = r.on_disk; tables = tt }) old.moments rests;
 }
 
 pub tables_failed : {T : Type 0} (old : TableSetState) (mid : List Moment) (faults : ℕ) (next : Edit) (after : List (List Version) → List (List Version)) → old.halted ≡ false → Grows old.moments mid → Rose old.faults faults
@@ -285,16 +284,13 @@ not_asked set edit = record {
 
 -- ---- the set as it is made
 
--- the last edit's numbers fit
-last_fits : (edits : List Edit) → Each IsEdit edits → ((last_edit edits).flushed < log_end) × (length (last_edit edits).tables ≤ (last_edit edits).flushed)
-last_fits [] each = (omega arith, omega arith)
-last_fits (edit ∷ []) each = (each.0.flushed, each.0.count)
-last_fits (edit ∷ second ∷ others) each = last_fits (second ∷ others) each.1
+last_counted : (edits : List Edit) → Each IsEdit edits → length (last_edit edits).tables ≤ (last_edit edits).flushed
+last_counted [] each = omega arith
+last_counted (edit ∷ []) each = each.0.count
+last_counted (edit ∷ second ∷ others) each = last_counted (second ∷ others) each.1
 
 pub ready_of : (manifest : ManifestState) (edits : List Edit) → StoresEdits manifest edits no_edit → manifest.log.closed ≡ false → IsReady manifest false
-ready_of manifest edits stores running =
-    let fits = last_fits edits stores.spelled.are in
-    record { running = λ _. running; fits = rw stores.last fits.0; count = rw stores.last fits.1 }
+ready_of manifest edits stores running = record { running = λ _. running; count = rw stores.last (last_counted edits stores.spelled.are) }
 
 pub stores_new : (set : TableSetState) (edits : List Edit) (parts : List (List Version)) → StoresEdits set.manifest edits no_edit → IfKnown set.moments (RestsWith set.manifest.log.id set.manifest.edit parts) → StoresTables set edits no_edit parts []
 stores_new set edits parts stores rests = record {

@@ -23,7 +23,7 @@ placed id versions place = (place, length (written_bytes id versions))
 -- the old edit's tables and one more, the newest; the entries up to `flushed` are in them
 abbrev pub flushed_edit : TableSetState → List Version → ℕ → ℕ → Edit
 flushed_edit old versions flushed place =
-    record { flushed = flushed; tables = placed old.manifest.log.id versions place ∷ old.manifest.edit.tables }
+    record { flushed = flushed; place = Some 0; tables = placed old.manifest.log.id versions place ∷ old.manifest.edit.tables }
 
 -- one table in place of all, or none where there is no version
 abbrev pub compacted_places : ℕ → List Version → ℕ → List (ℕ × ℕ)
@@ -33,7 +33,7 @@ compacted_places id (v ∷ versions) place = placed id (v ∷ versions) place �
 -- the flushed number stays
 abbrev pub compacted_edit : TableSetState → List Version → ℕ → Edit
 compacted_edit old versions place =
-    record { flushed = old.manifest.edit.flushed; tables = compacted_places old.manifest.log.id versions place }
+    record { flushed = old.manifest.edit.flushed; place = Some 0; tables = compacted_places old.manifest.log.id versions place }
 
 -- the versions as the one table that there is, or none
 abbrev pub one_part : List Version → Option (List Version)

@@ -1,6 +1,5 @@
 -- The parts of a call: a table is written, and then an edit is installed.
-use Rattle.std.specs.Prelude.{◌≡◌, ◌≤◌, ◌<◌, ℕ, Bool, true, false, List, [], ◌∷◌, ◌++◌, length, Result, OnOk, IfErr}
-use Rattle.wp_model.specs.Legal.{log_end}
+use Rattle.std.specs.Prelude.{◌≡◌, ◌≤◌, ℕ, Bool, true, false, List, [], ◌∷◌, ◌++◌, length, Some, Result, OnOk, IfErr}
 use Rattle.wp_model.specs.declared.version.Version.{Version}
 use Rattle.wp_outside.specs.Disk.{IfKnown, Passes}
 use Rattle.wp_outside.specs.Faults.{Rose}
@@ -15,10 +14,9 @@ use Rattle.wp_tableset.specs.Set.{TableSetState, LeavesTables}
 use Rattle.wp_tableset.specs.declared.error.TableSetError.{TableSetError}
 use Rattle.wp_tableset.specs.declared.error.TableSetError.TheVariants.{Memory, Fault, Halted}
 
--- a set that is not halted may install a further edit, and its last edit has numbers that fit
+-- a set that is not halted may install a further edit, and its last edit has no more tables than flushed entries
 pub record IsReady (manifest : ManifestState) (halted : Bool) : Type 0 where
   pub running : halted ≡ false → manifest.log.closed ≡ false
-  pub fits : manifest.edit.flushed < log_end
   pub count : length manifest.edit.tables ≤ manifest.edit.flushed
 
 -- ---- the edit
@@ -60,4 +58,4 @@ Remain old flushed others after = (id : ℕ) (bytes : List ℕ) (parts : List (L
 -- an edit is to be installed that names a table of the versions, and behind it the others
 abbrev pub Puts : {T : Type 0} → TableSetState → TableSetState → List Version → ℕ → List (ℕ × ℕ) → Result T TableSetError → Type 0
 Puts old new versions flushed others result = (place : ℕ) × ((after : List (List Version) → List (List Version)) → Remain old.manifest.edit flushed others after
-    → Installs old new (record { flushed = flushed; tables = placed old.manifest.log.id versions place ∷ others }) (λ parts. versions ∷ after parts) result)
+    → Installs old new (record { flushed = flushed; place = Some 0; tables = placed old.manifest.log.id versions place ∷ others }) (λ parts. versions ∷ after parts) result)

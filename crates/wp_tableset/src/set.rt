@@ -1,8 +1,7 @@
-ghost use Rattle.std.specs.Prelude.{◌≡◌, ◌≤◌, ◌<◌, ℕ, true, false, [], ◌∷◌, ◌++◌, List, length, vec_capacity, IfOk, IfErr, OnOk};
+ghost use Rattle.std.specs.Prelude.{◌≡◌, ◌≤◌, ◌<◌, ℕ, true, false, [], ◌∷◌, ◌++◌, List, length, vec_capacity, IfOk, IfErr, OnOk, is_some, Some};
 ghost use Rattle.std.specs.Arc.{arc_value};
 ghost use Rattle.std.specs.List.{list_all};
 ghost use Rattle.std.specs.Option.{option_map};
-ghost use Rattle.wp_model.specs.Legal.{log_end};
 ghost use Rattle.wp_model.specs.declared.version.Version.{Version};
 ghost use Rattle.wp_outside.specs.Disk.{IfKnown};
 ghost use Rattle.wp_manifest.specs.Edit.{Edit, no_edit};
@@ -53,11 +52,12 @@ impl<D: Disk> Model for TableSet<D> {
 /// The edit that names the table and, behind it, the others, in the memory that these have.
 fn edit_of(flushed: Seq, table: (u64, u64), mut others: Vec<(u64, u64)>) -> Edit
     requires { length others.items < vec_capacity others }
-    ensures { result ≡ record { flushed = flushed; tables = table ∷ others.items } }
+    ensures { result ≡ record { flushed = flushed; place = Some 0; tables = table ∷ others.items } }
 {
     others.insert(0, table).unwrap();
     Edit {
         flushed,
+        place: Some(0),
         tables: others,
     }
 }
@@ -91,7 +91,6 @@ impl<D: Disk> TableSet<D> {
     pub fn edit(&self) -> &Edit
         ensures edit { result.now ≡ self.now.manifest.edit }
         ensures count { length self.now.manifest.edit.tables ≤ self.now.manifest.edit.flushed }
-        ensures fits { self.now.manifest.edit.flushed < log_end }
     {
         self.manifest.edit()
     }
@@ -110,7 +109,6 @@ impl<D: Disk> TableSet<D> {
         requires numbered { list_all is_numbered versions.now ≡ true }
         requires flushed { list_all (is_flushed flushed) versions.now ≡ true }
         requires later { self.old.manifest.edit.flushed < flushed }
-        requires fits { flushed < log_end }
         ensures table { IfOk result (λ table. arc_value table ≡ versions.now) }
         ensures installs { (place : ℕ) × Installs self.old self.new (flushed_edit self.old versions.now flushed place) (λ parts. versions.now ∷ parts) result }
         ensures keeps { LosesNoTable self.old self.new }
@@ -140,7 +138,12 @@ impl<D: Disk> TableSet<D> {
         let flushed = self.manifest.edit().flushed;
         if versions.as_slice().is_empty() {
             let tables = Vec::new(self.alloc);
-            self.install(Edit { flushed, tables })?;
+            let place = Some(0);
+            self.install(Edit {
+                flushed,
+                place,
+                tables,
+            })?;
             return Ok(None);
         }
         let places = Vec::with_capacity(self.alloc, 1)?;
@@ -160,7 +163,6 @@ impl<D: Disk> TableSet<D> {
         requires some { 1 ≤ length versions.now }
         requires numbered { list_all is_numbered versions.now ≡ true }
         requires flushed { list_all (is_flushed flushed) versions.now ≡ true }
-        requires fits { flushed < log_end }
         requires count { length places.items < flushed }
         requires room { length places.items < vec_capacity places }
         requires remain { (after : List (List Version) → List (List Version)) × Remain self.old.manifest.edit flushed places.items after }
@@ -186,7 +188,7 @@ impl<D: Disk> TableSet<D> {
     /// Makes the edit the last one.
     fn install(&mut self, edit: Edit) -> Result<(), TableSetError>
         requires running { self.old.halted ≡ false }
-        requires fits { edit.flushed < log_end }
+        requires place { is_some edit.place ≡ true }
         requires count { length edit.tables ≤ edit.flushed }
         requires there { LeavesNext self.old edit }
         ensures { InstallsEdit self.old self.new edit result }

@@ -1,8 +1,12 @@
-use Rattle.std.proofs.Common.{◌∙◌, ◌*◌, sym, ap, ℕ}
+use Rattle.std.proofs.Common.{arith}
 use Rattle.wp_manifest.proofs.EditLemmas.{counted}
 use Rattle.wp_manifest.proofs.read.counts_of.Goals as goal
+use Rattle.wp_manifest.proofs.read.counts_of.Goals.{then-left-ne0-via-then-left-ne0, then-left-ne0-via-else-left-ne0+then-left-front}
 
-pub returns-then-left-from : goal.returns-then-left-from
-returns-then-left-from c = λ edit spelled.
-    let one = counted c.args.fields.now c.u32.new.self c.u32-2.new.self edit c.in_ok-flushed.flushed c.in_ok-count.count spelled c.in_ok-flushed.ensures.number c.in_ok-flushed.ensures.taken.1 c.in_ok-count.ensures.number c.in_ok-count.ensures.taken.1 in
-    c.if-left-from.true (c.left.ensures ∙ one.rest_is ∙ ap (λ (n : ℕ). n * 16) (sym c.from.ensures))
+pub returns-then-left-ne0 : goal.returns-then-left-ne0
+returns-then-left-ne0 c = λ edit spelled.
+    let one = counted c.args.fields.now c.front_of.new.fields edit c.in_ok-front.front spelled c.in_ok-front.ensures in
+    elim c.then-left-ne0.branch [
+      | then-left-ne0-via-then-left-ne0 w ↦ w.if-left-ne0.true (omega (arith, c.left-left.ensures, one.rest_is))
+      | then-left-ne0-via-else-left-ne0+then-left-front w ↦ w.if-left-front.true (omega (arith, c.left-left.ensures, one.rest_is))
+    ]

@@ -14,3 +14,6 @@ new-edits-requires-clause-flushed g c =
     let o = c.requires.opened in
     let parts = c.args.parts in
     rw (c.new-2.ensures.set, c.requires.tables) (tables_flushed parts.wal.id parts.manifest.edit.flushed parts.store.tables o.4.are)
+
+pub new-edits-requires-clause-place : goal.new-edits-requires-clause-place
+new-edits-requires-clause-place g c = let o = c.requires.opened in rw c.new-2.ensures.set o.4.store.place

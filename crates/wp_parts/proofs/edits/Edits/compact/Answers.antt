@@ -13,7 +13,7 @@ invariant_of-self-in-Ok g c =
     let call = c.in-Ok.ensures.installs in
     let now : c.put_alone.new.tables.items ≡ compacted_parts versions = c.put_alone.ensures ∙ ap (λ (o : Option (List Version)). with_newest o []) c.in-Ok.ensures.table ∙ alone versions in
     installed_edits inside.set inside.first.value inside.tables.items inside.failed c.self.invariant running c.compact.new.self c.compact.ensures.keeps
-    (compacted_edit inside.set versions call.0) (λ _. compacted_parts versions) call.1.installed (c.shows_running.ensures call.1.installed.running) c.put_alone.new.tables.items now
+    (compacted_edit inside.set versions call.0) (λ _. compacted_parts versions) call.1.installed (c.shows_running.ensures call.1.installed.running) c.put_alone.new.tables.items now refl
     (one_flushed inside.set.manifest.edit.flushed versions c.shows_order.ensures (rw (← c.self.view_is) at c.requires.flushed))
 
 pub returns-in-Ok-clause-installed : goal.returns-in-Ok-clause-installed
@@ -36,7 +36,7 @@ invariant_of-self-in-Err g c =
     let call = c.in-Err.ensures.installs in
     let same : c.behind-self.inside.flushed ≡ inside.set.manifest.edit.flushed = search rules in
     rw c.reserve.ensures.items (refused_edits inside.set inside.first.value inside.tables.items inside.failed c.self.invariant running c.compact.new.self c.compact.ensures.keeps
-    (compacted_edit inside.set versions call.0) (λ _. compacted_parts versions) _ (rw (c.of.ensures, same) refl) c.in-Err.why call.1.refused)
+    (compacted_edit inside.set versions call.0) (λ _. compacted_parts versions) _ (rw (c.of.ensures, same) refl) refl c.in-Err.why call.1.refused)
 
 pub returns-in-Err-clause-refused : goal.returns-in-Err-clause-refused
 returns-in-Err-clause-refused g c =
@@ -74,7 +74,7 @@ returns-in-Ok-clause-survives g c =
     let call = c.in-Ok.ensures.installs in
     let next = compacted_edit inside.set versions call.0 in
     rw (← c.self.view_is) (survives inside.set inside.first.value inside.tables.items inside.failed c.self.invariant running c.compact.new.self c.compact.ensures.keeps
-    next (λ _. compacted_parts versions) _ _ (sym (is_in_one_table inside.set.manifest.edit next versions inside.tables.items c.shows_order.ensures refl)) refl call.1.passed call.1.there)
+    next (λ _. compacted_parts versions) _ _ (sym (is_in_one_table inside.set.manifest.edit next versions inside.tables.items c.shows_order.ensures refl)) refl refl call.1.passed call.1.there)
 
 pub returns-in-Err-clause-survives : goal.returns-in-Err-clause-survives
 returns-in-Err-clause-survives g c =
@@ -84,11 +84,11 @@ returns-in-Err-clause-survives g c =
     let call = c.in-Err.ensures.installs in
     let next = compacted_edit inside.set versions call.0 in
     rw (← c.self.view_is) (survives inside.set inside.first.value inside.tables.items inside.failed c.self.invariant running c.compact.new.self c.compact.ensures.keeps
-    next (λ _. compacted_parts versions) _ _ (sym (is_in_one_table inside.set.manifest.edit next versions inside.tables.items c.shows_order.ensures refl)) refl call.1.passed call.1.there)
+    next (λ _. compacted_parts versions) _ _ (sym (is_in_one_table inside.set.manifest.edit next versions inside.tables.items c.shows_order.ensures refl)) refl refl call.1.passed call.1.there)
 
 pub returns-in_err-reserve-clause-survives : goal.returns-in_err-reserve-clause-survives
 returns-in_err-reserve-clause-survives g c =
     let inside = c.self.inside in
     let versions = c.args.versions.now in
     let next = compacted_edit inside.set versions 0 in
-    rw (← c.self.view_is) (nothing_called inside.set inside.first.value inside.tables.items inside.failed c.self.invariant (rw (← c.self.view_is) at c.requires.running) next (λ _. compacted_parts versions) _ _ (sym (is_in_one_table inside.set.manifest.edit next versions inside.tables.items c.shows_order.ensures refl)) refl)
+    rw (← c.self.view_is) (nothing_called inside.set inside.first.value inside.tables.items inside.failed c.self.invariant (rw (← c.self.view_is) at c.requires.running) next (λ _. compacted_parts versions) _ _ (sym (is_in_one_table inside.set.manifest.edit next versions inside.tables.items c.shows_order.ensures refl)) refl refl)

@@ -19,7 +19,7 @@ returns-then-is_empty-clause-installs g c =
     none_installed _ _ _ _ _ _ running (empty_of _ none) c.new-tables.ensures.items same c.in_ok-install.ensures
 
 pub put-requires-clause-remain : goal.put-requires-clause-remain
-put-requires-clause-remain g c = (λ _. [], none_remain _ _ _ c.in_ok-places.ensures.items)
+put-requires-clause-remain g c = (λ _. [], none_remain c.args.self.now.manifest.edit _ _ c.in_ok-places.ensures.items)
 
 pub put-requires-clause-count : goal.put-requires-clause-count
 put-requires-clause-count g c =

@@ -1,4 +1,4 @@
-use Rattle.std.proofs.Common.{◌≡◌, ℕ, List, ◌∷◌, length, refl, sym, ap, ◌∙◌, subst, le_refl}
+use Rattle.std.proofs.Common.{◌≡◌, ℕ, List, ◌∷◌, length, Some, refl, sym, ap, ◌∙◌, subst, le_refl}
 use Rattle.std.proofs.lemmas.Result.{err_from_is_err_and}
 use Rattle.wp_model.specs.declared.version.Version.{Version}
 use Rattle.wp_table.specs.Table.{written_bytes}
@@ -10,7 +10,7 @@ use Rattle.wp_tableset.proofs.SetLemmas.{tables_failed, loses_none, keeps_all, k
 use Rattle.wp_tableset.proofs.set.TableSet.put.Goals as goal
 
 pub invariant_of-self : goal.invariant_of-self
-invariant_of-self g c = record { running = λ running. absurd cc; fits = c.self.invariant.fits; count = c.self.invariant.count }
+invariant_of-self g c = record { running = λ running. absurd cc; count = c.self.invariant.count }
 
 pub returns-in-Err-clause-puts : goal.returns-in-Err-clause-puts
 returns-in-Err-clause-puts g c = rw (← c.self.view_is) (0, λ after remain. tables_failed _ _ _ _ _ (ap (λ (s : TableSetState). s.halted) c.self.view_is ∙ c.requires.running) c.write_behind.ensures.grows c.in-Err.ensures.cause.failed)
@@ -33,8 +33,8 @@ returns-in_err-table-clause-keeps g c = rw (← c.self.view_is) (keeps_all _ _ c
 
 pub install-requires-clause-there : goal.install-requires-clause-there
 install-requires-clause-there g c =
-    let e : c.edit_of.result ≡ record { flushed = c.args.flushed; tables = placed c.self.inside.manifest.log.id c.args.versions.now c.in-Ok.place ∷ c.args.places.items } =
-    c.edit_of.ensures ∙ ap (λ (n : ℕ). record { flushed = c.args.flushed; tables = (c.in-Ok.place, n) ∷ c.args.places.items }) (ap length (c.bytes-spelling.ensures ∙ c.in_ok-built.ensures.bytes ∙ ap (λ (n : ℕ). written_bytes n c.args.versions.now) c.id.ensures)) in
+    let e : c.edit_of.result ≡ record { flushed = c.args.flushed; place = Some 0; tables = placed c.self.inside.manifest.log.id c.args.versions.now c.in-Ok.place ∷ c.args.places.items } =
+    c.edit_of.ensures ∙ ap (λ (n : ℕ). record { flushed = c.args.flushed; place = Some 0; tables = (c.in-Ok.place, n) ∷ c.args.places.items }) (ap length (c.bytes-spelling.ensures ∙ c.in_ok-built.ensures.bytes ∙ ap (λ (n : ℕ). written_bytes n c.args.versions.now) c.id.ensures)) in
     let set : TableSetState = record { manifest = c.self.inside.manifest; moments = g.D.Peek.moments c.self.inside.tables; faults = g.D.Peek.faults c.self.inside.tables; halted = c.self.inside.halted } in
     rw e (table_next set _ 0 c.args.versions.now c.args.flushed c.in-Ok.place c.args.places.items c.write_behind.ensures.grows c.in-Ok.ensures.place
     (rw (← c.id.ensures, ← c.in_ok-built.ensures.bytes, ← c.bytes-spelling.ensures) c.in-Ok.ensures.synced) (rw (← c.id.ensures) (c.in_ok-built.ensures.table c.args.flushed c.requires.flushed)) (subst (λ (s : TableSetState). (after : List (List Version) → List (List Version)) × Remain s.manifest.edit c.args.flushed c.args.places.items after) (sym c.self.view_is) c.requires.remain))
@@ -42,8 +42,8 @@ install-requires-clause-there g c =
 pub returns-in_err-install-clause-puts : goal.returns-in_err-install-clause-puts
 returns-in_err-install-clause-puts g c =
     let p = err_from_is_err_and c.from_residual-in_err-install.result c.from_residual-in_err-install.ensures.1 in
-    let e : c.edit_of.result ≡ record { flushed = c.args.flushed; tables = placed c.self.inside.manifest.log.id c.args.versions.now c.in-Ok.place ∷ c.args.places.items } =
-    c.edit_of.ensures ∙ ap (λ (n : ℕ). record { flushed = c.args.flushed; tables = (c.in-Ok.place, n) ∷ c.args.places.items }) (ap length (c.bytes-spelling.ensures ∙ c.in_ok-built.ensures.bytes ∙ ap (λ (n : ℕ). written_bytes n c.args.versions.now) c.id.ensures)) in
+    let e : c.edit_of.result ≡ record { flushed = c.args.flushed; place = Some 0; tables = placed c.self.inside.manifest.log.id c.args.versions.now c.in-Ok.place ∷ c.args.places.items } =
+    c.edit_of.ensures ∙ ap (λ (n : ℕ). record { flushed = c.args.flushed; place = Some 0; tables = (c.in-Ok.place, n) ∷ c.args.places.items }) (ap length (c.bytes-spelling.ensures ∙ c.in_ok-built.ensures.bytes ∙ ap (λ (n : ℕ). written_bytes n c.args.versions.now) c.id.ensures)) in
     rw (p.1, p.2, ← c.self.view_is) (
       c.in-Ok.place,
       λ after remain. ready_refused _ _ _ _ _ _ (table_ready _ _ c.args.versions.now c.args.flushed c.in-Ok.place c.args.places.items (ap (λ (s : TableSetState). s.halted) c.self.view_is ∙ c.requires.running) c.write_behind.ensures.grows c.in-Ok.ensures.place
@@ -55,8 +55,8 @@ returns-in_err-install-clause-keeps g c = rw (← c.self.view_is) (keeps_install
 
 pub returns-clause-puts : goal.returns-clause-puts
 returns-clause-puts g c =
-    let e : c.edit_of.result ≡ record { flushed = c.args.flushed; tables = placed c.self.inside.manifest.log.id c.args.versions.now c.in-Ok.place ∷ c.args.places.items } =
-    c.edit_of.ensures ∙ ap (λ (n : ℕ). record { flushed = c.args.flushed; tables = (c.in-Ok.place, n) ∷ c.args.places.items }) (ap length (c.bytes-spelling.ensures ∙ c.in_ok-built.ensures.bytes ∙ ap (λ (n : ℕ). written_bytes n c.args.versions.now) c.id.ensures)) in
+    let e : c.edit_of.result ≡ record { flushed = c.args.flushed; place = Some 0; tables = placed c.self.inside.manifest.log.id c.args.versions.now c.in-Ok.place ∷ c.args.places.items } =
+    c.edit_of.ensures ∙ ap (λ (n : ℕ). record { flushed = c.args.flushed; place = Some 0; tables = (c.in-Ok.place, n) ∷ c.args.places.items }) (ap length (c.bytes-spelling.ensures ∙ c.in_ok-built.ensures.bytes ∙ ap (λ (n : ℕ). written_bytes n c.args.versions.now) c.id.ensures)) in
     rw (← c.self.view_is) (
       c.in-Ok.place,
       λ after remain. ready_installed _ _ _ _ _ _ (table_ready _ _ c.args.versions.now c.args.flushed c.in-Ok.place c.args.places.items (ap (λ (s : TableSetState). s.halted) c.self.view_is ∙ c.requires.running) c.write_behind.ensures.grows c.in-Ok.ensures.place
