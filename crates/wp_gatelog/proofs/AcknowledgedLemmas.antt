@@ -1,17 +1,17 @@
 -- The records that bytes have acknowledged, while the log in them is changed.
-use Rattle.std.proofs.Common.{◌≡◌, ◌≢◌, inl, inr, ℕ, ◌+◌, List, [], ◌∷◌, ◌++◌, length, refl, sym, ◌∙◌, ap, subst, arith, length-append}
-use Rattle.std.proofs.lemmas.List.{append-nil, append_assoc, map-append}
+use Rattle.std.proofs.Common.{◌≡◌, ◌≢◌, inl, inr, ℕ, ◌+◌, List, [], ◌∷◌, ◌++◌, length, drop, refl, sym, ◌∙◌, ap, subst, arith, length-append}
+use Rattle.std.proofs.lemmas.List.{append-nil, append_assoc, map-append, drop_at}
 use Rattle.wp_outside.specs.Disk.{Moment, IsImage, IfKnown, synced, after_write, Each, Passes}
 use Rattle.wp_outside.proofs.Moments.{image_of_synced}
-use Rattle.wp_gatelog.specs.Durability.{HasAcknowledged, Spares, LosesNoRecord}
+use Rattle.wp_gatelog.specs.Durability.{HasAcknowledged, Spares, LosesNoRecordAt}
 use Rattle.wp_gatelog.specs.Log.{IsAcknowledged, IsAtRest, last_gate}
 use Rattle.wp_gatelog.specs.Repair.{HasFront, Reopens}
-use Rattle.wp_gatelog.specs.Moments.{Leaves}
+use Rattle.wp_gatelog.specs.Moments.{LeavesFrom}
 use Rattle.wp_gatelog.specs.Spelling.{Gated, IsOpen, framed, identity, all_gated, log_of, records_of, IsUnmade, Spells}
 use Rattle.wp_gatelog.proofs.DurabilityLemmas.{preserves_passes}
 use Rattle.wp_gatelog.proofs.LawLemmas.{made}
-use Rattle.wp_gatelog.proofs.AppendLemmas.{log_longer}
-use Rattle.wp_gatelog.proofs.MomentLemmas.{image_after, image_of_gate, known_map}
+use Rattle.wp_gatelog.proofs.AppendLemmas.{log_longer, image_staged}
+use Rattle.wp_gatelog.proofs.MomentLemmas.{image_of_gate, known_map}
 use Rattle.wp_gatelog.proofs.ParseLemmas.{same_parts, same_framed, first_split, length-identities}
 
 -- ---- the front of a log
@@ -95,12 +95,11 @@ pub spares_cut : (magic : List ℕ) (id other head : ℕ) (records : List (List 
 spares_cut magic id other head records gated following each has image h = spares_rest magic id other head records gated following each has image (0, h.0, h.1)
 
 -- a write after that gate
-pub spares_frame : (magic : List ℕ) (id other : ℕ) (records : List (List ℕ)) (gated : List Gated) (at : ℕ) (frame : List ℕ) → Each IsOpen gated → at ≡ length (log_of magic other 1 gated) + 1
-    → Spares magic id records (log_of magic other 1 gated ++ 0 ∷ []) (IsImage (after_write at frame (synced (log_of magic other 1 gated ++ 0 ∷ []))))
-spares_frame magic id other records gated at frame each place has image h =
-    let front : List ℕ = log_of magic other 1 gated in
-    let found = image_after (front ++ 0 ∷ []) at frame image (omega (arith, length-append front (0 ∷ []))) h in
-    spares_rest magic id other 1 records gated [] each has image (0, found.0, found.1 ∙ append_assoc front (0 ∷ []) found.0)
+pub spares_frame : (magic : List ℕ) (id other : ℕ) (records : List (List ℕ)) (gated : List Gated) (dead : List ℕ) (at : ℕ) (frame : List ℕ) → Each IsOpen gated → at ≡ length (log_of magic other 1 gated) + 1
+    → Spares magic id records (log_of magic other 1 gated ++ 0 ∷ dead) (IsImage (after_write at frame (synced (log_of magic other 1 gated ++ 0 ∷ dead))))
+spares_frame magic id other records gated dead at frame each place has image h =
+    let found = image_staged (log_of magic other 1 gated) dead frame at place image h in
+    spares_rest magic id other 1 records gated dead each has image (0, found.0, found.1)
 
 -- a write of that gate
 pub spares_gate : (magic : List ℕ) (id other : ℕ) (records : List (List ℕ)) (gated : List Gated) (at : ℕ) (following : List ℕ) → Each IsOpen gated → at ≡ length (log_of magic other 1 gated)
@@ -150,14 +149,15 @@ acknowledged_made magic id records bytes has =
 pub spares_unmade : (magic : List ℕ) (id : ℕ) (records : List (List ℕ)) (bytes : List ℕ) (P : List ℕ → Type 0) → IsUnmade bytes → Spares magic id records bytes P
 spares_unmade magic id records bytes P unmade has image h = absurd (acknowledged_made magic id records bytes has unmade)
 
-pub rest_acknowledged : (magic : List ℕ) (id end : ℕ) (records : List (List ℕ)) (m : Moment) → IsAtRest magic id end records m → Leaves (HasAcknowledged magic id records) m
-rest_acknowledged magic id end records m rest image h = record {
+pub rest_acknowledged : (magic : List ℕ) (id end : ℕ) (front dead : List ℕ) (records : List (List ℕ)) (m : Moment) → IsAtRest magic id end front dead records m → LeavesFrom (length front) (HasAcknowledged magic id records) m
+rest_acknowledged magic id end front dead records m rest image h = record {
   gated = rest.gated;
   more = [];
   acknowledged = record { gates_open = rest.acknowledged.gates_open; last = rest.acknowledged.last; same = append-nil records ∙ rest.acknowledged.same };
   gate = 0;
-  rest = [];
-  spelling = image_of_synced (log_of magic id 1 rest.gated ++ 0 ∷ []) image (subst (λ (n : Moment). IsImage n image) rest.on_disk h);
+  rest = dead;
+  spelling = ap (λ (l : List ℕ). drop (length front) l) (image_of_synced (front ++ (log_of magic id 1 rest.gated ++ 0 ∷ dead)) image (subst (λ (n : Moment). IsImage n image) rest.on_disk h))
+      ∙ drop_at front (log_of magic id 1 rest.gated ++ 0 ∷ dead) (length front) refl;
 }
 
 -- acknowledged records are the first of those that are spelled
@@ -171,8 +171,8 @@ acknowledged_first bytes magic id other records others has (inr w) =
     )
 
 -- at each moment since a log was at rest, a crash leaves its records acknowledged
-pub acknowledged_passes : (magic : List ℕ) (id end : ℕ) (records : List (List ℕ)) (old new : List Moment) → IfKnown old (IsAtRest magic id end records) → LosesNoRecord magic old new
-    → Passes (Leaves (HasAcknowledged magic id records)) old new
-acknowledged_passes magic id end records old new rest durable =
-    let P : Moment → Type 0 = Leaves (HasAcknowledged magic id records) in
-    preserves_passes P old new (known_map (IsAtRest magic id end records) P (rest_acknowledged magic id end records) old rest) (durable id records)
+pub acknowledged_passes : (magic : List ℕ) (id end : ℕ) (front dead : List ℕ) (records : List (List ℕ)) (old new : List Moment) → IfKnown old (IsAtRest magic id end front dead records) → LosesNoRecordAt (length front) magic old new
+    → Passes (LeavesFrom (length front) (HasAcknowledged magic id records)) old new
+acknowledged_passes magic id end front dead records old new rest durable =
+    let P : Moment → Type 0 = LeavesFrom (length front) (HasAcknowledged magic id records) in
+    preserves_passes P old new (known_map (IsAtRest magic id end front dead records) P (rest_acknowledged magic id end front dead records) old rest) (durable id records)

@@ -1,5 +1,5 @@
 -- One record more.
-use Rattle.std.proofs.Common.{◌≡◌, inl, inr, ℕ, ◌+◌, ◌<◌, ◌≤◌, ◌^◌, List, [], ◌∷◌, ◌++◌, length, refl, sym, ◌∙◌, ap, arith, length-append}
+use Rattle.std.proofs.Common.{◌≡◌, inl, inr, ℕ, ◌+◌, ◌<◌, ◌≤◌, ◌^◌, List, [], ◌∷◌, ◌++◌, length, drop, refl, sym, ◌∙◌, ap, subst, arith, length-append}
 use Rattle.std.proofs.lemmas.Bool.{cases_eq}
 use Rattle.std.proofs.lemmas.List.{append-nil, append_assoc, map_push}
 use Rattle.std.specs.Int.{w64, to_be_bytes}
@@ -7,7 +7,7 @@ use Rattle.wp_outside.specs.Disk.{Moment, IsImage, synced, after_write, write_en
 use Rattle.wp_gatelog.specs.Log.{Grows, IsAcknowledged, IsAtRest, last_gate}
 use Rattle.wp_gatelog.specs.Spelling.{Gated, IsOpen, framed, frame_of, identity, all_gated, log_of}
 use Rattle.wp_gatelog.proofs.FramedLemmas.{length-frame_of}
-use Rattle.wp_gatelog.proofs.MomentLemmas.{image_after, image_of_gate, reads_after}
+use Rattle.wp_gatelog.proofs.MomentLemmas.{image_behind, image_of_gate, reads_behind}
 
 pub length-framed : (bytes : List ℕ) → length (framed bytes) ≡ 8 + length bytes
 unfolding framed
@@ -20,23 +20,35 @@ frame_end at (b ∷ frame) bytes is bounded = omega (arith, bounded, ap length i
 
 -- ---- the two writes
 
--- while the frame is written
-pub grows_staged : (front frame bytes : List ℕ) (at : ℕ) → at ≡ length front + 1 → (image : List ℕ) → IsImage (after_write at frame (synced (front ++ 0 ∷ []))) image → Grows front bytes image
-grows_staged front frame bytes at is image h =
-    let found = image_after (front ++ 0 ∷ []) at frame image (omega (arith, length-append front (0 ∷ []))) h in
-    (found.0, inl (found.1 ∙ append_assoc front (0 ∷ []) found.0))
+-- while the frame is written behind a closed gate, over dead bytes
+pub image_staged : (front dead frame : List ℕ) (at : ℕ) → at ≡ length front + 1 → (image : List ℕ) → IsImage (after_write at frame (synced (front ++ 0 ∷ dead))) image → (d : List ℕ) × (image ≡ front ++ 0 ∷ d)
+image_staged front dead frame at is image h =
+    let whole = sym (append_assoc front (0 ∷ []) dead) in
+    let found = image_behind (front ++ 0 ∷ []) dead at frame image (omega (arith, is, length-append front (0 ∷ []))) (subst (λ (l : List ℕ). IsImage (after_write at frame (synced l)) image) whole h) in
+    (found.0, found.1 ∙ append_assoc front (0 ∷ []) found.0)
 
-pub reads_staged : (front frame : List ℕ) (at : ℕ) → at ≡ length front + 1 → (after_write at frame (synced (front ++ 0 ∷ []))).reads ≡ front ++ 0 ∷ frame
-reads_staged front frame at is =
-    reads_after (front ++ 0 ∷ []) frame at (omega (arith, length-append front (0 ∷ []))) ∙ append_assoc front (0 ∷ []) frame
+pub grows_staged : (front dead frame bytes : List ℕ) (at : ℕ) → at ≡ length front + 1 → (image : List ℕ) → IsImage (after_write at frame (synced (front ++ 0 ∷ dead))) image → Grows front bytes image
+grows_staged front dead frame bytes at is image h = let found = image_staged front dead frame at is image h in (found.0, inl found.1)
+
+pub reads_staged : (front dead frame : List ℕ) (at : ℕ) → at ≡ length front + 1 → (after_write at frame (synced (front ++ 0 ∷ dead))).reads ≡ front ++ 0 ∷ (frame ++ drop (length frame) dead)
+reads_staged front dead frame at is =
+    ap (λ (l : List ℕ). (after_write at frame (synced l)).reads) (sym (append_assoc front (0 ∷ []) dead))
+    ∙ reads_behind (front ++ 0 ∷ []) dead frame at (omega (arith, is, length-append front (0 ∷ []))) ∙ append_assoc front (0 ∷ []) (frame ++ drop (length frame) dead)
 
 -- while the gate before it is written
-pub grows_opened : (front bytes : List ℕ) (at gate : ℕ) → at ≡ length front → length bytes < 2 ^ 64 → (image : List ℕ) → IsImage (after_write at (1 ∷ []) (synced (front ++ gate ∷ frame_of bytes))) image → Grows front bytes image
-grows_opened front bytes at gate is fits image h =
-    let found = image_of_gate front at gate (frame_of bytes) image is h in
+pub grows_opened : (front bytes dead : List ℕ) (at gate : ℕ) → at ≡ length front → length bytes < 2 ^ 64 → (image : List ℕ) → IsImage (after_write at (1 ∷ []) (synced (front ++ gate ∷ (frame_of bytes ++ dead)))) image → Grows front bytes image
+grows_opened front bytes dead at gate is fits image h =
+    let found = image_of_gate front at gate (frame_of bytes ++ dead) image is h in
     elim (cases_eq found.0 0) [
-      | inl shut ↦ (frame_of bytes ++ found.1, inl (found.2 ∙ ap (λ (g : ℕ). front ++ g ∷ (frame_of bytes ++ found.1)) shut))
-      | inr opened ↦ (found.1, inr (found.0, record { gate = opened; length_fits = fits }, found.2 ∙ ap (λ (l : List ℕ). front ++ found.0 ∷ l) (append_assoc (framed bytes) (0 ∷ []) found.1)))
+      | inl shut ↦ ((frame_of bytes ++ dead) ++ found.1, inl (found.2 ∙ ap (λ (g : ℕ). front ++ g ∷ ((frame_of bytes ++ dead) ++ found.1)) shut))
+      | inr opened ↦ (
+        dead ++ found.1,
+        inr (
+          found.0,
+          record { gate = opened; length_fits = fits },
+          found.2 ∙ ap (λ (l : List ℕ). front ++ found.0 ∷ l) (append_assoc (frame_of bytes) dead found.1 ∙ append_assoc (framed bytes) (0 ∷ []) (dead ++ found.1)),
+        ),
+      )
     ]
 
 -- ---- the log
@@ -76,13 +88,14 @@ acknowledged_more gated records bytes fits acknowledged = record {
 }
 
 -- at rest with the new one
-pub at_rest_more : (magic : List ℕ) (id end : ℕ) (records : List (List ℕ)) (bytes : List ℕ) → length bytes < 2 ^ 64 → (gated : List Gated) → IsAcknowledged gated records
-    → end ≡ length (log_of magic id 1 gated) → (m : Moment) → m ≡ synced (log_of magic id 1 gated ++ 1 ∷ frame_of bytes) → IsAtRest magic id (end + (length bytes + 9)) (records ++ bytes ∷ []) m
-at_rest_more magic id end records bytes fits gated acknowledged place m on =
+pub at_rest_more : (magic : List ℕ) (id end : ℕ) (front : List ℕ) (records : List (List ℕ)) (bytes dead : List ℕ) → length bytes < 2 ^ 64 → (gated : List Gated) → IsAcknowledged gated records
+    → end ≡ length front + length (log_of magic id 1 gated) → (m : Moment) → m ≡ synced (front ++ (log_of magic id 1 gated ++ 1 ∷ (frame_of bytes ++ dead))) → IsAtRest magic id (end + (length bytes + 9)) front dead (records ++ bytes ∷ []) m
+at_rest_more magic id end front records bytes dead fits gated acknowledged place m on =
     let more = log_more magic id 1 gated 1 bytes in
     record {
       gated = gated ++ record { gate = 1; bytes = bytes } ∷ [];
       acknowledged = acknowledged_more gated records bytes fits acknowledged;
       place = omega (arith, place, ap length more, length-framed bytes, length-append (log_of magic id 1 gated) (1 ∷ framed bytes));
-      on_disk = on ∙ ap synced (sym (append_assoc (log_of magic id 1 gated) (1 ∷ framed bytes) (0 ∷ [])) ∙ ap (λ (l : List ℕ). l ++ 0 ∷ []) (sym more));
+      on_disk = on ∙ ap (λ (l : List ℕ). synced (front ++ l)) (ap (λ (l : List ℕ). log_of magic id 1 gated ++ 1 ∷ l) (append_assoc (framed bytes) (0 ∷ []) dead)
+          ∙ sym (append_assoc (log_of magic id 1 gated) (1 ∷ framed bytes) (0 ∷ dead)) ∙ ap (λ (l : List ℕ). l ++ 0 ∷ dead) (sym more));
     }

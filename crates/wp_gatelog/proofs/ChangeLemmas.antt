@@ -1,111 +1,139 @@
 -- What a call makes of its disk, call after call.
-use Rattle.std.proofs.Common.{◌≡◌, ℕ, List, [], ◌∷◌, Result, Ok, Err, OnOk, OnErr, refl, sym, ◌∙◌, ap, subst}
+use Rattle.std.proofs.Common.{◌≡◌, ℕ, List, [], ◌∷◌, ◌++◌, length, drop, Result, Ok, Err, OnOk, OnErr, refl, sym, ◌∙◌, ap, subst}
+use Rattle.std.proofs.lemmas.List.{drop_at}
 use Rattle.std.proofs.lemmas.Result.{on_ok_weaker}
 use Rattle.wp_outside.specs.Disk.{Moment, IsImage, synced, after_sync, IfKnown, added, Tears, Goes}
 use Rattle.wp_outside.proofs.Moments.{goes_on}
 use Rattle.wp_gatelog.specs.Changes.{Changes, Steps, BringsTo}
 use Rattle.wp_gatelog.specs.Durability.{HasAcknowledged, Spares, Preserves}
-use Rattle.wp_gatelog.specs.Moments.{Leaves, IsSynced}
+use Rattle.wp_gatelog.specs.Moments.{Leaves, LeavesFrom, IsSynced}
 use Rattle.wp_gatelog.proofs.DurabilityLemmas.{preserves_on, torn_preserves, synced_preserves}
 use Rattle.wp_gatelog.specs.Stands.{Stands, StandsOn}
+use Rattle.wp_gatelog.proofs.FrontLemmas.{Shifts}
 use Rattle.wp_gatelog.proofs.MomentLemmas.{goes_map, torn_goes, synced_goes, known_map, known_as}
 
 -- ---- one step and its sync
 
-module _ (step : Moment → Moment) (before : List ℕ) where
-  pub torn_steps : {T E : Type 0} (e : E) (old new : List Moment) → IsSynced before old → Tears step old new → Steps {T = T} {E = E} step before old new (Err e)
+module _ (front before : List ℕ) (step inner : Moment → Moment) (shifts : Shifts front before step inner) where
+  behind : drop (length front) (front ++ before) ≡ before
+  behind = drop_at front before (length front) refl
+
+  spared : (magic : List ℕ) (id : ℕ) (records : List (List ℕ)) → Spares magic id records before (IsImage (inner (synced before))) → HasAcknowledged magic id records (drop (length front) (front ++ before))
+      → (image : List ℕ) → IsImage (step (synced (front ++ before))) image → HasAcknowledged magic id records (drop (length front) image)
+  spared magic id records spares has image h =
+      spares (subst (HasAcknowledged magic id records) behind has) (drop (length front) image) (shifts.images image h)
+
+  goes_behind : (old new : List Moment) → Goes (Leaves (IsImage (step (synced (front ++ before))))) old new → Goes (LeavesFrom (length front) (IsImage (inner (synced before)))) old new
+  goes_behind =
+      goes_map (Leaves (IsImage (step (synced (front ++ before))))) (LeavesFrom (length front) (IsImage (inner (synced before)))) (λ m leaves image h. shifts.images image (leaves image h))
+
+  pub torn_steps : {T E : Type 0} (e : E) (old new : List Moment) → IsSynced (front ++ before) old → Tears step old new → Steps {T = T} {E = E} front inner before old new (Err e)
   torn_steps e old new known torn = record {
-    passed = torn_goes step before old new known torn;
-    durable = λ magic id records spares. torn_preserves (HasAcknowledged magic id records) step before spares old new known torn;
+    passed = goes_behind old new (torn_goes step (front ++ before) old new known torn);
+    durable = λ magic id records spares.
+        torn_preserves (λ image. HasAcknowledged magic id records (drop (length front) image)) step (front ++ before) (spared magic id records spares) old new known torn;
     done = tt;
     stands = tt;
   }
 
   -- a read shows the bytes before, and then those that the step makes
-  stepped_reads : (old mid new : List Moment) → IsSynced before old → mid ≡ added step old → new ≡ added after_sync mid → (P : List ℕ → Type 0) → (P before → P (step (synced before)).reads) → Preserves (λ m. P m.reads) old new
+  stepped_reads : (old mid new : List Moment) → IsSynced (front ++ before) old → mid ≡ added step old → new ≡ added after_sync mid → (P : List ℕ → Type 0) → (P before → P (inner (synced before)).reads)
+      → Preserves (λ m. P (drop (length front) m.reads)) old new
   stepped_reads [] mid new known adds syncs P on = ([], syncs ∙ ap (λ (ms : List Moment). added after_sync ms) adds, tt)
-  stepped_reads (m ∷ past) mid new known adds syncs P on = (
-    synced (step m).reads ∷ step m ∷ [],
-    syncs ∙ ap (λ (ms : List Moment). added after_sync ms) adds,
-    (λ h. h, (λ h. subst (λ (n : Moment). P (step n).reads) (sym known) (on (subst (λ (n : Moment). P n.reads) known h)), tt)),
-  )
+  stepped_reads (m ∷ past) mid new known adds syncs P on =
+      let after : drop (length front) (step (synced (front ++ before))).reads ≡ (inner (synced before)).reads =
+      ap (λ (l : List ℕ). drop (length front) l) shifts.reads ∙ drop_at front (inner (synced before)).reads (length front) refl in (
+        synced (step m).reads ∷ step m ∷ [],
+        syncs ∙ ap (λ (ms : List Moment). added after_sync ms) adds,
+        (
+          λ h. h,
+          (
+            λ h. subst (λ (n : Moment). P (drop (length front) (step n).reads)) (sym known)
+                (subst P (sym after) (on (subst P behind (subst (λ (n : Moment). P (drop (length front) n.reads)) known h)))),
+            tt,
+          ),
+        ),
+      )
 
-  stepped_synced : (old mid new : List Moment) → IsSynced before old → mid ≡ added step old → new ≡ added after_sync mid → IsSynced (step (synced before)).reads new
+  stepped_synced : (old mid new : List Moment) → IsSynced (front ++ before) old → mid ≡ added step old → new ≡ added after_sync mid → IsSynced (front ++ (inner (synced before)).reads) new
   stepped_synced [] mid new known adds syncs =
-      subst (IsSynced (step (synced before)).reads) (sym (syncs ∙ ap (λ (ms : List Moment). added after_sync ms) adds)) tt
+      subst (IsSynced (front ++ (inner (synced before)).reads)) (sym (syncs ∙ ap (λ (ms : List Moment). added after_sync ms) adds)) tt
   stepped_synced (m ∷ past) mid new known adds syncs =
-      subst (IsSynced (step (synced before)).reads) (sym (syncs ∙ ap (λ (ms : List Moment). added after_sync ms) adds)) (ap (λ (n : Moment). synced (step n).reads) known)
+      subst (IsSynced (front ++ (inner (synced before)).reads)) (sym (syncs ∙ ap (λ (ms : List Moment). added after_sync ms) adds))
+      (ap (λ (n : Moment). synced (step n).reads) known ∙ ap synced shifts.reads)
 
-  pub synced_steps : {T E : Type 0} (old mid new : List Moment) (result : Result T E) → IsImage (step (synced before)) (step (synced before)).reads → IsSynced before old → mid ≡ added step old
-      → OnOk result (new ≡ added after_sync mid) → OnErr result (new ≡ mid) → Steps step before old new result
-  synced_steps old mid new result reads known adds syncs stays = record {
-    passed = synced_goes step before old mid new result reads known adds syncs stays;
-    durable = λ magic id records spares. synced_preserves (HasAcknowledged magic id records) step before spares old mid new result reads known adds syncs stays;
+  pub synced_steps : {T E : Type 0} (old mid new : List Moment) (result : Result T E) → IsSynced (front ++ before) old → mid ≡ added step old
+      → OnOk result (new ≡ added after_sync mid) → OnErr result (new ≡ mid) → Steps front inner before old new result
+  synced_steps old mid new result known adds syncs stays = record {
+    passed = goes_behind old new (synced_goes step (front ++ before) old mid new result shifts.itself known adds syncs stays);
+    durable = λ magic id records spares.
+        synced_preserves (λ image. HasAcknowledged magic id records (drop (length front) image)) step (front ++ before) (spared magic id records spares) old mid new result shifts.itself known adds syncs stays;
     done = on_ok_weaker result (stepped_synced old mid new known adds) syncs;
     stands = on_ok_weaker result (λ s magic id records. stepped_reads old mid new known adds s (Stands magic id records)) syncs;
   }
 
 -- ---- changes
 
-pub unchanged : {T E : Type 0} (x : T) (P : List ℕ → Type 0) (before after : List ℕ) (moments : List Moment) → before ≡ after → IsSynced before moments → Changes {T = T} {E = E} P before after moments moments (Ok x)
-unchanged {T} {E} x P before after moments same known = record {
+pub unchanged : {T E : Type 0} (x : T) (front : List ℕ) (P : List ℕ → Type 0) (before after : List ℕ) (moments : List Moment) → before ≡ after → IsSynced (front ++ before) moments
+    → Changes {T = T} {E = E} front P before after moments moments (Ok x)
+unchanged {T} {E} x front P before after moments same known = record {
   passed = none moments;
   durable = λ magic id records spares. ([], refl, tt);
-  done = known_as moments before after same known;
+  done = known_as moments (front ++ before) (front ++ after) (ap (λ (l : List ℕ). front ++ l) same) known;
   stands = λ magic id records on. ([], refl, tt);
 }
   where
-    none : (ms : List Moment) → Goes (Leaves P) ms ms
+    none : (ms : List Moment) → Goes (LeavesFrom (length front) P) ms ms
     none [] = refl
     none (m ∷ past) = ([], refl, tt)
 
-pub changes_map : {T E : Type 0} (P Q : List ℕ → Type 0) (before mid after : List ℕ) (old new : List Moment) (result : Result T E) → ((image : List ℕ) → P image → Q image) → mid ≡ after
-    → Changes P before mid old new result → Changes Q before after old new result
-changes_map P Q before mid after old new result f same changes = record {
-  passed = goes_map (Leaves P) (Leaves Q) (λ m leaves image h. f image (leaves image h)) old new changes.passed;
+pub changes_map : {T E : Type 0} (front : List ℕ) (P Q : List ℕ → Type 0) (before mid after : List ℕ) (old new : List Moment) (result : Result T E) → ((image : List ℕ) → P image → Q image) → mid ≡ after
+    → Changes front P before mid old new result → Changes front Q before after old new result
+changes_map front P Q before mid after old new result f same changes = record {
+  passed = goes_map (LeavesFrom (length front) P) (LeavesFrom (length front) Q) (λ m leaves image h. f (drop (length front) image) (leaves image h)) old new changes.passed;
   durable = λ magic id records spares. changes.durable magic id records (λ has image h. spares has image (f image h));
-  done = on_ok_weaker result (known_as new mid after same) changes.done;
+  done = on_ok_weaker result (known_as new (front ++ mid) (front ++ after) (ap (λ (l : List ℕ). front ++ l) same)) changes.done;
   stands = on_ok_weaker result (λ s magic id records on. s magic id records (λ has. subst (Stands magic id records) (sym same) (on has))) changes.stands;
 }
 
 -- ---- from one call to the next
 
-pub brings_of : {T E : Type 0} (magic : List ℕ) (P R : List ℕ → Type 0) (Q : Moment → Type 0) (before after : List ℕ) (old new : List Moment) (result : Result T E)
+pub brings_of : {T E : Type 0} (front magic : List ℕ) (P R : List ℕ → Type 0) (Q : Moment → Type 0) (before after : List ℕ) (old new : List Moment) (result : Result T E)
     → ((id : ℕ) (records : List (List ℕ)) → Spares magic id records before P) → ((id : ℕ) (records : List (List ℕ)) → Stands magic id records before → Stands magic id records after)
-    → ((image : List ℕ) → P image → R image) → ((m : Moment) → m ≡ synced after → Q m)
-    → Changes P before after old new result → BringsTo magic R Q old new result
-brings_of magic P R Q before after old new result spares on f g changes = record {
-  passed = goes_map (Leaves P) (Leaves R) (λ m leaves image h. f image (leaves image h)) old new changes.passed;
+    → ((image : List ℕ) → P (drop (length front) image) → R image) → ((m : Moment) → m ≡ synced (front ++ after) → Q m)
+    → Changes front P before after old new result → BringsTo (length front) magic R Q old new result
+brings_of front magic P R Q before after old new result spares on f g changes = record {
+  passed = goes_map (LeavesFrom (length front) P) (Leaves R) (λ m leaves image h. f image (leaves image h)) old new changes.passed;
   durable = λ id records. changes.durable magic id records (spares id records);
-  done = on_ok_weaker result (known_map (λ m. m ≡ synced after) Q g new) changes.done;
+  done = on_ok_weaker result (known_map (λ m. m ≡ synced (front ++ after)) Q g new) changes.done;
   stands = on_ok_weaker result (λ s id records. s magic id records (on id records)) changes.stands;
 }
 
-pub brings_on : {T U E : Type 0} (magic : List ℕ) (P : List ℕ → Type 0) (Q R : Moment → Type 0) (old mid new : List Moment) (x : U) (result : Result T E)
-    → BringsTo {T = U} {E = E} magic P Q old mid (Ok x) → BringsTo magic P R mid new result → BringsTo magic P R old new result
-brings_on magic P Q R old mid new x result one other = record {
+pub brings_on : {T U E : Type 0} (place : ℕ) (magic : List ℕ) (P : List ℕ → Type 0) (Q R : Moment → Type 0) (old mid new : List Moment) (x : U) (result : Result T E)
+    → BringsTo {T = U} {E = E} place magic P Q old mid (Ok x) → BringsTo place magic P R mid new result → BringsTo place magic P R old new result
+brings_on place magic P Q R old mid new x result one other = record {
   passed = goes_on (Leaves P) old mid new one.passed other.passed;
-  durable = λ id records. preserves_on (Leaves (HasAcknowledged magic id records)) old mid new (one.durable id records) (other.durable id records);
+  durable = λ id records. preserves_on (LeavesFrom place (HasAcknowledged magic id records)) old mid new (one.durable id records) (other.durable id records);
   done = other.done;
-  stands = on_ok_weaker result (λ s id records. preserves_on (λ m. Stands magic id records m.reads) old mid new (one.stands id records) (s id records)) other.stands;
+  stands = on_ok_weaker result (λ s id records. preserves_on (λ m. Stands magic id records (drop place m.reads)) old mid new (one.stands id records) (s id records)) other.stands;
 }
 
 -- a call that fails has brought the disk nowhere
-pub brings_failed : {T U E F : Type 0} (e : F) (magic : List ℕ) (P : List ℕ → Type 0) (Q R : Moment → Type 0) (old new : List Moment) (result : Result U E)
-    → BringsTo magic P Q old new result → BringsTo {T = T} {E = F} magic P R old new (Err e)
-brings_failed e magic P Q R old new result brings = record { passed = brings.passed; durable = brings.durable; done = tt; stands = tt }
+pub brings_failed : {T U E F : Type 0} (e : F) (place : ℕ) (magic : List ℕ) (P : List ℕ → Type 0) (Q R : Moment → Type 0) (old new : List Moment) (result : Result U E)
+    → BringsTo place magic P Q old new result → BringsTo {T = T} {E = F} place magic P R old new (Err e)
+brings_failed e place magic P Q R old new result brings = record { passed = brings.passed; durable = brings.durable; done = tt; stands = tt }
 
 pub on_ok : {T E : Type 0} (result : Result T E) (P : Type 0) → P → OnOk result P
 on_ok (Ok x) P p = p
 on_ok (Err e) P p = tt
 
 -- where the disk is unknown, nothing is owed but that it stays unknown
-pub brings_known : {T E : Type 0} (magic : List ℕ) (P : List ℕ → Type 0) (Q R : Moment → Type 0) (old new : List Moment) (result : Result T E) → (old ≡ [] → new ≡ []) → IfKnown old Q
-    → ((past : List Moment) (m : Moment) → old ≡ m ∷ past → Q m → BringsTo magic P R old new result) → BringsTo magic P R old new result
-brings_known magic P Q R [] new result unknown known brings = record {
+pub brings_known : {T E : Type 0} (place : ℕ) (magic : List ℕ) (P : List ℕ → Type 0) (Q R : Moment → Type 0) (old new : List Moment) (result : Result T E) → (old ≡ [] → new ≡ []) → IfKnown old Q
+    → ((past : List Moment) (m : Moment) → old ≡ m ∷ past → Q m → BringsTo place magic P R old new result) → BringsTo place magic P R old new result
+brings_known place magic P Q R [] new result unknown known brings = record {
   passed = unknown refl;
   durable = λ id records. ([], unknown refl, tt);
   done = on_ok result (IfKnown new R) (subst (λ (ms : List Moment). IfKnown ms R) (sym (unknown refl)) tt);
-  stands = on_ok result (StandsOn magic [] new) (λ id records. ([], unknown refl, tt));
+  stands = on_ok result (StandsOn place magic [] new) (λ id records. ([], unknown refl, tt));
 }
-brings_known magic P Q R (m ∷ past) new result unknown known brings = brings past m refl known
+brings_known place magic P Q R (m ∷ past) new result unknown known brings = brings past m refl known

@@ -1,5 +1,5 @@
 -- The head of a log.
-use Rattle.std.proofs.Common.{◌≡◌, inl, inr, ℕ, min, List, [], ◌∷◌, ◌++◌, length, take, drop, get_or, refl, sym, ◌∙◌, ap, subst, arith, length-append, length-take}
+use Rattle.std.proofs.Common.{◌≡◌, inl, inr, ℕ, min, List, [], ◌∷◌, ◌++◌, length, take, drop, get_or, refl, sym, ◌∙◌, ap, subst, arith, length-append, length-take, length-drop}
 use Rattle.std.proofs.lemmas.List.{append_assoc, take-append-drop, take_min, take-take, drop-take, get_or-take}
 use Rattle.std.specs.Int.{w32, to_be_bytes}
 use Rattle.wp_outside.specs.Disk.{IsRead}
@@ -70,8 +70,9 @@ head_from_front magic bytes (Made gate id first) h = (
 )
 
 -- a read of eleven bytes shows the head
-pub head_read : (magic buf bytes : List ℕ) (n : ℕ) (head : Head) → length buf ≡ 11 → IsHead magic (take n buf) head → IsRead bytes 0 buf n → IsHead magic bytes head
-head_read magic buf bytes n head eleven h read =
-    let count : n ≡ min 11 (length bytes) = omega (arith, read.count, eleven) in
+pub head_read : (magic buf reads : List ℕ) (place n : ℕ) (head : Head) → length buf ≡ 11 → IsHead magic (take n buf) head → IsRead reads place buf n → IsHead magic (drop place reads) head
+head_read magic buf reads place n head eleven h read =
+    let bytes : List ℕ = drop place reads in
+    let count : n ≡ min 11 (length bytes) = omega (arith, read.count, eleven, length-drop place reads) in
     let front : take n buf ≡ take 11 bytes = read.bytes ∙ ap (λ (k : ℕ). take k bytes) count ∙ take_min 11 bytes in
     head_from_front magic bytes head (subst (λ (l : List ℕ). IsHead magic l head) front h)

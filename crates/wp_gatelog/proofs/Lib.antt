@@ -1,6 +1,7 @@
 pub mod AppendLemmas
 pub mod ChangeLemmas
 pub mod FrameLemmas
+pub mod FrontLemmas
 pub mod HeadLemmas
 pub mod AcknowledgedLemmas
 pub mod DurabilityLemmas

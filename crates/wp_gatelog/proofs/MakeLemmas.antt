@@ -80,26 +80,26 @@ reads_made magic id = put_gate [] 0 (identity magic id ++ 0 ∷ []) 0 refl ∙ s
 -- ---- call by call
 
 module _ {T E : Type 0} (magic : List ℕ) (id : ℕ) where
-  pub brings_closed : (before : List ℕ) → IsUnmade before → (old new : List Moment) (result : Result T E) → Changes IsUnmade before (0 ∷ []) old new result
-      → BringsTo magic (SpellsNone magic id) (λ m. m ≡ synced (0 ∷ [])) old new result
+  pub brings_closed : (before : List ℕ) → IsUnmade before → (old new : List Moment) (result : Result T E) → Changes [] IsUnmade before (0 ∷ []) old new result
+      → BringsTo 0 magic (SpellsNone magic id) (λ m. m ≡ synced (0 ∷ [])) old new result
   brings_closed before unmade old new result changes =
-      brings_of magic IsUnmade (SpellsNone magic id) (λ m. m ≡ synced (0 ∷ [])) before (0 ∷ []) old new result
+      brings_of [] magic IsUnmade (SpellsNone magic id) (λ m. m ≡ synced (0 ∷ [])) before (0 ∷ []) old new result
       (λ other records. spares_unmade magic other records before IsUnmade unmade) (λ other records has. absurd (unmade_stands magic other records before unmade has)) (unmade_none magic id) (λ m on. on) changes
 
-  pub brings_staged : (bytes : List ℕ) → bytes ≡ identity magic id ++ 0 ∷ [] → (old new : List Moment) (result : Result T E) → Steps (after_write 1 bytes) (0 ∷ []) old new result
-      → BringsTo magic (SpellsNone magic id) (λ m. m ≡ synced (0 ∷ (identity magic id ++ 0 ∷ []))) old new result
+  pub brings_staged : (bytes : List ℕ) → bytes ≡ identity magic id ++ 0 ∷ [] → (old new : List Moment) (result : Result T E) → Steps [] (after_write 1 bytes) (0 ∷ []) old new result
+      → BringsTo 0 magic (SpellsNone magic id) (λ m. m ≡ synced (0 ∷ (identity magic id ++ 0 ∷ []))) old new result
   brings_staged bytes is old new result changes =
       let stepped : Moment = after_write 1 bytes (synced (0 ∷ [])) in
-      brings_of magic (IsImage stepped) (SpellsNone magic id) (λ m. m ≡ synced (0 ∷ (identity magic id ++ 0 ∷ []))) (0 ∷ []) stepped.reads old new result
+      brings_of [] magic (IsImage stepped) (SpellsNone magic id) (λ m. m ≡ synced (0 ∷ (identity magic id ++ 0 ∷ []))) (0 ∷ []) stepped.reads old new result
       (λ other records. spares_unmade magic other records (0 ∷ []) (IsImage stepped) tt) (λ other records has. absurd (unmade_stands magic other records (0 ∷ []) tt has)) (none_staged magic bytes id)
       (λ m on. on ∙ ap synced (reads_after (0 ∷ []) bytes 1 refl ∙ ap (λ (l : List ℕ). 0 ∷ l) is)) changes
 
-  pub brings_opened : (old new : List Moment) (result : Result T E) → Steps (after_write 0 (1 ∷ [])) (0 ∷ (identity magic id ++ 0 ∷ [])) old new result
-      → BringsTo magic (SpellsNone magic id) (λ m. m ≡ synced (log_of magic id 1 [] ++ 0 ∷ [])) old new result
+  pub brings_opened : (old new : List Moment) (result : Result T E) → Steps [] (after_write 0 (1 ∷ [])) (0 ∷ (identity magic id ++ 0 ∷ [])) old new result
+      → BringsTo 0 magic (SpellsNone magic id) (λ m. m ≡ synced (log_of magic id 1 [] ++ 0 ∷ [])) old new result
   brings_opened old new result changes =
       let whole : List ℕ = 0 ∷ (identity magic id ++ 0 ∷ []) in
       let stepped : Moment = after_write 0 (1 ∷ []) (synced whole) in
-      brings_of magic (IsImage stepped) (SpellsNone magic id) (λ m. m ≡ synced (log_of magic id 1 [] ++ 0 ∷ [])) whole stepped.reads old new result
+      brings_of [] magic (IsImage stepped) (SpellsNone magic id) (λ m. m ≡ synced (log_of magic id 1 [] ++ 0 ∷ [])) whole stepped.reads old new result
       (λ other records. spares_unmade magic other records whole (IsImage stepped) (closed_unmade (identity magic id ++ 0 ∷ [])))
       (λ other records has. absurd (unmade_stands magic other records whole (closed_unmade (identity magic id ++ 0 ∷ [])) has)) (none_opened magic id)
       (λ m on. on ∙ ap synced (reads_made magic id)) changes

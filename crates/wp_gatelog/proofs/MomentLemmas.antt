@@ -1,6 +1,6 @@
 -- The moments of one change and its sync, and the images that they leave.
 use Rattle.std.proofs.Common.{◌≡◌, inl, inr, ℕ, zero, suc, ◌+◌, ◌≤◌, max, List, [], ◌∷◌, ◌++◌, map, length, take, drop, Option, None, Some, Result, Ok, Err, OnOk, OnErr, refl, sym, ◌∙◌, ap, subst, arith, length-append, length-drop, length-take}
-use Rattle.std.proofs.lemmas.List.{append-nil, drop_all, take-map, take_at, length-map}
+use Rattle.std.proofs.lemmas.List.{append-nil, drop_all, take-map, take_at}
 use Rattle.wp_outside.specs.Disk.{Moment, Matches, IsImage, synced, put, hide, hide_at, after_write, after_cut, after_sync, IfKnown, added, Tears, Each, Passes, images, Goes}
 use Rattle.wp_outside.specs.Images.{matches_itself}
 use Rattle.wp_outside.proofs.Moments.{image_of_synced}
@@ -106,21 +106,22 @@ module _ (step : Moment → Moment) (before : List ℕ) where
 
 -- ---- images of a log that is changed
 
-hide_past : (at n : ℕ) (sure : List (Option ℕ)) → length sure ≤ at → hide_at at n sure ≡ sure
-hide_past zero zero [] le = refl
-hide_past zero (suc n) [] le = refl
-hide_past zero n (x ∷ sure) le = absurd (omega arith)
-hide_past (suc at) n [] le = refl
-hide_past (suc at) n (x ∷ sure) le = ap (λ (s : List (Option ℕ)). x ∷ s) (hide_past at n sure (omega arith))
+hide_behind : (front rest : List ℕ) (n : ℕ) → hide_at (length front) n (map (λ b. Some b) (front ++ rest)) ≡ map (λ b. Some b) front ++ hide n (map (λ b. Some b) rest)
+hide_behind [] rest n = refl
+hide_behind (x ∷ front) rest n = ap (λ (s : List (Option ℕ)). Some x ∷ s) (hide_behind front rest n)
 
--- bytes written after all others leave those as they are
+-- bytes written behind a front leave it as it is
+pub image_behind : (front rest : List ℕ) (at : ℕ) (bytes image : List ℕ) → at ≡ length front → IsImage (after_write at bytes (synced (front ++ rest))) image → (d : List ℕ) × (image ≡ front ++ d)
+image_behind front rest at [] image is h = (rest, image_of_synced (front ++ rest) image h)
+image_behind front rest at (b ∷ bytes) image is h =
+    let found : Matches (hide_at (length front) (length (b ∷ bytes)) (map (λ b. Some b) (front ++ rest))) image = subst (λ (n : ℕ). Matches (hide_at n (length (b ∷ bytes)) (map (λ b. Some b) (front ++ rest))) image) is h.0 in
+    let split = matches_front front (hide (length (b ∷ bytes)) (map (λ b. Some b) rest)) image (subst (λ (s : List (Option ℕ)). Matches s image) (hide_behind front rest (length (b ∷ bytes))) found) in
+    (split.0, split.1)
+
+-- ... and where nothing followed it
 pub image_after : (front : List ℕ) (at : ℕ) (bytes image : List ℕ) → at ≡ length front → IsImage (after_write at bytes (synced front)) image → (d : List ℕ) × (image ≡ front ++ d)
-image_after front at [] image is h = ([], image_of_synced front image h ∙ sym (append-nil front))
-image_after front at (b ∷ bytes) image is h =
-    let sure : List (Option ℕ) = map (λ b. Some b) front in
-    let same : hide_at at (length (b ∷ bytes)) sure ≡ sure ++ [] = hide_past at (length (b ∷ bytes)) sure (omega (arith, length-map front (λ b. Some b))) ∙ sym (append-nil sure) in
-    let rest = matches_front front [] image (subst (λ (s : List (Option ℕ)). Matches s image) same h.0) in
-    (rest.0, rest.1)
+image_after front at bytes image is h =
+    image_behind front [] at bytes image is (subst (λ (l : List ℕ). IsImage (after_write at bytes (synced l)) image) (sym (append-nil front)) h)
 
 hide_gate : (front : List ℕ) (gate : ℕ) (following : List ℕ) → hide_at (length front) 1 (map (λ b. Some b) (front ++ gate ∷ following)) ≡ map (λ b. Some b) front ++ None ∷ map (λ b. Some b) following
 hide_gate [] gate following = refl
@@ -149,15 +150,20 @@ image_of_cut front rest image len is h =
 
 -- ---- what a read gives then
 
-put_after : (front bytes : List ℕ) (at : ℕ) → at ≡ length front → put at bytes front ≡ front ++ bytes
-put_after [] bytes zero is = ap (λ (l : List ℕ). bytes ++ l) (drop_all (length bytes) [] (omega arith)) ∙ append-nil bytes
-put_after [] bytes (suc at) is = absurd (omega arith)
-put_after (x ∷ front) bytes zero is = absurd (omega arith)
-put_after (x ∷ front) bytes (suc at) is = ap (λ (l : List ℕ). x ∷ l) (put_after front bytes at (omega arith))
+put_behind : (front rest bytes : List ℕ) (at : ℕ) → at ≡ length front → put at bytes (front ++ rest) ≡ front ++ (bytes ++ drop (length bytes) rest)
+put_behind [] rest bytes zero is = refl
+put_behind [] rest bytes (suc at) is = absurd (omega arith)
+put_behind (x ∷ front) rest bytes zero is = absurd (omega arith)
+put_behind (x ∷ front) rest bytes (suc at) is = ap (λ (l : List ℕ). x ∷ l) (put_behind front rest bytes at (omega arith))
+
+pub reads_behind : (front rest bytes : List ℕ) (at : ℕ) → at ≡ length front → (after_write at bytes (synced (front ++ rest))).reads ≡ front ++ (bytes ++ drop (length bytes) rest)
+reads_behind front rest [] at is = refl
+reads_behind front rest (b ∷ bytes) at is = put_behind front rest (b ∷ bytes) at is
 
 pub reads_after : (front bytes : List ℕ) (at : ℕ) → at ≡ length front → (after_write at bytes (synced front)).reads ≡ front ++ bytes
-reads_after front [] at is = sym (append-nil front)
-reads_after front (b ∷ bytes) at is = put_after front (b ∷ bytes) at is
+reads_after front bytes at is =
+    ap (λ (l : List ℕ). (after_write at bytes (synced l)).reads) (sym (append-nil front)) ∙ reads_behind front [] bytes at is
+    ∙ ap (λ (l : List ℕ). front ++ (bytes ++ l)) (drop_all (length bytes) [] (omega arith)) ∙ ap (λ (l : List ℕ). front ++ l) (append-nil bytes)
 
 pub put_gate : (front : List ℕ) (gate : ℕ) (following : List ℕ) (at : ℕ) → at ≡ length front → put at (1 ∷ []) (front ++ gate ∷ following) ≡ front ++ 1 ∷ following
 put_gate [] gate following zero is = refl

@@ -1,8 +1,9 @@
 -- A log is opened.
-use Rattle.std.proofs.Common.{◌≡◌, inl, inr, ℕ, ◌<◌, List, [], ◌∷◌, ◌++◌, length, drop, take, Option, Result, Ok, Err, OnOk, refl, sym, ◌∙◌, ap, subst, arith, length-append}
-use Rattle.std.proofs.lemmas.List.{append_assoc, drop_at}
+use Rattle.std.proofs.Common.{◌≡◌, ◌⊎◌, inl, inr, ℕ, zero, suc, ◌+◌, ◌<◌, List, [], ◌∷◌, ◌++◌, length, drop, take, Option, Result, Ok, Err, OnOk, refl, sym, ◌∙◌, ap, subst, arith, length-append, length-drop}
+use Rattle.std.proofs.lemmas.List.{append_assoc, take-append-drop, drop_at, drop-drop, length-take-le}
+use Rattle.std.proofs.lemmas.Bool.{cases_eq}
 use Rattle.std.proofs.lemmas.Result.{on_ok_weaker}
-use Rattle.wp_outside.specs.Disk.{Moment, synced, IfKnown, added, after_sync, ReadsItself, Goes}
+use Rattle.wp_outside.specs.Disk.{Moment, synced, IfKnown, added, after_sync, images, ReadsItself, Goes}
 use Rattle.wp_outside.proofs.Moments.{image_of_synced, goes_on}
 use Rattle.wp_gatelog.specs.declared.error.LogError.{LogError}
 use Rattle.wp_gatelog.specs.declared.error.LogError.TheVariants.{Memory, DiskFault, BadHead, Cut}
@@ -11,18 +12,20 @@ use Rattle.wp_gatelog.specs.declared.open.FoundLog.{FoundLog}
 use Rattle.wp_gatelog.specs.declared.head.Head.TheVariants.{Made}
 use Rattle.wp_gatelog.specs.Opens.{IsAnswer, Opens}
 use Rattle.wp_gatelog.specs.Changes.{BringsTo}
-use Rattle.wp_gatelog.specs.Durability.{HasAcknowledged, LosesNoRecord}
+use Rattle.wp_gatelog.specs.Damage.{IsBadHead, IsBadHeadAt}
+use Rattle.wp_gatelog.specs.Durability.{HasAcknowledged, LosesNoRecordAt}
 use Rattle.wp_gatelog.specs.Heads.{BeginsLog, IsHead, SpellsNone}
 use Rattle.wp_gatelog.specs.Log.{IsAtRest}
 use Rattle.wp_gatelog.specs.Repair.{IsReadLog, IsRepaired}
-use Rattle.wp_gatelog.specs.Moments.{Leaves}
-use Rattle.wp_gatelog.specs.Opening.{IsFound, IsRefused, Repairs}
-use Rattle.wp_gatelog.specs.Scanning.{HasRead, IsReadFault}
-use Rattle.wp_gatelog.specs.Spelling.{Gated, identity, all_gated, log_of, IsUnmade}
+use Rattle.wp_gatelog.specs.Moments.{Leaves, LeavesFrom}
+use Rattle.wp_gatelog.specs.Opening.{IsFound, IsRefused, Repairs, front_at}
+use Rattle.wp_gatelog.specs.Scanning.{HasRead, IsLast, IsReadFault}
+use Rattle.wp_gatelog.specs.Spelling.{Gated, identity, all_gated, log_of, IsUnmade, IsUnmadeAt, SpellsAt}
 use Rattle.wp_gatelog.specs.Stands.{Stands, StandsOn}
 use Rattle.wp_gatelog.proofs.DurabilityLemmas.{preserves_on, sync_preserves, sync_reads}
 use Rattle.wp_gatelog.proofs.HeadLemmas.{length-identity}
 use Rattle.wp_gatelog.proofs.MomentLemmas.{goes_map}
+use Rattle.wp_gatelog.proofs.SurvivalLemmas.{rest_spells}
 
 -- ---- a disk that is known
 
@@ -31,24 +34,36 @@ known_at P ms past m is known = subst (λ (l : List Moment). IfKnown l P) is kno
 
 -- ---- a log that was read
 
-module _ (magic : List ℕ) (id head first : ℕ) (bytes : List ℕ) (begins : BeginsLog magic id head first bytes) where
+unmade_from : (place : ℕ) (bytes : List ℕ) → IsUnmadeAt place bytes → IsUnmade (drop place bytes)
+unmade_from zero bytes unmade = unmade
+unmade_from (suc place) bytes unmade = absurd unmade
+
+module _ (place : ℕ) (magic : List ℕ) (id head first : ℕ) (reads : List ℕ) (begins : BeginsLog magic id head first (drop place reads)) where
+  abbrev inner : List ℕ
+  inner = drop place reads
+
+  -- the head is there, so the place is within
+  pub placed : place ≡ length (take place reads)
+  placed = sym (length-take-le place reads (omega (arith, length-drop place reads, ap length begins.made.2)))
+
   -- the bytes after the head are all but its ten
-  behind_head : drop 10 bytes ≡ first ∷ begins.made.0
+  behind_head : drop 10 inner ≡ first ∷ begins.made.0
   behind_head =
       ap (λ (l : List ℕ). drop 10 l) begins.made.2 ∙ drop_at (head ∷ identity magic id) (first ∷ begins.made.0) 10 (omega (arith, length-identity magic id begins.magic_size))
 
-  split_head : (following : List ℕ) → drop 10 bytes ≡ following → bytes ≡ head ∷ (identity magic id ++ following)
+  split_head : (following : List ℕ) → drop 10 inner ≡ following → inner ≡ head ∷ (identity magic id ++ following)
   split_head following is = begins.made.2 ∙ ap (λ (l : List ℕ). head ∷ (identity magic id ++ l)) (sym behind_head ∙ is)
 
   -- the gate of the first record is the byte behind them
-  pub first_shown : take 1 (drop 10 bytes) ≡ first ∷ []
-  first_shown = ap (λ (l : List ℕ). take 1 l) behind_head
+  pub first_shown : take 1 (drop (place + 10) reads) ≡ first ∷ []
+  first_shown = ap (λ (l : List ℕ). take 1 l) (sym (drop-drop 10 place reads) ∙ behind_head)
 
-  split_log : (gated : List Gated) (following : List ℕ) → drop 10 bytes ≡ all_gated gated ++ following → bytes ≡ log_of magic id head gated ++ following
+  split_log : (gated : List Gated) (following : List ℕ) → drop (place + 10) reads ≡ all_gated gated ++ following → inner ≡ log_of magic id head gated ++ following
   split_log gated following is =
-      split_head (all_gated gated ++ following) is ∙ ap (λ (l : List ℕ). head ∷ l) (sym (append_assoc (identity magic id) (all_gated gated) following))
+      split_head (all_gated gated ++ following) (drop-drop 10 place reads ∙ is) ∙ ap (λ (l : List ℕ). head ∷ l) (sym (append_assoc (identity magic id) (all_gated gated) following))
 
-  pub log_read : (len : ℕ) → len ≡ length bytes → (records : List (List ℕ)) (last : Option GateByte) (end : ℕ) → (following : List ℕ) × HasRead (drop 10 bytes) (0 ∷ following) records last end → IsReadLog magic id head records last end len bytes
+  pub log_read : (len : ℕ) → len ≡ length reads → (records : List (List ℕ)) (last : Option GateByte) (end : ℕ) → (following : List ℕ) × HasRead (place + 10) (drop (place + 10) reads) (0 ∷ following) records last end
+      → IsReadLog (take place reads) magic id head records last end len (drop place reads)
   log_read len size records last end w = record {
     gated = w.1.gated;
     has_log = record {
@@ -58,24 +73,24 @@ module _ (magic : List ℕ) (id head first : ℕ) (bytes : List ℕ) (begins : B
       gates_open = w.1.gates_open;
     };
     same = w.1.same;
-    last_is = w.1.last_is;
-    place = omega (arith, w.1.place, length-append (identity magic id) (all_gated w.1.gated), length-identity magic id begins.magic_size);
-    size = size;
+    last_is = subst (λ (n : ℕ). IsLast (n + 10) last w.1.gated) placed w.1.last_is;
+    place = omega (arith, placed, w.1.place, length-append (identity magic id) (all_gated w.1.gated), length-identity magic id begins.magic_size);
+    size = omega (arith, size, ap length (take-append-drop place reads), length-append (take place reads) (drop place reads));
     magic_size = begins.magic_size;
   }
 
-  pub log_found : (len asked : ℕ) (records : List (List ℕ)) (last : Option GateByte) (end : ℕ) → IsReadLog magic id head records last end len bytes → IsFound magic asked bytes id records
+  pub log_found : (len asked : ℕ) (records : List (List ℕ)) (last : Option GateByte) (end : ℕ) → IsReadLog (take place reads) magic id head records last end len (drop place reads) → IsFound place magic asked reads id records
   log_found len asked records last end log = record {
     spelled = inr (head, log.gated, log.has_log, log.same);
     unmade = λ unmade. absurd (opened (identity magic id ++ first ∷ begins.made.0)
-        (omega (arith, length-append (identity magic id) (first ∷ begins.made.0))) (subst IsUnmade begins.made.2 unmade));
+        (omega (arith, length-append (identity magic id) (first ∷ begins.made.0))) (subst IsUnmade begins.made.2 (unmade_from place reads unmade)));
   }
     where
       opened : (tail : List ℕ) → 0 < length tail → IsUnmade (head ∷ tail) → ⊥
       opened [] some unmade = omega arith
       opened (b ∷ tail) some unmade = begins.made.1 unmade
 
-  pub log_refused : (why : LogError) → IsReadFault id (drop 10 bytes) why → IsRefused magic bytes why
+  pub log_refused : (why : LogError) → IsReadFault id (drop (place + 10) reads) why → IsRefused place magic reads why
   log_refused Memory w = tt
   log_refused DiskFault w = tt
   log_refused BadHead w = absurd w
@@ -99,63 +114,71 @@ module _ (magic : List ℕ) (id head first : ℕ) (bytes : List ℕ) (begins : B
 -- ---- what an opening does and answers
 
 -- it is refused, and the disk is as it was
-pub opens_refused : (magic : List ℕ) (asked : ℕ) (bytes : List ℕ) (why : LogError) (old new : List Moment) → new ≡ old → IsRefused magic bytes why → Opens magic asked bytes old new (Err why)
-opens_refused magic asked bytes why old new same refused = record {
-  passed = subst (λ (ms : List Moment). Goes (Leaves (Repairs magic asked bytes)) old ms) (sym same) (none old);
+pub opens_refused : (place : ℕ) (magic : List ℕ) (asked : ℕ) (bytes : List ℕ) (why : LogError) (old new : List Moment) → new ≡ old → IsRefused place magic bytes why → Opens place magic asked bytes old new (Err why)
+opens_refused place magic asked bytes why old new same refused = record {
+  passed = subst (λ (ms : List Moment). Goes (Leaves (Repairs place magic asked bytes)) old ms) (sym same) (none old);
   durable = λ id records. ([], same, tt);
   stands = tt;
   answered = refused;
 }
   where
-    none : (ms : List Moment) → Goes (Leaves (Repairs magic asked bytes)) ms ms
+    none : (ms : List Moment) → Goes (Leaves (Repairs place magic asked bytes)) ms ms
     none [] = refl
     none (m ∷ past) = ([], refl, tt)
 
 -- by cases on whether the disk is known
-module _ (magic : List ℕ) (asked : ℕ) (new : List Moment) (result : Result FoundLog LogError) where
-  pub made_cases : (id head first : ℕ) (old : List Moment) → ((past : List Moment) (m : Moment) → old ≡ m ∷ past → m ≡ synced m.reads → BeginsLog magic id head first m.reads → Opens magic asked m.reads old new result)
-      → IfKnown old (λ m. m ≡ synced m.reads → BeginsLog magic id head first m.reads → Opens magic asked m.reads old new result)
+module _ (place : ℕ) (magic : List ℕ) (asked : ℕ) (new : List Moment) (result : Result FoundLog LogError) where
+  pub made_cases : (id head first : ℕ) (old : List Moment)
+      → ((past : List Moment) (m : Moment) → old ≡ m ∷ past → m ≡ synced m.reads → BeginsLog magic id head first (drop place m.reads) → Opens place magic asked m.reads old new result)
+      → IfKnown old (λ m. m ≡ synced m.reads → BeginsLog magic id head first (drop place m.reads) → Opens place magic asked m.reads old new result)
   made_cases id head first [] f = tt
   made_cases id head first (m ∷ past) f = f past m refl
 
-  pub synced_cases : (old : List Moment) → ((past : List Moment) (m : Moment) → old ≡ m ∷ past → m ≡ synced m.reads → Opens magic asked m.reads old new result)
-      → IfKnown old (λ m. m ≡ synced m.reads → Opens magic asked m.reads old new result)
+  pub synced_cases : (old : List Moment) → ((past : List Moment) (m : Moment) → old ≡ m ∷ past → m ≡ synced m.reads → Opens place magic asked m.reads old new result)
+      → IfKnown old (λ m. m ≡ synced m.reads → Opens place magic asked m.reads old new result)
   synced_cases [] f = tt
   synced_cases (m ∷ past) f = f past m refl
 
-  pub found_cases : (old : List Moment) → ((past : List Moment) (m : Moment) → old ≡ m ∷ past → Opens magic asked m.reads old new result) → IfKnown old (λ m. Opens magic asked m.reads old new result)
+  pub found_cases : (old : List Moment) → ((past : List Moment) (m : Moment) → old ≡ m ∷ past → Opens place magic asked m.reads old new result) → IfKnown old (λ m. Opens place magic asked m.reads old new result)
   found_cases [] f = tt
   found_cases (m ∷ past) f = f past m refl
 
 -- by a call that brings the disk somewhere
-pub opens_brings : {T E : Type 0} (magic : List ℕ) (asked : ℕ) (bytes : List ℕ) (P : List ℕ → Type 0) (Q : Moment → Type 0) (old read new : List Moment) (done : Result T E) (result : Result FoundLog LogError)
-    → read ≡ old → ((image : List ℕ) → P image → Repairs magic asked bytes image) → IsAnswer magic asked bytes new result → OnOk result (StandsOn magic read new) → BringsTo magic P Q read new done → Opens magic asked bytes old new result
-opens_brings magic asked bytes P Q old read new done result same f answered stands brings =
-    subst (λ (ms : List Moment). Opens magic asked bytes ms new result) same (record {
-      passed = goes_map (Leaves P) (Leaves (Repairs magic asked bytes)) (λ m leaves image h. f image (leaves image h)) read new brings.passed;
+pub opens_brings : {T E : Type 0} (place : ℕ) (magic : List ℕ) (asked : ℕ) (bytes : List ℕ) (P : List ℕ → Type 0) (Q : Moment → Type 0) (old read new : List Moment) (done : Result T E) (result : Result FoundLog LogError)
+    → read ≡ old → ((image : List ℕ) → P image → Repairs place magic asked bytes image) → IsAnswer place magic asked bytes new result → OnOk result (StandsOn place magic read new) → BringsTo place magic P Q read new done
+    → Opens place magic asked bytes old new result
+opens_brings place magic asked bytes P Q old read new done result same f answered stands brings =
+    subst (λ (ms : List Moment). Opens place magic asked bytes ms new result) same (record {
+      passed = goes_map (Leaves P) (Leaves (Repairs place magic asked bytes)) (λ m leaves image h. f image (leaves image h)) read new brings.passed;
       durable = brings.durable;
       stands = stands;
       answered = answered;
     })
 
-pub repairs_made : (magic : List ℕ) (asked id head : ℕ) (records : List (List ℕ)) (last : Option GateByte) (end len : ℕ) (bytes : List ℕ) (log : IsReadLog magic id head records last end len bytes)
-    → (image : List ℕ) → IsRepaired magic id head log.gated image → Repairs magic asked bytes image
-repairs_made magic asked id head records last end len bytes log image repaired = inr (inr (id, head, log.gated, log.has_log, repaired))
+-- what is brought about behind a front is so from its place on
+pub brings_at : {T E : Type 0} (place : ℕ) (front magic : List ℕ) (P : List ℕ → Type 0) (Q : Moment → Type 0) (old new : List Moment) (result : Result T E) → place ≡ length front
+    → BringsTo (length front) magic (λ image. P (drop (length front) image)) Q old new result → BringsTo place magic (λ image. P (drop place image)) Q old new result
+brings_at place front magic P Q old new result is =
+    subst (λ (n : ℕ). BringsTo n magic (λ image. P (drop n image)) Q old new result) (sym is)
 
-pub repairs_unmade : (magic : List ℕ) (asked : ℕ) (bytes : List ℕ) → IsUnmade bytes → (image : List ℕ) → SpellsNone magic asked image → Repairs magic asked bytes image
+pub repairs_made : (place : ℕ) (magic : List ℕ) (asked id head : ℕ) (records : List (List ℕ)) (last : Option GateByte) (end len : ℕ) (bytes : List ℕ) (log : IsReadLog (take place bytes) magic id head records last end len (drop place bytes))
+    → (image : List ℕ) → IsRepaired magic id head log.gated (drop place image) → Repairs place magic asked bytes image
+repairs_made place magic asked id head records last end len bytes log image repaired = inr (inr (id, head, log.gated, log.has_log, repaired))
+
+pub repairs_unmade : (magic : List ℕ) (asked : ℕ) (bytes : List ℕ) → IsUnmade bytes → (image : List ℕ) → SpellsNone magic asked image → Repairs 0 magic asked bytes image
 repairs_unmade magic asked bytes unmade image none = inr (inl (unmade, none))
 
 pub begins : (magic : List ℕ) (bytes : List ℕ) (gate id first : ℕ) → length magic ≡ 4 → IsHead magic bytes (Made gate id first) → BeginsLog magic id gate first bytes
 begins magic bytes gate id first four head = record { magic_size = four; made = head }
 
 -- the same, of a disk that was only read before
-pub opens_read : (magic : List ℕ) (asked : ℕ) (bytes : List ℕ) (old read new : List Moment) (result : Result FoundLog LogError) → read ≡ old → Opens magic asked bytes read new result → Opens magic asked bytes old new result
-opens_read magic asked bytes old read new result same opens = subst (λ (ms : List Moment). Opens magic asked bytes ms new result) same opens
+pub opens_read : (place : ℕ) (magic : List ℕ) (asked : ℕ) (bytes : List ℕ) (old read new : List Moment) (result : Result FoundLog LogError) → read ≡ old → Opens place magic asked bytes read new result → Opens place magic asked bytes old new result
+opens_read place magic asked bytes old read new result same opens = subst (λ (ms : List Moment). Opens place magic asked bytes ms new result) same opens
 
-pub found_none : (magic : List ℕ) (asked : ℕ) (bytes : List ℕ) → IsUnmade bytes → (records : List (List ℕ)) → records ≡ [] → IsFound magic asked bytes asked records
+pub found_none : (magic : List ℕ) (asked : ℕ) (bytes : List ℕ) → IsUnmade bytes → (records : List (List ℕ)) → records ≡ [] → IsFound 0 magic asked bytes asked records
 found_none magic asked bytes unmade records none = record { spelled = inl (unmade, none); unmade = λ _. refl }
 
-pub made_rests : (magic : List ℕ) (id : ℕ) (records : List (List ℕ)) → length magic ≡ 4 → records ≡ [] → (m : Moment) → m ≡ synced (log_of magic id 1 [] ++ 0 ∷ []) → IsAtRest magic id 10 records m
+pub made_rests : (magic : List ℕ) (id : ℕ) (records : List (List ℕ)) → length magic ≡ 4 → records ≡ [] → (m : Moment) → m ≡ synced (log_of magic id 1 [] ++ 0 ∷ []) → IsAtRest magic id 10 [] [] records m
 made_rests magic id records four none m on = record {
   gated = [];
   acknowledged = record { gates_open = tt; last = refl; same = none };
@@ -163,44 +186,84 @@ made_rests magic id records four none m on = record {
   on_disk = on;
 }
 
--- after the first sync
-pub opens_synced : (magic : List ℕ) (asked : ℕ) (result : Result FoundLog LogError) (old mid new past : List Moment) (m : Moment) → old ≡ m ∷ past → ReadsItself old → mid ≡ added after_sync old
-    → IfKnown mid (λ n. n ≡ synced n.reads → Opens magic asked n.reads mid new result) → Opens magic asked m.reads old new result
-opens_synced magic asked result old mid new past m is itself by_sync opens =
-    let P : List ℕ → Type 0 = Repairs magic asked m.reads in
+-- ---- no head above place 0
+
+pub bad_above : (place : ℕ) (magic bytes : List ℕ) → 0 < place → IsUnmade (drop place bytes) ⊎ IsBadHead magic (drop place bytes) → IsBadHeadAt place magic bytes
+bad_above zero magic bytes above bad = absurd (omega arith)
+bad_above (suc place) magic bytes above bad = bad
+
+short_bad : (magic bytes : List ℕ) → length bytes < 11 → IsUnmade bytes ⊎ IsBadHead magic bytes
+short_bad magic [] short = inl tt
+short_bad magic (gate ∷ []) short = inl tt
+short_bad magic (gate ∷ byte ∷ bytes) short = elim (cases_eq gate 0) [
+  | inl shut ↦ inl shut
+  | inr opened ↦ inr (record { made = opened; wrong = inl short })
+]
+
+pub short_above : (place : ℕ) (magic bytes : List ℕ) → 0 < place → length bytes < place + 11 → IsBadHeadAt place magic bytes
+short_above place magic bytes above short = bad_above place magic bytes above (short_bad magic (drop place bytes) (omega (arith, length-drop place bytes)))
+
+-- ---- after the first sync
+
+pub opens_synced : (place : ℕ) (magic : List ℕ) (asked : ℕ) (result : Result FoundLog LogError) (old mid new past : List Moment) (m : Moment) → old ≡ m ∷ past → ReadsItself old → mid ≡ added after_sync old
+    → IfKnown mid (λ n. n ≡ synced n.reads → Opens place magic asked n.reads mid new result) → Opens place magic asked m.reads old new result
+opens_synced place magic asked result old mid new past m is itself by_sync opens =
+    let P : List ℕ → Type 0 = Repairs place magic asked m.reads in
     let more : mid ≡ synced m.reads ∷ m ∷ past = by_sync ∙ ap (λ (ms : List Moment). added after_sync ms) is in
-    let rest : Opens magic asked m.reads mid new result = known_at (λ n. n ≡ synced n.reads → Opens magic asked n.reads mid new result) mid (m ∷ past) (synced m.reads) more opens refl in
+    let rest : Opens place magic asked m.reads mid new result = known_at (λ n. n ≡ synced n.reads → Opens place magic asked n.reads mid new result) mid (m ∷ past) (synced m.reads) more opens refl in
     let first : Goes (Leaves P) old mid = subst (λ (ms : List Moment). Goes (Leaves P) ms mid) (sym is) (synced m.reads ∷ [], more, (λ image h. inl (image_of_synced m.reads image h), tt)) in
     record {
       passed = goes_on (Leaves P) old mid new first rest.passed;
-      durable = λ id records. preserves_on (Leaves (HasAcknowledged magic id records)) old mid new (sync_preserves (HasAcknowledged magic id records) old mid itself by_sync) (rest.durable id records);
-      stands = on_ok_weaker result (λ s id records. preserves_on (λ n. Stands magic id records n.reads) old mid new (sync_reads (Stands magic id records) old mid by_sync) (s id records)) rest.stands;
+      durable = λ id records. preserves_on (LeavesFrom place (HasAcknowledged magic id records)) old mid new
+          (sync_preserves (λ image. HasAcknowledged magic id records (drop place image)) old mid itself by_sync) (rest.durable id records);
+      stands = on_ok_weaker result (λ s id records. preserves_on (λ n. Stands magic id records (drop place n.reads)) old mid new
+          (sync_reads (λ image. Stands magic id records (drop place image)) old mid by_sync) (s id records)) rest.stands;
       answered = rest.answered;
     }
 
 -- ---- what is known of a disk before and after
 
-module _ (magic : List ℕ) (asked : ℕ) where
-  pub opens_passed : (result : Result FoundLog LogError) (old new : List Moment) → IfKnown old (λ m. Opens magic asked m.reads old new result) → IfKnown old (λ m. Goes (Leaves (Repairs magic asked m.reads)) old new)
+module _ (place : ℕ) (magic : List ℕ) (asked : ℕ) where
+  pub opens_passed : (result : Result FoundLog LogError) (old new : List Moment) → IfKnown old (λ m. Opens place magic asked m.reads old new result) → IfKnown old (λ m. Goes (Leaves (Repairs place magic asked m.reads)) old new)
   opens_passed result [] new opens = tt
   opens_passed result (m ∷ past) new opens = opens.passed
 
-  pub opens_durable : (result : Result FoundLog LogError) (old new : List Moment) → (old ≡ [] → new ≡ []) → IfKnown old (λ m. Opens magic asked m.reads old new result) → LosesNoRecord magic old new
+  pub opens_durable : (result : Result FoundLog LogError) (old new : List Moment) → (old ≡ [] → new ≡ []) → IfKnown old (λ m. Opens place magic asked m.reads old new result) → LosesNoRecordAt place magic old new
   opens_durable result [] new unknown opens = λ id records. ([], unknown refl, tt)
   opens_durable result (m ∷ past) new unknown opens = opens.durable
 
-  pub opens_stands : (found : FoundLog) (old new : List Moment) → (old ≡ [] → new ≡ []) → IfKnown old (λ m. Opens magic asked m.reads old new (Ok found)) → StandsOn magic old new
+  pub opens_stands : (found : FoundLog) (old new : List Moment) → (old ≡ [] → new ≡ []) → IfKnown old (λ m. Opens place magic asked m.reads old new (Ok found)) → StandsOn place magic old new
   opens_stands found [] new unknown opens = λ id records. ([], unknown refl, tt)
   opens_stands found (m ∷ past) new unknown opens = opens.stands
 
-  pub opens_found : (found : FoundLog) (old new : List Moment) → IfKnown old (λ m. Opens magic asked m.reads old new (Ok found)) → IfKnown old (λ m. IsFound magic asked m.reads found.id found.records.items)
+  pub opens_found : (found : FoundLog) (old new : List Moment) → IfKnown old (λ m. Opens place magic asked m.reads old new (Ok found)) → IfKnown old (λ m. IsFound place magic asked m.reads found.id found.records.items)
   opens_found found [] new opens = tt
   opens_found found (m ∷ past) new opens = opens.answered.0
 
-  pub opens_rests : (found : FoundLog) (old new : List Moment) → (old ≡ [] → new ≡ []) → IfKnown old (λ m. Opens magic asked m.reads old new (Ok found)) → IfKnown new (IsAtRest magic found.id found.end found.records.items)
-  opens_rests found [] new unknown opens = subst (λ (ms : List Moment). IfKnown ms (IsAtRest magic found.id found.end found.records.items)) (sym (unknown refl)) tt
-  opens_rests found (m ∷ past) new unknown opens = opens.answered.1
-
-  pub opens_why : (why : LogError) (old new : List Moment) → IfKnown old (λ m. Opens magic asked m.reads old new (Err why)) → IfKnown old (λ m. IsRefused magic m.reads why)
+  pub opens_why : (why : LogError) (old new : List Moment) → IfKnown old (λ m. Opens place magic asked m.reads old new (Err why)) → IfKnown old (λ m. IsRefused place magic m.reads why)
   opens_why why [] new opens = tt
   opens_why why (m ∷ past) new opens = opens.answered
+
+before_place : (place : ℕ) (m : Moment) (past : List Moment) → front_at place (m ∷ past) ≡ take place m.reads
+before_place zero m past = refl
+before_place (suc place) m past = refl
+
+pub opens_rests : (place : ℕ) (magic : List ℕ) (asked : ℕ) (found : FoundLog) (old new : List Moment) → (old ≡ [] → new ≡ []) → IfKnown old (λ m. Opens place magic asked m.reads old new (Ok found))
+    → IfKnown new (IsAtRest magic found.id found.end (front_at place old) [] found.records.items)
+opens_rests place magic asked found [] new unknown opens =
+    subst (λ (ms : List Moment). IfKnown ms (IsAtRest magic found.id found.end (front_at place []) [] found.records.items)) (sym (unknown refl)) tt
+opens_rests place magic asked found (m ∷ past) new unknown opens =
+    subst (λ (front : List ℕ). IfKnown new (IsAtRest magic found.id found.end front [] found.records.items)) (sym (before_place place m past)) opens.answered.1
+
+-- a crash of a log that was opened leaves its records
+pub opened_spells : (place : ℕ) (magic : List ℕ) (asked : ℕ) (found : FoundLog) (old new : List Moment) → (old ≡ [] → new ≡ []) → IfKnown old (λ m. Opens place magic asked m.reads old new (Ok found))
+    → (image : List ℕ) → images new image → SpellsAt place image magic found.id found.records.items
+opened_spells place magic asked found [] new unknown opens image h = absurd (subst (λ (ms : List Moment). images ms image) (unknown refl) h)
+opened_spells place magic asked found (m ∷ past) new unknown opens image h =
+    subst (λ (n : ℕ). SpellsAt n image magic found.id found.records.items) (sym (within place m.reads opens.answered.0.spelled))
+    (rest_spells magic found.id found.end (take place m.reads) [] found.records.items new opens.answered.1 image h)
+  where
+    within : (n : ℕ) (bytes : List ℕ) → SpellsAt n bytes magic found.id found.records.items → n ≡ length (take n bytes)
+    within zero bytes spelled = refl
+    within (suc n) bytes (inl none) = absurd none.0
+    within (suc n) bytes (inr w) = sym (length-take-le (suc n) bytes (omega (arith, length-drop (suc n) bytes, ap length w.2.spelling)))

@@ -1,5 +1,5 @@
 -- A log is repaired.
-use Rattle.std.proofs.Common.{◌≡◌, ◌≢◌, inl, inr, ℕ, ◌+◌, List, [], ◌∷◌, ◌++◌, length, take, Option, None, Some, Result, Ok, refl, sym, ◌∙◌, ap, subst, arith, length-append}
+use Rattle.std.proofs.Common.{◌≡◌, ◌≢◌, inl, inr, ℕ, ◌+◌, List, [], ◌∷◌, ◌++◌, length, take, drop, Option, None, Some, Result, Ok, refl, sym, ◌∙◌, ap, subst, arith, length-append}
 use Rattle.std.proofs.lemmas.List.{append_assoc, take_at, map_push}
 use Rattle.wp_outside.specs.Disk.{Moment, IsImage, synced, after_write, after_cut, Each}
 use Rattle.wp_gatelog.specs.declared.gate.GateByte.{GateByte}
@@ -47,7 +47,7 @@ pub each_but_last : (before : List Gated) (last : Gated) → Each IsOpen (before
 each_but_last [] last each = (tt, each.0)
 each_but_last (g ∷ before) last each = let rest = each_but_last before last each.1 in ((each.0, rest.0), rest.1)
 
-module _ (magic : List ℕ) (id head : ℕ) (gated : List Gated) where
+module _ (start : ℕ) (magic : List ℕ) (id head : ℕ) (gated : List Gated) where
   repaired_cut : (image : List ℕ) → HasFront (log_of magic id head gated) image → IsRepaired magic id head gated image
   repaired_cut image front = inl front
 
@@ -55,24 +55,27 @@ module _ (magic : List ℕ) (id head : ℕ) (gated : List Gated) where
   repaired_head image w =
       inr (inl (w.0, w.1, (w.2, w.3 ∙ ap (λ (l : List ℕ). w.1 ∷ l) (append_assoc (identity magic id ++ all_gated gated) (0 ∷ []) w.2))))
 
-  repaired_last : (gate : GateByte) (last : IsLast (Some gate) gated) (image : List ℕ) → Reopens (log_of magic id 1 last.0) gate.byte (framed last.1 ++ 0 ∷ []) image → IsRepaired magic id head gated image
+  repaired_last : (gate : GateByte) (last : IsLast start (Some gate) gated) (image : List ℕ) → Reopens (log_of magic id 1 last.0) gate.byte (framed last.1 ++ 0 ∷ []) image → IsRepaired magic id head gated image
   repaired_last gate last image w =
       let opened = w.3 ∙ ap (λ (l : List ℕ). log_of magic id 1 last.0 ++ w.1 ∷ l) (append_assoc (framed last.1) (0 ∷ []) w.2) in
       inr (inr (last.0, record { gate = gate.byte; bytes = last.1 }, w.1, last.2, w.0, (w.2, log_longer magic id 1 last.0 w.1 last.1 w.2 image opened)))
 
   -- the log before its last record
-  pub last_split : (gate : GateByte) (last : IsLast (Some gate) gated) → log_of magic id 1 gated ++ 0 ∷ [] ≡ log_of magic id 1 last.0 ++ gate.byte ∷ (framed last.1 ++ 0 ∷ [])
+  pub last_split : (gate : GateByte) (last : IsLast start (Some gate) gated) → log_of magic id 1 gated ++ 0 ∷ [] ≡ log_of magic id 1 last.0 ++ gate.byte ∷ (framed last.1 ++ 0 ∷ [])
   last_split gate last =
       ap (λ (gs : List Gated). log_of magic id 1 gs ++ 0 ∷ []) last.2
       ∙ sym (log_longer magic id 1 last.0 gate.byte last.1 [] (log_of magic id 1 last.0 ++ gate.byte ∷ (framed last.1 ++ 0 ∷ [])) refl)
 
-  pub last_place : (gate : GateByte) (last : IsLast (Some gate) gated) → length magic ≡ 4 → gate.at ≡ length (log_of magic id 1 last.0)
-  last_place gate last four = omega (arith, last.3, length-identity magic id four, length-append (identity magic id) (all_gated last.0))
+  pub last_place : (gate : GateByte) (last : IsLast start (Some gate) gated) (place : ℕ) → start ≡ place + 10 → length magic ≡ 4 → gate.at ≡ place + length (log_of magic id 1 last.0)
+  last_place gate last place begins four = omega (arith, last.3, begins, length-identity magic id four, length-append (identity magic id) (all_gated last.0))
 
 -- ---- at rest
 
-module _ (magic : List ℕ) (id head : ℕ) (records : List (List ℕ)) (found : Option GateByte) (end len : ℕ) (bytes : List ℕ) (log : IsReadLog magic id head records found end len bytes) where
-  rests_last : (gate : GateByte) (last : IsLast (Some gate) log.gated) (m : Moment) → m ≡ synced (log_of magic id 1 last.0 ++ 1 ∷ (framed last.1 ++ 0 ∷ [])) → IsAtRest magic id end records m
+module _ (front magic : List ℕ) (id head : ℕ) (records : List (List ℕ)) (found : Option GateByte) (end len : ℕ) (bytes : List ℕ) (log : IsReadLog front magic id head records found end len bytes) where
+  abbrev start : ℕ
+  start = length front + 10
+
+  rests_last : (gate : GateByte) (last : IsLast start (Some gate) log.gated) (m : Moment) → m ≡ synced (front ++ (log_of magic id 1 last.0 ++ 1 ∷ (framed last.1 ++ 0 ∷ []))) → IsAtRest magic id end front [] records m
   rests_last gate last m on =
       let before : List Gated = last.0 in
       let found : List ℕ = last.1 in
@@ -93,10 +96,10 @@ module _ (magic : List ℕ) (id head : ℕ) (records : List (List ℕ)) (found :
           length-append (log_of magic id head before) (gate.byte ∷ framed found),
           length-append (log_of magic id 1 before) (1 ∷ framed found),
         );
-        on_disk = on ∙ ap synced (log_longer magic id 1 before 1 found [] (log_of magic id 1 before ++ 1 ∷ (framed found ++ 0 ∷ [])) refl);
+        on_disk = on ∙ ap (λ (l : List ℕ). synced (front ++ l)) (log_longer magic id 1 before 1 found [] (log_of magic id 1 before ++ 1 ∷ (framed found ++ 0 ∷ [])) refl);
       }
 
-  rests_none : IsLast None log.gated → (m : Moment) → m ≡ synced (log_of magic id 1 log.gated ++ 0 ∷ []) → IsAtRest magic id end records m
+  rests_none : IsLast start None log.gated → (m : Moment) → m ≡ synced (front ++ (log_of magic id 1 log.gated ++ 0 ∷ [])) → IsAtRest magic id end front [] records m
   rests_none none m on = record {
     gated = log.gated;
     acknowledged = record { gates_open = log.has_log.gates_open; last = ap (last_gate 1) none; same = log.same };
@@ -108,53 +111,59 @@ module _ (magic : List ℕ) (id head : ℕ) (records : List (List ℕ)) (found :
 
   -- what a cut behind the closed gate makes of this log's bytes, and what opening its head's gate wholly makes of the rest
   abbrev pub Cuts : {T E : Type 0} → List Moment → List Moment → Result T E → Type 0
-  Cuts old new result = (front following : List ℕ) → end ≡ length front → len ≡ length (front ++ 0 ∷ following) → IsSynced (front ++ 0 ∷ following) old → Changes (HasFront front) (front ++ 0 ∷ following) (front ++ 0 ∷ []) old new result
+  Cuts old new result = (first inner following : List ℕ) → end ≡ length first + length inner → len ≡ length first + length (inner ++ 0 ∷ following) → IsSynced (first ++ (inner ++ 0 ∷ following)) old
+      → Changes first (HasFront inner) (inner ++ 0 ∷ following) (inner ++ 0 ∷ []) old new result
 
-  abbrev pub OpensHead : {T E : Type 0} → List Moment → List Moment → Result T E → Type 0
-  OpensHead old new result = (front following : List ℕ) → 0 ≡ length front → IsSynced (front ++ head ∷ following) old → Changes (Reopens front head following) (front ++ head ∷ following) (front ++ 1 ∷ following) old new result
+  abbrev pub OpensHead : {T E : Type 0} → ℕ → List Moment → List Moment → Result T E → Type 0
+  OpensHead place old new result = (first inner following : List ℕ) → place ≡ length first + length inner → IsSynced (first ++ (inner ++ head ∷ following)) old
+      → Changes first (Reopens inner head following) (inner ++ head ∷ following) (inner ++ 1 ∷ following) old new result
+
+  -- the log is repaired behind the front
+  abbrev pub Repaired : List ℕ → Type 0
+  Repaired image = IsRepaired magic id head log.gated (drop (length front) image)
 
   -- once the rest is cut, and once the head's gate is open wholly too
   abbrev pub BringsCut : {T E : Type 0} → List Moment → List Moment → Result T E → Type 0
-  BringsCut = BringsTo magic (IsRepaired magic id head log.gated) (λ m. m ≡ synced (log_of magic id head log.gated ++ 0 ∷ []))
+  BringsCut = BringsTo (length front) magic Repaired (λ m. m ≡ synced (front ++ (log_of magic id head log.gated ++ 0 ∷ [])))
 
   abbrev pub BringsHead : {T E : Type 0} → List Moment → List Moment → Result T E → Type 0
-  BringsHead = BringsTo magic (IsRepaired magic id head log.gated) (λ m. m ≡ synced (log_of magic id 1 log.gated ++ 0 ∷ []))
+  BringsHead = BringsTo (length front) magic Repaired (λ m. m ≡ synced (front ++ (log_of magic id 1 log.gated ++ 0 ∷ [])))
 
-  pub brings_cut : {T E : Type 0} (old new : List Moment) (result : Result T E) → Cuts old new result → IsSynced bytes old → BringsCut old new result
+  pub brings_cut : {T E : Type 0} (old new : List Moment) (result : Result T E) → Cuts old new result → IsSynced (front ++ bytes) old → BringsCut old new result
   brings_cut old new result cuts known =
-      let front : List ℕ = log_of magic id head log.gated in
-      let changes = cuts front log.has_log.rest log.place (log.size ∙ ap length log.has_log.spelling) (known_as _ _ _ log.has_log.spelling known) in
-      brings_of magic (HasFront front) (IsRepaired magic id head log.gated) (λ m. m ≡ synced (front ++ 0 ∷ [])) (front ++ 0 ∷ log.has_log.rest) (front ++ 0 ∷ []) old new result
+      let inner : List ℕ = log_of magic id head log.gated in
+      let changes = cuts front inner log.has_log.rest log.place (log.size ∙ ap (λ (l : List ℕ). length front + length l) log.has_log.spelling) (known_as _ _ _ (ap (λ (l : List ℕ). front ++ l) log.has_log.spelling) known) in
+      brings_of front magic (HasFront inner) Repaired (λ m. m ≡ synced (front ++ (inner ++ 0 ∷ []))) (inner ++ 0 ∷ log.has_log.rest) (inner ++ 0 ∷ []) old new result
       (λ other others. spares_cut magic other id head others log.gated log.has_log.rest log.has_log.gates_open)
-      (λ other others. stands_behind magic id head log.gated log.has_log.head_open log.has_log.gates_open other others log.has_log.rest []) (repaired_cut magic id head log.gated) (λ m on. on) changes
+      (λ other others. stands_behind magic id head log.gated log.has_log.head_open log.has_log.gates_open other others log.has_log.rest [])
+      (λ image h. repaired_cut start magic id head log.gated (drop (length front) image) h) (λ m on. on) changes
 
-  pub brings_head : {T U E : Type 0} (x : T) (old mid new : List Moment) (result : Result U E) → BringsCut {T = T} {E = E} old mid (Ok x) → OpensHead mid new result → BringsHead old new result
-  brings_head x old mid new result cut opens =
+  pub brings_head : {T U E : Type 0} (x : T) (place : ℕ) (old mid new : List Moment) (result : Result U E) → place ≡ length front → BringsCut {T = T} {E = E} old mid (Ok x) → OpensHead place mid new result → BringsHead old new result
+  brings_head x place old mid new result at cut opens =
       let tail : List ℕ = (identity magic id ++ all_gated log.gated) ++ 0 ∷ [] in
-      let P = IsRepaired magic id head log.gated in
-      brings_on magic P (λ m. m ≡ synced (head ∷ tail)) (λ m. m ≡ synced (1 ∷ tail)) old mid new x result cut
-      (brings_of magic (Reopens [] head tail) P (λ m. m ≡ synced (1 ∷ tail)) (head ∷ tail) (1 ∷ tail) mid new result
-      (λ other others. spares_head magic other head others tail) (λ other others. stands_head magic other head others tail) (repaired_head magic id head log.gated) (λ m on. on) (opens [] tail refl cut.done))
+      brings_on (length front) magic Repaired (λ m. m ≡ synced (front ++ head ∷ tail)) (λ m. m ≡ synced (front ++ 1 ∷ tail)) old mid new x result cut
+      (brings_of front magic (Reopens [] head tail) Repaired (λ m. m ≡ synced (front ++ 1 ∷ tail)) (head ∷ tail) (1 ∷ tail) mid new result
+      (λ other others. spares_head magic other head others tail) (λ other others. stands_head magic other head others tail)
+      (λ image h. repaired_head start magic id head log.gated (drop (length front) image) h) (λ m on. on) (opens front [] tail (omega (arith, at)) cut.done))
 
-  pub brings_last : {T E : Type 0} (gate : GateByte) (last : IsLast (Some gate) log.gated) (old new : List Moment) (result : Result T E)
-      → Changes (Reopens (log_of magic id 1 last.0) gate.byte (framed last.1 ++ 0 ∷ [])) (log_of magic id 1 last.0 ++ gate.byte ∷ (framed last.1 ++ 0 ∷ [])) (log_of magic id 1 last.0 ++ 1 ∷ (framed last.1 ++ 0 ∷ [])) old new result
-      → BringsTo magic (IsRepaired magic id head log.gated) (IsAtRest magic id end records) old new result
+  pub brings_last : {T E : Type 0} (gate : GateByte) (last : IsLast start (Some gate) log.gated) (old new : List Moment) (result : Result T E)
+      → Changes front (Reopens (log_of magic id 1 last.0) gate.byte (framed last.1 ++ 0 ∷ [])) (log_of magic id 1 last.0 ++ gate.byte ∷ (framed last.1 ++ 0 ∷ [])) (log_of magic id 1 last.0 ++ 1 ∷ (framed last.1 ++ 0 ∷ [])) old new result
+      → BringsTo (length front) magic Repaired (IsAtRest magic id end front [] records) old new result
   brings_last gate last old new result changes =
-      let front : List ℕ = log_of magic id 1 last.0 in
+      let inner : List ℕ = log_of magic id 1 last.0 in
       let tail : List ℕ = framed last.1 ++ 0 ∷ [] in
-      brings_of magic (Reopens front gate.byte tail) (IsRepaired magic id head log.gated) (IsAtRest magic id end records) (front ++ gate.byte ∷ tail) (front ++ 1 ∷ tail) old new result
+      brings_of front magic (Reopens inner gate.byte tail) Repaired (IsAtRest magic id end front [] records) (inner ++ gate.byte ∷ tail) (inner ++ 1 ∷ tail) old new result
       (λ other others. spares_last magic other id others last.0 gate.byte last.1 (subst (λ (gs : List Gated). Each IsOpen gs) last.2 log.has_log.gates_open))
       (λ other others. stands_gate magic id 1 last.0 (λ e. cc e)
       (each_but_last last.0 (record { gate = gate.byte; bytes = last.1 }) (subst (λ (gs : List Gated). Each IsOpen gs) last.2 log.has_log.gates_open)).0 other others gate.byte tail)
-      (repaired_last magic id head log.gated gate last) (rests_last gate last) changes
+      (λ image h. repaired_last start magic id head log.gated gate last (drop (length front) image) h) (rests_last gate last) changes
 
   -- a log without records is at rest once its head's gate is open wholly
-  pub brings_none : {T U E F : Type 0} (x : T) (y : U) → IsLast None log.gated → (old new : List Moment)
-      → BringsTo {T = T} {E = E} magic (IsRepaired magic id head log.gated) (λ m. m ≡ synced (log_of magic id 1 log.gated ++ 0 ∷ [])) old new (Ok x)
-      → BringsTo {T = U} {E = F} magic (IsRepaired magic id head log.gated) (IsAtRest magic id end records) old new (Ok y)
+  pub brings_none : {T U E F : Type 0} (x : T) (y : U) → IsLast start None log.gated → (old new : List Moment)
+      → BringsHead {T = T} {E = E} old new (Ok x) → BringsTo {T = U} {E = F} (length front) magic Repaired (IsAtRest magic id end front [] records) old new (Ok y)
   brings_none x y none old new brings = record {
     passed = brings.passed;
     durable = brings.durable;
-    done = known_map (λ m. m ≡ synced (log_of magic id 1 log.gated ++ 0 ∷ [])) (IsAtRest magic id end records) (rests_none none) new brings.done;
+    done = known_map (λ m. m ≡ synced (front ++ (log_of magic id 1 log.gated ++ 0 ∷ []))) (IsAtRest magic id end front [] records) (rests_none none) new brings.done;
     stands = brings.stands;
   }

@@ -105,15 +105,15 @@ record_long bytes found gate len is next = ap length (is ∙ record_found bytes 
 
 -- ---- record after record
 
-module _ (text : List ℕ) (records : List (List ℕ)) (last : Option GateByte) (end : ℕ) (read : HasRead text [] records last end) where
+module _ (start : ℕ) (text : List ℕ) (records : List (List ℕ)) (last : Option GateByte) (end : ℕ) (read : HasRead start text [] records last end) where
   whole_text : text ≡ all_gated read.gated
   whole_text = read.spelling ∙ append-nil (all_gated read.gated)
 
-  read_place : end ≡ 10 + length text
+  read_place : end ≡ start + length text
   read_place = omega (arith, read.place, ap length whole_text)
 
   read_more : (gate : ℕ) (found : List ℕ) → IsOpen (record { gate = gate; bytes = found })
-      → HasRead (text ++ gate ∷ framed found) [] (records ++ found ∷ []) (Some (record { at = end; byte = gate })) (end + (9 + length found))
+      → HasRead start (text ++ gate ∷ framed found) [] (records ++ found ∷ []) (Some (record { at = end; byte = gate })) (end + (9 + length found))
   read_more gate found opened =
       let size : length (gate ∷ framed found) ≡ 9 + length found = omega (arith, length-framed found) in
       let more = all_gated_more read.gated gate found in
@@ -126,7 +126,7 @@ module _ (text : List ℕ) (records : List (List ℕ)) (last : Option GateByte) 
         last_is = (read.gated, found, refl, read.place);
       }
 
-  read_ended : (rest : List ℕ) → HasRead (text ++ rest) rest records last end
+  read_ended : (rest : List ℕ) → HasRead start (text ++ rest) rest records last end
   read_ended rest = record {
     gated = read.gated;
     spelling = ap (λ (l : List ℕ). l ++ rest) whole_text;
@@ -151,18 +151,19 @@ module _ (text : List ℕ) (records : List (List ℕ)) (last : Option GateByte) 
 
 -- ---- of a device
 
--- These records were read of a device that went from old to now, and the piece stands behind them, from their end on.
-pub record HasScanned (old now : List Moment) (piece : List ℕ) (records : List (List ℕ)) (last : Option GateByte) (end : ℕ) : Type 0 where
-  pub read : ReadsTo 10 old now (λ text. HasRead text [] records last end)
+-- These records were read from start on of a device that went from old to now, and the piece stands behind them, from their
+-- end on.
+pub record HasScanned (start : ℕ) (old now : List Moment) (piece : List ℕ) (records : List (List ℕ)) (last : Option GateByte) (end : ℕ) : Type 0 where
+  pub read : ReadsTo start old now (λ text. HasRead start text [] records last end)
   pub shown : IfKnown now (Shows end piece)
   pub some : 0 < length piece
 
-pub scan_begins : (ms : List Moment) (first : ℕ) → IfKnown ms (λ m. Shows 10 (first ∷ []) m → HasScanned ms ms (first ∷ []) [] None 10)
-scan_begins [] first = tt
-scan_begins (m ∷ past) first = λ shown. record {
+pub scan_begins : (start : ℕ) (ms : List Moment) (first : ℕ) → IfKnown ms (λ m. Shows start (first ∷ []) m → HasScanned start ms ms (first ∷ []) [] None start)
+scan_begins start [] first = tt
+scan_begins start (m ∷ past) first = λ shown. record {
   read = record {
     text = [];
-    is = record { gated = []; spelling = refl; gates_open = tt; same = refl; place = refl; last_is = refl };
+    is = record { gated = []; spelling = refl; gates_open = tt; same = refl; place = omega arith; last_is = refl };
     patched = record { more = []; came = refl; patch = refl };
   };
   shown = shown;
@@ -170,25 +171,25 @@ scan_begins (m ∷ past) first = λ shown. record {
 }
 
 -- then the device was looked at, or not, and this piece stands there
-module _ (old mid new : List Moment) (piece now : List ℕ) (records : List (List ℕ)) (last : Option GateByte) (end : ℕ) (goes : Goes (λ m. ⊤) mid new)
-    (shown : IfKnown mid (Shows end piece) → IfKnown new (IsWholeAt end now)) (scanned : HasScanned old mid piece records last end) where
+module _ (start : ℕ) (old mid new : List Moment) (piece now : List ℕ) (records : List (List ℕ)) (last : Option GateByte) (end : ℕ) (goes : Goes (λ m. ⊤) mid new)
+    (shown : IfKnown mid (Shows end piece) → IfKnown new (IsWholeAt end now)) (scanned : HasScanned start old mid piece records last end) where
   abbrev text : List ℕ
   text = scanned.read.text
 
-  place : end ≡ 10 + length text
-  place = read_place text records last end scanned.read.is
+  place : end ≡ start + length text
+  place = read_place start text records last end scanned.read.is
 
   there : IfKnown new (IsWholeAt end now)
   there = shown scanned.shown
 
   -- a front of the piece goes behind the text
-  reads_front : (front rest : List ℕ) → now ≡ front ++ rest → IsPatched 10 old new (text ++ front)
+  reads_front : (front rest : List ℕ) → now ≡ front ++ rest → IsPatched start old new (text ++ front)
   reads_front front rest is =
-      patched_piece 10 old new text front (patched_later 10 old mid new text goes scanned.read.patched)
-      (known_map (IsWholeAt end now) (Shows (10 + length text) front) (λ m whole. subst (λ (n : ℕ). Shows n front m) place (shows_front end front rest m (subst (λ (l : List ℕ). Shows end l m) is whole.0))) new there)
+      patched_piece start old new text front (patched_later start old mid new text goes scanned.read.patched)
+      (known_map (IsWholeAt end now) (Shows (start + length text) front) (λ m whole. subst (λ (n : ℕ). Shows n front m) place (shows_front end front rest m (subst (λ (l : List ℕ). Shows end l m) is whole.0))) new there)
 
   pub scan_more : (gate len reach : ℕ) (record_is : List ℕ) → 1 ≤ reach → record_is ≡ take len (drop 9 now) → IsNext now (next.Open gate len)
-      → HasScanned old new (take reach (drop (9 + len) now)) (records ++ record_is ∷ []) (Some (record { at = end; byte = gate })) (end + (9 + len))
+      → HasScanned start old new (take reach (drop (9 + len) now)) (records ++ record_is ∷ []) (Some (record { at = end; byte = gate })) (end + (9 + len))
   scan_more gate len reach record_is least is next =
       let found : List ℕ = next.0 in
       let rest : List ℕ = next.1 in
@@ -198,10 +199,10 @@ module _ (old mid new : List Moment) (piece now : List ℕ) (records : List (Lis
       let behind : drop (9 + len) now ≡ rest = ap (λ (l : List ℕ). drop (9 + len) l) next.5 ∙ drop_at front rest (9 + len) size in
       let kept : List ℕ = take reach rest in
       let split : now ≡ front ++ (kept ++ drop reach rest) = next.5 ∙ ap (λ (l : List ℕ). front ++ l) (sym (take-append-drop reach rest)) in
-      let made : HasScanned old new kept (records ++ found ∷ []) (Some (record { at = end; byte = gate })) (end + (9 + length found)) = record {
+      let made : HasScanned start old new kept (records ++ found ∷ []) (Some (record { at = end; byte = gate })) (end + (9 + length found)) = record {
         read = record {
           text = text ++ front;
-          is = read_more text records last end scanned.read.is gate found next.3;
+          is = read_more start text records last end scanned.read.is gate found next.3;
           patched = reads_front front rest next.5;
         };
         shown = known_map (IsWholeAt end now) (Shows (end + (9 + length found)) kept) (λ m whole.
@@ -209,42 +210,42 @@ module _ (old mid new : List Moment) (piece now : List ℕ) (records : List (Lis
             (shows_front (end + length front) kept (drop reach rest) m (shows_rest end front (kept ++ drop reach rest) m (subst (λ (l : List ℕ). Shows end l m) split whole.0)))) new there;
         some = omega (arith, length-take reach rest, least, next.4);
       } in
-      subst (λ (l : List ℕ). HasScanned old new (take reach l) (records ++ record_is ∷ []) (Some (record { at = end; byte = gate })) (end + (9 + len))) (sym behind)
-      (subst (λ (r : List ℕ). HasScanned old new kept (records ++ r ∷ []) (Some (record { at = end; byte = gate })) (end + (9 + len))) (sym same)
-      (subst (λ (n : ℕ). HasScanned old new kept (records ++ found ∷ []) (Some (record { at = end; byte = gate })) (end + (9 + n))) (sym next.2) made))
+      subst (λ (l : List ℕ). HasScanned start old new (take reach l) (records ++ record_is ∷ []) (Some (record { at = end; byte = gate })) (end + (9 + len))) (sym behind)
+      (subst (λ (r : List ℕ). HasScanned start old new kept (records ++ r ∷ []) (Some (record { at = end; byte = gate })) (end + (9 + len))) (sym same)
+      (subst (λ (n : ℕ). HasScanned start old new kept (records ++ found ∷ []) (Some (record { at = end; byte = gate })) (end + (9 + n))) (sym next.2) made))
 
-  pub scan_ends : IsNext now next.Closed → ReadsTo 10 old new (λ all. HasRead all (0 ∷ []) records last end)
+  pub scan_ends : IsNext now next.Closed → ReadsTo start old new (λ all. HasRead start all (0 ∷ []) records last end)
   scan_ends next = record {
     text = text ++ 0 ∷ [];
-    is = read_ended text records last end scanned.read.is (0 ∷ []);
+    is = read_ended start text records last end scanned.read.is (0 ∷ []);
     patched = reads_front (0 ∷ []) next.0 next.1;
   }
 
-  ended : (all : List ℕ) → length text + length now ≤ length all → IsUnfinished now → IfKnown new (EndsAt 10 all)
-  ended all size unfinished = known_map (IsWholeAt end now) (EndsAt 10 all) (λ m whole. omega (arith, whole.1 unfinished, place, size)) new there
+  ended : (all : List ℕ) → length text + length now ≤ length all → IsUnfinished now → IfKnown new (EndsAt start all)
+  ended all size unfinished = known_map (IsWholeAt end now) (EndsAt start all) (λ m whole. omega (arith, whole.1 unfinished, place, size)) new there
 
   -- The piece has no whole record. Where it has not even a gate, the one that was seen before goes behind the text.
-  pub scan_cut : (id : ℕ) → ((now ≡ piece) × (new ≡ mid)) ⊎ IsUnfinished piece → IsUnfinished now → RefusedBy id old new (Cut (length records) id)
+  pub scan_cut : (id : ℕ) → ((now ≡ piece) × (new ≡ mid)) ⊎ IsUnfinished piece → IsUnfinished now → RefusedBy start id old new (Cut (length records) id)
   scan_cut id kept unfinished = by now piece refl refl
     where
-      seen : (g : ℕ) (f : List ℕ) → piece ≡ g ∷ f → g ≢ 0 → now ≡ [] → RefusedBy id old new (Cut (length records) id)
+      seen : (g : ℕ) (f : List ℕ) → piece ≡ g ∷ f → g ≢ 0 → now ≡ [] → RefusedBy start id old new (Cut (length records) id)
       seen g f was opened none = record {
         text = text ++ g ∷ [];
         is = (
-          read_cut text records last end scanned.read.is id g [] opened (omega arith),
+          read_cut start text records last end scanned.read.is id g [] opened (omega arith),
           ended (text ++ g ∷ []) (omega (arith, ap length none, length-append text (g ∷ []))) unfinished,
         );
-        patched = patched_later 10 old mid new (text ++ g ∷ []) goes (patched_piece 10 old mid text (g ∷ []) scanned.read.patched
-            (known_map (Shows end piece) (Shows (10 + length text) (g ∷ [])) (λ m there. subst (λ (n : ℕ). Shows n (g ∷ []) m) place (shows_front end (g ∷ []) f m (subst (λ (l : List ℕ). Shows end l m) was there))) mid scanned.shown));
+        patched = patched_later start old mid new (text ++ g ∷ []) goes (patched_piece start old mid text (g ∷ []) scanned.read.patched
+            (known_map (Shows end piece) (Shows (start + length text) (g ∷ [])) (λ m there. subst (λ (n : ℕ). Shows n (g ∷ []) m) place (shows_front end (g ∷ []) f m (subst (λ (l : List ℕ). Shows end l m) was there))) mid scanned.shown));
       }
 
-      by : (n p : List ℕ) → now ≡ n → piece ≡ p → RefusedBy id old new (Cut (length records) id)
+      by : (n p : List ℕ) → now ≡ n → piece ≡ p → RefusedBy start id old new (Cut (length records) id)
       by (g ∷ f) p is was =
           let cut = subst IsUnfinished is unfinished in
           record {
             text = text ++ g ∷ f;
             is = (
-              read_cut text records last end scanned.read.is id g f cut.0 cut.1,
+              read_cut start text records last end scanned.read.is id g f cut.0 cut.1,
               ended (text ++ g ∷ f) (omega (arith, ap length is, length-append text (g ∷ f))) unfinished,
             );
             patched = reads_front (g ∷ f) [] (is ∙ sym (append-nil (g ∷ f)));
@@ -257,14 +258,14 @@ module _ (old mid new : List Moment) (piece now : List ℕ) (records : List (Lis
 
 -- ---- of a device that is alone
 
-pub alone_found : (old new : List Moment) (first : ℕ) (records : List (List ℕ)) (last : Option GateByte) (end : ℕ) → new ≡ old
-    → IfKnown old (λ m. Shows 10 (first ∷ []) m → ReadsTo 10 old new (λ text. HasRead text (0 ∷ []) records last end))
-    → IfKnown old (λ m. Shows 10 (first ∷ []) m → (following : List ℕ) × HasRead (drop 10 m.reads) (0 ∷ following) records last end)
-alone_found [] new first records last end same reads = tt
-alone_found (m ∷ past) new first records last end same reads = λ shown.
+pub alone_found : (start : ℕ) (old new : List Moment) (first : ℕ) (records : List (List ℕ)) (last : Option GateByte) (end : ℕ) → new ≡ old
+    → IfKnown old (λ m. Shows start (first ∷ []) m → ReadsTo start old new (λ text. HasRead start text (0 ∷ []) records last end))
+    → IfKnown old (λ m. Shows start (first ∷ []) m → (following : List ℕ) × HasRead start (drop start m.reads) (0 ∷ following) records last end)
+alone_found start [] new first records last end same reads = tt
+alone_found start (m ∷ past) new first records last end same reads = λ shown.
     let to = reads shown in
-    let more : List ℕ = drop (length to.text) (drop 10 m.reads) in
-    let split : drop 10 m.reads ≡ to.text ++ more = shows_split 10 to.text m (patched_alone 10 m past new to.text same to.patched) in (
+    let more : List ℕ = drop (length to.text) (drop start m.reads) in
+    let split : drop start m.reads ≡ to.text ++ more = shows_split start to.text m (patched_alone start m past new to.text same to.patched) in (
       more,
       record {
         gated = to.is.gated;
@@ -276,13 +277,13 @@ alone_found (m ∷ past) new first records last end same reads = λ shown.
       },
     )
 
-pub alone_refused : (old new : List Moment) (id first : ℕ) (why : LogError) → new ≡ old
-    → IfKnown old (λ m. Shows 10 (first ∷ []) m → RefusedBy id old new why) → IfKnown old (λ m. Shows 10 (first ∷ []) m → IsReadFault id (drop 10 m.reads) why)
-alone_refused [] new id first why same refused = tt
-alone_refused (m ∷ past) new id first Memory same refused = λ shown. tt
-alone_refused (m ∷ past) new id first DiskFault same refused = λ shown. tt
-alone_refused (m ∷ past) new id first BadHead same refused = refused
-alone_refused (m ∷ past) new id first (Cut index named) same refused = λ shown.
+pub alone_refused : (start : ℕ) (old new : List Moment) (id first : ℕ) (why : LogError) → new ≡ old
+    → IfKnown old (λ m. Shows start (first ∷ []) m → RefusedBy start id old new why) → IfKnown old (λ m. Shows start (first ∷ []) m → IsReadFault id (drop start m.reads) why)
+alone_refused start [] new id first why same refused = tt
+alone_refused start (m ∷ past) new id first Memory same refused = λ shown. tt
+alone_refused start (m ∷ past) new id first DiskFault same refused = λ shown. tt
+alone_refused start (m ∷ past) new id first BadHead same refused = refused
+alone_refused start (m ∷ past) new id first (Cut index named) same refused = λ shown.
     let to = refused shown in
-    let ends : EndsAt 10 to.text m = subst (λ (ms : List Moment). IfKnown ms (EndsAt 10 to.text)) same to.is.1 in
-    subst (λ (l : List ℕ). IsReadFault id l (Cut index named)) (sym (shows_all 10 to.text m (patched_alone 10 m past new to.text same to.patched) ends)) to.is.0
+    let ends : EndsAt start to.text m = subst (λ (ms : List Moment). IfKnown ms (EndsAt start to.text)) same to.is.1 in
+    subst (λ (l : List ℕ). IsReadFault id l (Cut index named)) (sym (shows_all start to.text m (patched_alone start m past new to.text same to.patched) ends)) to.is.0

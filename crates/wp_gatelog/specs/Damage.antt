@@ -1,5 +1,5 @@
 -- Which bytes spell no records.
-use Rattle.std.specs.Prelude.{◌≡◌, ◌≢◌, ◌⊎◌, ℕ, ◌+◌, ◌<◌, List, ◌∷◌, ◌++◌, length, take, drop, slice_index}
+use Rattle.std.specs.Prelude.{◌≡◌, ◌≢◌, ◌⊎◌, ℕ, zero, suc, ◌+◌, ◌<◌, List, ◌∷◌, ◌++◌, length, take, drop, slice_index}
 use Rattle.std.specs.Int.{w64, from_be_bytes}
 use Rattle.wp_outside.specs.Disk.{Each}
 use Rattle.wp_gatelog.specs.Spelling.{Gated, IsOpen, IsUnmade, log_of}
@@ -8,6 +8,11 @@ use Rattle.wp_gatelog.specs.Spelling.{Gated, IsOpen, IsUnmade, log_of}
 pub record IsBadHead (magic bytes : List ℕ) : Type 0 where
   pub made : IsUnmade bytes → ⊥
   pub wrong : (length bytes < 11) ⊎ (take 4 (drop 1 bytes) ≢ magic) ⊎ (slice_index bytes 5 ≢ 1)
+
+-- the same of a log at a place; above place 0 a closed gate is no head either
+abbrev pub IsBadHeadAt : ℕ → List ℕ → List ℕ → Type 0
+IsBadHeadAt zero magic bytes = IsBadHead magic bytes
+IsBadHeadAt (suc place) magic bytes = IsUnmade (drop (suc place) bytes) ⊎ IsBadHead magic (drop (suc place) bytes)
 
 -- the length that the first eight bytes state
 unfoldable pub stated_length : List ℕ → ℕ

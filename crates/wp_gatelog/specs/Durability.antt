@@ -2,7 +2,7 @@
 use Rattle.std.specs.Prelude.{◌≡◌, ℕ, List, [], ◌∷◌, ◌++◌, ⊤}
 use Rattle.wp_outside.specs.Disk.{Moment, IfKnown}
 use Rattle.wp_gatelog.specs.Log.{IsAcknowledged}
-use Rattle.wp_gatelog.specs.Moments.{Leaves}
+use Rattle.wp_gatelog.specs.Moments.{LeavesFrom}
 use Rattle.wp_gatelog.specs.Spelling.{Gated, log_of}
 
 -- ---- moments
@@ -32,6 +32,11 @@ pub record HasAcknowledged (magic : List ℕ) (id : ℕ) (records : List (List �
 abbrev pub Spares : List ℕ → ℕ → List (List ℕ) → List ℕ → (List ℕ → Type 0) → Type 0
 Spares magic id records bytes P = HasAcknowledged magic id records bytes → (image : List ℕ) → P image → HasAcknowledged magic id records image
 
--- records that each crash at one moment would leave acknowledged, each crash at a later moment leaves so too
+-- Records that each crash at one moment would leave acknowledged in the log at that place, each crash at a later moment
+-- leaves so too.
+abbrev pub LosesNoRecordAt : ℕ → List ℕ → List Moment → List Moment → Type 0
+LosesNoRecordAt place magic old new = (id : ℕ) (records : List (List ℕ)) → Preserves (LeavesFrom place (HasAcknowledged magic id records)) old new
+
+-- the same of a log at place 0
 abbrev pub LosesNoRecord : List ℕ → List Moment → List Moment → Type 0
-LosesNoRecord magic old new = (id : ℕ) (records : List (List ℕ)) → Preserves (Leaves (HasAcknowledged magic id records)) old new
+LosesNoRecord = LosesNoRecordAt 0

@@ -1,5 +1,5 @@
 -- What the opener of a log leaves that refuses the records in it.
-use Rattle.std.specs.Prelude.{◌≡◌, ◌⊎◌, ℕ, List}
+use Rattle.std.specs.Prelude.{◌≡◌, ◌⊎◌, ℕ, List, []}
 use Rattle.wp_outside.specs.Disk.{Moment, IfKnown, added, after_sync}
 use Rattle.wp_gatelog.specs.Log.{IsAtRest}
 use Rattle.wp_gatelog.specs.Spelling.{Spells}
@@ -10,7 +10,7 @@ pub record RestsAsSpelled (magic bytes : List ℕ) (m : Moment) : Type 0 where
   pub end : ℕ
   pub records : List (List ℕ)
   pub spelled : Spells bytes magic id records
-  pub rests : IsAtRest magic id end records m
+  pub rests : IsAtRest magic id end [] [] records m
 
 -- where the disk is known, the log is left at rest, with its records as they were
 abbrev pub IsLeftAtRest : List ℕ → List Moment → List Moment → Type 0

@@ -1,17 +1,17 @@
 -- How an opening repairs a log that it read.
-use Rattle.std.specs.Prelude.{◌≡◌, ◌≢◌, ◌⊎◌, ℕ, List, [], ◌∷◌, ◌++◌, length, Option}
+use Rattle.std.specs.Prelude.{◌≡◌, ◌≢◌, ◌⊎◌, ℕ, ◌+◌, List, [], ◌∷◌, ◌++◌, length, Option}
 use Rattle.wp_gatelog.specs.declared.gate.GateByte.{GateByte}
 use Rattle.wp_gatelog.specs.Scanning.{IsLast}
 use Rattle.wp_gatelog.specs.Spelling.{Gated, HasLog, log_of, records_of}
 
--- a log was read whole in these bytes
-pub record IsReadLog (magic : List ℕ) (id head : ℕ) (records : List (List ℕ)) (last : Option GateByte) (end len : ℕ) (bytes : List ℕ) : Type 0 where
+-- a log was read whole in these bytes, which are all that is behind a front
+pub record IsReadLog (front magic : List ℕ) (id head : ℕ) (records : List (List ℕ)) (last : Option GateByte) (end len : ℕ) (bytes : List ℕ) : Type 0 where
   pub gated : List Gated
   pub has_log : HasLog magic id head gated bytes
   pub same : records ≡ records_of gated
-  pub last_is : IsLast last gated
-  pub place : end ≡ length (log_of magic id head gated)
-  pub size : len ≡ length bytes
+  pub last_is : IsLast (length front + 10) last gated
+  pub place : end ≡ length front + length (log_of magic id head gated)
+  pub size : len ≡ length front + length bytes
   pub magic_size : length magic ≡ 4
 
 -- the bytes begin with front and a closed gate

@@ -26,20 +26,20 @@ IsNext bytes (next.Open gate len) = (found : List ℕ) × (rest : List ℕ) × (
 abbrev pub IsWholeAt : ℕ → List ℕ → Moment → Type 0
 IsWholeAt at bytes m = Shows at bytes m × (IsUnfinished bytes → EndsAt at bytes m)
 
--- the gate of the last record, and its place
-abbrev pub IsLast : Option GateByte → List Gated → Type 0
-IsLast None gated = gated ≡ []
-IsLast (Some last) gated = (before : List Gated) × (found : List ℕ)
-    × (gated ≡ before ++ record { gate = last.byte; bytes = found } ∷ []) × (last.at ≡ 10 + length (all_gated before))
+-- the gate of the last record, and its place, of records that begin at start
+abbrev pub IsLast : ℕ → Option GateByte → List Gated → Type 0
+IsLast start None gated = gated ≡ []
+IsLast start (Some last) gated = (before : List Gated) × (found : List ℕ)
+    × (gated ≡ before ++ record { gate = last.byte; bytes = found } ∷ []) × (last.at ≡ start + length (all_gated before))
 
--- these records were read of the bytes after the head, and rest is left
-pub record HasRead (bytes rest : List ℕ) (records : List (List ℕ)) (last : Option GateByte) (end : ℕ) : Type 0 where
+-- these records were read of the bytes after a head, which begin at start, and rest is left
+pub record HasRead (start : ℕ) (bytes rest : List ℕ) (records : List (List ℕ)) (last : Option GateByte) (end : ℕ) : Type 0 where
   pub gated : List Gated
   pub spelling : bytes ≡ all_gated gated ++ rest
   pub gates_open : Each IsOpen gated
   pub same : records ≡ records_of gated
-  pub place : end ≡ 10 + length (all_gated gated)
-  pub last_is : IsLast last gated
+  pub place : end ≡ start + length (all_gated gated)
+  pub last_is : IsLast start last gated
 
 -- why the records of the bytes after the head can't be read
 abbrev pub IsReadFault : ℕ → List ℕ → LogError → Type 0
@@ -51,8 +51,8 @@ IsReadFault id bytes (error.Cut index named) = (named ≡ id) × (gated : List G
 
 -- Why the records of a device can't be read that went from old to new: texts that were put together of it have the
 -- fault, and it ended behind them at last.
-abbrev pub RefusedBy : ℕ → List Moment → List Moment → LogError → Type 0
-RefusedBy id old new error.Memory = ⊤
-RefusedBy id old new error.DiskFault = ⊤
-RefusedBy id old new error.BadHead = ⊥
-RefusedBy id old new (error.Cut index named) = ReadsTo 10 old new (λ text. IsReadFault id text (error.Cut index named) × IfKnown new (EndsAt 10 text))
+abbrev pub RefusedBy : ℕ → ℕ → List Moment → List Moment → LogError → Type 0
+RefusedBy start id old new error.Memory = ⊤
+RefusedBy start id old new error.DiskFault = ⊤
+RefusedBy start id old new error.BadHead = ⊥
+RefusedBy start id old new (error.Cut index named) = ReadsTo start old new (λ text. IsReadFault id text (error.Cut index named) × IfKnown new (EndsAt start text))

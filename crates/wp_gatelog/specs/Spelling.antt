@@ -2,7 +2,7 @@
 --
 -- A log is a head (a gate, four bytes magic, the version 01, four bytes id), records, each after a gate of its own,
 -- and a closed gate. What follows the first closed gate is nothing.
-use Rattle.std.specs.Prelude.{◌≡◌, ◌≢◌, ◌⊎◌, ℕ, ◌-◌, ◌<◌, ◌^◌, List, [], ◌∷◌, ◌++◌, length, take, drop, map, ⊤}
+use Rattle.std.specs.Prelude.{◌≡◌, ◌≢◌, ◌⊎◌, ℕ, zero, suc, ◌-◌, ◌<◌, ◌^◌, List, [], ◌∷◌, ◌++◌, length, take, drop, map, ⊤}
 use Rattle.std.specs.Int.{w32, w64, to_be_bytes}
 use Rattle.wp_outside.specs.Disk.{Each}
 
@@ -58,8 +58,18 @@ IsUnmade (gate ∷ byte ∷ bytes) = gate ≡ 0
 abbrev pub records_of : List Gated → List (List ℕ)
 records_of gated = map (λ g. g.bytes) gated
 
--- The bytes spell these records under this magic and id. Bytes in which no log was made spell none, under any id.
+-- a log is made at place 0 alone
+abbrev pub IsUnmadeAt : ℕ → List ℕ → Type 0
+IsUnmadeAt zero bytes = IsUnmade bytes
+IsUnmadeAt (suc place) bytes = ⊥
+
+-- From that place on the bytes spell these records under this magic and id, whatever stands before it. Where no log was
+-- made yet at place 0, they spell none, under any id.
+abbrev pub SpellsAt : ℕ → List ℕ → List ℕ → ℕ → List (List ℕ) → Type 0
+SpellsAt place bytes magic id records =
+    (IsUnmadeAt place bytes × (records ≡ []))
+    ⊎ ((head : ℕ) × (gated : List Gated) × HasLog magic id head gated (drop place bytes) × (records ≡ records_of gated))
+
+-- the same of a log at place 0
 abbrev pub Spells : List ℕ → List ℕ → ℕ → List (List ℕ) → Type 0
-Spells bytes magic id records =
-    (IsUnmade bytes × (records ≡ []))
-    ⊎ ((head : ℕ) × (gated : List Gated) × HasLog magic id head gated bytes × (records ≡ records_of gated))
+Spells = SpellsAt 0

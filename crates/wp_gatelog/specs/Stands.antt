@@ -1,5 +1,5 @@
 -- What stands in a log, whatever follows it.
-use Rattle.std.specs.Prelude.{◌≡◌, ◌≢◌, ℕ, List, ◌∷◌, ◌++◌}
+use Rattle.std.specs.Prelude.{◌≡◌, ◌≢◌, ℕ, List, ◌∷◌, ◌++◌, drop}
 use Rattle.wp_outside.specs.Disk.{Moment, Each}
 use Rattle.wp_gatelog.specs.Durability.{Preserves}
 use Rattle.wp_gatelog.specs.Spelling.{Gated, IsOpen, log_of, records_of}
@@ -16,6 +16,6 @@ pub record Stands (magic : List ℕ) (id : ℕ) (records : List (List ℕ)) (byt
   pub gates_open : Each IsOpen gated
   pub same : records ≡ records_of gated
 
--- records that a read shows at one moment, it shows at the next one too; their gates may change
-abbrev pub StandsOn : List ℕ → List Moment → List Moment → Type 0
-StandsOn magic old new = (id : ℕ) (records : List (List ℕ)) → Preserves (λ m. Stands magic id records m.reads) old new
+-- records that a read shows from that place on at one moment, it shows at the next one too; their gates may change
+abbrev pub StandsOn : ℕ → List ℕ → List Moment → List Moment → Type 0
+StandsOn place magic old new = (id : ℕ) (records : List (List ℕ)) → Preserves (λ m. Stands magic id records (drop place m.reads)) old new

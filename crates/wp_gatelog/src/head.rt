@@ -1,6 +1,6 @@
 //! The head of a log: its gate, magic, version and id, and the gate after it.
 
-ghost use Rattle.std.specs.Prelude.{◌≡◌, ◌≢◌, ◌⊎◌, ℕ, ◌<◌, ◌∷◌, [], ◌++◌, List, length, take, slice_index, IfSome, IfNone, IfOk};
+ghost use Rattle.std.specs.Prelude.{◌≡◌, ◌≢◌, ◌⊎◌, ℕ, ◌<◌, ◌≤◌, ◌^◌, ◌∷◌, [], ◌++◌, List, length, take, drop, slice_index, IfSome, IfNone, IfOk};
 ghost use Rattle.wp_outside.specs.Disk.{IfKnown, Looks};
 ghost use Rattle.wp_outside.specs.Faults.{HasCause};
 ghost use Rattle.wp_gatelog.specs.Heads.{IsHead};
@@ -24,31 +24,35 @@ pub enum Head {
     Made { gate: u8, id: u32, first: u8 },
 }
 
-/// Reads the head: its gate first, and where that is open all of it.
-pub fn read_head<P: Peek>(disk: &mut P, magic: &[u8]) -> Result<Head, Failed>
-    requires { length magic.now ≡ 4 }
-    ensures found { IfOk result (λ head. IfKnown (P.moments disk.new) (λ m. IsHead magic.now m.reads head)) }
+/// Reads the head at `place`: its gate first, and where that is open all of it.
+pub fn read_head<P: Peek>(disk: &mut P, place: u64, magic: &[u8]) -> Result<Head, Failed>
+    requires magic { length magic.now ≡ 4 }
+    requires place { place ≤ 2 ^ 62 }
+    ensures found { IfOk result (λ head.
+        IfKnown (P.moments disk.new) (λ m. IsHead magic.now (drop place m.reads) head)) }
     ensures looks { Looks (P.moments disk.old) (P.moments disk.new) (P.is_alone disk.old) (P.is_alone disk.new) }
     ensures cause { HasCause (P.faults disk.old) (P.faults disk.new) result }
 {
     let mut gate = [CLOSED];
-    let there = disk.read_at(0, &mut gate)?;
+    let there = disk.read_at(place, &mut gate)?;
     if there == 0 || gate[0] == CLOSED {
         return Ok(Head::Unmade);
     }
     let mut bytes = [0; 11];
-    let read = disk.read_at(0, &mut bytes)?;
+    let read = disk.read_at(place, &mut bytes)?;
     Ok(head_of(&bytes[..read], magic))
 }
 
 /// Reads the head of a disk's log.
-pub fn own_head<D: Disk>(disk: &mut D, magic: &[u8]) -> Result<Head, Failed>
-    requires { length magic.now ≡ 4 }
-    ensures found { IfOk result (λ head. IfKnown (D.moments disk.old) (λ m. IsHead magic.now m.reads head)) }
+pub fn own_head<D: Disk>(disk: &mut D, place: u64, magic: &[u8]) -> Result<Head, Failed>
+    requires magic { length magic.now ≡ 4 }
+    requires place { place ≤ 2 ^ 62 }
+    ensures found { IfOk result (λ head.
+        IfKnown (D.moments disk.old) (λ m. IsHead magic.now (drop place m.reads) head)) }
     ensures unchanged { D.moments disk.new ≡ D.moments disk.old }
     ensures cause { HasCause (D.faults disk.old) (D.faults disk.new) result }
 {
-    read_head(disk, magic)
+    read_head(disk, place, magic)
 }
 
 /// The head by its first eleven bytes, or by all where there are fewer.

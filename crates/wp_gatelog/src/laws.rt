@@ -5,7 +5,7 @@ ghost use Rattle.wp_outside.specs.Disk.{Moment};
 ghost use Rattle.wp_gatelog.specs.Damage.{IsBadHead, IsCut};
 ghost use Rattle.wp_gatelog.specs.Durability.{HasAcknowledged};
 ghost use Rattle.wp_gatelog.specs.Log.{IsAtRest};
-ghost use Rattle.wp_gatelog.specs.Moments.{Leaves};
+ghost use Rattle.wp_gatelog.specs.Moments.{LeavesFrom};
 ghost use Rattle.wp_gatelog.specs.Spelling.{IsUnmade, Spells};
 
 /// Bytes spell records, or have a bad head, or have a record that is cut: one of these, in one way.
@@ -31,8 +31,8 @@ pub fn bytes_are_read_in_one_way()
 /// What a crash leaves of a log at rest has its records acknowledged, and acknowledged records are the first that are
 /// spelled.
 pub fn acknowledged_records_come_first()
-    ensures at_rest { (magic : List ℕ) (id end : ℕ) (records : List (List ℕ)) (m : Moment)
-        → IsAtRest magic id end records m → Leaves (HasAcknowledged magic id records) m }
+    ensures at_rest { (magic : List ℕ) (id end : ℕ) (front dead : List ℕ) (records : List (List ℕ)) (m : Moment)
+        → IsAtRest magic id end front dead records m → LeavesFrom (length front) (HasAcknowledged magic id records) m }
     ensures first { (bytes magic : List ℕ) (id other : ℕ) (records others : List (List ℕ))
         → HasAcknowledged magic id records bytes → Spells bytes magic other others
         → (more : List (List ℕ)) × (others ≡ records ++ more) }

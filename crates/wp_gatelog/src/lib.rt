@@ -1,4 +1,5 @@
-//! A log of records after gates, on a disk of its own.
+//! A log of records after gates, on a disk of its own. It stands at a place of the disk; what stands before it, and what
+//! follows the closed gate that ends it, is dead to it.
 //!
 //! Each record follows a gate, one byte that is closed (00) or open. An append writes the record and the next
 //! gate, closed, after the closed gate that ends the log; syncs; opens that gate; syncs. So a crash at any moment

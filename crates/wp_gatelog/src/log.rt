@@ -1,12 +1,12 @@
 //! An open log.
 
-ghost use Rattle.std.specs.Prelude.{◌≡◌, ℕ, ◌+◌, ◌≤◌, ◌^◌, [], ◌∷◌, ◌++◌, List, length, IfOk, IfErr, OnOk, MatchResult};
+ghost use Rattle.std.specs.Prelude.{◌≡◌, ℕ, ◌+◌, ◌≤◌, ◌^◌, [], ◌∷◌, ◌++◌, List, length, drop, IfOk, IfErr, OnOk, MatchResult};
 ghost use Rattle.wp_outside.specs.Disk.{IfKnown, added, after_write, after_sync};
 ghost use Rattle.wp_outside.specs.Faults.{HasCause};
 ghost use Rattle.wp_gatelog.specs.Append.{Appends, FrameAppended, FrameRefused};
 ghost use Rattle.wp_gatelog.specs.Changes.{BringsTo};
 ghost use Rattle.wp_gatelog.specs.Log.{BeforeOrAfter, IsAtRest};
-ghost use Rattle.wp_gatelog.specs.Opening.{IsOpened, IsUnopened, KeepsLog};
+ghost use Rattle.wp_gatelog.specs.Opening.{IsOpened, IsUnopened, KeepsLogAt};
 ghost use Rattle.wp_gatelog.specs.Spelling.{frame_of};
 
 use crate::device::write_synced;
@@ -59,23 +59,25 @@ impl<D: Disk> Model for GateLog<D> {
 }
 
 impl<D: Disk> GateLog<D> {
-    /// Opens the log on the disk, repairs what a crash left of it, and hands out its records. Where none was made, one
-    /// is made, with this id. A log is of one kind, which its magic names.
+    /// Opens the log that stands at `place` of the disk, repairs what a crash left of it, and hands out its records. A log
+    /// is of one kind, which its magic names. At place 0, where none was made, one is made, with this id. Above it that is
+    /// `BadHead`, and so is a place with fewer than eleven bytes behind it, or past the disk's end.
     pub fn open(
         alloc: Global,
         mut disk: D,
+        place: u64,
         magic: [u8; 4],
         id: u32,
     ) -> Result<(GateLog<D>, Vec<Record>), DiskRefused<D, LogError>>
-        ensures opened { IfOk result (λ opened. IsOpened magic id (D.moments disk) opened.0 opened.1.items) }
-        ensures refused { IfErr result (λ refused. IsUnopened magic
+        ensures opened { IfOk result (λ opened. IsOpened place magic id (D.moments disk) opened.0 opened.1.items) }
+        ensures refused { IfErr result (λ refused. IsUnopened place magic
             (D.moments disk) (D.moments refused.disk) (D.faults disk) (D.faults refused.disk) refused.why) }
         ensures kept { MatchResult result
-            (λ opened. KeepsLog magic id (D.moments disk) opened.0.moments (D.faults disk) opened.0.faults)
-            (λ refused. KeepsLog magic id
+            (λ opened. KeepsLogAt place magic id (D.moments disk) opened.0.moments (D.faults disk) opened.0.faults)
+            (λ refused. KeepsLogAt place magic id
             (D.moments disk) (D.moments refused.disk) (D.faults disk) (D.faults refused.disk)) }
     {
-        match find(alloc, &mut disk, magic, id) {
+        match find(alloc, &mut disk, place, magic, id) {
             Ok(FoundLog { id, records, end }) => {
                 let count = records.len() as u64;
                 let log = GateLog {
@@ -142,10 +144,11 @@ impl<D: Disk> GateLog<D> {
 /// before the next begins.
 fn append_frame<D: Disk>(disk: &mut D, end: u64, frame: &Frame) -> Result<(), Failed>
     requires { end ≤ 2 ^ 62 }
-    ensures appended { (magic : List ℕ) (id : ℕ) (records : List (List ℕ))
-        → IfKnown (D.moments disk.old) (IsAtRest magic id end records)
-        → BringsTo magic (BeforeOrAfter magic id records frame.now)
-        (IsAtRest magic id (end + (length frame.now + 9)) (records ++ frame.now ∷ []))
+    ensures appended { (magic : List ℕ) (id : ℕ) (front dead : List ℕ) (records : List (List ℕ))
+        → IfKnown (D.moments disk.old) (IsAtRest magic id end front dead records)
+        → BringsTo (length front) magic (BeforeOrAfter (length front) magic id records frame.now)
+        (IsAtRest magic id (end + (length frame.now + 9)) front (drop (length frame.now + 9) dead)
+        (records ++ frame.now ∷ []))
         (D.moments disk.old) (D.moments disk.new) result }
     ensures calls { OnOk result (D.moments disk.new ≡ added after_sync (added (after_write end (1 ∷ []))
         (added after_sync (added (after_write (end + 1) (frame_of frame.now)) (D.moments disk.old))))) }

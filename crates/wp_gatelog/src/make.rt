@@ -17,7 +17,7 @@ use wp_outside::{Disk, Failed};
 /// on the disk for good.
 pub fn make<D: Disk>(disk: &mut D, len: u64, magic: [u8; 4], id: u32) -> Result<(), Failed>
     ensures made { (before : List ℕ) → IsUnmade before → len ≡ length before → IsSynced before (D.moments disk.old)
-        → BringsTo magic (SpellsNone magic id) (λ m. m ≡ synced (log_of magic id 1 [] ++ 0 ∷ []))
+        → BringsTo 0 magic (SpellsNone magic id) (λ m. m ≡ synced (log_of magic id 1 [] ++ 0 ∷ []))
         (D.moments disk.old) (D.moments disk.new) result }
     ensures unknown { D.moments disk.old ≡ [] → D.moments disk.new ≡ [] }
     ensures cause { HasCause (D.faults disk.old) (D.faults disk.new) result }
@@ -30,7 +30,7 @@ pub fn make<D: Disk>(disk: &mut D, len: u64, magic: [u8; 4], id: u32) -> Result<
 /// Leaves a closed gate and nothing after it. A closed gate with bytes after it is not written again: they are cut.
 fn close_head<D: Disk>(disk: &mut D, len: u64) -> Result<(), Failed>
     ensures changes { (before : List ℕ) → IsUnmade before → len ≡ length before → IsSynced before (D.moments disk.old)
-        → Changes IsUnmade before (0 ∷ []) (D.moments disk.old) (D.moments disk.new) result }
+        → Changes [] IsUnmade before (0 ∷ []) (D.moments disk.old) (D.moments disk.new) result }
     ensures unknown { D.moments disk.old ≡ [] → D.moments disk.new ≡ [] }
     ensures cause { HasCause (D.faults disk.old) (D.faults disk.new) result }
 {

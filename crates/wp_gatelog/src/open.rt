@@ -1,6 +1,6 @@
 //! Opening a log.
 
-ghost use Rattle.std.specs.Prelude.{◌≡◌, ℕ, [], List, length, IfOk, IfErr};
+ghost use Rattle.std.specs.Prelude.{◌≡◌, ℕ, ◌<◌, ◌≤◌, ◌^◌, [], List, length, drop, IfOk, IfErr};
 ghost use Rattle.wp_outside.specs.Disk.{IfKnown, added, after_sync, synced};
 ghost use Rattle.wp_gatelog.specs.Opens.{Opens, HasPlaces};
 ghost use Rattle.wp_gatelog.specs.Errors.{HasLogCause};
@@ -24,27 +24,31 @@ pub struct FoundLog {
     pub end: u64,
 }
 
-/// Syncs the disk, and then makes a log, or reads and repairs the one that is there.
+/// Syncs the disk, and then makes a log at place 0, or reads and repairs the one that stands at `place`.
 pub fn find<D: Disk>(
     alloc: Global,
     disk: &mut D,
+    place: u64,
     magic: [u8; 4],
     id: u32,
 ) -> Result<FoundLog, LogError>
     requires { length magic ≡ 4 }
     ensures opens { IfKnown (D.moments disk.old)
-        (λ m. Opens magic id m.reads (D.moments disk.old) (D.moments disk.new) result) }
+        (λ m. Opens place magic id m.reads (D.moments disk.old) (D.moments disk.new) result) }
     ensures untouched { IfErr result (IsUntouched (added after_sync (D.moments disk.old)) (D.moments disk.new)) }
     ensures places { IfOk result HasPlaces }
     ensures unknown { D.moments disk.old ≡ [] → D.moments disk.new ≡ [] }
     ensures cause { HasLogCause (D.faults disk.old) (D.faults disk.new) result }
 {
     disk.sync()?;
-    open_synced(alloc, disk, magic, id)
+    if place == 0 {
+        return open_first(alloc, disk, magic, id);
+    }
+    open_behind(alloc, disk, place, magic, id)
 }
 
-/// Makes a log, or reads and repairs the one that is there, on a disk that has all of its bytes for good.
-pub fn open_synced<D: Disk>(
+/// The log at place 0 of a synced disk.
+fn open_first<D: Disk>(
     alloc: Global,
     disk: &mut D,
     magic: [u8; 4],
@@ -52,13 +56,13 @@ pub fn open_synced<D: Disk>(
 ) -> Result<FoundLog, LogError>
     requires { length magic ≡ 4 }
     ensures opens { IfKnown (D.moments disk.old) (λ m. m ≡ synced m.reads
-        → Opens magic id m.reads (D.moments disk.old) (D.moments disk.new) result) }
+        → Opens 0 magic id m.reads (D.moments disk.old) (D.moments disk.new) result) }
     ensures untouched { IfErr result (IsUntouched (D.moments disk.old) (D.moments disk.new)) }
     ensures places { IfOk result HasPlaces }
     ensures unknown { D.moments disk.old ≡ [] → D.moments disk.new ≡ [] }
     ensures cause { HasLogCause (D.faults disk.old) (D.faults disk.new) result }
 {
-    match own_head(disk, &magic)? {
+    match own_head(disk, 0, &magic)? {
         Head::Unmade => {
             let len = own_len(disk)?;
             make(disk, len, magic, id)?;
@@ -69,29 +73,58 @@ pub fn open_synced<D: Disk>(
             })
         }
         Head::Bad => Err(LogError::BadHead),
-        Head::Made { gate, id, first } => open_made(alloc, disk, gate, id, first),
+        Head::Made { gate, id, first } => open_made(alloc, disk, 0, gate, id, first),
     }
 }
 
-/// Reads and repairs the records of a log whose head was read, on a disk that has all of its bytes for good.
-pub fn open_made<D: Disk>(
+/// The log at a place above 0 of a synced disk. The place is compared with the disk's length before anything is read there.
+fn open_behind<D: Disk>(
     alloc: Global,
     disk: &mut D,
-    head: u8,
+    place: u64,
+    magic: [u8; 4],
     id: u32,
-    first: u8,
 ) -> Result<FoundLog, LogError>
-    ensures opens { (magic : List ℕ) (asked : ℕ) → IfKnown (D.moments disk.old) (λ m. m ≡ synced m.reads
-        → BeginsLog magic id head first m.reads
-        → Opens magic asked m.reads (D.moments disk.old) (D.moments disk.new) result) }
+    requires magic { length magic ≡ 4 }
+    requires place { 0 < place }
+    ensures opens { IfKnown (D.moments disk.old) (λ m. m ≡ synced m.reads
+        → Opens place magic id m.reads (D.moments disk.old) (D.moments disk.new) result) }
     ensures untouched { IfErr result (IsUntouched (D.moments disk.old) (D.moments disk.new)) }
     ensures places { IfOk result HasPlaces }
     ensures unknown { D.moments disk.old ≡ [] → D.moments disk.new ≡ [] }
     ensures cause { HasLogCause (D.faults disk.old) (D.faults disk.new) result }
 {
-    let scan = own_records(alloc, disk, id, first)?;
     let len = own_len(disk)?;
-    repair(disk, len, head, &scan)?;
+    if len.saturating_sub(place) <= HEAD_LEN {
+        return Err(LogError::BadHead);
+    }
+    match own_head(disk, place, &magic)? {
+        Head::Unmade | Head::Bad => Err(LogError::BadHead),
+        Head::Made { gate, id, first } => open_made(alloc, disk, place, gate, id, first),
+    }
+}
+
+/// Reads and repairs the records of a log whose head at `place` was read, on a disk that has all of its bytes for good.
+fn open_made<D: Disk>(
+    alloc: Global,
+    disk: &mut D,
+    place: u64,
+    head: u8,
+    id: u32,
+    first: u8,
+) -> Result<FoundLog, LogError>
+    requires { place ≤ 2 ^ 62 }
+    ensures opens { (magic : List ℕ) (asked : ℕ) → IfKnown (D.moments disk.old) (λ m. m ≡ synced m.reads
+        → BeginsLog magic id head first (drop place m.reads)
+        → Opens place magic asked m.reads (D.moments disk.old) (D.moments disk.new) result) }
+    ensures untouched { IfErr result (IsUntouched (D.moments disk.old) (D.moments disk.new)) }
+    ensures places { IfOk result HasPlaces }
+    ensures unknown { D.moments disk.old ≡ [] → D.moments disk.new ≡ [] }
+    ensures cause { HasLogCause (D.faults disk.old) (D.faults disk.new) result }
+{
+    let scan = own_records(alloc, disk, place + HEAD_LEN, id, first)?;
+    let len = own_len(disk)?;
+    repair(disk, place, len, head, &scan)?;
     Ok(FoundLog {
         id,
         records: scan.records,

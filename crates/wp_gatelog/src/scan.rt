@@ -12,7 +12,6 @@ ghost use Rattle.wp_gatelog.specs.Scanning.{IsNext, IsUnfinished, IsWholeAt, Has
 
 use crate::error::LogError;
 use crate::gate::{CLOSED, GateByte};
-use crate::head::HEAD_LEN;
 use crate::piece::Piece;
 use crate::record::Record;
 use std::alloc::{AllocError, Global};
@@ -53,21 +52,22 @@ pub enum Next {
     Open { gate: u8, len: u64 },
 }
 
-/// Reads the records after the head of a log, up to the first closed gate. `id` is the head's, `first` the gate that was
-/// read with it. Of a read `reach` bytes behind a record are used: one where others may write, the next gate.
+/// Reads the records after the head of a log, from the first one's gate at `start` on, up to the first closed gate. `id` is
+/// the head's, `first` the gate that was read with it. Of a read `reach` bytes behind a record are used: one where others may write, the next gate.
 pub fn read_records<P: Peek>(
     alloc: Global,
     disk: &mut P,
+    start: u64,
     id: u32,
     first: u8,
     reach: usize,
 ) -> Result<Scan, LogError>
     requires { 1 ≤ reach }
-    ensures found { IfOk result (λ scan. IfKnown (P.moments disk.old) (λ m. Shows 10 (first ∷ []) m
-        → ReadsTo 10 (P.moments disk.old) (P.moments disk.new)
-        (λ text. HasRead text (0 ∷ []) scan.records.items scan.last scan.end))) }
-    ensures refused { IfErr result (λ why. IfKnown (P.moments disk.old) (λ m. Shows 10 (first ∷ []) m
-        → RefusedBy id (P.moments disk.old) (P.moments disk.new) why)) }
+    ensures found { IfOk result (λ scan. IfKnown (P.moments disk.old) (λ m. Shows start (first ∷ []) m
+        → ReadsTo start (P.moments disk.old) (P.moments disk.new)
+        (λ text. HasRead start text (0 ∷ []) scan.records.items scan.last scan.end))) }
+    ensures refused { IfErr result (λ why. IfKnown (P.moments disk.old) (λ m. Shows start (first ∷ []) m
+        → RefusedBy start id (P.moments disk.old) (P.moments disk.new) why)) }
     ensures places { IfOk result (λ scan. (vec_len scan.records ≤ scan.end) × (scan.end < 2 ^ 62)) }
     ensures looks { Looks (P.moments disk.old) (P.moments disk.new) (P.is_alone disk.old) (P.is_alone disk.new) }
     ensures fault { IfErr result (FaultRose (P.faults disk.old) (P.faults disk.new)) }
@@ -75,7 +75,7 @@ pub fn read_records<P: Peek>(
 {
     let mut records = Vec::new(alloc);
     let mut last = None;
-    let mut end = HEAD_LEN;
+    let mut end = start;
     let mut piece = Piece::of(vec![in alloc; first]?);
     'gates: while end < MOST {
         match read_next(alloc, disk, end, &mut piece)? {
@@ -104,19 +104,21 @@ pub fn read_records<P: Peek>(
 pub fn own_records<D: Disk>(
     alloc: Global,
     disk: &mut D,
+    start: u64,
     id: u32,
     first: u8,
 ) -> Result<Scan, LogError>
-    ensures found { IfOk result (λ scan. IfKnown (D.moments disk.old) (λ m. Shows 10 (first ∷ []) m
-        → (following : List ℕ) × HasRead (drop 10 m.reads) (0 ∷ following) scan.records.items scan.last scan.end)) }
-    ensures refused { IfErr result (λ why. IfKnown (D.moments disk.old) (λ m. Shows 10 (first ∷ []) m
-        → IsReadFault id (drop 10 m.reads) why)) }
+    ensures found { IfOk result (λ scan. IfKnown (D.moments disk.old) (λ m. Shows start (first ∷ []) m
+        → (following : List ℕ)
+        × HasRead start (drop start m.reads) (0 ∷ following) scan.records.items scan.last scan.end)) }
+    ensures refused { IfErr result (λ why. IfKnown (D.moments disk.old) (λ m. Shows start (first ∷ []) m
+        → IsReadFault id (drop start m.reads) why)) }
     ensures places { IfOk result (λ scan. (vec_len scan.records ≤ scan.end) × (scan.end < 2 ^ 62)) }
     ensures unchanged { D.moments disk.new ≡ D.moments disk.old }
     ensures fault { IfErr result (FaultRose (D.faults disk.old) (D.faults disk.new)) }
     ensures later { D.faults disk.old ≤ D.faults disk.new }
 {
-    read_records(alloc, disk, id, first, PIECE as usize)
+    read_records(alloc, disk, start, id, first, PIECE as usize)
 }
 
 /// What is at the gate at `at`, with which the piece begins. Where the piece has less than the record and the gate behind
@@ -208,9 +210,9 @@ fn record_in(alloc: Global, bytes: &[u8], len: u64) -> Result<Record, AllocError
 }
 
 /// How many bytes a record takes in a log, with its gate and its length.
-fn span_of(record: &Record) -> u64
-    ensures size { result ≡ 9 + length record.now }
+fn span_of(found: &Record) -> u64
+    ensures size { result ≡ 9 + length found.now }
     ensures small { result < 2 ^ 63 + 9 }
 {
-    START_LEN + record.bytes().len() as u64
+    START_LEN + found.bytes().len() as u64
 }

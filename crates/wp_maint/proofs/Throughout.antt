@@ -68,7 +68,7 @@ module _ (seen : List Entry) (old new : EditsState) (next : InstalledEdit) (k : 
 
   manifest_rests : (image : List ℕ) → images old.set.manifest.log.moments image → IsManifestOf id s.edits image
   manifest_rests image at =
-      (s.stores.manifest.records, rest_spells MAGIC id old.set.manifest.log.end s.stores.manifest.records old.set.manifest.log.moments (s.stores.manifest.rests (k.running running)) image at, s.stores.manifest.spelled)
+      (s.stores.manifest.records, rest_spells MAGIC id old.set.manifest.log.end [] [] s.stores.manifest.records old.set.manifest.log.moments (s.stores.manifest.rests (k.running running)) image at, s.stores.manifest.spelled)
 
   tables_rest : (image : List ℕ) → images old.set.moments image → Last image
   tables_rest image at =

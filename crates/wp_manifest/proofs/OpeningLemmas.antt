@@ -32,7 +32,7 @@ pub cut_head : (index : ℕ) (bytes : List ℕ) (cut : IsCut MAGIC index bytes) 
 cut_head index bytes cut = head_of cut.id cut.head cut.gate cut.gated bytes cut.rest cut.head_open cut.spelling
 
 -- what was found under another id was made before
-found_head : (asked id : ℕ) (bytes : List ℕ) (records : List (List ℕ)) → IsFound MAGIC asked bytes id records → (id ≡ asked → ⊥) → HasHead id bytes
+found_head : (asked id : ℕ) (bytes : List ℕ) (records : List (List ℕ)) → IsFound 0 MAGIC asked bytes id records → (id ≡ asked → ⊥) → HasHead id bytes
 found_head asked id bytes records found other =
     elim found.spelled [
       | inl unmade ↦ absurd (other (found.unmade unmade.0))
@@ -48,11 +48,11 @@ known : (P Q : Moment → Type 0) (moments : List Moment) → ((m : Moment) → 
 known P Q [] implies is = tt
 known P Q (m ∷ past) implies is = implies m is
 
-pub stranger_cause : (asked id : ℕ) (records : List (List ℕ)) (moments : List Moment) → (id ≡ asked → ⊥) → IfKnown moments (λ m. IsFound MAGIC asked m.reads id records) → (asked ≡ asked) × (id ≢ asked) × IfKnown moments (λ m. HasHead id m.reads)
+pub stranger_cause : (asked id : ℕ) (records : List (List ℕ)) (moments : List Moment) → (id ≡ asked → ⊥) → IfKnown moments (λ m. IsFound 0 MAGIC asked m.reads id records) → (asked ≡ asked) × (id ≢ asked) × IfKnown moments (λ m. HasHead id m.reads)
 stranger_cause asked id records moments other found =
-    (refl, other, known (λ m. IsFound MAGIC asked m.reads id records) (λ m. HasHead id m.reads) moments (λ m is. found_head asked id m.reads records is other) found)
+    (refl, other, known (λ m. IsFound 0 MAGIC asked m.reads id records) (λ m. HasHead id m.reads) moments (λ m is. found_head asked id m.reads records is other) found)
 
-pub refused_cause : (id before now : ℕ) (moments : List Moment) (why : LogError) → IfKnown moments (λ m. IsRefused MAGIC m.reads why) → FaultRose before now why → IsManifestCause id (Rose before now) moments (manifest_error_of id why)
+pub refused_cause : (id before now : ℕ) (moments : List Moment) (why : LogError) → IfKnown moments (λ m. IsRefused 0 MAGIC m.reads why) → FaultRose before now why → IsManifestCause id (Rose before now) moments (manifest_error_of id why)
 refused_cause id before now moments log.Memory refused rose = tt
 refused_cause id before now moments log.DiskFault refused rose = rose
 refused_cause id before now moments log.BadHead refused rose = refused
@@ -80,10 +80,10 @@ refused_left id old new (log.Cut index found) same = by (found == id)
     by false = inl same
 
 -- the log of the edits was opened, and let go of
-pub opened_left : (asked : ℕ) (log : LogState) (records : List (List ℕ)) (old : List Moment) → IsOpened MAGIC asked old log records → IsSyncedOrAtRest MAGIC old log.moments
+pub opened_left : (asked : ℕ) (log : LogState) (records : List (List ℕ)) (old : List Moment) → IsOpened 0 MAGIC asked old log records → IsSyncedOrAtRest MAGIC old log.moments
 opened_left asked log records old opened = inr (by old log.moments opened.found opened.rests)
   where
-    by : (old new : List Moment) → IfKnown old (λ m. IsFound MAGIC asked m.reads log.id records) → IfKnown new (IsAtRest MAGIC log.id log.end records) → IsLeftAtRest MAGIC old new
+    by : (old new : List Moment) → IfKnown old (λ m. IsFound 0 MAGIC asked m.reads log.id records) → IfKnown new (IsAtRest MAGIC log.id log.end [] [] records) → IsLeftAtRest MAGIC old new
     by [] new found rests = tt
     by (m ∷ past) [] found rests = tt
     by (m ∷ past) (n ∷ before) found rests = record { id = log.id; end = log.end; records = records; spelled = found.spelled; rests = rests }

@@ -1,5 +1,5 @@
 -- An open manifest that stores edits, and what an install makes of it.
-use Rattle.std.specs.Prelude.{◌≡◌, ℕ, true, false, List, length}
+use Rattle.std.specs.Prelude.{◌≡◌, ℕ, true, false, List, [], length}
 use Rattle.wp_outside.specs.Disk.{Moment, IfKnown}
 use Rattle.wp_outside.specs.Faults.{Rose}
 use Rattle.wp_gatelog.specs.Durability.{HasAcknowledged}
@@ -25,7 +25,7 @@ pub record StoresEdits (manifest : ManifestState) (edits : List Edit) (next : Ed
   pub spelled : AreEdits records edits
   pub counted : manifest.log.count ≡ length edits
   pub last : manifest.edit ≡ last_edit edits
-  pub rests : manifest.log.closed ≡ false → Rests MAGIC manifest.log records
+  pub rests : manifest.log.closed ≡ false → Rests MAGIC manifest.log [] [] records
   pub left : manifest.log.closed ≡ true → IfKnown manifest.log.moments (LeavesEditsOrNext manifest.log.id records edits next)
 
 -- The manifest was opened on a disk with these moments, for a log with this id: it stores what the disk spelled as it was

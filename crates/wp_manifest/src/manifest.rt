@@ -72,7 +72,7 @@ impl<D: Disk> Manifest<D> {
             (λ refused. KeepsLog MAGIC id
             (D.moments disk) (D.moments refused.disk) (D.faults disk) (D.faults refused.disk)) }
     {
-        let (log, records) = match GateLog::open(alloc, disk, MANIFEST_MAGIC, id) {
+        let (log, records) = match GateLog::open(alloc, disk, 0, MANIFEST_MAGIC, id) {
             Ok(opened) => opened,
             Err(DiskRefused { disk, why }) => {
                 let why = error_of(why, id);

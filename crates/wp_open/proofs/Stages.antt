@@ -143,7 +143,7 @@ manifest_rests id (m ∷ past) state o = by state.log.moments (o.stores.rests o.
         subst (λ (n : ℕ). Spells m.reads edits.MAGIC n o.stores.records) (sym o.id_is)
         (subst (λ (rs : List (List ℕ)). Spells m.reads edits.MAGIC id rs) (same_records found.0 o.stores.records o.edits found.2 o.stores.spelled) found.1)
 
-    by : (now : List Moment) → IfKnown now (IsAtRest edits.MAGIC state.log.id state.log.end o.stores.records) → IfKnown now (RestsAsSpelled edits.MAGIC m.reads)
+    by : (now : List Moment) → IfKnown now (IsAtRest edits.MAGIC state.log.id state.log.end [] [] o.stores.records) → IfKnown now (RestsAsSpelled edits.MAGIC m.reads)
     by [] rests = tt
     by (n ∷ before) rests = record { id = state.log.id; end = state.log.end; records = o.stores.records; spelled = spelled; rests = rests }
 

@@ -45,7 +45,7 @@ module _ (s : EditsState) (k : IsEdits s) (last_is : s.table.last ≡ installed_
     | inr open_ ↦
         named_last image (
           k.stores.manifest.records,
-          rest_spells MAGIC s.set.manifest.log.id s.set.manifest.log.end k.stores.manifest.records s.set.manifest.log.moments (k.stores.manifest.rests open_) image at,
+          rest_spells MAGIC s.set.manifest.log.id s.set.manifest.log.end [] [] k.stores.manifest.records s.set.manifest.log.moments (k.stores.manifest.rests open_) image at,
           k.stores.manifest.spelled,
         )
   ]

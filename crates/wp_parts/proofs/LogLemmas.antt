@@ -183,6 +183,6 @@ log_tells wal first history pending failed logged log image at = elim (cases_Boo
     | inr after ↦ (spelled logged history pending ++ failed, after, inr (closed, refl))
   ]
   | inr open_ ↦
-      let found = rest_spells MAGIC wal.id wal.end log.stores.records wal.moments (log.stores.rests open_) image at in
+      let found = rest_spells MAGIC wal.id wal.end [] [] log.stores.records wal.moments (log.stores.rests open_) image at in
       (spelled logged history pending, (log.stores.records, found, log.stores.spelled), inl refl)
 ]

@@ -1,5 +1,6 @@
 -- What an append makes of a log that stores a history.
 use Rattle.std.proofs.Common.{◌≡◌, ℕ, ◌+◌, Bool, true, false, List, [], ◌∷◌, ◌++◌, length, Option, Some, None, Result, Ok, Err, refl, sym, ap, subst, ◌∙◌, inl, inr, arith, length-append}
+use Rattle.std.proofs.lemmas.List.{drop_all}
 use Rattle.std.specs.Prelude.{IfSome}
 use Rattle.wp_model.specs.declared.entry.Entry.{Entry}
 use Rattle.wp_outside.specs.Disk.{Moment, IsImage, IfKnown, Each, Passes}
@@ -20,22 +21,22 @@ use Rattle.wp_wal.proofs.EntriesLemmas.{AreEntries-push}
 
 -- ---- images
 
-rests_image : (magic : List ℕ) (id end : ℕ) (records : List (List ℕ)) (m : Moment) (rests : IsAtRest magic id end records m) (image : List ℕ) → IsImage m image → image ≡ log_of magic id 1 rests.gated ++ 0 ∷ []
-rests_image magic id end records m rests image is =
-    image_of_synced (log_of magic id 1 rests.gated ++ 0 ∷ []) image (subst (λ (s : Moment). IsImage s image) rests.on_disk is)
+rests_image : (magic : List ℕ) (id end : ℕ) (dead : List ℕ) (records : List (List ℕ)) (m : Moment) (rests : IsAtRest magic id end [] dead records m) (image : List ℕ) → IsImage m image → image ≡ log_of magic id 1 rests.gated ++ 0 ∷ dead
+rests_image magic id end dead records m rests image is =
+    image_of_synced (log_of magic id 1 rests.gated ++ 0 ∷ dead) image (subst (λ (s : Moment). IsImage s image) rests.on_disk is)
 
-rests_spells : (magic : List ℕ) (id end : ℕ) (records : List (List ℕ)) (m : Moment) → IsAtRest magic id end records m → Leaves (λ image. Spells image magic id records) m
-rests_spells magic id end records m rests image is =
-    inr (1, rests.gated, record { rest = []; spelling = rests_image magic id end records m rests image is; head_open = λ e. absurd cc; gates_open = rests.acknowledged.gates_open }, rests.acknowledged.same)
+rests_spells : (magic : List ℕ) (id end : ℕ) (dead : List ℕ) (records : List (List ℕ)) (m : Moment) → IsAtRest magic id end [] dead records m → Leaves (λ image. Spells image magic id records) m
+rests_spells magic id end dead records m rests image is =
+    inr (1, rests.gated, record { rest = dead; spelling = rests_image magic id end dead records m rests image is; head_open = λ e. absurd cc; gates_open = rests.acknowledged.gates_open }, rests.acknowledged.same)
 
 -- at rest, a crash leaves the history
-rests_history : (id end : ℕ) (records : List (List ℕ)) (history : List Entry) (moments : List Moment) → AreEntries 1 records history → IfKnown moments (IsAtRest MAGIC id end records) → IfKnown moments (LeavesHistory id history)
-rests_history id end records history [] spelled rests = tt
-rests_history id end records history (m ∷ past) spelled rests = λ image is.
-    ((records, rests_spells MAGIC id end records m rests image is, spelled), (records, rest_acknowledged MAGIC id end records m rests image is, spelled))
+rests_history : (id end : ℕ) (dead : List ℕ) (records : List (List ℕ)) (history : List Entry) (moments : List Moment) → AreEntries 1 records history → IfKnown moments (IsAtRest MAGIC id end [] dead records) → IfKnown moments (LeavesHistory id history)
+rests_history id end dead records history [] spelled rests = tt
+rests_history id end dead records history (m ∷ past) spelled rests = λ image is.
+    ((records, rests_spells MAGIC id end dead records m rests image is, spelled), (records, rest_acknowledged MAGIC id end [] dead records m rests image is, spelled))
 
 pub running_history : (wal : WalState) (history next : List Entry) → StoresHistory wal history next → wal.closed ≡ false → IfKnown wal.moments (LeavesHistory wal.id history)
-running_history wal history next stores running = rests_history wal.id wal.end stores.records history wal.moments stores.spelled (stores.rests running)
+running_history wal history next stores running = rests_history wal.id wal.end [] stores.records history wal.moments stores.spelled (stores.rests running)
 
 -- ---- moments
 
@@ -111,7 +112,7 @@ module _ (old new : LogState) (due : ℕ) (reserved : Option Reserved) (r : Rese
       subst (λ (bytes : List ℕ). AreEntries 1 (records ++ bytes ∷ []) (history ++ next)) (sym one.spelled) (AreEntries-push records history next is.stores.spelled one.is)
 
   -- before or after, an image spells the history or it with the next entries
-  grown : (image : List ℕ) → BeforeOrAfter MAGIC old.id records r.bytes image → IsLogOrNext old.id history next image
+  grown : (image : List ℕ) → BeforeOrAfter 0 MAGIC old.id records r.bytes image → IsLogOrNext old.id history next image
   grown image h =
       elim h [
         | inl before ↦ inl (records, before, is.stores.spelled)
@@ -119,13 +120,13 @@ module _ (old new : LogState) (due : ℕ) (reserved : Option Reserved) (r : Rese
       ]
 
   module _ {T E : Type 0} (result : Result T E) (appends : Appends r.bytes old new result) where
-    abbrev after : AppendsAfter MAGIC records r.bytes old new result
-    after = appends MAGIC records is.stores.rests
+    abbrev after : AppendsAfter MAGIC [] [] records r.bytes old new result
+    after = appends MAGIC [] [] records is.stores.rests
 
     passes : Passes (Leaves (IsLogOrNext old.id history next)) old.moments new.moments
     passes =
         let passed = after.any_moment in
-        (passed.0, passed.1, each_other (BeforeOrAfter MAGIC old.id records r.bytes) (IsLogOrNext old.id history next) passed.0 grown passed.2)
+        (passed.0, passed.1, each_other (BeforeOrAfter 0 MAGIC old.id records r.bytes) (IsLogOrNext old.id history next) passed.0 grown passed.2)
 
     acknowledges : Passes (Leaves (HasAcknowledgedEntries old.id history)) old.moments new.moments
     acknowledges =
@@ -146,7 +147,7 @@ module _ (old new : LogState) (due : ℕ) (reserved : Option Reserved) (r : Rese
           spelled = spelled_next;
           counted = omega (arith, count, before, length-append records (r.bytes ∷ []));
           numbered = omega (arith, one.numbered, one.counted, length-append history next);
-          rests = λ _. (after (Ok x) appends).rests;
+          rests = λ _. subst (λ (l : List ℕ). IfKnown new.moments (IsAtRest MAGIC new.id new.end [] l (records ++ r.bytes ∷ []))) (drop_all (length r.bytes + 9) [] (omega arith)) (after (Ok x) appends).rests;
           left = λ closed. absurd cc;
         };
         refused = tt;

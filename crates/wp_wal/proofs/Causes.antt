@@ -9,11 +9,11 @@ use Rattle.wp_wal.specs.Opening.{IsLogCause}
 use Rattle.wp_wal.specs.Reading.{IsRecordCause}
 use Rattle.wp_wal.specs.Spelling.{MAGIC}
 
-found_there : (old : List Moment) (asked id : ℕ) (records : List (List ℕ)) → IfKnown old (λ m. IsFound MAGIC asked m.reads id records) → IfKnown old (λ m. (found : ℕ) × Spells m.reads MAGIC found records)
+found_there : (old : List Moment) (asked id : ℕ) (records : List (List ℕ)) → IfKnown old (λ m. IsFound 0 MAGIC asked m.reads id records) → IfKnown old (λ m. (found : ℕ) × Spells m.reads MAGIC found records)
 found_there [] asked id records found = tt
 found_there (m ∷ past) asked id records found = (id, found.spelled)
 
-pub refused_records : (rose : Type 0) (old : List Moment) (asked id : ℕ) (records : List (List ℕ)) (why : WalError) → IfKnown old (λ m. IsFound MAGIC asked m.reads id records) → IsRecordCause records why → IsLogCause rose old why
+pub refused_records : (rose : Type 0) (old : List Moment) (asked id : ℕ) (records : List (List ℕ)) (why : WalError) → IfKnown old (λ m. IsFound 0 MAGIC asked m.reads id records) → IsRecordCause records why → IsLogCause rose old why
 refused_records rose old asked id records Memory found cause = tt
 refused_records rose old asked id records DiskFault found cause = absurd cause
 refused_records rose old asked id records BadHead found cause = absurd cause

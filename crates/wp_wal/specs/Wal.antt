@@ -67,7 +67,7 @@ pub record StoresHistory (wal : WalState) (history next : List Entry) : Type 0 w
   pub spelled : AreEntries 1 records history
   pub counted : wal.count ≡ length records
   pub numbered : wal.due ≡ length history + 1
-  pub rests : wal.closed ≡ false → IfKnown wal.moments (IsAtRest MAGIC wal.id wal.end records)
+  pub rests : wal.closed ≡ false → IfKnown wal.moments (IsAtRest MAGIC wal.id wal.end [] [] records)
   pub left : wal.closed ≡ true → IfKnown wal.moments (LeavesHistoryOrNext wal.id history next)
 
 -- ---- appending

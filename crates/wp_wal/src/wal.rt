@@ -58,7 +58,7 @@ impl<D: Disk> Wal<D> {
             (λ refused. KeepsLog MAGIC id
             (D.moments disk) (D.moments refused.disk) (D.faults disk) (D.faults refused.disk)) }
     {
-        let (log, records) = match GateLog::open(alloc, disk, LOG_MAGIC, id) {
+        let (log, records) = match GateLog::open(alloc, disk, 0, LOG_MAGIC, id) {
             Ok(opened) => opened,
             Err(DiskRefused { disk, why }) => {
                 let why = WalError::from(why);

@@ -1,4 +1,4 @@
-use Rattle.std.proofs.Common.{◌≡◌, ◌∷◌, [], ◌++◌}
+use Rattle.std.proofs.Common.{◌≡◌, ◌∷◌, [], ◌++◌, arith}
 use Rattle.std.proofs.lemmas.Result.{err_from_is_err_and}
 use Rattle.wp_outside.specs.Disk.{Moment, synced}
 use Rattle.wp_gatelog.specs.Heads.{SpellsNone}
@@ -11,7 +11,7 @@ pub returns-in_err-close_head-clause-made : goal.returns-in_err-close_head-claus
 returns-in_err-close_head-clause-made g c = λ before unmade len_is known.
     let p = err_from_is_err_and c.from_residual.result c.from_residual.ensures.1 in
     let R = λ (m : Moment). m ≡ synced (log_of c.args.magic c.args.id 1 [] ++ 0 ∷ []) in
-    rw p.1 (brings_failed p.0 c.args.magic (SpellsNone c.args.magic c.args.id) _ R _ _ _ (brings_closed c.args.magic c.args.id before unmade _ _ _ (c.close_head.ensures.changes before unmade len_is known)))
+    rw p.1 (brings_failed p.0 0 c.args.magic (SpellsNone c.args.magic c.args.id) _ R _ _ _ (brings_closed c.args.magic c.args.id before unmade _ _ _ (c.close_head.ensures.changes before unmade len_is known)))
 
 pub returns-in_err-write_synced-clause-made : goal.returns-in_err-write_synced-clause-made
 returns-in_err-write_synced-clause-made g c = λ before unmade len_is known.
@@ -19,13 +19,13 @@ returns-in_err-write_synced-clause-made g c = λ before unmade len_is known.
     let P = SpellsNone c.args.magic c.args.id in
     let R = λ (m : Moment). m ≡ synced (log_of c.args.magic c.args.id 1 [] ++ 0 ∷ []) in
     let closed = brings_closed c.args.magic c.args.id before unmade _ _ _ (c.in_ok-close_head.ensures.changes before unmade len_is known) in
-    rw p.1 (brings_failed p.0 c.args.magic P _ R _ _ _ (brings_on c.args.magic P _ _ _ _ _ _ _ closed
-    (brings_staged c.args.magic c.args.id c.head_bytes.result c.head_bytes.ensures _ _ _ (c.write_synced.ensures.changes (0 ∷ []) closed.done))))
+    rw p.1 (brings_failed p.0 0 c.args.magic P _ R _ _ _ (brings_on 0 c.args.magic P _ _ _ _ _ _ _ closed
+    (brings_staged c.args.magic c.args.id c.head_bytes.result c.head_bytes.ensures _ _ _ (c.write_synced.ensures.changes [] (0 ∷ []) 1 (omega arith) closed.done))))
 
 pub returns-clause-made : goal.returns-clause-made
 returns-clause-made g c = λ before unmade len_is known.
     let P = SpellsNone c.args.magic c.args.id in
     let closed = brings_closed c.args.magic c.args.id before unmade _ _ _ (c.in_ok-close_head.ensures.changes before unmade len_is known) in
-    let staged = brings_staged c.args.magic c.args.id c.head_bytes.result c.head_bytes.ensures _ _ _ (c.in_ok-write_synced.ensures.changes (0 ∷ []) closed.done) in
-    let opened = brings_opened c.args.magic c.args.id _ _ _ (c.write_synced-2.ensures.changes (0 ∷ (identity c.args.magic c.args.id ++ 0 ∷ [])) staged.done) in
-    brings_on c.args.magic P _ _ _ _ _ _ _ (brings_on c.args.magic P _ _ _ _ _ _ _ closed staged) opened
+    let staged = brings_staged c.args.magic c.args.id c.head_bytes.result c.head_bytes.ensures _ _ _ (c.in_ok-write_synced.ensures.changes [] (0 ∷ []) 1 (omega arith) closed.done) in
+    let opened = brings_opened c.args.magic c.args.id _ _ _ (c.write_synced-2.ensures.changes [] (0 ∷ (identity c.args.magic c.args.id ++ 0 ∷ [])) 0 (omega arith) staged.done) in
+    brings_on 0 c.args.magic P _ _ _ _ _ _ _ (brings_on 0 c.args.magic P _ _ _ _ _ _ _ closed staged) opened

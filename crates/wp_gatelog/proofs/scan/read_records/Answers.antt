@@ -13,7 +13,7 @@ gates-init g c = record {
   looks = looks_same _ _ _ _ refl refl;
   later = omega arith;
   count = omega arith;
-  scanned = (let one : c.of-piece.result ≡ c.args.first ∷ [] = search rules in rw (one, c.new-records.ensures.items) (scan_begins (g.P.Peek.moments c.args.disk.now) c.args.first));
+  scanned = (let one : c.of-piece.result ≡ c.args.first ∷ [] = search rules in rw (one, c.new-records.ensures.items) (scan_begins c.args.start (g.P.Peek.moments c.args.disk.now) c.args.first));
 }
 
 pub record_in-requires : goal.record_in-requires
@@ -39,11 +39,11 @@ gates-preserved g c =
     let found = rw c.in-Open.is at c.in_ok-read_next.ensures.found in
     let is : record_is ≡ take len (drop 9 piece) = c.in_ok-record-in-Open.ensures ∙ ap (λ (l : List ℕ). take len (drop 9 l)) c.rest.ensures in
     let size : c.span_of-size.result ≡ 9 + len = c.span_of-size.ensures.size ∙ ap (λ (n : ℕ). 9 + n) (record_long piece record_is c.in-Open.gate len is found) in
-    let P : Moment → Type 0 = λ m. Shows 10 (c.args.first ∷ []) m → HasScanned old mid c.gates.piece c.gates.records.items c.gates.last c.gates.end in
-    let Q : Moment → Type 0 = λ m. Shows 10 (c.args.first ∷ []) m
-    → HasScanned old new (take c.args.reach (drop (9 + len) piece)) (c.gates.records.items ++ record_is ∷ []) (Some (record { at = c.gates.end; byte = c.in-Open.gate })) (c.gates.end + (9 + len)) in
+    let P : Moment → Type 0 = λ m. Shows c.args.start (c.args.first ∷ []) m → HasScanned c.args.start old mid c.gates.piece c.gates.records.items c.gates.last c.gates.end in
+    let Q : Moment → Type 0 = λ m. Shows c.args.start (c.args.first ∷ []) m
+    → HasScanned c.args.start old new (take c.args.reach (drop (9 + len) piece)) (c.gates.records.items ++ record_is ∷ []) (Some (record { at = c.gates.end; byte = c.in-Open.gate })) (c.gates.end + (9 + len)) in
     let scanned = known_map P Q (λ m h shown.
-    scan_more old mid new c.gates.piece piece c.gates.records.items c.gates.last c.gates.end c.read_next.ensures.looks.passes c.in_ok-read_next.ensures.shown (h shown)
+    scan_more c.args.start old mid new c.gates.piece piece c.gates.records.items c.gates.last c.gates.end c.read_next.ensures.looks.passes c.in_ok-read_next.ensures.shown (h shown)
     c.in-Open.gate len c.args.reach record_is c.requires is found) old c.gates.invariant.scanned in
     record {
       looks = looks_on _ _ _ _ _ _ c.gates.invariant.looks c.read_next.ensures.looks;
@@ -57,10 +57,10 @@ returns-in-Closed-clause-found g c =
     let old = g.P.Peek.moments c.args.disk.now in
     let mid = g.P.Peek.moments c.gates.disk in
     let new = g.P.Peek.moments c.read_next.new.disk in
-    let P : Moment → Type 0 = λ m. Shows 10 (c.args.first ∷ []) m → HasScanned old mid c.gates.piece c.gates.records.items c.gates.last c.gates.end in
-    let Q : Moment → Type 0 = λ m. Shows 10 (c.args.first ∷ []) m → ReadsTo 10 old new (λ text. HasRead text (0 ∷ []) c.gates.records.items c.gates.last c.gates.end) in
+    let P : Moment → Type 0 = λ m. Shows c.args.start (c.args.first ∷ []) m → HasScanned c.args.start old mid c.gates.piece c.gates.records.items c.gates.last c.gates.end in
+    let Q : Moment → Type 0 = λ m. Shows c.args.start (c.args.first ∷ []) m → ReadsTo c.args.start old new (λ text. HasRead c.args.start text (0 ∷ []) c.gates.records.items c.gates.last c.gates.end) in
     known_map P Q (λ m h shown.
-    scan_ends old mid new c.gates.piece c.read_next.new.piece c.gates.records.items c.gates.last c.gates.end c.read_next.ensures.looks.passes c.in_ok-read_next.ensures.shown (h shown)
+    scan_ends c.args.start old mid new c.gates.piece c.read_next.new.piece c.gates.records.items c.gates.last c.gates.end c.read_next.ensures.looks.passes c.in_ok-read_next.ensures.shown (h shown)
     (rw c.in-Closed.is at c.in_ok-read_next.ensures.found)) old c.gates.invariant.scanned
 
 pub returns-in-Short-clause-refused : goal.returns-in-Short-clause-refused
@@ -70,10 +70,10 @@ returns-in-Short-clause-refused g c =
     let new = g.P.Peek.moments c.read_next.new.disk in
     let unfinished : IsUnfinished c.read_next.new.piece = rw c.in-Short.is at c.in_ok-read_next.ensures.found in
     let index : c.len.result ≡ length c.gates.records.items = search rules in
-    let P : Moment → Type 0 = λ m. Shows 10 (c.args.first ∷ []) m → HasScanned old mid c.gates.piece c.gates.records.items c.gates.last c.gates.end in
-    let Q : Moment → Type 0 = λ m. Shows 10 (c.args.first ∷ []) m → RefusedBy c.args.id old new (error.Cut (length c.gates.records.items) c.args.id) in
+    let P : Moment → Type 0 = λ m. Shows c.args.start (c.args.first ∷ []) m → HasScanned c.args.start old mid c.gates.piece c.gates.records.items c.gates.last c.gates.end in
+    let Q : Moment → Type 0 = λ m. Shows c.args.start (c.args.first ∷ []) m → RefusedBy c.args.start c.args.id old new (error.Cut (length c.gates.records.items) c.args.id) in
     let cut = known_map P Q (λ m h shown.
-    scan_cut old mid new c.gates.piece c.read_next.new.piece c.gates.records.items c.gates.last c.gates.end c.read_next.ensures.looks.passes c.in_ok-read_next.ensures.shown (h shown) c.args.id c.in_ok-read_next.ensures.kept unfinished) old c.gates.invariant.scanned in
+    scan_cut c.args.start old mid new c.gates.piece c.read_next.new.piece c.gates.records.items c.gates.last c.gates.end c.read_next.ensures.looks.passes c.in_ok-read_next.ensures.shown (h shown) c.args.id c.in_ok-read_next.ensures.kept unfinished) old c.gates.invariant.scanned in
     rw index cut
 
 -- nothing but the last look came behind what was known before

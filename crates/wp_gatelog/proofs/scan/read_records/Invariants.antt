@@ -9,7 +9,7 @@ invariant-gates g l = record {
   looks : Looks (g.P.Peek.moments l.initial.disk) (g.P.Peek.moments l.disk) (g.P.Peek.is_alone l.initial.disk) (g.P.Peek.is_alone l.disk);
   later : g.P.Peek.faults l.initial.disk ≤ g.P.Peek.faults l.disk;
   count : vec_len l.records ≤ l.end;
-  scanned : IfKnown (g.P.Peek.moments l.initial.disk) (λ m. Shows 10 (l.first ∷ []) m → HasScanned (g.P.Peek.moments l.initial.disk) (g.P.Peek.moments l.disk) l.piece l.records.items l.last l.end);
+  scanned : IfKnown (g.P.Peek.moments l.initial.disk) (λ m. Shows l.start (l.first ∷ []) m → HasScanned l.start (g.P.Peek.moments l.initial.disk) (g.P.Peek.moments l.disk) l.piece l.records.items l.last l.end);
 }
 
 abbrev pub decreases-gates : goal.decreases-gates

@@ -1,3 +1,4 @@
+use Rattle.std.proofs.Common.{[]}
 use Rattle.std.proofs.lemmas.Result.{err_from_is_err_and}
 use Rattle.wp_manifest.specs.Spelling.{MAGIC}
 use Rattle.wp_manifest.proofs.InstallLemmas.{passes_edits, stores_installed, install_refused}
@@ -7,7 +8,7 @@ pub returns-in_err-append-clause-any_moment : goal.returns-in_err-append-clause-
 returns-in_err-append-clause-any_moment g c = rw (← c.self.view_is) (passes_edits (record { log = c.self.inside.log; edit = c.self.inside.edit }) c.append.new.self _ c.args.edit _ c.in_ok-frame.ensures.spelling c.in_ok-frame.ensures.edit c.in_err-append.ensures.appends)
 
 pub returns-in_err-append-clause-durable : goal.returns-in_err-append-clause-durable
-returns-in_err-append-clause-durable g c = rw (← c.self.view_is) (λ edits next stores. (c.in_err-append.ensures.appends MAGIC stores.records stores.rests).durable)
+returns-in_err-append-clause-durable g c = rw (← c.self.view_is) (λ edits next stores. (c.in_err-append.ensures.appends MAGIC [] [] stores.records stores.rests).durable)
 
 pub returns-in_err-append-clause-refused : goal.returns-in_err-append-clause-refused
 returns-in_err-append-clause-refused g c =
@@ -18,7 +19,7 @@ pub returns-clause-any_moment : goal.returns-clause-any_moment
 returns-clause-any_moment g c = rw (← c.self.view_is) (passes_edits (record { log = c.self.inside.log; edit = c.self.inside.edit }) c.append.new.self _ c.args.edit _ c.in_ok-frame.ensures.spelling c.in_ok-frame.ensures.edit c.in_ok-append.ensures.appends)
 
 pub returns-clause-durable : goal.returns-clause-durable
-returns-clause-durable g c = rw (← c.self.view_is) (λ edits next stores. (c.in_ok-append.ensures.appends MAGIC stores.records stores.rests).durable)
+returns-clause-durable g c = rw (← c.self.view_is) (λ edits next stores. (c.in_ok-append.ensures.appends MAGIC [] [] stores.records stores.rests).durable)
 
 pub returns-clause-installed : goal.returns-clause-installed
 returns-clause-installed g c = rw (← c.self.view_is) (stores_installed _ (record { log = c.self.inside.log; edit = c.self.inside.edit }) c.append.new.self _ c.args.edit c.in_ok-frame.ensures.spelling c.in_ok-frame.ensures.edit c.in_ok-append.ensures.ok c.in_ok-append.ensures.appends)

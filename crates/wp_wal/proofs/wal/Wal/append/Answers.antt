@@ -1,4 +1,4 @@
-use Rattle.std.proofs.Common.{sym, ◌∙◌}
+use Rattle.std.proofs.Common.{[], sym, ◌∙◌}
 use Rattle.std.proofs.lemmas.Result.{err_from_is_err_and}
 use Rattle.wp_wal.specs.Spelling.{MAGIC}
 use Rattle.wp_wal.proofs.AppendLemmas.{appended_reserved, appends_next, refuses_next}
@@ -16,7 +16,7 @@ pub returns-clause-ok : goal.returns-clause-ok
 returns-clause-ok g c = rw (← c.self.view_is, c.take.ensures.after, c.count.ensures) (appended_reserved c.self.inside.log c.append.new.self c.self.inside.due c.self.inside.reserved c.in-Some.reserved (sym c.take.ensures.value ∙ c.in-Some.is) (rw c.frame.ensures at c.in_ok-append.ensures.ok))
 
 pub returns-in_err-append-clause-durable : goal.returns-in_err-append-clause-durable
-returns-in_err-append-clause-durable g c = rw (← c.self.view_is) (λ history next stores. (c.in_err-append.ensures.appends MAGIC stores.records stores.rests).durable)
+returns-in_err-append-clause-durable g c = rw (← c.self.view_is) (λ history next stores. (c.in_err-append.ensures.appends MAGIC [] [] stores.records stores.rests).durable)
 
 pub returns-clause-durable : goal.returns-clause-durable
-returns-clause-durable g c = rw (← c.self.view_is) (λ history next stores. (c.in_ok-append.ensures.appends MAGIC stores.records stores.rests).durable)
+returns-clause-durable g c = rw (← c.self.view_is) (λ history next stores. (c.in_ok-append.ensures.appends MAGIC [] [] stores.records stores.rests).durable)
