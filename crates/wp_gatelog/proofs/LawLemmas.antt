@@ -1,10 +1,10 @@
 -- Bytes are a log, or have a bad head, or have a cut record, and in one way.
-use Rattle.std.proofs.Common.{◌≡◌, ◌≢◌, inl, inr, ℕ, ◌<◌, ◌≤◌, ◌^◌, List, [], ◌∷◌, ◌++◌, length, take, drop, get_or, refl, sym, ◌∙◌, ap, subst, arith, length-append}
+use Rattle.std.proofs.Common.{◌≡◌, ◌≢◌, inl, inr, ℕ, zero, suc, ◌<◌, ◌≤◌, ◌^◌, List, [], ◌∷◌, ◌++◌, length, take, drop, get_or, refl, sym, ◌∙◌, ap, subst, arith, length-append}
 use Rattle.std.proofs.lemmas.List.{append_assoc, append_cancel_left, take_at, get_or_at}
 use Rattle.std.proofs.lemmas.Nat.{from_be_bytes-to_be_bytes_4}
 use Rattle.std.specs.Int.{w32, to_be_bytes, from_be_bytes}
-use Rattle.wp_gatelog.specs.Damage.{IsBadHead, IsCut}
-use Rattle.wp_gatelog.specs.Spelling.{Gated, identity, all_gated, records_of, IsUnmade, HasLog, Spells}
+use Rattle.wp_gatelog.specs.Damage.{IsBadHead, IsBadHeadAt, IsCut}
+use Rattle.wp_gatelog.specs.Spelling.{Gated, identity, all_gated, records_of, IsUnmade, IsUnmadeAt, HasLog, Spells, SpellsAt}
 use Rattle.wp_gatelog.proofs.HeadLemmas.{length-identity}
 use Rattle.wp_gatelog.proofs.ParseLemmas.{same_log, SameLog}
 
@@ -92,3 +92,37 @@ spelled_or_bad bytes magic id records four (inr a) bad = fields_not_bad magic by
 pub cut_or_bad : (bytes magic : List ℕ) (index : ℕ) → length magic ≡ 4 → IsCut magic index bytes → IsBadHead magic bytes → ⊥
 cut_or_bad bytes magic index four cut bad =
     fields_not_bad magic bytes (fields_of magic cut.id cut.head (all_gated cut.gated) (cut.gate ∷ cut.rest) bytes four (omega arith) cut.spelling) bad
+
+-- ---- at a place
+
+-- above place 0 a log is there
+pub spelled_from : (place : ℕ) (bytes magic : List ℕ) (id : ℕ) (records : List (List ℕ)) → SpellsAt place bytes magic id records → Spells (drop place bytes) magic id records
+spelled_from zero bytes magic id records spelled = spelled
+spelled_from (suc place) bytes magic id records (inl none) = absurd none.0
+spelled_from (suc place) bytes magic id records (inr log) = inr log
+
+pub one_list_at : (place : ℕ) (bytes magic : List ℕ) (id other : ℕ) (records others : List (List ℕ)) → SpellsAt place bytes magic id records → SpellsAt place bytes magic other others → records ≡ others
+one_list_at place bytes magic id other records others a b =
+    one_list (drop place bytes) magic id other records others (spelled_from place bytes magic id records a) (spelled_from place bytes magic other others b)
+
+pub one_id_at : (place : ℕ) (bytes magic : List ℕ) (id other : ℕ) (records others : List (List ℕ)) → (IsUnmadeAt place bytes → ⊥) → id < 2 ^ 32 → other < 2 ^ 32
+    → SpellsAt place bytes magic id records → SpellsAt place bytes magic other others → id ≡ other
+one_id_at place bytes magic id other records others made fits fits_other (inl a) b = absurd (made a.0)
+one_id_at place bytes magic id other records others made fits fits_other (inr a) (inl b) = absurd (made b.0)
+one_id_at place bytes magic id other records others made fits fits_other (inr a) (inr b) =
+    one_id (drop place bytes) magic id other records others (has_log_made magic id a.0 a.1 (drop place bytes) a.2) fits fits_other (inr a) (inr b)
+
+pub spelled_or_cut_at : (place : ℕ) (bytes magic : List ℕ) (id index : ℕ) (records : List (List ℕ)) → SpellsAt place bytes magic id records → IsCut magic index (drop place bytes) → ⊥
+spelled_or_cut_at place bytes magic id index records spelled =
+    spelled_or_cut (drop place bytes) magic id index records (spelled_from place bytes magic id records spelled)
+
+pub spelled_or_bad_at : (place : ℕ) (bytes magic : List ℕ) (id : ℕ) (records : List (List ℕ)) → length magic ≡ 4 → SpellsAt place bytes magic id records → IsBadHeadAt place magic bytes → ⊥
+spelled_or_bad_at zero bytes magic id records four spelled bad = spelled_or_bad bytes magic id records four spelled bad
+spelled_or_bad_at (suc place) bytes magic id records four (inl none) bad = absurd none.0
+spelled_or_bad_at (suc place) bytes magic id records four (inr log) (inl unmade) = has_log_made magic id log.0 log.1 (drop (suc place) bytes) log.2 unmade
+spelled_or_bad_at (suc place) bytes magic id records four (inr log) (inr bad) = spelled_or_bad (drop (suc place) bytes) magic id records four (inr log) bad
+
+pub cut_or_bad_at : (place : ℕ) (bytes magic : List ℕ) (index : ℕ) → length magic ≡ 4 → IsCut magic index (drop place bytes) → IsBadHeadAt place magic bytes → ⊥
+cut_or_bad_at zero bytes magic index four cut bad = cut_or_bad bytes magic index four cut bad
+cut_or_bad_at (suc place) bytes magic index four cut (inl unmade) = cut_made magic index (drop (suc place) bytes) cut unmade
+cut_or_bad_at (suc place) bytes magic index four cut (inr bad) = cut_or_bad (drop (suc place) bytes) magic index four cut bad

@@ -255,15 +255,16 @@ opens_rests place magic asked found [] new unknown opens =
 opens_rests place magic asked found (m ∷ past) new unknown opens =
     subst (λ (front : List ℕ). IfKnown new (IsAtRest magic found.id found.end front [] found.records.items)) (sym (before_place place m past)) opens.answered.1
 
+-- where a log is spelled, there are as many bytes before it
+pub spelled_within : (place : ℕ) (bytes magic : List ℕ) (id : ℕ) (records : List (List ℕ)) → SpellsAt place bytes magic id records → place ≡ length (take place bytes)
+spelled_within zero bytes magic id records spelled = refl
+spelled_within (suc place) bytes magic id records (inl none) = absurd none.0
+spelled_within (suc place) bytes magic id records (inr w) = sym (length-take-le (suc place) bytes (omega (arith, length-drop (suc place) bytes, ap length w.2.spelling)))
+
 -- a crash of a log that was opened leaves its records
 pub opened_spells : (place : ℕ) (magic : List ℕ) (asked : ℕ) (found : FoundLog) (old new : List Moment) → (old ≡ [] → new ≡ []) → IfKnown old (λ m. Opens place magic asked m.reads old new (Ok found))
     → (image : List ℕ) → images new image → SpellsAt place image magic found.id found.records.items
 opened_spells place magic asked found [] new unknown opens image h = absurd (subst (λ (ms : List Moment). images ms image) (unknown refl) h)
 opened_spells place magic asked found (m ∷ past) new unknown opens image h =
-    subst (λ (n : ℕ). SpellsAt n image magic found.id found.records.items) (sym (within place m.reads opens.answered.0.spelled))
+    subst (λ (n : ℕ). SpellsAt n image magic found.id found.records.items) (sym (spelled_within place m.reads magic found.id found.records.items opens.answered.0.spelled))
     (rest_spells magic found.id found.end (take place m.reads) [] found.records.items new opens.answered.1 image h)
-  where
-    within : (n : ℕ) (bytes : List ℕ) → SpellsAt n bytes magic found.id found.records.items → n ≡ length (take n bytes)
-    within zero bytes spelled = refl
-    within (suc n) bytes (inl none) = absurd none.0
-    within (suc n) bytes (inr w) = sym (length-take-le (suc n) bytes (omega (arith, length-drop (suc n) bytes, ap length w.2.spelling)))

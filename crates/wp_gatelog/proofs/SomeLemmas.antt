@@ -5,8 +5,8 @@ use Rattle.std.proofs.lemmas.List.{append_assoc, take-append-drop, drop-drop, dr
 use Rattle.std.proofs.lemmas.Nat.{be_bytes_4, be_bytes_8}
 use Rattle.std.specs.Int.{w32, w64, to_be_bytes, from_be_bytes}
 use Rattle.wp_outside.specs.Disk.{Each}
-use Rattle.wp_gatelog.specs.Damage.{IsBadHead, IsCut, IsShort, stated_length}
-use Rattle.wp_gatelog.specs.Spelling.{Gated, IsOpen, framed, identity, all_gated, log_of, records_of, IsUnmade, Spells}
+use Rattle.wp_gatelog.specs.Damage.{IsBadHead, IsBadHeadAt, IsCut, IsShort, stated_length}
+use Rattle.wp_gatelog.specs.Spelling.{Gated, IsOpen, framed, identity, all_gated, log_of, records_of, IsUnmade, Spells, SpellsAt}
 use Rattle.wp_gatelog.proofs.HeadLemmas.{identity_spelled}
 
 abbrev AreBytes : List ℕ → Type 0
@@ -172,4 +172,22 @@ some_reading (gate ∷ []) magic four small = inl (0, [], inl (tt, refl))
 some_reading (gate ∷ byte ∷ bytes) magic four small = elim (cases_eq gate 0) [
   | inl shut ↦ inl (0, [], inl (shut, refl))
   | inr opened ↦ read_head magic (gate ∷ byte ∷ bytes) gate opened (byte ∷ bytes) refl opened small
+]
+
+-- ---- at a place
+
+abbrev pub ReadingAt : ℕ → List ℕ → List ℕ → Type 0
+ReadingAt place bytes magic = ((id : ℕ) × (records : List (List ℕ)) × SpellsAt place bytes magic id records) ⊎ IsBadHeadAt place magic bytes ⊎ ((index : ℕ) × IsCut magic index (drop place bytes))
+
+pub some_reading_at : (place : ℕ) (bytes magic : List ℕ) → length magic ≡ 4 → ((i : ℕ) → get_or bytes i 0 < 256) → ReadingAt place bytes magic
+some_reading_at zero bytes magic four small = some_reading bytes magic four small
+some_reading_at (suc place) bytes magic four small = elim (some_reading (drop (suc place) bytes) magic four (drop_bytes (suc place) bytes small)) [
+  | inl w ↦ elim w.2 [
+    | inl none ↦ inr (inl (inl none.0))
+    | inr log ↦ inl (w.0, w.1, inr log)
+  ]
+  | inr other ↦ elim other [
+    | inl bad ↦ inr (inl (inr bad))
+    | inr cut ↦ inr (inr cut)
+  ]
 ]

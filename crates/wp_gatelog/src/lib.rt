@@ -25,6 +25,8 @@ mod scan;
 
 pub use error::{DiskRefused, LogError};
 pub use frame::Frame;
-pub use laws::{acknowledged_records_come_first, bytes_are_read_in_one_way};
+pub use laws::{
+    acknowledged_records_come_first, bytes_are_read_in_one_way, logs_at_a_place_are_read_in_one_way,
+};
 pub use log::{AppendError, GateLog};
 pub use record::Record;
