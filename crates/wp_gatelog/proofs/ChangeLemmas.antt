@@ -37,7 +37,7 @@ module _ (front before : List ℕ) (step inner : Moment → Moment) (shifts : Sh
   }
 
   -- a read shows the bytes before, and then those that the step makes
-  stepped_reads : (old mid new : List Moment) → IsSynced (front ++ before) old → mid ≡ added step old → new ≡ added after_sync mid → (P : List ℕ → Type 0) → (P before → P (inner (synced before)).reads)
+  pub stepped_reads : (old mid new : List Moment) → IsSynced (front ++ before) old → mid ≡ added step old → new ≡ added after_sync mid → (P : List ℕ → Type 0) → (P before → P (inner (synced before)).reads)
       → Preserves (λ m. P (drop (length front) m.reads)) old new
   stepped_reads [] mid new known adds syncs P on = ([], syncs ∙ ap (λ (ms : List Moment). added after_sync ms) adds, tt)
   stepped_reads (m ∷ past) mid new known adds syncs P on =

@@ -1,4 +1,5 @@
 pub mod AppendLemmas
+pub mod BesideLemmas
 pub mod ChangeLemmas
 pub mod FrameLemmas
 pub mod FrontLemmas

@@ -40,7 +40,7 @@ known_as ms x y is known = subst (λ (z : List ℕ). IfKnown ms (λ m. m ≡ syn
 -- ---- bytes of which all are sure
 
 -- an image begins with what is sure, and its rest matches the rest
-matches_front : (xs : List ℕ) (sure : List (Option ℕ)) (c : List ℕ) → Matches (map (λ b. Some b) xs ++ sure) c → (d : List ℕ) × (c ≡ xs ++ d) × Matches sure d
+pub matches_front : (xs : List ℕ) (sure : List (Option ℕ)) (c : List ℕ) → Matches (map (λ b. Some b) xs ++ sure) c → (d : List ℕ) × (c ≡ xs ++ d) × Matches sure d
 matches_front [] sure c h = (c, refl, h)
 matches_front (x ∷ xs) sure [] h = absurd h
 matches_front (x ∷ xs) sure (b ∷ c) h =

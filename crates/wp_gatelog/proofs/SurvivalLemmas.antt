@@ -19,7 +19,7 @@ shut_unmade : (tail : List ℕ) (gate : ℕ) → gate ≡ 0 → IsUnmade (gate �
 shut_unmade [] gate shut = tt
 shut_unmade (b ∷ tail) gate shut = shut
 
-spells_log : (place : ℕ) (magic : List ℕ) (id head : ℕ) (gated : List Gated) (image : List ℕ) → head ≢ 0 → Each IsOpen gated → HasFront (log_of magic id head gated) (drop place image) → SpellsAt place image magic id (records_of gated)
+pub spells_log : (place : ℕ) (magic : List ℕ) (id head : ℕ) (gated : List Gated) (image : List ℕ) → head ≢ 0 → Each IsOpen gated → HasFront (log_of magic id head gated) (drop place image) → SpellsAt place image magic id (records_of gated)
 spells_log place magic id head gated image opened each more =
     inr (head, gated, record { rest = more.0; spelling = more.1; head_open = opened; gates_open = each }, refl)
 

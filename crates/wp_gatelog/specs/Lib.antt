@@ -1,5 +1,6 @@
 pub mod Opens
 pub mod Append
+pub mod Beside
 pub mod Changes
 pub mod Damage
 pub mod Errors

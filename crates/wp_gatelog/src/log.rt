@@ -1,9 +1,10 @@
 //! An open log.
 
-ghost use Rattle.std.specs.Prelude.{◌≡◌, ℕ, ◌+◌, ◌≤◌, ◌^◌, [], ◌∷◌, ◌++◌, List, length, drop, IfOk, IfErr, OnOk, MatchResult};
-ghost use Rattle.wp_outside.specs.Disk.{IfKnown, added, after_write, after_sync};
+ghost use Rattle.std.specs.Prelude.{◌≡◌, ℕ, ◌+◌, ◌≤◌, ◌^◌, false, [], ◌∷◌, ◌++◌, List, length, drop, IfOk, IfErr, OnOk, MatchResult};
+ghost use Rattle.wp_outside.specs.Disk.{IfKnown, added, after_write, after_sync, write_end};
 ghost use Rattle.wp_outside.specs.Faults.{HasCause};
 ghost use Rattle.wp_gatelog.specs.Append.{Appends, FrameAppended, FrameRefused};
+ghost use Rattle.wp_gatelog.specs.Beside.{BringsBoth, Writes};
 ghost use Rattle.wp_gatelog.specs.Changes.{BringsTo};
 ghost use Rattle.wp_gatelog.specs.Log.{BeforeOrAfter, IsAtRest};
 ghost use Rattle.wp_gatelog.specs.Opening.{IsOpened, IsUnopened, KeepsLogAt};
@@ -130,6 +131,40 @@ impl<D: Disk> GateLog<D> {
         }
     }
 
+    /// Writes the bytes of a whole other log from `place` on, in one write, and puts them on the disk for good. No byte of
+    /// this log is touched where the place is dead to it: before it, or behind the gate that ends it. It takes no memory.
+    pub fn write_beside(&mut self, place: u64, bytes: &[u8]) -> Result<(), AppendError>
+        ensures writes { Writes place bytes.now self.old self.new result }
+        ensures ok { OnOk result ((self.old.closed ≡ false)
+            × (self.new ≡ record self.old { moments = self.new.moments; faults = self.new.faults })
+            × (self.new.moments ≡ added after_sync (added (after_write place bytes.now) self.old.moments))) }
+        ensures bounded { OnOk result (write_end place bytes.now ≤ 2 ^ 62) }
+        ensures err { IfErr result (FrameRefused self.old self.new) }
+        ensures later { self.old.faults ≤ self.new.faults }
+    {
+        if self.closed {
+            return Err(AppendError::Closed(self.count));
+        }
+        match write_aside(&mut self.disk, place, bytes) {
+            Ok(()) => Ok(()),
+            Err(Failed) => {
+                self.closed = true;
+                Err(AppendError::DiskFault)
+            }
+        }
+    }
+
+    /// The log in use is from now on one that was written beside it under the same id: it has so many records, and the gate
+    /// that ends it is at `end`. What was in use is dead.
+    pub fn move_to(&mut self, end: u64, count: u64)
+        requires count { count ≤ end }
+        requires end { end ≤ 2 ^ 62 }
+        ensures { self.new ≡ record self.old { end = end; count = count } }
+    {
+        self.end = end;
+        self.count = count;
+    }
+
     /// Gives the disk back.
     pub fn into_disk(self) -> D
         ensures moments { D.moments result ≡ self.moments }
@@ -138,6 +173,18 @@ impl<D: Disk> GateLog<D> {
         let GateLog { disk, .. } = self;
         disk
     }
+}
+
+/// Writes these bytes from `place` on, and puts them on the disk for good.
+fn write_aside<D: Disk>(disk: &mut D, place: u64, bytes: &[u8]) -> Result<(), Failed>
+    ensures brings { (end : ℕ) → BringsBoth place bytes.now end (D.moments disk.old) (D.moments disk.new) result }
+    ensures calls { OnOk result
+        (D.moments disk.new ≡ added after_sync (added (after_write place bytes.now) (D.moments disk.old))) }
+    ensures bounded { OnOk result (write_end place bytes.now ≤ 2 ^ 62) }
+    ensures cause { HasCause (D.faults disk.old) (D.faults disk.new) result }
+{
+    disk.write_at(place, bytes)?;
+    disk.sync()
 }
 
 /// Writes the frame after the closed gate at `end`, and then opens that gate. Each of the two is on the disk for good
