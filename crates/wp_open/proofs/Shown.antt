@@ -3,10 +3,11 @@ use Rattle.std.specs.Prelude.{⊤}
 use Rattle.std.proofs.Common.{◌≡◌, ℕ, List, [], ◌∷◌, ◌++◌, length, sym, ◌∙◌, ap, subst, arith, append_assoc, length-append}
 use Rattle.wp_model.specs.declared.version.Version.{Version}
 use Rattle.wp_outside.specs.Disk.{Moment, IfKnown, Goes}
+use Rattle.wp_gatelog.proofs.MomentLemmas.{known_map}
 use Rattle.wp_table.specs.File.{HasTable, HasTables}
 use Rattle.wp_open.specs.Shown.{Sometime, WereShown}
 
-sometime_later : (P : Moment → Type 0) (old mid new : List Moment) → Goes (λ m. ⊤) mid new → Sometime P old mid → Sometime P old new
+pub sometime_later : (P : Moment → Type 0) (old mid new : List Moment) → Goes (λ m. ⊤) mid new → Sometime P old mid → Sometime P old new
 sometime_later P old [] new goes s = record { later = s.later; since = s.since; came = goes ∙ s.came; held = s.held }
 sometime_later P old (m ∷ past) new goes s = record {
   later = goes.0 ++ s.later;
@@ -24,7 +25,10 @@ sometime_now P (m ∷ past) new goes known = record {
   held = subst (λ (ms : List Moment). IfKnown ms P) goes.1 known;
 }
 
-sometime_alone : (P : Moment → Type 0) (m : Moment) (past new : List Moment) → new ≡ m ∷ past → Sometime P (m ∷ past) new → P m
+pub sometime_map : (P Q : Moment → Type 0) → ((m : Moment) → P m → Q m) → (old new : List Moment) → Sometime P old new → Sometime Q old new
+sometime_map P Q f old new s = record { later = s.later; since = s.since; came = s.came; held = known_map P Q f (s.since ++ old) s.held }
+
+pub sometime_alone : (P : Moment → Type 0) (m : Moment) (past new : List Moment) → new ≡ m ∷ past → Sometime P (m ∷ past) new → P m
 sometime_alone P m past new same s = by s.since (sym same ∙ s.came) s.held
   where
     by : (since : List Moment) → m ∷ past ≡ s.later ++ (since ++ m ∷ past) → IfKnown (since ++ m ∷ past) P → P m

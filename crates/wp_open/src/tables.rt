@@ -1,15 +1,14 @@
 //! Reading the tables of an edit.
-ghost use Rattle.std.specs.Prelude.{◌≡◌, ◌≤◌, ◌^◌, true, [], length, map, IfOk, IfErr};
+ghost use Rattle.std.specs.Prelude.{◌≡◌, ◌⊎◌, ◌+◌, ◌<◌, ◌≤◌, ◌^◌, length, map, IfOk, IfErr};
 ghost use Rattle.std.specs.Arc.{arc_value};
 ghost use Rattle.std.specs.List.{AllByRecursion};
 ghost use Rattle.wp_outside.specs.Disk.{IfKnown, Looks};
 ghost use Rattle.wp_outside.specs.Faults.{Rose};
-ghost use Rattle.wp_gatelog.specs.Patched.{Shows};
+ghost use Rattle.wp_gatelog.specs.Patched.{Shows, EndsAt};
 ghost use Rattle.wp_table.specs.File.{HasTable, HasTables};
 ghost use Rattle.wp_table.specs.Table.{IsTable};
-ghost use Rattle.wp_open.specs.Damage.{bytes_at};
 ghost use Rattle.wp_open.specs.Shown.{WereShown};
-ghost use Rattle.wp_open.specs.Tables.{IsReadCause, IsTableCause, AreTablesCause};
+ghost use Rattle.wp_open.specs.Tables.{IsReadCause, IsTableCause, IsTablesCause, WasFirstWrong, AreTablesCause};
 
 use crate::bad::Bad;
 use crate::opening::OpenError;
@@ -29,9 +28,10 @@ fn bytes_at<P: Peek>(
     placed: (u64, u64),
 ) -> Result<Vec<u8>, OpenError>
     requires { len ≤ 2 ^ 62 }
-    ensures found { IfOk result (λ bytes. IfKnown (P.moments tables.new) (λ m. len ≡ length m.reads → bytes.items ≡ bytes_at m.reads placed)) }
     ensures shown { IfOk result (λ bytes. IfKnown (P.moments tables.new) (Shows placed.0 bytes.items)) }
     ensures size { IfOk result (λ bytes. length bytes.items ≤ placed.1) }
+    ensures ended { IfOk result (λ bytes. length bytes.items < placed.1
+        → (len ≤ placed.0 + length bytes.items) ⊎ IfKnown (P.moments tables.new) (EndsAt placed.0 bytes.items)) }
     ensures looks { Looks (P.moments tables.old) (P.moments tables.new) (P.is_alone tables.old) (P.is_alone tables.new) }
     ensures cause { IfErr result (IsReadCause (Rose (P.faults tables.old) (P.faults tables.new))) }
     ensures later { P.faults tables.old ≤ P.faults tables.new }
@@ -89,9 +89,8 @@ pub fn read_tables<P: Peek>(
     ensures are { IfOk result (λ parts. AllByRecursion (IsTable id edit.now.flushed) (map arc_value parts.items)) }
     ensures as_many { IfOk result (λ parts. length (map arc_value parts.items) ≡ length edit.now.tables) }
     ensures looks { Looks (P.moments tables.old) (P.moments tables.new) (P.is_alone tables.old) (P.is_alone tables.new) }
-    ensures cause { IfErr result (AreTablesCause id edit.now (Rose (P.faults tables.old) (P.faults tables.new)) []) }
-    ensures alone { IfErr result (λ why. P.is_alone tables.old ≡ true
-        → AreTablesCause id edit.now (Rose (P.faults tables.old) (P.faults tables.new)) (P.moments tables.old) why) }
+    ensures cause { IfErr result (IsTablesCause id (Rose (P.faults tables.old) (P.faults tables.new))
+        (WasFirstWrong id edit.now (P.moments tables.old) (P.moments tables.new))) }
     ensures later { P.faults tables.old ≤ P.faults tables.new }
 {
     let Ok(len) = tables.len() else {

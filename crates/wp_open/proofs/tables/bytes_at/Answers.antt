@@ -4,7 +4,7 @@ use Rattle.wp_outside.specs.Disk.{IsRead}
 use Rattle.wp_gatelog.specs.Patched.{Shows}
 use Rattle.wp_gatelog.proofs.MomentLemmas.{known_map}
 use Rattle.wp_gatelog.proofs.ScanLemmas.{left_read}
-use Rattle.wp_open.proofs.Reading.{read_shows}
+use Rattle.wp_open.proofs.Reading.{read_shows, read_ends}
 use Rattle.wp_open.proofs.tables.bytes_at.Goals as goal
 
 pub returns-in-Ok-clause-shown : goal.returns-in-Ok-clause-shown
@@ -18,3 +18,8 @@ returns-in-Ok-clause-shown g c =
     ] in
     known_map (λ m. IsRead m.reads place c.read_at.new.buf c.in-Ok.read) (Shows c.args.placed.0 c.truncate.new.self.items)
     (λ m. read_shows m c.read_at.new.buf c.truncate.new.self.items place c.args.placed.0 c.in-Ok.read is where_is) _ c.in-Ok.ensures.bytes
+
+pub returns-in-Ok-clause-ended : goal.returns-in-Ok-clause-ended
+returns-in-Ok-clause-ended g c =
+    let is = left_read c.read_at.new.buf _ c.truncate.new.self.items c.in-Ok.read c.in_ok-bytes.bytes.len (search rules) c.truncate.ensures.items in
+    λ short. read_ends _ c.read_at.new.buf c.truncate.new.self.items c.args.len c.args.placed.0 c.min-place.result c.args.placed.1 c.in-Ok.read is (search rules) (search rules) (search rules) c.in-Ok.ensures.bytes short

@@ -5,7 +5,8 @@ use Rattle.wp_outside.specs.Disk.{IfKnown}
 use Rattle.wp_outside.specs.Faults.{Rose}
 use Rattle.wp_table.specs.File.{HasTables}
 use Rattle.wp_open.specs.Shown.{WereShown}
-use Rattle.wp_open.specs.Tables.{AreTablesCause}
+use Rattle.wp_open.specs.Tables.{IsTablesCause, WasFirstWrong, AreTablesCause}
+use Rattle.wp_open.proofs.Reading.{tables_cause_alone}
 use Rattle.wp_open.proofs.Shown.{shown_alone}
 use Rattle.wp_open.proofs.tables.own_tables.Goals as goal
 
@@ -24,6 +25,7 @@ returns-clause-unchanged g c = c.read_tables.ensures.looks.unchanged (g.met.D.Di
 pub returns-clause-cause : goal.returns-clause-cause
 returns-clause-cause g c =
     let old = g.D.Peek.moments c.args.tables.now in
+    let new = g.D.Peek.moments c.read_tables.new.tables in
     let rose = Rose (g.D.Peek.faults c.args.tables.now) (g.D.Peek.faults c.read_tables.new.tables) in
-    IfErr-weaker c.read_tables.result (λ why. g.D.Peek.is_alone c.args.tables.now ≡ true → AreTablesCause c.args.id c.args.edit.now rose old why) (AreTablesCause c.args.id c.args.edit.now rose old)
-    (λ why cause. cause (g.met.D.Disk.owned c.args.tables.now)) c.read_tables.ensures.alone
+    IfErr-weaker c.read_tables.result (IsTablesCause c.args.id rose (WasFirstWrong c.args.id c.args.edit.now old new)) (AreTablesCause c.args.id c.args.edit.now rose old)
+    (tables_cause_alone c.args.id c.args.edit.now rose old new (c.read_tables.ensures.looks.unchanged (g.met.D.Disk.owned c.args.tables.now))) c.read_tables.ensures.cause

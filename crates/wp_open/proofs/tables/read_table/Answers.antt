@@ -10,7 +10,10 @@ returns-in-Ok-2-clause-found g c =
 pub returns-in-Ok-clause-cause : goal.returns-in-Ok-clause-cause
 returns-in-Ok-clause-cause g c =
     let found = c.in-Ok.ensures.found in
-    (refl, tt, short_named c.args.id c.args.flushed c.args.len c.in_ok-bytes.bytes.items c.args.placed c.in-Ok.field-0 _ found (search rules) c.in_ok-bytes.ensures.found)
+    let read = c.in_ok-bytes.ensures in
+    (refl, tt, short_named c.args.id c.args.flushed c.args.len c.args.placed _ c.in_ok-bytes.bytes.items read.shown read.size read.ended c.in-Ok.field-0 found (search rules))
 
 pub returns-in-Err-clause-cause : goal.returns-in-Err-clause-cause
-returns-in-Err-clause-cause g c = fault_named c.args.id c.args.flushed c.args.len c.args.placed _ _ c.in_ok-bytes.bytes.items c.in-Err.why c.table_reason.result c.in-Err.ensures.refused c.in_ok-bytes.ensures.found c.table_reason.ensures
+returns-in-Err-clause-cause g c =
+    let read = c.in_ok-bytes.ensures in
+    fault_named c.args.id c.args.flushed c.args.len c.args.placed _ c.in_ok-bytes.bytes.items read.shown read.size read.ended _ c.in-Err.why c.table_reason.result c.in-Err.ensures.refused c.table_reason.ensures

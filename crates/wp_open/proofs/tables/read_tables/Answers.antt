@@ -10,8 +10,8 @@ use Rattle.wp_manifest.specs.Edit.{Edit}
 use Rattle.wp_table.specs.File.{HasTable}
 use Rattle.wp_table.specs.Table.{IsTable}
 use Rattle.wp_open.specs.Tables.{IsTableCause}
-use Rattle.wp_open.proofs.Reading.{tables_cause, cause_forgets, at_place, tables_more, all_more}
-use Rattle.wp_open.proofs.Shown.{shown_alone}
+use Rattle.wp_open.proofs.Reading.{tables_cause, at_place, tables_more, all_more}
+use Rattle.wp_open.proofs.Shown.{shown_later, sometime_later, sometime_now}
 use Rattle.wp_open.proofs.tables.read_tables.Goals as goal
 
 pub returns-in_err-table-clause-cause : goal.returns-in_err-table-clause-cause
@@ -23,35 +23,16 @@ returns-in_err-table-clause-cause g c =
     let flushed_is = ap (λ (e : Edit). e.flushed) c.edit.view_is in
     let tables_is = ap (λ (e : Edit). e.tables) c.edit.view_is in
     let lt : i < length items = search rules in
-    let rose = Rose (g.P.Peek.faults c.loop-placed.tables) (g.P.Peek.faults c.read_table.new.tables) in
-    let cause = subst (λ (n : ℕ). IsTableCause c.args.id n (get_or items i (0, 0)) c.in-Ok.len rose [] c.in_err-table.field-0.0) flushed_is
-    (cause_forgets c.args.id c.edit.inside.flushed c.in-Ok.len (get_or items i (0, 0)) rose (g.P.Peek.moments c.read_table.new.tables) c.in_err-table.field-0.0 c.in_err-table.ensures.cause) in
-    rw (p.1, p.2) (tables_cause c.args.id edit c.in-Ok.len (g.P.Peek.faults c.args.tables.now) (g.P.Peek.faults c.loop-placed.tables) (g.P.Peek.faults c.read_table.new.tables) [] (take i items) (drop (suc i) items) (get_or items i (0, 0)) (map arc_value c.loop-placed.parts.items)
-    (at_place items edit.tables i (0, 0) lt (c.deref-placed-items.ensures.value ∙ tables_is)) tt tt
-    (c.loop-placed.invariant.as_many ∙ sym (length-take-le i items (omega (arith, lt)))) c.loop-placed.invariant.are c.loop-placed.invariant.later c.in_err-table.field-0.0 cause)
-
-pub returns-in_err-table-clause-alone : goal.returns-in_err-table-clause-alone
-returns-in_err-table-clause-alone g c =
-    let p = err_from_is_err_and c.from_residual.result c.from_residual.ensures.1 in
-    let edit = c.args.edit.now in
-    let items = c.deref-placed-items.result.now in
-    let i : ℕ = c.loop-placed.placed-index in
-    let flushed_is = ap (λ (e : Edit). e.flushed) c.edit.view_is in
-    let tables_is = ap (λ (e : Edit). e.tables) c.edit.view_is in
-    let lt : i < length items = search rules in
     let old = g.P.Peek.moments c.args.tables.now in
     let mid = g.P.Peek.moments c.loop-placed.tables in
-    let looks = c.loop-placed.invariant.looks in
+    let new = g.P.Peek.moments c.read_table.new.tables in
+    let parts = map arc_value c.loop-placed.parts.items in
+    let looks = c.read_table.ensures.looks.passes in
     let rose = Rose (g.P.Peek.faults c.loop-placed.tables) (g.P.Peek.faults c.read_table.new.tables) in
-    rw (p.1, p.2) (λ alone.
-    let same : mid ≡ old = looks.unchanged alone in
-    let last = c.read_table.ensures.looks.unchanged (looks.alone ∙ alone) in
-    let there = shown_alone c.args.id edit.flushed old mid same (take i items) (map arc_value c.loop-placed.parts.items) c.loop-placed.invariant.there in
-    let size = subst (λ (ms : List Moment). IfKnown ms (λ m. c.in-Ok.len ≡ length m.reads)) (c.len.ensures.looks.unchanged alone) c.in-Ok.ensures.length in
-    let cause = subst (λ (n : ℕ). IsTableCause c.args.id n (get_or items i (0, 0)) c.in-Ok.len rose old c.in_err-table.field-0.0) flushed_is
-    (subst (λ (ms : List Moment). IsTableCause c.args.id c.edit.inside.flushed (get_or items i (0, 0)) c.in-Ok.len rose ms c.in_err-table.field-0.0) (last ∙ same) c.in_err-table.ensures.cause) in
-    tables_cause c.args.id edit c.in-Ok.len (g.P.Peek.faults c.args.tables.now) (g.P.Peek.faults c.loop-placed.tables) (g.P.Peek.faults c.read_table.new.tables) old (take i items) (drop (suc i) items) (get_or items i (0, 0)) (map arc_value c.loop-placed.parts.items)
-    (at_place items edit.tables i (0, 0) lt (c.deref-placed-items.ensures.value ∙ tables_is)) there size
+    let cause = subst (λ (n : ℕ). IsTableCause c.args.id n (get_or items i (0, 0)) c.in-Ok.len rose new c.in_err-table.field-0.0) flushed_is c.in_err-table.ensures.cause in
+    rw (p.1, p.2) (tables_cause c.args.id edit c.in-Ok.len (g.P.Peek.faults c.args.tables.now) (g.P.Peek.faults c.loop-placed.tables) (g.P.Peek.faults c.read_table.new.tables) old new (take i items) (drop (suc i) items) (get_or items i (0, 0)) parts
+    (at_place items edit.tables i (0, 0) lt (c.deref-placed-items.ensures.value ∙ tables_is)) (looks_on old mid new _ _ _ c.loop-placed.invariant.looks c.read_table.ensures.looks).passes
+    (shown_later c.args.id edit.flushed old mid new looks (take i items) parts c.loop-placed.invariant.there) (sometime_later (λ m. c.in-Ok.len ≡ length m.reads) old mid new looks c.loop-placed.invariant.sized)
     (c.loop-placed.invariant.as_many ∙ sym (length-take-le i items (omega (arith, lt)))) c.loop-placed.invariant.are c.loop-placed.invariant.later c.in_err-table.field-0.0 cause)
 
 pub returns-in_err-table-clause-looks : goal.returns-in_err-table-clause-looks
@@ -62,6 +43,16 @@ returns-in_err-new-clause-looks g c = looks_on _ _ _ _ _ _ c.loop-placed.invaria
 
 pub returns-in_err-push-clause-looks : goal.returns-in_err-push-clause-looks
 returns-in_err-push-clause-looks g c = looks_on _ _ _ _ _ _ c.loop-placed.invariant.looks c.read_table.ensures.looks
+
+pub loop-placed-init : goal.loop-placed-init
+loop-placed-init g c = record {
+  looks = c.len.ensures.looks;
+  later = c.len.ensures.cause.later;
+  sized = sometime_now (λ m. c.in-Ok.len ≡ length m.reads) _ _ c.len.ensures.looks.passes c.in-Ok.ensures.length;
+  there = search rules;
+  are = search rules;
+  as_many = search rules;
+}
 
 pub loop-placed-preserved : goal.loop-placed-preserved
 loop-placed-preserved g c =
@@ -79,6 +70,7 @@ loop-placed-preserved g c =
     record {
       looks = looks;
       later = omega (arith, c.read_table.ensures.later, c.loop-placed.invariant.later);
+      sized = sometime_later (λ m. c.in-Ok.len ≡ length m.reads) old mid new c.read_table.ensures.looks.passes c.loop-placed.invariant.sized;
       there = tables_more c.args.id c.args.edit.now.flushed items i (0, 0) (map arc_value c.loop-placed.parts.items) (map arc_value c.push.new.self.items) versions old mid new lt is c.read_table.ensures.looks.passes looks.passes c.loop-placed.invariant.there one;
       are = all_more (IsTable c.args.id c.args.edit.now.flushed) (map arc_value c.loop-placed.parts.items) (map arc_value c.push.new.self.items) versions is c.loop-placed.invariant.are (subst (λ (n : ℕ). IsTable c.args.id n versions) flushed_is c.in_ok-table.ensures.is);
       as_many = (let n = length-append (map arc_value c.loop-placed.parts.items) (versions ∷ []) in let l = ap length is in let m = c.loop-placed.invariant.as_many in omega (arith, n, l, m));
