@@ -48,11 +48,11 @@ fn changes_of<'a>(history: &'a History, entry: &'a Entry) -> &'a [Change]
 {
     match entry {
         Entry::Write(batch) => batch.changes(),
-        Entry::Commit(p) => match history.entry_at(*p) {
-            Some(Entry::Prepare(_, batch)) => batch.changes(),
-            _ => &[],
+        Entry::Commit(p) => match history.prepare_at(*p) {
+            Some((_, batch)) => batch.changes(),
+            None => &[],
         },
-        _ => &[],
+        Entry::Prepare(_, _) | Entry::Undo(_, _) | Entry::Close(_) => &[],
     }
 }
 

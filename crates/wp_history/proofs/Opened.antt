@@ -16,28 +16,29 @@ use Rattle.wp_model.specs.declared.holder.Holder.TheVariants.{Txn}
 use Rattle.wp_model.specs.History.{entry_at, is_prepare, prepared_name, prepared_batch, undecided, name_at, batch_at, is_changed, is_undecided}
 use Rattle.wp_model.specs.LockTables.{LockTables, Names, Keys}
 use Rattle.wp_model.proofs.Entries.{undecided_prepared}
+use Rattle.wp_history.specs.Prepares.{prepare_of}
 use Rattle.wp_history.specs.Opened.{AreOpened, named_by, prepare_holding}
 
 -- the name of a prepare, had by nobody
-abbrev pub name_left : Option Entry → List (List ℕ × Option (List ℕ))
-name_left (Some (Prepare name batch)) = (name, None) ∷ []
-name_left other = []
+abbrev pub name_left : Option (List ℕ × List Change) → List (List ℕ × Option (List ℕ))
+name_left None = []
+name_left (Some (name, batch)) = (name, None) ∷ []
 
 -- the keys of a prepare, each held by its transaction
-abbrev pub keys_left : Option Entry → List (List ℕ × Holder)
-keys_left (Some (Prepare name batch)) = map (λ change. (key_of change, Txn name)) batch
-keys_left other = []
+abbrev pub keys_left : Option (List ℕ × List Change) → List (List ℕ × Holder)
+keys_left None = []
+keys_left (Some (name, batch)) = map (λ change. (key_of change, Txn name)) batch
 
 abbrev pub names_of : List Entry → List (List ℕ × Option (List ℕ))
-names_of history = flat_map (λ p. name_left (entry_at history p)) (undecided history)
+names_of history = flat_map (λ p. name_left (prepare_of (entry_at history p))) (undecided history)
 
 abbrev pub keys_of : List Entry → List (List ℕ × Holder)
-keys_of history = flat_map (λ p. keys_left (entry_at history p)) (undecided history)
+keys_of history = flat_map (λ p. keys_left (prepare_of (entry_at history p))) (undecided history)
 
 tied : (x q : List ℕ) → eq_by_cmp key_cmp q x ≡ bytes_eq x q
 tied x q = (eq_by_cmp_equiv nat_list_cmp_total).symm q x ∙ is_eq-slice_cmp x q
 
-name_first : (x : Option Entry) (more : List (List ℕ × Option (List ℕ))) (q : List ℕ) → is_prepare x ≡ true → finite.find key_cmp q (name_left x ++ more) ≡ cond (bytes_eq (prepared_name x) q) (Some None) (finite.find key_cmp q more)
+name_first : (x : Option Entry) (more : List (List ℕ × Option (List ℕ))) (q : List ℕ) → is_prepare x ≡ true → finite.find key_cmp q (name_left (prepare_of x) ++ more) ≡ cond (bytes_eq (prepared_name x) q) (Some None) (finite.find key_cmp q more)
 name_first None more q is = absurd cc
 name_first (Some (Write batch)) more q is = absurd cc
 name_first (Some (Prepare name batch)) more q is = ap (λ (b : Bool). cond b (Some None) (finite.find key_cmp q more)) (tied name q)
@@ -53,12 +54,12 @@ module _ (history : List Entry) where
   abbrev has : List ℕ → ℕ → Bool
   has q p = bytes_eq (name_at history p) q
 
-  names_found : (q : List ℕ) (ps : List ℕ) → finite.find key_cmp q (flat_map (λ p. name_left (entry_at history p)) (filter (is_undecided history) ps)) ≡ named_by (find (has q) (filter (is_undecided history) ps))
+  names_found : (q : List ℕ) (ps : List ℕ) → finite.find key_cmp q (flat_map (λ p. name_left (prepare_of (entry_at history p))) (filter (is_undecided history) ps)) ≡ named_by (find (has q) (filter (is_undecided history) ps))
   names_found q [] = refl
   names_found q (p ∷ ps) = by (is_undecided history p) refl (names_found q ps)
     where
-      by : (b : Bool) → is_undecided history p ≡ b → finite.find key_cmp q (flat_map (λ k. name_left (entry_at history k)) (filter (is_undecided history) ps)) ≡ named_by (find (has q) (filter (is_undecided history) ps))
-          → finite.find key_cmp q (flat_map (λ k. name_left (entry_at history k)) (cond b (p ∷ filter (is_undecided history) ps) (filter (is_undecided history) ps))) ≡ named_by (find (has q) (cond b (p ∷ filter (is_undecided history) ps) (filter (is_undecided history) ps)))
+      by : (b : Bool) → is_undecided history p ≡ b → finite.find key_cmp q (flat_map (λ k. name_left (prepare_of (entry_at history k))) (filter (is_undecided history) ps)) ≡ named_by (find (has q) (filter (is_undecided history) ps))
+          → finite.find key_cmp q (flat_map (λ k. name_left (prepare_of (entry_at history k))) (cond b (p ∷ filter (is_undecided history) ps) (filter (is_undecided history) ps))) ≡ named_by (find (has q) (cond b (p ∷ filter (is_undecided history) ps) (filter (is_undecided history) ps)))
       by true u h = name_first (entry_at history p) _ q (undecided_prepared history p u) ∙ ap (cond (has q p) (Some None)) h ∙ either_named (has q p) p _
       by false u h = h
 
@@ -73,7 +74,7 @@ module _ (history : List Entry) where
       by true false e h = absurd cc
       by false true e h = absurd cc
 
-  keys_first : (x : Option Entry) (more : List (List ℕ × Holder)) (q : List ℕ) → finite.find key_cmp q (keys_left x ++ more) ≡ cond (is_changed (prepared_batch x) q) (Some (Txn (prepared_name x))) (finite.find key_cmp q more)
+  keys_first : (x : Option Entry) (more : List (List ℕ × Holder)) (q : List ℕ) → finite.find key_cmp q (keys_left (prepare_of x) ++ more) ≡ cond (is_changed (prepared_batch x) q) (Some (Txn (prepared_name x))) (finite.find key_cmp q more)
   keys_first None more q = refl
   keys_first (Some (Write batch)) more q = refl
   keys_first (Some (Prepare name batch)) more q = key_first name batch more q
@@ -88,7 +89,7 @@ module _ (history : List Entry) where
   either_held true p o = refl
   either_held false p o = refl
 
-  keys_found : (q : List ℕ) (ps : List ℕ) → finite.find key_cmp q (flat_map (λ p. keys_left (entry_at history p)) ps) ≡ prepare_holding history (find (changes q) ps)
+  keys_found : (q : List ℕ) (ps : List ℕ) → finite.find key_cmp q (flat_map (λ p. keys_left (prepare_of (entry_at history p))) ps) ≡ prepare_holding history (find (changes q) ps)
   keys_found q [] = refl
   keys_found q (p ∷ ps) = keys_first (entry_at history p) _ q ∙ ap (cond (changes q p) (Some (Txn (name_at history p)))) (keys_found q ps) ∙ either_held (changes q p) p _
 

@@ -1,3 +1,4 @@
 pub mod History
 pub mod Growth
+pub mod Prepares
 pub mod Opened

@@ -1,7 +1,9 @@
 //! The undecided prepares: their names, their batches and the keys that they hold.
 ghost use Rattle.std.specs.Prelude.{◌≡◌, true};
+ghost use Rattle.std.specs.Option.{option_map};
 ghost use Rattle.std.specs.Str.{bytes_eq};
-ghost use Rattle.wp_model.specs.History.{batch_at, name_at, is_changed, is_undecided, named, holder_of};
+ghost use Rattle.wp_model.specs.History.{entry_at, batch_at, name_at, is_changed, is_undecided, named, holder_of};
+ghost use Rattle.wp_history.specs.Prepares.{prepare_of};
 
 use crate::history::History;
 use wp_model::{Batch, Entry, Key, Name, Seq};
@@ -14,14 +16,24 @@ impl History {
         self.undecided().binary_search(&p).is_ok()
     }
 
+    /// The name and the batch of the prepare with that number, decided or not, if there is one.
+    pub fn prepare_at(&self, p: Seq) -> Option<(&Name, &Batch)>
+        ensures { option_map (λ t. (t.0.now, t.1.now)) result ≡ prepare_of (entry_at self.now.entries p) }
+    {
+        match self.entry_at(p) {
+            Some(Entry::Prepare(name, batch)) => Some((name, batch)),
+            _ => None,
+        }
+    }
+
     /// The name of an undecided prepare.
     pub fn name_at(&self, p: Seq) -> &Name
         requires { is_undecided self.now.entries p ≡ true }
         ensures { result.now ≡ name_at self.now.entries p }
     {
-        match self.entry_at(p) {
-            Some(Entry::Prepare(name, _)) => name,
-            _ => unreachable!(),
+        match self.prepare_at(p) {
+            Some((name, _)) => name,
+            None => unreachable!(),
         }
     }
 
@@ -30,28 +42,28 @@ impl History {
         requires { is_undecided self.now.entries p ≡ true }
         ensures { result.now ≡ batch_at self.now.entries p }
     {
-        match self.entry_at(p) {
-            Some(Entry::Prepare(_, batch)) => batch,
-            _ => unreachable!(),
+        match self.prepare_at(p) {
+            Some((_, batch)) => batch,
+            None => unreachable!(),
         }
     }
 
     fn has_name(&self, p: Seq, name: &Name) -> bool
         ensures { result ≡ bytes_eq (name_at self.now.entries p) name.now }
     {
-        match self.entry_at(p) {
-            Some(Entry::Prepare(other, _)) => other == name,
+        match self.prepare_at(p) {
+            Some((other, _)) => other == name,
             // What is no prepare has the empty name, which no transaction has.
-            _ => name.bytes().is_empty(),
+            None => name.bytes().is_empty(),
         }
     }
 
     fn changes_key(&self, p: Seq, key: &Key) -> bool
         ensures { result ≡ is_changed (batch_at self.now.entries p) key.now }
     {
-        match self.entry_at(p) {
-            Some(Entry::Prepare(_, batch)) => batch.get(key).is_some(),
-            _ => false,
+        match self.prepare_at(p) {
+            Some((_, batch)) => batch.get(key).is_some(),
+            None => false,
         }
     }
 

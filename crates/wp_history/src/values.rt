@@ -16,11 +16,8 @@ impl History {
     {
         match entry {
             Entry::Write(batch) => batch.get(key),
-            Entry::Commit(p) => match self.entry_at(*p) {
-                Some(Entry::Prepare(_, batch)) => batch.get(key),
-                _ => None,
-            },
-            _ => None,
+            Entry::Commit(p) => self.prepare_at(*p)?.1.get(key),
+            Entry::Prepare(_, _) | Entry::Undo(_, _) | Entry::Close(_) => None,
         }
     }
 

@@ -2,7 +2,7 @@
 //!
 //! They are taken from the last to the first: of two under one name or key the first is to stay.
 ghost use Rattle.std.specs.Prelude.{◌≡◌, ◌∷◌, [], None, map, IfOk, OnOk};
-ghost use Rattle.std.specs.Option.{option_copied};
+ghost use Rattle.std.specs.Option.{option_map};
 ghost use Rattle.std.specs.FinMap.{from_entries};
 ghost use Rattle.wp_model.specs.Batch.{key_cmp, key_of};
 ghost use Rattle.wp_model.specs.declared.holder.Holder.TheVariants.{Txn};
@@ -12,7 +12,7 @@ ghost use Rattle.wp_locks.specs.Locks.{Joins};
 use std::alloc::{AllocError, Global};
 use std::collections::BTreeMap;
 use wp_history::History;
-use wp_model::{Change, Entry, Holder, Key, Name};
+use wp_model::{Batch, Change, Holder, Key, Name};
 
 /// The name, had by nobody.
 fn add_left(
@@ -28,14 +28,14 @@ fn add_left(
 
 fn add_name(
     names: &mut BTreeMap<Name, Option<Name>>,
-    found: Option<&Entry>,
+    found: Option<(&Name, &Batch)>,
     alloc: Global,
 ) -> Result<(), AllocError>
-    ensures { OnOk result (Joins (name_left (option_copied found.entry)) names.old names.new) }
+    ensures { OnOk result (Joins (name_left (option_map (λ t. (t.0.now, t.1.now)) found.entry)) names.old names.new) }
 {
     match found {
-        Some(Entry::Prepare(name, _)) => add_left(names, name, alloc),
-        _ => Ok(()),
+        Some((name, _)) => add_left(names, name, alloc),
+        None => Ok(()),
     }
 }
 
@@ -58,14 +58,14 @@ fn add_held(
 
 fn add_keys(
     keys: &mut BTreeMap<Key, Holder>,
-    found: Option<&Entry>,
+    found: Option<(&Name, &Batch)>,
     alloc: Global,
 ) -> Result<(), AllocError>
-    ensures { OnOk result (Joins (keys_left (option_copied found.entry)) keys.old keys.new) }
+    ensures { OnOk result (Joins (keys_left (option_map (λ t. (t.0.now, t.1.now)) found.entry)) keys.old keys.new) }
 {
     match found {
-        Some(Entry::Prepare(name, batch)) => add_held(keys, name, batch.changes(), alloc),
-        _ => Ok(()),
+        Some((name, batch)) => add_held(keys, name, batch.changes(), alloc),
+        None => Ok(()),
     }
 }
 
@@ -79,7 +79,7 @@ pub fn names_of(
     let mut names = BTreeMap::new(alloc);
     let mut left = history.undecided();
     while let Some((p, before)) = left.split_last() {
-        add_name(&mut names, history.entry_at(*p), alloc)?;
+        add_name(&mut names, history.prepare_at(*p), alloc)?;
         left = before;
     }
     Ok(names)
@@ -92,7 +92,7 @@ pub fn keys_of(history: &History, alloc: Global) -> Result<BTreeMap<Key, Holder>
     let mut keys = BTreeMap::new(alloc);
     let mut left = history.undecided();
     while let Some((p, before)) = left.split_last() {
-        add_keys(&mut keys, history.entry_at(*p), alloc)?;
+        add_keys(&mut keys, history.prepare_at(*p), alloc)?;
         left = before;
     }
     Ok(keys)

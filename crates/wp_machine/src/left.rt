@@ -1,23 +1,23 @@
 //! The names and the keys of the prepares that a history leaves undecided.
 ghost use Rattle.std.specs.Prelude.{◌≡◌, ◌++◌, map, IfOk, OnOk};
-ghost use Rattle.std.specs.Option.{option_copied};
+ghost use Rattle.std.specs.Option.{option_map};
 ghost use Rattle.wp_model.specs.Batch.{key_of};
 ghost use Rattle.wp_model.specs.declared.holder.Holder.TheVariants.{Txn};
 ghost use Rattle.wp_history.proofs.Opened.{name_left, keys_left, names_of, keys_of};
 
 use std::alloc::{AllocError, Global};
 use wp_history::History;
-use wp_model::{Change, Entry, Holder, Key, Name};
+use wp_model::{Batch, Change, Holder, Key, Name};
 
 /// The name of a prepare, had by nobody.
 fn push_name(
     names: &mut Vec<(Name, Option<Name>)>,
-    found: Option<&Entry>,
+    found: Option<(&Name, &Batch)>,
     alloc: Global,
 ) -> Result<(), AllocError>
-    ensures { OnOk result (names.new.items ≡ names.old.items ++ name_left (option_copied found.entry)) }
+    ensures { OnOk result (names.new.items ≡ names.old.items ++ name_left (option_map (λ t. (t.0.now, t.1.now)) found.entry)) }
 {
-    if let Some(Entry::Prepare(name, _)) = found {
+    if let Some((name, _)) = found {
         names.push((name.copy(alloc)?, None))?;
     }
     Ok(())
@@ -40,14 +40,14 @@ fn push_held(
 
 fn push_keys(
     keys: &mut Vec<(Key, Holder)>,
-    found: Option<&Entry>,
+    found: Option<(&Name, &Batch)>,
     alloc: Global,
 ) -> Result<(), AllocError>
-    ensures { OnOk result (keys.new.items ≡ keys.old.items ++ keys_left (option_copied found.entry)) }
+    ensures { OnOk result (keys.new.items ≡ keys.old.items ++ keys_left (option_map (λ t. (t.0.now, t.1.now)) found.entry)) }
 {
     match found {
-        Some(Entry::Prepare(name, batch)) => push_held(keys, name, batch.changes(), alloc),
-        _ => Ok(()),
+        Some((name, batch)) => push_held(keys, name, batch.changes(), alloc),
+        None => Ok(()),
     }
 }
 
@@ -57,7 +57,7 @@ pub fn names_left(history: &History, alloc: Global) -> Result<Vec<(Name, Option<
 {
     let mut names = Vec::new(alloc);
     for p in history.undecided() {
-        push_name(&mut names, history.entry_at(*p), alloc)?;
+        push_name(&mut names, history.prepare_at(*p), alloc)?;
     }
     Ok(names)
 }
@@ -68,7 +68,7 @@ pub fn keys_left(history: &History, alloc: Global) -> Result<Vec<(Key, Holder)>,
 {
     let mut keys = Vec::new(alloc);
     for p in history.undecided() {
-        push_keys(&mut keys, history.entry_at(*p), alloc)?;
+        push_keys(&mut keys, history.prepare_at(*p), alloc)?;
     }
     Ok(keys)
 }
