@@ -7,7 +7,7 @@ use Rattle.wp_text.specs.declared.script.Command.{Command}
 use Rattle.wp_text.specs.declared.reply.Reply.{Reply}
 use Rattle.wp_text.specs.declared.reply.Reply.TheVariants as reply
 use Rattle.wp_core.specs.Lists.{IsIn, one_if}
-use Rattle.wp_core.specs.Sound.Pasts.{is_log_fault, due_after}
+use Rattle.wp_core.specs.Sound.Pasts.{closes_log, due_after}
 use Rattle.wp_core.specs.Sound.Pasts as pasts
 use Rattle.wp_core.specs.Views.{Event, log_failed, stopped}
 use Rattle.wp_core.specs.World.{Participant}
@@ -81,8 +81,8 @@ module _ {D : Type 0} (z : SharedState D) (old new : SeatState) (needs : ℕ) (A
 -- ---- one event more
 
 module _ (front : List Event) (last : Event) where
-  log_more : log_faults (front ++ last ∷ []) ≡ log_faults front + one_if (is_log_fault last)
-  log_more = total_more (λ (e : Event). one_if (is_log_fault e)) front last
+  log_more : log_faults (front ++ last ∷ []) ≡ log_faults front + one_if (closes_log last)
+  log_more = total_more (λ (e : Event). one_if (closes_log e)) front last
 
   tables_more : tables_faults (front ++ last ∷ []) ≡ tables_faults front + one_if (pasts.is_tables_fault last)
   tables_more = total_more (λ (e : Event). one_if (pasts.is_tables_fault e)) front last

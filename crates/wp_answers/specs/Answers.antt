@@ -9,7 +9,7 @@ use Rattle.wp_text.specs.declared.reply.Reply.TheVariants as reply
 use Rattle.wp_core.specs.Lists.{IsIn, one_if, total}
 use Rattle.wp_core.specs.Sound.Actors.{StartsWith}
 use Rattle.wp_core.specs.Sound.Pasts.{tables_due}
-use Rattle.wp_core.specs.Views.{Event, claimed, took, locked, told, heard, installed, stopped, found_edit, found}
+use Rattle.wp_core.specs.Views.{Event, claimed, took, locked, told, heard, installed, renewed, log_stopped, stopped, found_edit, found}
 use Rattle.wp_core.specs.World.{Participant, World}
 use Rattle.wp_rule.specs.Shows.{WasLast}
 use Rattle.wp_parts.specs.Parts.{content}
@@ -53,6 +53,9 @@ explaining client (locked key (holder.Client name)) = Some (λ txn command answe
 explaining client (told label n) = Some (tells label n)
 explaining client (installed edit false) = Some (λ txn command answer. is_answer (is_flushed edit.flushed) answer)
 explaining client (installed edit true) = Some (λ txn command answer. is_answer is_compacted answer)
+-- no command makes another segment of the log the one in use
+explaining client (renewed edit) = Some (λ txn command answer. false)
+explaining client log_stopped = Some (λ txn command answer. false)
 explaining client other = None
 
 -- the client came to it by the command, with this reply or with none

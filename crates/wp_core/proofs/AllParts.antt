@@ -24,6 +24,7 @@ use Rattle.wp_core.specs.Sound.History.{IsHistory, IsPendingHeld}
 use Rattle.wp_core.specs.Sound.Prepared.{IsCache, AreDecided, AreUndecided, AreDelayed, AreFlags}
 use Rattle.wp_core.specs.Sound.Snapshots.{registered_of, AreRegistered, view_of, HasSeen}
 use Rattle.wp_core.specs.Sound.Store.{IsStored, IsSettled}
+use Rattle.wp_core.specs.Sound.Segments.{AreCoupled}
 use Rattle.wp_core.specs.Sound.Locks.{owner_of, AreLocked}
 use Rattle.wp_core.specs.Sound.Pasts.{past_of, AreHolders, IsBoard, AreFaults, AreEdits}
 use Rattle.wp_core.specs.Sound.Reader.{AreReaders, AreJudged, reader_of}
@@ -44,6 +45,7 @@ pub record TableParts (opened : List Entry) (d : WriteTable) (max delayed_flag o
   pub flags : AreFlags delayed_flag old_flag t m h.prepared h.snapshots
   pub versions : IsStored d.history d.pending m st e
   pub settled : IsSettled h.tables st e.last
+  pub coupled : AreCoupled d e h.write
   pub pending : IsPendingHeld h.write d.pending
 
 -- what the participants saw, published and registered
@@ -113,6 +115,7 @@ all_parts w actors tables views locks pasts turns readers notes led idle = recor
   flags = tables.flags;
   versions = tables.versions;
   settled = tables.settled;
+  coupled = tables.coupled;
   locks = locks;
   holders = pasts.holders;
   board = pasts.board;
@@ -130,7 +133,7 @@ all_parts w actors tables views locks pasts turns readers notes led idle = recor
 
 module _ (w : World) (s : IsSound w) where
   pub tables_of : TablesOf w
-  tables_of = record { history = s.history; cache = s.cache; decided = s.decided; undecided = s.undecided; delayed = s.delayed; flags = s.flags; versions = s.versions; settled = s.settled; pending = s.pending }
+  tables_of = record { history = s.history; cache = s.cache; decided = s.decided; undecided = s.undecided; delayed = s.delayed; flags = s.flags; versions = s.versions; settled = s.settled; coupled = s.coupled; pending = s.pending }
 
   pub views_of : ViewsOf w w.actors
   views_of = record { seen = s.seen; learned = s.learned; owned = s.owned; registrations = s.registrations; viewed = s.viewed }

@@ -3,7 +3,7 @@ use Rattle.std.proofs.Common.{◌≡◌, ℕ, length, sym, subst}
 use mathlib.Core.Option.{some}
 use lib.ListN.{get_elem?}
 use Rattle.wp_core.specs.World.{Actor, World}
-use Rattle.wp_core.specs.Steps.{Step, load_published, register, begin_reading, load, end_reading, store_published, store_max_evicted, store_word, store_delayed_flag, store_old_flag, take_turn, give_turn, make_pending, log_pending, close_log, find_log_closed, drop_pending, add_prepared, take_pending_prepared, add_delayed_commit, delay_pending, take_out, register_again, release, add_old_commit, add_versions, take_versions, move_versions, replace_versions, install, halt, find_edit, claim_name, take_name, leave_name, free_transaction, lock_key, free_key, lock_direct, free_direct, find_holder, tell, hear, set_batch, note, make_note, make_seat, set_client, learn, join_seat}
+use Rattle.wp_core.specs.Steps.{Step, load_published, register, begin_reading, load, end_reading, store_published, store_max_evicted, store_word, store_delayed_flag, store_old_flag, take_turn, give_turn, make_pending, log_pending, close_log, find_log_closed, drop_pending, write_segment, use_segment, stop_log, add_prepared, take_pending_prepared, add_delayed_commit, delay_pending, take_out, register_again, release, add_old_commit, add_versions, take_versions, move_versions, replace_versions, install, renew, halt, find_edit, claim_name, take_name, leave_name, free_transaction, lock_key, free_key, lock_direct, free_direct, find_holder, tell, hear, set_batch, note, make_note, make_seat, set_client, learn, join_seat}
 use Rattle.wp_core.specs.Effects.{done}
 use Rattle.wp_core.specs.Needs.{Needs}
 use Rattle.wp_core.specs.Notes.{forgets}
@@ -20,15 +20,17 @@ use Rattle.wp_core.proofs.StoresFlag.{stores_delayed_flag, stores_old_flag}
 use Rattle.wp_core.proofs.TakesTurn.{takes_turn}
 use Rattle.wp_core.proofs.KeepsGive.{gives}
 use Rattle.wp_core.proofs.PendingSteps.{makes_pending, logs_pending}
-use Rattle.wp_core.proofs.ClosesLog.{closes_log}
+use Rattle.wp_core.proofs.ClosesLog.{closes_log_by_fault, stops_log}
 use Rattle.wp_core.proofs.KeepsRemembered.{finds_log_closed, finds_edit, hears, finds_holder}
 use Rattle.wp_core.proofs.DropsPending.{drops_pending}
+use Rattle.wp_core.proofs.WritesSegment.{writes_segment}
 use Rattle.wp_core.proofs.PendingPrepared.{adds_prepared, takes_pending_prepared}
 use Rattle.wp_core.proofs.PreparedSteps.{takes_out, adds_delayed_commit, delays_pending_pair}
 use Rattle.wp_core.proofs.OldCommits.{releases_one, notes_old_commit}
 use Rattle.wp_core.proofs.PendingVersions.{adds_versions, takes_versions}
 use Rattle.wp_core.proofs.MovesVersions.{moves_versions, replaces_versions}
 use Rattle.wp_core.proofs.InstallsEdit.{installs, halts}
+use Rattle.wp_core.proofs.RenewsLog.{renews, uses_segment}
 use Rattle.wp_core.proofs.KeepsClaimed.{claims_name}
 use Rattle.wp_core.proofs.KeepsNameTaken.{takes_name}
 use Rattle.wp_core.proofs.KeepsNameLeft.{leaves_name}
@@ -61,9 +63,12 @@ kept w by a (take_turn turn) at needs s = takes_turn w by a turn at needs s
 kept w by a (give_turn turn) at needs s = gives w by a turn at needs s
 kept w by a (make_pending entries) at needs s = makes_pending w by a entries at needs s
 kept w by a log_pending at needs s = logs_pending w by a at needs s
-kept w by a close_log at needs s = closes_log w by a at needs s
+kept w by a close_log at needs s = closes_log_by_fault w by a at needs s
 kept w by a find_log_closed at needs s = finds_log_closed w by a at needs s
 kept w by a drop_pending at needs s = drops_pending w by a at needs s
+kept w by a (write_segment place) at needs s = writes_segment w by a place at needs s
+kept w by a use_segment at needs s = uses_segment w by a at needs s
+kept w by a stop_log at needs s = stops_log w by a at needs s
 kept w by a add_prepared at needs s = adds_prepared w by a at needs s
 kept w by a take_pending_prepared at needs s = takes_pending_prepared w by a at needs s
 kept w by a (add_delayed_commit pair) at needs s = adds_delayed_commit w by a pair at needs s
@@ -77,6 +82,7 @@ kept w by a (take_versions memory) at needs s = takes_versions w by a memory at 
 kept w by a (move_versions memory tables) at needs s = moves_versions w by a memory tables at needs s
 kept w by a (replace_versions tables floor) at needs s = replaces_versions w by a tables floor at needs s
 kept w by a (install edit compacts) at needs s = installs w by a edit compacts at needs s
+kept w by a (renew edit) at needs s = renews w by a edit at needs s
 kept w by a (halt edit) at needs s = halts w by a edit at needs s
 kept w by a find_edit at needs s = finds_edit w by a at needs s
 kept w by a (claim_name name) at needs s = claims_name w by a name at needs s

@@ -1,4 +1,4 @@
--- Installing an edit, and the failure of the tables' devices, keep a world sound.
+-- Installing an edit of a flush or a compaction, and the failure of the tables' devices, keep a world sound.
 use Rattle.std.proofs.Common.{◌≡◌, ◌≢◌, ⊎_elim, inl, inr, ℕ, ◌+◌, ◌≤◌, ◌⊎◌, Bool, true, false, true≢false, List, [], ◌∷◌, ◌++◌, length, refl, sym, subst, ap, ◌∙◌, arith, Option, Some, None}
 use Rattle.std.proofs.lemmas.List.Sums.{fold-append}
 use mathlib.Core.Option.{some}
@@ -7,27 +7,31 @@ use Rattle.wp_core.specs.Lists.{one_if}
 use Rattle.wp_core.specs.Turns.{tables_turn}
 use Rattle.wp_core.specs.Tables.{Installed}
 use Rattle.wp_model.specs.Flushed.{InstalledEdit}
+use Rattle.wp_model.specs.declared.segment.Segment.{Segment}
 use Rattle.wp_core.specs.Views.{Event, log_failed, tables_failed, stopped, found_edit, Fact, nothing_flushed}
 use Rattle.wp_core.specs.Views as event
 use Rattle.wp_core.specs.World.{Actor, Participant, World}
 use Rattle.wp_core.specs.Steps.{install, halt}
 use Rattle.wp_core.specs.Effects.{done, with_failed}
+use Rattle.wp_core.specs.Conditions.{NamesSegment, NamesNext}
 use Rattle.wp_core.specs.Needs.{Needs}
 use Rattle.wp_core.specs.Notes.{forgets}
-use Rattle.wp_core.specs.Sound.Pasts.{IsPast, is_log_fault, is_tables_fault, AreFaults, WasInstalled, due_after, tables_due, last_after, last_installed, OtherDid, OtherCompacts, AreEdits}
+use Rattle.wp_core.specs.Sound.Pasts.{IsPast, closes_log, is_tables_fault, AreFaults, raised_to, WasInstalled, due_after, tables_due, last_after, last_installed, OtherDid, OtherCompacts, AreEdits}
+use Rattle.wp_core.specs.Sound.Segments.{AreCoupled}
 use Rattle.wp_core.specs.IsSound.{IsSound}
 use Rattle.wp_core.proofs.PastsGrow.{done_last, past_last, past_before, times_more}
-use Rattle.wp_core.proofs.Remembers.{installed_still, edits_grown}
+use Rattle.wp_core.proofs.Remembers.{installed_still, faults_more, edits_grown}
 use Rattle.wp_core.proofs.TablesChange.{SoInstalled, actor_after, pasts_after, tables_change}
 use Rattle.wp_core.proofs.AllParts.{SoIn}
 use Rattle.wp_core.proofs.Quiet.{Stays, stays_not}
+use Rattle.wp_core.proofs.Tests.{same_some, none_some}
 
 -- the tables that are due once one more event is in a past
-due_more : (first : InstalledEdit) (past : List Event) (e : Event) → tables_due first (past ++ e ∷ []) ≡ due_after (tables_due first past) e
+pub due_more : (first : InstalledEdit) (past : List Event) (e : Event) → tables_due first (past ++ e ∷ []) ≡ due_after (tables_due first past) e
 due_more first past e = fold-append due_after first.tables past (e ∷ [])
 
 -- the last edit that is known then
-last_more : (first : InstalledEdit) (past : List Event) (e : Event) → last_installed first (past ++ e ∷ []) ≡ last_after (last_installed first past) e
+pub last_more : (first : InstalledEdit) (past : List Event) (e : Event) → last_installed first (past ++ e ∷ []) ≡ last_after (last_installed first past) e
 last_more first past e = fold-append last_after first past (e ∷ [])
 
 -- ---- an edit is installed
@@ -50,18 +54,15 @@ module _ (w : World) (by : ℕ) (a : Actor) (edit : InstalledEdit) (compacts : B
   after = pasts_after w by a (install edit compacts) e t
 
   faults_installed : AreFaults w.writes w.installed.halted after
-  faults_installed =
-      let l = times_more w.actors by a c e at refl refl is_log_fault in
-      let m = times_more w.actors by a c e at refl refl is_tables_fault in
-      let x = s.faults.log in
-      let y = s.faults.tables in
-      record {
-        log = omega arith;
-        tables = omega arith;
-        not_logged = s.faults.not_logged;
-        stopped = λ n h. ⊎_elim (λ k. s.faults.stopped n k) (λ (q : e ≡ stopped n). absurd cc) (past_before w.actors by a c e at refl refl (stopped n) h);
-        failed = λ entries h. ⊎_elim (λ k. s.faults.failed entries k) (λ (q : e ≡ log_failed entries). absurd cc) (past_before w.actors by a c e at refl refl (log_failed entries) h);
-      }
+  faults_installed = faults_more w.actors by a c e at refl refl w.writes w.installed.halted refl refl (λ n q. absurd cc) s.faults
+
+  -- no install failed before
+  coupled_installed : AreCoupled w.writes t w.holders.write
+  coupled_installed = record {
+    last = subst (λ (x : Segment). (x ≡ w.writes.segment) ⊎ ((w.writes.next ≡ Some x) × (w.writes.closed ≡ false))) (sym n.6) s.coupled.last;
+    failed = λ x q. absurd (none_some w.installed.failed x (s.edits.none_failed n.1) q);
+    next = s.coupled.next;
+  }
 
   -- the others know that it was another's
   by_other : (j i : ℕ) → (j ≢ by) ⊎ (i ≢ 0) → OtherDid after j i e
@@ -69,8 +70,12 @@ module _ (w : World) (by : ℕ) (a : Actor) (edit : InstalledEdit) (compacts : B
 
   -- a compaction keeps the flushed number
   flushed_at : (b : Bool) → b ≡ compacts → WasInstalled w.first_edit after edit.flushed
-  flushed_at false q = inr (edit, refl, subst (λ (z : Bool). IsPast after (event.installed edit z)) (sym q) (past_last w.actors by a c e at refl refl))
+  flushed_at false q = inr (event.installed edit false, refl, subst (λ (z : Bool). IsPast after (event.installed edit z)) (sym q) (past_last w.actors by a c e at refl refl))
   flushed_at true q = subst (WasInstalled w.first_edit after) (sym (n.4 (sym q))) (installed_still w.actors by a c e at refl refl w.first_edit w.installed.last.flushed s.edits.last)
+
+  raised : (b : Bool) (m : ℕ) → raised_to (event.installed edit b) ≡ Some m → m ≤ edit.flushed
+  raised false m q = let same : edit.flushed ≡ m = same_some edit.flushed m q in omega (arith, same)
+  raised true m q = let none : None ≡ Some m = q in absurd cc
 
   -- a flush brings one table more
   its_tables : (b : Bool) → b ≡ compacts → tables_due w.first_edit a.participant.past ≤ w.installed.last.tables → due_after (tables_due w.first_edit a.participant.past) (event.installed edit b) ≤ edit.tables
@@ -85,10 +90,10 @@ module _ (w : World) (by : ℕ) (a : Actor) (edit : InstalledEdit) (compacts : B
   edits_installed = edits_grown w.actors by a c e at refl refl w.first_edit w.installed t record {
     last = flushed_at compacts refl;
     rises = n.5;
-    new = λ x q. let same : edit ≡ x = cc in subst (λ (z : InstalledEdit). z.flushed ≤ edit.flushed) same (omega arith);
+    new = raised compacts;
     found = λ n tables due halted q. absurd cc;
     its_edit = λ same. sym (last_more w.first_edit a.participant.past e);
-    their_edit = λ j i past apart same. inr (edit, compacts, by_other j i apart);
+    their_edit = λ j i past apart same. inr (e, refl, by_other j i apart);
     its_tables = λ due. subst (λ (z : ℕ). z ≤ edit.tables) (sym (due_more w.first_edit a.participant.past e)) (its_tables compacts refl due);
     their_tables = their_tables compacts refl;
     failed = λ last failing h. ⊎_elim (λ k. absurd (true≢false (sym (s.edits.failed last failing k).0 ∙ n.1))) (λ (q : e ≡ tables_failed last failing). absurd cc) (past_before w.actors by a c e at refl refl (tables_failed last failing) h);
@@ -104,6 +109,7 @@ installs w by a edit compacts at n s =
       nothing = tt;
       tells_nothing = tt;
       stored = n.2;
+      coupled = coupled_installed w by a edit compacts at n s;
       faults = faults_installed w by a edit compacts at n s;
       edits = edits_installed w by a edit compacts at n s;
       so = so_installed w edit compacts;
@@ -122,6 +128,15 @@ is_halted t (Some edit) = refl
 now_failed : (t : Installed) (edit : Option InstalledEdit) → t.failed ≡ None → (with_failed t edit).failed ≡ edit
 now_failed t None none = none
 now_failed t (Some edit) none = refl
+
+-- the edit whose install failed names the last one's segment, or the next one
+coupled_halted : (w : World) (by : ℕ) (edit : Option InstalledEdit) → ((failed : InstalledEdit) → edit ≡ Some failed → NamesSegment w failed ⊎ NamesNext w by failed) → IsSound w → AreCoupled w.writes (with_failed w.installed edit) w.holders.write
+coupled_halted w by None names s = record { last = s.coupled.last; failed = s.coupled.failed; next = s.coupled.next }
+coupled_halted w by (Some edit) names s = record {
+  last = s.coupled.last;
+  failed = λ x q. ⊎_elim (λ (same : NamesSegment w x). inl same) (λ (next : NamesNext w by x). inr next.2) (names x q);
+  next = s.coupled.next;
+}
 
 so_halted : (w : World) (edit : Option InstalledEdit) (p : Participant) (fact : Fact) → SoIn w p fact → SoInstalled w (with_failed w.installed edit) p fact
 so_halted w None p fact k = k
@@ -142,7 +157,7 @@ module _ (w : World) (by : ℕ) (a : Actor) (edit : Option InstalledEdit) (at : 
 
   faults_halted : AreFaults w.writes u.halted then
   faults_halted =
-      let l = times_more w.actors by a b failure at refl refl is_log_fault in
+      let l = times_more w.actors by a b failure at refl refl closes_log in
       let m = times_more w.actors by a b failure at refl refl is_tables_fault in
       let x = s.faults.log in
       let y = s.faults.tables ∙ ap one_if running in
@@ -152,6 +167,7 @@ module _ (w : World) (by : ℕ) (a : Actor) (edit : Option InstalledEdit) (at : 
         not_logged = s.faults.not_logged;
         stopped = λ n h. ⊎_elim (λ k. s.faults.stopped n k) (λ (q : failure ≡ stopped n). absurd cc) (past_before w.actors by a b failure at refl refl (stopped n) h);
         failed = λ entries h. ⊎_elim (λ k. s.faults.failed entries k) (λ (q : failure ≡ log_failed entries). absurd cc) (past_before w.actors by a b failure at refl refl (log_failed entries) h);
+        behind = λ h. is_halted w.installed edit;
       }
 
   -- it is the one failure
@@ -187,6 +203,7 @@ halts w by a edit at n s =
       nothing = tt;
       tells_nothing = tt;
       stored = n.2;
+      coupled = coupled_halted w by edit n.3 s;
       faults = faults_halted w by a edit at n.1 s;
       edits = edits_halted w by a edit at n.1 s;
       so = λ p fact stays k. so_halted w edit p fact k;

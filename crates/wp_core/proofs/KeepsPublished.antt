@@ -52,13 +52,13 @@ module _ (w : World) (by : ℕ) (a : Actor) (entry : Entry) (others : List Entry
   abbrev b : Actor
   b = record c { held = held_with c.held e }
 
+  not_empty : entry ∷ others ≡ [] → ⊥
+  not_empty q = let k : ◌≡◌ {A = ℕ} (suc (length others)) 0 = ap length q in absurd (omega arith)
+
   -- a logged entry is pending, so the log is not closed
   open_log : w.writes.closed ≡ false
   open_log = by_test w.writes.closed refl
     where
-      not_empty : entry ∷ others ≡ [] → ⊥
-      not_empty q = let k : ◌≡◌ {A = ℕ} (suc (length others)) 0 = ap length q in absurd (omega arith)
-
       by_test : (t : Bool) → w.writes.closed ≡ t → t ≡ false
       by_test false q = refl
       by_test true q = absurd (⊎_elim (λ (none : w.writes.pending ≡ []). not_empty (sym n.pending ∙ none)) (λ (not_yet : w.writes.logged ≡ false). true≢false (sym n.logged ∙ not_yet)) (s.faults.not_logged q))
@@ -83,6 +83,11 @@ module _ (w : World) (by : ℕ) (a : Actor) (entry : Entry) (others : List Entry
         flags = s.flags;
         versions = stored_part w.writes.history entry n.legal w.writes.pending others w.snapshots w.store w.installed n.pending live_within in_memory s.versions;
         settled = s.settled;
+        coupled = record {
+          last = s.coupled.last;
+          failed = s.coupled.failed;
+          next = λ segment is. absurd (not_empty (sym n.pending ∙ ((s.coupled.next segment is).1 open_log).0));
+        };
         pending = λ free. absurd (not_free w.holders write_turn by n.turn free);
       })
       (record {

@@ -65,7 +65,7 @@ remembering w by a e step at live may s =
       holders = holders_more w.actors by a b e at refl refl w.opened w.writes.history w.locks (λ key holder seen account q. is (found key holder seen account) q) s.holders;
       board = board_more w.actors by a b e at refl refl (world.published w) w.locks
           (λ label n q. ⊎_elim (λ (r : e ≡ told label n). absurd (is (told label n) r)) (λ (r : e ≡ heard label n). (is (heard label n) r).0) q) (λ label n q. (is (heard label n) q).1) (λ label n q. is (told label n) q) s.board;
-      faults = faults_more w.actors by a b e at refl refl w.writes w.installed.halted quiet (λ n q. is (stopped n) q) s.faults;
+      faults = faults_more w.actors by a b e at refl refl w.writes w.installed.halted quiet.log quiet.tables (λ n q. is (stopped n) q) s.faults;
       edits = edits_more w.actors by a b e at refl refl w.first_edit w.installed quiet (λ n tables due halted q. let k = is (found_edit n tables due halted) q in (k.0, k.1)) (λ n tables due q. (is (found_edit n tables due true) q).2 refl) s.edits;
     }) (turns_still w by a b at refl s)
     (readers_still w by a b at refl s)

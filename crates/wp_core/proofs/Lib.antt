@@ -24,6 +24,7 @@ pub mod OldCommits
 pub mod StoresWord
 pub mod PreparedSteps
 pub mod PendingSteps
+pub mod WritesSegment
 pub mod DropsPending
 pub mod PendingVersions
 pub mod PendingPrepared
@@ -70,6 +71,7 @@ pub mod KeepsPublished
 pub mod TablesChange
 pub mod MovesVersions
 pub mod InstallsEdit
+pub mod RenewsLog
 pub mod Persons
 pub mod PersonsKeep
 pub mod ActorsMove

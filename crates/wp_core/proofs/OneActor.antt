@@ -13,10 +13,10 @@ use Rattle.wp_core.specs.Reading.{Registration}
 use Rattle.wp_core.specs.World.{Participant, Actor, World, new_participant}
 use Rattle.wp_core.specs.Sound.Actors.{participants_of, IsParticipantAt, total_participants, own_of, times, Role, role_of}
 use Rattle.wp_core.specs.Sound.Locks.{owner_of}
-use Rattle.wp_core.specs.Sound.Pasts.{past_of, is_log_fault, is_tables_fault, IsPast, last_installed, OtherInstalls}
+use Rattle.wp_core.specs.Sound.Pasts.{past_of, closes_log, is_tables_fault, IsPast, last_installed, OtherInstalls}
 use Rattle.wp_core.specs.Sound.Snapshots.{registered_of, count_of}
 use Rattle.wp_core.specs.IsSound.{IsSound, participants}
-use Rattle.wp_core.specs.Views.{Event, told, installed}
+use Rattle.wp_core.specs.Views.{Event, told}
 use Rattle.wp_core.proofs.AllParticipants.{mine}
 use Rattle.wp_core.proofs.Frames.{at_map}
 use Rattle.wp_core.proofs.Registered.{total_at}
@@ -141,15 +141,15 @@ module _ (w : World) (a : Actor) (alone : IsAlone w a) (s : IsSound w) where
 
   -- nobody else did anything
   no_other : OtherInstalls (participants past_of w) 0 0 → ⊥
-  no_other (edit, compacts, (j, i, apart, (past, there, k))) = ⊎_elim
+  no_other (e, is, (j, i, apart, (past, there, k))) = ⊎_elim
       (λ (q : (j ≡ 0) × (i ≡ 0) × (past ≡ a.participant.past)). ⊎_elim (λ (ne : j ≢ 0). ne q.0) (λ (ne : i ≢ 0). ne q.1) apart)
-      (λ (n : (p : Participant) × New p × (past ≡ past_of p)). absurd (subst (IsIn (installed edit compacts)) (n.2 ∙ ap past_of n.1) k))
+      (λ (n : (p : Participant) × New p × (past ≡ past_of p)). absurd (subst (IsIn e) (n.2 ∙ ap past_of n.1) k))
       (only past_of j i past there)
 
   pub tells : IsOnlyOf w a.participant
   tells = record {
     owned = λ n. sym (only_total own_of (times n) (λ p new. ap (λ (q : Participant). times n q.own) new)) ∙ s.owned n;
-    closed = sym (only_total past_of (total (λ e. one_if (is_log_fault e))) (λ p new. ap (λ (q : Participant). total (λ e. one_if (is_log_fault e)) q.past) new)) ∙ s.faults.log;
+    closed = sym (only_total past_of (total (λ e. one_if (closes_log e))) (λ p new. ap (λ (q : Participant). total (λ e. one_if (closes_log e)) q.past) new)) ∙ s.faults.log;
     halted = sym (only_total past_of (total (λ e. one_if (is_tables_fault e))) (λ p new. ap (λ (q : Participant). total (λ e. one_if (is_tables_fault e)) q.past) new)) ∙ s.faults.tables;
     edit = ⊎_elim (λ (q : w.installed.last ≡ last_installed w.first_edit a.participant.past). q) (λ (h : OtherInstalls (participants past_of w) 0 0). absurd (no_other h)) (s.edits.edit 0 0 a.participant.past (mine past_of w.actors 0 a a alone.there refl));
     names = λ name client h.

@@ -203,7 +203,7 @@ module _ (batch : List Change) (is : is_batch batch ≡ true) (s : HasKeys batch
   writes_taken = on (doer (locks s.table ∷ [])) (take_turn write_turn) refl (refl, refl) s.run
 
   made_pending : ReachesFrom empty_world (world a_writer 0 (pending false []) finite.empty [] s.table (doer (writes (pending false []) ∷ locks s.table ∷ [])))
-  made_pending = on (doer (writes unwritten ∷ locks s.table ∷ [])) (make_pending (Write batch ∷ [])) refl (refl, refl, tt, legal batch is) writes_taken
+  made_pending = on (doer (writes unwritten ∷ locks s.table ∷ [])) (make_pending (Write batch ∷ [])) refl (refl, refl, tt, legal batch is, inl refl) writes_taken
 
   was_logged : ReachesFrom empty_world (world a_writer 0 logged finite.empty [] s.table (doer tables_held))
   was_logged = on (doer (writes (pending false []) ∷ locks s.table ∷ [])) log_pending refl (refl, (λ e. let q : (Write batch ∷ []) ≡ [] = e in absurd (cc)), refl, refl) made_pending

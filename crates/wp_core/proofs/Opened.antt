@@ -28,8 +28,7 @@ use Rattle.wp_core.specs.Entries.{batch_of_name}
 use Rattle.wp_core.specs.Tables.{StoreTable, Installed}
 use Rattle.wp_model.specs.Flushed.{InstalledEdit}
 use Rattle.wp_core.specs.Reading.{Registration}
-use Rattle.wp_core.specs.Views as event
-use Rattle.wp_core.specs.Views.{Event, Fact, told, heard, log_failed, tables_failed, stopped, found_edit, found}
+use Rattle.wp_core.specs.Views.{Event, Fact, told, heard, log_failed, log_stopped, tables_failed, stopped, found_edit, found}
 use Rattle.wp_core.specs.World.{World, Actor, Participant, Transaction, new_actor, new_participant, content_of}
 use Rattle.wp_core.specs.Runs.{IsOpening}
 use Rattle.wp_history.specs.Opened.{AreOpened, named_by, prepare_holding}
@@ -37,7 +36,7 @@ use Rattle.wp_core.specs.Sound.Actors.{StartsWith, once, AreHeld, Role, IsPartic
 use Rattle.wp_core.specs.Sound.Snapshots.{count_of, HasSeen}
 use Rattle.wp_core.specs.Sound.Store.{IsStored, IsOfEdit}
 use Rattle.wp_core.specs.Sound.Locks.{Owner, owner_of, IsOwner}
-use Rattle.wp_core.specs.Sound.Pasts.{IsPast, tables_due, last_installed}
+use Rattle.wp_core.specs.Sound.Pasts.{IsPast, raised_to, tables_due, last_installed}
 use Rattle.wp_core.specs.IsSound.{IsSound}
 use Rattle.wp_core.specs.Cache.{pair_at}
 use Rattle.wp_judge.proofs.Packing.{word_back}
@@ -111,7 +110,7 @@ opened_world opened cache flag logged store locks edit client =
       old_flag = 0;
       cache = cache;
       holders = all_free;
-      writes = record { history = opened; pending = []; logged = logged; log = opened; closed = false; failed = [] };
+      writes = record { history = opened; pending = []; logged = logged; log = opened; closed = false; failed = []; segment = edit.segment; next = None };
       prepared = prepared_of opened;
       snapshots = finite.empty;
       store = store;
@@ -216,6 +215,11 @@ module _ (opened : List Entry) (cache : List ℕ) (flag : ℕ) (logged : Bool) (
     flags = record { none_delayed = none_delayed; none_kept = λ _ s p. not_kept s p; delayed_free = λ _ none. delayed_free none; old_free = λ _ _. refl };
     versions = versions;
     settled = λ _. settled;
+    coupled = record {
+      last = inl refl;
+      failed = λ failed e. absurd (none_some None failed refl e);
+      next = λ segment e. absurd (none_some None segment refl e);
+    };
     locks = record {
       prepared_names = is_live;
       prepared_keys = λ p key u changed. locks.keys key ∙ ap (prepare_holding opened) (holder_is opened legal p key u changed);
@@ -244,10 +248,11 @@ module _ (opened : List Entry) (cache : List ℕ) (flag : ℕ) (logged : Bool) (
       not_logged = λ e. inl refl;
       stopped = λ n k. absurd (no_past (stopped n) k);
       failed = λ entries k. absurd (no_past (log_failed entries) k);
+      behind = λ k. absurd (no_past log_stopped k);
     };
     edits = record {
       last = inl refl;
-      rises = λ n k. ⊎_elim (λ (q : n ≡ edit.flushed). omega (arith, q)) (λ (h : (x : InstalledEdit) × (x.flushed ≡ n) × IsPast (([] ∷ []) ∷ []) (event.installed x false)). absurd (no_past (event.installed h.0 false) h.2)) k;
+      rises = λ n k. ⊎_elim (λ (q : n ≡ edit.flushed). omega (arith, q)) (λ (h : (x : Event) × (raised_to x ≡ Some n) × IsPast (([] ∷ []) ∷ []) x). absurd (no_past h.0 h.2)) k;
       found = λ n tables due halted k. absurd (no_past (found_edit n tables due halted) k);
       few = λ j i n tables due halted k less. absurd (no_past (found_edit n tables due halted) (j, i, k));
       edit = λ j i past at. inl (ap (last_installed edit) (one_participant [] j i past at));
@@ -278,7 +283,7 @@ same_world w o =
       old_flag = o.old_flag i;
       cache = w.cache;
       holders = o.holders i;
-      writes = record { history = o.history i; pending = o.pending i; logged = w.writes.logged; log = o.log i; closed = o.running_log i; failed = o.none_failed i };
+      writes = record { history = o.history i; pending = o.pending i; logged = w.writes.logged; log = o.log i; closed = o.running_log i; failed = o.none_failed i; segment = o.segment i; next = o.none_next i };
       prepared = record { heap = o.heap i; delayed = o.delayed i; delayed_commits = o.delayed_commits i };
       snapshots = o.snapshots i;
       store = w.store;

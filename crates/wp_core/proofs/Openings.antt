@@ -180,7 +180,7 @@ opened_world history cache client =
       old_flag = 0;
       cache = cache;
       holders = all_free;
-      writes = record { history = history; pending = []; logged = false; log = history; closed = false; failed = [] };
+      writes = record { history = history; pending = []; logged = false; log = history; closed = false; failed = []; segment = first_segment; next = None };
       prepared = record { heap = finset.empty; delayed = finset.from_list (undecided history); delayed_commits = finite.empty };
       snapshots = finite.empty;
       store = all_in_memory history;
@@ -199,6 +199,8 @@ world_opened history cache client legal closed words zeros = record {
   log = refl;
   running_log = refl;
   none_failed = refl;
+  segment = refl;
+  none_next = refl;
   max_evicted = refl;
   words = words;
   cache = zeros;

@@ -1,9 +1,10 @@
--- Making an entry pending, logging it and dropping it keep a world sound.
-use Rattle.std.proofs.Common.{◌≡◌, inl, inr, ℕ, suc, Bool, true, false, true≢false, not, List, [], ◌∷◌, ◌++◌, length, refl, sym, ap, ◌∙◌, append-nil, arith, ⊎_elim, Some}
+-- Changes of what is pending and logged, and of the log's segments; making an entry pending and logging it keep a world sound.
+use Rattle.std.proofs.Common.{◌≡◌, inl, inr, ℕ, suc, Bool, true, false, true≢false, not, List, [], ◌∷◌, ◌++◌, length, refl, sym, ap, ◌∙◌, append-nil, arith, ⊎_elim, Option, Some}
 use mathlib.Core.Option.{some}
 use lib.ListN.{get_elem?}
 use Rattle.wp_model.specs.declared.entry.Entry.{Entry}
 use Rattle.wp_model.specs.declared.entry.Entry.TheVariants.{Close}
+use Rattle.wp_model.specs.declared.segment.Segment.{Segment}
 use Rattle.wp_model.specs.Decision.{version_in, decision_of}
 use Rattle.wp_model.specs.History.{entry_at, is_prepare}
 use Rattle.wp_model.specs.Legal.{IsLegal}
@@ -20,6 +21,7 @@ use Rattle.wp_core.specs.Notes.{forgets, ends}
 use Rattle.wp_core.specs.Sound.History.{IsHistory, logged_part}
 use Rattle.wp_core.specs.Sound.Pasts.{past_of, AreFaults}
 use Rattle.wp_core.specs.Sound.Prepared.{IsCache, AreUndecided, AreDelayed}
+use Rattle.wp_core.specs.Sound.Segments.{AreCoupled}
 use Rattle.wp_core.specs.Sound.Store.{IsStored}
 use Rattle.wp_core.specs.Sound.Views.{IsSo}
 use Rattle.wp_core.specs.IsSound.{IsSound, participants}
@@ -29,28 +31,48 @@ use Rattle.wp_core.proofs.ReaderFacts.{extended_stays}
 use Rattle.wp_core.proofs.AllParts.{SoIn, views_of, readers_still, turns_changed, quiet_step}
 use Rattle.wp_core.proofs.Tests.{none_some}
 use Rattle.wp_core.proofs.Gives.{not_free}
+use Rattle.wp_core.proofs.HoldersChange.{none_next}
 
 -- the write table with what is pending, whether that is logged, and the log
 abbrev pub with_pending : WriteTable → List Entry → Bool → List Entry → WriteTable
 with_pending t pending logged log = record t { pending = pending; logged = logged; log = log }
 
+-- and in which segments it is
+abbrev pub with_segments : WriteTable → Segment → Option Segment → WriteTable
+with_segments t segment next = record t { segment = segment; next = next }
+
 abbrev pub SoPending : World → WriteTable → Participant → Fact → Type 0
 SoPending w d = IsSo w.delayed_flag w.old_flag w.max_evicted w.cache d w.prepared w.snapshots w.store w.locks w.installed
 
-pub pending_changes : (w : World) (by : ℕ) (a : Actor) (step : Step) (pending : List Entry) (logged : Bool) (log : List Entry) → get_elem? w.actors by ≡ some a → Holds w.holders write_turn by
-    → IsHistory w.opened (with_pending w.writes pending logged log) w.max_evicted → IsCache w.writes.history pending w.cache → AreUndecided w.writes.history pending w.prepared w.max_evicted → AreDelayed w.writes.history pending w.prepared w.cache
-    → IsStored w.writes.history pending w.snapshots w.store w.installed → AreFaults (with_pending w.writes pending logged log) w.installed.halted (participants past_of w)
-    → NotesStay w by step (SoPending w (with_pending w.writes pending logged log)) → IsSound w
-    → IsSound (change w by (forgets w.writes.history (length w.cache) step a) (writes (with_pending w.writes pending logged log)))
-pending_changes w by a step pending logged log at holds history cache undecided delayed stored faults notes s =
-    let d : WriteTable = with_pending w.writes pending logged log in
+pub log_changes : (w : World) (by : ℕ) (a : Actor) (step : Step) (pending : List Entry) (logged : Bool) (log : List Entry) (segment : Segment) (next : Option Segment) → get_elem? w.actors by ≡ some a → Holds w.holders write_turn by
+    → IsHistory w.opened (with_segments (with_pending w.writes pending logged log) segment next) w.max_evicted → IsCache w.writes.history pending w.cache → AreUndecided w.writes.history pending w.prepared w.max_evicted → AreDelayed w.writes.history pending w.prepared w.cache
+    → IsStored w.writes.history pending w.snapshots w.store w.installed → AreFaults (with_segments (with_pending w.writes pending logged log) segment next) w.installed.halted (participants past_of w)
+    → AreCoupled (with_segments (with_pending w.writes pending logged log) segment next) w.installed w.holders.write
+    → NotesStay w by step (SoPending w (with_segments (with_pending w.writes pending logged log) segment next)) → IsSound w
+    → IsSound (change w by (forgets w.writes.history (length w.cache) step a) (writes (with_segments (with_pending w.writes pending logged log) segment next)))
+log_changes w by a step pending logged log segment next at holds history cache undecided delayed stored faults coupled notes s =
+    let d : WriteTable = with_segments (with_pending w.writes pending logged log) segment next in
     let c : Actor = forgets w.writes.history (length w.cache) step a in
     let b : Actor = record c { held = held_with c.held (writes d) } in
     quiet_step w (with_content w (writes d)) by a b at refl
-    (record { history = history; cache = cache; decided = s.decided; undecided = undecided; delayed = delayed; flags = s.flags; versions = stored; settled = s.settled; pending = λ free. absurd (not_free w.holders write_turn by holds free) })
+    (record { history = history; cache = cache; decided = s.decided; undecided = undecided; delayed = delayed; flags = s.flags; versions = stored; settled = s.settled; coupled = coupled; pending = λ free. absurd (not_free w.holders write_turn by holds free) })
     (views_of w s) s.locks (record { holders = s.holders; board = s.board; faults = faults; edits = s.edits })
     (turns_changed w by a b at (writes d) holds refl s) (readers_still w by a b at refl s)
     (noted_after w by a b step (SoPending w d) at refl refl notes s) (idle_after w by a b write_turn at holds s refl) s
+
+-- the segments stay; where another one waits, nothing comes to be pending
+pub pending_changes : (w : World) (by : ℕ) (a : Actor) (step : Step) (pending : List Entry) (logged : Bool) (log : List Entry) → get_elem? w.actors by ≡ some a → Holds w.holders write_turn by
+    → IsHistory w.opened (with_pending w.writes pending logged log) w.max_evicted → IsCache w.writes.history pending w.cache → AreUndecided w.writes.history pending w.prepared w.max_evicted → AreDelayed w.writes.history pending w.prepared w.cache
+    → IsStored w.writes.history pending w.snapshots w.store w.installed → AreFaults (with_pending w.writes pending logged log) w.installed.halted (participants past_of w)
+    → ((segment : Segment) → w.writes.next ≡ Some segment → w.writes.closed ≡ false → pending ≡ [])
+    → NotesStay w by step (SoPending w (with_pending w.writes pending logged log)) → IsSound w
+    → IsSound (change w by (forgets w.writes.history (length w.cache) step a) (writes (with_pending w.writes pending logged log)))
+pending_changes w by a step pending logged log at holds history cache undecided delayed stored faults none notes s =
+    log_changes w by a step pending logged log w.writes.segment w.writes.next at holds history cache undecided delayed stored faults (record {
+      last = s.coupled.last;
+      failed = s.coupled.failed;
+      next = λ segment is. let k = s.coupled.next segment is in (k.0, λ running. (none segment is running, (k.1 running).1));
+    }) notes s
 
 -- ---- a record is made pending
 
@@ -129,7 +151,7 @@ so_pending w step pending log logged memory delayed undelayed p fact stays k = k
 pub makes_pending : (w : World) (by : ℕ) (a : Actor) (entries : List Entry) → get_elem? w.actors by ≡ some a → Needs w by a (make_pending entries) → IsSound w → IsSound (done w by (forgets w.writes.history (length w.cache) (make_pending entries) a) (make_pending entries))
 makes_pending w by a entries at n s =
     pending_changes w by a (make_pending entries) entries false w.writes.log at n.0 (history_made w entries n.1 n.2 n.3 s) (cache_made w entries n.1 s) (undecided_made w entries n.1 s) (delayed_made w entries n.1 s) (stored_made w entries n.1 s)
-    (record { log = s.faults.log; tables = s.faults.tables; not_logged = λ closed. inr refl; stopped = s.faults.stopped; failed = s.faults.failed })
+    (record { log = s.faults.log; tables = s.faults.tables; not_logged = λ closed. inr refl; stopped = s.faults.stopped; failed = s.faults.failed; behind = s.faults.behind }) (λ segment is running. absurd (none_next w.writes n.4 segment is running))
     (notes_by w by (make_pending entries) write_turn _ n.0 (so_pending w (make_pending entries) entries w.writes.log false refl refl refl)) s
 
 -- ---- it is logged
@@ -153,5 +175,5 @@ so_logged w p fact k = k
 pub logs_pending : (w : World) (by : ℕ) (a : Actor) → get_elem? w.actors by ≡ some a → Needs w by a log_pending → IsSound w → IsSound (done w by (forgets w.writes.history (length w.cache) log_pending a) log_pending)
 logs_pending w by a at n s =
     pending_changes w by a log_pending w.writes.pending true (w.writes.log ++ w.writes.pending) at n.0 (history_logged w n.2 s) s.cache s.undecided s.delayed s.versions
-    (record { log = s.faults.log; tables = s.faults.tables; not_logged = λ closed. absurd (true≢false (sym closed ∙ n.3)); stopped = s.faults.stopped; failed = s.faults.failed })
+    (record { log = s.faults.log; tables = s.faults.tables; not_logged = λ closed. absurd (true≢false (sym closed ∙ n.3)); stopped = s.faults.stopped; failed = s.faults.failed; behind = s.faults.behind }) (λ segment is running. ((s.coupled.next segment is).1 running).0)
     (notes_all w by log_pending _ (so_logged w)) s

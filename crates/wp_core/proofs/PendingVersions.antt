@@ -139,7 +139,7 @@ store_changes w by a step t at holds stored settled notes s =
     let c : Actor = forgets w.writes.history (length w.cache) step a in
     let b : Actor = record c { held = held_with c.held (store t) } in
     quiet_step w (with_content w (store t)) by a b at refl
-    (record { history = s.history; cache = s.cache; decided = s.decided; undecided = s.undecided; delayed = s.delayed; flags = s.flags; versions = stored; settled = settled; pending = s.pending })
+    (record { history = s.history; cache = s.cache; decided = s.decided; undecided = s.undecided; delayed = s.delayed; flags = s.flags; versions = stored; settled = settled; coupled = s.coupled; pending = s.pending })
     (views_of w s) s.locks (pasts_of w s) (turns_changed w by a b at (store t) holds refl s) (readers_still w by a b at refl s)
     (noted_after w by a b step (SoStored w t) at refl refl notes s) (idle_after w by a b store_turn at holds s refl) s
 

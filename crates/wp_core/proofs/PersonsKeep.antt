@@ -15,12 +15,12 @@ use Rattle.wp_core.specs.Lists.{IsIn, one_if, total}
 use Rattle.wp_core.specs.Tables.{WriteTable, Installed}
 use Rattle.wp_model.specs.Flushed.{InstalledEdit}
 use Rattle.wp_core.specs.Reading.{Registration}
-use Rattle.wp_core.specs.Views.{Account, own, another, prepare_at, Event, claimed, took, locked, installed, found_edit, found}
+use Rattle.wp_core.specs.Views.{Account, own, another, prepare_at, Event, claimed, took, locked, installed, renewed, found_edit, found}
 use Rattle.wp_core.specs.World.{Actor, Participant, Transaction}
 use Rattle.wp_core.specs.Sound.Actors.{participants_of, IsParticipantAt, StartsWith, seen_of, own_of, times, AreSeen, AreOwned, EachParticipant}
 use Rattle.wp_core.specs.Sound.Snapshots.{registered_of, AreBelowCommitted, AreRegistered, view_of, HasSeen}
 use Rattle.wp_core.specs.Sound.Locks.{Owner, owner_of, Has, IsOwner, AreLocked}
-use Rattle.wp_core.specs.Sound.Pasts.{past_of, HasDone, IsPast, HasBegun, MadeHolder, IsAccounted, WasLocked, AreHolders, IsBoard, is_log_fault, is_tables_fault, AreFaults, WasInstalled, due_after, tables_due, last_after, last_installed, OtherDid, OtherInstalls, OtherCompacts, AreEdits}
+use Rattle.wp_core.specs.Sound.Pasts.{past_of, HasDone, IsPast, HasBegun, MadeHolder, IsAccounted, WasLocked, AreHolders, IsBoard, closes_log, is_tables_fault, AreFaults, is_install, raised_to, WasInstalled, due_after, tables_due, last_after, last_installed, OtherDid, OtherInstalls, OtherCompacts, AreEdits}
 use Rattle.wp_core.proofs.PastsGrow.{at_place}
 use Rattle.wp_core.proofs.Persons.{IsNone, Moves, same_there, apart_still, CameWith, IsOfNone, came_from, goes_to, total_same}
 
@@ -63,18 +63,19 @@ due_from d (e ∷ past) = ⊎_elim
 
 -- ---- the last edit
 
-last_one : (last : InstalledEdit) (e : Event) → (last_after last e ≡ last) ⊎ ((edit : InstalledEdit) × (compacts : Bool) × (installed edit compacts ≡ e))
-last_one last (installed edit compacts) = inr (edit, compacts, refl)
+last_one : (last : InstalledEdit) (e : Event) → (last_after last e ≡ last) ⊎ (is_install e ≡ true)
+last_one last (installed edit compacts) = inr refl
+last_one last (renewed edit) = inr refl
 last_one last e = inl refl
 
-last_from : (last : InstalledEdit) (past : List Event) → (fold last_after last past ≡ last) ⊎ ((edit : InstalledEdit) × (compacts : Bool) × IsIn (installed edit compacts) past)
+last_from : (last : InstalledEdit) (past : List Event) → (fold last_after last past ≡ last) ⊎ ((e : Event) × (is_install e ≡ true) × IsIn e past)
 last_from last [] = inl refl
 last_from last (e ∷ past) = ⊎_elim
     (λ (same : last_after last e ≡ last). ⊎_elim
     (λ (rest : fold last_after (last_after last e) past ≡ last_after last e). inl (rest ∙ same))
-    (λ (k : (edit : InstalledEdit) × (compacts : Bool) × IsIn (installed edit compacts) past). inr (k.0, k.1, inr k.2))
+    (λ (k : (x : Event) × (is_install x ≡ true) × IsIn x past). inr (k.0, k.1, inr k.2))
     (last_from (last_after last e) past))
-    (λ (k : (edit : InstalledEdit) × (compacts : Bool) × (installed edit compacts ≡ e)). inr (k.0, k.1, inl (sym k.2))) (last_one last e)
+    (λ (is : is_install e ≡ true). inr (e, is, inl refl)) (last_one last e)
 
 module _ (row place : ℕ → ℕ → ℕ) (history : List Entry) (xs ys : List Actor) (m : Moves row place history xs ys) where
   -- ---- what they saw and published, and their registrations
@@ -248,16 +249,17 @@ module _ (row place : ℕ → ℕ → ℕ) (history : List Entry) (xs ys : List 
 
   pub faults_moved : (writes : WriteTable) (halted : Bool) → AreFaults writes halted (pasts xs) → AreFaults writes halted (pasts ys)
   faults_moved writes halted k = record {
-    log = total_same row place history xs ys m past_of (total (λ (e : Event). one_if (is_log_fault e))) (λ p none. ap (λ (z : Participant). total (λ (e : Event). one_if (is_log_fault e)) z.past) none) ∙ k.log;
+    log = total_same row place history xs ys m past_of (total (λ (e : Event). one_if (closes_log e))) (λ p none. ap (λ (z : Participant). total (λ (e : Event). one_if (closes_log e)) z.past) none) ∙ k.log;
     tables = total_same row place history xs ys m past_of (total (λ (e : Event). one_if (is_tables_fault e))) (λ p none. ap (λ (z : Participant). total (λ (e : Event). one_if (is_tables_fault e)) z.past) none) ∙ k.tables;
     not_logged = k.not_logged;
     stopped = λ n h. k.stopped n (past_was _ h);
     failed = λ entries h. k.failed entries (past_was _ h);
+    behind = λ h. k.behind (past_was _ h);
   }
 
   installed_moved : (first : InstalledEdit) (n : ℕ) → WasInstalled first (pasts xs) n → WasInstalled first (pasts ys) n
   installed_moved first n (inl k) = inl k
-  installed_moved first n (inr (edit, flushed, k)) = inr (edit, flushed, past_moved _ k)
+  installed_moved first n (inr (e, raised, k)) = inr (e, raised, past_moved e k)
 
   other_moved : (j i : ℕ) (e : Event) → OtherDid (pasts xs) j i e → OtherDid (pasts ys) (row j i) (place j i) e
   other_moved j i e (l, n, apart, k) = (row l n, place l n, apart_still row place history xs ys m j i l n apart, done_moved l n e k)
@@ -280,7 +282,7 @@ module _ (row place : ℕ → ℕ → ℕ) (history : List Entry) (xs ys : List 
   compacts_moved j i (edit, k) = (edit, other_moved j i _ k)
 
   installs_moved : (j i : ℕ) → OtherInstalls (pasts xs) j i → OtherInstalls (pasts ys) (row j i) (place j i)
-  installs_moved j i (edit, compacts, k) = (edit, compacts, other_moved j i _ k)
+  installs_moved j i (e, is, k) = (e, is, other_moved j i e k)
 
   -- what an actor knows of the edits, one knows that did nothing: it is so, or another's doing
   module _ (by : ℕ) (a : Actor) (first : InstalledEdit) (t : Installed) (mine : IsParticipantAt (pasts xs) by 0 a.participant.past) (k : AreEdits first t (pasts xs)) (j i : ℕ) (here : IsParticipantAt (pasts ys) j i []) where
@@ -288,9 +290,9 @@ module _ (row place : ℕ → ℕ → ℕ) (history : List Entry) (xs ys : List 
     edit_else = ⊎_elim
         (λ (d : t.last ≡ last_installed first a.participant.past). ⊎_elim
         (λ (same : last_installed first a.participant.past ≡ first). inl (d ∙ same))
-        (λ (c : (edit : InstalledEdit) × (compacts : Bool) × IsIn (installed edit compacts) a.participant.past). inr (c.0, c.1, other_else j i by 0 (installed c.0 c.1) here (a.participant.past, mine, c.2)))
+        (λ (c : (e : Event) × (is_install e ≡ true) × IsIn e a.participant.past). inr (c.0, c.1, other_else j i by 0 c.0 here (a.participant.past, mine, c.2)))
         (last_from first a.participant.past))
-        (λ (d : OtherInstalls (pasts xs) by 0). inr (d.0, d.1, other_else j i d.2.0 d.2.1 (installed d.0 d.1) here d.2.3))
+        (λ (d : OtherInstalls (pasts xs) by 0). inr (d.0, d.1, other_else j i d.2.0 d.2.1 d.0 here d.2.3))
         (k.edit by 0 a.participant.past mine)
 
     tables_else : (first.tables ≤ t.last.tables) ⊎ OtherCompacts (pasts ys) j i
@@ -316,7 +318,7 @@ module _ (row place : ℕ → ℕ → ℕ) (history : List Entry) (xs ys : List 
   pub edits_moved : (by : ℕ) (a : Actor) (first : InstalledEdit) (t : Installed) → get_elem? xs by ≡ some a → IsParticipantAt (pasts xs) by 0 a.participant.past → AreEdits first t (pasts xs) → AreEdits first t (pasts ys)
   edits_moved by a first t at mine k = record {
     last = installed_moved first t.last.flushed k.last;
-    rises = λ n h. k.rises n (⊎_elim (λ q. inl q) (λ (c : (x : InstalledEdit) × (x.flushed ≡ n) × IsPast (pasts ys) (installed x false)). inr (c.0, c.1, past_was _ c.2)) h);
+    rises = λ n h. k.rises n (⊎_elim (λ q. inl q) (λ (c : (e : Event) × (raised_to e ≡ Some n) × IsPast (pasts ys) e). inr (c.0, c.1, past_was c.0 c.2)) h);
     found = λ n tables due halted h. installed_moved first n (k.found n tables due halted (past_was _ h));
     few = few_moved first t k;
     edit = λ j i past there. ⊎_elim

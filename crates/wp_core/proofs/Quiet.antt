@@ -74,7 +74,7 @@ bound_changes w by a step max t at holds history decided undecided delayed flags
     let v : World = record w { max_evicted = max; prepared = t } in
     let c : Actor = forgets w.writes.history (length w.cache) step a in
     let b : Actor = record c { held = held_with c.held (prepared t) } in
-    quiet_step w v by a b at refl (record { history = history; cache = s.cache; decided = decided; undecided = undecided; delayed = delayed; flags = flags; versions = s.versions; settled = s.settled; pending = s.pending })
+    quiet_step w v by a b at refl (record { history = history; cache = s.cache; decided = decided; undecided = undecided; delayed = delayed; flags = flags; versions = s.versions; settled = s.settled; coupled = s.coupled; pending = s.pending })
     (views_of w s) s.locks (pasts_of w s) (turns_changed w by a b at (prepared t) holds refl s)
     (readers_kept w by a b at w.writes.history max w.cache t.delayed_commits w.snapshots refl (record { readers = readers; judged = s.judged }))
     (noted_after w by a b step (SoIn v) at refl refl notes s) (idle_after w by a b prepared_turn at holds s refl) s
@@ -96,7 +96,7 @@ pub words_change : (w : World) (by : ℕ) (a : Actor) (step : Step) (turn : Turn
 words_change w by a step turn cache delayed_flag old_flag at holds cached decided delayed flags readers notes s =
     let v : World = record w { cache = cache; delayed_flag = delayed_flag; old_flag = old_flag } in
     let b : Actor = forgets w.writes.history (length w.cache) step a in
-    quiet_step w v by a b at refl (record { history = s.history; cache = cached; decided = decided; undecided = s.undecided; delayed = delayed; flags = flags; versions = s.versions; settled = s.settled; pending = s.pending })
+    quiet_step w v by a b at refl (record { history = s.history; cache = cached; decided = decided; undecided = s.undecided; delayed = delayed; flags = flags; versions = s.versions; settled = s.settled; coupled = s.coupled; pending = s.pending })
     (views_of w s) s.locks (pasts_of w s) (turns_still w by a b at refl s)
     (readers_kept w by a b at w.writes.history w.max_evicted cache w.prepared.delayed_commits w.snapshots refl (record { readers = readers; judged = s.judged }))
     (noted_after w by a b step (SoIn v) at refl refl notes s) (idle_after w by a b turn at holds s refl) s

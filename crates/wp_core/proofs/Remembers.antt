@@ -1,5 +1,5 @@
 -- What is so of all pasts, once one actor's past has an event more that installs nothing and is no fault.
-use Rattle.std.proofs.Common.{◌≡◌, ◌⊎◌, ⊎_elim, inl, inr, ℕ, ◌≤◌, ◌<◌, Bool, true, false, true≢false, List, [], ◌∷◌, ◌++◌, length, map, set, refl, sym, subst, ap, ◌∙◌, arith, Option, is_some, Some, None, ◌≢◌}
+use Rattle.std.proofs.Common.{◌≡◌, ◌⊎◌, ⊎_elim, inl, inr, ℕ, ◌+◌, ◌≤◌, ◌<◌, Bool, true, false, true≢false, List, [], ◌∷◌, ◌++◌, length, map, set, refl, sym, subst, ap, ◌∙◌, arith, Option, is_some, Some, None, ◌≢◌}
 use Rattle.std.proofs.lemmas.List.Sums.{fold-append}
 use mathlib.Core.Option.{some}
 use lib.ListN.{get_elem?}
@@ -10,16 +10,16 @@ use Rattle.wp_model.specs.declared.holder.Holder.TheVariants.{Txn, Client}
 use Rattle.wp_model.specs.LockTables.{LockTables}
 use Rattle.wp_core.specs.Tables.{WriteTable, Installed}
 use Rattle.wp_model.specs.Flushed.{InstalledEdit}
-use Rattle.wp_core.specs.Views.{Account, own, another, prepare_at, Event, claimed, took, locked, told, heard, installed, log_failed, tables_failed, stopped, found_edit, found}
+use Rattle.wp_core.specs.Views.{Account, own, another, prepare_at, Event, claimed, took, locked, told, heard, installed, renewed, log_failed, log_stopped, tables_failed, stopped, found_edit, found}
 use Rattle.wp_core.specs.World.{Actor}
 use Rattle.wp_core.specs.Sound.Actors.{participants_of, IsParticipantAt}
-use Rattle.wp_core.specs.Sound.Pasts.{past_of, HasDone, IsPast, HasBegun, MadeHolder, IsAccounted, WasLocked, AreHolders, IsBoard, is_log_fault, is_tables_fault, AreFaults, WasInstalled, due_after, tables_due, last_after, last_installed, OtherDid, OtherInstalls, OtherCompacts, AreEdits}
+use Rattle.wp_core.specs.Sound.Pasts.{past_of, HasDone, IsPast, HasBegun, MadeHolder, IsAccounted, WasLocked, AreHolders, IsBoard, closes_log, is_tables_fault, AreFaults, raised_to, WasInstalled, due_after, tables_due, last_after, last_installed, OtherDid, OtherInstalls, OtherCompacts, AreEdits}
 use Rattle.wp_core.proofs.AllParticipants.{mine, was_apart}
 use Rattle.wp_core.proofs.PastsGrow.{at_place, done_still, done_before, past_still, past_last, past_before, times_more}
 
--- it installs nothing, and is no fault
+-- it installs nothing, is no fault, and closes no log
 pub record IsQuiet (e : Event) : Type 0 where
-  pub log : is_log_fault e ≡ false
+  pub log : closes_log e ≡ false
   pub tables : is_tables_fault e ≡ false
   pub due : (n : ℕ) → due_after n e ≡ n
   pub last : (edit : InstalledEdit) → last_after edit e ≡ edit
@@ -36,6 +36,16 @@ abbrev pub TellsNothing : Event → Type 0
 TellsNothing (told label n) = ⊥
 TellsNothing (heard label n) = ⊥
 TellsNothing e = Unit {0}
+
+-- what leaves each last edit raises no flushed number
+not_raised : (e : Event) (edit : InstalledEdit) → ((x : InstalledEdit) → last_after x e ≡ x) → (n : ℕ) → raised_to e ≡ Some n → ⊥
+not_raised (installed new false) edit last n is = one_edit new edit last
+  where
+    one_edit : (new edit : InstalledEdit) → ((x : InstalledEdit) → new ≡ x) → ⊥
+    one_edit new edit last = let one : new.tables ≡ edit.tables = ap (λ (x : InstalledEdit). x.tables) (last edit) in let two : new.tables ≡ edit.tables + 1 = ap (λ (x : InstalledEdit). x.tables) (last (record edit { tables = edit.tables + 1 })) in absurd (omega (arith, one, two))
+not_raised (renewed new) edit last n is =
+    let one : new.tables ≡ edit.tables = ap (λ (x : InstalledEdit). x.tables) (last edit) in let two : new.tables ≡ edit.tables + 1 = ap (λ (x : InstalledEdit). x.tables) (last (record edit { tables = edit.tables + 1 })) in absurd (omega (arith, one, two))
+not_raised other edit last n is = absurd cc
 
 module _ (xs : List Actor) (by : ℕ) (a b : Actor) (e : Event) (at : get_elem? xs by ≡ some a) (same : b.joined ≡ a.joined) (grown : b.participant.past ≡ a.participant.past ++ e ∷ []) where
   abbrev before : List (List (List Event))
@@ -112,19 +122,20 @@ module _ (xs : List Actor) (by : ℕ) (a b : Actor) (e : Event) (at : get_elem? 
   pub board_still : (published : ℕ) (t : LockTables) → TellsNothing e → IsBoard published t before → IsBoard published t after
   board_still published t nothing k = board_more published t (λ label n q. absurd (⊎_elim (λ (r : e ≡ told label n). subst TellsNothing r nothing) (λ (r : e ≡ heard label n). subst TellsNothing r nothing) q)) (λ label n q. absurd (subst TellsNothing q nothing)) (λ label n q. subst TellsNothing q nothing) k
 
-  pub faults_more : (writes : WriteTable) (halted : Bool) → IsQuiet e → ((n : ℕ) → e ≡ stopped n → (writes.closed ≡ true) × (n ≡ length writes.history))
+  pub faults_more : (writes : WriteTable) (halted : Bool) → closes_log e ≡ false → is_tables_fault e ≡ false → ((n : ℕ) → e ≡ stopped n → (writes.closed ≡ true) × (n ≡ length writes.history))
       → AreFaults writes halted before → AreFaults writes halted after
-  faults_more writes halted quiet new k = record {
-    log = times_more xs by a b e at same grown is_log_fault ∙ rw quiet.log (let z = k.log in omega (arith, z));
-    tables = times_more xs by a b e at same grown is_tables_fault ∙ rw quiet.tables (let z = k.tables in omega (arith, z));
+  faults_more writes halted open_ working new k = record {
+    log = times_more xs by a b e at same grown closes_log ∙ rw open_ (let z = k.log in omega (arith, z));
+    tables = times_more xs by a b e at same grown is_tables_fault ∙ rw working (let z = k.tables in omega (arith, z));
     not_logged = k.not_logged;
     stopped = λ n h. ⊎_elim (λ c. k.stopped n c) (λ c. new n c) (past_before xs by a b e at same grown (stopped n) h);
-    failed = λ entries h. ⊎_elim (λ c. k.failed entries c) (λ (q : e ≡ log_failed entries). absurd (true≢false (sym (ap is_log_fault q) ∙ quiet.log))) (past_before xs by a b e at same grown (log_failed entries) h);
+    failed = λ entries h. ⊎_elim (λ c. k.failed entries c) (λ (q : e ≡ log_failed entries). absurd (true≢false (sym (ap closes_log q) ∙ open_))) (past_before xs by a b e at same grown (log_failed entries) h);
+    behind = λ h. ⊎_elim (λ c. k.behind c) (λ (q : e ≡ log_stopped). absurd (true≢false (sym (ap closes_log q) ∙ open_))) (past_before xs by a b e at same grown log_stopped h);
   }
 
   pub installed_still : (first : InstalledEdit) (n : ℕ) → WasInstalled first before n → WasInstalled first after n
   installed_still first n (inl k) = inl k
-  installed_still first n (inr (edit, flushed, k)) = inr (edit, flushed, past_still xs by a b e at same grown _ k)
+  installed_still first n (inr (x, raised, k)) = inr (x, raised, past_still xs by a b e at same grown x k)
 
   other_still : (j i : ℕ) (x : Event) → OtherDid before j i x → OtherDid after j i x
   other_still j i x (l, m, apart, k) = (l, m, apart, done_still xs by a b e at same grown l m x k)
@@ -133,7 +144,7 @@ module _ (xs : List Actor) (by : ℕ) (a b : Actor) (e : Event) (at : get_elem? 
   compacts_still j i (edit, k) = (edit, other_still j i _ k)
 
   installs_still : (j i : ℕ) → OtherInstalls before j i → OtherInstalls after j i
-  installs_still j i (edit, compacts, k) = (edit, compacts, other_still j i _ k)
+  installs_still j i (x, is, k) = (x, is, other_still j i x k)
 
   due_same : (first : InstalledEdit) → ((n : ℕ) → due_after n e ≡ n) → tables_due first b.participant.past ≡ tables_due first a.participant.past
   due_same first due = ap (tables_due first) grown ∙ fold-append due_after first.tables a.participant.past (e ∷ []) ∙ due (tables_due first a.participant.past)
@@ -149,7 +160,7 @@ module _ (xs : List Actor) (by : ℕ) (a b : Actor) (e : Event) (at : get_elem? 
   pub record EditsGrow (first : InstalledEdit) (t u : Installed) : Type 0 where
     pub last : WasInstalled first after u.last.flushed
     pub rises : t.last.flushed ≤ u.last.flushed
-    pub new : (edit : InstalledEdit) → e ≡ installed edit false → edit.flushed ≤ u.last.flushed
+    pub new : (n : ℕ) → raised_to e ≡ Some n → n ≤ u.last.flushed
     pub found : AreFound first
     pub its_edit : t.last ≡ last_installed first a.participant.past → u.last ≡ last_installed first b.participant.past
     pub their_edit : (j i : ℕ) (past : List Event) → (j ≢ by) ⊎ (i ≢ 0) → t.last ≡ last_installed first past → (u.last ≡ last_installed first past) ⊎ OtherInstalls after j i
@@ -168,10 +179,10 @@ module _ (xs : List Actor) (by : ℕ) (a b : Actor) (e : Event) (at : get_elem? 
 
   risen : (first : InstalledEdit) (t u : Installed) → EditsGrow first t u → AreEdits first t before → (n : ℕ) → WasInstalled first after n → n ≤ u.last.flushed
   risen first t u g k n (inl q) = let was = k.rises n (inl q) in let more = g.rises in omega (arith, was, more)
-  risen first t u g k n (inr (edit, flushed, h)) = ⊎_elim
-      (λ (c : IsPast before (installed edit false)). let was = k.rises n (inr (edit, flushed, c)) in let more = g.rises in omega (arith, was, more))
-      (λ (q : e ≡ installed edit false). let new = g.new edit q in omega (arith, new, flushed))
-      (past_before xs by a b e at same grown (installed edit false) h)
+  risen first t u g k n (inr (x, raised, h)) = ⊎_elim
+      (λ (c : IsPast before x). let was = k.rises n (inr (x, raised, c)) in let more = g.rises in omega (arith, was, more))
+      (λ (q : e ≡ x). g.new n (ap raised_to q ∙ raised))
+      (past_before xs by a b e at same grown x h)
 
   pub edits_grown : (first : InstalledEdit) (t u : Installed) → EditsGrow first t u → AreEdits first t before → AreEdits first u after
   edits_grown first t u g k = record {
@@ -217,7 +228,7 @@ module _ (xs : List Actor) (by : ℕ) (a b : Actor) (e : Event) (at : get_elem? 
   edits_still first t due last working is_so halted_so k = edits_grown first t t record {
     last = installed_still first t.last.flushed k.last;
     rises = omega arith;
-    new = λ edit q. let d : 1 ≡ 0 = subst (λ (x : Event). due_after 0 x ≡ 0) q (due 0) in absurd cc;
+    new = λ n q. absurd (not_raised e first last n q);
     found = is_so;
     its_edit = λ d. d ∙ sym (last_same first last);
     their_edit = λ j i past elsewhere d. inl d;

@@ -11,6 +11,7 @@ use Rattle.wp_core.specs.Steps.{Step}
 use Rattle.wp_core.specs.Changes.{change, held_with, remembers}
 use Rattle.wp_core.specs.Notes.{forgets}
 use Rattle.wp_core.specs.Sound.Actors.{participants_of}
+use Rattle.wp_core.specs.Sound.Segments.{AreCoupled}
 use Rattle.wp_core.specs.Sound.Store.{IsStored}
 use Rattle.wp_core.specs.Sound.Pasts.{past_of, AreFaults, AreEdits}
 use Rattle.wp_core.specs.Sound.Views.{IsSo}
@@ -40,6 +41,7 @@ module _ (w : World) (by : ℕ) (a : Actor) (step : Step) (e : Event) (t : Insta
     pub nothing : FindsNothing e
     pub tells_nothing : TellsNothing e
     pub stored : IsStored w.writes.history w.writes.pending w.snapshots w.store t
+    pub coupled : AreCoupled w.writes t w.holders.write
     pub faults : AreFaults w.writes t.halted pasts_after
     pub edits : AreEdits w.first_edit t pasts_after
     pub so : (p : Participant) (fact : Fact) → Stays w step tables_turn fact → SoIn w p fact → SoInstalled w t p fact
@@ -53,7 +55,7 @@ module _ (w : World) (by : ℕ) (a : Actor) (step : Step) (e : Event) (t : Insta
       let b : Actor = actor_after in
       let c : Content = installed t in
       all_parts (with_content w c) (set w.actors by b)
-      (record { history = s.history; cache = s.cache; decided = s.decided; undecided = s.undecided; delayed = s.delayed; flags = s.flags; versions = k.stored; settled = λ free. absurd (not_free w.holders tables_turn by holds free); pending = s.pending })
+      (record { history = s.history; cache = s.cache; decided = s.decided; undecided = s.undecided; delayed = s.delayed; flags = s.flags; versions = k.stored; settled = λ free. absurd (not_free w.holders tables_turn by holds free); coupled = k.coupled; pending = s.pending })
       (views_still w by a b at refl s) (past_locked w.actors by a b e at refl refl w.opened w.writes.history w.locks s.locks) (record {
         holders = holders_still w.actors by a b e at refl refl w.opened w.writes.history w.locks k.nothing s.holders;
         board = board_still w.actors by a b e at refl refl (world.published w) w.locks k.tells_nothing s.board;

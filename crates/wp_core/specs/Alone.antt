@@ -8,7 +8,7 @@ use Rattle.wp_model.specs.Snapshots.{IsLive}
 use Rattle.wp_core.specs.Lists.{IsIn, one_if, total}
 use Rattle.wp_core.specs.Reading.{Registration}
 use Rattle.wp_core.specs.Sound.Actors.{once, times}
-use Rattle.wp_core.specs.Sound.Pasts.{is_log_fault, is_tables_fault, last_installed}
+use Rattle.wp_core.specs.Sound.Pasts.{closes_log, is_tables_fault, last_installed}
 use Rattle.wp_core.specs.Views.{told}
 use Rattle.wp_core.specs.World.{Transaction, Participant, Actor, World}
 
@@ -19,11 +19,11 @@ pub record IsAlone (w : World) (a : Actor) : Type 0 where
   pub joined : a.joined ≡ []
 
 -- What the one participant that did something has of the world. It published each number since the opening; the log is closed, and
--- the tables are halted, just where it met the fault; the last edit is the last one that it installed; what a client has of names
+-- the tables are halted, just where it met the fault or stopped it; the last edit is the last one that it installed; what a client has of names
 -- and keys is its own; each label was told by it; and each live number is registered by it.
 pub record IsOnlyOf (w : World) (p : Participant) : Type 0 where
   pub owned : (n : ℕ) → times n p.own ≡ once w.opened w.writes.history n
-  pub closed : total (λ e. one_if (is_log_fault e)) p.past ≡ one_if w.writes.closed
+  pub closed : total (λ e. one_if (closes_log e)) p.past ≡ one_if w.writes.closed
   pub halted : total (λ e. one_if (is_tables_fault e)) p.past ≡ one_if w.installed.halted
   pub edit : w.installed.last ≡ last_installed w.first_edit p.past
   pub names : (name client : List ℕ) → finite.get w.locks.names name ≡ Some (Some client) → (x : Transaction) × (finite.get p.transactions name ≡ Some x)

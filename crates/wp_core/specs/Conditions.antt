@@ -15,7 +15,8 @@ use Rattle.wp_core.specs.Turns.{Turn, write_turn, prepared_turn, snapshots_turn,
 use Rattle.wp_judge.specs.Words.{CommitPair}
 use Rattle.wp_core.specs.Cache.{cached}
 use Rattle.wp_model.specs.PreparedTables.{is_prepared, NoneDelayed}
-use Rattle.wp_core.specs.Tables.{StoreTable, Installed}
+use Rattle.wp_core.specs.Tables.{WriteTable, StoreTable, Installed}
+use Rattle.wp_model.specs.Flushed.{InstalledEdit}
 use Rattle.wp_model.specs.Snapshots.{NoOldCommits}
 use Rattle.wp_judge.specs.declared.observed.Observed.{Observed}
 use Rattle.wp_judge.specs.declared.observed.Load.{Load}
@@ -87,9 +88,14 @@ pub record MayBeEvicted (w : World) (pair : CommitPair) : Type 0 where
   pub kept : IsInOldCommits w.snapshots pair.number pair.decision
   pub apart : IsApart w.prepared pair
 
--- a turn is given with nothing pending, with its flag down where its tables are empty, and with the last edit's tables
+-- no segment waits to come into use: none was written beside the one in use, or the log is closed
+abbrev pub NoneNext : WriteTable → Type 0
+NoneNext t = (t.next ≡ None) ⊎ (t.closed ≡ true)
+
+-- a turn is given with nothing pending and no segment that waits, with its flag down where its tables are empty, and with the last
+-- edit's tables
 abbrev pub MayGive : World → Turn → Type 0
-MayGive w write_turn = w.writes.pending ≡ []
+MayGive w write_turn = (w.writes.pending ≡ []) × NoneNext w.writes
 MayGive w prepared_turn = NoneDelayed w.prepared → w.delayed_flag ≡ 0
 MayGive w snapshots_turn = NoOldCommits w.snapshots → w.old_flag ≡ 0
 MayGive w tables_turn = IsOfEdit w.store w.installed.last
@@ -100,6 +106,17 @@ MayGive w other = Unit {0}
 -- something is pending that is not logged, and the log is not closed
 abbrev pub MayLog : World → ℕ → Type 0
 MayLog w by = Holds w.holders write_turn by × (w.writes.pending ≢ []) × (w.writes.logged ≡ false) × (w.writes.closed ≡ false)
+
+-- The log is not closed. Something is pending that is not logged; or nothing is pending, and the last edit does not name the next
+-- segment.
+abbrev pub MayClose : World → ℕ → Type 0
+MayClose w by =
+    Holds w.holders write_turn by × (w.writes.closed ≡ false)
+    × (((w.writes.pending ≢ []) × (w.writes.logged ≡ false)) ⊎ ((w.writes.pending ≡ []) × (w.writes.next ≢ Some w.installed.last.segment)))
+
+-- nothing is pending, the log is not closed, no other segment waits, and this is not the place of the one in use
+abbrev pub MayWriteSegment : World → ℕ → ℕ → Type 0
+MayWriteSegment w by place = Holds w.holders write_turn by × (w.writes.pending ≡ []) × (w.writes.closed ≡ false) × (w.writes.next ≡ None) × (place ≢ w.writes.segment.place)
 
 -- nothing of the pending entry is left: its pair is in no word and no delayed commit, its versions are not in memory, its number is not
 -- in the heap
@@ -121,6 +138,24 @@ abbrev pub SameVersions : World → List Version → List Version → Type 0
 SameVersions w memory tables =
     ((key : List ℕ) (p : ℕ) → version_at (memory ++ tables) key p ≡ version_at (w.store.memory ++ w.store.tables) key p)
     × ((key : List ℕ) → version_at memory key (suc (published w)) ≡ version_at w.store.memory key (suc (published w)))
+
+-- the edit names the last one's segment
+abbrev pub NamesSegment : World → InstalledEdit → Type 0
+NamesSegment w edit = edit.segment ≡ w.installed.last.segment
+
+-- the edit names the log's next segment, while the log is not closed, and flushes the whole history; the actor holds the write turn
+abbrev pub NamesNext : World → ℕ → InstalledEdit → Type 0
+NamesNext w by edit = Holds w.holders write_turn by × (w.writes.closed ≡ false) × (w.writes.next ≡ Some edit.segment) × (edit.flushed ≡ published w)
+
+-- the last edit names the next segment, and the log is not closed
+abbrev pub MayUseSegment : World → ℕ → Type 0
+MayUseSegment w by = Holds w.holders write_turn by × (w.writes.closed ≡ false) × (w.writes.next ≡ Some w.installed.last.segment)
+
+-- nothing is pending, the log is not closed, the last edit does not name the next segment, and the devices of the tables failed
+abbrev pub MayStop : World → ℕ → Type 0
+MayStop w by =
+    Holds w.holders write_turn by × Holds w.holders tables_turn by × (w.writes.pending ≡ []) × (w.writes.closed ≡ false)
+    × (w.writes.next ≢ Some w.installed.last.segment) × (w.installed.halted ≡ true)
 
 -- the store and the edits would be as they should be
 abbrev pub KeepsStore : World → StoreTable → Installed → Type 0

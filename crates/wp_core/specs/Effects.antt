@@ -1,5 +1,5 @@
 -- What comes of a step.
-use Rattle.std.specs.Prelude.{ℕ, suc, true, false, List, [], ◌∷◌, ◌++◌, length, slice_set, Option, Some, None, option_map}
+use Rattle.std.specs.Prelude.{ℕ, suc, true, false, List, [], ◌∷◌, ◌++◌, length, slice_set, Option, Some, None, option_map, unwrap_or}
 use Rattle.std.specs.FinSet as set
 use Rattle.std.specs.FinMap as finite
 use Rattle.wp_model.specs.declared.entry.Entry.{Entry}
@@ -10,10 +10,10 @@ use Rattle.wp_core.specs.Cache.{with_pair}
 use Rattle.wp_core.specs.Tables.{WriteTable, Installed, writes, prepared, snapshots, store, locks, installed, without_prepared, with_moved}
 use Rattle.wp_model.specs.Flushed.{InstalledEdit}
 use Rattle.wp_core.specs.Reading.{reads}
-use Rattle.wp_core.specs.Views.{claimed, took, locked, told, heard, log_failed, tables_failed, stopped, found_edit, found}
+use Rattle.wp_core.specs.Views.{claimed, took, locked, told, heard, renewed, log_failed, log_stopped, tables_failed, stopped, found_edit, found}
 use Rattle.wp_core.specs.Views as event
 use Rattle.wp_core.specs.World.{Actor, new_actor, World, published, content_of}
-use Rattle.wp_core.specs.Steps.{Step, load_published, register, begin_reading, load, end_reading, store_published, store_max_evicted, store_word, store_delayed_flag, store_old_flag, take_turn, give_turn, make_pending, log_pending, close_log, find_log_closed, drop_pending, add_prepared, take_pending_prepared, add_delayed_commit, delay_pending, take_out, register_again, release, add_old_commit, add_versions, take_versions, move_versions, replace_versions, install, halt, find_edit, claim_name, take_name, leave_name, free_transaction, lock_key, free_key, lock_direct, free_direct, find_holder, tell, hear, set_batch, note, make_note, make_seat, set_client, learn, join_seat}
+use Rattle.wp_core.specs.Steps.{Step, load_published, register, begin_reading, load, end_reading, store_published, store_max_evicted, store_word, store_delayed_flag, store_old_flag, take_turn, give_turn, make_pending, log_pending, close_log, find_log_closed, drop_pending, write_segment, use_segment, stop_log, add_prepared, take_pending_prepared, add_delayed_commit, delay_pending, take_out, register_again, release, add_old_commit, add_versions, take_versions, move_versions, replace_versions, install, renew, halt, find_edit, claim_name, take_name, leave_name, free_transaction, lock_key, free_key, lock_direct, free_direct, find_holder, tell, hear, set_batch, note, make_note, make_seat, set_client, learn, join_seat}
 use Rattle.wp_core.specs.Sound.Pasts.{tables_due}
 use Rattle.wp_core.specs.Changes.{with_actor, held_without, change, sees, remembers, registers, releases, has_transaction, has_no_transaction, has_direct, loaded, with_registered, with_released, with_old_commit, keys_of_holder, with_name, with_key, without_key, without_transaction, with_label, informed, joins, joined_actor, made_one}
 
@@ -50,6 +50,9 @@ done w by a log_pending = change w by a (writes (record w.writes { logged = true
 done w by a close_log = change w by (remembers a (log_failed w.writes.pending)) (writes (record w.writes { closed = true; failed = w.writes.pending }))
 done w by a find_log_closed = with_actor w by (remembers a (stopped (published w)))
 done w by a drop_pending = change w by a (writes (record w.writes { pending = [] }))
+done w by a (write_segment place) = change w by a (writes (record w.writes { next = Some (record { place = place; base = published w }) }))
+done w by a use_segment = change w by a (writes (record w.writes { segment = unwrap_or w.writes.next w.writes.segment; next = None }))
+done w by a stop_log = change w by (remembers a log_stopped) (writes (record w.writes { closed = true }))
 done w by a add_prepared = change w by a (prepared (record w.prepared { heap = set.insert w.prepared.heap (suc (published w)) }))
 done w by a take_pending_prepared = change w by a (prepared (record w.prepared { heap = set.remove w.prepared.heap (suc (published w)) }))
 done w by a (add_delayed_commit pair) = change w by a (prepared (record w.prepared { delayed_commits = finite.insert w.prepared.delayed_commits pair.number pair.decision }))
@@ -63,6 +66,7 @@ done w by a (take_versions memory) = change w by a (store (record w.store { memo
 done w by a (move_versions memory tables) = change w by a (store (record w.store { memory = memory; tables = tables }))
 done w by a (replace_versions tables floor) = change w by a (store (record w.store { tables = tables; floor = floor }))
 done w by a (install edit compacts) = change w by (remembers a (event.installed edit compacts)) (installed (record w.installed { last = edit }))
+done w by a (renew edit) = change w by (remembers a (renewed edit)) (installed (record w.installed { last = edit }))
 done w by a (halt edit) = change w by (remembers a (tables_failed w.installed.last edit)) (installed (with_failed w.installed edit))
 done w by a find_edit = with_actor w by (remembers a (found_edit w.installed.last.flushed w.installed.last.tables (tables_due w.first_edit a.participant.past) w.installed.halted))
 done w by a (claim_name name) = change w by (remembers (has_transaction a name (record { batch = []; locked = set.empty })) (claimed name)) (locks (with_name w.locks name (Some a.participant.client)))

@@ -1,6 +1,7 @@
 -- What a crash between two steps may leave of the devices behind the write turn and the tables turn.
 use Rattle.std.specs.Prelude.{◌≡◌, ◌⊎◌, ℕ, true, List, ◌++◌, Some}
 use Rattle.wp_model.specs.declared.entry.Entry.{Entry}
+use Rattle.wp_model.specs.declared.segment.Segment.{Segment}
 use Rattle.wp_core.specs.Tables.{WriteTable, Installed}
 use Rattle.wp_model.specs.Flushed.{InstalledEdit}
 
@@ -16,9 +17,11 @@ MayName t edit = (edit ≡ t.last) ⊎ (t.failed ≡ Some edit)
 
 -- ---- what a value's devices say of it
 
--- each of the images spells entries that the table says
-abbrev pub LogTells : (images : List ℕ → Type 0) → (spells : List ℕ → List Entry → Type 0) → WriteTable → Type 0
-LogTells images spells t = (image : List ℕ) → images image → (entries : List Entry) × spells image entries × MaySpell t entries
+-- each of the images spells, in the segment in use, entries that the table says; and in the next one, where there is one, the history
+abbrev pub LogTells : (images : List ℕ → Type 0) → (spells : Segment → List ℕ → List Entry → Type 0) → WriteTable → Type 0
+LogTells images spells t =
+    (image : List ℕ) → images image
+    → ((entries : List Entry) × spells t.segment image entries × MaySpell t entries) × ((next : Segment) → t.next ≡ Some next → spells next image t.history)
 
 -- each of the images names an edit that the table says
 abbrev pub ManifestTells : (images : List ℕ → Type 0) → (names : List ℕ → InstalledEdit → Type 0) → Installed → Type 0

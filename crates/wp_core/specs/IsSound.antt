@@ -8,6 +8,7 @@ use Rattle.wp_core.specs.Sound.History.{IsHistory, IsPendingHeld}
 use Rattle.wp_core.specs.Sound.Prepared.{IsCache, AreDecided, AreUndecided, AreDelayed, AreFlags}
 use Rattle.wp_core.specs.Sound.Snapshots.{registered_of, AreRegistered, view_of, HasSeen}
 use Rattle.wp_core.specs.Sound.Store.{IsStored, IsSettled}
+use Rattle.wp_core.specs.Sound.Segments.{AreCoupled}
 use Rattle.wp_core.specs.Sound.Locks.{owner_of, AreLocked}
 use Rattle.wp_core.specs.Sound.Pasts.{past_of, AreHolders, IsBoard, AreFaults, AreEdits}
 use Rattle.wp_core.specs.Sound.Reader.{AreReaders, AreJudged, reader_of}
@@ -34,6 +35,7 @@ pub record IsSound (w : World) : Type 0 where
   -- versions and edits
   pub versions : IsStored w.writes.history w.writes.pending w.snapshots w.store w.installed
   pub settled : IsSettled w.holders.tables w.store w.installed.last
+  pub coupled : AreCoupled w.writes w.installed w.holders.write
   -- names and keys, and the pasts
   pub locks : AreLocked w.opened w.writes.history w.locks (participants owner_of w)
   pub holders : AreHolders w.opened w.writes.history w.locks (participants past_of w)

@@ -5,6 +5,7 @@ use lib.ListN.{get_elem?}
 use Rattle.std.specs.FinSet as set
 use Rattle.std.specs.FinMap as finite
 use Rattle.wp_model.specs.Batch.{is_batch}
+use Rattle.wp_model.specs.Flushed.{InstalledEdit}
 use Rattle.wp_model.specs.History.{named, is_changed}
 use Rattle.wp_model.specs.Legal.{IsLegal}
 use Rattle.wp_model.specs.Decision.{decision_of}
@@ -16,12 +17,12 @@ use Rattle.wp_core.specs.Cache.{pair_at, cache_place, cached}
 use Rattle.wp_model.specs.PreparedTables.{NoneDelayed}
 use Rattle.wp_core.specs.World.{Transaction, Actor, World, published}
 use Rattle.wp_core.specs.Entries.{next_of, pending_pair, batch_of_name, IsOneRecord, HasVersionsAt}
-use Rattle.wp_core.specs.Steps.{Step, load_published, register, begin_reading, load, end_reading, store_published, store_max_evicted, store_word, store_delayed_flag, store_old_flag, take_turn, give_turn, make_pending, log_pending, close_log, find_log_closed, drop_pending, add_prepared, take_pending_prepared, add_delayed_commit, delay_pending, take_out, register_again, release, add_old_commit, add_versions, take_versions, move_versions, replace_versions, install, halt, find_edit, claim_name, take_name, leave_name, free_transaction, lock_key, free_key, lock_direct, free_direct, find_holder, tell, hear, set_batch, note, make_note, make_seat, set_client, learn, join_seat}
+use Rattle.wp_core.specs.Steps.{Step, load_published, register, begin_reading, load, end_reading, store_published, store_max_evicted, store_word, store_delayed_flag, store_old_flag, take_turn, give_turn, make_pending, log_pending, close_log, find_log_closed, drop_pending, write_segment, use_segment, stop_log, add_prepared, take_pending_prepared, add_delayed_commit, delay_pending, take_out, register_again, release, add_old_commit, add_versions, take_versions, move_versions, replace_versions, install, renew, halt, find_edit, claim_name, take_name, leave_name, free_transaction, lock_key, free_key, lock_direct, free_direct, find_holder, tell, hear, set_batch, note, make_note, make_seat, set_client, learn, join_seat}
 use Rattle.wp_core.specs.Effects.{with_failed}
 use Rattle.wp_core.specs.Sound.Prepared.{IsPassed}
 use Rattle.wp_core.specs.Sound.Snapshots.{has_versions_at}
 use Rattle.wp_core.specs.Sound.Views.{IsGuarded, IsSo}
-use Rattle.wp_core.specs.Conditions.{MayBeSmallest, IsNextLoad, HasTransaction, MayPublish, MayBeEvicted, MayGive, MayLog, MayDrop, IsPreparePending, SameVersions, KeepsStore, IsHolder, Accounts}
+use Rattle.wp_core.specs.Conditions.{MayBeSmallest, IsNextLoad, HasTransaction, MayPublish, MayBeEvicted, NoneNext, MayGive, MayLog, MayClose, MayDrop, MayWriteSegment, MayUseSegment, MayStop, IsPreparePending, SameVersions, NamesSegment, NamesNext, KeepsStore, IsHolder, Accounts}
 
 abbrev pub Needs : World → ℕ → Actor → Step → Type 0
 -- a reading is of a version of the history at a snapshot of the actor's own, by as many bits as the cache has; it loads in its order,
@@ -42,13 +43,16 @@ Needs w by a (store_old_flag value) = Holds w.holders snapshots_turn by × (valu
 -- a turn is taken where it is free
 Needs w by a (take_turn turn) = (turn_holder w.holders turn ≡ None) × (a.live ≡ true)
 Needs w by a (give_turn turn) = Holds w.holders turn by × MayGive w turn
--- a record is made pending where it may come next, all of it; it is logged once, or the log is closed; an entry is dropped
--- once nothing of it is left
-Needs w by a (make_pending entries) = Holds w.holders write_turn by × (w.writes.pending ≡ []) × IsOneRecord entries × IsLegal (w.writes.history ++ entries)
+-- a record is made pending where it may come next, all of it, and no segment waits; it is logged once, or the log is closed; an
+-- entry is dropped once nothing of it is left
+Needs w by a (make_pending entries) = Holds w.holders write_turn by × (w.writes.pending ≡ []) × IsOneRecord entries × IsLegal (w.writes.history ++ entries) × NoneNext w.writes
 Needs w by a log_pending = MayLog w by
-Needs w by a close_log = MayLog w by
+Needs w by a close_log = MayClose w by
 Needs w by a find_log_closed = Holds w.holders write_turn by × (w.writes.closed ≡ true)
 Needs w by a drop_pending = MayDrop w by
+Needs w by a (write_segment place) = MayWriteSegment w by place
+Needs w by a use_segment = MayUseSegment w by
+Needs w by a stop_log = MayStop w by
 -- a delayed commit comes with the flag up, of a decided number or of the pending entry; only what is decided leaves, all three tables at
 -- once, where its word or the old commit map answers for it
 Needs w by a add_prepared = IsPreparePending w by
@@ -66,10 +70,12 @@ Needs w by a (add_versions memory) = Holds w.holders write_turn by × Holds w.ho
 Needs w by a (take_versions memory) = Holds w.holders write_turn by × Holds w.holders store_turn by × HasVersionsAt None (suc (published w)) w.store.memory memory
 Needs w by a (move_versions memory tables) = Holds w.holders store_turn by × Holds w.holders tables_turn by × SameVersions w memory tables × KeepsStore w (record w.store { memory = memory; tables = tables }) w.installed
 Needs w by a (replace_versions tables floor) = Holds w.holders store_turn by × Holds w.holders tables_turn by × (w.store.floor ≤ floor) × KeepsStore w (record w.store { tables = tables; floor = floor }) w.installed
--- an edit's versions, with the history's later ones, answer at the published number; a flush brings one table more, and a
--- compaction keeps the flushed number
-Needs w by a (install edit compacts) = Holds w.holders tables_turn by × (w.installed.halted ≡ false) × KeepsStore w w.store (record w.installed { last = edit }) × (compacts ≡ false → edit.tables ≡ w.installed.last.tables + 1) × (compacts ≡ true → edit.flushed ≡ w.installed.last.flushed) × (w.installed.last.flushed ≤ edit.flushed)
-Needs w by a (halt edit) = Holds w.holders tables_turn by × (w.installed.halted ≡ false) × KeepsStore w w.store (with_failed w.installed edit)
+-- an edit's versions, with the history's later ones, answer at the published number, and it names the last one's segment; a flush
+-- brings one table more, a compaction keeps the flushed number, and a renewal, which names the log's next segment, has as many tables at
+-- least
+Needs w by a (install edit compacts) = Holds w.holders tables_turn by × (w.installed.halted ≡ false) × KeepsStore w w.store (record w.installed { last = edit }) × (compacts ≡ false → edit.tables ≡ w.installed.last.tables + 1) × (compacts ≡ true → edit.flushed ≡ w.installed.last.flushed) × (w.installed.last.flushed ≤ edit.flushed) × NamesSegment w edit
+Needs w by a (renew edit) = Holds w.holders tables_turn by × (w.installed.halted ≡ false) × KeepsStore w w.store (record w.installed { last = edit }) × NamesNext w by edit × (w.installed.last.tables ≤ edit.tables)
+Needs w by a (halt edit) = Holds w.holders tables_turn by × (w.installed.halted ≡ false) × KeepsStore w w.store (with_failed w.installed edit) × ((failed : InstalledEdit) → edit ≡ Some failed → NamesSegment w failed ⊎ NamesNext w by failed)
 Needs w by a find_edit = Holds w.holders tables_turn by
 -- a name is claimed where it is not live, and a key locked where it is not held; what is undecided is left, where it has
 -- locked no key but its batch's, and what is decided or was never prepared is freed

@@ -6,7 +6,7 @@ use Rattle.wp_core.specs.Cache.{cache_place}
 use Rattle.wp_core.specs.Views.{Fact, passed, in_old_commits, apart, words_stay, has_left, versions_in_memory, versions_nowhere, number_in_heap, number_not_in_heap, pair_delayed, pair_not_delayed, none_waits, undecided_at, prior_values, unprepared, direct_free, tables_stay, live_listed, nothing_flushed, frozen_stay, delayed_flag_stays, old_flag_stays}
 use Rattle.wp_core.specs.Entries.{transaction_of}
 use Rattle.wp_core.specs.World.{Actor}
-use Rattle.wp_core.specs.Steps.{Step, store_published, store_max_evicted, store_word, store_delayed_flag, store_old_flag, give_turn, make_pending, drop_pending, add_prepared, take_pending_prepared, delay_pending, add_versions, take_versions, move_versions, replace_versions, install, free_transaction, leave_name, free_direct}
+use Rattle.wp_core.specs.Steps.{Step, store_published, store_max_evicted, store_word, store_delayed_flag, store_old_flag, give_turn, make_pending, drop_pending, add_prepared, take_pending_prepared, delay_pending, add_versions, take_versions, move_versions, replace_versions, install, renew, free_transaction, leave_name, free_direct}
 use Rattle.wp_core.specs.Changes.{turn_index}
 use Rattle.wp_core.specs.Sound.Views.{guarded_by}
 
@@ -84,6 +84,7 @@ replaces_versions other = false
 
 abbrev pub installs : Step → Bool
 installs (install edit compacts) = true
+installs (renew edit) = true
 installs other = false
 
 abbrev pub ends_itself : List Entry → ℕ → Step → Fact → Bool

@@ -28,6 +28,8 @@ pub record IsOpening (w : World) : Type 0 where
   pub log : w.writes.log ≡ w.opened
   pub running_log : w.writes.closed ≡ false
   pub none_failed : w.writes.failed ≡ []
+  pub segment : w.writes.segment ≡ w.first_edit.segment
+  pub none_next : w.writes.next ≡ None
   pub max_evicted : w.max_evicted ≡ length w.opened
   pub words : 1 ≤ length w.cache
   pub cache : All (λ word. word ≡ 0) w.cache

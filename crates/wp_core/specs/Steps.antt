@@ -40,10 +40,15 @@ pub data Step : Type 0 where
   -- the entries of one record, to be logged and published
   make_pending : List Entry → Step
   log_pending : Step
-  -- the append failed
+  -- the append failed, or the write of a segment
   close_log : Step
   find_log_closed : Step
   drop_pending : Step
+  -- a segment is written at this place, of the history up to the published number
+  write_segment : ℕ → Step
+  -- the last edit names the next segment, which comes into use; or no entry is taken any more, since the devices of the tables failed
+  use_segment : Step
+  stop_log : Step
   -- ---- the prepared turn
   -- the number of the pending Prepare, into the heap or out of it
   add_prepared : Step
@@ -70,6 +75,8 @@ pub data Step : Type 0 where
   -- ---- the tables turn
   -- an edit; true where a compaction made it
   install : InstalledEdit → Bool → Step
+  -- an edit that names the log's next segment
+  renew : InstalledEdit → Step
   -- the devices failed, in the install of this edit or before one
   halt : Option InstalledEdit → Step
   find_edit : Step

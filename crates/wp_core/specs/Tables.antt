@@ -4,6 +4,7 @@ use Rattle.std.specs.Prelude.{ℕ, nat_le, not, Bool, List, ◌++◌, filter, Op
 use Rattle.std.specs.FinSet as set
 use Rattle.std.specs.FinMap as map
 use Rattle.wp_model.specs.declared.entry.Entry.{Entry}
+use Rattle.wp_model.specs.declared.segment.Segment.{Segment}
 use Rattle.wp_model.specs.declared.version.Version.{Version}
 use Rattle.wp_model.specs.PreparedTables.{PreparedTables}
 use Rattle.wp_model.specs.Snapshots.{Snapshots}
@@ -15,7 +16,8 @@ use Rattle.wp_core.specs.Turns.{Turn, write_turn, prepared_turn, snapshots_turn,
 
 -- The history and its log. What is pending is what is left of one record, the entry that comes next first: a record is one
 -- entry, or an Undo with its Close. It is logged as a whole before its first entry joins the history. Where nothing is
--- pending, logged says nothing. Once an append failed the log is closed, and its bytes may have that record or not.
+-- pending, logged says nothing. Once an append failed the log is closed, and its bytes may have that record or not. The log is in a
+-- segment of its device; another one that was written beside it is the next one.
 pub record WriteTable : Type 0 where
   pub history : List Entry
   pub pending : List Entry
@@ -23,6 +25,8 @@ pub record WriteTable : Type 0 where
   pub log : List Entry
   pub closed : Bool
   pub failed : List Entry
+  pub segment : Segment
+  pub next : Option Segment
 
 -- ---- the prepared turn
 

@@ -22,8 +22,12 @@ pub data Event : Type 0 where
   heard : List ℕ → ℕ → Event
   -- this edit; true where a compaction made it
   installed : InstalledEdit → Bool → Event
-  -- the append of this record failed
+  -- this edit, which names another segment of the log
+  renewed : InstalledEdit → Event
+  -- the append of this record failed, or the write of a segment, which has no record
   log_failed : List Entry → Event
+  -- the log was closed behind a failure of the tables' devices
+  log_stopped : Event
   -- the devices failed, where the first was the last edit, in the install of the second, if of one
   tables_failed : InstalledEdit → Option InstalledEdit → Event
   -- the log was found closed at this published number

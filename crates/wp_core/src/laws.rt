@@ -1,7 +1,7 @@
 //! What is proved of the machine, over all worlds that steps of any actors reach, in any order.
 ghost use mathlib.Core.Option.{some};
 ghost use lib.ListN.{get_elem?};
-ghost use Rattle.std.specs.Prelude.{◌≡◌, ℕ, Bool, true, List, [], ◌∷◌, Some, None};
+ghost use Rattle.std.specs.Prelude.{◌≡◌, ◌⊎◌, ℕ, Bool, true, List, [], ◌∷◌, length, Some, None};
 ghost use Rattle.wp_model.specs.declared.change.Change.{Change};
 ghost use Rattle.wp_model.specs.declared.entry.Entry.{Entry};
 ghost use Rattle.wp_model.specs.declared.entry.Entry.TheVariants.{Write};
@@ -61,6 +61,14 @@ pub fn crashes_leave_the_history()
 pub fn crashes_leave_an_edit_that_covers()
     ensures { (w : World) → Reaches w → (entries : List Entry) (edit : InstalledEdit)
         → MaySpell w.writes entries → MayName w.installed edit → IsEditCovered entries edit }
+{}
+
+/// Whichever edit such a crash leaves, it names a segment that the log has: the one in use, or one that was written beside it, of
+/// the history up to its end.
+pub fn crashes_leave_the_segment_of_an_edit()
+    ensures { (w : World) → Reaches w → (edit : InstalledEdit) → MayName w.installed edit
+        → (edit.segment ≡ w.writes.segment)
+        ⊎ ((w.writes.next ≡ Some edit.segment) × (edit.segment.base ≡ length (history w)) × MaySpell w.writes (history w)) }
 {}
 
 /// Where a reader has loaded what it needs, however the steps of others fell between its loads, its judgement is whether the

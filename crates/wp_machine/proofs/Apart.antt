@@ -87,6 +87,9 @@ of_writes write.LogPending s e = subst Acts (only (step.log_pending) _ e) tt
 of_writes write.CloseLog s e = subst Acts (only (step.close_log) _ e) tt
 of_writes write.FindLogClosed s e = subst Acts (only (step.find_log_closed) _ e) tt
 of_writes write.DropPending s e = subst Acts (only (step.drop_pending) _ e) tt
+of_writes (write.WriteSegment place) s e = subst Acts (only (step.write_segment place) _ e) tt
+of_writes write.UseSegment s e = subst Acts (only (step.use_segment) _ e) tt
+of_writes write.StopLog s e = subst Acts (only (step.stop_log) _ e) tt
 
 of_prepareds : (k : PreparedStep) (s : Step) → prepared_step k ≡ Some s → Acts s
 of_prepareds prepared.Add s e = subst Acts (only (step.add_prepared) _ e) tt
@@ -112,6 +115,7 @@ of_stores d t (store.ReplaceVersions replaced floor) s e = subst Acts (only (ste
 
 of_tabless : (k : TablesStep) (s : Step) → tables_step k ≡ Some s → Acts s
 of_tabless (tables.Install edit compacts) s e = subst Acts (only (step.install edit compacts) _ e) tt
+of_tabless (tables.Renew edit) s e = subst Acts (only (step.renew edit) _ e) tt
 of_tabless (tables.Halt edit) s e = subst Acts (only (step.halt edit) _ e) tt
 of_tabless tables.FindEdit s e = subst Acts (only (step.find_edit) _ e) tt
 
@@ -178,6 +182,9 @@ again w by x a step.log_pending i = ap (λ (zs : List Actor). record (done w by 
 again w by x a step.close_log i = ap (λ (zs : List Actor). record (done w by a step.close_log) { actors = zs }) (set-set w.actors by x _)
 again w by x a step.find_log_closed i = ap (λ (zs : List Actor). record (done w by a step.find_log_closed) { actors = zs }) (set-set w.actors by x _)
 again w by x a step.drop_pending i = ap (λ (zs : List Actor). record (done w by a step.drop_pending) { actors = zs }) (set-set w.actors by x _)
+again w by x a (step.write_segment x0) i = ap (λ (zs : List Actor). record (done w by a (step.write_segment x0)) { actors = zs }) (set-set w.actors by x _)
+again w by x a step.use_segment i = ap (λ (zs : List Actor). record (done w by a step.use_segment) { actors = zs }) (set-set w.actors by x _)
+again w by x a step.stop_log i = ap (λ (zs : List Actor). record (done w by a step.stop_log) { actors = zs }) (set-set w.actors by x _)
 again w by x a step.add_prepared i = ap (λ (zs : List Actor). record (done w by a step.add_prepared) { actors = zs }) (set-set w.actors by x _)
 again w by x a step.take_pending_prepared i = ap (λ (zs : List Actor). record (done w by a step.take_pending_prepared) { actors = zs }) (set-set w.actors by x _)
 again w by x a (step.add_delayed_commit x0) i = ap (λ (zs : List Actor). record (done w by a (step.add_delayed_commit x0)) { actors = zs }) (set-set w.actors by x _)
@@ -191,6 +198,7 @@ again w by x a (step.take_versions x0) i = ap (λ (zs : List Actor). record (don
 again w by x a (step.move_versions x0 x1) i = ap (λ (zs : List Actor). record (done w by a (step.move_versions x0 x1)) { actors = zs }) (set-set w.actors by x _)
 again w by x a (step.replace_versions x0 x1) i = ap (λ (zs : List Actor). record (done w by a (step.replace_versions x0 x1)) { actors = zs }) (set-set w.actors by x _)
 again w by x a (step.install x0 x1) i = ap (λ (zs : List Actor). record (done w by a (step.install x0 x1)) { actors = zs }) (set-set w.actors by x _)
+again w by x a (step.renew x0) i = ap (λ (zs : List Actor). record (done w by a (step.renew x0)) { actors = zs }) (set-set w.actors by x _)
 again w by x a (step.halt x0) i = ap (λ (zs : List Actor). record (done w by a (step.halt x0)) { actors = zs }) (set-set w.actors by x _)
 again w by x a step.find_edit i = ap (λ (zs : List Actor). record (done w by a step.find_edit) { actors = zs }) (set-set w.actors by x _)
 again w by x a (step.claim_name x0) i = ap (λ (zs : List Actor). record (done w by a (step.claim_name x0)) { actors = zs }) (set-set w.actors by x _)

@@ -105,6 +105,9 @@ of_writes h n write.LogPending s e = subst (EndsAs h n _) (only (step.log_pendin
 of_writes h n write.CloseLog s e = subst (EndsAs h n _) (only (step.close_log) _ e) (record { guard = λ turn. refl; alone = refl; place = λ n. refl; words = refl; pending = refl; transaction = λ name. refl; delayed_flag = refl; old_flag = refl; add_prepared = refl; take_prepared = refl; delays = refl; add_versions = refl; take_versions = refl; moves = refl; replaces = refl; installs = refl; direct = refl })
 of_writes h n write.FindLogClosed s e = subst (EndsAs h n _) (only (step.find_log_closed) _ e) (record { guard = λ turn. refl; alone = refl; place = λ n. refl; words = refl; pending = refl; transaction = λ name. refl; delayed_flag = refl; old_flag = refl; add_prepared = refl; take_prepared = refl; delays = refl; add_versions = refl; take_versions = refl; moves = refl; replaces = refl; installs = refl; direct = refl })
 of_writes h n write.DropPending s e = subst (EndsAs h n _) (only (step.drop_pending) _ e) (record { guard = λ turn. refl; alone = refl; place = λ n. refl; words = refl; pending = refl; transaction = λ name. refl; delayed_flag = refl; old_flag = refl; add_prepared = refl; take_prepared = refl; delays = refl; add_versions = refl; take_versions = refl; moves = refl; replaces = refl; installs = refl; direct = refl })
+of_writes h n (write.WriteSegment place) s e = subst (EndsAs h n _) (only (step.write_segment place) _ e) (record { guard = λ turn. refl; alone = refl; place = λ n. refl; words = refl; pending = refl; transaction = λ name. refl; delayed_flag = refl; old_flag = refl; add_prepared = refl; take_prepared = refl; delays = refl; add_versions = refl; take_versions = refl; moves = refl; replaces = refl; installs = refl; direct = refl })
+of_writes h n write.UseSegment s e = subst (EndsAs h n _) (only (step.use_segment) _ e) (record { guard = λ turn. refl; alone = refl; place = λ n. refl; words = refl; pending = refl; transaction = λ name. refl; delayed_flag = refl; old_flag = refl; add_prepared = refl; take_prepared = refl; delays = refl; add_versions = refl; take_versions = refl; moves = refl; replaces = refl; installs = refl; direct = refl })
+of_writes h n write.StopLog s e = subst (EndsAs h n _) (only (step.stop_log) _ e) (record { guard = λ turn. refl; alone = refl; place = λ n. refl; words = refl; pending = refl; transaction = λ name. refl; delayed_flag = refl; old_flag = refl; add_prepared = refl; take_prepared = refl; delays = refl; add_versions = refl; take_versions = refl; moves = refl; replaces = refl; installs = refl; direct = refl })
 
 of_prepareds : (h : List Entry) (n : ℕ) (k : PreparedStep) (s : Step) → prepared_step k ≡ Some s → EndsAs h n (of_prepared k) s
 of_prepareds h n prepared.Add s e = subst (EndsAs h n _) (only (step.add_prepared) _ e) (record { guard = λ turn. refl; alone = refl; place = λ n. refl; words = refl; pending = refl; transaction = λ name. refl; delayed_flag = refl; old_flag = refl; add_prepared = refl; take_prepared = refl; delays = refl; add_versions = refl; take_versions = refl; moves = refl; replaces = refl; installs = refl; direct = refl })
@@ -130,6 +133,7 @@ of_stores h n d t (store.ReplaceVersions replaced floor) s e = subst (EndsAs h n
 
 of_tabless : (h : List Entry) (n : ℕ) (k : TablesStep) (s : Step) → tables_step k ≡ Some s → EndsAs h n (of_tables k) s
 of_tabless h n (tables.Install edit compacts) s e = subst (EndsAs h n _) (only (step.install edit compacts) _ e) (record { guard = λ turn. refl; alone = refl; place = λ n. refl; words = refl; pending = refl; transaction = λ name. refl; delayed_flag = refl; old_flag = refl; add_prepared = refl; take_prepared = refl; delays = refl; add_versions = refl; take_versions = refl; moves = refl; replaces = refl; installs = refl; direct = refl })
+of_tabless h n (tables.Renew edit) s e = subst (EndsAs h n _) (only (step.renew edit) _ e) (record { guard = λ turn. refl; alone = refl; place = λ n. refl; words = refl; pending = refl; transaction = λ name. refl; delayed_flag = refl; old_flag = refl; add_prepared = refl; take_prepared = refl; delays = refl; add_versions = refl; take_versions = refl; moves = refl; replaces = refl; installs = refl; direct = refl })
 of_tabless h n (tables.Halt edit) s e = subst (EndsAs h n _) (only (step.halt edit) _ e) (record { guard = λ turn. refl; alone = refl; place = λ n. refl; words = refl; pending = refl; transaction = λ name. refl; delayed_flag = refl; old_flag = refl; add_prepared = refl; take_prepared = refl; delays = refl; add_versions = refl; take_versions = refl; moves = refl; replaces = refl; installs = refl; direct = refl })
 of_tabless h n tables.FindEdit s e = subst (EndsAs h n _) (only (step.find_edit) _ e) (record { guard = λ turn. refl; alone = refl; place = λ n. refl; words = refl; pending = refl; transaction = λ name. refl; delayed_flag = refl; old_flag = refl; add_prepared = refl; take_prepared = refl; delays = refl; add_versions = refl; take_versions = refl; moves = refl; replaces = refl; installs = refl; direct = refl })
 

@@ -57,6 +57,9 @@ of_write write.LogPending = ending.Nothing
 of_write write.CloseLog = ending.Nothing
 of_write write.FindLogClosed = ending.Nothing
 of_write write.DropPending = ending.Pending
+of_write (write.WriteSegment place) = ending.Nothing
+of_write write.UseSegment = ending.Nothing
+of_write write.StopLog = ending.Nothing
 
 abbrev pub of_prepared : PreparedStep → Ending
 of_prepared prepared.Add = ending.AddPrepared
@@ -73,6 +76,7 @@ of_store (store.ReplaceVersions replaced floor) = ending.ReplaceVersions
 
 abbrev pub of_tables : TablesStep → Ending
 of_tables (tables.Install edit compacts) = ending.Install
+of_tables (tables.Renew edit) = ending.Install
 of_tables other = ending.Nothing
 
 abbrev pub of_locks : LocksStep → Ending

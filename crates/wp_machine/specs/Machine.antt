@@ -77,6 +77,9 @@ write_step write.LogPending = Some step.log_pending
 write_step write.CloseLog = Some step.close_log
 write_step write.FindLogClosed = Some step.find_log_closed
 write_step write.DropPending = Some step.drop_pending
+write_step (write.WriteSegment place) = Some (step.write_segment place)
+write_step write.UseSegment = Some step.use_segment
+write_step write.StopLog = Some step.stop_log
 
 abbrev pub prepared_step : PreparedStep → Option Step
 prepared_step prepared.Add = Some step.add_prepared
@@ -116,6 +119,7 @@ store_step d t (store.ReplaceVersions replaced floor) = Some (step.replace_versi
 
 abbrev pub tables_step : TablesStep → Option Step
 tables_step (tables.Install edit compacts) = Some (step.install edit compacts)
+tables_step (tables.Renew edit) = Some (step.renew edit)
 tables_step (tables.Halt edit) = Some (step.halt edit)
 tables_step tables.FindEdit = Some step.find_edit
 

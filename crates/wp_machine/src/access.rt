@@ -4,7 +4,7 @@ ghost use Rattle.std.specs.Option.{option_copied};
 
 use crate::store::{Installed, InstalledEdit, StoreTable};
 use crate::writes::WriteTable;
-use wp_model::{Entry, Seq, Version};
+use wp_model::{Entry, Segment, Seq, Version};
 
 impl StoreTable {
     pub fn tables(&self) -> &[Version]
@@ -51,6 +51,18 @@ impl WriteTable {
         ensures { result.now ≡ self.now.history }
     {
         &self.history
+    }
+
+    pub fn next_segment(&self) -> Option<Segment>
+        ensures { result ≡ self.now.next }
+    {
+        self.next
+    }
+
+    pub fn is_closed(&self) -> bool
+        ensures { result ≡ self.now.closed }
+    {
+        self.closed
     }
 
     pub fn next_entries(&self) -> &[Entry]

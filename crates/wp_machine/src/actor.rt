@@ -29,7 +29,7 @@ use wp_judge::Observed;
 use wp_model::{Batch, Entry, Key, Name, Seq};
 
 /// A snapshot: its number, and its smallest. Each version below the smallest is decided, and visible at the snapshot.
-#[derive(Clone, Copy, PartialEq, Eq)]
+#[derive(Clone, Copy)]
 pub struct Registration {
     pub number: Seq,
     pub smallest: Seq,

@@ -17,7 +17,9 @@ fn due_after(due: u64, event: &Event) -> Result<u64, AllocError>
         | Found::Locked(_, _)
         | Found::Told(_, _)
         | Found::Heard(_, _)
+        | Found::Renewed(_)
         | Found::LogFailed(_)
+        | Found::LogStopped
         | Found::TablesFailed(_, _)
         | Found::Stopped(_)
         | Found::Edit(_, _, _, _)

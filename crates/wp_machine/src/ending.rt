@@ -129,7 +129,12 @@ fn of_write(kind: &WriteStep) -> Ending
 {
     match kind {
         WriteStep::MakePending(_) | WriteStep::DropPending => Ending::Pending,
-        WriteStep::LogPending | WriteStep::CloseLog | WriteStep::FindLogClosed => Ending::Nothing,
+        WriteStep::LogPending
+        | WriteStep::CloseLog
+        | WriteStep::FindLogClosed
+        | WriteStep::WriteSegment(_)
+        | WriteStep::UseSegment
+        | WriteStep::StopLog => Ending::Nothing,
     }
 }
 
@@ -177,7 +182,7 @@ pub fn ending_of(world: &World, kind: &Kind) -> Result<Ending, AllocError>
         Kind::Write(kind) => of_write(kind),
         Kind::Prepared(kind) => of_prepared(kind),
         Kind::Store(kind) => of_store(kind),
-        Kind::Tables(TablesStep::Install(_, _)) => Ending::Install,
+        Kind::Tables(TablesStep::Install(_, _) | TablesStep::Renew(_)) => Ending::Install,
         Kind::Locks(kind) => of_locks(kind, world.alloc)?,
         _ => Ending::Nothing,
     })

@@ -65,10 +65,16 @@ pub enum WriteStep {
     /// The entries of one record, to be logged and published.
     MakePending(Vec<Entry>),
     LogPending,
-    /// The append failed.
+    /// The append failed, or the write of a segment.
     CloseLog,
     FindLogClosed,
     DropPending,
+    /// A segment of the log, at this place of its device, of the history up to the published number.
+    WriteSegment(u64),
+    /// The last edit names the next segment, which comes into use.
+    UseSegment,
+    /// No entry is taken any more, since the devices of the tables failed.
+    StopLog,
 }
 
 /// A step with the prepared turn.
@@ -115,6 +121,8 @@ pub enum StoreStep {
 pub enum TablesStep {
     /// An edit; true where a compaction made it.
     Install(InstalledEdit, bool),
+    /// An edit that names the log's next segment.
+    Renew(InstalledEdit),
     /// The devices failed, in the install of this edit or before one.
     Halt(Option<InstalledEdit>),
     FindEdit,

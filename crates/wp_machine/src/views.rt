@@ -7,7 +7,7 @@ use wp_model::{Batch, Entry, Holder, Key, Name, Seq, Version};
 
 /// How a holder that was found is accounted for: the finder's own, another actor's, or a prepare undecided after so many
 /// entries.
-#[derive(Clone, Copy, PartialEq, Eq)]
+#[derive(Clone, Copy)]
 pub enum Account {
     Own,
     Another,
@@ -24,8 +24,12 @@ pub enum Found {
     Heard(Name, Seq),
     /// This edit; true where a compaction made it.
     Installed(InstalledEdit, bool),
-    /// The append of this record failed.
+    /// This edit, which names another segment of the log.
+    Renewed(InstalledEdit),
+    /// The append of this record failed, or the write of a segment, which has no record.
     LogFailed(Vec<Entry>),
+    /// The log was closed behind a failure of the tables' devices.
+    LogStopped,
     /// The devices failed, where the first was the last edit, in the install of the second, if of one.
     TablesFailed(InstalledEdit, Option<InstalledEdit>),
     /// The log was found closed at this published number.

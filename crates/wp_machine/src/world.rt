@@ -2,6 +2,7 @@ ghost use Rattle.std.specs.Prelude.{◌≡◌, ◌≤◌, ◌^◌, true, false, 
 ghost use Rattle.std.specs.FinSet as set;
 ghost use Rattle.std.specs.FinMap as finite;
 ghost use Rattle.wp_model.specs.History.{undecided};
+ghost use Rattle.wp_model.specs.Flushed.{first_segment};
 ghost use Rattle.wp_model.specs.Legal.{IsLegal, undone_last};
 ghost use Rattle.wp_core.specs.Runs.{IsOpening};
 ghost use Rattle.wp_core.specs.World.{new_actor};
@@ -92,11 +93,11 @@ impl World {
         ensures legal { IsLegal history.now.entries }
     {
         let entries = history.entries();
-        let actors = first_seat(alloc, client, entries)?;
-        let (writes, store) = stored(entries, alloc)?;
-        let (prepared, locks) = left_undecided(history, alloc)?;
         let opened = copy_entries(entries, alloc)?;
         let cache = Cache::empty(bits, alloc)?;
+        let (writes, store) = stored(entries, alloc)?;
+        let (prepared, locks) = left_undecided(history, alloc)?;
+        let actors = first_seat(alloc, client, entries)?;
         Ok(World {
             alloc,
             opened,
@@ -129,7 +130,7 @@ fn first_seat(alloc: Global, client: Name, entries: &[Entry]) -> Result<Vec<Acto
 
 /// The history as it is logged and published, and its versions, all in memory.
 fn stored(entries: &[Entry], alloc: Global) -> Result<(WriteTable, StoreTable), AllocError>
-    ensures writes { IfOk result (λ t. t.0 ≡ record { history = entries.now; pending = []; logged = false; log = entries.now; closed = false; failed = [] }) }
+    ensures writes { IfOk result (λ t. t.0 ≡ record { history = entries.now; pending = []; logged = false; log = entries.now; closed = false; failed = []; segment = first_segment; next = None }) }
     ensures store { IfOk result (λ t. t.1 ≡ all_in_memory entries.now) }
 {
     let writes = WriteTable::of(entries, alloc)?;

@@ -1,16 +1,19 @@
-ghost use Rattle.std.specs.Prelude.{◌≡◌, suc, true, false, [], ◌++◌, length, IfOk, OnOk, option_map};
+ghost use Rattle.std.specs.Prelude.{◌≡◌, suc, true, false, [], ◌++◌, length, Some, None, IfOk, OnOk, option_map, unwrap_or};
 ghost use Rattle.std.specs.Option.{option_copied};
 ghost use Rattle.wp_model.specs.History.{entry_at, batch_at, prepared_batch};
 ghost use Rattle.wp_judge.specs.Words.{numbers_of};
+ghost use Rattle.wp_core.specs.Conditions.{NoneNext};
 ghost use Rattle.wp_core.specs.Entries.{pair_by, pending_pair};
+ghost use Rattle.wp_model.specs.Flushed.{first_segment};
 ghost use Rattle.wp_machine.specs.Machine.{with_next};
 
 use crate::copies::copy_entries;
 use std::alloc::{AllocError, Global};
 use std::marker::Model;
-use wp_model::{Batch, Entry, Seq};
+use wp_model::{Batch, Entry, Segment, Seq};
 
-/// The history and its log. What is pending is what is left of one record, the entry that comes next first.
+/// The history and its log, with the segment that this is in, and the one that was written beside it, if one was. What is pending is
+/// what is left of one record, the entry that comes next first.
 #[derive(Drop)]
 pub struct WriteTable {
     pub history: Vec<Entry>,
@@ -19,6 +22,8 @@ pub struct WriteTable {
     pub log: Vec<Entry>,
     pub closed: bool,
     pub failed: Vec<Entry>,
+    pub segment: Segment,
+    pub next: Option<Segment>,
 }
 
 impl Model for WriteTable {
@@ -26,7 +31,7 @@ impl Model for WriteTable {
 
     ghost Value = { WriteTable };
 
-    ghost view = { λ t. record { history = t.history.items; pending = t.pending.items; logged = t.logged; log = t.log.items; closed = t.closed; failed = t.failed.items } };
+    ghost view = { λ t. record { history = t.history.items; pending = t.pending.items; logged = t.logged; log = t.log.items; closed = t.closed; failed = t.failed.items; segment = t.segment; next = t.next } };
 }
 
 impl WriteTable {
@@ -40,6 +45,8 @@ impl WriteTable {
             log: copy_entries(&self.log, alloc)?,
             closed: self.closed,
             failed: copy_entries(&self.failed, alloc)?,
+            segment: self.segment,
+            next: self.next,
         })
     }
 }
@@ -99,6 +106,33 @@ impl WriteTable {
         Ok(())
     }
 
+    /// No segment waits to come into use.
+    pub fn none_next(&self) -> bool
+        ensures { result ≡ true → NoneNext self.now }
+    {
+        self.next.is_none() || self.closed
+    }
+
+    /// A segment is written at this place, of the history up to the published number.
+    pub fn write_segment(&mut self, place: u64)
+        ensures { self.new ≡ record self.old { next = Some (record { place = place; base = length self.old.history }) } }
+    {
+        self.next = Some(Segment {
+            place,
+            base: self.published(),
+        });
+    }
+
+    /// The next segment comes into use.
+    pub fn use_segment(&mut self)
+        ensures { self.new ≡ record self.old { segment = unwrap_or self.old.next self.old.segment; next = None } }
+    {
+        if let Some(segment) = self.next {
+            self.segment = segment;
+        }
+        self.next = None;
+    }
+
     pub fn close_log(&mut self, alloc: Global) -> Result<(), AllocError>
         ensures { OnOk result (self.new ≡ record self.old { closed = true; failed = self.old.pending }) }
     {
@@ -135,9 +169,9 @@ impl WriteTable {
 }
 
 impl WriteTable {
-    /// Nothing is pending, and the log spells these entries.
+    /// Nothing is pending, and the log spells these entries, in the segment that begins its device.
     pub fn of(entries: &[Entry], alloc: Global) -> Result<WriteTable, AllocError>
-        ensures { IfOk result (λ t. t ≡ record { history = entries.now; pending = []; logged = false; log = entries.now; closed = false; failed = [] }) }
+        ensures { IfOk result (λ t. t ≡ record { history = entries.now; pending = []; logged = false; log = entries.now; closed = false; failed = []; segment = first_segment; next = None }) }
     {
         Ok(WriteTable {
             history: copy_entries(entries, alloc)?,
@@ -146,6 +180,8 @@ impl WriteTable {
             log: copy_entries(entries, alloc)?,
             closed: false,
             failed: Vec::new(alloc),
+            segment: Segment { place: 0, base: 0 },
+            next: None,
         })
     }
 }

@@ -13,7 +13,7 @@ use std::alloc::{AllocError, Global};
 use wp_cover::covers;
 use wp_history::History;
 use wp_machine::{InstalledEdit, Snapshots, World, versions_of_next};
-use wp_model::{Entry, Seq, Version};
+use wp_model::{Entry, Segment, Seq, Version};
 
 /// Whether the store has just the last edit's tables, and no flushed version is in memory.
 pub fn has_last_tables(world: &World) -> bool
@@ -24,6 +24,23 @@ pub fn has_last_tables(world: &World) -> bool
         return false;
     }
     are_equal(world.store.tables(), &last.versions)
+}
+
+/// Whether the segments are the same.
+pub(crate) fn is_segment(one: Segment, other: Segment) -> bool
+    ensures { (result ≡ true) ↔ (one ≡ other) }
+{
+    one.place == other.place && one.base == other.base
+}
+
+/// Whether it is the log's next segment.
+pub fn is_next_segment(world: &World, segment: Segment) -> bool
+    ensures { (result ≡ true) ↔ (world.now.writes.next ≡ Some segment) }
+{
+    match world.writes.next_segment() {
+        Some(next) => is_segment(next, segment),
+        None => false,
+    }
 }
 
 fn are_covered(

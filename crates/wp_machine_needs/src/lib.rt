@@ -26,10 +26,10 @@ mod versions;
 mod waiting;
 
 use crate::finding::may_find;
-use crate::moves::{may_halt, may_install, may_move_versions, may_replace_versions};
+use crate::moves::{may_halt, may_install, may_move_versions, may_renew, may_replace_versions};
 use crate::note::may_note;
 pub use decided::{decision_in, is_decided};
-pub use edits::has_last_tables;
+pub use edits::{has_last_tables, is_next_segment};
 pub use note::is_undelayed;
 pub use read::history_of;
 use std::alloc::AllocError;
@@ -52,6 +52,7 @@ fn tables(world: &World, by: usize, actor: &Actor, kind: &TablesStep) -> Result<
 {
     match kind {
         TablesStep::Install(edit, compacts) => may_install(world, by, edit, *compacts),
+        TablesStep::Renew(edit) => may_renew(world, by, edit),
         TablesStep::Halt(edit) => may_halt(world, by, edit),
         TablesStep::FindEdit => Ok(false),
     }

@@ -1,14 +1,16 @@
 //! Whether the versions and the edits of a world may become others.
-ghost use Rattle.std.specs.Prelude.{◌≡◌, ◌≤◌, ◌↔◌, ◌++◌, Bool, true, false, ◌+◌, IfOk};
+ghost use Rattle.std.specs.Prelude.{◌≡◌, ◌≤◌, ◌⊎◌, ◌↔◌, ◌++◌, Bool, true, false, ◌+◌, Some, IfOk};
 ghost use Rattle.std.specs.Option.{option_copied};
+ghost use Rattle.wp_model.specs.Flushed as edits;
 ghost use Rattle.wp_core.specs.Steps as step;
 ghost use Rattle.wp_core.specs.Needs.{Needs};
 ghost use Rattle.wp_core.specs.World.{Actor};
-ghost use Rattle.wp_core.specs.Turns.{store_turn, tables_turn, Holds};
-ghost use Rattle.wp_core.specs.Conditions.{SameVersions, KeepsStore};
+ghost use Rattle.wp_core.specs.Turns.{write_turn, store_turn, tables_turn, Holds};
+ghost use Rattle.wp_core.specs.Conditions.{SameVersions, NamesSegment, NamesNext, KeepsStore};
 ghost use Rattle.wp_core.specs.Effects.{with_failed};
 ghost use Rattle.wp_machine_needs.specs.VersionLists.{AreSame, SameAt};
 
+use crate::edits::{is_next_segment, is_segment};
 use crate::read::history_of;
 use crate::stored::is_stored;
 use crate::versions::{are_same, joined, only_at};
@@ -84,6 +86,12 @@ fn holds_tables(world: &World, by: usize) -> bool
     ensures { (result ≡ true) ↔ Holds world.now.holders tables_turn by }
 {
     world.holders.of(Turn::Tables) == Some(by)
+}
+
+fn holds_write(world: &World, by: usize) -> bool
+    ensures { (result ≡ true) ↔ Holds world.now.holders write_turn by }
+{
+    world.holders.of(Turn::Write) == Some(by)
 }
 
 fn holds_store(world: &World, by: usize) -> bool
@@ -172,12 +180,16 @@ fn keeps_edits(
     Ok(yes)
 }
 
-/// The flushed number does not fall. A flush brings one table more, and a compaction keeps the flushed number.
+/// The segment stays, and the flushed number does not fall. A flush brings one table more, and a compaction keeps the flushed number.
 fn follows(last: &InstalledEdit, edit: &InstalledEdit, compacts: bool) -> bool
     ensures flush { result ≡ true → compacts ≡ false → edit.now.tables ≡ last.now.tables + 1 }
     ensures compaction { result ≡ true → compacts ≡ true → edit.now.flushed ≡ last.now.flushed }
     ensures rises { result ≡ true → last.now.flushed ≤ edit.now.flushed }
+    ensures segment { result ≡ true → edit.now.segment ≡ last.now.segment }
 {
+    if !is_segment(edit.segment, last.segment) {
+        return false;
+    }
     if compacts {
         return edit.flushed == last.flushed;
     }
@@ -201,6 +213,58 @@ pub(crate) fn may_install(
         return Ok(false);
     }
     if !follows(installed.last(), edit, compacts) {
+        return Ok(false);
+    }
+    let yes = keeps_edits(world, edit, installed.failed())?;
+    Ok(yes)
+}
+
+/// Whether the edit names the log's next segment, and flushes the whole history.
+fn names_next(world: &World, by: usize, edit: &InstalledEdit) -> bool
+    ensures { result ≡ true → NamesNext world.now by edit.now }
+{
+    if !holds_write(world, by) {
+        return false;
+    }
+    if world.writes.is_closed() {
+        return false;
+    }
+    if world.writes.published() != edit.flushed {
+        return false;
+    }
+    is_next_segment(world, edit.segment)
+}
+
+/// Whether the edit, if there is one, names the last one's segment, or the next one.
+fn has_segment(world: &World, by: usize, edit: &Option<InstalledEdit>) -> bool
+    ensures { result ≡ true → (failed : edits.InstalledEdit) → edit.now ≡ Some failed → NamesSegment world.now failed ⊎ NamesNext world.now by failed }
+{
+    match edit {
+        Some(edit) => {
+            if is_segment(edit.segment, world.installed.last().segment) {
+                return true;
+            }
+            names_next(world, by, edit)
+        }
+        None => true,
+    }
+}
+
+/// Whether the edit may be installed as one that names the log's next segment.
+pub(crate) fn may_renew(world: &World, by: usize, edit: &InstalledEdit) -> Result<bool, AllocError>
+    ensures { (a : Actor) → IfOk result (λ yes. yes ≡ true → Needs world.now by a (step.renew edit.now)) }
+{
+    let installed = &world.installed;
+    if !holds_tables(world, by) {
+        return Ok(false);
+    }
+    if installed.is_halted() {
+        return Ok(false);
+    }
+    if !names_next(world, by, edit) {
+        return Ok(false);
+    }
+    if installed.last().tables > edit.tables {
         return Ok(false);
     }
     let yes = keeps_edits(world, edit, installed.failed())?;
@@ -235,6 +299,9 @@ pub(crate) fn may_halt(
         return Ok(false);
     }
     if world.installed.is_halted() {
+        return Ok(false);
+    }
+    if !has_segment(world, by, edit) {
         return Ok(false);
     }
     let yes = keeps_failed(world, edit)?;

@@ -50,7 +50,7 @@ fn tables(world: &World, by: usize, kind: &TablesStep) -> bool
 {
     match kind {
         TablesStep::FindEdit => world.holders.holds(Turn::Tables, by),
-        TablesStep::Install(_, _) | TablesStep::Halt(_) => false,
+        TablesStep::Install(_, _) | TablesStep::Renew(_) | TablesStep::Halt(_) => false,
     }
 }
 

@@ -64,7 +64,7 @@ prepare_met =
     ▹ (refl, (refl, tt))
     ▹ (refl, (at_inserted (finite.insert finite.empty t claimed) t locked t refl, refl))
     ▹ (refl, (refl, refl))
-    ▹ (refl, (refl, refl, tt, prepared_legal))
+    ▹ (refl, (refl, refl, tt, prepared_legal, inl refl))
     ▹ (refl, (refl, refl))
     ▹ (refl, (refl, refl, (t, batch, [], refl)))
     ▹ (refl, (refl, λ _. refl))
@@ -86,7 +86,7 @@ prepare_met =
         pair = λ pair e. absurd (some_none pair (sym e));
       },
     )
-    ▹ (refl, (refl, refl))
+    ▹ (refl, (refl, (refl, inl refl)))
     ▹ tt
 
 -- ---- it is committed, or rolled back, and let go
@@ -100,7 +100,7 @@ put_k = only_key (Put k (codes "v"))
 pub commit_met : (m : Snapshots) (registered : List Registration) → AreMet commit (with_snapshots prepared_world m 0 registered)
 commit_met m registered =
     (refl, (refl, refl))
-    ▹ (refl, (refl, refl, tt, committed_legal))
+    ▹ (refl, (refl, refl, tt, committed_legal, inl refl))
     ▹ (refl, (refl, some_entry (Commit 1) [], refl, refl))
     ▹ (refl, (refl, refl, refl, λ gone e. absurd (some_none gone (sym e))))
     ▹ (
@@ -117,7 +117,7 @@ commit_met m registered =
         pair = λ pair e. inl (subst (λ (x : CommitPair). cached (0 ∷ word_of 2 first_pair ∷ []) x.number ≡ Some x.decision) (same_some first_pair pair e) refl);
       },
     )
-    ▹ (refl, (refl, refl))
+    ▹ (refl, (refl, (refl, inl refl)))
     ▹ (refl, (refl, refl))
     ▹ (refl, (refl, (2, refl, inl refl)))
     ▹ (refl, (refl, λ _. refl))
@@ -134,7 +134,7 @@ free_met =
 pub undo_met : AreMet undo prepared_world
 undo_met =
     (refl, (refl, refl))
-    ▹ (refl, (refl, refl, refl, closed_legal))
+    ▹ (refl, (refl, refl, refl, closed_legal, inl refl))
     ▹ (refl, (refl, refl))
     ▹ (refl, (refl, refl, added 2 (Undo 1 prior) memory none_at_2))
     ▹ (refl, (refl, tt))
@@ -169,7 +169,7 @@ undo_met =
         pair = λ pair e. inl (subst (λ (x : CommitPair). cached (word_of 2 undo_pair ∷ word_of 2 close_pair ∷ []) x.number ≡ Some x.decision) (same_some close_pair pair e) refl);
       },
     )
-    ▹ (refl, (refl, refl))
+    ▹ (refl, (refl, (refl, inl refl)))
     ▹ (refl, (refl, refl))
     ▹ (refl, (refl, (3, refl, inl refl)))
     ▹ (refl, (refl, λ _. refl))
@@ -192,7 +192,7 @@ delay_met =
     ▹ (refl, (refl, λ e. absurd (one_not_zero e)))
     ▹ (refl, (refl, refl, omega arith, omega arith, inl one_not_zero))
     ▹ (refl, (refl, λ none. absurd (true≢false (sym delayed_1 ∙ none.0 1))))
-    ▹ (refl, (refl, refl))
+    ▹ (refl, (refl, (refl, inl refl)))
     ▹ tt
 
 -- ---- its pair is evicted
@@ -207,7 +207,7 @@ write_met m flag registered =
     ▹ (refl, (refl, refl, d_free))
     ▹ (refl, (refl, tt))
     ▹ (refl, (refl, refl))
-    ▹ (refl, (refl, refl, tt, written_legal))
+    ▹ (refl, (refl, refl, tt, written_legal, inl refl))
     ▹ (refl, (refl, refl))
     ▹ (refl, (refl, refl, omega arith, omega arith, inr (λ p there. absurd (true≢false (sym there ∙ none_in_heap p)))))
     ▹ (refl, (refl, λ _. refl))
@@ -242,7 +242,7 @@ overwrite_met m flag registered kept =
         pair = λ pair e. inl (subst (λ (x : CommitPair). cached (0 ∷ word_of 2 last_pair ∷ []) x.number ≡ Some x.decision) (same_some last_pair pair e) refl);
       },
     )
-    ▹ (refl, (refl, refl))
+    ▹ (refl, (refl, (refl, inl refl)))
     ▹ tt
 
 -- ---- memory is flushed
@@ -296,7 +296,7 @@ versions_moved = record {
 pub flush_met : AreMet flush (after commit prepared_world)
 flush_met =
     (refl, (refl, refl))
-    ▹ (refl, (refl, refl, edit_installed, (λ _. refl), (λ e. absurd (true≢false (sym e))), omega arith))
+    ▹ (refl, (refl, refl, edit_installed, (λ _. refl), (λ e. absurd (true≢false (sym e))), omega arith, refl))
     ▹ (refl, (refl, refl))
     ▹ (refl, (refl, refl, ((λ key p. refl), (λ key. sym (none_at_3 key))), versions_moved))
     ▹ (refl, (refl, tt))

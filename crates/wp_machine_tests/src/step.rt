@@ -5,10 +5,10 @@ use crate::trouble::{Tried, Trouble, number};
 use std::alloc::Global;
 use wp_judge::Load;
 use wp_machine::{
-    ActorsStep, Fact, Kind, Noted, OwnStep, PreparedStep, ReaderStep, SnapshotsStep, Step,
-    StoreStep, Turn, TurnStep, WordStep, WriteStep,
+    ActorsStep, Fact, InstalledEdit, Kind, Noted, OwnStep, PreparedStep, ReaderStep, SnapshotsStep,
+    Step, StoreStep, TablesStep, Turn, TurnStep, WordStep, WriteStep,
 };
-use wp_model::Seq;
+use wp_model::{Segment, Seq};
 
 const TURNS: [(&str, Turn); 6] = [
     ("write", Turn::Write),
@@ -133,16 +133,37 @@ fn step_of_numbers(kind: &str, verb: &str, numbers: Numbers) -> Tried<Kind> {
     }
 }
 
-/// Reads `log`, `drop` or `pend ENTRY`.
+/// Reads `log`, `drop`, `close`, `segment PLACE`, `use`, `stop` or `pend ENTRY`.
 fn write_step(alloc: Global, verb: &str, rest: &str) -> Tried<Kind> {
     Ok(Kind::Write(match verb {
         "log" => WriteStep::LogPending,
         "drop" => WriteStep::DropPending,
+        "close" => WriteStep::CloseLog,
+        "segment" => WriteStep::WriteSegment(number(rest)?),
+        "use" => WriteStep::UseSegment,
+        "stop" => WriteStep::StopLog,
         "pend" => {
             let mut entries = Vec::with_capacity(alloc, 1)?;
             entries.push(entry_of(alloc, rest)?)?;
             WriteStep::MakePending(entries)
         }
+        _ => return Err(Trouble::Unclear),
+    }))
+}
+
+/// Reads `renew PLACE`, of an edit of the empty history, or `halt`.
+fn tables_step(alloc: Global, verb: &str, rest: &str) -> Tried<Kind> {
+    Ok(Kind::Tables(match verb {
+        "renew" => {
+            let place = number(rest)?;
+            TablesStep::Renew(InstalledEdit {
+                segment: Segment { place, base: 0 },
+                flushed: 0,
+                versions: Vec::new(alloc),
+                tables: 0,
+            })
+        }
+        "halt" => TablesStep::Halt(None),
         _ => return Err(Trouble::Unclear),
     }))
 }
@@ -170,6 +191,7 @@ pub(crate) fn kind_of(alloc: Global, line: &str) -> Tried<Kind> {
         "load" => Ok(Kind::Reader(ReaderStep::Load(load_of(words)?))),
         "locks" => locks_step(alloc, words),
         "write" => write_step(alloc, verb, rest),
+        "tables" => tables_step(alloc, verb, rest),
         "own" => own_step(alloc, verb, rest),
         _ => step_of_numbers(kind, verb, numbers(rest)),
     }

@@ -32,7 +32,7 @@ module _ {D : Type 0} (z : SharedState D) (s u : SeatState) (t : Installed) wher
 
   pub knows_still : Remembers z s t u → (e : Installed) (edit : InstalledEdit) (compacts : Bool) → KnowsInstalled s.knows e edit compacts → KnowsInstalled u.knows e edit compacts
   knows_still k e edit compacts known = subst (λ (x : SeatState). KnowsInstalled x.knows e edit compacts) (sym k.is)
-      (record { running = known.running; covered = known.covered; rises = known.rises; one_more = known.one_more; keeps = known.keeps })
+      (record { running = known.running; covered = known.covered; rises = known.rises; one_more = known.one_more; keeps = known.keeps; segment = known.segment })
 
 -- and remembers one event more
 pub then_changes : {D : Type 0} (z : SharedState D) (s u v : SeatState) (t : Installed) (k : Remembers z s t u) (left : Installed) (event : Event) (test : Fact → Bool)

@@ -3,7 +3,6 @@ use Rattle.std.proofs.Common.{◌≡◌, ◌⊎◌, inl, inr, ℕ, suc, ◌<◌,
 use Rattle.std.proofs.lemmas.Bool.{cases_lt, le-leb}
 use Rattle.std.specs.Prelude.{IfSome}
 use Rattle.std.specs.Option.{option_or}
-use Rattle.wp_model.specs.declared.entry.Entry.{Entry}
 use Rattle.wp_model.specs.declared.version.Version.{Version}
 use Rattle.wp_model.specs.Flushed.{InstalledEdit, IsEditCovered}
 use Rattle.wp_model.specs.Versions.{version_at}
@@ -48,15 +47,13 @@ knows_flush a t f k running = record {
   rises = let l = k.later in omega (arith, l);
   one_more = λ _. omega arith;
   keeps = λ compacts. absurd cc;
+  segment = refl;
 }
 
-pub asked_covered : (seen : List Entry) (edit : InstalledEdit) (failed : Option InstalledEdit) → IsEditCovered seen edit → (failed ≡ None) ⊎ (failed ≡ Some edit) → IfSome failed (IsEditCovered seen)
-asked_covered seen edit failed covered (inl none) = subst (λ (o : Option InstalledEdit). IfSome o (IsEditCovered seen)) (sym none) tt
-asked_covered seen edit failed covered (inr some) = subst (λ (o : Option InstalledEdit). IfSome o (IsEditCovered seen)) (sym some) covered
-
-pub asked_is : (edit next : InstalledEdit) (failed : Option InstalledEdit) → edit ≡ next → (failed ≡ None) ⊎ (failed ≡ Some edit) → IfSome failed (λ e. e ≡ next)
-asked_is edit next failed is (inl none) = subst (λ (o : Option InstalledEdit). IfSome o (λ e. e ≡ next)) (sym none) tt
-asked_is edit next failed is (inr some) = subst (λ (o : Option InstalledEdit). IfSome o (λ e. e ≡ next)) (sym some) is
+-- what is so of the edit that was asked for is so of the one whose install failed, if one did
+pub asked_of : (so : InstalledEdit → Type 0) (edit : InstalledEdit) (failed : Option InstalledEdit) → so edit → (failed ≡ None) ⊎ (failed ≡ Some edit) → IfSome failed so
+asked_of so edit failed is (inl none) = subst (λ (o : Option InstalledEdit). IfSome o so) (sym none) tt
+asked_of so edit failed is (inr some) = subst (λ (o : Option InstalledEdit). IfSome o so) (sym some) is
 
 pub still_holds : {D : Type 0} (z : SharedState D) (s u : SeatState) (e left : EditsState) (p : Participant) (test : Fact → Bool) → HoldsEdits z s e → GoesOn test (installed left.table ∷ []) s.turns (being p s) u → left.first ≡ e.first → HoldsEdits z u left
 still_holds z s u e left p test h k first = record {

@@ -159,9 +159,9 @@ module _ (p : Place) (so : World → Type 0) (s u : SeatState) (same : (u.table 
   pub still_gone : Noted u.knows nothing_flushed
   still_gone = noted_by p so s u same (compacting e.last) m nothing_flushed (inl refl)
 
-pub may_halt : (p : Place) (a : Actor) (t : Installed) (edit : Option InstalledEdit) → a.held ≡ installed t ∷ [] → t.halted ≡ false → IfSome edit (IsEditCovered a.participant.seen) → MayMake p a (λ w. halt edit ∷ [])
-may_halt p a t None held running covered = known_made p a (halt None) tt (record { table = t; held = first_held a (installed t) [] held; so_is = running })
-may_halt p a t (Some edit) held running covered = known_made p a (halt (Some edit)) tt (record { table = t; held = first_held a (installed t) [] held; so_is = (running, covered) })
+pub may_halt : (p : Place) (a : Actor) (t : Installed) (edit : Option InstalledEdit) → a.held ≡ installed t ∷ [] → t.halted ≡ false → IfSome edit (IsEditCovered a.participant.seen) → IfSome edit (λ e. e.segment ≡ t.last.segment) → MayMake p a (λ w. halt edit ∷ [])
+may_halt p a t None held running covered same = known_made p a (halt None) tt (record { table = t; held = first_held a (installed t) [] held; so_is = running })
+may_halt p a t (Some edit) held running covered same = known_made p a (halt (Some edit)) tt (record { table = t; held = first_held a (installed t) [] held; so_is = (running, covered, inl same) })
 
 -- ---- versions move
 

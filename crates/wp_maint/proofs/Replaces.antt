@@ -117,7 +117,7 @@ module _ {D : Type 0} (z : SharedState D) (s : SeatState) (e : Installed) (floor
 -- ---- the edit
 
 pub knows_compact : (a : Actor) (t : Installed) (kept : List Version) → t.halted ≡ false → IsEditCovered a.participant.seen (in_one_table kept t.last) → KnowsInstalled a t (in_one_table kept t.last) true
-knows_compact a t kept running covered = record { running = running; covered = covered; rises = omega arith; one_more = λ flushes. absurd cc; keeps = λ compacts. refl }
+knows_compact a t kept running covered = record { running = running; covered = covered; rises = omega arith; one_more = λ flushes. absurd cc; keeps = λ compacts. refl; segment = refl }
 
 pub in_one_is : (history : List Entry) (live : List ℕ) (last : InstalledEdit) (kept : List Version) → kept ≡ retained history live last → in_one_table kept last ≡ after_compaction history live last
 in_one_is history live last kept is = ap (λ (l : List Version). in_one_table l last) is

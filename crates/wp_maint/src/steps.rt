@@ -50,6 +50,7 @@ fn remember_fault<D: Disk + Drop>(store: &Shared<D>, seat: &mut Seat<D>, edits: 
     requires seat { seat.old.table ≡ store.now.table }
     requires held { (t : Installed) × (seat.old.knows.held ≡ installed t ∷ []) × (edits.now.table ≡ with_failed t edits.now.table.failed) × (t.halted ≡ false) }
     requires covered { IfSome edits.now.table.failed (IsEditCovered seat.old.knows.participant.seen) }
+    requires segment { IfSome edits.now.table.failed (λ edit. edit.segment ≡ edits.now.table.last.segment) }
     ensures goes { GoesOn no_fact (installed edits.now.table ∷ []) seat.old.turns (being (remembering (tables_failed edits.now.table.last edits.now.table.failed ∷ []) seat.old.knows.participant) seat.old) seat.new }
     ensures stands { (w : World) × Stands store.now seat.new w }
 {
@@ -101,6 +102,7 @@ pub(crate) fn halt<D: Disk + Drop>(store: &Shared<D>, seat: &mut Seat<D>, edits:
     requires seat { seat.old.table ≡ store.now.table }
     requires held { (t : Installed) × (seat.old.knows.held ≡ installed t ∷ []) × (edits.now.table ≡ with_failed t edits.now.table.failed) × (t.halted ≡ false) }
     requires covered { IfSome edits.now.table.failed (IsEditCovered seat.old.knows.participant.seen) }
+    requires segment { IfSome edits.now.table.failed (λ edit. edit.segment ≡ edits.now.table.last.segment) }
     ensures changes { (t : Installed) → seat.old.knows.held ≡ installed t ∷ [] → Changes store.now seat.old t edits.now.table (tables_failed edits.now.table.last edits.now.table.failed) no_fact seat.new }
     ensures stands { (w : World) × Stands store.now seat.new w }
 {

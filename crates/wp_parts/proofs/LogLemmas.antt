@@ -1,9 +1,10 @@
 -- What is so of a log, call by call.
-use Rattle.std.proofs.Common.{◌≡◌, ◌≢◌, inl, inr, ℕ, ◌+◌, ◌≤◌, Bool, true, false, List, [], ◌∷◌, ◌++◌, length, Option, Some, IfSome, slice_index_or, refl, sym, ap, ◌∙◌, subst, append-nil, length-append, arith}
+use Rattle.std.proofs.Common.{◌≡◌, ◌≢◌, inl, inr, ℕ, ◌+◌, ◌≤◌, Bool, true, false, List, [], ◌∷◌, ◌++◌, length, Option, Some, None, IfSome, slice_index_or, refl, sym, ap, ◌∙◌, subst, append-nil, length-append, arith}
 use Rattle.std.proofs.lemmas.Bool.{cases_Bool}
 use Rattle.wp_model.specs.declared.entry.Entry.{Entry}
 use Rattle.wp_model.specs.declared.entry.Entry.TheVariants as entry
 use Rattle.wp_model.specs.History.{is_undecided}
+use Rattle.wp_model.specs.Flushed.{first_segment}
 use Rattle.wp_model.specs.Legal.{IsLegal, IsLegalNext}
 use Rattle.wp_model.proofs.Entries.{undecided_within}
 use Rattle.wp_history.proofs.Growth.{after_front, legal_before}
@@ -18,7 +19,8 @@ use Rattle.wp_wal.specs.Spelling.{MAGIC, IsLogOf}
 use Rattle.wp_gatelog.specs.declared.log.AppendError.TheVariants.{DiskFault}
 use Rattle.wp_wal.specs.Wal.{WalState, Reserved, LosesNothing, StoresHistory, IsReserved, Appended, Refuses, reserved_of}
 use Rattle.wp_core.specs.Entries.{IsOneRecord}
-use Rattle.wp_core.specs.Images.{LogTells}
+use Rattle.wp_core.specs.Images.{MaySpell, LogTells}
+use Rattle.wp_core.proofs.Tests.{none_some}
 use Rattle.wp_parts.specs.Log.{log_state, spelled, IsLog, IsKept}
 
 -- ---- devices
@@ -176,13 +178,16 @@ first_follows history (e ∷ others) entry some is legal = subst (λ (x : Entry)
 -- ---- what a crash leaves
 
 pub log_tells : (wal first : WalState) (history pending failed : List Entry) (logged : Bool) → IsLog (log_state wal first history pending logged failed)
-    → LogTells (images wal.moments) (λ image entries. IsLogOf wal.id entries image) (log_state wal first history pending logged failed).table
-log_tells wal first history pending failed logged log image at = elim (cases_Bool wal.closed) [
-  | inl closed ↦ elim (known_image _ wal.moments image at (log.stores.left closed)).0 [
-    | inl before ↦ (spelled logged history pending, before, inl refl)
-    | inr after ↦ (spelled logged history pending ++ failed, after, inr (closed, refl))
-  ]
-  | inr open_ ↦
-      let found = rest_spells MAGIC wal.id wal.end [] [] log.stores.records wal.moments (log.stores.rests open_) image at in
-      (spelled logged history pending, (log.stores.records, found, log.stores.spelled), inl refl)
-]
+    → LogTells (images wal.moments) (λ segment image entries. (segment ≡ first_segment) × IsLogOf wal.id entries image) (log_state wal first history pending logged failed).table
+log_tells wal first history pending failed logged log image at = (in_use, λ segment e. absurd (none_some None segment refl e))
+  where
+    in_use : (entries : List Entry) × ((first_segment ≡ first_segment) × IsLogOf wal.id entries image) × MaySpell (log_state wal first history pending logged failed).table entries
+    in_use = elim (cases_Bool wal.closed) [
+      | inl closed ↦ elim (known_image _ wal.moments image at (log.stores.left closed)).0 [
+        | inl before ↦ (spelled logged history pending, (refl, before), inl refl)
+        | inr after ↦ (spelled logged history pending ++ failed, (refl, after), inr (closed, refl))
+      ]
+      | inr open_ ↦
+          let found = rest_spells MAGIC wal.id wal.end [] [] log.stores.records wal.moments (log.stores.rests open_) image at in
+          (spelled logged history pending, (refl, (log.stores.records, found, log.stores.spelled)), inl refl)
+    ]

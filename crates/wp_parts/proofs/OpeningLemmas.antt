@@ -222,6 +222,8 @@ module _ (asked : ℕ) (log manifest tables : List Moment) (wal : WalState) (his
       log = refl;
       running_log = opened.running;
       none_failed = refl;
+      segment = refl;
+      none_next = refl;
       max_evicted = refl;
       words = rw length-replicate some_cells;
       cache = All-replicate (λ word. word ≡ 0) cells 0 refl;

@@ -1,6 +1,8 @@
 -- The value behind the write turn: the history with its pending record, and the log.
-use Rattle.std.specs.Prelude.{◌≡◌, ◌≢◌, ℕ, ◌+◌, ◌≤◌, Bool, true, false, List, [], ◌++◌, length}
+use Rattle.std.specs.Prelude.{◌≡◌, ◌≢◌, ℕ, ◌+◌, ◌≤◌, Bool, true, false, List, [], ◌++◌, length, None}
 use Rattle.wp_model.specs.declared.entry.Entry.{Entry}
+use Rattle.wp_model.specs.declared.segment.Segment.{Segment}
+use Rattle.wp_model.specs.Flushed.{first_segment}
 use Rattle.wp_model.specs.Legal.{IsLegal}
 use Rattle.wp_outside.specs.Faults.{Rose}
 use Rattle.wp_fields.specs.declared.format.Format.TheVariants.{One}
@@ -9,7 +11,8 @@ use Rattle.wp_wal.specs.Spelling.{IsLogOf}
 use Rattle.wp_wal.specs.Wal.{WalState, LosesNothing, StoresHistory, IsReserved}
 use Rattle.wp_core.specs.Tables.{WriteTable}
 
--- the table of the machine that it is, its log now, and its log as it was opened
+-- the table of the machine that it is, its log now, and its log as it was opened; the log is in the segment that begins the device, and no
+-- other one was written
 pub record LogState : Type 0 where
   pub table : WriteTable
   pub wal : WalState
@@ -22,14 +25,14 @@ spelled true history pending = history ++ pending
 
 abbrev pub log_state : WalState → WalState → List Entry → List Entry → Bool → List Entry → LogState
 log_state wal first history pending logged failed = record {
-  table = record { history = history; pending = pending; logged = logged; log = spelled logged history pending; closed = wal.closed; failed = failed };
+  table = record { history = history; pending = pending; logged = logged; log = spelled logged history pending; closed = wal.closed; failed = failed; segment = first_segment; next = None };
   wal = wal;
   first = first;
 }
 
--- the bytes are such a log of these entries
-abbrev pub spells : LogState → List ℕ → List Entry → Type 0
-spells s image entries = IsLogOf s.wal.id entries image
+-- the bytes have such a log of these entries in this segment
+abbrev pub spells : LogState → Segment → List ℕ → List Entry → Type 0
+spells s segment image entries = (segment ≡ first_segment) × IsLogOf s.wal.id entries image
 
 -- ---- what is so of it
 

@@ -29,9 +29,9 @@ content (part.Tables edits) = Some (installed edits.value.table)
 abbrev pub IsGuardedBy : {D : Type 0} → Turn → Part D → Type 0
 IsGuardedBy turn x = (c : Content) × (content x ≡ Some c) × (turn_of c ≡ turn)
 
--- what a crash leaves of its devices is as its table says
+-- what a crash leaves of its devices is as its table says; of the log no segment was written beside the one in use
 abbrev pub LogStands : LogState → Type 0
-LogStands log = LogTells (images log.wal.moments) (spells log) log.table
+LogStands log = LogTells (images log.wal.moments) (spells log) log.table × (log.table.next ≡ None)
 
 abbrev pub EditsStand : EditsState → Type 0
 EditsStand edits = ManifestTells (images edits.set.manifest.log.moments) (IsNamed edits) edits.table × TablesTell (images edits.set.moments) (HasTablesOf edits) edits.table

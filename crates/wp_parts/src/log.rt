@@ -1,5 +1,5 @@
 //! What the write turn guards: the history with its pending record, and the log.
-ghost use Rattle.std.specs.Prelude.{◌≡◌, ◌≢◌, ◌≤◌, ◌<◌, true, false, List, [], ◌∷◌, ◌++◌, length, IfErr, OnOk, OnErr};
+ghost use Rattle.std.specs.Prelude.{◌≡◌, ◌≢◌, ◌≤◌, ◌<◌, true, false, List, [], ◌∷◌, ◌++◌, length, None, IfErr, OnOk, OnErr};
 ghost use Rattle.wp_model.specs.declared.entry.Entry.{Entry};
 ghost use Rattle.wp_model.specs.Legal.{IsLegal, log_end};
 ghost use Rattle.wp_outside.specs.Disk.{images, Passes};
@@ -181,9 +181,10 @@ impl<D: Disk> Log<D> {
         mem::replace(&mut self.pending, Vec::new(self.alloc))
     }
 
-    /// For the proof alone: what a crash leaves of the device is as the table says.
+    /// For the proof alone: what a crash leaves of the device is as the table says, and no other segment was written.
     pub fn shows_told(&self)
         ensures tells { LogTells (images self.now.wal.moments) (spells self.now) self.now.table }
+        ensures next { self.now.table.next ≡ None }
         ensures log { IsLog self.now }
     {
         let _ = &self.wal;

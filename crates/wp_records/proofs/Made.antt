@@ -79,10 +79,10 @@ begin_ends history words entries pair_not_delayed e = absurd (true≢false e)
 begin_ends history words entries none_waits e = absurd (true≢false e)
 begin_ends history words entries other e = refl
 
-pub may_begin : (p : Place) (a : Actor) (t d : WriteTable) → a.held ≡ writes t ∷ [] → t.pending ≡ [] → d ≡ record t { pending = d.pending; logged = false } → IsOneRecord d.pending → IsLegal (d.history ++ d.pending)
+pub may_begin : (p : Place) (a : Actor) (t d : WriteTable) → a.held ≡ writes t ∷ [] → t.pending ≡ [] → d ≡ record t { pending = d.pending; logged = false } → IsOneRecord d.pending → IsLegal (d.history ++ d.pending) → d.next ≡ None
     → MayMake p a (λ w. make_pending d.pending ∷ note versions_nowhere ∷ note number_not_in_heap ∷ note pair_not_delayed ∷ [])
-may_begin p a t d held none is one legal =
-    begins_entries p a d.pending (record { table = t; held = first_held a (writes t) [] held; so_is = (none, one, subst (λ (h : List Entry). IsLegal (h ++ d.pending)) (ap (λ (x : WriteTable). x.history) is) legal) })
+may_begin p a t d held none is one legal alone =
+    begins_entries p a d.pending (record { table = t; held = first_held a (writes t) [] held; so_is = (none, one, subst (λ (h : List Entry). IsLegal (h ++ d.pending)) (ap (λ (x : WriteTable). x.history) is) legal, inl (sym (ap (λ (x : WriteTable). x.next) is) ∙ alone)) })
 
 pub began : (p : Place) (so : World → Type 0) (s u : SeatState) → (u.table ≡ s.table) × (u.by ≡ s.by) × (u.turns ≡ s.turns) → (t d : WriteTable) → s.knows.held ≡ writes t ∷ [] → d ≡ record t { pending = d.pending; logged = false }
     → Moved p (λ w. make_pending d.pending ∷ note versions_nowhere ∷ note number_not_in_heap ∷ note pair_not_delayed ∷ []) so s.knows u.knows
@@ -135,7 +135,7 @@ pub may_log : (p : Place) (a : Actor) (t : WriteTable) → a.held ≡ writes t �
 may_log p a t held k = known_made p a log_pending tt (record { table = t; held = first_held a (writes t) [] held; so_is = (k.some, k.unlogged, k.running) })
 
 pub may_close : (p : Place) (a : Actor) (t : WriteTable) → a.held ≡ writes t ∷ [] → IsUnlogged t → MayMake p a (λ w. close_log ∷ [])
-may_close p a t held k = known_made p a close_log tt (record { table = t; held = first_held a (writes t) [] held; so_is = (k.some, k.unlogged, k.running) })
+may_close p a t held k = known_made p a close_log tt (record { table = t; held = first_held a (writes t) [] held; so_is = (k.running, inl (k.some, k.unlogged)) })
 
 pub logged : (p : Place) (so : World → Type 0) (s u : SeatState) → (u.table ≡ s.table) × (u.by ≡ s.by) × (u.turns ≡ s.turns) → (t d : WriteTable) → s.knows.held ≡ writes t ∷ [] → d ≡ record t { logged = true; log = t.log ++ t.pending } → Moved p (λ w. log_pending ∷ []) so s.knows u.knows
     → u ≡ holding d s

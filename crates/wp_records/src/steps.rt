@@ -35,6 +35,7 @@ pub(crate) fn begin<D: Disk + Drop>(store: &Shared<D>, seat: &mut Seat<D>, log: 
     ensures below { Noted seat.new.knows number_not_in_heap }
     ensures undelayed { Noted seat.new.knows pair_not_delayed }
 {
+    log.shows_told();
     store.make_about::<Brand, Log<D>>(seat, log);
 }
 

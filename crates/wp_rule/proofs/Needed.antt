@@ -26,12 +26,12 @@ use Rattle.wp_core.specs.Tables.{Content, WriteTable, StoreTable, Installed, wri
 use Rattle.wp_core.specs.Views.{Fact, passed, in_old_commits, apart, words_stay, has_left, versions_in_memory, versions_nowhere, number_in_heap, number_not_in_heap, undecided_at, prior_values, unprepared, direct_free, tables_stay, live_listed, nothing_flushed, frozen_stay, delayed_flag_stays, old_flag_stays, pair_delayed, pair_not_delayed, none_waits}
 use Rattle.wp_core.specs.World.{Transaction, Actor, World}
 use Rattle.wp_core.specs.Entries.{next_of, batch_of_name, extended, pending_pair, pair_by, pairs_of, IsOneRecord}
-use Rattle.wp_core.specs.Conditions.{IsHeldFor, MayPublish, MayLook, MayBeEvicted, MayGive}
+use Rattle.wp_core.specs.Conditions.{IsHeldFor, MayPublish, MayLook, MayBeEvicted, NoneNext, MayGive, NamesSegment, NamesNext}
 use Rattle.wp_core.specs.Reading.{Registration}
 use Rattle.wp_core.specs.Sound.Locks.{IsOwner, owner_of}
 use Rattle.wp_core.specs.Sound.Prepared.{IsInOldCommits, IsPassed, IsWide, IsEntered}
 use Rattle.wp_core.specs.Sound.Snapshots.{has_versions, has_versions_at, view_of}
-use Rattle.wp_core.specs.Steps.{Step, load_published, register, begin_reading, load, end_reading, make_pending, log_pending, close_log, find_log_closed, drop_pending, add_prepared, take_pending_prepared, add_delayed_commit, delay_pending, take_out, register_again, release, add_old_commit, add_versions, take_versions, move_versions, replace_versions, install, halt, find_edit, claim_name, take_name, leave_name, free_transaction, lock_key, free_key, lock_direct, free_direct, find_holder, tell, hear, set_batch, note, set_client, store_published, store_max_evicted, store_word, store_delayed_flag, store_old_flag, take_turn, give_turn, make_note, make_seat, learn, join_seat}
+use Rattle.wp_core.specs.Steps.{Step, load_published, register, begin_reading, load, end_reading, make_pending, log_pending, close_log, find_log_closed, drop_pending, write_segment, use_segment, stop_log, add_prepared, take_pending_prepared, add_delayed_commit, delay_pending, take_out, register_again, release, add_old_commit, add_versions, take_versions, move_versions, replace_versions, install, renew, halt, find_edit, claim_name, take_name, leave_name, free_transaction, lock_key, free_key, lock_direct, free_direct, find_holder, tell, hear, set_batch, note, set_client, store_published, store_max_evicted, store_word, store_delayed_flag, store_old_flag, take_turn, give_turn, make_note, make_seat, learn, join_seat}
 use Rattle.wp_core.specs.Needs.{Needs}
 use Rattle.wp_core.specs.Sound.Views.{IsGuarded, IsClearing, IsApart, IsInMemory, IsNowhere, IsSo}
 use Rattle.wp_core.specs.Sound.History.{IsRest}
@@ -45,7 +45,7 @@ use Rattle.wp_core.proofs.HistoryLaws.{decision_stays}
 use Rattle.wp_core.proofs.KeepsSeen.{shorter}
 use Rattle.wp_core.proofs.Tests.{none_some, same_some}
 use Rattle.wp_rule.specs.Words.{Place, IsAt}
-use Rattle.wp_rule.specs.Knows.{Holding, Noted, IsUp, KnowsLook, KnowsCleared, KnowsTables, KnowsGive, KnowsPair, IsRise, HasNoVersions, KnowsFact, KnowsHeld, KnowsPublish, Knows, IsRiseForWord, IsRiseForWide, KnowsEntered}
+use Rattle.wp_rule.specs.Knows.{Holding, Noted, IsUp, KnowsLook, KnowsCleared, KnowsTables, KnowsGive, KnowsPair, IsRise, HasNoVersions, KnowsFact, KnowsHeld, KnowsPublish, NextNamed, Knows, IsRiseForWord, IsRiseForWide, KnowsEntered}
 use Rattle.wp_rule.proofs.Bound.{past_reaches, past_published}
 use Rattle.wp_rule.proofs.Knows.{at_sound, held_is, seen_is, noted_is}
 use Rattle.wp_rule.proofs.Maintenance.{edit_later, moved, next_stays, replaced, installed_now, halted_now, halted_only}
@@ -181,7 +181,7 @@ module _ (p : Place) (a : Actor) (w : World) (k : IsAt p a w) where
       n
 
   gives : (turn : Turn) → KnowsGive a turn → Holds w.holders turn p.by × MayGive w turn
-  gives write_turn n = has_writes (λ d. d.pending ≡ []) n
+  gives write_turn n = has_writes (λ d. (d.pending ≡ []) × NoneNext d) n
   gives prepared_turn n = let h = has_prepared _ n in (h.0, λ none. is_so (delayed_flag_stays 0) (h.1 none))
   gives snapshots_turn n = let h = has_snapshots _ n in (h.0, λ none. is_so (old_flag_stays 0) (h.1 none))
   gives store_turn n = has_store (λ t. Unit {0}) n
@@ -363,6 +363,9 @@ module _ (p : Place) (a : Actor) (w : World) (k : IsAt p a w) where
       (λ (x : IsWide (length w.cache) w.prepared.delayed_commits w.max_evicted (record { number = q; decision = c })). absurd (true≢false (sym narrow ∙ (ap (λ (n : ℕ). fits n (record { number = q; decision = c })) (sym k.cells) ∙ x.wide)))) e)
       (λ (x : IsPassed w.max_evicted w.snapshots q c). inr x) (sound.decided.found q c decided)
 
+  segment_named : (edit : InstalledEdit) → (edit.segment ≡ w.installed.last.segment) ⊎ Holding a writes (λ d. NextNamed d edit) → NamesSegment w edit ⊎ NamesNext w p.by edit
+  segment_named edit n = ⊎_elim (λ (same : edit.segment ≡ w.installed.last.segment). inl same) (λ (next : Holding a writes (λ d. NextNamed d edit)). let h = has_writes _ next in inr (h.0, h.1.0, h.1.1, h.1.2)) n
+
   pub needed : (step : Step) → Knows p a step → Needs w p.by a step
   needed load_published n = tt
   needed (register least) n =
@@ -376,13 +379,18 @@ module _ (p : Place) (a : Actor) (w : World) (k : IsAt p a w) where
   needed (store_delayed_flag value) n = has_prepared _ n
   needed (store_old_flag value) n = has_snapshots _ n
   needed (give_turn turn) n = gives turn n
-  needed (make_pending entries) n = let h = has_writes _ n in (h.0, h.1.0, h.1.1, h.1.2)
+  needed (make_pending entries) n = let h = has_writes _ n in (h.0, h.1.0, h.1.1, h.1.2, h.1.3)
   needed log_pending n = let h = has_writes _ n in (h.0, h.1.0, h.1.1, h.1.2)
-  needed close_log n = let h = has_writes _ n in (h.0, h.1.0, h.1.1, h.1.2)
+  needed close_log n =
+      let h = has_writes _ n in
+      (h.0, h.1.0, ⊎_elim (λ (some : (w.writes.pending ≢ []) × (w.writes.logged ≡ false)). inl some) (λ (none : (w.writes.pending ≡ []) × (w.writes.next ≡ None)). inr (none.0, λ next. none_some w.writes.next w.installed.last.segment none.1 next)) h.1.1)
   needed find_log_closed n = has_writes _ n
   needed drop_pending n =
       let h = has_writes _ n in let c = h.1.1 in let s = is_so (words_stay c.0 c.1) c.2 in
       (h.0, h.1.0, (λ pair is e. c.3 pair is (ap (λ (words : List ℕ). cached words pair.number) (sym s.1) ∙ e)), is_so pair_not_delayed h.1.2, is_so versions_nowhere h.1.3, is_so number_not_in_heap h.1.4)
+  needed (write_segment place) n = let h = has_writes _ n in (h.0, h.1.0, h.1.1, h.1.2, h.1.3)
+  needed use_segment n = let h = has_writes _ n in let g = has_installed _ h.1.1 in (h.0, h.1.0, g.1)
+  needed stop_log n = let h = has_writes _ n in let g = has_installed _ h.1 in (h.0, g.0, g.1.0, g.1.1, g.1.2, g.1.3)
   needed add_prepared n = let h = has_writes _ n in let g = has_prepared _ h.1 in (h.0, g.0, g.1)
   needed take_pending_prepared n = let h = has_writes _ n in let g = has_prepared _ h.1 in (h.0, g.0, g.1)
   needed (add_delayed_commit pair) n = let h = has_prepared _ n in (h.0, delayed_up h.1.0, decided_now pair.number pair.decision h.1.1)
@@ -420,9 +428,13 @@ module _ (p : Place) (a : Actor) (w : World) (k : IsAt p a w) where
       (h.0, g.0, r.rises, replaced w.writes.history w.writes.pending w.snapshots w.store w.installed sound.versions a tables floor r sound.history.legal (seen_is p a w k) (is_so (live_listed floor r.listed) r.live).1 live_within)
   needed (install edit compacts) n =
       let h = has_installed _ n in let m = h.1 in
-      (h.0, m.running, installed_now w.writes.history w.writes.pending w.snapshots w.store w.installed sound.versions edit (covers edit m.covered) m.rises, m.one_more, m.keeps, m.rises)
-  needed (halt None) n = let h = has_installed _ n in (h.0, h.1, halted_only w.writes.history w.writes.pending w.snapshots w.store w.installed sound.versions)
-  needed (halt (Some edit)) n = let h = has_installed _ n in (h.0, h.1.0, halted_now w.writes.history w.writes.pending w.snapshots w.store w.installed sound.versions edit (covers edit h.1.1))
+      (h.0, m.running, installed_now w.writes.history w.writes.pending w.snapshots w.store w.installed sound.versions edit (covers edit m.covered) m.rises, m.one_more, m.keeps, m.rises, m.segment)
+  needed (renew edit) n =
+      let h = has_writes _ n in let g = has_installed _ h.1 in let m = g.1 in
+      let rises : w.installed.last.flushed ≤ edit.flushed = let low = sound.versions.last.flushed in let whole = m.next.2 in omega (arith, low, whole) in
+      (g.0, m.running, installed_now w.writes.history w.writes.pending w.snapshots w.store w.installed sound.versions edit (covers edit m.covered) rises, (h.0, m.next.0, m.next.1, m.next.2), m.tables)
+  needed (halt None) n = let h = has_installed _ n in (h.0, h.1, halted_only w.writes.history w.writes.pending w.snapshots w.store w.installed sound.versions, λ edit q. absurd (none_some None edit refl q))
+  needed (halt (Some edit)) n = let h = has_installed _ n in (h.0, h.1.0, halted_now w.writes.history w.writes.pending w.snapshots w.store w.installed sound.versions edit (covers edit h.1.1), λ failed q. subst (λ (x : InstalledEdit). NamesSegment w x ⊎ NamesNext w p.by x) (same_some edit failed q) (segment_named edit h.1.2))
   needed (store_published entry others) n = let h = has_writes _ n in publishes entry others h.0 h.1
   needed (take_turn turn) n = absurd n
   needed make_note n = absurd n

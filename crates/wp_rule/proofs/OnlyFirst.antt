@@ -14,7 +14,7 @@ use Rattle.wp_core.specs.World.{Actor, Participant, World, new_participant}
 use Rattle.wp_core.specs.World as world
 use Rattle.wp_core.specs.Sound.Actors.{seen_of, own_of, learned_of, held_of, role_of, participants_of, IsParticipantAt, total_participants, times}
 use Rattle.wp_core.specs.Sound.Locks.{Owner, owner_of, IsNameOf, IsDirectOf, AreLocked}
-use Rattle.wp_core.specs.Sound.Pasts.{past_of, HasDone, IsPast, is_log_fault, is_tables_fault, HasBegun, MadeHolder, IsAccounted, WasLocked, WasInstalled, OtherDid, OtherInstalls, OtherCompacts, AreHolders, IsBoard, AreFaults, AreEdits}
+use Rattle.wp_core.specs.Sound.Pasts.{past_of, HasDone, IsPast, closes_log, is_tables_fault, HasBegun, MadeHolder, IsAccounted, WasLocked, WasInstalled, OtherDid, OtherInstalls, OtherCompacts, AreHolders, IsBoard, AreFaults, AreEdits}
 use Rattle.wp_core.specs.Sound.Reader.{reader_of}
 use Rattle.wp_core.specs.Sound.Snapshots.{registered_of, view_of}
 use Rattle.wp_core.specs.Sound.Views.{noter_of}
@@ -155,18 +155,19 @@ module _ (w : World) (a : Actor) (others : List Actor) (is : w.actors ≡ a ∷ 
 
   faults_down : AreFaults w.writes w.installed.halted (participants past_of v)
   faults_down = let k = s.faults in record {
-    log = total_down (total (λ (e : Event). one_if (is_log_fault e))) past_of (λ client seen. refl) ∙ k.log;
+    log = total_down (total (λ (e : Event). one_if (closes_log e))) past_of (λ client seen. refl) ∙ k.log;
     tables = total_down (total (λ (e : Event). one_if (is_tables_fault e))) past_of (λ client seen. refl) ∙ k.tables;
     not_logged = k.not_logged;
     stopped = λ n q. k.stopped n (past_up _ q);
     failed = λ entries q. k.failed entries (past_up _ q);
+    behind = λ q. k.behind (past_up _ q);
   }
 
   installed_down : (n : ℕ) → WasInstalled w.first_edit (participants past_of w) n → WasInstalled w.first_edit (participants past_of v) n
-  installed_down n k = ⊎_elim (λ e. inl e) (λ q. inr (q.0, q.1, past_down _ q.2)) k
+  installed_down n k = ⊎_elim (λ e. inl e) (λ q. inr (q.0, q.1, past_down q.0 q.2)) k
 
   installed_up : (n : ℕ) → WasInstalled w.first_edit (participants past_of v) n → WasInstalled w.first_edit (participants past_of w) n
-  installed_up n k = ⊎_elim (λ e. inl e) (λ q. inr (q.0, q.1, past_up _ q.2)) k
+  installed_up n k = ⊎_elim (λ e. inl e) (λ q. inr (q.0, q.1, past_up q.0 q.2)) k
 
   other_down : (j i : ℕ) (e : Event) → OtherDid (participants past_of w) j i e → OtherDid (participants past_of v) j i e
   other_down j i e o = (o.0, o.1, o.2, done_down o.0 o.1 e o.3)
@@ -206,6 +207,7 @@ module _ (w : World) (a : Actor) (others : List Actor) (is : w.actors ≡ a ∷ 
     flags = s.flags;
     versions = s.versions;
     settled = s.settled;
+    coupled = s.coupled;
     locks = locks_down;
     holders = holders_down;
     board = board_down;

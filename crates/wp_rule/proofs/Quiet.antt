@@ -9,7 +9,7 @@ use Rattle.wp_core.specs.Turns.{Turn, write_turn, prepared_turn, snapshots_turn,
 use Rattle.wp_core.specs.Tables.{Content, writes, prepared, snapshots, store, locks, installed, turn_of}
 use Rattle.wp_core.specs.World.{Actor, World, content_of, with_content}
 use Rattle.wp_core.specs.Changes.{with_actor, turn_index, loaded}
-use Rattle.wp_core.specs.Steps.{Step, load_published, register, begin_reading, load, end_reading, make_pending, log_pending, close_log, find_log_closed, drop_pending, add_prepared, take_pending_prepared, add_delayed_commit, delay_pending, take_out, register_again, release, add_old_commit, add_versions, take_versions, move_versions, replace_versions, install, halt, find_edit, claim_name, take_name, leave_name, free_transaction, lock_key, free_key, lock_direct, free_direct, find_holder, tell, hear, set_batch, note, set_client, store_published, store_max_evicted, store_word, store_delayed_flag, store_old_flag, take_turn, give_turn, make_note, make_seat, learn, join_seat}
+use Rattle.wp_core.specs.Steps.{Step, load_published, register, begin_reading, load, end_reading, make_pending, log_pending, close_log, find_log_closed, drop_pending, write_segment, use_segment, stop_log, add_prepared, take_pending_prepared, add_delayed_commit, delay_pending, take_out, register_again, release, add_old_commit, add_versions, take_versions, move_versions, replace_versions, install, renew, halt, find_edit, claim_name, take_name, leave_name, free_transaction, lock_key, free_key, lock_direct, free_direct, find_holder, tell, hear, set_batch, note, set_client, store_published, store_max_evicted, store_word, store_delayed_flag, store_old_flag, take_turn, give_turn, make_note, make_seat, learn, join_seat}
 use Rattle.wp_core.specs.Needs.{Needs}
 use Rattle.wp_core.specs.Notes.{forgets}
 use Rattle.wp_core.specs.Runs.{Reaches, goes_on}
@@ -75,6 +75,9 @@ quiet_step w by a log_pending quiet needs = changed w by _ (writes _) needs.0 re
 quiet_step w by a close_log quiet needs = changed w by _ (writes _) needs.0 refl
 quiet_step w by a find_log_closed quiet needs = alone w by _
 quiet_step w by a drop_pending quiet needs = changed w by _ (writes _) needs.0 refl
+quiet_step w by a (write_segment place) quiet needs = changed w by _ (writes _) needs.0 refl
+quiet_step w by a use_segment quiet needs = changed w by _ (writes _) needs.0 refl
+quiet_step w by a stop_log quiet needs = changed w by _ (writes _) needs.0 refl
 quiet_step w by a add_prepared quiet needs = changed w by _ (prepared _) needs.1 refl
 quiet_step w by a take_pending_prepared quiet needs = changed w by _ (prepared _) needs.1 refl
 quiet_step w by a (add_delayed_commit pair) quiet needs = changed w by _ (prepared _) needs.0 refl
@@ -88,6 +91,7 @@ quiet_step w by a (take_versions memory) quiet needs = changed w by _ (store _) 
 quiet_step w by a (move_versions memory tables) quiet needs = changed w by _ (store _) needs.0 refl
 quiet_step w by a (replace_versions tables floor) quiet needs = changed w by _ (store _) needs.0 refl
 quiet_step w by a (install edit compacts) quiet needs = changed w by _ (installed _) needs.0 refl
+quiet_step w by a (renew edit) quiet needs = changed w by _ (installed _) needs.0 refl
 quiet_step w by a (halt edit) quiet needs = changed w by _ (installed _) needs.0 refl
 quiet_step w by a find_edit quiet needs = alone w by _
 quiet_step w by a (claim_name name) quiet needs = changed w by _ (locks _) needs.0 refl

@@ -1,16 +1,18 @@
 -- What a seat leaves that takes a turn and notes what the turn guards.
-use Rattle.std.proofs.Common.{◌≡◌, inl, inr, ℕ, true, List, [], ◌∷◌, map, reverse, length, set, refl, subst, ap, ◌∙◌, Some, None}
+use Rattle.std.proofs.Common.{◌≡◌, inl, inr, ℕ, Bool, true, false, List, [], ◌∷◌, map, reverse, length, set, refl, subst, ap, ◌∙◌, Option, Some, None}
 use mathlib.Core.Option.{some}
 use lib.ListN.{get_elem?}
 use Rattle.wp_core.specs.Turns.{Turn, write_turn, prepared_turn, snapshots_turn, store_turn, locks_turn, tables_turn, turn_holder, with_holder, Holds}
-use Rattle.wp_core.specs.Tables.{Content, turn_of}
+use Rattle.wp_core.specs.Tables.{Content, WriteTable, Installed, turn_of}
+use Rattle.wp_model.specs.declared.segment.Segment.{Segment}
 use Rattle.wp_model.specs.declared.version.Version.{Version}
 use Rattle.wp_core.specs.Views.{Fact, tables_stay, nothing_flushed, delayed_flag_stays, old_flag_stays}
 use Rattle.wp_core.specs.World.{Actor, World, content_of}
-use Rattle.wp_core.specs.Conditions.{MayGive}
+use Rattle.wp_core.specs.Conditions.{NoneNext, MayGive}
 use Rattle.wp_core.specs.Steps.{take_turn, note}
 use Rattle.wp_core.specs.Notes.{forgets}
 use Rattle.wp_core.specs.Runs.{Reaches}
+use Rattle.wp_core.specs.Sound.Segments.{AreCoupled}
 use Rattle.wp_core.specs.IsSound.{IsSound}
 use Rattle.wp_core.proofs.Frames.{here}
 use Rattle.wp_core.proofs.Gives.{now_holder}
@@ -30,8 +32,20 @@ table_of w tables_turn = refl
 
 -- ---- a free turn is as it has to be to give it, and so it is once its table is held and its facts are noted
 
+-- while the write turn is free no segment waits
+none_waits : (t : WriteTable) (e : Installed) {holder : Option ℕ} → AreCoupled t e holder → holder ≡ None → NoneNext t
+none_waits t e k free = by_next t.next refl
+  where
+    by_closed : (segment : Segment) → t.next ≡ Some segment → (closed : Bool) → t.closed ≡ closed → NoneNext t
+    by_closed segment is true closed = inr closed
+    by_closed segment is false running = absurd (((k.next segment is).1 running).1 free)
+
+    by_next : (next : Option Segment) → t.next ≡ next → NoneNext t
+    by_next None none = inl none
+    by_next (Some segment) is = by_closed segment is t.closed refl
+
 pub may_give : (w : World) (turn : Turn) → IsSound w → turn_holder w.holders turn ≡ None → MayGive w turn
-may_give w write_turn s free = s.pending free
+may_give w write_turn s free = (s.pending free, none_waits w.writes w.installed s.coupled free)
 may_give w prepared_turn s free = s.flags.delayed_free free
 may_give w snapshots_turn s free = s.flags.old_free free
 may_give w store_turn s free = tt

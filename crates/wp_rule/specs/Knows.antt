@@ -28,12 +28,12 @@ use Rattle.wp_core.specs.Tables.{WriteTable, StoreTable, Installed, Content, wri
 use Rattle.wp_core.specs.Views.{Fact, passed, in_old_commits, apart, words_stay, has_left, versions_in_memory, versions_nowhere, number_in_heap, number_not_in_heap, pair_delayed, pair_not_delayed, none_waits, undecided_at, prior_values, unprepared, direct_free, tables_stay, live_listed, nothing_flushed, frozen_stay, delayed_flag_stays, old_flag_stays}
 use Rattle.wp_core.specs.World.{Transaction, Actor}
 use Rattle.wp_core.specs.Entries.{next_of, pair_by, pending_pair, pairs_of, transaction_of, changes_under, IsOneRecord, HasVersionsAt}
-use Rattle.wp_core.specs.Conditions.{HasTransaction, IsPrepare}
+use Rattle.wp_core.specs.Conditions.{HasTransaction, IsPrepare, NoneNext}
 use Rattle.wp_core.specs.Sound.Prepared.{IsInOldCommits}
 use Rattle.wp_core.specs.Sound.Snapshots.{has_versions_at}
 use Rattle.wp_core.specs.Sound.Store.{NoneFlushed}
 use Rattle.wp_core.specs.Sound.Views.{IsApart, HasLeft, IsInMemory, IsNowhere, IsDelayed, IsUndelayed, Owns}
-use Rattle.wp_core.specs.Steps.{Step, load_published, register, begin_reading, load, end_reading, store_published, store_max_evicted, store_word, store_delayed_flag, store_old_flag, give_turn, make_pending, log_pending, close_log, find_log_closed, drop_pending, add_prepared, take_pending_prepared, add_delayed_commit, delay_pending, take_out, register_again, release, add_old_commit, add_versions, take_versions, move_versions, replace_versions, install, halt, find_edit, claim_name, take_name, leave_name, free_transaction, lock_key, free_key, lock_direct, free_direct, tell, hear, set_batch, note, set_client}
+use Rattle.wp_core.specs.Steps.{Step, load_published, register, begin_reading, load, end_reading, store_published, store_max_evicted, store_word, store_delayed_flag, store_old_flag, give_turn, make_pending, log_pending, close_log, find_log_closed, drop_pending, write_segment, use_segment, stop_log, add_prepared, take_pending_prepared, add_delayed_commit, delay_pending, take_out, register_again, release, add_old_commit, add_versions, take_versions, move_versions, replace_versions, install, renew, halt, find_edit, claim_name, take_name, leave_name, free_transaction, lock_key, free_key, lock_direct, free_direct, tell, hear, set_batch, note, set_client}
 use Rattle.wp_rule.specs.Bound.{bound_past}
 use Rattle.wp_rule.specs.Words.{Place}
 
@@ -69,7 +69,7 @@ KnowsTables a edit = Noted a nothing_flushed × ((floor : ℕ) × Noted a (table
 
 -- a turn may be given
 abbrev pub KnowsGive : Actor → Turn → Type 0
-KnowsGive a write_turn = Holding a writes (λ d. d.pending ≡ [])
+KnowsGive a write_turn = Holding a writes (λ d. (d.pending ≡ []) × NoneNext d)
 KnowsGive a prepared_turn = Holding a prepared (λ t. NoneDelayed t → Noted a (delayed_flag_stays 0))
 KnowsGive a snapshots_turn = Holding a snapshots (λ m. NoOldCommits m → Noted a (old_flag_stays 0))
 KnowsGive a store_turn = Holding a store (λ t. Unit {0})
@@ -175,13 +175,27 @@ pub record KnowsReplaced (a : Actor) (t : StoreTable) (flushed : ℕ) (tables : 
   pub part : (key : List ℕ) (q : ℕ) (value : Option (List ℕ)) → version_at tables key q ≡ Some value → version_at t.tables key q ≡ Some value
   pub covered : IsCovered (up_to (length a.participant.seen) (t.memory ++ tables)) a.participant.seen listed floor
 
--- An edit may be installed: its tables answer for the history that the seat has seen, and it flushes no less than the last.
+-- the edit names the next segment of the log, which is not closed, and flushes the whole history
+abbrev pub NextNamed : WriteTable → InstalledEdit → Type 0
+NextNamed d edit = (d.closed ≡ false) × (d.next ≡ Some edit.segment) × (edit.flushed ≡ length d.history)
+
+-- An edit may be installed: its tables answer for the history that the seat has seen, it flushes no less than the last, and it names the
+-- same segment.
 pub record KnowsInstalled (a : Actor) (e : Installed) (edit : InstalledEdit) (compacts : Bool) : Type 0 where
   pub running : e.halted ≡ false
   pub covered : IsEditCovered a.participant.seen edit
   pub rises : e.last.flushed ≤ edit.flushed
   pub one_more : compacts ≡ false → edit.tables ≡ e.last.tables + 1
   pub keeps : compacts ≡ true → edit.flushed ≡ e.last.flushed
+  pub segment : edit.segment ≡ e.last.segment
+
+-- An edit may be installed that names the log's next segment: its tables answer for the history that the seat has seen, it flushes all of
+-- it, and has as many tables as the last one, at least.
+pub record KnowsRenewed (a : Actor) (d : WriteTable) (e : Installed) (edit : InstalledEdit) : Type 0 where
+  pub running : e.halted ≡ false
+  pub covered : IsEditCovered a.participant.seen edit
+  pub next : NextNamed d edit
+  pub tables : e.last.tables ≤ edit.tables
 
 -- Of the steps that need no more than the view: what each needs. Of the others more has to be known of the world.
 abbrev pub Knows : Place → Actor → Step → Type 0
@@ -198,14 +212,17 @@ Knows p a (store_word pair) = Holding a writes (λ d. (pending_pair d.history d.
 Knows p a (store_delayed_flag value) = Holding a prepared (λ t. value ≡ 0 → NoneDelayed t)
 Knows p a (store_old_flag value) = Holding a snapshots (λ m. value ≡ 0 → NoOldCommits m)
 Knows p a (give_turn turn) = KnowsGive a turn
-Knows p a (make_pending entries) = Holding a writes (λ d. (d.pending ≡ []) × IsOneRecord entries × IsLegal (d.history ++ entries))
+Knows p a (make_pending entries) = Holding a writes (λ d. (d.pending ≡ []) × IsOneRecord entries × IsLegal (d.history ++ entries) × NoneNext d)
 Knows p a log_pending = Holding a writes (λ d. (d.pending ≢ []) × (d.logged ≡ false) × (d.closed ≡ false))
-Knows p a close_log = Holding a writes (λ d. (d.pending ≢ []) × (d.logged ≡ false) × (d.closed ≡ false))
+Knows p a close_log = Holding a writes (λ d. (d.closed ≡ false) × (((d.pending ≢ []) × (d.logged ≡ false)) ⊎ ((d.pending ≡ []) × (d.next ≡ None))))
 Knows p a find_log_closed = Holding a writes (λ d. d.closed ≡ true)
 Knows p a drop_pending =
     Holding a writes (λ d. (d.logged ≡ false)
     × ((max : ℕ) × (words : List ℕ) × Noted a (words_stay max words) × ((pair : CommitPair) → pending_pair d.history d.pending ≡ Some pair → cached words pair.number ≢ Some pair.decision))
     × Noted a pair_not_delayed × Noted a versions_nowhere × Noted a number_not_in_heap)
+Knows p a (write_segment place) = Holding a writes (λ d. (d.pending ≡ []) × (d.closed ≡ false) × (d.next ≡ None) × (place ≢ d.segment.place))
+Knows p a use_segment = Holding a writes (λ d. (d.closed ≡ false) × Holding a installed (λ e. d.next ≡ Some e.last.segment))
+Knows p a stop_log = Holding a writes (λ d. Holding a installed (λ e. (d.pending ≡ []) × (d.closed ≡ false) × (d.next ≢ Some e.last.segment) × (e.halted ≡ true)))
 Knows p a add_prepared = Holding a writes (λ d. Holding a prepared (λ t. (name : List ℕ) × (batch : List Change) × (others : List Entry) × (d.pending ≡ Prepare name batch ∷ others)))
 Knows p a take_pending_prepared = Holding a writes (λ d. Holding a prepared (λ t. (name : List ℕ) × (batch : List Change) × (others : List Entry) × (d.pending ≡ Prepare name batch ∷ others)))
 Knows p a (add_delayed_commit pair) = Holding a prepared (λ t. IsUp a delayed_flag_stays × (decision_of a.participant.seen pair.number ≡ Some pair.decision))
@@ -221,8 +238,9 @@ Knows p a (take_versions memory) = Holding a writes (λ d. Holding a store (λ t
 Knows p a (move_versions memory tables) = Holding a store (λ t. Holding a installed (λ e. KnowsMoved t e.last.flushed memory tables))
 Knows p a (replace_versions tables floor) = Holding a store (λ t. Holding a installed (λ e. KnowsReplaced a t e.last.flushed tables floor))
 Knows p a (install edit compacts) = Holding a installed (λ e. KnowsInstalled a e edit compacts)
+Knows p a (renew edit) = Holding a writes (λ d. Holding a installed (λ e. KnowsRenewed a d e edit))
 Knows p a (halt None) = Holding a installed (λ e. e.halted ≡ false)
-Knows p a (halt (Some edit)) = Holding a installed (λ e. (e.halted ≡ false) × IsEditCovered a.participant.seen edit)
+Knows p a (halt (Some edit)) = Holding a installed (λ e. (e.halted ≡ false) × IsEditCovered a.participant.seen edit × ((edit.segment ≡ e.last.segment) ⊎ Holding a writes (λ d. NextNamed d edit)))
 Knows p a find_edit = Holding a installed (λ e. Unit {0})
 Knows p a (claim_name name) = Holding a locks (λ t. (finite.get t.names name ≡ None) × (a.live ≡ true))
 Knows p a (take_name name q) = Holding a writes (λ d. Holding a locks (λ t. (finite.get t.names name ≡ Some None) × (named d.history name ≡ Some q)))

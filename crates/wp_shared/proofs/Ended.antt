@@ -112,7 +112,7 @@ module _ {D : Type 0} (z : SharedState D) (first : SeatState) (others : List Sea
   opens_left : (log_image manifest_image tables_image : List ℕ) → images log.wal.moments log_image → images edits.set.manifest.log.moments manifest_image → images edits.set.moments tables_image
       → OpensAsLeft o.wal.id w.writes w.installed log_image manifest_image tables_image
   opens_left log_image manifest_image tables_image at_log at_manifest at_tables =
-      let told = log_part.1.0 log_image at_log in let named = edits_part.1.0.0 manifest_image at_manifest in let it = named.1 in
+      let told = (log_part.1.0.0 log_image at_log).0 in let named = edits_part.1.0.0 manifest_image at_manifest in let it = named.1 in
       let spelled : MaySpell w.writes told.0 = subst (λ (t : WriteTable). MaySpell t told.0) same_writes told.2 in
       let last : MayName w.installed named.0 = subst (λ (t : Installed). MayName t named.0) same_installed named.2 in record {
         history = told.0;
@@ -122,7 +122,7 @@ module _ {D : Type 0} (z : SharedState D) (first : SeatState) (others : List Sea
         opens = (
           record {
             id_fits = o.id_fits;
-            spelled = subst (λ (n : ℕ). IsLogOf n told.0 log_image) log_id told.1;
+            spelled = subst (λ (n : ℕ). IsLogOf n told.0 log_image) log_id told.1.1;
             legal = (left_by_crash w l.alone told.0 spelled).1;
             edits = it.edits;
             installed = subst (λ (n : ℕ). IsManifestOf n it.edits manifest_image) edits_id it.spelled;

@@ -1,5 +1,5 @@
 -- The table of a turn in a world, and what a seat knows of it.
-use Rattle.std.proofs.Common.{◌≡◌, inl, inr, ℕ, ◌≤◌, List, [], length, slice_index, refl, sym, subst, ap, ◌∙◌, Some, Bool, true, false, ◌/◌, ◌%◌, ◌*◌, ◌+◌, arith}
+use Rattle.std.proofs.Common.{◌≡◌, inl, inr, ℕ, ◌≤◌, List, [], length, slice_index, refl, sym, subst, ap, ◌∙◌, Some, None, Bool, true, false, ◌/◌, ◌%◌, ◌*◌, ◌+◌, arith}
 use Rattle.std.proofs.lemmas.Bool.{cases_lt}
 use Rattle.std.proofs.Math.Nat.{mod-le}
 use Rattle.std.proofs.lemmas.List.{get_or_past}
@@ -19,13 +19,17 @@ use Rattle.wp_core.specs.Tables.{Content, WriteTable, StoreTable, Installed, wri
 use Rattle.wp_core.specs.Views.{Fact, words_stay, tables_stay, nothing_flushed, delayed_flag_stays, old_flag_stays}
 use Rattle.wp_core.specs.World.{Actor, World, content_of}
 use Rattle.wp_core.proofs.HistoryLaws.{decision_within}
-use Rattle.wp_core.proofs.Tests.{some_none}
+use Rattle.wp_core.proofs.Tests.{some_none, same_some}
 use Rattle.wp_rule.specs.Knows.{Noted}
 use Rattle.wp_rule.specs.Moves.{MayStep}
 use Rattle.wp_rule.specs.Plays.{facts_at}
 use Rattle.wp_rule.specs.Words.{Place, IsAt}
 use Rattle.wp_rule.proofs.Knows.{held_is}
 use Rattle.wp_rule.proofs.Needed.{needed}
+use Rattle.wp_parts.specs.Parts.{content, Tells}
+use Rattle.wp_parts.specs.Stock.{store_table}
+use Rattle.wp_parts.specs.declared.part.Part.{Part}
+use Rattle.wp_parts.specs.declared.part.Part.TheVariants as part
 use Rattle.wp_shared.specs.Notes.{ArePublished}
 use Rattle.wp_shared.specs.Turns.{KnowsTaken, KnowsToGive, IsTableOf}
 use Rattle.wp_judge.proofs.Packing.{pair_parts, with_test}
@@ -87,17 +91,33 @@ world_published w s none place found at =
       | inr past ↦ let empty : slice_index w.cache place ≡ 0 = get_or_past w.cache place _ past in absurd (empty_is_none (length w.cache) place found (ap (pair_of (length w.cache) place) (sym empty) ∙ at))
     ]
 
+-- ---- what the values say
+
+-- a log has no segment beside the one in use
+abbrev pub NoneWaits : Content → Type 0
+NoneWaits (writes t) = t.next ≡ None
+NoneWaits other = Unit {0}
+
+pub none_in : {D : Type 0} (x : Part D) (c : Content) → content x ≡ Some c → Tells x → NoneWaits c
+none_in part.Away c is told = let q : None ≡ Some c = is in absurd (cc)
+none_in (part.Write log) c is told = subst NoneWaits (same_some (writes log.value.table) c is) told.1
+none_in (part.Prepared t) c is told = subst NoneWaits (same_some (prepared t.value) c is) tt
+none_in (part.Snapshots m) c is told = subst NoneWaits (same_some (snapshots m.value) c is) tt
+none_in (part.Store t) c is told = subst NoneWaits (same_some (store (store_table t.value)) c is) tt
+none_in (part.Locks t) c is told = subst NoneWaits (same_some (locks t.value) c is) tt
+none_in (part.Tables e) c is told = subst NoneWaits (same_some (installed e.value.table) c is) tt
+
 -- ---- what is known of it
 
 -- once it is taken
 pub knows_taken : (w : World) (a : Actor) (table : Content) → IsSound w → MayGive w (turn_of table) → IsTableOf w table → ((fact : Fact) → IsIn fact (facts_at (turn_of table) w) → Noted a fact) → KnowsTaken a table
 knows_taken w a (writes t) s may is noted = (
-  ap (λ (d : WriteTable). d.pending) (sym is) ∙ may,
+  ap (λ (d : WriteTable). d.pending) (sym is) ∙ may.0,
   record {
     bound = w.max_evicted;
     words = w.cache;
     noted = noted (words_stay w.max_evicted w.cache) (inl refl);
-    are_published = λ place pair there. subst (λ (d : WriteTable). pair.decision ≤ length d.history) is (world_published w s may place pair there);
+    are_published = λ place pair there. subst (λ (d : WriteTable). pair.decision ≤ length d.history) is (world_published w s may.0 place pair there);
   },
 )
 knows_taken w a (prepared t) s may is noted = record {
@@ -128,11 +148,11 @@ knows_to_give a (store t) k = tt
 knows_to_give a (locks t) k = tt
 knows_to_give a (installed d) k = k
 
--- the turn may be given then
-pub may_give : (p : Place) (a : Actor) (table : Content) → IsIn table a.held → KnowsToGive a table → MayStep p a (give_turn (turn_of table))
-may_give p a (writes t) held known w k = needed p a w k (give_turn (turn_of (writes t))) (record { table = t; held = held; so_is = known })
-may_give p a (prepared t) held known w k = needed p a w k (give_turn (turn_of (prepared t))) (record { table = t; held = held; so_is = known })
-may_give p a (snapshots m) held known w k = needed p a w k (give_turn (turn_of (snapshots m))) (record { table = m; held = held; so_is = known })
-may_give p a (store t) held known w k = needed p a w k (give_turn (turn_of (store t))) (record { table = t; held = held; so_is = tt })
-may_give p a (locks t) held known w k = needed p a w k (give_turn (turn_of (locks t))) (record { table = t; held = held; so_is = tt })
-may_give p a (installed d) held known w k = needed p a w k (give_turn (turn_of (installed d))) (record { table = d; held = held; so_is = known })
+-- the turn may be given then, where no segment of the log waits
+pub may_give : (p : Place) (a : Actor) (table : Content) → IsIn table a.held → NoneWaits table → KnowsToGive a table → MayStep p a (give_turn (turn_of table))
+may_give p a (writes t) held none known w k = needed p a w k (give_turn (turn_of (writes t))) (record { table = t; held = held; so_is = (known, inl none) })
+may_give p a (prepared t) held none known w k = needed p a w k (give_turn (turn_of (prepared t))) (record { table = t; held = held; so_is = known })
+may_give p a (snapshots m) held none known w k = needed p a w k (give_turn (turn_of (snapshots m))) (record { table = m; held = held; so_is = known })
+may_give p a (store t) held none known w k = needed p a w k (give_turn (turn_of (store t))) (record { table = t; held = held; so_is = tt })
+may_give p a (locks t) held none known w k = needed p a w k (give_turn (turn_of (locks t))) (record { table = t; held = held; so_is = tt })
+may_give p a (installed d) held none known w k = needed p a w k (give_turn (turn_of (installed d))) (record { table = d; held = held; so_is = known })

@@ -22,7 +22,7 @@ use Rattle.wp_shared.specs.Notes.{is_under, seeing, SawHistory, GoesOn}
 use Rattle.wp_shared.specs.Seats.{SharedState, SeatState, place_at}
 use Rattle.wp_shared.specs.Turns.{TookPart, MayGivePart, GavePart, HoldsTurn, KnowsToGive, IsTableOf, Taken, TookLog, Given}
 use Rattle.wp_shared.proofs.Goes.{goes_with, is_free}
-use Rattle.wp_shared.proofs.Tables.{is_table, held_table, knows_taken, may_give}
+use Rattle.wp_shared.proofs.Tables.{is_table, held_table, none_in, knows_taken, may_give}
 
 in_front : {X : Type 0} (x : X) (xs ys : List X) → IsIn x xs → IsIn x (xs ++ ys)
 in_front x [] ys there = absurd there
@@ -145,7 +145,7 @@ module _ {D : Type 0} (z : SharedState D) (turn : Turn) (old : SeatState) (table
         held = held;
         others = beneath;
         last_taken = taken_last;
-        may = subst (λ (u : Turn). MayStep (place_at z old.by) old.knows (give_turn u)) (sym of_turn) (may_give (place_at z old.by) old.knows table held known);
+        may = subst (λ (u : Turn). MayStep (place_at z old.by) old.knows (give_turn u)) (sym of_turn) (may_give (place_at z old.by) old.knows table held (none_in value table is told.0) known);
       }
 
   module _ (new : SeatState) (k : GavePart z turn old new) where

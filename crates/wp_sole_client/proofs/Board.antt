@@ -7,7 +7,7 @@ use Rattle.wp_model.specs.Flushed.{InstalledEdit}
 use Rattle.wp_text.specs.declared.script.Command.TheVariants as command
 use Rattle.wp_text.specs.declared.reply.Reply.TheVariants as reply
 use Rattle.wp_core.specs.Lists.{IsIn}
-use Rattle.wp_core.specs.Sound.Pasts.{is_log_fault, is_tables_fault}
+use Rattle.wp_core.specs.Sound.Pasts.{closes_log, is_tables_fault}
 use Rattle.wp_core.specs.Views.{Event, told, heard, log_failed, tables_failed}
 use Rattle.wp_core.specs.World.{Participant, World}
 use Rattle.wp_core.proofs.Keyed.{is_word_same, at_inserted, else_inserted, some_inserted}
@@ -63,7 +63,7 @@ module _ {D : Type 0} (z : SharedState D) (first : InstalledEdit) (old new : Sea
         client = refl;
         events = events;
         past = f.past;
-        asked = λ entries there. absurd (not_counted is_log_fault events (log_failed entries) refl there refl);
+        asked = λ entries there. absurd (not_counted closes_log events (log_failed entries) refl there refl);
         asked_edit = λ last edit there. absurd (not_counted is_tables_fault events (tables_failed last (Some edit)) refl there refl);
       }
     where

@@ -12,7 +12,7 @@ use Rattle.wp_text.specs.declared.reply.Reply.{Reply}
 use Rattle.wp_text.specs.declared.reply.Reply.TheVariants as reply
 use Rattle.wp_core.specs.Lists.{IsIn, one_if}
 use Rattle.wp_core.specs.World.{Participant, World}
-use Rattle.wp_core.specs.Sound.Pasts.{is_log_fault, is_tables_fault}
+use Rattle.wp_core.specs.Sound.Pasts.{closes_log, is_tables_fault}
 use Rattle.wp_core.specs.Views.{Event, Fact, log_failed, tables_failed, stopped}
 use Rattle.wp_core.proofs.EachStep.{reached_is_sound}
 use Rattle.wp_records.specs.Writing.{FoundLog}
@@ -89,7 +89,7 @@ module _ {D : Type 0} (z : SharedState D) (first : InstalledEdit) (old new : Sea
   pub not_failed : (found : Participant) (history : List Entry) (pre : List Event) → found.past ≡ old.knows.participant.past ++ pre → FoundLog z old.by found history false → log_faults old.knows.participant.past ≡ 0
   not_failed found history pre past k =
       let none = no_log_fault k.world k.there.reached old.by k.actor k.there.there k.closed_is in
-      let both = total_both (λ (e : Event). one_if (is_log_fault e)) old.knows.participant.past pre in
+      let both = total_both (λ (e : Event). one_if (closes_log e)) old.knows.participant.past pre in
       let same : log_faults k.actor.participant.past ≡ log_faults (old.knows.participant.past ++ pre) = ap log_faults (ap (λ (q : Participant). q.past) k.participant ∙ past) in omega (arith, none, both, same)
 
   pub store_runs : (found : Participant) (history : List Entry) (pre : List Event) → found.past ≡ old.knows.participant.past ++ pre → FoundLog z old.by found history false → store.stopped ≡ false
@@ -137,7 +137,7 @@ module _ {D : Type 0} (z : SharedState D) (first : InstalledEdit) (old new : Sea
             client = client;
             events = pre;
             past = f.past;
-            asked = λ es there. absurd (not_counted is_log_fault pre (log_failed es) quiet.log there refl);
+            asked = λ es there. absurd (not_counted closes_log pre (log_failed es) quiet.log there refl);
             asked_edit = λ last edit there. absurd (not_counted is_tables_fault pre (tables_failed last (Some edit)) quiet.leave.tables there refl);
           }
 
@@ -187,7 +187,7 @@ module _ {D : Type 0} (z : SharedState D) (first : InstalledEdit) (old new : Sea
             let room : length store.history + needed ≤ store.limit = (let most = k.0 in let limit = is.limit in omega (arith, most, size, limit)) in
             let still = past_still z first old new only store is stood [] events f leave in
             let once : one_if true ≡ log_faults new.knows.participant.past =
-            (let now = log_now z first old new only store is stood [] events f in let both = total_both (λ (e : Event). one_if (is_log_fault e)) pre (log_failed es ∷ []) in let none = quiet.log in let not : one_if store.stopped ≡ 0 = ap one_if running in
+            (let now = log_now z first old new only store is stood [] events f in let both = total_both (λ (e : Event). one_if (closes_log e)) pre (log_failed es ∷ []) in let none = quiet.log in let not : one_if store.stopped ≡ 0 = ap one_if running in
             omega (arith, now, both, none, not)) in
             let failed : IsStoreOf z first new.knows.participant (record store { stopped = true }) = record {
               history = sym seen;
@@ -207,7 +207,7 @@ module _ {D : Type 0} (z : SharedState D) (first : InstalledEdit) (old new : Sea
               asked = λ others there. (
                 refl,
                 ⊎_elim
-                    (λ (k : IsIn (log_failed others) pre). absurd (not_counted is_log_fault pre (log_failed others) quiet.log k refl))
+                    (λ (k : IsIn (log_failed others) pre). absurd (not_counted closes_log pre (log_failed others) quiet.log k refl))
                     (λ (k : IsIn (log_failed others) (log_failed es ∷ [])). of_last others es k ∙ (same es seen asks_it ∙ sym a.asked))
                     (in_both (log_failed others) pre (log_failed es ∷ []) there),
               );

@@ -6,7 +6,7 @@ use Rattle.wp_model.specs.LockTables.{Labels}
 use Rattle.wp_text.specs.declared.script.Command.{Command}
 use Rattle.wp_text.specs.declared.reply.Reply.{Reply}
 use Rattle.wp_core.specs.World.{World}
-use Rattle.wp_core.specs.Sound.Pasts.{is_log_fault, is_tables_fault}
+use Rattle.wp_core.specs.Sound.Pasts.{closes_log, is_tables_fault}
 use Rattle.wp_core.specs.Views.{Event, log_failed, tables_failed}
 use Rattle.wp_shared.specs.Seats.{SharedState, SeatState, Stands}
 use Rattle.wp_replies.specs.Client.{Client}
@@ -59,6 +59,6 @@ module _ {D : Type 0} (z : SharedState D) (first : InstalledEdit) (old new : Sea
       client = client;
       events = events;
       past = f.past;
-      asked = λ entries there. absurd (not_counted is_log_fault events (log_failed entries) quiet.log there refl);
+      asked = λ entries there. absurd (not_counted closes_log events (log_failed entries) quiet.log there refl);
       asked_edit = λ last edit there. absurd (not_counted is_tables_fault events (tables_failed last (Some edit)) quiet.leave.tables there refl);
     }

@@ -11,7 +11,7 @@ use Rattle.wp_core.specs.Alone.{IsAlone}
 use Rattle.wp_core.specs.Lists.{IsIn, one_if}
 use Rattle.wp_core.specs.World.{Participant, Actor, World}
 use Rattle.wp_core.specs.Sound.Actors.{StartsWith}
-use Rattle.wp_core.specs.Sound.Pasts.{is_log_fault, is_tables_fault, last_after, last_installed}
+use Rattle.wp_core.specs.Sound.Pasts.{closes_log, is_tables_fault, last_after, last_installed}
 use Rattle.wp_core.specs.Views.{Event, Fact, told}
 use Rattle.wp_core.proofs.KeepsSeen.{shorter}
 use Rattle.wp_core.proofs.PastsGrow.{in_front}
@@ -61,7 +61,7 @@ both_leave xs ys p q = record {
 
 pub both_quiet : (xs ys : List Event) → AreQuiet xs → AreQuiet ys → AreQuiet (xs ++ ys)
 both_quiet xs ys p q = record {
-  log = let k = total_both (λ (e : Event). one_if (is_log_fault e)) xs ys in let a = p.log in let b = q.log in omega (arith, k, a, b);
+  log = let k = total_both (λ (e : Event). one_if (closes_log e)) xs ys in let a = p.log in let b = q.log in omega (arith, k, a, b);
   leave = both_leave xs ys p.leave q.leave;
 }
 
@@ -157,7 +157,7 @@ module _ {D : Type 0} (z : SharedState D) (first : InstalledEdit) (old new : Sea
   -- how often the log has failed by now
   pub log_now : (numbers : List ℕ) (events : List Event) → Follows old new numbers events → log_faults new.knows.participant.past ≡ one_if store.stopped + log_faults events
   log_now numbers events f =
-      let k = total_both (λ (e : Event). one_if (is_log_fault e)) old.knows.participant.past events in let a = is.stopped in
+      let k = total_both (λ (e : Event). one_if (closes_log e)) old.knows.participant.past events in let a = is.stopped in
       let c : log_faults new.knows.participant.past ≡ log_faults (old.knows.participant.past ++ events) = ap log_faults f.past in omega (arith, k, a, c)
 
   pub log_still : (numbers : List ℕ) (events : List Event) → Follows old new numbers events → log_faults events ≡ 0 → one_if store.stopped ≡ log_faults new.knows.participant.past

@@ -9,7 +9,7 @@ use Rattle.wp_text.specs.declared.reply.Reply.{Reply}
 use Rattle.wp_text.specs.declared.reply.Reply.TheVariants as reply
 use Rattle.wp_core.specs.Alone.{IsAlone}
 use Rattle.wp_core.specs.Lists.{IsIn, one_if, total}
-use Rattle.wp_core.specs.Sound.Pasts.{is_log_fault, is_tables_fault, last_installed}
+use Rattle.wp_core.specs.Sound.Pasts.{closes_log, is_tables_fault, last_installed}
 use Rattle.wp_core.specs.Tables.{Installed, installed}
 use Rattle.wp_core.specs.Views.{Event, log_failed, tables_failed, found_edit, told}
 use Rattle.wp_core.specs.Views as event
@@ -136,7 +136,7 @@ module _ {D : Type 0} (z : SharedState D) (first : InstalledEdit) (old new : Sea
             client = client;
             events = events;
             past = f.past;
-            asked = λ entries there. absurd (not_counted is_log_fault events (log_failed entries) refl there refl);
+            asked = λ entries there. absurd (not_counted closes_log events (log_failed entries) refl there refl);
             asked_edit = λ last edit there. absurd (not_counted is_tables_fault events (tables_failed last (Some edit)) refl there refl);
           }
         where
@@ -169,7 +169,7 @@ module _ {D : Type 0} (z : SharedState D) (first : InstalledEdit) (old new : Sea
             client = refl;
             events = events;
             past = f.past;
-            asked = λ entries there. absurd (not_counted is_log_fault events (log_failed entries) refl there refl);
+            asked = λ entries there. absurd (not_counted closes_log events (log_failed entries) refl there refl);
             asked_edit = λ last edit there. (refl, of_asked last edit asked (edit_is seen) there ∙ sym a.edit_is);
           }
         where

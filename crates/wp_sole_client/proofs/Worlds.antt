@@ -17,7 +17,7 @@ use Rattle.wp_core.specs.World.{Transaction, Actor, World}
 use Rattle.wp_core.specs.IsSound.{IsSound, participants}
 use Rattle.wp_core.specs.Sound.Actors.{StartsWith, participants_of, seen_of}
 use Rattle.wp_core.specs.Sound.Locks.{owner_of}
-use Rattle.wp_core.specs.Sound.Pasts.{past_of, is_log_fault}
+use Rattle.wp_core.specs.Sound.Pasts.{past_of, closes_log}
 use Rattle.wp_core.specs.Sound.Views.{noter_of}
 use Rattle.wp_core.specs.Views.{Event, unprepared, told, heard, stopped}
 use Rattle.wp_core.proofs.AllParticipants.{mine}
@@ -40,9 +40,9 @@ module _ (w : World) (reached : Reaches w) (j : ℕ) (a : Actor) (there : get_el
   has_seen = sound.seen j 0 a.participant.seen (mine seen_of w.actors j a a there refl)
 
   -- where the log is not closed, the actor met no fault of it
-  pub no_log_fault : w.writes.closed ≡ false → total (λ e. one_if (is_log_fault e)) a.participant.past ≡ 0
+  pub no_log_fault : w.writes.closed ≡ false → total (λ e. one_if (closes_log e)) a.participant.past ≡ 0
   no_log_fault running =
-      let most = total_at (total (total (λ (e : Event). one_if (is_log_fault e)))) (participants past_of w) j (participants_of past_of a) (at_map (participants_of past_of) w.actors j a there) in
+      let most = total_at (total (total (λ (e : Event). one_if (closes_log e)))) (participants past_of w) j (participants_of past_of a) (at_map (participants_of past_of) w.actors j a there) in
       let all = sound.faults.log in let none : one_if w.writes.closed ≡ 0 = ap one_if running in omega (arith, most, all, none)
 
   -- no undecided prepare has the key that it writes at once

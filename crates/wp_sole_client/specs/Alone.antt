@@ -7,7 +7,7 @@ use Rattle.wp_text.specs.declared.script.Command.{Command}
 use Rattle.wp_text.specs.declared.reply.Reply.{Reply}
 use Rattle.wp_core.specs.Lists.{IsIn, one_if, total}
 use Rattle.wp_core.specs.Sound.Actors.{StartsWith}
-use Rattle.wp_core.specs.Sound.Pasts.{is_log_fault, last_installed}
+use Rattle.wp_core.specs.Sound.Pasts.{closes_log, last_installed}
 use Rattle.wp_core.specs.Sound.Pasts as pasts
 use Rattle.wp_core.specs.Views.{Event, told, log_failed, tables_failed}
 use Rattle.wp_core.specs.World.{Participant, World}
@@ -17,9 +17,9 @@ use Rattle.wp_replies.specs.Client.{Client}
 use Rattle.wp_replies.specs.Due.{Store, IsReply, store_after, client_after}
 use Rattle.wp_replies.specs.Kind.{is_fault, is_tables_fault}
 
--- how often the log failed in this past, and the devices of the tables
+-- how often the log was closed in this past, and the devices of the tables failed
 abbrev pub log_faults : List Event → ℕ
-log_faults past = total (λ e. one_if (is_log_fault e)) past
+log_faults past = total (λ e. one_if (closes_log e)) past
 
 abbrev pub tables_faults : List Event → ℕ
 tables_faults past = total (λ e. one_if (pasts.is_tables_fault e)) past

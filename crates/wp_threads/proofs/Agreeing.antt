@@ -20,8 +20,8 @@ use Rattle.wp_text.specs.declared.reply.Reply.TheVariants as reply
 use Rattle.wp_core.specs.Lists.{IsIn}
 use Rattle.wp_core.specs.Sound.Actors.{seen_of}
 use Rattle.wp_core.specs.Sound.Locks.{WasPrepared}
-use Rattle.wp_core.specs.Sound.Pasts.{HasDone, IsPast, MadeHolder, IsAccounted, WasInstalled, past_of}
-use Rattle.wp_core.specs.Views.{Account, own, another, prepare_at, Event, claimed, took, locked, told, heard, installed, log_failed, tables_failed, stopped, found_edit, found}
+use Rattle.wp_core.specs.Sound.Pasts.{HasDone, IsPast, MadeHolder, IsAccounted, raised_to, WasInstalled, past_of}
+use Rattle.wp_core.specs.Views.{Account, own, another, prepare_at, Event, claimed, took, locked, told, heard, installed, renewed, log_failed, log_stopped, tables_failed, stopped, found_edit, found}
 use Rattle.wp_core.specs.World.{Participant}
 use Rattle.wp_parts.specs.Devices.{DevicesLeft}
 use Rattle.wp_shared.specs.Ended.{IsEnded, of_seats}
@@ -36,7 +36,8 @@ use Rattle.wp_replies.specs.Replies.{WasTold, WasFlushed, TablesFailed, OtherCom
 use Rattle.wp_answers.specs.Agrees.{IsAnother, IsPrepares, KnowsHolder, Knows, Agrees}
 use Rattle.wp_threads.specs.Explained.{found_in, left_in, failed_in}
 use Rattle.wp_threads.specs.Over.{Answered, AreOver, replies_of}
-use Rattle.wp_threads.proofs.Coming.{comes_wider, comes_answered, answers_any}
+use Rattle.wp_core.proofs.Tests.{same_some}
+use Rattle.wp_threads.proofs.Coming.{comes_wider, never_comes, comes_answered, answers_any}
 use Rattle.wp_threads.proofs.Doings.{Did, did, took_name, wrote_key}
 use Rattle.wp_threads.proofs.Lists.{or_left, or_right, both_so, at_map, any_at, any_other, any_filter}
 
@@ -109,13 +110,19 @@ module _ {D : Type 0} {z : SharedState D} {seats : List SeatState} {history : Li
 
   -- ---- the tables
 
-  was_flushed : (n : ℕ) → WasInstalled ended.first_edit (of_seats past_of seats) n → IsKnown evidence (WasFlushed n)
-  was_flushed n (inl first) = or_left (n == ended.first_edit.flushed) (list_any (is_flushed n) (answers_in (before ++ mine ∷ after))) (eq-eqb n ended.first_edit.flushed first)
-  was_flushed n (inr (edit, same, (j, i, h))) =
+  was_raised : (n : ℕ) (e : Event) → raised_to e ≡ Some n → (j i : ℕ) → HasDone (of_seats past_of seats) j i e → IsKnown evidence (WasFlushed n)
+  was_raised n (installed edit false) raised j i h =
       let d = (done_by j i (installed edit false) h).1 in
+      let same : edit.flushed ≡ n = same_some edit.flushed n raised in
       let said = comes_answered (is_flushed edit.flushed) new_client d.own.part.commands d.own.answers d.told in
       or_right (n == ended.first_edit.flushed) (list_any (is_flushed n) (answers_in (before ++ mine ∷ after)))
       (answers_any (is_flushed n) (before ++ mine ∷ after) (one_did (λ (x : Dialogue). list_any (is_flushed n) x.answers) i d.own d.there (subst (λ (m : ℕ). list_any (is_flushed m) d.own.answers ≡ true) same said)))
+  was_raised n (renewed edit) raised j i h = let d = (done_by j i (renewed edit) h).1 in absurd (never_comes new_client d.own.part.commands d.own.answers d.told)
+  was_raised n other raised j i h = absurd cc
+
+  was_flushed : (n : ℕ) → WasInstalled ended.first_edit (of_seats past_of seats) n → IsKnown evidence (WasFlushed n)
+  was_flushed n (inl first) = or_left (n == ended.first_edit.flushed) (list_any (is_flushed n) (answers_in (before ++ mine ∷ after))) (eq-eqb n ended.first_edit.flushed first)
+  was_flushed n (inr (e, raised, (j, i, h))) = was_raised n e raised j i h
 
   -- ---- the seat
 
@@ -160,6 +167,8 @@ module _ {D : Type 0} {z : SharedState D} {seats : List SeatState} {history : Li
     knows (locked key holder) there = tt
     knows (told label n) there = tt
     knows (installed edit compacts) there = tt
+    knows (renewed edit) there = tt
+    knows log_stopped there = tt
 
     pub agrees : Agrees evidence z p
     agrees = record {

@@ -7,7 +7,7 @@ use Rattle.wp_text.specs.declared.script.Command.{Command}
 use Rattle.wp_text.specs.declared.script.Command.TheVariants as command
 use Rattle.wp_text.specs.declared.reply.Reply.{Reply}
 use Rattle.wp_text.specs.declared.reply.Reply.TheVariants as reply
-use Rattle.wp_core.specs.Views.{Event, claimed, took, locked, told, heard, installed, log_failed, tables_failed, stopped, found_edit, found}
+use Rattle.wp_core.specs.Views.{Event, claimed, took, locked, told, heard, installed, log_failed, tables_failed, stopped, found_edit, found, renewed, log_stopped}
 use Rattle.wp_replies.specs.declared.client.Txn.{Txn}
 use Rattle.wp_replies.specs.declared.client.Txn.TheVariants.{Idle, Open, Prepared}
 use Rattle.wp_replies.specs.After.{with_staged, after_reply}
@@ -71,6 +71,8 @@ explained_same name c a (locked key (holder.Txn other)) p q is = is
 explained_same name c a (locked key (holder.Client other)) p q is = is
 explained_same name c a (installed edit false) p q is = is
 explained_same name c a (installed edit true) p q is = is
+explained_same name c a (renewed edit) p q is = is
+explained_same name c a log_stopped p q is = is
 explained_same name c a (heard label n) p q is = tt
 explained_same name c a (log_failed entries) p q is = tt
 explained_same name c a (tables_failed last edit) p q is = tt

@@ -1,5 +1,5 @@
 -- What a client comes to by its commands and replies.
-use Rattle.std.proofs.Common.{◌≡◌, inl, inr, Bool, true, true≢false, List, [], ◌∷◌, Option, Some, None, sym, ap, ◌∙◌}
+use Rattle.std.proofs.Common.{◌≡◌, inl, inr, Bool, true, false, true≢false, List, [], ◌∷◌, Option, Some, None, sym, ap, ◌∙◌}
 use Rattle.std.specs.Prelude.{◌||◌, ◌&&◌}
 use Rattle.std.specs.List.{list_any}
 use Rattle.std.proofs.lemmas.Bool.{or_cases}
@@ -35,6 +35,12 @@ comes_both b p client (c ∷ commands) (a ∷ answers) is =
       | inl here ↦ let k = both b (p client.txn c (Some a)) here in (k.0, or_left (p client.txn c (Some a)) (comes_to p (after_reply 0 client c a) commands answers) k.1)
       | inr later ↦ let k = comes_both b p (after_reply 0 client c a) commands answers later in (k.0, or_right (p client.txn c (Some a)) (comes_to p (after_reply 0 client c a) commands answers) k.1)
     ]
+
+-- it never comes to what is never so
+pub never_comes : (client : Client) (commands : List Command) (answers : List Reply) → comes_to (λ t c a. false) client commands answers ≡ true → ⊥
+never_comes client [] answers is = true≢false (sym is)
+never_comes client (c ∷ commands) [] is = true≢false (sym is)
+never_comes client (c ∷ commands) (a ∷ answers) is = never_comes (after_reply 0 client c a) commands answers is
 
 -- a reply of such a kind is among the replies
 pub comes_answered : (p : Reply → Bool) (client : Client) (commands : List Command) (answers : List Reply) → comes_to (λ t c a. is_answer p a) client commands answers ≡ true → list_any p answers ≡ true

@@ -10,7 +10,7 @@ use Rattle.wp_text.specs.declared.script.Part.{Part}
 use Rattle.wp_text.specs.declared.reply.Reply.{Reply}
 use Rattle.wp_text.specs.declared.reply.Reply.TheVariants as reply
 use Rattle.wp_core.specs.Lists.{IsIn, one_if}
-use Rattle.wp_core.specs.Sound.Pasts.{is_log_fault, is_tables_fault, past_of}
+use Rattle.wp_core.specs.Sound.Pasts.{closes_log, is_tables_fault, past_of}
 use Rattle.wp_core.specs.Views.{Event, stopped, found_edit}
 use Rattle.wp_core.specs.World.{Participant}
 use Rattle.wp_parts.specs.Devices.{DevicesLeft}
@@ -83,7 +83,7 @@ module _ {D : Type 0} {z : SharedState D} {seats : List SeatState} {history : Li
 
   log_counted : count_by is_fault replies ≡ one_if ended.writes.closed
   log_counted =
-      let all = weighed z (found_in ended) is_fault is_log_fault (λ p a s o. o.log_failed) parts answered seats over in let met = ended.faults.log in omega (arith, all, met)
+      let all = weighed z (found_in ended) is_fault closes_log (λ p a s o. o.log_failed) parts answered seats over in let met = ended.faults.log in omega (arith, all, met)
 
   tables_counted : count_by kinds.is_tables_fault replies ≡ one_if ended.edits.halted
   tables_counted =

@@ -1,5 +1,5 @@
 -- With one client, what is left is what its replies leave.
-use Rattle.std.proofs.Common.{◌≡◌, ◌≢◌, ⊎_elim, inl, inr, ℕ, zero, suc, ◌<◌, ◌≤◌, true, List, [], ◌∷◌, ◌++◌, length, length-append, Option, Some, None, refl, sym, subst, ap, ◌∙◌, arith}
+use Rattle.std.proofs.Common.{◌≡◌, ◌≢◌, ◌⊎◌, ⊎_elim, inl, inr, ℕ, zero, suc, ◌<◌, ◌≤◌, true, List, [], ◌∷◌, ◌++◌, length, length-append, Option, Some, None, refl, sym, subst, ap, ◌∙◌, arith}
 use Rattle.std.specs.Prelude.{◌==◌}
 use Rattle.std.specs.List.{list_any}
 use Rattle.std.proofs.lemmas.Bool.{eqb-true}
@@ -11,8 +11,8 @@ use Rattle.wp_model.specs.Flushed.{InstalledEdit}
 use Rattle.wp_text.specs.declared.script.Part.{Part}
 use Rattle.wp_core.specs.Lists.{IsIn, one_if}
 use Rattle.wp_core.specs.Sound.Actors.{StartsWith, times}
-use Rattle.wp_core.specs.Sound.Pasts.{HasDone, IsPast, OtherInstalls, is_log_fault, is_tables_fault, past_of}
-use Rattle.wp_core.specs.Views.{Event, log_failed, tables_failed}
+use Rattle.wp_core.specs.Sound.Pasts.{HasDone, IsPast, OtherInstalls, closes_log, is_tables_fault, past_of}
+use Rattle.wp_core.specs.Views.{Event, log_failed, log_stopped, tables_failed}
 use Rattle.wp_core.proofs.KeepsSeen.{shorter}
 use Rattle.wp_parts.specs.Devices.{DevicesLeft}
 use Rattle.wp_shared.specs.Ended.{IsEnded, of_seats}
@@ -29,6 +29,7 @@ use Rattle.wp_sole_client.specs.Alone.{IsOnly}
 use Rattle.wp_threads.specs.Explained.{found_in, left_in, failed_in}
 use Rattle.wp_threads.specs.Over.{Answered, EndsAlone, IsOver}
 use Rattle.wp_threads.proofs.Alone.{runs_grow, asks_any}
+use Rattle.wp_threads.proofs.Coming.{never_comes}
 use Rattle.wp_threads.proofs.Counted.{once_after}
 use Rattle.wp_threads.proofs.Lists.{any_in, count_any, counted_in}
 
@@ -37,8 +38,9 @@ no_longer history front [] is le = is ∙ append-nil front
 no_longer history front (e ∷ rest) is le =
     let whole : length history ≡ length (front ++ e ∷ rest) = ap (λ (h : List Entry). length h) is in let more = length-append front (e ∷ rest) in absurd (omega (arith, whole, more, le))
 
-log_fault_is : (e : Event) → is_log_fault e ≡ true → (entries : List Entry) × (e ≡ log_failed entries)
-log_fault_is (log_failed entries) is = (entries, refl)
+log_fault_is : (e : Event) → closes_log e ≡ true → ((entries : List Entry) × (e ≡ log_failed entries)) ⊎ (e ≡ log_stopped)
+log_fault_is (log_failed entries) is = inl (entries, refl)
+log_fault_is log_stopped is = inr refl
 log_fault_is other is = absurd cc
 
 tables_fault_is : (e : Event) → is_tables_fault e ≡ true → (last : InstalledEdit) × (edit : Option InstalledEdit) × (e ≡ tables_failed last edit)
@@ -96,9 +98,13 @@ module _ {D : Type 0} {z : SharedState D} {s : SeatState} {history : List Entry}
   asked_log : alone.store.stopped ≡ true → FaultAsks is_fault (AsksLog ended.writes.failed) (opened_store z.limit (found_in ended)) new_client over.done answered.replies
   asked_log up =
       let one : one_if alone.store.stopped ≡ 1 = rw up refl in let same = alone.stopped in
-      let k = counted_in is_log_fault s.knows.participant.past (omega (arith, one, same)) in let e = log_fault_is k.0 k.2 in
-      let there : IsIn (log_failed e.0) s.knows.participant.past = subst (λ (x : Event). IsIn x s.knows.participant.past) e.1 k.1 in
-      subst (λ (entries : List Entry). FaultAsks is_fault (AsksLog entries) (opened_store z.limit (found_in ended)) new_client over.done answered.replies) (sym (ended.faults.failed e.0 (in_past (log_failed e.0) there)).1) (alone.asked e.0 there)
+      let k = counted_in closes_log s.knows.participant.past (omega (arith, one, same)) in by_event (log_fault_is k.0 k.2) k.1
+    where
+      by_event : {x : Event} → ((entries : List Entry) × (x ≡ log_failed entries)) ⊎ (x ≡ log_stopped) → IsIn x s.knows.participant.past → FaultAsks is_fault (AsksLog ended.writes.failed) (opened_store z.limit (found_in ended)) new_client over.done answered.replies
+      by_event (inl e) in_it =
+          let there : IsIn (log_failed e.0) s.knows.participant.past = subst (λ (x : Event). IsIn x s.knows.participant.past) e.1 in_it in
+          subst (λ (entries : List Entry). FaultAsks is_fault (AsksLog entries) (opened_store z.limit (found_in ended)) new_client over.done answered.replies) (sym (ended.faults.failed e.0 (in_past (log_failed e.0) there)).1) (alone.asked e.0 there)
+      by_event (inr e) in_it = absurd (never_comes new_client part.commands answered.replies (over.explained log_stopped (subst (λ (x : Event). IsIn x s.knows.participant.past) e in_it)))
 
   asked_tables : alone.store.halted ≡ true → FaultAsks kinds.is_tables_fault (AsksEdit ended.edits.failed) (opened_store z.limit (found_in ended)) new_client over.done answered.replies
   asked_tables up =

@@ -1,5 +1,5 @@
 -- What the replies of all clients say of the last edit.
-use Rattle.std.proofs.Common.{◌≡◌, ◌⊎◌, inl, inr, ℕ, ◌≤◌, Bool, true, false, true≢false, List, [], ◌∷◌, map, refl, sym, subst, ◌∙◌}
+use Rattle.std.proofs.Common.{◌≡◌, ◌⊎◌, inl, inr, ℕ, ◌≤◌, true, false, true≢false, List, [], ◌∷◌, map, refl, sym, subst, ap, ◌∙◌, Some}
 use Rattle.std.specs.List.{list_any}
 use Rattle.std.proofs.lemmas.Bool.{eqb-true}
 use mathlib.Core.Option.{some}
@@ -9,8 +9,9 @@ use Rattle.wp_text.specs.declared.script.Part.{Part}
 use Rattle.wp_text.specs.declared.reply.Reply.{Reply}
 use Rattle.wp_text.specs.declared.reply.Reply.TheVariants as reply
 use Rattle.wp_core.specs.Lists.{IsIn}
-use Rattle.wp_core.specs.Sound.Pasts.{HasDone, WasInstalled, last_installed, past_of}
-use Rattle.wp_core.specs.Views.{Event, installed}
+use Rattle.wp_core.specs.Sound.Pasts.{HasDone, is_install, raised_to, WasInstalled, last_installed, past_of}
+use Rattle.wp_core.specs.Views.{Event, installed, renewed}
+use Rattle.wp_core.proofs.Tests.{same_some}
 use Rattle.wp_parts.specs.Devices.{DevicesLeft}
 use Rattle.wp_shared.specs.Ended.{IsEnded, of_seats}
 use Rattle.wp_shared.specs.Ending.{participant_of}
@@ -22,7 +23,7 @@ use Rattle.wp_replies.specs.Known.{Dialogue}
 use Rattle.wp_answers.specs.Answers.{IsRemembered}
 use Rattle.wp_threads.specs.Explained.{found_in}
 use Rattle.wp_threads.specs.Over.{Answered, AreOver, replies_of}
-use Rattle.wp_threads.proofs.Coming.{comes_answered, answers_any}
+use Rattle.wp_threads.proofs.Coming.{never_comes, comes_answered, answers_any}
 use Rattle.wp_threads.proofs.Counted.{same_replies, remembers}
 use Rattle.wp_threads.proofs.Doings.{did}
 use Rattle.wp_threads.proofs.Lists.{any_at, any_wider}
@@ -40,45 +41,54 @@ flush_remembered past n (reply.Flushed m versions) is (edit, same, there) = (edi
 flush_remembered past n other is k = absurd cc
 
 -- nothing was installed, so the edit is the first one
-pub none_installed : (first : InstalledEdit) (past : List Event) → ((edit : InstalledEdit) (compacts : Bool) → IsIn (installed edit compacts) past → ⊥) → last_installed first past ≡ first
+pub none_installed : (first : InstalledEdit) (past : List Event) → ((e : Event) → is_install e ≡ true → IsIn e past → ⊥) → last_installed first past ≡ first
 none_installed first [] none = refl
-none_installed first (installed edit compacts ∷ past) none = absurd (none edit compacts (inl refl))
-none_installed first (other ∷ past) none = none_installed first past (λ edit compacts there. none edit compacts (inr there))
+none_installed first (installed edit compacts ∷ past) none = absurd (none (installed edit compacts) refl (inl refl))
+none_installed first (renewed edit ∷ past) none = absurd (none (renewed edit) refl (inl refl))
+none_installed first (other ∷ past) none = none_installed first past (λ e is there. none e is (inr there))
 
 module _ {D : Type 0} {z : SharedState D} {seats : List SeatState} {history : _} {left : DevicesLeft} (ended : IsEnded z seats history left) (parts : List Part) (answered : List Answered) (over : AreOver z (found_in ended) parts answered seats) where
   abbrev replies : List Reply
   replies = all_replies (replies_of answered)
 
   -- what was installed, a client was answered
-  installed_said : (edit : InstalledEdit) (compacts : Bool) (j i : ℕ) → HasDone (of_seats past_of seats) j i (installed edit compacts) → list_any is_installed replies ≡ true
-  installed_said edit false j i h =
+  installed_said : (e : Event) → is_install e ≡ true → (j i : ℕ) → HasDone (of_seats past_of seats) j i e → list_any is_installed replies ≡ true
+  installed_said (installed edit false) is j i h =
       let d = (did z (found_in ended) parts answered seats over j i (installed edit false) h).1 in
       let said = any_wider (is_flushed edit.flushed) is_installed d.own.answers (flush_installs edit.flushed) (comes_answered (is_flushed edit.flushed) new_client d.own.part.commands d.own.answers d.told) in
       subst (λ (xs : List Reply). list_any is_installed xs ≡ true) (same_replies z (found_in ended) parts answered seats over)
       (answers_any is_installed (dialogues parts (replies_of answered)) (any_at (λ (x : Dialogue). list_any is_installed x.answers) (dialogues parts (replies_of answered)) i d.own d.there said))
-  installed_said edit true j i h =
+  installed_said (installed edit true) is j i h =
       let d = (did z (found_in ended) parts answered seats over j i (installed edit true) h).1 in
       let said = any_wider is_compacted is_installed d.own.answers compaction_installs (comes_answered is_compacted new_client d.own.part.commands d.own.answers d.told) in
       subst (λ (xs : List Reply). list_any is_installed xs ≡ true) (same_replies z (found_in ended) parts answered seats over)
       (answers_any is_installed (dialogues parts (replies_of answered)) (any_at (λ (x : Dialogue). list_any is_installed x.answers) (dialogues parts (replies_of answered)) i d.own d.there said))
+  installed_said (renewed edit) is j i h = let d = (did z (found_in ended) parts answered seats over j i (renewed edit) h).1 in absurd (never_comes new_client d.own.part.commands d.own.answers d.told)
+  installed_said other is j i h = absurd cc
+
+  raised_said : (n : ℕ) (e : Event) → raised_to e ≡ Some n → (j i : ℕ) → HasDone (of_seats past_of seats) j i e → list_any (is_flushed n) replies ≡ true
+  raised_said n (installed edit false) raised j i h =
+      let d = (did z (found_in ended) parts answered seats over j i (installed edit false) h).1 in
+      let same : edit.flushed ≡ n = same_some edit.flushed n raised in
+      let said = subst (λ (m : ℕ). list_any (is_flushed m) d.own.answers ≡ true) same (comes_answered (is_flushed edit.flushed) new_client d.own.part.commands d.own.answers d.told) in
+      (subst (λ (xs : List Reply). list_any (is_flushed n) xs ≡ true) (same_replies z (found_in ended) parts answered seats over)
+      (answers_any (is_flushed n) (dialogues parts (replies_of answered)) (any_at (λ (x : Dialogue). list_any (is_flushed n) x.answers) (dialogues parts (replies_of answered)) i d.own d.there said)))
+  raised_said n (renewed edit) raised j i h = let d = (did z (found_in ended) parts answered seats over j i (renewed edit) h).1 in absurd (never_comes new_client d.own.part.commands d.own.answers d.told)
+  raised_said n other raised j i h = absurd cc
 
   flushed_said : (n : ℕ) → WasInstalled ended.first_edit (of_seats past_of seats) n → (n ≡ ended.first_edit.flushed) ⊎ (list_any (is_flushed n) replies ≡ true)
   flushed_said n (inl first) = inl first
-  flushed_said n (inr (edit, same, (j, i, h))) =
-      let d = (did z (found_in ended) parts answered seats over j i (installed edit false) h).1 in
-      let said = subst (λ (m : ℕ). list_any (is_flushed m) d.own.answers ≡ true) same (comes_answered (is_flushed edit.flushed) new_client d.own.part.commands d.own.answers d.told) in
-      inr (subst (λ (xs : List Reply). list_any (is_flushed n) xs ≡ true) (same_replies z (found_in ended) parts answered seats over)
-      (answers_any (is_flushed n) (dialogues parts (replies_of answered)) (any_at (λ (x : Dialogue). list_any (is_flushed n) x.answers) (dialogues parts (replies_of answered)) i d.own d.there said)))
+  flushed_said n (inr (e, raised, (j, i, h))) = inr (raised_said n e raised j i h)
 
   flushed_low : (n : ℕ) → list_any (is_flushed n) replies ≡ true → n ≤ ended.edits.last.flushed
   flushed_low n said =
       let k = remembers z (found_in ended) (is_flushed n) parts answered seats over said in
       let f = flush_remembered k.past n k.answer k.is k.remembered in
-      ended.installed.rises n (inr (f.0, f.1, (0, k.place, (k.past, (map past_of (map participant_of seats), refl, k.there), f.2))))
+      ended.installed.rises n (inr (installed f.0 false, ap Some f.1, (0, k.place, (k.past, (map past_of (map participant_of seats), refl, k.there), f.2))))
 
   none_said : (past : List Event) → get_elem? (map past_of (map participant_of seats)) 0 ≡ some past → list_any is_installed replies ≡ false → ended.edits.last ≡ ended.first_edit
   none_said past at none = elim (ended.installed.edit 0 0 past (map past_of (map participant_of seats), refl, at)) [
-    | inl is ↦ is ∙ none_installed ended.first_edit past (λ edit compacts there. absurd (true≢false (sym (installed_said edit compacts 0 0 (past, (map past_of (map participant_of seats), refl, at), there)) ∙ none)))
+    | inl is ↦ is ∙ none_installed ended.first_edit past (λ e is there. absurd (true≢false (sym (installed_said e is 0 0 (past, (map past_of (map participant_of seats), refl, at), there)) ∙ none)))
     | inr other ↦ absurd (true≢false (sym (installed_said other.0 other.1 other.2.0 other.2.1 other.2.3) ∙ none))
   ]
 

@@ -8,8 +8,8 @@ use Rattle.wp_text.specs.declared.script.Command.{Command}
 use Rattle.wp_text.specs.declared.script.Part.{Part}
 use Rattle.wp_core.specs.Lists.{IsIn, one_if, total}
 use Rattle.wp_core.specs.Sound.Actors.{StartsWith}
-use Rattle.wp_core.specs.Sound.Pasts.{is_log_fault, is_tables_fault, last_after, last_installed}
-use Rattle.wp_core.specs.Views.{Event, installed, log_failed, tables_failed}
+use Rattle.wp_core.specs.Sound.Pasts.{closes_log, is_tables_fault, is_install, last_after, last_installed}
+use Rattle.wp_core.specs.Views.{Event, installed, renewed, log_failed, tables_failed}
 use Rattle.wp_core.proofs.KeepsSeen.{whole}
 use Rattle.wp_core.proofs.PastsGrow.{in_front}
 use Rattle.wp_shared.specs.Seats.{SharedState, SeatState}
@@ -77,7 +77,7 @@ not_counted test (e ∷ events) event none (inl same) is =
     let one : ◌≡◌ {A = ℕ} (one_if (test e)) 1 = ap (λ (x : Event). one_if (test x)) same ∙ rw is refl in absurd (omega (arith, none, one))
 not_counted test (e ∷ events) event none (inr there) is = not_counted test events event (omega (arith, none)) there is
 
-last_still : (first : InstalledEdit) (past events : List Event) → ((edit : InstalledEdit) (compacts : Bool) → IsIn (installed edit compacts) events → ⊥) → last_installed first (past ++ events) ≡ last_installed first past
+last_still : (first : InstalledEdit) (past events : List Event) → ((e : Event) → is_install e ≡ true → IsIn e events → ⊥) → last_installed first (past ++ events) ≡ last_installed first past
 last_still first [] events none = none_installed first events none
 last_still first (e ∷ past) events none = last_still (last_after first e) past events none
 
@@ -105,9 +105,11 @@ module _ {D : Type 0} (z : SharedState D) (found : StoredState) (part : Part) (a
       in_all : (is_such : Such) → comes_to is_such new_client (done ++ rest) (answered.replies ++ []) ≡ true → comes_to is_such new_client part.commands answered.replies ≡ true
       in_all is_such is = subst (λ (x : List Command × List _). comes_to is_such new_client x.0 x.1 ≡ true) (λ i. (sym commands i, append-nil answered.replies i)) is
 
-  installs_none : (edit : InstalledEdit) (compacts : Bool) → IsIn (installed edit compacts) ends.events → ⊥
-  installs_none edit false there = true≢false (sym (ends.explained (installed edit false) there).3)
-  installs_none edit true there = true≢false (sym (ends.explained (installed edit true) there).3)
+  installs_none : (e : Event) → is_install e ≡ true → IsIn e ends.events → ⊥
+  installs_none (installed edit false) is there = true≢false (sym (ends.explained (installed edit false) there).3)
+  installs_none (installed edit true) is there = true≢false (sym (ends.explained (installed edit true) there).3)
+  installs_none (renewed edit) is there = true≢false (sym (ends.explained (renewed edit) there).3)
+  installs_none other is there = absurd cc
 
   ends_alone : RanAlone z found done answered.replies s.knows.participant (client_of h) → EndsAlone z found done answered.replies u.knows.participant
   ends_alone ran = record {
@@ -116,10 +118,10 @@ module _ {D : Type 0} (z : SharedState D) (found : StoredState) (part : Part) (a
     ran = ran.ran;
     history = subst (StartsWith u.knows.participant.seen) (sym ran.store_is.history) ends.stays.seen;
     own = λ n there. subst (λ (k : List Entry). n ≤ length k) (sym ran.store_is.history) (ran.store_is.own n (subst (IsIn n) ends.own there));
-    stopped = ran.store_is.stopped ∙ counted_still is_log_fault ends.log_failed;
+    stopped = ran.store_is.stopped ∙ counted_still closes_log ends.log_failed;
     installed = ran.store_is.installed ∙ (sym (last_still found.edit s.knows.participant.past ends.events installs_none) ∙ ap (last_installed found.edit) (sym ends.past));
     halted = ran.store_is.halted ∙ counted_still is_tables_fault ends.tables_failed;
-    asked = λ entries there. ⊎_elim (ran.asked entries) (λ (k : IsIn (log_failed entries) ends.events). absurd (not_counted is_log_fault ends.events (log_failed entries) ends.log_failed k refl))
+    asked = λ entries there. ⊎_elim (ran.asked entries) (λ (k : IsIn (log_failed entries) ends.events). absurd (not_counted closes_log ends.events (log_failed entries) ends.log_failed k refl))
         (in_parts (log_failed entries) s.knows.participant.past ends.events (subst (IsIn (log_failed entries)) ends.past there));
     asked_edit = λ last edit there. ⊎_elim (ran.asked_edit last edit) (λ (k : IsIn (tables_failed last (Some edit)) ends.events). absurd (not_counted is_tables_fault ends.events (tables_failed last (Some edit)) ends.tables_failed k refl))
         (in_parts (tables_failed last (Some edit)) s.knows.participant.past ends.events (subst (IsIn (tables_failed last (Some edit))) ends.past there));
@@ -138,7 +140,7 @@ module _ {D : Type 0} (z : SharedState D) (found : StoredState) (part : Part) (a
     session = λ e agrees. subst (λ (x : List Command × List _). IsSession e (known_at_first found) new_client x.0 x.1) (λ i. (append-nil done i, append-nil answered.replies i))
         (g.session.goes_on e (agrees_before z e s.knows.participant u.knows.participant ends.events ends.stays.seen ends.past agrees) [] [] tt);
     explained = explained_rest commands;
-    log_failed = g.log_failed ∙ counted_still is_log_fault ends.log_failed;
+    log_failed = g.log_failed ∙ counted_still closes_log ends.log_failed;
     tables_failed = g.tables_failed ∙ counted_still is_tables_fault ends.tables_failed;
     remembered = λ answer there. remembered_wider s.knows.participant.past u.knows.participant.past answer (λ e x. subst (IsIn e) (sym ends.past) (in_front e s.knows.participant.past ends.events x)) (g.remembered answer there);
     alone = λ only. ends_alone (g.alone (only_before s u ends.stays only));

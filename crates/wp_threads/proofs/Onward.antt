@@ -9,7 +9,7 @@ use Rattle.wp_text.specs.declared.script.Command.{Command}
 use Rattle.wp_text.specs.declared.reply.Reply.{Reply}
 use Rattle.wp_text.specs.declared.reply.Reply.TheVariants as reply
 use Rattle.wp_core.specs.Lists.{IsIn, one_if, total}
-use Rattle.wp_core.specs.Sound.Pasts.{is_log_fault, is_tables_fault}
+use Rattle.wp_core.specs.Sound.Pasts.{closes_log, is_tables_fault}
 use Rattle.wp_core.specs.Views.{Event, log_failed, tables_failed}
 use Rattle.wp_core.specs.World.{Participant}
 use Rattle.wp_core.proofs.PastsGrow.{in_front}
@@ -135,7 +135,7 @@ goes_more z found is_found name done answers c r s t h k g a holds alone = recor
   within = λ n there. ⊎_elim (g.within n) (a.within n) (in_parts n s.knows.participant.own (acknowledged r) (subst (IsIn n) a.own there));
   session = session_more z found is_found name done answers c r s t (client_of h) (client_of k) a g.session;
   explained = explained_more z found is_found name done answers c r s t (client_of h) (client_of k) a g.client g.explained;
-  log_failed = counted_more is_fault is_log_fault answers s.knows.participant.past a.events t.knows.participant.past r a.past g.log_failed a.log_failed;
+  log_failed = counted_more is_fault closes_log answers s.knows.participant.past a.events t.knows.participant.past r a.past g.log_failed a.log_failed;
   tables_failed = counted_more kinds.is_tables_fault is_tables_fault answers s.knows.participant.past a.events t.knows.participant.past r a.past g.tables_failed a.tables_failed;
   remembered = λ answer there. ⊎_elim
       (λ (i : IsIn answer answers). remembered_wider s.knows.participant.past t.knows.participant.past answer (λ e x. subst (IsIn e) (sym a.past) (in_front e s.knows.participant.past a.events x)) (g.remembered answer i))

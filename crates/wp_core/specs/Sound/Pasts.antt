@@ -9,7 +9,7 @@ use Rattle.wp_core.specs.Lists.{IsIn, one_if, total}
 use Rattle.wp_model.specs.LockTables.{LockTables}
 use Rattle.wp_core.specs.Tables.{WriteTable, Installed}
 use Rattle.wp_model.specs.Flushed.{InstalledEdit}
-use Rattle.wp_core.specs.Views.{Account, own, another, prepare_at, Event, claimed, took, locked, told, heard, installed, log_failed, tables_failed, stopped, found_edit, found}
+use Rattle.wp_core.specs.Views.{Account, own, another, prepare_at, Event, claimed, took, locked, told, heard, installed, renewed, log_failed, log_stopped, tables_failed, stopped, found_edit, found}
 use Rattle.wp_core.specs.World.{Participant}
 use Rattle.wp_core.specs.Sound.Actors.{IsParticipantAt, total_participants}
 use Rattle.wp_core.specs.Sound.Locks.{WasPrepared, PrepareHas}
@@ -77,23 +77,43 @@ abbrev pub is_log_fault : Event → Bool
 is_log_fault (log_failed entries) = true
 is_log_fault other = false
 
+-- the log is closed with it
+abbrev pub closes_log : Event → Bool
+closes_log (log_failed entries) = true
+closes_log log_stopped = true
+closes_log other = false
+
 abbrev pub is_tables_fault : Event → Bool
 is_tables_fault (tables_failed last edit) = true
 is_tables_fault other = false
 
 pub record AreFaults (writes : WriteTable) (halted : Bool) (pasts : List (List (List Event))) : Type 0 where
-  pub log : times_past is_log_fault pasts ≡ one_if writes.closed
+  pub log : times_past closes_log pasts ≡ one_if writes.closed
   pub tables : times_past is_tables_fault pasts ≡ one_if halted
   pub not_logged : writes.closed ≡ true → (writes.pending ≡ []) ⊎ (writes.logged ≡ false)
   pub stopped : (n : ℕ) → IsPast pasts (stopped n) → (writes.closed ≡ true) × (n ≡ length writes.history)
   -- the record whose append failed is the one that the log may have
   pub failed : (entries : List Entry) → IsPast pasts (log_failed entries) → (writes.closed ≡ true) × (writes.failed ≡ entries)
+  -- it was stopped only where the devices of the tables had failed
+  pub behind : IsPast pasts log_stopped → halted ≡ true
 
 -- ---- edits
 
--- a flushed number is that of the opening, or one that a flush installed
+-- an edit was installed by it
+abbrev pub is_install : Event → Bool
+is_install (installed edit compacts) = true
+is_install (renewed edit) = true
+is_install other = false
+
+-- the flushed number came to this: a compaction keeps it
+abbrev pub raised_to : Event → Option ℕ
+raised_to (installed edit false) = Some edit.flushed
+raised_to (renewed edit) = Some edit.flushed
+raised_to other = None
+
+-- a flushed number is that of the opening, or one that a flush or a renewal installed
 abbrev pub WasInstalled : InstalledEdit → List (List (List Event)) → ℕ → Type 0
-WasInstalled first pasts n = (n ≡ first.flushed) ⊎ ((edit : InstalledEdit) × (edit.flushed ≡ n) × IsPast pasts (installed edit false))
+WasInstalled first pasts n = (n ≡ first.flushed) ⊎ ((e : Event) × (raised_to e ≡ Some n) × IsPast pasts e)
 
 -- the tables that are there at least, for one who knows of so many and installed an edit
 abbrev pub due_after : ℕ → Event → ℕ
@@ -107,6 +127,7 @@ tables_due first past = fold due_after first.tables past
 -- the last edit for one who knew of this one
 abbrev pub last_after : InstalledEdit → Event → InstalledEdit
 last_after last (installed edit compacts) = edit
+last_after last (renewed edit) = edit
 last_after last other = last
 
 abbrev pub last_installed : InstalledEdit → List Event → InstalledEdit
@@ -117,12 +138,12 @@ abbrev pub OtherDid : List (List (List Event)) → ℕ → ℕ → Event → Typ
 OtherDid pasts j i e = (k l : ℕ) × ((k ≢ j) ⊎ (l ≢ i)) × HasDone pasts k l e
 
 abbrev pub OtherInstalls : List (List (List Event)) → ℕ → ℕ → Type 0
-OtherInstalls pasts j i = (edit : InstalledEdit) × (compacts : Bool) × OtherDid pasts j i (installed edit compacts)
+OtherInstalls pasts j i = (e : Event) × (is_install e ≡ true) × OtherDid pasts j i e
 
 abbrev pub OtherCompacts : List (List (List Event)) → ℕ → ℕ → Type 0
 OtherCompacts pasts j i = (edit : InstalledEdit) × OtherDid pasts j i (installed edit true)
 
--- The last edit's flushed number is the opening's or a flush's, of which none is greater, and so is each that was found. It is
+-- The last edit's flushed number is the opening's, a flush's or a renewal's, of which none is greater, and so is each that was found. It is
 -- the edit that a participant installed last, unless another one installed one, and has at least the tables that this one knows
 -- of, unless another one compacted; so has the edit that was found. Where the devices failed, it is that one still, and so is the
 -- one whose install failed; and it has the flushed number that was found once they had failed.

@@ -28,6 +28,15 @@ fn install(
     hold(world, actor, Turn::Tables)
 }
 
+fn renew(world: &mut World, actor: &mut Actor, edit: InstalledEdit) -> Result<(), AllocError>
+    ensures { OnOk result ((by : ℕ) → IsEffect by world.old actor.old (step.renew edit) world.new actor.new) }
+{
+    let renewed = edit.copy(world.alloc)?;
+    actor.remember(Event::of(Found::Renewed(renewed)))?;
+    world.installed.last = edit;
+    hold(world, actor, Turn::Tables)
+}
+
 fn halt(world: &mut World, actor: &mut Actor, edit: Option<InstalledEdit>) -> Result<(), AllocError>
     ensures { OnOk result ((by : ℕ) → IsEffect by world.old actor.old (step.halt edit) world.new actor.new) }
 {
@@ -58,6 +67,7 @@ pub(crate) fn tables(
 {
     match kind {
         TablesStep::Install(edit, compacts) => install(world, actor, edit, compacts),
+        TablesStep::Renew(edit) => renew(world, actor, edit),
         TablesStep::Halt(edit) => halt(world, actor, edit),
         TablesStep::FindEdit => find_edit(world, actor),
     }

@@ -53,6 +53,28 @@ fn drop_pending(world: &mut World, actor: &mut Actor) -> Result<(), AllocError>
     hold(world, actor, Turn::Write)
 }
 
+fn write_segment(world: &mut World, actor: &mut Actor, place: u64) -> Result<(), AllocError>
+    ensures { OnOk result ((by : ℕ) → IsEffect by world.old actor.old (step.write_segment place) world.new actor.new) }
+{
+    world.writes.write_segment(place);
+    hold(world, actor, Turn::Write)
+}
+
+fn use_segment(world: &mut World, actor: &mut Actor) -> Result<(), AllocError>
+    ensures { OnOk result ((by : ℕ) → IsEffect by world.old actor.old step.use_segment world.new actor.new) }
+{
+    world.writes.use_segment();
+    hold(world, actor, Turn::Write)
+}
+
+fn stop_log(world: &mut World, actor: &mut Actor) -> Result<(), AllocError>
+    ensures { OnOk result ((by : ℕ) → IsEffect by world.old actor.old step.stop_log world.new actor.new) }
+{
+    world.writes.closed = true;
+    actor.remember(Event::of(Found::LogStopped))?;
+    hold(world, actor, Turn::Write)
+}
+
 pub(crate) fn write(world: &mut World, actor: &mut Actor, kind: WriteStep) -> Result<(), AllocError>
     ensures { (s : step.Step) → write_step kind ≡ Some s
         → OnOk result ((by : ℕ) → IsEffect by world.old actor.old s world.new actor.new) }
@@ -63,5 +85,8 @@ pub(crate) fn write(world: &mut World, actor: &mut Actor, kind: WriteStep) -> Re
         WriteStep::CloseLog => close_log(world, actor),
         WriteStep::FindLogClosed => find_log_closed(world, actor),
         WriteStep::DropPending => drop_pending(world, actor),
+        WriteStep::WriteSegment(place) => write_segment(world, actor, place),
+        WriteStep::UseSegment => use_segment(world, actor),
+        WriteStep::StopLog => stop_log(world, actor),
     }
 }

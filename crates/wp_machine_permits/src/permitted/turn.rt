@@ -35,7 +35,7 @@ fn may_give(world: &World, turn: Turn) -> bool
     ensures { result ≡ true → MayGive world.now (turn_of turn) }
 {
     match turn {
-        Turn::Write => world.writes.pending.is_empty(),
+        Turn::Write => world.writes.pending.is_empty() && world.writes.none_next(),
         Turn::Prepared => delayed_flag_is_right(world),
         Turn::Snapshots => old_flag_is_right(world),
         Turn::Store | Turn::Locks => true,

@@ -1,8 +1,8 @@
 //! Whether a step with the write turn may be made.
-ghost use Rattle.std.specs.Prelude.{◌≡◌, ◌≢◌, ◌++◌, true, Some, IfOk};
+ghost use Rattle.std.specs.Prelude.{◌≡◌, ◌≢◌, ◌↔◌, ◌++◌, true, Some, IfOk};
 ghost use Rattle.wp_core.specs.World.{Actor};
 ghost use Rattle.wp_core.specs.Cache.{cached};
-ghost use Rattle.wp_core.specs.Conditions.{MayLog, MayDrop};
+ghost use Rattle.wp_core.specs.Conditions.{MayLog, MayClose, MayDrop, MayWriteSegment, MayUseSegment, MayStop};
 ghost use Rattle.wp_core.specs.Entries.{IsOneRecord, pending_pair};
 ghost use Rattle.wp_core.specs.Steps as step;
 ghost use Rattle.wp_model.specs.Legal.{IsLegal};
@@ -15,7 +15,7 @@ use crate::permitted::evicting::cached;
 use crate::permitted::history::{add_all, history_of};
 use std::alloc::AllocError;
 use wp_machine::{Turn, World, WriteStep};
-use wp_machine_needs::is_undelayed;
+use wp_machine_needs::{is_next_segment, is_undelayed};
 use wp_model::Entry;
 
 fn may_log(world: &World, by: usize) -> bool
@@ -25,6 +25,52 @@ fn may_log(world: &World, by: usize) -> bool
         && !world.writes.pending.is_empty()
         && !world.writes.logged
         && !world.writes.closed
+}
+
+/// The last edit names the next segment.
+fn names_next(world: &World) -> bool
+    ensures { (result ≡ true) ↔ (world.now.writes.next ≡ Some world.now.installed.last.segment) }
+{
+    is_next_segment(world, world.installed.last.segment)
+}
+
+fn may_close(world: &World, by: usize) -> bool
+    ensures { result ≡ true → MayClose world.now by }
+{
+    if !world.holders.holds(Turn::Write, by) || world.writes.closed {
+        return false;
+    }
+    if world.writes.pending.is_empty() {
+        return !names_next(world);
+    }
+    !world.writes.logged
+}
+
+fn may_write_segment(world: &World, by: usize, place: u64) -> bool
+    ensures { result ≡ true → MayWriteSegment world.now by place }
+{
+    world.holders.holds(Turn::Write, by)
+        && world.writes.pending.is_empty()
+        && !world.writes.closed
+        && world.writes.next.is_none()
+        && place != world.writes.segment.place
+}
+
+fn may_use_segment(world: &World, by: usize) -> bool
+    ensures { result ≡ true → MayUseSegment world.now by }
+{
+    world.holders.holds(Turn::Write, by) && !world.writes.closed && names_next(world)
+}
+
+fn may_stop(world: &World, by: usize) -> bool
+    ensures { result ≡ true → MayStop world.now by }
+{
+    world.holders.holds(Turn::Write, by)
+        && world.holders.holds(Turn::Tables, by)
+        && world.writes.pending.is_empty()
+        && !world.writes.closed
+        && !names_next(world)
+        && world.installed.halted
 }
 
 /// One entry, or an undo with its close.
@@ -55,7 +101,7 @@ fn may_make_pending(world: &World, by: usize, entries: &[Entry]) -> Result<bool,
     if !world.holders.holds(Turn::Write, by) || !world.writes.pending.is_empty() {
         return Ok(false);
     }
-    if !is_one_record(entries) {
+    if !world.writes.none_next() || !is_one_record(entries) {
         return Ok(false);
     }
     let legal = is_legal_with(world, entries)?;
@@ -91,11 +137,15 @@ pub(super) fn write(world: &World, by: usize, kind: &WriteStep) -> Result<bool, 
     ensures { IfOk result (λ yes. yes ≡ true → (a : Actor) → IsOffered world.now by a (write_step kind.now)) }
 {
     match kind {
-        WriteStep::LogPending | WriteStep::CloseLog => Ok(may_log(world, by)),
+        WriteStep::LogPending => Ok(may_log(world, by)),
+        WriteStep::CloseLog => Ok(may_close(world, by)),
         WriteStep::FindLogClosed => {
             Ok(world.holders.holds(Turn::Write, by) && world.writes.closed)
         }
         WriteStep::MakePending(entries) => may_make_pending(world, by, entries),
         WriteStep::DropPending => may_drop(world, by),
+        WriteStep::WriteSegment(place) => Ok(may_write_segment(world, by, *place)),
+        WriteStep::UseSegment => Ok(may_use_segment(world, by)),
+        WriteStep::StopLog => Ok(may_stop(world, by)),
     }
 }

@@ -11,4 +11,5 @@ returns c =
     let flush = rw last at (c.follows.ensures.flush c.if-not-follows.false) in
     let compaction = rw last at (c.follows.ensures.compaction c.if-not-follows.false) in
     let rises = rw last at (c.follows.ensures.rises c.if-not-follows.false) in
-    λ a e. (c.holds_tables.ensures.0 c.if-not-holds_tables.false, halted, stored c.args.world.now.installed.halted e, flush, compaction, rises)
+    let segment = rw last at (c.follows.ensures.segment c.if-not-follows.false) in
+    λ a e. (c.holds_tables.ensures.0 c.if-not-holds_tables.false, halted, stored c.args.world.now.installed.halted e, flush, compaction, rises, segment)

@@ -1,6 +1,6 @@
-use Rattle.std.proofs.Common.{List, false, sym, subst, ap, ◌∙◌}
+use Rattle.std.proofs.Common.{◌≡◌, List, false, sym, subst, ap, ◌∙◌}
 use Rattle.wp_model.specs.declared.version.Version.{Version}
-use Rattle.wp_model.specs.Flushed.{InstalledEdit}
+use Rattle.wp_model.specs.Flushed.{InstalledEdit, IsEditCovered}
 use Rattle.wp_replies.specs.Tables.{after_flush}
 use Rattle.wp_core.specs.Tables.{Installed}
 use Rattle.wp_core.specs.Views.{tables_failed}
@@ -13,7 +13,7 @@ use Rattle.wp_maint.specs.Finding.{Changes}
 use Rattle.wp_maint.specs.Flush.{versions_of}
 use Rattle.wp_maint.specs.Holding.{is_of_flushed}
 use Rattle.wp_maint.proofs.Found.{failed_last}
-use Rattle.wp_maint.proofs.Installed.{same_edit, knows_flush, asked_covered, asked_is, still_holds}
+use Rattle.wp_maint.proofs.Installed.{same_edit, knows_flush, asked_of, still_holds}
 use Rattle.wp_maint.proofs.flushing.install.Goals as goal
 
 pub install_flush-requires-clause-held : goal.install_flush-requires-clause-held
@@ -35,7 +35,13 @@ pub halt-requires-clause-covered : goal.halt-requires-clause-covered
 halt-requires-clause-covered g c =
     let t = c.args.edits.now.table in let f = c.args.frozen.now in
     let k = subst (λ (vs : List Version). IsRefused t c.flush.new.self.table (with_table vs f.at t.last) Fault) c.requires.versions (subst (IsRefused t c.flush.new.self.table (with_table c.args.versions.now f.at t.last)) c.in-Err-Fault.field-0-is c.in-Err-Fault.ensures.refused) in
-    asked_covered c.args.seat.now.knows.participant.seen (with_table (versions_of f) f.at t.last) c.flush.new.self.table.failed (knows_flush c.args.seat.now.knows t f c.requires.frozen c.requires.running).covered k.1
+    asked_of (IsEditCovered c.args.seat.now.knows.participant.seen) (with_table (versions_of f) f.at t.last) c.flush.new.self.table.failed (knows_flush c.args.seat.now.knows t f c.requires.frozen c.requires.running).covered k.1
+
+pub halt-requires-clause-segment : goal.halt-requires-clause-segment
+halt-requires-clause-segment g c =
+    let t = c.args.edits.now.table in let f = c.args.frozen.now in let left = c.flush.new.self.table in
+    let k = subst (λ (vs : List Version). IsRefused t left (with_table vs f.at t.last) Fault) c.requires.versions (subst (IsRefused t left (with_table c.args.versions.now f.at t.last)) c.in-Err-Fault.field-0-is c.in-Err-Fault.ensures.refused) in
+    asked_of (λ edit. edit.segment ≡ left.last.segment) (with_table (versions_of f) f.at t.last) left.failed (ap (λ (l : InstalledEdit). l.segment) (sym (ap (λ (x : Installed). x.last) k.0 ∙ failed_last t left.failed))) k.1
 
 pub returns-in-Ok-clause-installed : goal.returns-in-Ok-clause-installed
 returns-in-Ok-clause-installed g c =
@@ -57,7 +63,7 @@ returns-in-Err-Fault-clause-refused g c =
     let changes = c.halt.ensures.changes e.table c.requires.holds.turn.held in
     let next = after_flush s.knows.participant.seen e.table.last in record {
       table = k.0;
-      asked = asked_is (with_table (versions_of f) f.at e.table.last) next left.table.failed (same_edit s.knows e.table f c.requires.frozen) k.1;
+      asked = asked_of (λ edit. edit ≡ next) (with_table (versions_of f) f.at e.table.last) left.table.failed (same_edit s.knows e.table f c.requires.frozen) k.1;
       holds = still_holds z s u e left _ no_fact c.requires.holds changes.goes c.in-Err-Fault.ensures.first;
       changes = subst (λ (l : InstalledEdit). Changes z s e.table left.table (tables_failed l left.table.failed) no_fact u) (ap (λ (x : Installed). x.last) k.0 ∙ failed_last e.table left.table.failed) changes;
       edits = c.shows_told.ensures.edits;

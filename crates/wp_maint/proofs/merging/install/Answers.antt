@@ -1,5 +1,5 @@
-use Rattle.std.proofs.Common.{true, refl, sym, subst, ap, ◌∙◌}
-use Rattle.wp_model.specs.Flushed.{InstalledEdit}
+use Rattle.std.proofs.Common.{◌≡◌, true, refl, sym, subst, ap, ◌∙◌}
+use Rattle.wp_model.specs.Flushed.{InstalledEdit, IsEditCovered}
 use Rattle.wp_core.specs.Tables.{Installed}
 use Rattle.wp_core.specs.Views.{tables_failed}
 use Rattle.wp_core.specs.Views as event
@@ -9,7 +9,7 @@ use Rattle.wp_shared.specs.Notes.{no_fact}
 use Rattle.wp_maint.specs.Finding.{Changes}
 use Rattle.wp_maint.specs.Holding.{is_of_flushed}
 use Rattle.wp_maint.proofs.Found.{failed_last}
-use Rattle.wp_maint.proofs.Installed.{asked_covered, asked_is, still_holds}
+use Rattle.wp_maint.proofs.Installed.{asked_of, still_holds}
 use Rattle.wp_maint.proofs.Replaces.{knows_compact}
 use Rattle.wp_maint.proofs.merging.install.Goals as goal
 
@@ -32,7 +32,13 @@ pub halt-requires-clause-covered : goal.halt-requires-clause-covered
 halt-requires-clause-covered g c =
     let t = c.args.edits.now.table in let next = in_one_table c.args.kept.now t.last in
     let k = subst (IsRefused t c.compact.new.self.table next) c.in-Err-Fault.field-0-is c.in-Err-Fault.ensures.refused in
-    asked_covered c.args.seat.now.knows.participant.seen next c.compact.new.self.table.failed c.requires.covered k.1
+    asked_of (IsEditCovered c.args.seat.now.knows.participant.seen) next c.compact.new.self.table.failed c.requires.covered k.1
+
+pub halt-requires-clause-segment : goal.halt-requires-clause-segment
+halt-requires-clause-segment g c =
+    let t = c.args.edits.now.table in let next = in_one_table c.args.kept.now t.last in let left = c.compact.new.self.table in
+    let k = subst (IsRefused t left next) c.in-Err-Fault.field-0-is c.in-Err-Fault.ensures.refused in
+    asked_of (λ edit. edit.segment ≡ left.last.segment) next left.failed (ap (λ (l : InstalledEdit). l.segment) (sym (ap (λ (x : Installed). x.last) k.0 ∙ failed_last t left.failed))) k.1
 
 pub returns-in-Ok-clause-installed : goal.returns-in-Ok-clause-installed
 returns-in-Ok-clause-installed g c =
@@ -54,7 +60,7 @@ returns-in-Err-Fault-clause-refused g c =
     let k = subst (IsRefused e.table left.table next) c.in-Err-Fault.field-0-is c.in-Err-Fault.ensures.refused in
     let changes = c.halt.ensures.changes e.table c.requires.holds.turn.held in record {
       table = k.0;
-      asked = asked_is next next left.table.failed refl k.1;
+      asked = asked_of (λ edit. edit ≡ next) next left.table.failed refl k.1;
       holds = still_holds z s u e left _ no_fact c.requires.holds changes.goes c.in-Err-Fault.ensures.first;
       changes = subst (λ (l : InstalledEdit). Changes z s e.table left.table (tables_failed l left.table.failed) no_fact u) (ap (λ (x : Installed). x.last) k.0 ∙ failed_last e.table left.table.failed) changes;
       edits = c.shows_told.ensures.edits;
