@@ -15,7 +15,6 @@ use wp_history::History;
 use wp_model::{Change, Holder, Key, Name, Seq};
 
 /// The live names, the held keys and the board, which the holder of the locks turn changes.
-#[derive(Drop)]
 pub struct Locks {
     alloc: Global,
     /// The live names, each with the client that has it, if one does.
@@ -159,5 +158,17 @@ impl Locks {
         ensures { result ≡ map.get self.now.labels label.now }
     {
         self.labels.get(label).copied()
+    }
+}
+
+// Written out, so that no crate above proves anew how all that it holds is let go.
+impl Drop for Locks {
+    fn drop(self) {
+        let Self {
+            alloc: _alloc,
+            names: _names,
+            keys: _keys,
+            labels: _labels,
+        } = self;
     }
 }

@@ -37,7 +37,6 @@ pub struct FailedInstall {
 
 /// The set of tables, and what the tables of its last edit have, the newest first. Clauses see the table of the machine that it
 /// is, the set, the versions of each table, and the set as it was when this value was made.
-#[derive(Drop)]
 pub struct Edits<D: Disk> {
     set: TableSet<D>,
     tables: Vec<TableVersions>,
@@ -207,7 +206,24 @@ impl<D: Disk> Edits<D> {
         ensures tables { (D.moments result.tables ≡ self.set.moments) × (D.faults result.tables ≡ self.set.faults) }
         ensures edits { IsEdits self }
     {
-        let Edits { set, .. } = self;
+        let Edits {
+            set,
+            tables: _tables,
+            failed: _failed,
+            first: _first,
+        } = self;
         set.into_disks()
+    }
+}
+
+// Written out, so that no crate above proves anew how all that it holds is let go.
+impl<D: Disk + Drop> Drop for Edits<D> {
+    fn drop(self) {
+        let Self {
+            set: _set,
+            tables: _tables,
+            failed: _failed,
+            first: _first,
+        } = self;
     }
 }

@@ -27,7 +27,6 @@ use wp_wal::Wal;
 ///
 /// A record is made pending with all the memory that it will need. From then on it is appended, and its entries join the
 /// history one by one; or it is dropped.
-#[derive(Drop)]
 pub struct Log<D: Disk> {
     alloc: Global,
     wal: Wal<D>,
@@ -196,7 +195,32 @@ impl<D: Disk> Log<D> {
         ensures history { result.1.entries ≡ self.table.history }
         ensures log { IsLog self }
     {
-        let Log { wal, history, .. } = self;
+        let Log {
+            alloc: _alloc,
+            wal,
+            history,
+            pending: _pending,
+            logged: _logged,
+            closed: _closed,
+            failed: _failed,
+            first: _first,
+        } = self;
         (wal, history)
+    }
+}
+
+// Written out, so that no crate above proves anew how all that it holds is let go.
+impl<D: Disk + Drop> Drop for Log<D> {
+    fn drop(self) {
+        let Self {
+            alloc: _alloc,
+            wal: _wal,
+            history: _history,
+            pending: _pending,
+            logged: _logged,
+            closed: _closed,
+            failed: _failed,
+            first: _first,
+        } = self;
     }
 }

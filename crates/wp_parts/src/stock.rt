@@ -20,7 +20,6 @@ use wp_table::Table;
 
 /// The versions in memory and in tables, and the floor. Clauses see the parts of the store and the floor; in the machine, what
 /// is frozen is in memory still.
-#[derive(Drop)]
 pub struct Stock {
     store: Store,
     floor: Seq,
@@ -122,5 +121,15 @@ impl Stock {
     {
         self.store.put_tables(tables);
         self.floor = floor;
+    }
+}
+
+// Written out, so that no crate above proves anew how all that it holds is let go.
+impl Drop for Stock {
+    fn drop(self) {
+        let Self {
+            store: _store,
+            floor: _floor,
+        } = self;
     }
 }

@@ -13,7 +13,6 @@ use std::marker::Model;
 use wp_model::Seq;
 
 /// The live snapshots with the old commit map, which the holder of the snapshots turn changes.
-#[derive(Drop)]
 pub struct Snaps {
     alloc: Global,
     live: BTreeMap<Seq, Snapshot>,
@@ -110,5 +109,16 @@ impl Snaps {
         ensures each { (s : ℕ) → Contains result s ↔ IsLive self.now s }
     {
         Live::new(self.live.keys())
+    }
+}
+
+// Written out, so that no crate above proves anew how all that it holds is let go.
+impl Drop for Snaps {
+    fn drop(self) {
+        let Self {
+            alloc: _alloc,
+            live: _live,
+            kept: _kept,
+        } = self;
     }
 }
