@@ -21,11 +21,6 @@ abbrev pub number_width : Format → Width
 number_width One = w32
 number_width Two = w64
 
--- the last number that fits
-abbrev pub last_number : Format → ℕ
-last_number One = 4294967295
-last_number Two = 18446744073709551615
-
 -- the least number that does not fit
 abbrev pub number_end : Format → ℕ
 number_end One = 2 ^ 32

@@ -1,7 +1,7 @@
 //! The versions of the store's formats.
 
 ghost use Rattle.std.specs.Prelude.{◌≡◌};
-ghost use Rattle.wp_fields.specs.Format.{format_byte, format_of, last_number};
+ghost use Rattle.wp_fields.specs.Format.{format_byte, format_of};
 
 /// A version of a format. In the first the numbers of entries take four bytes, in the second eight.
 #[derive(Clone, Copy, Debug, PartialEq, Eq)]
@@ -18,16 +18,6 @@ impl Format {
         match self {
             Format::One => 1,
             Format::Two => 2,
-        }
-    }
-
-    /// The last number of an entry that fits.
-    pub fn last_number(self) -> u64
-        ensures { result ≡ last_number self }
-    {
-        match self {
-            Format::One => u64::from(u32::MAX),
-            Format::Two => u64::MAX,
         }
     }
 
