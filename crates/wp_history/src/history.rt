@@ -10,7 +10,6 @@ use std::marker::Model;
 use wp_model::{Entry, Seq};
 
 /// A legal history, with the numbers of its undecided prepares.
-#[derive(Drop)]
 pub struct History {
     entries: Vec<Entry>,
     undecided: Vec<Seq>,
@@ -136,5 +135,16 @@ impl History {
         note_undecided(&mut self.undecided, number, &entry);
         self.entries.push(entry).unwrap();
         self.room -= 1;
+    }
+}
+
+// Written out, so that no crate above proves anew how all that it holds is let go.
+impl Drop for History {
+    fn drop(self) {
+        let Self {
+            entries: _entries,
+            undecided: _undecided,
+            room: _room,
+        } = self;
     }
 }

@@ -24,7 +24,6 @@ use wp_outside::Disk;
 const MANIFEST_MAGIC: [u8; 4] = *b"WPMF";
 
 /// An open manifest. Clauses see its log of edits, and the edit that was installed last.
-#[derive(Drop)]
 pub struct Manifest<D: Disk> {
     alloc: Global,
     log: GateLog<D>,
@@ -144,7 +143,22 @@ impl<D: Disk> Manifest<D> {
         ensures moments { D.moments result ≡ self.log.moments }
         ensures faults { D.faults result ≡ self.log.faults }
     {
-        let Manifest { log, .. } = self;
+        let Manifest {
+            log,
+            alloc: _alloc,
+            edit: _edit,
+        } = self;
         log.into_disk()
+    }
+}
+
+// Written out, so that no crate above proves anew how all that it holds is let go.
+impl<D: Disk + Drop> Drop for Manifest<D> {
+    fn drop(self) {
+        let Self {
+            alloc: _alloc,
+            log: _log,
+            edit: _edit,
+        } = self;
     }
 }

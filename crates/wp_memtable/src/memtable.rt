@@ -17,7 +17,6 @@ use std::sync::Arc;
 use wp_model::{Batch, Key, Seq, Value, Version, Versions, copy_value};
 
 /// The versions in memory, which the holder of the store turn changes.
-#[derive(Drop)]
 pub struct Memtable {
     alloc: Global,
     places: BTreeMap<Key, KeyVersions>,
@@ -216,5 +215,18 @@ impl Memtable {
         ensures { result ≡ length self.now }
     {
         self.count
+    }
+}
+
+// Written out, so that no crate above proves anew how all that it holds is let go.
+impl Drop for Memtable {
+    fn drop(self) {
+        let Self {
+            alloc: _alloc,
+            places: _places,
+            count: _count,
+            least: _least,
+            greatest: _greatest,
+        } = self;
     }
 }

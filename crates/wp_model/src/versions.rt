@@ -5,7 +5,6 @@ use crate::version::Version;
 use std::marker::Model;
 
 /// A list of versions in the order of their keys, of one key the newest first. No two have the same key and number.
-#[derive(Drop)]
 pub struct Versions {
     versions: Vec<Version>,
 }
@@ -42,6 +41,16 @@ impl Versions {
         ensures value { result.items ≡ self }
         ensures in_order { AreInOrder self }
     {
-        self.versions
+        let Versions { versions } = self;
+        versions
+    }
+}
+
+// Written out, so that no crate above proves anew how all that it holds is let go.
+impl Drop for Versions {
+    fn drop(self) {
+        let Self {
+            versions: _versions,
+        } = self;
     }
 }

@@ -31,7 +31,7 @@ impl From<AllocError> for WordError {
 }
 
 /// 1 to `MOST` bytes, each printable ASCII other than the space: from `!` (0x21) to `~` (0x7E).
-#[derive(Debug, Drop)]
+#[derive(Debug)]
 pub struct Word<const MOST: usize> {
     bytes: WordBytes,
 }
@@ -152,5 +152,12 @@ impl<const MOST: usize> Ord for Word<MOST> {
 
     fn cmp(&self, other: &Word<MOST>) -> Ordering {
         self.bytes().cmp(&other.bytes())
+    }
+}
+
+// Written out, so that no crate above proves anew how all that it holds is let go.
+impl<const MOST: usize> Drop for Word<MOST> {
+    fn drop(self) {
+        let Self { bytes: _bytes } = self;
     }
 }

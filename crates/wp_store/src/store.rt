@@ -19,7 +19,6 @@ use wp_model::{Batch, Key, Seq, Versions};
 use wp_table::Table;
 
 /// The versions that are stored, which the holder of the store turn changes.
-#[derive(Drop)]
 pub struct Store {
     alloc: Global,
     memory: Memtable,
@@ -176,5 +175,17 @@ impl Store {
         ensures { result ≡ length self.now.tables }
     {
         self.tables.len()
+    }
+}
+
+// Written out, so that no crate above proves anew how all that it holds is let go.
+impl Drop for Store {
+    fn drop(self) {
+        let Self {
+            alloc: _alloc,
+            memory: _memory,
+            frozen: _frozen,
+            tables: _tables,
+        } = self;
     }
 }

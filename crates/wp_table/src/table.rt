@@ -26,7 +26,6 @@ use wp_fields::Format;
 use wp_model::{Key, Seq};
 
 /// A table that was judged or built: its bytes, and eight for each block. Threads may share it.
-#[derive(Drop)]
 pub struct Table {
     bytes: Vec<u8>,
     format: Format,
@@ -200,5 +199,17 @@ impl Table {
         ensures in_order { AreInOrder self.now }
     {
         All::at(&self.bytes, self.format, HEAD, self.count)
+    }
+}
+
+// Written out, so that no crate above proves anew how all that it holds is let go.
+impl Drop for Table {
+    fn drop(self) {
+        let Self {
+            bytes: _bytes,
+            format: _format,
+            count: _count,
+            index: _index,
+        } = self;
     }
 }

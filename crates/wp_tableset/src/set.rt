@@ -23,7 +23,6 @@ use wp_table::{Built, Table, build};
 
 /// The tables of a store: its manifest, and the device of its table files. Clauses see the manifest, the device's moments
 /// and faults, and whether a device has failed.
-#[derive(Drop)]
 pub struct TableSet<D: Disk> {
     alloc: Global,
     manifest: Manifest<D>,
@@ -215,11 +214,24 @@ impl<D: Disk> TableSet<D> {
         let TableSet {
             manifest,
             tables,
-            ..
+            alloc: _alloc,
+            halted: _halted,
         } = self;
         SetDisks {
             manifest: manifest.into_disk(),
             tables,
         }
+    }
+}
+
+// Written out, so that no crate above proves anew how all that it holds is let go.
+impl<D: Disk + Drop> Drop for TableSet<D> {
+    fn drop(self) {
+        let Self {
+            alloc: _alloc,
+            manifest: _manifest,
+            tables: _tables,
+            halted: _halted,
+        } = self;
     }
 }

@@ -25,7 +25,6 @@ const LOG_MAGIC: [u8; 4] = *b"WPLG";
 /// An open log whose records spell a history. Clauses see its disk's moments and faults, its id, where it ends,
 /// whether it is closed, how many records it has, the number that the next entry gets, and the record that is
 /// reserved.
-#[derive(Drop)]
 pub struct Wal<D: Disk> {
     alloc: Global,
     log: GateLog<D>,
@@ -133,7 +132,24 @@ impl<D: Disk> Wal<D> {
         ensures left { (history next : List Entry) → StoresHistory self history next → self.closed ≡ false
             → IfKnown self.moments (LeavesHistory self.id history) }
     {
-        let Wal { log, .. } = self;
+        let Wal {
+            log,
+            alloc: _alloc,
+            due: _due,
+            reserved: _reserved,
+        } = self;
         log.into_disk()
+    }
+}
+
+// Written out, so that no crate above proves anew how all that it holds is let go.
+impl<D: Disk + Drop> Drop for Wal<D> {
+    fn drop(self) {
+        let Self {
+            alloc: _alloc,
+            log: _log,
+            due: _due,
+            reserved: _reserved,
+        } = self;
     }
 }
