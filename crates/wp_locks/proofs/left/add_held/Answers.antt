@@ -12,5 +12,5 @@ loop-change-preserved c =
     let updated = rw (c.in_ok-copy.ensures, c.key.ensures, c.in_ok-copy-2.ensures) at c.in_ok-insert.ensures.updates in (
       change ∷ so_far.0,
       so_far.1 ∙ ap (λ xs. xs ++ so_far.0) cases.0 ∙ append_assoc c.in-Some.before.now (change ∷ []) so_far.0,
-      λ es same. joined_one c.loop-change.keys.entries c.insert-in-Some.new.self.entries (map (λ x. (key_of x, Txn c.args.name.now)) so_far.0 ++ es) (key_of change) (Txn c.args.name.now) updated.0 (so_far.2 es same),
+      λ es same. joined_one c.loop-change.keys.entries c.insert.new.self.entries (map (λ x. (key_of x, Txn c.args.name.now)) so_far.0 ++ es) (key_of change) (Txn c.args.name.now) updated.0 (so_far.2 es same),
     )
