@@ -2,7 +2,7 @@ use wp_model::Seq;
 
 /// What is noted: of the pair of the word at this place, before it may be evicted; of the pending entry's pair; or of all that is
 /// prepared.
-#[derive(Clone, Copy, PartialEq, Eq)]
+#[derive(Clone, Copy)]
 pub(crate) enum PairNote {
     /// Its decision is at most the bound.
     Passed(usize, Seq, Seq),

@@ -10,7 +10,7 @@ use wp_outside::Disk;
 use wp_parts::Log;
 
 /// How the pair is kept that an entry decides: a version's number, and the number that decides it.
-#[derive(Clone, Copy, PartialEq, Eq)]
+#[derive(Clone, Copy)]
 pub enum Way {
     /// The entry decides none: it is a Prepare.
     Undecided,

@@ -1,7 +1,7 @@
 use wp_model::Seq;
 
 /// What a flush or a compaction made.
-#[derive(Clone, Copy, PartialEq, Eq)]
+#[derive(Clone, Copy)]
 pub struct Done {
     /// The published number up to which it goes.
     pub at: Seq,

@@ -5,7 +5,7 @@ use std::alloc::AllocError;
 use wp_model::Seq;
 
 /// Why a flush or a compaction made nothing.
-#[derive(Clone, Copy, PartialEq, Eq)]
+#[derive(Clone, Copy)]
 pub enum MaintError {
     Memory,
     /// No version stands in memory, or there are fewer than two tables.

@@ -1,5 +1,5 @@
 /// What a new table takes the place of.
-#[derive(Clone, Copy, PartialEq, Eq)]
+#[derive(Clone, Copy)]
 pub(crate) enum Gone {
     /// The frozen parts, which a flush wrote.
     Frozen,

@@ -4,7 +4,7 @@ use wp_judge::Observed;
 use wp_model::Seq;
 
 /// What the first word of a version and the first load of the bound say of it.
-#[derive(Clone, Copy, PartialEq, Eq)]
+#[derive(Clone, Copy)]
 pub enum Look {
     /// The version is visible, or it is not.
     Decided(bool),
@@ -13,7 +13,7 @@ pub enum Look {
 }
 
 /// What the loads that need no turn say of a version.
-#[derive(Clone, Copy, PartialEq, Eq)]
+#[derive(Clone, Copy)]
 pub enum Free {
     /// The version is visible, or it is not.
     Decided(bool),

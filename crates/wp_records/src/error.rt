@@ -4,7 +4,7 @@ ghost use Rattle.wp_records.specs.declared.error.WriteError.TheVariants.{Memory}
 use std::alloc::AllocError;
 
 /// Why a record was not put into the history.
-#[derive(Clone, Copy, PartialEq, Eq)]
+#[derive(Clone, Copy)]
 pub enum WriteError {
     /// Memory was wanting, before the record's log call.
     Memory,

@@ -10,7 +10,7 @@ use wp_outside::Device;
 use wp_text::Fault;
 
 /// How a call of `run` ended.
-#[derive(Drop, PartialEq, Eq)]
+#[derive(Drop)]
 pub enum Status {
     /// The whole text was written.
     Ok,
