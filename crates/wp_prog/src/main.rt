@@ -38,7 +38,7 @@ fn main(rt: HostRuntime) -> ExitCode {
         }
         Err(status) => status,
     };
-    if status != Status::Ok {
+    if !matches!(status, Status::Ok) {
         // Where not even this can be said, the exit status still does.
         let _ = report(&rt, &status);
     }
