@@ -17,7 +17,6 @@ pub struct KeyVersions {
     kept: Kept,
 }
 
-#[derive(Drop)]
 pub(crate) enum Kept {
     Empty,
     One((Seq, Option<Value>)),
@@ -154,6 +153,17 @@ impl KeyVersions {
             Kept::One(version) if i == 0 => Some(version),
             Kept::Many(several) => several.get(i),
             Kept::Empty | Kept::One(_) => None,
+        }
+    }
+}
+
+// Written out, so that no code that lets one go has to tell its variants apart.
+impl Drop for Kept {
+    fn drop(self) {
+        match self {
+            Kept::Empty => {}
+            Kept::One(_version) => {}
+            Kept::Many(_several) => {}
         }
     }
 }
