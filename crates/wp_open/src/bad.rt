@@ -5,7 +5,7 @@ use wp_outside::Device;
 use wp_table::TableError;
 
 /// What is wrong with the bytes of a store's devices: the first fault.
-#[derive(Drop, PartialEq, Eq)]
+#[derive(PartialEq, Eq)]
 pub enum Bad {
     /// The device has no whole head, or one of another magic or version.
     BadHead(Device),
@@ -36,6 +36,34 @@ impl fmt::Display for Bad {
             Bad::LogBehind { flushed, length } => write!(f, "log behind {flushed} {length}"),
             Bad::BadTable { place, why } => write!(f, "bad table {place} {why}"),
             Bad::Uncovered => write!(f, "uncovered"),
+        }
+    }
+}
+
+// Written out, so that no crate above proves anew how all that it holds is let go.
+impl Drop for Bad {
+    fn drop(self) {
+        match self {
+            Bad::BadHead(_device) => {}
+            Bad::BadRecord {
+                index: _index,
+                why: _why,
+            } => {}
+            Bad::Illegal { number: _number } => {}
+            Bad::Stranger {
+                log: _log,
+                found: _found,
+            } => {}
+            Bad::BadEdit { index: _index } => {}
+            Bad::LogBehind {
+                flushed: _flushed,
+                length: _length,
+            } => {}
+            Bad::BadTable {
+                place: _place,
+                why: _why,
+            } => {}
+            Bad::Uncovered => {}
         }
     }
 }
