@@ -107,8 +107,10 @@ impl History {
     pub fn entry_at(&self, n: Seq) -> Option<&Entry>
         ensures { option_copied result ≡ entry_at self.now.entries n }
     {
-        let before = n.checked_sub(1)?;
-        self.entries.get(usize::try_from(before).ok()?)
+        if n == 0 {
+            return None;
+        }
+        self.entries.get((n - 1) as usize)
     }
 
     /// Takes the memory for `n` pushes.
