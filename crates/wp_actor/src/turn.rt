@@ -3,7 +3,7 @@ ghost use Rattle.wp_core.specs.Changes.{turn_index};
 ghost use Rattle.wp_actor.specs.Turns.{turn_of};
 
 /// One of the six turns. Who holds it reads and changes the table that it guards, and nobody else does.
-#[derive(Clone, Copy, PartialEq, Eq)]
+#[derive(Clone, Copy)]
 pub enum Turn {
     /// The history and its log.
     Write,
