@@ -14,7 +14,7 @@ use std::marker::Model;
 pub const MOST_KEYS: usize = 64;
 
 /// Why a change was not taken into a batch.
-#[derive(Clone, Copy, PartialEq, Eq)]
+#[derive(Clone, Copy)]
 pub enum SetError {
     /// Out of memory.
     Memory,

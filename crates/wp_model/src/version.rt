@@ -7,7 +7,7 @@ use std::alloc::{AllocError, Global};
 use std::cmp::Ordering;
 
 /// What an entry left under a key.
-#[derive(Drop, PartialEq, Eq)]
+#[derive(Drop)]
 pub struct Version {
     pub key: Key,
     /// The number of the entry.

@@ -11,10 +11,11 @@ ghost use Rattle.wp_model.specs.declared.word.WordError.TheVariants.{Memory};
 use crate::word_bytes::WordBytes;
 use std::alloc::{AllocError, Global};
 use std::cmp::Ordering;
+use std::fmt;
 use std::marker::Model;
 
 /// Why bytes could not be read as a word.
-#[derive(Clone, Copy, Debug, PartialEq, Eq)]
+#[derive(Clone, Copy)]
 pub enum WordError {
     /// Out of memory.
     Memory,
@@ -31,7 +32,6 @@ impl From<AllocError> for WordError {
 }
 
 /// 1 to `MOST` bytes, each printable ASCII other than the space: from `!` (0x21) to `~` (0x7E).
-#[derive(Debug)]
 pub struct Word<const MOST: usize> {
     bytes: WordBytes,
 }
@@ -152,6 +152,12 @@ impl<const MOST: usize> Ord for Word<MOST> {
 
     fn cmp(&self, other: &Word<MOST>) -> Ordering {
         self.bytes().cmp(&other.bytes())
+    }
+}
+
+impl<const MOST: usize> fmt::Debug for Word<MOST> {
+    fn fmt<W: fmt::Write>(&self, f: &mut fmt::Formatter<W>) -> fmt::Result {
+        self.bytes().fmt(f)
     }
 }
 

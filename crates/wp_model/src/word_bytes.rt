@@ -10,7 +10,7 @@ const SHORT: usize = 22;
 const MIDDLE: usize = 64;
 
 /// The bytes of a word: of the shorter ones how many there are, and places for the most.
-#[derive(Debug, Drop)]
+#[derive(Drop)]
 pub(crate) enum WordBytes {
     Short(u8, [u8; SHORT]),
     Middle(u8, Box<[u8; MIDDLE]>),
