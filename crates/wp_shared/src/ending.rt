@@ -28,7 +28,7 @@ impl<D: Disk + Drop> Shared<D> {
         requires other { IsFree self.now.table other }
         ensures { first.new ≡ record first.old { knows = joins first.old.knows other.knows } }
     {
-        self.words.join(&mut first.seat, other.seat);
+        self.words.join(&mut first.seat, other.into_words());
     }
 
     /// Ends the store, and gives what lay behind the turns. The seats are the first one and then all that it made, none of which
@@ -43,8 +43,8 @@ impl<D: Disk + Drop> Shared<D> {
         while let Some(other) = seats.pop() {
             self.join(&mut first, other);
         }
-        let Shared { words, .. } = self;
-        words.close(first.seat)
+        let words = self.into_words();
+        words.close(first.into_words())
     }
 
     /// Ends the store, and gives its history and its devices. The seats are the first one and then all that it made, none of which

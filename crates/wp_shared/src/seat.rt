@@ -1,5 +1,6 @@
 //! A client's place at the shared store.
 ghost use Rattle.std.specs.Prelude.{◌≡◌};
+ghost use Rattle.wp_shared.specs.Seats.{turns_of};
 
 use std::marker::Model;
 use wp_model::Name;
@@ -9,7 +10,6 @@ use wp_rule::WordSeat;
 
 /// A client's seat at a store. Clauses see the table that it is at, its number there, what its actor of the machine knows, and
 /// which turns it holds, the one taken last first.
-#[derive(Drop)]
 pub struct Seat<D: Disk + Drop> {
     pub(crate) seat: WordSeat<Part<D>>,
     pub(crate) client: Name,
@@ -39,5 +39,26 @@ impl<D: Disk + Drop> Seat<D> {
         ensures { result.now ≡ self.now.knows.participant.client }
     {
         &self.client
+    }
+
+    /// Its seat of the words.
+    pub(crate) fn into_words(self) -> WordSeat<Part<D>>
+        ensures { self ≡ record { table = result.table_id; by = result.id; knows = result.me.0; turns = turns_of result.me.1 } }
+    {
+        let Seat {
+            seat,
+            client: _client,
+        } = self;
+        seat
+    }
+}
+
+// Written out, so that no crate above proves anew how all that it holds is let go.
+impl<D: Disk + Drop> Drop for Seat<D> {
+    fn drop(self) {
+        let Self {
+            seat: _seat,
+            client: _client,
+        } = self;
     }
 }

@@ -20,7 +20,6 @@ use wp_parts::Part;
 use wp_rule::{Moves, WordSeat, Words};
 
 /// The store that clients share: words, and the values behind the turns.
-#[derive(Drop)]
 pub struct Shared<D: Disk + Drop> {
     pub(crate) words: Words<Part<D>>,
     pub(crate) bits: u32,
@@ -155,5 +154,28 @@ impl<D: Disk + Drop> Shared<D> {
         ensures found { (w : World) × Stands self.now seat.new w × (result ≡ slice_index w.cache i) }
     {
         self.load_word::<Brand>(seat, i)
+    }
+
+    /// Its words.
+    pub(crate) fn into_words(self) -> Words<Part<D>>
+        ensures { self ≡ record { table = result.table; opened = result.opened; cells = result.cells; first = result.first; limit = self.limit } }
+    {
+        let Shared {
+            words,
+            bits: _bits,
+            limit: _limit,
+        } = self;
+        words
+    }
+}
+
+// Written out, so that no crate above proves anew how all that it holds is let go.
+impl<D: Disk + Drop> Drop for Shared<D> {
+    fn drop(self) {
+        let Self {
+            words: _words,
+            bits: _bits,
+            limit: _limit,
+        } = self;
     }
 }

@@ -20,23 +20,23 @@ loop-other-preserved g c =
 pub close-requires-clause-first : goal.close-requires-clause-first
 close-requires-clause-first g c =
     let all = leads c.args.self.table c.args.seats.items c.remove-first.new.self.items c.remove-first.result c.requires.free c.requires.all c.remove-first.ensures.value c.remove-first.ensures.items in
-    let i = c.loop-other.invariant in let v = c.first.view_is in (
-      ap (λ (s : SeatState). s.table) v ∙ (ap (λ (s : SeatState). s.table) i.2 ∙ (all.free.same_table ∙ sym (ap (λ (z : SharedState g.row.D.Denot). z.table) c.self-2.view_is))),
+    let i = c.loop-other.invariant in let v = sym c.into_words.ensures in (
+      ap (λ (s : SeatState). s.table) v ∙ (ap (λ (s : SeatState). s.table) i.2 ∙ (all.free.same_table ∙ sym (ap (λ (z : SharedState g.row.D.Denot). z.table) (sym c.into_words-words.ensures)))),
       ap (λ (s : SeatState). s.by) v ∙ (ap (λ (s : SeatState). s.by) i.2 ∙ all.by),
-      none_carried c.first.inside.seat.me.1 (ap (λ (s : SeatState). s.turns) v ∙ (ap (λ (s : SeatState). s.turns) i.2 ∙ all.free.turns)),
+      none_carried c.into_words.result.me.1 (ap (λ (s : SeatState). s.turns) v ∙ (ap (λ (s : SeatState). s.turns) i.2 ∙ all.free.turns)),
     )
 
 pub close-requires-clause-all : goal.close-requires-clause-all
 close-requires-clause-all g c =
     let all = leads c.args.self.table c.args.seats.items c.remove-first.new.self.items c.remove-first.result c.requires.free c.requires.all c.remove-first.ensures.value c.remove-first.ensures.items in
-    let i = c.loop-other.invariant in let v = c.first.view_is in
+    let i = c.loop-other.invariant in let v = sym c.into_words.ensures in
     let gone : c.remove-first.new.self.items ≡ i.0 = i.1 ∙ ap (λ (x : List SeatState). x ++ i.0) (none_left c.loop-other.seats.items (sym c.loop-other.seats.ok.0 ∙ c.in_default.ensures.cases.0)) in
-    (ap (λ (s : SeatState). s.knows.held) v ∙ (ap (λ (s : SeatState). s.knows.held) i.2 ∙ all.free.held), all_made c.first.inside.seat.me.0 c.remove-first.result.knows c.remove-first.new.self.items i.0 (ap (λ (s : SeatState). s.knows) v ∙ ap (λ (s : SeatState). s.knows) i.2) gone all.joined all.made)
+    (ap (λ (s : SeatState). s.knows.held) v ∙ (ap (λ (s : SeatState). s.knows.held) i.2 ∙ all.free.held), all_made c.into_words.result.me.0 c.remove-first.result.knows c.remove-first.new.self.items i.0 (ap (λ (s : SeatState). s.knows) v ∙ ap (λ (s : SeatState). s.knows) i.2) gone all.joined all.made)
 
 pub returns : goal.returns
 returns g c =
     let all = leads c.args.self.table c.args.seats.items c.remove-first.new.self.items c.remove-first.result c.requires.free c.requires.all c.remove-first.ensures.value c.remove-first.ensures.items in
-    let i = c.loop-other.invariant in let v = c.first.view_is in
+    let i = c.loop-other.invariant in let v = sym c.into_words.ensures in
     let gone : c.remove-first.new.self.items ≡ i.0 = i.1 ∙ ap (λ (x : List SeatState). x ++ i.0) (none_left c.loop-other.seats.items (sym c.loop-other.seats.ok.0 ∙ c.in_default.ensures.cases.0)) in
-    remains _ c.args.self c.args.seats.items i.0 c.remove-first.result c.first.inside.seat.me.0 _ c.self-2.view_is (all.all ∙ ap (λ (x : List SeatState). c.remove-first.result ∷ x) gone)
+    remains _ c.args.self c.args.seats.items i.0 c.remove-first.result c.into_words.result.me.0 _ (sym c.into_words-words.ensures) (all.all ∙ ap (λ (x : List SeatState). c.remove-first.result ∷ x) gone)
     (ap (λ (s : SeatState). s.knows) v ∙ ap (λ (s : SeatState). s.knows) i.2) c.close.ensures
