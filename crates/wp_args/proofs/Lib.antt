@@ -1,4 +1,5 @@
 mod Entries
+mod Globals
 mod Literals
 mod Numerals
 mod Refusals

@@ -1,7 +1,7 @@
 //! The commands and options of the program, as `clap` knows them.
 
 ghost use Rattle.std.specs.Prelude.{◌≡◌, IfOk, false};
-ghost use Rattle.clap.specs.Words.{app_of, rule_of};
+ghost use Rattle.clap.specs.Words.{app_of, rule_of, with_rule, with_subcommand};
 ghost use Rattle.clap.specs.declared.builder.command.Command.TheViews.{out-Command as fields_of};
 ghost use Rattle.wp_args.specs.CommandSet.{command, command_set, make_command, number_option, number_word, plain_commands};
 
@@ -18,13 +18,23 @@ pub(crate) fn command_set<'a>(alloc: Global) -> Result<Command<'a>, AllocError>
 /// The program with the commands that have options alone.
 fn plain_commands<'a>(alloc: Global) -> Result<Command<'a>, AllocError>
     ensures set { IfOk result (λ made. app_of made ≡ plain_commands) }
-    ensures local { IfOk result (λ made. (fields_of made).has_globals ≡ false) }
 {
-    Command::new(alloc, "wp")
+    let program = Command::new(alloc, "wp")
         .disable_help_flag(true)
-        .disable_help_subcommand(true)
-        .subcommand(command(alloc, "run")?)?
-        .subcommand(command(alloc, "show")?)
+        .disable_help_subcommand(true);
+    let program = with_command(alloc, program, "run")?;
+    with_command(alloc, program, "show")
+}
+
+/// The program with one more command, which has the options alone.
+fn with_command<'a>(
+    alloc: Global,
+    program: Command<'a>,
+    name: &'a str,
+) -> Result<Command<'a>, AllocError>
+    ensures set { IfOk result (λ made. app_of made ≡ with_subcommand (app_of program.entry) (command name.entry.now).top) }
+{
+    program.subcommand(command(alloc, name)?)
 }
 
 /// A command with the options that each command takes.
@@ -32,10 +42,9 @@ fn command<'a>(alloc: Global, name: &'a str) -> Result<Command<'a>, AllocError>
     ensures rules { IfOk result (λ made. app_of made ≡ command name.entry.now) }
     ensures local { IfOk result (λ made. (fields_of made).has_globals ≡ false) }
 {
-    Command::new(alloc, name)
-        .arg(number_option(alloc, "bits", "10"))?
-        .arg(number_option(alloc, "limit", "4294967295"))?
-        .arg(number_option(alloc, "id", "1"))
+    let command = with_option(alloc, Command::new(alloc, name), "bits", "10")?;
+    let command = with_option(alloc, command, "limit", "4294967295")?;
+    with_option(alloc, command, "id", "1")
 }
 
 /// The command that makes its script, with its numbers.
@@ -43,10 +52,34 @@ fn make_command<'a>(alloc: Global) -> Result<Command<'a>, AllocError>
     ensures rules { IfOk result (λ made. app_of made ≡ make_command) }
     ensures local { IfOk result (λ made. (fields_of made).has_globals ≡ false) }
 {
-    command(alloc, "make")?
-        .arg(number_word(alloc, "SEED"))?
-        .arg(number_word(alloc, "CLIENTS"))?
-        .arg(number_word(alloc, "LINES"))
+    let command = with_word(alloc, command(alloc, "make")?, "SEED")?;
+    let command = with_word(alloc, command, "CLIENTS")?;
+    with_word(alloc, command, "LINES")
+}
+
+/// The command with one more number that has to be given, in its place.
+fn with_word<'a>(
+    alloc: Global,
+    command: Command<'a>,
+    name: &'a str,
+) -> Result<Command<'a>, AllocError>
+    ensures rules { IfOk result (λ made. app_of made ≡ with_rule (app_of command.entry) (number_word name.entry.now)) }
+    ensures local { IfOk result (λ made. (fields_of made).has_globals ≡ (fields_of command.entry).has_globals) }
+{
+    command.arg(number_word(alloc, name))
+}
+
+/// The command with one more option that has one value, and the value that it has where it is not given.
+fn with_option<'a>(
+    alloc: Global,
+    command: Command<'a>,
+    name: &'a str,
+    default: &'a str,
+) -> Result<Command<'a>, AllocError>
+    ensures rules { IfOk result (λ made. app_of made ≡ with_rule (app_of command.entry) (number_option name.entry.now default.entry.now)) }
+    ensures local { IfOk result (λ made. (fields_of made).has_globals ≡ (fields_of command.entry).has_globals) }
+{
+    command.arg(number_option(alloc, name, default))
 }
 
 /// A number that has to be given, in its place.
