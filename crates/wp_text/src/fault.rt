@@ -46,7 +46,7 @@ pub struct Fault {
 }
 
 /// Why a script could not be read.
-#[derive(Clone, Copy, Debug, PartialEq, Eq, Error)]
+#[derive(Clone, Copy, Debug, Error)]
 pub enum ScriptError {
     #[error("out of memory")]
     Memory,
@@ -55,7 +55,7 @@ pub enum ScriptError {
 }
 
 /// Why a line could not be read.
-#[derive(Clone, Copy, PartialEq, Eq)]
+#[derive(Clone, Copy)]
 pub enum LineError {
     Memory,
     Wrong(Why),

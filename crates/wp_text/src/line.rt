@@ -1,6 +1,7 @@
-ghost use Rattle.std.specs.Prelude.{◌≡◌, map, IfOk};
+ghost use Rattle.std.specs.Prelude.{◌≡◌, [], ◌∷◌, map, IfOk};
 ghost use Rattle.std.specs.List.{list_all};
 ghost use Rattle.wp_fields.specs.Reading.{Gives};
+ghost use Rattle.wp_text.specs.declared.keyword.Keyword.TheVariants as keyword;
 ghost use Rattle.wp_text.specs.Grammar.{is_line_byte, words_of};
 ghost use Rattle.wp_text.specs.Reading.{line_fault, one_word, two_words, alone, get_with, statement_with, statement_of, line_of};
 
@@ -70,44 +71,56 @@ fn alone(words: &[&[u8]], command: Command) -> Result<Statement, LineError>
 }
 
 #[tactic(auto, unfolding(crate::specs::Reading::get_with))]
+fn get_at(alloc: Global, key: &[u8], at: &[u8], name: &[u8]) -> Result<Statement, LineError>
+    ensures { Gives line_fault (λ s. s) result (get_with (key.now ∷ at.now ∷ name.now ∷ [])) }
+{
+    if at != b"at".as_slice() {
+        return Err(LineError::Wrong(Why::BadCommand));
+    }
+    let (key, name) = two_words(alloc, &[key, name])?;
+    Ok(Statement::Command(Command::GetAt(key, name)))
+}
+
+#[tactic(auto, unfolding(crate::specs::Reading::get_with))]
 fn get_with(alloc: Global, words: &[&[u8]]) -> Result<Statement, LineError>
     ensures { Gives line_fault (λ s. s) result (get_with (map (λ word. word.now) words.now)) }
 {
-    let [key, at, name] = words else {
-        return Ok(Statement::Command(Command::Get(one_word(alloc, words)?)));
-    };
-    if *at != b"at".as_slice() {
-        return Err(LineError::Wrong(Why::BadCommand));
+    match words {
+        [key, at, name] => get_at(alloc, key, at, name),
+        _ => Ok(Statement::Command(Command::Get(one_word(alloc, words)?))),
     }
-    let (key, name) = two_words(alloc, &[*key, *name])?;
-    Ok(Statement::Command(Command::GetAt(key, name)))
+}
+
+#[tactic(auto, unfolding(crate::specs::Reading::statement_with))]
+fn put_with(alloc: Global, words: &[&[u8]]) -> Result<Statement, LineError>
+    ensures { Gives line_fault (λ s. s) result (statement_with keyword.Put (map (λ word. word.now) words.now)) }
+{
+    let (key, value) = two_words(alloc, words)?;
+    Ok(Statement::Command(Command::Put(key, value)))
 }
 
 #[tactic(auto, unfolding(crate::specs::Reading::statement_with))]
 fn statement_with(alloc: Global, keyword: Keyword, words: &[&[u8]]) -> Result<Statement, LineError>
     ensures { Gives line_fault (λ s. s) result (statement_with keyword (map (λ word. word.now) words.now)) }
 {
-    Ok(match keyword {
-        Keyword::Client => Statement::Client(one_word(alloc, words)?),
-        Keyword::Put => {
-            let (key, value) = two_words(alloc, words)?;
-            Statement::Command(Command::Put(key, value))
-        }
-        Keyword::Del => Statement::Command(Command::Del(one_word(alloc, words)?)),
-        Keyword::Get => get_with(alloc, words)?,
-        Keyword::Snap => Statement::Command(Command::Snap(one_word(alloc, words)?)),
-        Keyword::Free => Statement::Command(Command::Free(one_word(alloc, words)?)),
-        Keyword::Begin => Statement::Command(Command::Begin(one_word(alloc, words)?)),
-        Keyword::Prepare => alone(words, Command::Prepare)?,
-        Keyword::Commit => alone(words, Command::Commit)?,
-        Keyword::Rollback => alone(words, Command::Rollback)?,
-        Keyword::Leave => alone(words, Command::Leave)?,
-        Keyword::Take => Statement::Command(Command::Take(one_word(alloc, words)?)),
-        Keyword::Flush => alone(words, Command::Flush)?,
-        Keyword::Compact => alone(words, Command::Compact)?,
-        Keyword::Tell => Statement::Command(Command::Tell(one_word(alloc, words)?)),
-        Keyword::Hear => Statement::Command(Command::Hear(one_word(alloc, words)?)),
-    })
+    match keyword {
+        Keyword::Client => Ok(Statement::Client(one_word(alloc, words)?)),
+        Keyword::Put => put_with(alloc, words),
+        Keyword::Del => Ok(Statement::Command(Command::Del(one_word(alloc, words)?))),
+        Keyword::Get => get_with(alloc, words),
+        Keyword::Snap => Ok(Statement::Command(Command::Snap(one_word(alloc, words)?))),
+        Keyword::Free => Ok(Statement::Command(Command::Free(one_word(alloc, words)?))),
+        Keyword::Begin => Ok(Statement::Command(Command::Begin(one_word(alloc, words)?))),
+        Keyword::Prepare => alone(words, Command::Prepare),
+        Keyword::Commit => alone(words, Command::Commit),
+        Keyword::Rollback => alone(words, Command::Rollback),
+        Keyword::Leave => alone(words, Command::Leave),
+        Keyword::Take => Ok(Statement::Command(Command::Take(one_word(alloc, words)?))),
+        Keyword::Flush => alone(words, Command::Flush),
+        Keyword::Compact => alone(words, Command::Compact),
+        Keyword::Tell => Ok(Statement::Command(Command::Tell(one_word(alloc, words)?))),
+        Keyword::Hear => Ok(Statement::Command(Command::Hear(one_word(alloc, words)?))),
+    }
 }
 
 #[tactic(auto, unfolding(crate::specs::Reading::statement_of, crate::specs::Reading::statement_named))]
