@@ -1,4 +1,3 @@
 pub mod WordLemmas
 pub mod GeneratorLemmas
-pub mod TotalLemmas
 pub mod Apart

@@ -1,5 +1,5 @@
 -- The words of a made script are in range.
-use Rattle.std.proofs.Common.{◌≡◌, ℕ, ◌+◌, ◌%◌, ◌<◌, ◌≤◌, ◌^◌, true, List, [], ◌∷◌, ◌++◌, length, decimal, ◌&&◌, ◌∙◌, refl, arith}
+use Rattle.std.proofs.Common.{◌≡◌, ℕ, ◌+◌, ◌%◌, ◌<◌, ◌≤◌, ◌^◌, true, List, [], ◌∷◌, ◌++◌, length, decimal, ◌&&◌, ◌∙◌, refl, ap, sym, append_assoc, arith}
 use Rattle.std.specs.List.{list_all}
 use Rattle.std.proofs.lemmas.Bool.Decides.{nat_tests}
 use Rattle.std.proofs.lemmas.Fmt.{decimal_by_steps, length-decimal-le}
@@ -48,3 +48,7 @@ key_fits client key small fits = let long = length-decimal-le 20 key (omega arit
 
 pub txn_fits : (client begins : ℕ) → client < 2 ^ 32 → begins < 2 ^ 32 → is_word 32 (txn_word client begins) ≡ true
 txn_fits client begins small fits = let long = length-decimal-le 10 begins (omega arith) (omega arith) (omega arith) in twice_marked 99 116 32 client begins refl refl small (omega arith) (omega arith)
+
+-- two marks with their numbers, as they are written
+pub written : (mark other n m : ℕ) (text : List ℕ) → text ≡ mark ∷ (decimal n ++ other ∷ decimal m) → text ≡ (mark ∷ []) ++ decimal n ++ (other ∷ []) ++ decimal m
+written mark other n m text is = is ∙ ap (λ (behind : List ℕ). mark ∷ behind) (sym (append_assoc (decimal n) (other ∷ []) (decimal m)))

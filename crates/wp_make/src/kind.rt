@@ -6,7 +6,7 @@ use std::alloc::{AllocError, Global};
 use wp_text::Reply;
 
 /// What a reply that is counted tells.
-#[derive(Clone, Copy, PartialEq, Eq)]
+#[derive(Clone, Copy)]
 pub enum Kind {
     /// A put or a deletion that was written at once.
     Puts,

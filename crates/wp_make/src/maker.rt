@@ -1,6 +1,8 @@
 //! One client's commands, turn by turn.
-ghost use Rattle.std.specs.Prelude.{◌≡◌, ◌+◌, ◌<◌, ◌≤◌, ◌^◌, ◌++◌, IfOk, OnOk};
+ghost use Rattle.std.specs.Prelude.{◌≡◌, ◌+◌, ◌<◌, ◌≤◌, ◌^◌, [], ◌∷◌, ◌++◌, false, IfOk, OnOk};
+ghost use Rattle.wp_text.specs.declared.script.Command.TheVariants as command;
 ghost use Rattle.wp_make.specs.Generator.{next_state, drawn, key_word, value_word, made_by, made_next, new_maker};
+ghost use Rattle.wp_make.specs.declared.turn.Turn.TheVariants as turn;
 
 use crate::turn::{Turn, turn_of};
 use crate::words::{client_key, numbered_value, txn_name};
@@ -68,6 +70,49 @@ impl Maker {
         numbered_value(alloc, value)
     }
 
+    /// Adds a put to the client's commands.
+    fn put(&mut self, alloc: Global, commands: &mut Commands) -> Result<(), AllocError>
+        ensures commands { OnOk result (commands.new ≡ commands.old ++ (made_by turn.Put self.old).commands) }
+        ensures left { OnOk result (self.new ≡ (made_by turn.Put self.old).left) }
+    {
+        let key = self.draw_key(alloc)?;
+        let value = self.draw_value(alloc)?;
+        commands.push(Command::Put(key, value))
+    }
+
+    /// Adds the begin of a transaction.
+    fn begin(&mut self, alloc: Global, commands: &mut Commands) -> Result<(), AllocError>
+        requires { self.old.begins + 1 < 2 ^ 32 }
+        ensures commands { OnOk result (commands.new ≡ commands.old ++ (made_by turn.Begin self.old).commands) }
+        ensures left { OnOk result (self.new ≡ (made_by turn.Begin self.old).left) }
+    {
+        self.begun = true;
+        self.begins += 1;
+        commands.push(Command::Begin(txn_name(alloc, self.client, self.begins)?))
+    }
+
+    /// Adds a flush or a compaction.
+    fn maintain(&mut self, commands: &mut Commands) -> Result<(), AllocError>
+        ensures commands { OnOk result (commands.new ≡ commands.old ++ (made_by turn.Maintain self.old).commands) }
+        ensures left { OnOk result (self.new ≡ (made_by turn.Maintain self.old).left) }
+    {
+        let flushes = self.draw(4) < 3;
+        commands.push(if flushes {
+            Command::Flush
+        } else {
+            Command::Compact
+        })
+    }
+
+    /// Adds the prepare of the transaction, which ends.
+    fn prepare(&mut self, commands: &mut Commands) -> Result<(), AllocError>
+        ensures commands { OnOk result (commands.new ≡ commands.old ++ command.Prepare ∷ []) }
+        ensures left { self.new ≡ record self.old { begun = false } }
+    {
+        self.begun = false;
+        commands.push(Command::Prepare)
+    }
+
     /// Adds the turn's commands to the client's.
     fn make(&mut self, alloc: Global, turn: Turn, commands: &mut Commands) -> Result<(), AllocError>
         requires { self.old.begins + 1 < 2 ^ 32 }
@@ -75,34 +120,17 @@ impl Maker {
         ensures left { OnOk result (self.new ≡ (made_by turn self.old).left) }
     {
         match turn {
-            Turn::Put => {
-                let key = self.draw_key(alloc)?;
-                let value = self.draw_value(alloc)?;
-                commands.push(Command::Put(key, value))
-            }
+            Turn::Put => self.put(alloc, commands),
             Turn::Del => commands.push(Command::Del(self.draw_key(alloc)?)),
             Turn::Get => commands.push(Command::Get(self.draw_key(alloc)?)),
-            Turn::Begin => {
-                self.begun = true;
-                self.begins += 1;
-                commands.push(Command::Begin(txn_name(alloc, self.client, self.begins)?))
-            }
-            Turn::Maintain => {
-                let flushes = self.draw(4) < 3;
-                commands.push(if flushes {
-                    Command::Flush
-                } else {
-                    Command::Compact
-                })
-            }
+            Turn::Begin => self.begin(alloc, commands),
+            Turn::Maintain => self.maintain(commands),
             Turn::Commit => {
-                self.begun = false;
-                commands.push(Command::Prepare)?;
+                self.prepare(commands)?;
                 commands.push(Command::Commit)
             }
             Turn::RollBack => {
-                self.begun = false;
-                commands.push(Command::Prepare)?;
+                self.prepare(commands)?;
                 commands.push(Command::Rollback)
             }
         }

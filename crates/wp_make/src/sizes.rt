@@ -11,7 +11,7 @@ use wp_history::History;
 use wp_model::{Change, Entry, Key, Value};
 
 /// How many keys have a value, and how many bytes they and their values have together.
-#[derive(Clone, Copy, Drop)]
+#[derive(Clone, Copy)]
 pub struct Sizes {
     pub keys: u64,
     pub bytes: u64,
