@@ -4,7 +4,7 @@ ghost use Rattle.std.specs.Prelude.{◌≡◌};
 ghost use Rattle.wp_fields.specs.Format.{format_byte, format_of};
 
 /// A version of a format. In the first the numbers of entries take four bytes, in the second eight.
-#[derive(Clone, Copy, Debug, PartialEq, Eq)]
+#[derive(Clone, Copy)]
 pub enum Format {
     One,
     Two,

@@ -9,7 +9,7 @@ use wp_gatelog::LogError;
 use wp_model::Seq;
 
 /// Why a log could not be opened.
-#[derive(Drop, PartialEq, Eq)]
+#[derive(Drop)]
 pub enum WalError {
     /// Out of memory.
     Memory,
