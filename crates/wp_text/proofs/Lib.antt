@@ -5,4 +5,3 @@ pub mod ScriptLaws
 pub mod Answered
 pub mod CommandCount
 pub mod Loop
-pub mod Pushed

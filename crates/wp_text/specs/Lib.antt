@@ -1,4 +1,5 @@
 pub mod Lines
+pub mod Said
 pub mod Grammar
 pub mod Faults
 pub mod Reading

@@ -1,5 +1,6 @@
 ghost use Rattle.std.specs.Prelude.{◌≡◌, ◌++◌, OnOk, codes, decimal};
 ghost use Rattle.wp_text.specs.Lines as text;
+ghost use Rattle.wp_text.specs.Said.{said};
 
 use crate::reply::Reply;
 use std::alloc::{AllocError, Global};
@@ -26,6 +27,13 @@ fn push_two_numbers(out: &mut Vec<u8>, text: &[u8], n: Seq, m: u64) -> Result<()
     push_with_number(out, b" ", m)
 }
 
+fn push_both(out: &mut Vec<u8>, text: &[u8], word: &[u8]) -> Result<(), AllocError>
+    ensures { OnOk result (out.new.items ≡ out.old.items ++ text.now ++ word.now) }
+{
+    out.extend_from_slice(text)?;
+    out.extend_from_slice(word)
+}
+
 fn push_with_word<const MOST: usize>(
     out: &mut Vec<u8>,
     text: &[u8],
@@ -33,19 +41,13 @@ fn push_with_word<const MOST: usize>(
 ) -> Result<(), AllocError>
     ensures { OnOk result (out.new.items ≡ out.old.items ++ text.now ++ word.now) }
 {
-    out.extend_from_slice(text)?;
-    out.extend_from_slice(word.bytes())
+    push_both(out, text, word.bytes())
 }
 
-fn push_word_at<const MOST: usize>(
-    out: &mut Vec<u8>,
-    text: &[u8],
-    word: &Word<MOST>,
-    n: Seq,
-) -> Result<(), AllocError>
+fn push_word_at(out: &mut Vec<u8>, text: &[u8], word: &[u8], n: Seq) -> Result<(), AllocError>
     ensures { OnOk result (out.new.items ≡ out.old.items ++ text.now ++ word.now ++ codes " @" ++ decimal n) }
 {
-    push_with_word(out, text, word)?;
+    push_both(out, text, word)?;
     push_with_number(out, b" @", n)
 }
 
@@ -66,52 +68,83 @@ fn push_holder(out: &mut Vec<u8>, holder: &Holder) -> Result<(), AllocError>
     }
 }
 
-fn push_reply(out: &mut Vec<u8>, reply: &Reply) -> Result<(), AllocError>
-    ensures { OnOk result (out.new.items ≡ out.old.items ++ text.reply_words reply.now) }
+/// What a reply says.
+#[derive(Drop)]
+pub(crate) enum Words<'a> {
+    /// A text alone.
+    Text(&'static [u8]),
+    /// A text and a number.
+    Number(&'static [u8], u64),
+    /// A text and two numbers.
+    Numbers(&'static [u8], u64, u64),
+    /// A text and a word.
+    Word(&'static [u8], &'a [u8]),
+    /// A text, and a word at a number.
+    WordAt(&'static [u8], &'a [u8], Seq),
+    /// A value that the client's own transaction puts.
+    Own(&'a [u8]),
+    /// Who holds a key.
+    Busy(&'a Holder),
+}
+
+fn words_of(reply: &Reply) -> Words<'_>
+    ensures { said result ≡ text.reply_words reply.now }
 {
     match reply {
-        Reply::Put(n) => push_with_number(out, b"put @", *n),
-        Reply::Del(n) => push_with_number(out, b"del @", *n),
-        Reply::Held => out.extend_from_slice(b"held"),
-        Reply::Got(value, n) => push_word_at(out, b"get ", value, *n),
-        Reply::Missing(n) => push_with_number(out, b"missing @", *n),
-        Reply::GotOwn(value) => {
-            push_with_word(out, b"get ", value)?;
+        Reply::Put(n) => Words::Number(b"put @", *n),
+        Reply::Del(n) => Words::Number(b"del @", *n),
+        Reply::Held => Words::Text(b"held"),
+        Reply::Got(value, n) => Words::WordAt(b"get ", value.bytes(), *n),
+        Reply::Missing(n) => Words::Number(b"missing @", *n),
+        Reply::GotOwn(value) => Words::Own(value.bytes()),
+        Reply::MissingOwn => Words::Text(b"missing own"),
+        Reply::Snapped(n) => Words::Number(b"snap @", *n),
+        Reply::Freed => Words::Text(b"freed"),
+        Reply::Begun => Words::Text(b"begun"),
+        Reply::Prepared(n) => Words::Number(b"prepare @", *n),
+        Reply::Committed(n) => Words::Number(b"commit @", *n),
+        Reply::Dropped => Words::Text(b"dropped"),
+        Reply::RolledBack(n) => Words::Number(b"rollback @", *n),
+        Reply::Left => Words::Text(b"left"),
+        Reply::Took => Words::Text(b"took"),
+        Reply::Told(n) => Words::Number(b"told @", *n),
+        Reply::Heard(n) => Words::Number(b"heard @", *n),
+        Reply::State => Words::Text(b"state"),
+        Reply::Taken(name) => Words::Word(b"taken ", name.bytes()),
+        Reply::TooMany => Words::Text(b"toomany"),
+        Reply::Busy(holder) => Words::Busy(holder),
+        Reply::Unknown { name, at } => Words::WordAt(b"unknown ", name.bytes(), *at),
+        Reply::InUse(name) => Words::Word(b"inuse ", name.bytes()),
+        Reply::UnknownSnapshot(name) => Words::Word(b"unknown ", name.bytes()),
+        Reply::Silent(label) => Words::Word(b"silent ", label.bytes()),
+        Reply::Full { published, limit } => Words::Numbers(b"full ", *published, *limit),
+        Reply::FaultLog => Words::Text(b"fault log"),
+        Reply::Stopped(n) => Words::Number(b"stopped ", *n),
+        Reply::Flushed { at, versions } => Words::Numbers(b"flushed @", *at, *versions),
+        Reply::Compacted { at, versions } => Words::Numbers(b"compacted @", *at, *versions),
+        Reply::Nothing => Words::Text(b"nothing"),
+        Reply::Halted(n) => Words::Number(b"halted ", *n),
+        Reply::FaultTables => Words::Text(b"fault tables"),
+    }
+}
+
+fn push_words(out: &mut Vec<u8>, words: Words<'_>) -> Result<(), AllocError>
+    ensures { OnOk result (out.new.items ≡ out.old.items ++ said words.entry) }
+{
+    match words {
+        Words::Text(text) => out.extend_from_slice(text),
+        Words::Number(text, n) => push_with_number(out, text, n),
+        Words::Numbers(text, n, m) => push_two_numbers(out, text, n, m),
+        Words::Word(text, word) => push_both(out, text, word),
+        Words::WordAt(text, word, n) => push_word_at(out, text, word, n),
+        Words::Own(value) => {
+            push_both(out, b"get ", value)?;
             out.extend_from_slice(b" own")
         }
-        Reply::MissingOwn => out.extend_from_slice(b"missing own"),
-        Reply::Snapped(n) => push_with_number(out, b"snap @", *n),
-        Reply::Freed => out.extend_from_slice(b"freed"),
-        Reply::Begun => out.extend_from_slice(b"begun"),
-        Reply::Prepared(n) => push_with_number(out, b"prepare @", *n),
-        Reply::Committed(n) => push_with_number(out, b"commit @", *n),
-        Reply::Dropped => out.extend_from_slice(b"dropped"),
-        Reply::RolledBack(n) => push_with_number(out, b"rollback @", *n),
-        Reply::Left => out.extend_from_slice(b"left"),
-        Reply::Took => out.extend_from_slice(b"took"),
-        Reply::Told(n) => push_with_number(out, b"told @", *n),
-        Reply::Heard(n) => push_with_number(out, b"heard @", *n),
-        Reply::State => out.extend_from_slice(b"state"),
-        Reply::Taken(name) => push_with_word(out, b"taken ", name),
-        Reply::TooMany => out.extend_from_slice(b"toomany"),
-        Reply::Busy(holder) => {
+        Words::Busy(holder) => {
             out.extend_from_slice(b"busy ")?;
             push_holder(out, holder)
         }
-        Reply::Unknown { name, at } => push_word_at(out, b"unknown ", name, *at),
-        Reply::InUse(name) => push_with_word(out, b"inuse ", name),
-        Reply::UnknownSnapshot(name) => push_with_word(out, b"unknown ", name),
-        Reply::Silent(label) => push_with_word(out, b"silent ", label),
-        Reply::Full { published, limit } => push_two_numbers(out, b"full ", *published, *limit),
-        Reply::FaultLog => out.extend_from_slice(b"fault log"),
-        Reply::Stopped(n) => push_with_number(out, b"stopped ", *n),
-        Reply::Flushed { at, versions } => { push_two_numbers(out, b"flushed @", *at, *versions) }
-        Reply::Compacted { at, versions } => {
-            push_two_numbers(out, b"compacted @", *at, *versions)
-        }
-        Reply::Nothing => out.extend_from_slice(b"nothing"),
-        Reply::Halted(n) => push_with_number(out, b"halted ", *n),
-        Reply::FaultTables => out.extend_from_slice(b"fault tables"),
     }
 }
 
@@ -119,7 +152,7 @@ fn push_reply(out: &mut Vec<u8>, reply: &Reply) -> Result<(), AllocError>
 pub fn reply_line(out: &mut Vec<u8>, reply: &Reply) -> Result<(), AllocError>
     ensures { OnOk result (out.new.items ≡ out.old.items ++ text.reply_line reply.now) }
 {
-    push_reply(out, reply)?;
+    push_words(out, words_of(reply))?;
     out.extend_from_slice(b"\n")
 }
 
