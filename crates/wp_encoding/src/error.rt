@@ -4,7 +4,7 @@ ghost use Rattle.wp_encoding.specs.Errors.{encoding_error};
 use wp_model::WordError;
 
 /// Why bytes could not be read: the first fault from the left.
-#[derive(Clone, Copy, Debug, PartialEq, Eq)]
+#[derive(Clone, Copy)]
 pub enum EncodingError {
     /// Out of memory.
     Memory,
