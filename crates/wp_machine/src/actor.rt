@@ -46,7 +46,6 @@ impl Model for Registration {
 }
 
 /// A transaction that an actor has: its batch, and the keys that it locked, which may be more.
-#[derive(Drop)]
 pub struct Transaction {
     pub batch: Batch,
     /// The newest first.
@@ -66,7 +65,6 @@ impl Model for Transaction {
 }
 
 /// What is known of an actor to the end.
-#[derive(Drop)]
 pub struct Participant {
     /// None once the actor was joined.
     pub client: Option<Name>,
@@ -94,7 +92,6 @@ impl Model for Participant {
 }
 
 /// An actor: a client's seat, or a note.
-#[derive(Drop)]
 pub struct Actor {
     pub participant: Participant,
     pub learned: Vec<Entry>,
@@ -402,17 +399,32 @@ impl Actor {
     }
 
     /// What the note saw is learned.
-    pub fn learn(&mut self, note: Actor)
+    pub fn learn(&mut self, mut note: Actor)
         ensures { self.new ≡ informed self.old note }
     {
-        let participant = note.participant;
-        self.learned = participant.seen;
+        std::mem::swap(&mut self.learned, &mut note.participant.seen);
+    }
+
+    fn into_participant(self) -> Participant
+        ensures { result ≡ self.participant }
+    {
+        let Actor {
+            participant,
+            learned: _learned,
+            held: _held,
+            reading: _reading,
+            notes: _notes,
+            live: _live,
+            made: _made,
+            joined: _joined,
+        } = self;
+        participant
     }
 
     pub fn join(&mut self, seat: Actor) -> Result<(), AllocError>
         ensures { OnOk result (self.new ≡ joins self.old seat) }
     {
-        self.joined.insert(0, seat.participant)?;
+        self.joined.insert(0, seat.into_participant())?;
         Ok(())
     }
 
@@ -461,5 +473,44 @@ impl Actor {
     {
         self.participant.past.push(event)?;
         Ok(())
+    }
+}
+
+// Written out, so that no crate above proves anew how all that it holds is let go.
+impl Drop for Transaction {
+    fn drop(self) {
+        let Self {
+            batch: _batch,
+            locked: _locked,
+        } = self;
+    }
+}
+
+impl Drop for Participant {
+    fn drop(self) {
+        let Self {
+            client: _client,
+            seen: _seen,
+            own: _own,
+            past: _past,
+            registered: _registered,
+            transactions: _transactions,
+            direct: _direct,
+        } = self;
+    }
+}
+
+impl Drop for Actor {
+    fn drop(self) {
+        let Self {
+            participant: _participant,
+            learned: _learned,
+            held: _held,
+            reading: _reading,
+            notes: _notes,
+            live: _live,
+            made: _made,
+            joined: _joined,
+        } = self;
     }
 }

@@ -166,7 +166,7 @@ fn make_actor(world: &mut World, by: usize, kind: ActorsStep) -> Result<(), Allo
     }
 }
 
-fn make(world: &mut World, by: usize, kind: Kind) -> Result<(), AllocError>
+pub(crate) fn make(world: &mut World, by: usize, kind: Kind) -> Result<(), AllocError>
     requires { MayMake world.old by kind }
     ensures { OnOk result (Makes world.old by kind world.new) }
 {
@@ -187,8 +187,7 @@ pub fn apply(world: World, step: Step) -> Result<World, AllocError>
     ensures reached { IfOk result (λ next. Reaches world → Reaches next) }
 {
     steps_keep_sound();
-    let Step { by, kind } = step;
     let mut world = world;
-    make(&mut world, by, kind)?;
+    step.apply_to(&mut world)?;
     Ok(world)
 }

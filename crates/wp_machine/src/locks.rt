@@ -16,7 +16,6 @@ use wp_model::{Holder, Key, Name, Seq};
 
 /// The live names, each with the client that has it, if one does; the held keys; and the labels. Each is a list whose
 /// newest pair comes first: of two pairs of one name the first counts.
-#[derive(Drop)]
 pub struct LockTables {
     pub names: Vec<(Name, Option<Name>)>,
     pub keys: Vec<(Key, Holder)>,
@@ -275,5 +274,16 @@ impl LockTables {
             keys: keys_left(history, alloc)?,
             labels: Vec::new(alloc),
         })
+    }
+}
+
+// Written out, so that no crate above proves anew how all that it holds is let go.
+impl Drop for LockTables {
+    fn drop(self) {
+        let Self {
+            names: _names,
+            keys: _keys,
+            labels: _labels,
+        } = self;
     }
 }

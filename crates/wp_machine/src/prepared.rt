@@ -17,7 +17,6 @@ use wp_model::Seq;
 
 /// The prepared heap, the delayed set and the delayed commits. Each is a list whose newest item comes first: of two pairs
 /// of one number the first counts.
-#[derive(Drop)]
 pub struct PreparedTables {
     pub heap: Vec<Seq>,
     pub delayed: Vec<Seq>,
@@ -171,5 +170,16 @@ impl PreparedTables {
             delayed: Vec::from_slice(alloc, history.undecided())?,
             delayed_commits: Vec::new(alloc),
         })
+    }
+}
+
+// Written out, so that no crate above proves anew how all that it holds is let go.
+impl Drop for PreparedTables {
+    fn drop(self) {
+        let Self {
+            heap: _heap,
+            delayed: _delayed,
+            delayed_commits: _delayed_commits,
+        } = self;
     }
 }

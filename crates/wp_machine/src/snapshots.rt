@@ -13,7 +13,6 @@ use std::marker::Model;
 use wp_model::Seq;
 
 /// A live snapshot: how often it is registered, and the prepare numbers that the old commit map has under it.
-#[derive(Drop)]
 pub struct Snapshot {
     pub registrations: u64,
     pub old_commits: Vec<Seq>,
@@ -77,7 +76,6 @@ impl Snapshot {
 }
 
 /// The live numbers, each with its snapshot. The newest pair comes first: of two of one number the first counts.
-#[derive(Drop)]
 pub struct Snapshots {
     pub live: Vec<(Seq, Snapshot)>,
 }
@@ -210,5 +208,21 @@ impl Snapshots {
         Snapshots {
             live: Vec::new(alloc),
         }
+    }
+}
+
+// Written out, so that no crate above proves anew how all that it holds is let go.
+impl Drop for Snapshot {
+    fn drop(self) {
+        let Self {
+            registrations: _registrations,
+            old_commits: _old_commits,
+        } = self;
+    }
+}
+
+impl Drop for Snapshots {
+    fn drop(self) {
+        let Self { live: _live } = self;
     }
 }

@@ -1,14 +1,29 @@
+ghost use Rattle.std.specs.Prelude.{OnOk};
+ghost use Rattle.wp_machine.specs.Machine.{MayMake, Makes};
+
+use crate::applied::make;
 use crate::store::InstalledEdit;
 use crate::views::{Account, Fact};
+use crate::world::World;
+use std::alloc::AllocError;
 use wp_actor::Turn;
 use wp_judge::Load;
 use wp_model::{Batch, Entry, Holder, Key, Name, Seq, Version};
 
 /// A step of an actor, given by its place among the actors.
-#[derive(Drop)]
 pub struct Step {
     pub by: usize,
     pub kind: Kind,
+}
+
+impl Step {
+    pub(crate) fn apply_to(self, world: &mut World) -> Result<(), AllocError>
+        requires { MayMake world.old self.by self.kind }
+        ensures { OnOk result (Makes world.old self.by self.kind world.new) }
+    {
+        let Step { by, kind } = self;
+        make(world, by, kind)
+    }
 }
 
 /// What a step is. What the world has already is named by a number, a name or a place alone.
@@ -165,4 +180,14 @@ pub enum ActorsStep {
     Learn(usize),
     /// The seat at this place is joined.
     JoinSeat(usize),
+}
+
+// Written out, so that no crate above proves anew how all that it holds is let go.
+impl Drop for Step {
+    fn drop(self) {
+        let Self {
+            by: _by,
+            kind: _kind,
+        } = self;
+    }
 }

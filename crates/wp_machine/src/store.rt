@@ -10,7 +10,6 @@ use std::marker::Model;
 use wp_model::{Entry, Segment, Seq, Version};
 
 /// The versions in memory and in tables, and the floor: at each number from it on a reader finds all that it needs.
-#[derive(Drop)]
 pub struct StoreTable {
     pub memory: Vec<Version>,
     pub tables: Vec<Version>,
@@ -26,7 +25,6 @@ impl Model for StoreTable {
 }
 
 /// What an installed edit says: the log's segment, the flushed number, the versions of its tables, and how many tables these are.
-#[derive(Drop)]
 pub struct InstalledEdit {
     pub segment: Segment,
     pub flushed: Seq,
@@ -43,7 +41,6 @@ impl Model for InstalledEdit {
 }
 
 /// The last edit, the one whose install failed, if one did, and whether the devices of the tables failed.
-#[derive(Drop)]
 pub struct Installed {
     pub last: InstalledEdit,
     pub failed: Option<InstalledEdit>,
@@ -173,5 +170,37 @@ impl Installed {
             failed: None,
             halted: false,
         }
+    }
+}
+
+// Written out, so that no crate above proves anew how all that it holds is let go.
+impl Drop for StoreTable {
+    fn drop(self) {
+        let Self {
+            memory: _memory,
+            tables: _tables,
+            floor: _floor,
+        } = self;
+    }
+}
+
+impl Drop for InstalledEdit {
+    fn drop(self) {
+        let Self {
+            segment: _segment,
+            flushed: _flushed,
+            versions: _versions,
+            tables: _tables,
+        } = self;
+    }
+}
+
+impl Drop for Installed {
+    fn drop(self) {
+        let Self {
+            last: _last,
+            failed: _failed,
+            halted: _halted,
+        } = self;
     }
 }

@@ -24,7 +24,6 @@ use wp_history::History;
 use wp_model::{Entry, Name, Seq};
 
 /// The words, the turns, the tables that they guard, and the actors.
-#[derive(Drop)]
 pub struct World {
     pub alloc: Global,
     pub opened: Vec<Entry>,
@@ -156,4 +155,27 @@ fn flag_of(undecided: &[Seq]) -> u64
     ensures { result ≡ flag_of undecided.now }
 {
     if undecided.is_empty() { 0 } else { 1 }
+}
+
+// Written out, so that no crate above proves anew how all that it holds is let go.
+impl Drop for World {
+    fn drop(self) {
+        let Self {
+            alloc: _alloc,
+            opened: _opened,
+            max_evicted: _max_evicted,
+            delayed_flag: _delayed_flag,
+            old_flag: _old_flag,
+            cache: _cache,
+            holders: _holders,
+            writes: _writes,
+            prepared: _prepared,
+            snapshots: _snapshots,
+            store: _store,
+            locks: _locks,
+            installed: _installed,
+            first_edit: _first_edit,
+            actors: _actors,
+        } = self;
+    }
 }

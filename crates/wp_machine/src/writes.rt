@@ -14,7 +14,6 @@ use wp_model::{Batch, Entry, Segment, Seq};
 
 /// The history and its log, with the segment that this is in, and the one that was written beside it, if one was. What is pending is
 /// what is left of one record, the entry that comes next first.
-#[derive(Drop)]
 pub struct WriteTable {
     pub history: Vec<Entry>,
     pub pending: Vec<Entry>,
@@ -183,5 +182,21 @@ impl WriteTable {
             segment: Segment { place: 0, base: 0 },
             next: None,
         })
+    }
+}
+
+// Written out, so that no crate above proves anew how all that it holds is let go.
+impl Drop for WriteTable {
+    fn drop(self) {
+        let Self {
+            history: _history,
+            pending: _pending,
+            logged: _logged,
+            log: _log,
+            closed: _closed,
+            failed: _failed,
+            segment: _segment,
+            next: _next,
+        } = self;
     }
 }
