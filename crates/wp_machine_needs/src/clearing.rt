@@ -14,7 +14,8 @@ use wp_judge::unpack;
 use wp_machine::{Cache, PreparedTables, Snapshots};
 use wp_model::Seq;
 
-fn pair_at(cache: &Cache, place: usize) -> Option<(Seq, Seq)>
+/// The pair in the word at the place, if that is one.
+pub fn pair_at(cache: &Cache, place: usize) -> Option<(Seq, Seq)>
     requires { place < length cache.now }
     ensures { result ≡ option_map numbers_of (pair_at cache.now place) }
 {
@@ -22,7 +23,7 @@ fn pair_at(cache: &Cache, place: usize) -> Option<(Seq, Seq)>
 }
 
 /// The decision that the cache has for a version.
-pub(crate) fn cached(cache: &Cache, p: Seq) -> Option<Seq>
+pub fn cached(cache: &Cache, p: Seq) -> Option<Seq>
     ensures { result ≡ cached cache.now p }
 {
     match pair_at(cache, cache.place_of(p)) {
@@ -65,7 +66,7 @@ fn is_kept_under_each(snapshots: &Snapshots, live: &[Seq], p: Seq, c: Seq) -> bo
 }
 
 /// Whether the old commit map has the pair under each live snapshot that it overlaps.
-pub(crate) fn is_in_old_commits(
+pub fn is_in_old_commits(
     snapshots: &Snapshots,
     p: Seq,
     c: Seq,
@@ -78,7 +79,7 @@ pub(crate) fn is_in_old_commits(
 }
 
 /// Whether the version is of no prepared transaction, or a delayed commit with that decision.
-pub(crate) fn is_apart(prepared: &PreparedTables, p: Seq, c: Seq) -> bool
+pub fn is_apart(prepared: &PreparedTables, p: Seq, c: Seq) -> bool
     ensures { (result ≡ true) ↔ IsApart prepared.now (record { number = p; decision = c }) }
 {
     if !prepared.is_prepared(p) {

@@ -28,11 +28,14 @@ mod waiting;
 use crate::finding::may_find;
 use crate::moves::{may_halt, may_install, may_move_versions, may_renew, may_replace_versions};
 use crate::note::may_note;
+pub use clearing::{cached, is_apart, is_in_old_commits, pair_at};
 pub use decided::{decision_in, is_decided};
 pub use edits::{has_last_tables, is_next_segment};
 pub use note::is_undelayed;
+pub use pending::has_versions_of;
 pub use read::history_of;
 use std::alloc::AllocError;
+pub use versions::none_at;
 use wp_machine::{Actor, Kind, LocksStep, OwnStep, StoreStep, TablesStep, World};
 
 fn store(world: &World, by: usize, actor: &Actor, kind: &StoreStep) -> Result<bool, AllocError>

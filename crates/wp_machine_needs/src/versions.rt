@@ -76,7 +76,6 @@ fn has_all(versions: &[Version], others: &[Version]) -> bool
 }
 
 /// Whether both have the same.
-
 pub(crate) fn are_same(versions: &[Version], others: &[Version]) -> bool
     ensures { (result ≡ true) ↔ AreSame versions.now others.now }
 {
@@ -122,7 +121,7 @@ fn are_not_at(n: Seq, versions: &[Version]) -> bool
 }
 
 /// Whether none has the number.
-pub(crate) fn none_at(versions: &[Version], n: Seq) -> bool
+pub fn none_at(versions: &[Version], n: Seq) -> bool
     ensures { (result ≡ true) ↔ NoneAt n versions.now }
 {
     are_not_at(n, versions)

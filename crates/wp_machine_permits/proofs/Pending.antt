@@ -1,5 +1,5 @@
 -- What memory has once the versions of the pending entry came or went.
-use Rattle.std.proofs.Common.{◌≡◌, ℕ, Bool, true, false, cond, not, nat_eq, ◌&&◌, List, [], ◌∷◌, ◌++◌, Option, Some, None, is_some, refl, sym, ◌∙◌}
+use Rattle.std.proofs.Common.{◌≡◌, ℕ, Bool, true, false, cond, not, nat_eq, ◌&&◌, List, [], ◌∷◌, ◌++◌, Some, None, is_some, refl, sym, ◌∙◌}
 use Rattle.std.specs.Str.{bytes_eq}
 use Rattle.std.specs.Cmp.Lexicographic.{told_text}
 use Rattle.std.proofs.lemmas.Bool.{eqb-true, eqb-false, eq-eqb}
@@ -87,12 +87,3 @@ each_changed P (change ∷ changes) each key changed = by (bytes_eq (key_of chan
     by : (b : Bool) → bytes_eq (key_of change) key ≡ b → (is_changed changes key ≡ true → P key) → is_some (cond b (Some (value_of change)) (change_to changes key)) ≡ true → P key
     by true is others changed = rw (told_text (key_of change) key true (sym is)) at each.0
     by false is others changed = others changed
-
--- each version of the entry is among these
-pub each_version : (changes : List Change) (memory : List Version) (n : ℕ) → Each (λ change. version_at memory (key_of change) n ≡ Some (value_of change)) changes → (key : List ℕ) (value : Option (List ℕ)) → change_to changes key ≡ Some value → version_at memory key n ≡ Some value
-each_version [] memory n each key value is = absurd cc
-each_version (change ∷ changes) memory n each key value found = by (bytes_eq (key_of change) key) refl (each_version changes memory n each.1 key value) found
-  where
-    by : (b : Bool) → bytes_eq (key_of change) key ≡ b → (change_to changes key ≡ Some value → version_at memory key n ≡ Some value) → cond b (Some (value_of change)) (change_to changes key) ≡ Some value → version_at memory key n ≡ Some value
-    by true is others same = (rw (told_text (key_of change) key true (sym is)) at each.0) ∙ same
-    by false is others same = others same

@@ -1,5 +1,5 @@
 -- What a search over the items of a table says of the table.
-use Rattle.std.proofs.Common.{◌≡◌, ◌≢◌, ◌<◌, ℕ, zero, suc, get_or, drop, Bool, true, false, cond, nat_eq, not, ◌||◌, ◌&&◌, length, List, [], ◌∷◌, Option, Some, None, IsSome, MatchOption, refl, sym, ap, ◌∙◌, arith}
+use Rattle.std.proofs.Common.{◌≡◌, ◌<◌, ℕ, zero, suc, get_or, drop, Bool, true, false, cond, nat_eq, not, ◌||◌, length, List, [], ◌∷◌, Option, Some, None, IsSome, MatchOption, refl, sym, ap, ◌∙◌, arith}
 use Rattle.std.specs.Ordering.{nat_cmp, eq_by_cmp}
 use Rattle.std.specs.Cmp.{nat_cmp_total, unsigned_tied, eq_by_cmp_equiv}
 use Rattle.std.proofs.lemmas.Cmp.{nat_list_cmp_total}
@@ -10,14 +10,10 @@ use Rattle.std.specs.FinMap as finite
 use Rattle.std.specs.Str.{bytes_eq}
 use Rattle.std.specs.Option.{is_some}
 use Rattle.std.proofs.lemmas.Bool.{eqb-true, eq-eqb}
-use Rattle.wp_model.specs.declared.version.Version.{Version}
-use Rattle.wp_model.specs.Versions.{version_at}
 use Rattle.wp_model.specs.PreparedTables.{PreparedTables, NoneDelayed}
 use Rattle.wp_model.specs.Snapshots.{Snapshot, is_old_commit, NoOldCommits}
 use Rattle.wp_model.specs.Batch.{key_cmp}
-use Rattle.wp_core.specs.Sound.Prepared.{IsInOldCommits}
 use Rattle.wp_machine_needs.specs.Each.{Each}
-use Rattle.wp_machine_permits.specs.Permits.{IsKeptAt}
 
 -- ---- one item more
 
@@ -38,9 +34,6 @@ each_found {X} P (pair ∷ pairs) s each found = by (eq_by_cmp nat_cmp s pair.0)
     by : (b : Bool) → eq_by_cmp nat_cmp s pair.0 ≡ b → (IsSome (finite.find nat_cmp s pairs) → P s) → IsSome (cond b (Some pair.1) (finite.find nat_cmp s pairs)) → P s
     by true is others found = rw (same_number s pair.0 is) at each.0
     by false is others found = others found
-
-pub kept_under_live : (snapshots : finite.FinMap nat_cmp Snapshot) (p c : ℕ) (live : List (ℕ × Snapshot)) → snapshots ≡ finite.from_entries live → Each (λ pair. IsKeptAt snapshots p c pair.0) live → IsInOldCommits snapshots p c
-kept_under_live snapshots p c live is kept s is_live = each_found (IsKeptAt snapshots p c) live s kept (rw (is, finite.get-from_entries nat_cmp_total live s) at is_live)
 
 pub none_kept : (snapshots : finite.FinMap nat_cmp Snapshot) (live : List (ℕ × Snapshot)) → snapshots ≡ finite.from_entries live → Each (λ pair. (p : ℕ) → is_old_commit snapshots pair.0 p ≡ false) live → NoOldCommits snapshots
 none_kept snapshots live is none s p = by (finite.get snapshots s) refl
@@ -113,14 +106,3 @@ listed_key keys q = any_key keys q ∙ sym (set.contains-from_list nat_list_cmp_
 pub first_or_none : (numbers : List ℕ) (o : Option ℕ) → o ≡ slice_get numbers 0 → MatchOption o ((p : ℕ) → set.contains (set.from_list {R = nat_cmp} numbers) p ≡ false) (λ p. set.contains (set.from_list {R = nat_cmp} numbers) p ≡ true)
 first_or_none [] o e = rw e (λ p. set.contains-from_list_nat [] p)
 first_or_none (x ∷ xs) o e = rw e (first_in_set x xs)
-
--- ---- versions
-
-pub none_numbered : (memory : List Version) (n : ℕ) → Each (λ v. v.number ≢ n) memory → (key : List ℕ) → version_at memory key n ≡ None
-none_numbered [] n apart key = refl
-none_numbered (v ∷ vs) n apart key = by (bytes_eq v.key key) (nat_eq v.number n) refl (none_numbered vs n apart.1 key)
-  where
-    by : (a b : Bool) → nat_eq v.number n ≡ b → version_at vs key n ≡ None → cond (a && b) (Some v.value) (version_at vs key n) ≡ None
-    by true true is others = absurd (apart.0 (eqb-true v.number n is))
-    by true false is others = others
-    by false b is others = others

@@ -1,8 +1,7 @@
 -- When the test of a step may say yes.
-use Rattle.std.specs.Prelude.{◌≡◌, ℕ, suc, ◌≤◌, ◌<◌, true, List, [], ◌∷◌, ◌++◌, Option, Some, is_some}
+use Rattle.std.specs.Prelude.{◌≡◌, ℕ, suc, true, List, [], ◌∷◌, ◌++◌, Option, Some, is_some}
 use Rattle.wp_model.specs.declared.entry.Entry.{Entry}
 use Rattle.wp_model.specs.Legal.{IsLegal, IsLegalNext}
-use Rattle.wp_model.specs.Snapshots.{Snapshots, is_old_commit}
 use Rattle.wp_core.specs.World.{World, Actor, Transaction, published}
 use Rattle.wp_core.specs.Conditions.{HasTransaction, IsHeldFor, IsOwn, IsPrepare}
 use Rattle.wp_core.specs.Sound.Prepared.{IsEntered}
@@ -20,10 +19,6 @@ use Rattle.wp_model.specs.Versions.{version_at}
 pub record MayFollow (history : List Entry) (entry : Entry) : Type 0 where
   pub next : IsLegalNext history entry
   pub legal : IsLegal (history ++ entry ∷ [])
-
--- under the snapshot number s the old commit map has p, where s is between p and its decision
-abbrev pub IsKeptAt : Snapshots → ℕ → ℕ → ℕ → Type 0
-IsKeptAt snapshots p c s = p ≤ s → s < c → is_old_commit snapshots s p ≡ true
 
 -- the key is held for the actor
 pub record IsHeldKey (w : World) (a : Actor) (key : List ℕ) : Type 0 where

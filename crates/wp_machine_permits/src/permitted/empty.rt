@@ -1,13 +1,12 @@
 //! Whether what a flag or a turn stands for is empty.
-ghost use Rattle.std.specs.Prelude.{◌≡◌, ◌↔◌, ◌≤◌, ◌<◌, ◌≢◌, true, false, ℕ, List, length, ◌==◌, None, MatchOption};
+ghost use Rattle.std.specs.Prelude.{◌≡◌, ◌↔◌, ◌≤◌, true, false, ℕ, length, ◌==◌, MatchOption};
 ghost use Rattle.std.specs.FinSet as set;
 ghost use Rattle.wp_model.specs.Snapshots.{is_old_commit, NoOldCommits};
-ghost use Rattle.wp_model.specs.Versions.{version_at};
 ghost use Rattle.wp_model.specs.PreparedTables.{NoneDelayed};
 ghost use Rattle.wp_machine_needs.specs.Each.{Each};
 
 use wp_machine::{PreparedTables, Snapshot, Snapshots};
-use wp_model::{Seq, Version};
+use wp_model::Seq;
 
 /// Each of the numbers is from this one on.
 fn are_from(numbers: &[Seq], least: Seq) -> bool
@@ -86,23 +85,4 @@ pub(super) fn has_no_old_commits(snapshots: &Snapshots) -> bool
     ensures { (result ≡ true) ↔ NoOldCommits snapshots.now }
 {
     kept_under(&snapshots.live, snapshots).is_none()
-}
-
-fn are_not(memory: &[Version], n: Seq) -> bool
-    ensures { result ≡ true → Each (λ v. v.number ≢ n) memory.now }
-{
-    for version in memory {
-        if version.number == n {
-            return false;
-        }
-    }
-    true
-}
-
-/// No version has that number.
-#[tactic(auto, using(crate::proofs::Searches::none_numbered))]
-pub(super) fn has_none_at(memory: &[Version], n: Seq) -> bool
-    ensures { result ≡ true → (key : List ℕ) → version_at memory.now key n ≡ None }
-{
-    are_not(memory, n)
 }

@@ -1,5 +1,5 @@
 //! Whether a step with the locks turn may be made.
-ghost use Rattle.std.specs.Prelude.{◌≡◌, true, Some, None, IfOk, IfSome, option_map};
+ghost use Rattle.std.specs.Prelude.{◌≡◌, true, Some, None, IfOk, option_map};
 ghost use Rattle.std.specs.FinMap as finite;
 ghost use Rattle.wp_core.specs.World.{Actor};
 ghost use Rattle.wp_core.specs.Steps as step;

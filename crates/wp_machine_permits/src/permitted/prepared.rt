@@ -7,10 +7,9 @@ ghost use Rattle.wp_core.specs.Steps as step;
 ghost use Rattle.wp_machine.specs.Machine.{prepared_step};
 ghost use Rattle.wp_machine_needs.specs.Offered.{IsOffered};
 
-use crate::permitted::evicting::{cached, is_in_old_commits};
 use std::alloc::AllocError;
 use wp_machine::{PreparedStep, Turn, World};
-use wp_machine_needs::decision_in;
+use wp_machine_needs::{cached, decision_in, is_in_old_commits};
 use wp_model::{Entry, Seq};
 
 fn is_prepare_pending(world: &World, by: usize) -> bool
@@ -52,10 +51,14 @@ fn may_delay_pending(world: &World, by: usize, p: Seq, c: Seq) -> Result<bool, A
 }
 
 /// The pair is passed: the bound has come to its decision, and it is kept for the snapshots that it overlaps.
-fn is_passed(world: &World, p: Seq, c: Seq) -> bool
-    ensures { result ≡ true → IsPassed world.now.max_evicted world.now.snapshots p c }
+fn is_passed(world: &World, p: Seq, c: Seq) -> Result<bool, AllocError>
+    ensures { IfOk result (λ passed. passed ≡ true → IsPassed world.now.max_evicted world.now.snapshots p c) }
 {
-    c <= world.max_evicted && is_in_old_commits(&world.snapshots, p, c)
+    if c > world.max_evicted {
+        return Ok(false);
+    }
+    let kept = is_in_old_commits(&world.snapshots, p, c, world.alloc)?;
+    Ok(kept)
 }
 
 /// Only a number whose decision is published is taken out, once its pair is in its word, or is passed.
@@ -66,7 +69,7 @@ fn may_take_out(world: &World, by: usize, p: Seq) -> Result<bool, AllocError>
         return Ok(false);
     }
     match decision_in(world.writes.entries(), p, world.alloc)? {
-        Some(c) => Ok(cached(&world.cache, p) == Some(c) || is_passed(world, p, c)),
+        Some(c) => Ok(cached(&world.cache, p) == Some(c) || is_passed(world, p, c)?),
         None => Ok(false),
     }
 }

@@ -1,31 +1,29 @@
 //! Whether the first of the pending entries may be published.
-ghost use Rattle.std.specs.Prelude.{◌≡◌, ◌∷◌, true, Some, ℕ, List, Option, length, suc, option_map, IfOk};
+ghost use Rattle.std.specs.Prelude.{◌≡◌, true, Some, ℕ, List, Option, length, IfOk};
 ghost use Rattle.std.specs.Option.{option_copied};
 ghost use Rattle.std.specs.FinSet as set;
 ghost use Rattle.std.specs.FinMap as finite;
-ghost use Rattle.wp_model.specs.Batch.{key_of, value_of, change_to};
+ghost use Rattle.wp_model.specs.Batch.{key_of};
 ghost use Rattle.wp_model.specs.History.{is_changed};
 ghost use Rattle.wp_model.specs.Legal.{IsLegalNext};
-ghost use Rattle.wp_model.specs.Versions.{version_at};
-ghost use Rattle.wp_model.specs.Decision.{version_in};
 ghost use Rattle.wp_model.specs.declared.entry.Entry.{Entry};
 ghost use Rattle.wp_model.specs.declared.holder.Holder.TheVariants.{Txn};
 ghost use Rattle.wp_judge.specs.Words.{CommitPair};
 ghost use Rattle.wp_core.specs.Sound.Prepared.{IsWide, IsEntered};
-ghost use Rattle.wp_core.specs.Conditions.{IsHeldFor, IsOwn, IsPrepare, MayPublish, HasTransaction};
-ghost use Rattle.wp_core.specs.Entries.{changes_under, transaction_of, pair_by, pending_pair};
-ghost use Rattle.wp_core.specs.Sound.Views.{IsInMemory};
+ghost use Rattle.wp_core.specs.Conditions.{IsHeldFor, IsPrepare};
+ghost use Rattle.wp_core.specs.Entries.{changes_under, transaction_of, pair_by};
 ghost use Rattle.wp_machine.specs.Machine.{published_step};
 ghost use Rattle.wp_machine_needs.specs.Offered.{IsOffered};
 ghost use Rattle.wp_machine_needs.specs.Each.{Each};
 ghost use Rattle.wp_machine_permits.specs.Permits.{IsEntitled, IsHeldKey, IsLocked, IsMade, IsOwned, IsOwner};
 
-use crate::permitted::evicting::{cached, fits_no_word};
+use crate::permitted::evicting::fits_no_word;
 use crate::permitted::history::{history_of, may_follow};
 use std::alloc::AllocError;
 use wp_history::History;
 use wp_machine::{Actor, Transaction, Turn, World};
-use wp_model::{Batch, Change, Entry, Holder, Key, Name, Seq, Value, Version};
+use wp_machine_needs::{cached, has_versions_of};
+use wp_model::{Batch, Change, Entry, Holder, Key, Name, Seq};
 
 /// The changes whose keys the entry needs.
 fn changes_under<'a>(history: &'a History, entry: &'a Entry) -> &'a Batch
@@ -47,59 +45,6 @@ fn transaction_of<'a>(history: &'a History, entry: &'a Entry) -> Option<&'a Name
         Entry::Write(_) => None,
         Entry::Prepare(name, _) => Some(name),
         Entry::Commit(p) | Entry::Undo(p, _) | Entry::Close(p) => Some(history.name_at(*p)),
-    }
-}
-
-// ---- versions
-
-fn version_at<'a>(versions: &'a [Version], key: &Key, n: Seq) -> Option<Option<&'a Value>>
-    ensures { option_map option_copied result ≡ version_at versions.now key.now n }
-{
-    for version in versions {
-        if &version.key == key && version.number == n {
-            return Some(version.value.as_ref());
-        }
-    }
-    None
-}
-
-/// The version that the change leaves under the number is there.
-fn has_version(versions: &[Version], change: &Change, n: Seq) -> bool
-    ensures { result ≡ true → version_at versions.now (key_of change.now) n ≡ Some (value_of change.now) }
-{
-    match version_at(versions, change.key(), n) {
-        Some(value) => value == change.value(),
-        None => false,
-    }
-}
-
-fn have_versions(versions: &[Version], changes: &[Change], n: Seq) -> bool
-    ensures { result ≡ true → Each (λ change. version_at versions.now (key_of change) n ≡ Some (value_of change)) changes.now }
-{
-    for change in changes {
-        if !has_version(versions, change, n) {
-            return false;
-        }
-    }
-    true
-}
-
-/// The versions that the batch leaves under the number are in memory.
-fn have_all(memory: &[Version], batch: &Batch, n: Seq) -> bool
-    ensures { result ≡ true → (key : List ℕ) (value : Option (List ℕ)) → change_to batch.now key ≡ Some value → version_at memory.now key n ≡ Some value }
-{
-    have_versions(memory, batch.changes(), n)
-}
-
-/// The versions of the entry are in memory under the number.
-fn is_in_memory(memory: &[Version], entry: &Entry, n: Seq) -> bool
-    ensures { result ≡ true → (key : List ℕ) (value : Option (List ℕ)) → version_in (Some entry.now) key ≡ Some value → version_at memory.now key n ≡ Some value }
-{
-    match entry {
-        Entry::Write(batch) | Entry::Prepare(_, batch) | Entry::Undo(_, batch) => {
-            have_all(memory, batch, n)
-        }
-        Entry::Commit(_) | Entry::Close(_) => true,
     }
 }
 
@@ -264,7 +209,7 @@ fn is_made(world: &World, entry: &Entry) -> Result<bool, AllocError>
 {
     let n = world.writes.next_number()?;
     Ok(
-        is_in_memory(&world.store.memory, entry, n)
+        has_versions_of(&world.store.memory, entry, n)
             && is_in_heap(world, entry, n)
             && is_entered(world, entry, n),
     )

@@ -50,7 +50,11 @@ fn may_store_word(world: &World, by: usize) -> Result<bool, AllocError>
     let Some((p, c)) = world.writes.pending_pair()? else {
         return Ok(false);
     };
-    Ok(fits_word(&world.cache, p, c) && may_clear(world, p))
+    if !fits_word(&world.cache, p, c) {
+        return Ok(false);
+    }
+    let clear = may_clear(world, p)?;
+    Ok(clear)
 }
 
 fn may_store_delayed_flag(world: &World, value: u64) -> bool

@@ -10,12 +10,10 @@ ghost use Rattle.wp_judge.specs.Words.{CommitPair};
 ghost use Rattle.wp_machine.specs.Machine.{write_step};
 ghost use Rattle.wp_machine_needs.specs.Offered.{IsOffered};
 
-use crate::permitted::empty::has_none_at;
-use crate::permitted::evicting::cached;
 use crate::permitted::history::{add_all, history_of};
 use std::alloc::AllocError;
 use wp_machine::{Turn, World, WriteStep};
-use wp_machine_needs::{is_next_segment, is_undelayed};
+use wp_machine_needs::{cached, is_next_segment, is_undelayed, none_at};
 use wp_model::Entry;
 
 fn may_log(world: &World, by: usize) -> bool
@@ -92,6 +90,7 @@ fn is_legal_with(world: &World, entries: &[Entry]) -> Result<bool, AllocError>
         return Ok(false);
     };
     let follow = add_all(&mut history, entries, world.alloc)?;
+    let _ = history.entries();
     Ok(follow)
 }
 
@@ -125,7 +124,7 @@ fn may_drop(world: &World, by: usize) -> Result<bool, AllocError>
         return Ok(false);
     }
     let n = world.writes.next_number()?;
-    if !has_none_at(&world.store.memory, n) || world.prepared.is_in_heap(n) {
+    if !none_at(&world.store.memory, n) || world.prepared.is_in_heap(n) {
         return Ok(false);
     }
     let unstored = is_in_no_word(world)?;
