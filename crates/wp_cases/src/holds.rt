@@ -42,7 +42,9 @@ pub(crate) fn push_order(holds: &mut Vec<Hold>, words: &str) -> Tried<()> {
     let mut before = None;
     for word in words.split_whitespace() {
         let client = number(word)?;
-        let line = lines.get_mut(client).ok_or(Trouble::Unclear)?;
+        let Some(line) = lines.get_mut(client) else {
+            return Err(Trouble::Unclear);
+        };
         *line = line.saturating_add(1);
         if let Some(until) = before {
             holds.push(Hold {

@@ -3,7 +3,7 @@
 use crate::bytes::DEVICES;
 use crate::play::{Outcome, Plays, Stored, show};
 use crate::run::Run;
-use crate::trouble::{Tried, Trouble};
+use crate::trouble::{Report, Tried, Trouble};
 use std::alloc::{AllocError, Global};
 use std::str;
 
@@ -25,22 +25,31 @@ fn text_due(alloc: Global, run: &Run<'_>) -> Result<Vec<u8>, AllocError> {
 }
 
 /// The status, the text and the holds.
-fn check_end(alloc: Global, run: &Run<'_>, outcome: &Outcome) -> Tried<()> {
+fn check_end(alloc: Global, run: &Run<'_>, outcome: &Outcome, report: &mut Report) -> Tried<()> {
     let (code, line, text) = (outcome.code, text_of(&outcome.line), text_of(&outcome.text));
     if usize::from(code) != run.code || line.strip_prefix("wp: ") != Some(run.why) {
-        return Err(Trouble::Wrong(format!(in alloc; "the status is {code}, {line}")?));
+        report.why = format!(in alloc; "the status is {code}, {line}")?;
+        return Err(Trouble::Wrong);
     }
     if outcome.text != text_due(alloc, run)? && !run.others.contains(&text) {
-        return Err(Trouble::Wrong(format!(in alloc; "the text is\n{text}")?));
+        report.why = format!(in alloc; "the text is\n{text}")?;
+        return Err(Trouble::Wrong);
     }
     if !outcome.held {
-        return Err(Trouble::Wrong("a hold ended otherwise".to_string(alloc)?));
+        report.why = "a hold ended otherwise".to_string(alloc)?;
+        return Err(Trouble::Wrong);
     }
     Ok(())
 }
 
 /// The bytes that are left.
-fn check_devices(alloc: Global, run: &Run<'_>, old: &Stored<'_>, left: &Stored<'_>) -> Tried<()> {
+fn check_devices(
+    alloc: Global,
+    run: &Run<'_>,
+    old: &Stored<'_>,
+    left: &Stored<'_>,
+    report: &mut Report,
+) -> Tried<()> {
     let [log, manifest, tables] = &run.devices;
     let are_due = [
         log.is_due(run.stays, old[0], left[0]),
@@ -49,7 +58,8 @@ fn check_devices(alloc: Global, run: &Run<'_>, old: &Stored<'_>, left: &Stored<'
     ];
     for (is_due, name) in are_due.into_iter().zip(DEVICES) {
         if !is_due {
-            return Err(Trouble::Wrong(format!(in alloc; "the {name} has other bytes")?));
+            report.why = format!(in alloc; "the {name} has other bytes")?;
+            return Err(Trouble::Wrong);
         }
     }
     Ok(())
@@ -61,10 +71,11 @@ pub(crate) fn check(
     run: &Run<'_>,
     old: &Stored<'_>,
     outcome: &Outcome,
+    report: &mut Report,
 ) -> Tried<()> {
     let left = outcome.stored();
-    check_end(rt.alloc(), run, outcome)?;
-    check_devices(rt.alloc(), run, old, &left)?;
+    check_end(rt.alloc(), run, outcome, report)?;
+    check_devices(rt.alloc(), run, old, &left, report)?;
     if run.opens.is_empty() {
         return Ok(());
     }
@@ -75,5 +86,6 @@ pub(crate) fn check(
             return Ok(());
         }
     }
-    Err(Trouble::Wrong(format!(in rt.alloc(); "opened again, the text is\n{text}")?))
+    report.why = format!(in rt.alloc(); "opened again, the text is\n{text}")?;
+    Err(Trouble::Wrong)
 }

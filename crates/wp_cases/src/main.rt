@@ -17,7 +17,7 @@ mod stages;
 mod sweep;
 mod trouble;
 
-use bytes::Names;
+use bytes::Named;
 use case::play_case;
 use clause::{Clause, clauses_of, groups};
 use play::Plays;
@@ -25,25 +25,33 @@ use std::env::{self, Env};
 use std::process::ExitCode;
 use std::rt::Files;
 use std::{fs, io};
-use trouble::Trouble;
+use trouble::{Report, Trouble};
+
+/// What a trouble is, where the report does not say it.
+fn kind_of(trouble: Trouble) -> &'static str {
+    match trouble {
+        Trouble::Memory => "out of memory",
+        Trouble::Unclear => "not understood",
+        Trouble::Wrong => "",
+    }
+}
 
 /// Plays a case, and tells what is wrong with it. Answers whether it came out as it says.
 fn play_one<R: Plays + Eprint>(
     rt: &R,
     file: &str,
-    names: &mut Names,
+    names: &mut Vec<Named>,
     case: &[Clause],
 ) -> io::Result<bool> {
-    let mut line = 0;
-    let Err(trouble) = play_case(rt, names, case, &mut line) else {
+    let mut report = Report {
+        line: 0,
+        why: String::new(rt.alloc()),
+    };
+    let Err(trouble) = play_case(rt, names, case, &mut report) else {
         return Ok(true);
     };
-    let why = match &trouble {
-        Trouble::Memory => "out of memory",
-        Trouble::Unclear => "not understood",
-        Trouble::Wrong(what) => what.as_str(),
-    };
-    eprintln!(rt; "{file}, line {line}: {why}")?;
+    let (line, why) = (report.line, report.why.as_str());
+    eprintln!(rt; "{file}, line {line}: {}{why}", kind_of(trouble))?;
     Ok(false)
 }
 
@@ -52,7 +60,7 @@ fn play_file<R: Plays + Files + Eprint>(rt: &R, file: &str) -> io::Result<(usize
     let text = fs::read_to_string(rt, file)?;
     let clauses = clauses_of(rt.alloc(), &text)?;
     let groups = groups(rt.alloc(), &clauses, "case")?;
-    let mut names = Names::new(rt.alloc());
+    let mut names = Vec::new(rt.alloc());
     let mut failed = 0usize;
     for case in &groups {
         if !play_one(rt, file, &mut names, case)? {

@@ -1,6 +1,6 @@
 //! What a case says of one run, clause by clause.
 
-use crate::bytes::{DEVICES, Names, bytes_of};
+use crate::bytes::{DEVICES, Named, bytes_of};
 use crate::clause::{Clause, push_line};
 use crate::holds::{hold_of, push_order};
 use crate::play::Call;
@@ -39,6 +39,13 @@ fn entries_of(history: &str) -> &str {
         Some((entries, _)) => entries,
         None => history,
     }
+}
+
+fn joined(alloc: Global, first: &str, second: &str, third: &str) -> Result<String, AllocError> {
+    let mut text = first.to_string(alloc)?;
+    text.push_str(second)?;
+    text.push_str(third)?;
+    Ok(text)
 }
 
 /// Reads a line such as `put k 1 -> put @1`. One that begins a client stands among the replies too; one without a reply has none.
@@ -88,7 +95,7 @@ impl<'a> Run<'a> {
     }
 
     /// Reads what the run begins with.
-    fn read_call(&mut self, alloc: Global, names: &Names, clause: &Clause) -> Tried<()> {
+    fn read_call(&mut self, alloc: Global, names: &[Named], clause: &Clause) -> Tried<()> {
         match (clause.verb.as_str(), clause.rest.as_str()) {
             ("source", "fails") => self.call.source_fails = 1,
             ("room", count) => self.call.room = number(count)?,
@@ -101,33 +108,37 @@ impl<'a> Run<'a> {
         Ok(())
     }
 
-    /// Reads a history: that of the text, or one that the devices may open to.
+    /// Reads the history of the text.
     fn read_history(&mut self, alloc: Global, before: &str, clause: &Clause) -> Tried<()> {
-        let lines = clause.block.as_str();
         match (clause.verb.as_str(), clause.rest.as_str()) {
-            ("history", "") => self.history.push_str(lines)?,
-            ("more", "history") => self.history = format!(in alloc;
-                "{}{lines}",
-                entries_of(before)
-            )?,
-            ("opens", "to") => self.opens.push(format!(in alloc; "history\n{lines}")?)?,
-            ("opens", "to it") => self
-                .opens
-                .push(format!(in alloc; "history\n{}", self.history)?)?,
-            ("opens", "to more") => self.opens.push(format!(in alloc;
-                "history\n{}{lines}",
-                entries_of(&self.history)
-            )?)?,
+            ("history", "") => self.history.push_str(&clause.block)?,
+            ("more", "history") => {
+                self.history = joined(alloc, "", entries_of(before), &clause.block)?;
+            }
             _ => return Err(Trouble::Unclear),
         }
         Ok(())
+    }
+
+    /// Reads a history that the devices may open to.
+    fn read_opens(&mut self, alloc: Global, clause: &Clause) -> Tried<()> {
+        let lines = clause.block.as_str();
+        let text = match clause.rest.as_str() {
+            "to" => joined(alloc, "history\n", "", lines)?,
+            "to it" => joined(alloc, "history\n", &self.history, "")?,
+            "to more" => joined(alloc, "history\n", entries_of(&self.history), lines)?,
+            _ => return Err(Trouble::Unclear),
+        };
+        Ok(self.opens.push(text)?)
     }
 
     /// Reads what else is due, or is to be done.
     fn read_due(&mut self, clause: &'a Clause) -> Tried<()> {
         match (clause.verb.as_str(), clause.rest.as_str()) {
             ("status", status) => {
-                let (code, why) = status.split_once(' ').ok_or(Trouble::Unclear)?;
+                let Some((code, why)) = status.split_once(' ') else {
+                    return Err(Trouble::Unclear);
+                };
                 self.code = number(code)?;
                 self.why = why;
             }
@@ -147,7 +158,7 @@ impl<'a> Run<'a> {
     pub(crate) fn read(
         &mut self,
         alloc: Global,
-        names: &Names,
+        names: &[Named],
         before: &str,
         clause: &'a Clause,
     ) -> Tried<()> {
@@ -158,7 +169,8 @@ impl<'a> Run<'a> {
         }
         match clause.verb.as_str() {
             "source" | "room" | "hold" | "order" | "script" => self.read_call(alloc, names, clause),
-            "history" | "more" | "opens" => self.read_history(alloc, before, clause),
+            "history" | "more" => self.read_history(alloc, before, clause),
+            "opens" => self.read_opens(alloc, clause),
             _ => self.read_due(clause),
         }
     }

@@ -1,6 +1,6 @@
 //! What a case says of a device.
 
-use crate::bytes::{Names, bytes_of};
+use crate::bytes::{Named, bytes_of};
 use crate::crash::images;
 use crate::disk::{Faults, SOUND};
 use crate::trouble::{Tried, Trouble, number};
@@ -19,6 +19,22 @@ pub(crate) struct DeviceSaid {
     due: Option<Vec<u8>>,
 }
 
+/// Reads `BYTES to BYTES`.
+fn read_images(alloc: Global, names: &[Named], range: &str) -> Tried<Vec<Vec<u8>>> {
+    let Some((old, new)) = range.split_once(" to ") else {
+        return Err(Trouble::Unclear);
+    };
+    let old = bytes_of(alloc, names, old)?;
+    let new = bytes_of(alloc, names, new)?;
+    Ok(images(alloc, &old, &new, 1)?)
+}
+
+/// Reads `10` or `10 to 13`.
+fn read_calls(calls: &str) -> Tried<(usize, usize)> {
+    let (first, last) = calls.split_once(" to ").unwrap_or((calls, calls));
+    Ok((number(first)?, number(last)?))
+}
+
 impl DeviceSaid {
     pub(crate) fn new(alloc: Global) -> DeviceSaid {
         DeviceSaid {
@@ -30,18 +46,15 @@ impl DeviceSaid {
     }
 
     /// Reads `fails at 10`, `fails at 10 to 13`, `comes at 10`, `is BYTES`, `from BYTES to BYTES` or `BYTES`.
-    pub(crate) fn read(&mut self, alloc: Global, names: &Names, words: &str) -> Tried<()> {
+    pub(crate) fn read(&mut self, alloc: Global, names: &[Named], words: &str) -> Tried<()> {
         if let Some(calls) = words.strip_prefix("fails at ") {
-            let (first, last) = calls.split_once(" to ").unwrap_or((calls, calls));
-            self.fails = (number(first)?, number(last)?);
+            self.fails = read_calls(calls)?;
         } else if let Some(call) = words.strip_prefix("comes at ") {
             self.comes = number(call)?;
         } else if let Some(due) = words.strip_prefix("is ") {
             self.due = Some(bytes_of(alloc, names, due)?);
         } else if let Some(range) = words.strip_prefix("from ") {
-            let (old, new) = range.split_once(" to ").ok_or(Trouble::Unclear)?;
-            let (old, new) = (bytes_of(alloc, names, old)?, bytes_of(alloc, names, new)?);
-            self.images = images(alloc, &old, &new, 1)?;
+            self.images = read_images(alloc, names, range)?;
         } else {
             self.images.push(bytes_of(alloc, names, words)?)?;
         }

@@ -5,7 +5,7 @@ use crate::judge::text_of;
 use crate::play::Outcome;
 use crate::run::Run;
 use crate::trouble::{Tried, Trouble, number};
-use std::alloc::Global;
+use std::alloc::{AllocError, Global};
 
 /// The texts that show a store once so many of a script's records are in its log.
 #[derive(Drop)]
@@ -19,25 +19,52 @@ pub(crate) struct Stage {
     pub(crate) worked: String,
 }
 
+/// The first entries of a history, behind the line that begins it.
+fn front_of(alloc: Global, entries: &str, count: usize) -> Result<String, AllocError> {
+    let mut history = "history\n".to_string(alloc)?;
+    for entry in entries.lines().take(count) {
+        push_line(&mut history, entry)?;
+    }
+    Ok(history)
+}
+
+/// The line `2 1 get 1` in its parts.
+fn parts_of(line: &str) -> Option<(&str, &str, &str)> {
+    let (count, line) = line.split_once(' ')?;
+    let (undecided, reply) = line.split_once(' ')?;
+    Some((count, undecided, reply))
+}
+
 impl Stage {
-    /// Reads `end 2 1 get 1`: how many of the entries are there, how many are undecided then, and what the sweep's command is
-    /// answered, without the number.
-    fn read(alloc: Global, entries: &str, line: &str) -> Tried<Stage> {
-        let line = line.strip_prefix("end ").ok_or(Trouble::Unclear)?;
-        let (count, line) = line.split_once(' ').ok_or(Trouble::Unclear)?;
-        let (undecided, reply) = line.split_once(' ').ok_or(Trouble::Unclear)?;
-        let n = number(count)?.saturating_add(1);
-        let mut history = "history\n".to_string(alloc)?;
-        for entry in entries.lines().take(n - 1) {
-            push_line(&mut history, entry)?;
-        }
+    /// The stage with these entries, the next of which is the nth.
+    fn new(
+        alloc: Global,
+        history: &str,
+        n: usize,
+        undecided: &str,
+        reply: &str,
+    ) -> Result<Stage, AllocError> {
         let worked = format!(in alloc; "{history}{n} write put z 9\nend {n} {undecided}\n")?;
         Ok(Stage {
-            shown: format!(in alloc; "{history}end {count} {undecided}\n")?,
+            shown: format!(in alloc; "{history}end {} {undecided}\n", n.saturating_sub(1))?,
             front: format!(in alloc; "client c\nput @{n}\nflushed @{n} ")?,
             end: format!(in alloc; "\nget 9 @{n}\n{reply} @{n}\n{worked}")?,
             worked,
         })
+    }
+
+    /// Reads `end 2 1 get 1`: how many of the entries are there, how many are undecided then, and what the sweep's command is
+    /// answered, without the number.
+    fn read(alloc: Global, entries: &str, line: &str) -> Tried<Stage> {
+        let Some(("end", line)) = line.split_once(' ') else {
+            return Err(Trouble::Unclear);
+        };
+        let Some((count, undecided, reply)) = parts_of(line) else {
+            return Err(Trouble::Unclear);
+        };
+        let count = number(count)?;
+        let history = front_of(alloc, entries, count)?;
+        Ok(Stage::new(alloc, &history, count.saturating_add(1), undecided, reply)?)
     }
 
     /// Whether a run that works on, and then shows its store, wrote these texts.

@@ -9,7 +9,7 @@ use crate::judge::text_of;
 use crate::play::{Call, Outcome, Plays, Stored, play, show};
 use crate::run::Run;
 use crate::stages::{Stage, stages_after, stages_of};
-use crate::trouble::{Tried, Trouble};
+use crate::trouble::{Report, Tried, Trouble};
 use std::alloc::{AllocError, Global};
 
 /// How many bytes are between the places at which a crash tears what was not synced.
@@ -64,6 +64,22 @@ impl<R: Plays> Trials<'_, R> {
         Ok(false)
     }
 
+    /// Whether the devices open to one of the stages with this log and this manifest, and with each of these tables.
+    fn tables_open(
+        &self,
+        stages: &[Stage],
+        log: &[u8],
+        manifest: &[u8],
+        all_tables: &[Vec<u8>],
+    ) -> Result<bool, AllocError> {
+        for tables in all_tables {
+            if !self.opens(stages, &[log, manifest, tables])? {
+                return Ok(false);
+            }
+        }
+        Ok(true)
+    }
+
     /// Whether whatever a crash may leave of the devices opens to one of the stages.
     fn images_open(&self, stages: &[Stage], left: &[Left; 3]) -> Result<bool, AllocError> {
         let alloc = self.rt.alloc();
@@ -72,10 +88,8 @@ impl<R: Plays> Trials<'_, R> {
         let all_tables = images_of(alloc, tables)?;
         for log in &images_of(alloc, log)? {
             for manifest in &manifests {
-                for tables in &all_tables {
-                    if !self.opens(stages, &[log, manifest, tables])? {
-                        return Ok(false);
-                    }
+                if !self.tables_open(stages, log, manifest, &all_tables)? {
+                    return Ok(false);
                 }
             }
         }
@@ -98,12 +112,12 @@ impl<R: Plays> Trials<'_, R> {
         Ok(is_whole && self.images_open(stages, &outcome.left)?)
     }
 
-    fn tries(&self, faults: &[Faults; 3], end: (u8, &str)) -> Tried<()> {
+    fn tries(&self, faults: &[Faults; 3], end: (u8, &str), report: &mut Report) -> Tried<()> {
         if self.succeeds(faults, end)? {
             return Ok(());
         }
         let [log, manifest, tables] = faults;
-        let what = format!(in self.rt.alloc();
+        report.why = format!(in self.rt.alloc();
             "calls that fail: {}, {}, {}; that are answered: {}, {}, {}; the end is another",
             log.fails,
             manifest.fails,
@@ -112,19 +126,26 @@ impl<R: Plays> Trials<'_, R> {
             manifest.answered,
             tables.answered
         )?;
-        Err(Trouble::Wrong(what))
+        Err(Trouble::Wrong)
     }
 
     /// The call of the device fails; or it is the first that is not answered while the other devices go on; or no device answers
     /// from there on. Where the log has calls left then, it fails too.
-    fn try_call(&self, device: usize, call: usize, moment: u64, end: (u8, &str)) -> Tried<()>
+    fn try_call(
+        &self,
+        device: usize,
+        call: usize,
+        moment: u64,
+        end: (u8, &str),
+        report: &mut Report,
+    ) -> Tried<()>
         requires { device < 3 }
     {
         let mut faults = [SOUND; 3];
         faults[device].fails = call as u64;
-        self.tries(&faults, end)?;
+        self.tries(&faults, end, report)?;
         faults[device] = stops_at(call);
-        self.tries(&faults, end)?;
+        self.tries(&faults, end, report)?;
         let [log, manifest, tables] = self.whole;
         let faults = [
             stops_from(log, moment),
@@ -133,22 +154,53 @@ impl<R: Plays> Trials<'_, R> {
         ];
         let log_goes_on = faults[0].answered < log.calls.len() as u64;
         let is_logs = log_goes_on && end.0 != 10;
-        self.tries(&faults, if is_logs { ENDS[0][1] } else { end })
+        self.tries(&faults, if is_logs { ENDS[0][1] } else { end }, report)
+    }
+
+    /// The device goes wrong at each of its calls, of which so many open it.
+    fn try_calls(
+        &self,
+        device: usize,
+        whole: &Left,
+        opening: usize,
+        report: &mut Report,
+    ) -> Tried<()>
+        requires { device < 3 }
+    {
+        for (call, moment) in whole.calls.iter().enumerate() {
+            let end = ENDS[device][usize::from(call >= opening)];
+            self.try_call(device, call.saturating_add(1), *moment, end, report)?;
+        }
+        Ok(())
     }
 
     /// After the opening the log stops at each of its calls, and the other device at each of its own.
-    fn try_pairs(&self, opening: &[Left; 3], whole: &[Left; 3], other: usize) -> Tried<()>
+    fn try_pairs(
+        &self,
+        opening: &[Left; 3],
+        whole: &[Left; 3],
+        other: usize,
+        report: &mut Report,
+    ) -> Tried<()>
         requires { other < 3 }
     {
         for call in opening[0].calls.len()..whole[0].calls.len() {
             for also in opening[other].calls.len()..whole[other].calls.len() {
                 let mut faults = [stops_at(call.saturating_add(1)), SOUND, SOUND];
                 faults[other] = stops_at(also.saturating_add(1));
-                self.tries(&faults, ENDS[0][1])?;
+                self.tries(&faults, ENDS[0][1], report)?;
             }
         }
         Ok(())
     }
+}
+
+/// A run that works on once the devices opened, and that shows by the command how far the swept one came.
+fn work_of(alloc: Global, command: &str) -> Result<Call, AllocError> {
+    let mut work = Call::new(alloc, "run --bits 0")?;
+    let script = format!(in alloc; "client c\nput z 9\nflush\nget z\n{command}\n")?;
+    work.script = script.into_bytes();
+    Ok(work)
 }
 
 /// Lets devices go wrong at each call that the run makes of them. `whole` is what it leaves where none does.
@@ -157,28 +209,20 @@ pub(crate) fn sweep(
     run: &Run<'_>,
     stored: &Stored<'_>,
     whole: &[Left; 3],
+    report: &mut Report,
 ) -> Tried<()> {
-    let alloc = rt.alloc();
     let opening = show(rt, stored)?.left;
-    let mut work = Call::new(alloc, "run --bits 0")?;
-    let script = format!(in alloc; "client c\nput z 9\nflush\nget z\n{}\n", run.probe)?;
-    work.script = script.into_bytes();
     let trials = Trials {
         rt,
         call: &run.call,
         stored,
         whole,
-        stages: stages_of(alloc, run)?,
-        work,
+        stages: stages_of(rt.alloc(), run)?,
+        work: work_of(rt.alloc(), run.probe)?,
     };
     for device in 0..3 {
-        let mut call = 0usize;
-        for moment in &whole[device].calls {
-            let end = ENDS[device][usize::from(call >= opening[device].calls.len())];
-            call = call.saturating_add(1);
-            trials.try_call(device, call, *moment, end)?;
-        }
+        trials.try_calls(device, &whole[device], opening[device].calls.len(), report)?;
     }
-    trials.try_pairs(&opening, whole, 1)?;
-    trials.try_pairs(&opening, whole, 2)
+    trials.try_pairs(&opening, whole, 1, report)?;
+    trials.try_pairs(&opening, whole, 2, report)
 }

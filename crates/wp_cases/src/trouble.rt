@@ -1,13 +1,13 @@
 use std::alloc::{AllocError, AllocFailed};
 
 /// Why a case could not be played, or did not come out as it says.
-#[derive(Drop)]
+#[derive(Clone, Copy)]
 pub(crate) enum Trouble {
     Memory,
     /// A clause says nothing that is known.
     Unclear,
-    /// This is wrong with a run.
-    Wrong(String),
+    /// A run came out otherwise. What is wrong with it is said apart.
+    Wrong,
 }
 
 pub(crate) type Tried<T> = Result<T, Trouble>;
@@ -30,4 +30,13 @@ pub(crate) fn number(word: &str) -> Tried<usize> {
         Ok(number) => Ok(number),
         Err(_) => Err(Trouble::Unclear),
     }
+}
+
+/// What is told of a case.
+#[derive(Drop)]
+pub(crate) struct Report {
+    /// The line of its file that it is at.
+    pub(crate) line: usize,
+    /// What is wrong with a run, where it came out otherwise.
+    pub(crate) why: String,
 }
