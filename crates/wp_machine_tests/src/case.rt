@@ -22,13 +22,6 @@ pub(crate) struct Case {
     world: Option<World>,
 }
 
-fn client(alloc: Global) -> Tried<Name> {
-    match Name::read(alloc, CLIENT) {
-        Ok(name) => Ok(name),
-        Err(_) => Err(Trouble::Memory),
-    }
-}
-
 fn add(history: &mut History, entry: Entry) -> Tried<()> {
     if history.published() == MOST_ENTRIES || !history.is_legal_next(&entry) {
         return Err(Trouble::Wrong);
@@ -43,8 +36,10 @@ fn opened(alloc: Global, history: &History) -> Tried<World> {
     if history.undone_last().is_some() {
         return Err(Trouble::Wrong);
     }
-    let client = client(alloc)?;
-    Ok(World::opened(alloc, client, history, 0)?)
+    match Name::read(alloc, CLIENT) {
+        Ok(client) => Ok(World::opened(alloc, client, history, 0)?),
+        Err(_) => Err(Trouble::Memory),
+    }
 }
 
 impl Case {
@@ -56,10 +51,6 @@ impl Case {
         }
     }
 
-    fn put(&mut self, world: World) {
-        self.world = Some(world);
-    }
-
     /// Ends the case: its other lines are passed over.
     pub(crate) fn end(&mut self) {
         self.world = None;
@@ -68,9 +59,7 @@ impl Case {
     /// Begins a case, on the empty history.
     pub(crate) fn begin(&mut self, alloc: Global) -> Tried<()> {
         self.found = History::new(alloc);
-        let client = client(alloc)?;
-        let world = World::new(alloc, client)?;
-        self.put(world);
+        self.world = Some(opened(alloc, &self.found)?);
         Ok(())
     }
 
@@ -89,8 +78,7 @@ impl Case {
         if self.world.is_none() {
             return Ok(());
         }
-        let world = opened(alloc, &self.found)?;
-        self.put(world);
+        self.world = Some(opened(alloc, &self.found)?);
         Ok(())
     }
 
@@ -99,8 +87,7 @@ impl Case {
         let Some(world) = self.world.take() else {
             return Ok(());
         };
-        let world = played(world, lines)?;
-        self.put(world);
+        self.world = Some(played(world, lines)?);
         Ok(())
     }
 }

@@ -20,18 +20,16 @@ pub(crate) fn batch_of(alloc: Global, words: &str) -> Tried<Batch> {
     Ok(Batch::of(alloc, Change::Put(key, value))?)
 }
 
-fn prepare_of(alloc: Global, words: &str) -> Tried<Entry> {
-    let (name, change) = first_word(words);
-    let name = word_of(alloc, name)?;
-    Ok(Entry::Prepare(name, batch_of(alloc, change)?))
-}
-
 /// Reads `write KEY VALUE`, `prepare NAME KEY VALUE` or `commit NUMBER`.
 pub(crate) fn entry_of(alloc: Global, words: &str) -> Tried<Entry> {
     let (verb, rest) = first_word(words);
     match verb {
         "write" => Ok(Entry::Write(batch_of(alloc, rest)?)),
-        "prepare" => prepare_of(alloc, rest),
+        "prepare" => {
+            let (name, change) = first_word(rest);
+            let batch = batch_of(alloc, change)?;
+            Ok(Entry::Prepare(word_of(alloc, name)?, batch))
+        }
         "commit" => Ok(Entry::Commit(number(rest)?)),
         _ => Err(Trouble::Unclear),
     }

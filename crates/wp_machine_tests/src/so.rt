@@ -1,5 +1,5 @@
 //! What is said of a world.
-use crate::step::{first_word, kind_of, unmade};
+use crate::step::{first_word, kind_of};
 use crate::trouble::{Tried, Trouble, number};
 use wp_judge::{Asked, ask};
 use wp_machine::{Step, World};
@@ -13,10 +13,7 @@ fn is_permitted(world: &World, words: &str) -> Tried<bool> {
     let (by, line) = first_word(words);
     let by = number(by)? as usize;
     let kind = kind_of(world.alloc, line)?;
-    let step = Step { by, kind };
-    let permitted = permits(world, &step);
-    unmade(step);
-    Ok(permitted?)
+    Ok(permits(world, &Step { by, kind })?)
 }
 
 /// The client's answer as a reader, where it has one.

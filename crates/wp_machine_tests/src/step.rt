@@ -6,29 +6,9 @@ use std::alloc::Global;
 use wp_judge::Load;
 use wp_machine::{
     ActorsStep, Fact, InstalledEdit, Kind, Noted, OwnStep, PreparedStep, ReaderStep, SnapshotsStep,
-    Step, StoreStep, TablesStep, Turn, TurnStep, WordStep, WriteStep,
+    StoreStep, TablesStep, Turn, TurnStep, WordStep, WriteStep,
 };
 use wp_model::{Segment, Seq};
-
-const TURNS: [(&str, Turn); 6] = [
-    ("write", Turn::Write),
-    ("prepared", Turn::Prepared),
-    ("snapshots", Turn::Snapshots),
-    ("store", Turn::Store),
-    ("locks", Turn::Locks),
-    ("tables", Turn::Tables),
-];
-
-const LOADS: [(&str, Load); 8] = [
-    ("first-word", Load::FirstWord),
-    ("first-max", Load::FirstMax),
-    ("delayed-flag", Load::DelayedFlag),
-    ("in-prepared", Load::InPrepared),
-    ("second-word", Load::SecondWord),
-    ("second-max", Load::SecondMax),
-    ("old-flag", Load::OldFlag),
-    ("is-old-commit", Load::IsOldCommit),
-];
 
 /// The first word of a line, and what is after it.
 pub(crate) fn first_word(line: &str) -> (&str, &str) {
@@ -36,21 +16,29 @@ pub(crate) fn first_word(line: &str) -> (&str, &str) {
 }
 
 fn turn_of(word: &str) -> Tried<Turn> {
-    for (name, turn) in TURNS {
-        if name == word {
-            return Ok(turn);
-        }
+    match word {
+        "write" => Ok(Turn::Write),
+        "prepared" => Ok(Turn::Prepared),
+        "snapshots" => Ok(Turn::Snapshots),
+        "store" => Ok(Turn::Store),
+        "locks" => Ok(Turn::Locks),
+        "tables" => Ok(Turn::Tables),
+        _ => Err(Trouble::Unclear),
     }
-    Err(Trouble::Unclear)
 }
 
 fn load_of(word: &str) -> Tried<Load> {
-    for (name, load) in LOADS {
-        if name == word {
-            return Ok(load);
-        }
+    match word {
+        "first-word" => Ok(Load::FirstWord),
+        "first-max" => Ok(Load::FirstMax),
+        "delayed-flag" => Ok(Load::DelayedFlag),
+        "in-prepared" => Ok(Load::InPrepared),
+        "second-word" => Ok(Load::SecondWord),
+        "second-max" => Ok(Load::SecondMax),
+        "old-flag" => Ok(Load::OldFlag),
+        "is-old-commit" => Ok(Load::IsOldCommit),
+        _ => Err(Trouble::Unclear),
     }
-    Err(Trouble::Unclear)
 }
 
 /// Two numbers, of which a line may lack the second one, or both.
@@ -189,13 +177,10 @@ pub(crate) fn kind_of(alloc: Global, line: &str) -> Tried<Kind> {
         "take" => Ok(Kind::Turn(TurnStep::Take(turn_of(words)?))),
         "give" => Ok(Kind::Turn(TurnStep::Give(turn_of(words)?))),
         "load" => Ok(Kind::Reader(ReaderStep::Load(load_of(words)?))),
-        "locks" => locks_step(alloc, words),
+        "locks" => Ok(Kind::Locks(locks_step(alloc, verb, rest)?)),
         "write" => write_step(alloc, verb, rest),
         "tables" => tables_step(alloc, verb, rest),
         "own" => own_step(alloc, verb, rest),
         _ => step_of_numbers(kind, verb, numbers(rest)),
     }
 }
-
-/// Lets a step go that is not made: in one place, since each that lets one go is proved with all its parts.
-pub(crate) fn unmade(_step: Step) {}
