@@ -40,13 +40,20 @@ fn parts(alloc: Global) -> Result<Parts<MemDisk>, Fail>
     }
 }
 
+fn name(alloc: Global, bytes: &[u8]) -> Result<Name, Fail> {
+    match Name::read(alloc, bytes) {
+        Ok(name) => Ok(name),
+        Err(_) => Err(Fail::from(NO_MEMORY)),
+    }
+}
+
 /// A new store with a commit cache of so many bits, at most 16, and its first seat.
 fn shared(alloc: Global, bits: u32) -> Result<(Shared<MemDisk>, Seat<MemDisk>), Fail>
     requires { bits ≤ 16 }
     ensures free { IfOk result (λ r. IsFree r.0.table r.1) }
     ensures first { IfOk result (λ r. (r.1.by ≡ 0) × (r.1.knows.joined ≡ []) × (r.1.knows.made ≡ 0) × (r.1.knows.participant.direct ≡ None)) }
 {
-    match Shared::new(alloc, Name::read(alloc, b"a")?, parts(alloc)?, bits, MOST) {
+    match Shared::new(alloc, name(alloc, b"a")?, parts(alloc)?, bits, MOST) {
         Ok((store, seat)) => Ok((store, seat)),
         Err(_) => Err(Fail::from(NO_MEMORY)),
     }
@@ -60,7 +67,7 @@ pub(super) fn opened(alloc: Global, bits: u32) -> Result<(Shared<MemDisk>, Clien
     ensures made { IfOk result (λ r. (r.1.seat.by ≡ 0) × (r.1.seat.knows.joined ≡ []) × (r.1.seat.knows.made ≡ 1)) }
 {
     let (store, mut seat) = shared(alloc, bits)?;
-    let other = store.seat(&mut seat, Name::read(alloc, b"b")?);
+    let other = store.seat(&mut seat, name(alloc, b"b")?);
     let first = Client {
         seat,
         begun: None,
