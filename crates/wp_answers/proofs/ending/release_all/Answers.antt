@@ -24,20 +24,6 @@ loop-last-preserved g c = λ txn has.
     (subst (λ (xs : List HeldSnapshot). LetsGo z s c.loop-last.seat h (record { txn = txn; snapshots = xs })) c.in-Some.ensures.items (c.loop-last.invariant txn has)) has
     c.release.new.seat (record { front = gone.0; back = gone.1; were = gone.2; goes_on = gone.4 })
 
-pub loop-last-preserved-in-Some : goal.loop-last-preserved-in-Some
-loop-last-preserved-in-Some g c = λ txn has.
-    let z = c.args.store.now in let s = c.args.seat.now in let h : HoldingsState = record { txn = txn; snapshots = c.args.snapshots.items } in let gone = c.release.ensures in
-    last_let_go z s h c.loop-last.seat txn c.pop.new.self.items c.in-Some.last
-    (subst (λ (xs : List HeldSnapshot). LetsGo z s c.loop-last.seat h (record { txn = txn; snapshots = xs })) c.in-Some.ensures.items (c.loop-last.invariant txn has)) has
-    c.release.new.seat (record { front = gone.0; back = gone.1; were = gone.2; goes_on = gone.4 })
-
-pub loop-last-preserved-in-Some-2 : goal.loop-last-preserved-in-Some-2
-loop-last-preserved-in-Some-2 g c = λ txn has.
-    let z = c.args.store.now in let s = c.args.seat.now in let h : HoldingsState = record { txn = txn; snapshots = c.args.snapshots.items } in let gone = c.release.ensures in
-    last_let_go z s h c.loop-last.seat txn c.pop.new.self.items c.in-Some.last
-    (subst (λ (xs : List HeldSnapshot). LetsGo z s c.loop-last.seat h (record { txn = txn; snapshots = xs })) c.in-Some.ensures.items (c.loop-last.invariant txn has)) has
-    c.release.new.seat (record { front = gone.0; back = gone.1; were = gone.2; goes_on = gone.4 })
-
 pub returns : goal.returns
 returns g c = λ txn has.
     let z = c.args.store.now in let s = c.args.seat.now in let h : HoldingsState = record { txn = txn; snapshots = c.args.snapshots.items } in
