@@ -5,7 +5,7 @@ use Rattle.std.proofs.lemmas.List.{append-nil, append_assoc, map_push}
 use Rattle.std.specs.Int.{w64, to_be_bytes}
 use Rattle.wp_outside.specs.Disk.{Moment, IsImage, synced, after_write, write_end, Each}
 use Rattle.wp_gatelog.specs.Log.{Grows, IsAcknowledged, IsAtRest, last_gate}
-use Rattle.wp_gatelog.specs.Spelling.{Gated, IsOpen, framed, frame_of, identity, all_gated, log_of}
+use Rattle.wp_gatelog.specs.Spelling.{Gated, Stamp, IsOpen, framed, frame_of, identity, all_gated, log_of}
 use Rattle.wp_gatelog.proofs.FramedLemmas.{length-frame_of}
 use Rattle.wp_gatelog.proofs.MomentLemmas.{image_behind, image_of_gate, reads_behind}
 
@@ -68,19 +68,19 @@ last_gate_more head [] gate bytes = refl
 last_gate_more head (g ∷ gated) gate bytes = last_gate_more g.gate gated gate bytes
 
 -- a log with one record more
-pub log_more : (magic : List ℕ) (id head : ℕ) (gated : List Gated) (gate : ℕ) (bytes : List ℕ) → log_of magic id head (gated ++ record { gate = gate; bytes = bytes } ∷ []) ≡ log_of magic id head gated ++ gate ∷ framed bytes
-log_more magic id head gated gate bytes =
-    ap (λ (l : List ℕ). head ∷ (identity magic id ++ l)) (all_gated_more gated gate bytes)
-    ∙ ap (λ (l : List ℕ). head ∷ l) (sym (append_assoc (identity magic id) (all_gated gated) (gate ∷ framed bytes)))
+pub log_more : (magic : List ℕ) (stamp : Stamp) (head : ℕ) (gated : List Gated) (gate : ℕ) (bytes : List ℕ) → log_of magic stamp head (gated ++ record { gate = gate; bytes = bytes } ∷ []) ≡ log_of magic stamp head gated ++ gate ∷ framed bytes
+log_more magic stamp head gated gate bytes =
+    ap (λ (l : List ℕ). head ∷ (identity magic stamp ++ l)) (all_gated_more gated gate bytes)
+    ∙ ap (λ (l : List ℕ). head ∷ l) (sym (append_assoc (identity magic stamp) (all_gated gated) (gate ∷ framed bytes)))
 
 -- the same of the bytes that begin with it
-pub log_longer : (magic : List ℕ) (id head : ℕ) (before : List Gated) (gate : ℕ) (found more image : List ℕ) → image ≡ log_of magic id head before ++ gate ∷ (framed found ++ 0 ∷ more)
-    → image ≡ log_of magic id head (before ++ record { gate = gate; bytes = found } ∷ []) ++ 0 ∷ more
-log_longer magic id head before gate found more image is =
-    is ∙ sym (append_assoc (log_of magic id head before) (gate ∷ framed found) (0 ∷ more)) ∙ ap (λ (l : List ℕ). l ++ 0 ∷ more) (sym (log_more magic id head before gate found))
+pub log_longer : (magic : List ℕ) (stamp : Stamp) (head : ℕ) (before : List Gated) (gate : ℕ) (found more image : List ℕ) → image ≡ log_of magic stamp head before ++ gate ∷ (framed found ++ 0 ∷ more)
+    → image ≡ log_of magic stamp head (before ++ record { gate = gate; bytes = found } ∷ []) ++ 0 ∷ more
+log_longer magic stamp head before gate found more image is =
+    is ∙ sym (append_assoc (log_of magic stamp head before) (gate ∷ framed found) (0 ∷ more)) ∙ ap (λ (l : List ℕ). l ++ 0 ∷ more) (sym (log_more magic stamp head before gate found))
 
 -- the acknowledged records with the new one
-acknowledged_more : (gated : List Gated) (records : List (List ℕ)) (bytes : List ℕ) → length bytes < 2 ^ 64 → IsAcknowledged gated records → IsAcknowledged (gated ++ record { gate = 1; bytes = bytes } ∷ []) (records ++ bytes ∷ [])
+pub acknowledged_more : (gated : List Gated) (records : List (List ℕ)) (bytes : List ℕ) → length bytes < 2 ^ 64 → IsAcknowledged gated records → IsAcknowledged (gated ++ record { gate = 1; bytes = bytes } ∷ []) (records ++ bytes ∷ [])
 acknowledged_more gated records bytes fits acknowledged = record {
   gates_open = records_more gated 1 bytes acknowledged.gates_open (record { gate = (λ e. cc e); length_fits = fits });
   last = last_gate_more 1 gated 1 bytes;
@@ -88,14 +88,14 @@ acknowledged_more gated records bytes fits acknowledged = record {
 }
 
 -- at rest with the new one
-pub at_rest_more : (magic : List ℕ) (id end : ℕ) (front : List ℕ) (records : List (List ℕ)) (bytes dead : List ℕ) → length bytes < 2 ^ 64 → (gated : List Gated) → IsAcknowledged gated records
-    → end ≡ length front + length (log_of magic id 1 gated) → (m : Moment) → m ≡ synced (front ++ (log_of magic id 1 gated ++ 1 ∷ (frame_of bytes ++ dead))) → IsAtRest magic id (end + (length bytes + 9)) front dead (records ++ bytes ∷ []) m
-at_rest_more magic id end front records bytes dead fits gated acknowledged place m on =
-    let more = log_more magic id 1 gated 1 bytes in
+pub at_rest_more : (magic : List ℕ) (stamp : Stamp) (end : ℕ) (front : List ℕ) (records : List (List ℕ)) (bytes dead : List ℕ) → length bytes < 2 ^ 64 → (gated : List Gated) → IsAcknowledged gated records
+    → end ≡ length front + length (log_of magic stamp 1 gated) → (m : Moment) → m ≡ synced (front ++ (log_of magic stamp 1 gated ++ 1 ∷ (frame_of bytes ++ dead))) → IsAtRest magic stamp (end + (length bytes + 9)) front dead (records ++ bytes ∷ []) m
+at_rest_more magic stamp end front records bytes dead fits gated acknowledged place m on =
+    let more = log_more magic stamp 1 gated 1 bytes in
     record {
       gated = gated ++ record { gate = 1; bytes = bytes } ∷ [];
       acknowledged = acknowledged_more gated records bytes fits acknowledged;
-      place = omega (arith, place, ap length more, length-framed bytes, length-append (log_of magic id 1 gated) (1 ∷ framed bytes));
-      on_disk = on ∙ ap (λ (l : List ℕ). synced (front ++ l)) (ap (λ (l : List ℕ). log_of magic id 1 gated ++ 1 ∷ l) (append_assoc (framed bytes) (0 ∷ []) dead)
-          ∙ sym (append_assoc (log_of magic id 1 gated) (1 ∷ framed bytes) (0 ∷ dead)) ∙ ap (λ (l : List ℕ). l ++ 0 ∷ dead) (sym more));
+      place = omega (arith, place, ap length more, length-framed bytes, length-append (log_of magic stamp 1 gated) (1 ∷ framed bytes));
+      on_disk = on ∙ ap (λ (l : List ℕ). synced (front ++ l)) (ap (λ (l : List ℕ). log_of magic stamp 1 gated ++ 1 ∷ l) (append_assoc (framed bytes) (0 ∷ []) dead)
+          ∙ sym (append_assoc (log_of magic stamp 1 gated) (1 ∷ framed bytes) (0 ∷ dead)) ∙ ap (λ (l : List ℕ). l ++ 0 ∷ dead) (sym more));
     }

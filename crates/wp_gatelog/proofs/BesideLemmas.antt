@@ -7,9 +7,9 @@ use Rattle.wp_outside.proofs.Moments.{image_of_synced}
 use Rattle.wp_gatelog.specs.Beside.{IsWholeLog, AreDead, BothRest, BringsBoth, Writes}
 use Rattle.wp_gatelog.specs.Changes.{BringsTo}
 use Rattle.wp_gatelog.specs.Durability.{HasAcknowledged}
-use Rattle.wp_gatelog.specs.Log.{IsAtRest, LogState}
+use Rattle.wp_gatelog.specs.Log.{IsAtRest, LogState, stamp_of}
 use Rattle.wp_gatelog.specs.Moments.{Leaves, IsSynced}
-use Rattle.wp_gatelog.specs.Spelling.{log_of, SpellsAt}
+use Rattle.wp_gatelog.specs.Spelling.{Stamp, log_of, SpellsAt}
 use Rattle.wp_gatelog.specs.Stands.{Stands}
 use Rattle.wp_gatelog.proofs.AcknowledgedLemmas.{spares_cut, acknowledged_passes}
 use Rattle.wp_gatelog.proofs.ChangeLemmas.{synced_steps, stepped_reads}
@@ -67,9 +67,9 @@ module _ (front log dead : List ℕ) (place : ℕ) where
 
 -- ---- the write and its sync
 
-module _ (place : ℕ) (bytes magic : List ℕ) (id end : ℕ) (front dead : List ℕ) (records : List (List ℕ)) (m : Moment) (rest : IsAtRest magic id end front dead records m) (are_dead : AreDead place (length bytes) end front dead) where
+module _ (place : ℕ) (bytes magic : List ℕ) (stamp : Stamp) (end : ℕ) (front dead : List ℕ) (records : List (List ℕ)) (m : Moment) (rest : IsAtRest magic stamp end front dead records m) (are_dead : AreDead place (length bytes) end front dead) where
   abbrev log : List ℕ
-  log = log_of magic id 1 rest.gated
+  log = log_of magic stamp 1 rest.gated
 
   abbrev whole : List ℕ
   whole = front ++ (log ++ 0 ∷ dead)
@@ -92,26 +92,26 @@ module _ (place : ℕ) (bytes magic : List ℕ) (id end : ℕ) (front dead : Lis
   from_start : drop (length front) whole ≡ log ++ 0 ∷ dead
   from_start = drop_at front (log ++ 0 ∷ dead) (length front) refl
 
-  spells : (image : List ℕ) → IsImage (step (synced whole)) image → SpellsAt (length front) image magic id records
+  spells : (image : List ℕ) → IsImage (step (synced whole)) image → SpellsAt (length front) image magic stamp records
   spells image h =
       let a = around image h in
-      subst (λ (rs : List (List ℕ)). SpellsAt (length front) image magic id rs) (sym rest.acknowledged.same)
-      (spells_log (length front) magic id 1 rest.gated image (λ e. cc e) rest.acknowledged.gates_open (a.1, from_front image a))
+      subst (λ (rs : List (List ℕ)). SpellsAt (length front) image magic stamp rs) (sym rest.acknowledged.same)
+      (spells_log (length front) magic stamp 1 rest.gated image (λ e. cc e) rest.acknowledged.gates_open (a.1, from_front image a))
 
-  spares : (other : ℕ) (others : List (List ℕ)) → HasAcknowledged magic other others (drop (length front) whole) → (image : List ℕ) → IsImage (step (synced whole)) image → HasAcknowledged magic other others (drop (length front) image)
+  spares : (other : Stamp) (others : List (List ℕ)) → HasAcknowledged magic other others (drop (length front) whole) → (image : List ℕ) → IsImage (step (synced whole)) image → HasAcknowledged magic other others (drop (length front) image)
   spares other others has image h =
       let a = around image h in
-      spares_cut magic other id 1 others rest.gated dead rest.acknowledged.gates_open (subst (HasAcknowledged magic other others) from_start has) (drop (length front) image) (a.1, from_front image a)
+      spares_cut magic other stamp 1 others rest.gated dead rest.acknowledged.gates_open (subst (HasAcknowledged magic other others) from_start has) (drop (length front) image) (a.1, from_front image a)
 
   there : Around front log reads
   there = around reads (write_reads_image place bytes whole)
 
-  stays : (other : ℕ) (others : List (List ℕ)) → Stands magic other others (drop (length front) whole) → Stands magic other others (drop (length front) reads)
+  stays : (other : Stamp) (others : List (List ℕ)) → Stands magic other others (drop (length front) whole) → Stands magic other others (drop (length front) reads)
   stays other others has =
       subst (Stands magic other others) (sym (from_front reads there))
-      (stands_behind magic id 1 rest.gated (λ e. cc e) rest.acknowledged.gates_open other others dead there.1 (subst (Stands magic other others) from_start has))
+      (stands_behind magic stamp 1 rest.gated (λ e. cc e) rest.acknowledged.gates_open other others dead there.1 (subst (Stands magic other others) from_start has))
 
-  both_rest : (n : Moment) → n ≡ synced reads → BothRest place bytes (length front) magic id end records n
+  both_rest : (n : Moment) → n ≡ synced reads → BothRest place bytes (length front) magic stamp end records n
   both_rest n on = record {
     still = record {
       front = there.0;
@@ -147,10 +147,10 @@ module _ (place : ℕ) (bytes magic : List ℕ) (id end : ℕ) (front dead : Lis
       ]
 
   abbrev Spelled : List ℕ → Type 0
-  Spelled image = SpellsAt (length front) image magic id records
+  Spelled image = SpellsAt (length front) image magic stamp records
 
   abbrev Both : Moment → Type 0
-  Both = BothRest place bytes (length front) magic id end records
+  Both = BothRest place bytes (length front) magic stamp end records
 
   pub brings_torn : {T E : Type 0} (e : E) (old new : List Moment) → IsSynced whole old → Tears (after_write place bytes) old new → BringsTo {T = T} {E = E} (length front) magic Spelled Both old new (Err e)
   brings_torn e old new known torn = record {
@@ -173,6 +173,10 @@ module _ (place : ℕ) (bytes magic : List ℕ) (id end : ℕ) (front dead : Lis
     stands = on_ok_weaker result (λ s other others. stepped_reads [] whole step step shifts old mid new known adds s (λ l. Stands magic other others (drop (length front) l)) (stays other others)) syncs;
   }
 
+-- what is dead where the disk is known
+pub dead_at : (place size end : ℕ) (front dead : List ℕ) (ms past : List Moment) (m : Moment) → ms ≡ m ∷ past → IfKnown ms (λ n. AreDead place size end front dead) → AreDead place size end front dead
+dead_at place size end front dead ms past m is known = subst (λ (l : List Moment). IfKnown l (λ n. AreDead place size end front dead)) is known
+
 -- ---- a disk that is unknown
 
 pub stays_unknown_torn : (step : Moment → Moment) (old new : List Moment) → Tears step old new → old ≡ [] → new ≡ []
@@ -188,10 +192,10 @@ stays_unknown step old mid new (Err e) adds syncs fails none = fails ∙ adds �
 
 -- ---- the log in use
 
-both_spelled : (place : ℕ) (bytes : List ℕ) (used : ℕ) (magic : List ℕ) (id end : ℕ) (records : List (List ℕ)) (ms : List Moment) → IfKnown ms (BothRest place bytes used magic id end records)
-    → (kind : List ℕ) (other : ℕ) (others : List (List ℕ)) → IsWholeLog kind other others bytes → (image : List ℕ) → images ms image → SpellsAt place image kind other others
-both_spelled place bytes used magic id end records [] both kind other others is image h = absurd h
-both_spelled place bytes used magic id end records (m ∷ past) both kind other others is image h =
+both_spelled : (place : ℕ) (bytes : List ℕ) (used : ℕ) (magic : List ℕ) (stamp : Stamp) (end : ℕ) (records : List (List ℕ)) (ms : List Moment) → IfKnown ms (BothRest place bytes used magic stamp end records)
+    → (kind : List ℕ) (other : Stamp) (others : List (List ℕ)) → IsWholeLog kind other others bytes → (image : List ℕ) → images ms image → SpellsAt place image kind other others
+both_spelled place bytes used magic stamp end records [] both kind other others is image h = absurd h
+both_spelled place bytes used magic stamp end records (m ∷ past) both kind other others is image h =
     let inner : List ℕ = log_of kind other 1 is.gated in
     let last : ℕ = place + length inner in
     let at = both.written kind other last others is (omega (arith, ap length is.spelling, length-append inner (0 ∷ []))) in
@@ -200,29 +204,29 @@ both_spelled place bytes used magic id end records (m ∷ past) both kind other 
 module _ {T E U F : Type 0} (place : ℕ) (bytes : List ℕ) (old new : LogState) where
   pub writes_beside : (x : T) (y : U) → BringsBoth {E = E} place bytes old.end old.moments new.moments (Ok x) → Writes {E = F} place bytes old new (Ok y)
   writes_beside x y brings = λ magic front dead records running rests are_dead.
-      let b = brings magic old.id front dead records rests are_dead in
-      let P : List ℕ → Type 0 = λ image. SpellsAt (length front) image magic old.id records in
+      let b = brings magic (stamp_of old) front dead records rests are_dead in
+      let P : List ℕ → Type 0 = λ image. SpellsAt (length front) image magic (stamp_of old) records in
       let passed = goes_passes (Leaves P) old.moments new.moments b.passed in
       record {
         any_moment = passed;
-        left = left_now P old.moments new.moments (rest_spells magic old.id old.end front dead records old.moments rests) passed;
+        left = left_now P old.moments new.moments (rest_spells magic (stamp_of old) old.end front dead records old.moments rests) passed;
         durable = b.durable;
-        acknowledged = acknowledged_passes magic old.id old.end front dead records old.moments new.moments rests b.durable;
+        acknowledged = acknowledged_passes magic (stamp_of old) old.end front dead records old.moments new.moments rests b.durable;
         rest = b.done;
         stands = b.stands;
-        spelled = both_spelled place bytes (length front) magic old.id old.end records new.moments b.done;
+        spelled = both_spelled place bytes (length front) magic (stamp_of old) old.end records new.moments b.done;
       }
 
   pub writes_failed : (result : Result T E) (e : F) → BringsBoth place bytes old.end old.moments new.moments result → Writes {T = U} place bytes old new (Err e)
   writes_failed result e brings = λ magic front dead records running rests are_dead.
-      let b = brings magic old.id front dead records rests are_dead in
-      let P : List ℕ → Type 0 = λ image. SpellsAt (length front) image magic old.id records in
+      let b = brings magic (stamp_of old) front dead records rests are_dead in
+      let P : List ℕ → Type 0 = λ image. SpellsAt (length front) image magic (stamp_of old) records in
       let passed = goes_passes (Leaves P) old.moments new.moments b.passed in
       record {
         any_moment = passed;
-        left = left_now P old.moments new.moments (rest_spells magic old.id old.end front dead records old.moments rests) passed;
+        left = left_now P old.moments new.moments (rest_spells magic (stamp_of old) old.end front dead records old.moments rests) passed;
         durable = b.durable;
-        acknowledged = acknowledged_passes magic old.id old.end front dead records old.moments new.moments rests b.durable;
+        acknowledged = acknowledged_passes magic (stamp_of old) old.end front dead records old.moments new.moments rests b.durable;
         rest = tt;
         stands = tt;
         spelled = tt;

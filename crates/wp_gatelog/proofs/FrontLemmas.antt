@@ -24,7 +24,7 @@ put_front [] before bytes at from is = ap (λ (k : ℕ). put k bytes before) (om
 put_front (x ∷ front) before bytes zero from is = absurd (omega (arith, is))
 put_front (x ∷ front) before bytes (suc at) from is = ap (λ (l : List ℕ). x ∷ l) (put_front front before bytes at from (omega (arith, is)))
 
-take_front : (front before : List ℕ) (len from : ℕ) → len ≡ length front + from → take len (front ++ before) ≡ front ++ take from before
+pub take_front : (front before : List ℕ) (len from : ℕ) → len ≡ length front + from → take len (front ++ before) ≡ front ++ take from before
 take_front [] before len from is = ap (λ (k : ℕ). take k before) (omega (arith, is))
 take_front (x ∷ front) before zero from is = absurd (omega (arith, is))
 take_front (x ∷ front) before (suc len) from is = ap (λ (l : List ℕ). x ∷ l) (take_front front before len from (omega (arith, is)))

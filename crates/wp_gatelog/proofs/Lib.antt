@@ -18,3 +18,4 @@ pub mod SurvivalLemmas
 pub mod FramedLemmas
 pub mod PatchLemmas
 pub mod StandLemmas
+pub mod WholeLemmas

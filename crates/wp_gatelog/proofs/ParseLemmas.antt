@@ -3,8 +3,9 @@ use Rattle.std.proofs.Common.{◌≡◌, ◌⊎◌, inl, inr, ℕ, ◌<◌, ◌^
 use Rattle.std.proofs.lemmas.List.{append_assoc, take_at, drop_at}
 use Rattle.std.specs.Int.{w32, w64, to_be_bytes}
 use Rattle.wp_outside.specs.Disk.{Each}
+use Rattle.wp_fields.specs.Format.{format_byte}
 use Rattle.wp_gatelog.specs.Damage.{IsShort, stated_length}
-use Rattle.wp_gatelog.specs.Spelling.{Gated, IsOpen, framed, identity, all_gated, log_of}
+use Rattle.wp_gatelog.specs.Spelling.{Gated, Stamp, IsOpen, framed, identity, all_gated, log_of}
 use Rattle.wp_gatelog.proofs.AppendLemmas.{length-framed}
 use Rattle.wp_gatelog.proofs.ScanLemmas.{stated_length_framed}
 
@@ -59,23 +60,23 @@ same_gated (g ∷ gs) (h ∷ hs) t u eg eh st su is =
     let rest = same_gated gs hs t u eg.1 eh.1 st su bytes.1 in
     ((λ i. record { gate = gate i; bytes = bytes.0 i } ∷ rest.0 i), rest.1)
 
-pub length-identities : (magic : List ℕ) (id other : ℕ) → length (identity magic id) ≡ length (identity magic other)
+pub length-identities : (magic : List ℕ) (stamp other : Stamp) → length (identity magic stamp) ≡ length (identity magic other)
 unfolding identity
-length-identities magic id other = omega (arith, length-append magic (1 ∷ to_be_bytes w32 id), length-append magic (1 ∷ to_be_bytes w32 other))
+length-identities magic stamp other = omega (arith, length-append magic (format_byte stamp.format ∷ to_be_bytes w32 stamp.id), length-append magic (format_byte other.format ∷ to_be_bytes w32 other.id))
 
 -- a head, and records up to a stop
-pub record SameLog (magic : List ℕ) (id other h k : ℕ) (gs hs : List Gated) (t u : List ℕ) : Type 0 where
+pub record SameLog (magic : List ℕ) (stamp other : Stamp) (h k : ℕ) (gs hs : List Gated) (t u : List ℕ) : Type 0 where
   pub head : h ≡ k
-  pub named : identity magic id ≡ identity magic other
+  pub named : identity magic stamp ≡ identity magic other
   pub gated : gs ≡ hs
   pub rest : t ≡ u
 
-pub same_log : (magic : List ℕ) (id other h k : ℕ) (gs hs : List Gated) (t u : List ℕ) → Each IsOpen gs → Each IsOpen hs → Stops t → Stops u
-    → log_of magic id h gs ++ t ≡ log_of magic other k hs ++ u → SameLog magic id other h k gs hs t u
-same_log magic id other h k gs hs t u eg eh st su is =
+pub same_log : (magic : List ℕ) (stamp other : Stamp) (h k : ℕ) (gs hs : List Gated) (t u : List ℕ) → Each IsOpen gs → Each IsOpen hs → Stops t → Stops u
+    → log_of magic stamp h gs ++ t ≡ log_of magic other k hs ++ u → SameLog magic stamp other h k gs hs t u
+same_log magic stamp other h k gs hs t u eg eh st su is =
     let head : h ≡ k = cc in
-    let rest : (identity magic id ++ all_gated gs) ++ t ≡ (identity magic other ++ all_gated hs) ++ u = cc in
-    let split = same_parts (identity magic id) (identity magic other) (all_gated gs ++ t) (all_gated hs ++ u) (length-identities magic id other)
-    (sym (append_assoc (identity magic id) (all_gated gs) t) ∙ rest ∙ append_assoc (identity magic other) (all_gated hs) u) in
+    let rest : (identity magic stamp ++ all_gated gs) ++ t ≡ (identity magic other ++ all_gated hs) ++ u = cc in
+    let split = same_parts (identity magic stamp) (identity magic other) (all_gated gs ++ t) (all_gated hs ++ u) (length-identities magic stamp other)
+    (sym (append_assoc (identity magic stamp) (all_gated gs) t) ∙ rest ∙ append_assoc (identity magic other) (all_gated hs) u) in
     let following = same_gated gs hs t u eg eh st su split.1 in
     record { head = head; named = split.0; gated = following.0; rest = following.1 }

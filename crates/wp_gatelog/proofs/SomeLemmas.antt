@@ -5,9 +5,11 @@ use Rattle.std.proofs.lemmas.List.{append_assoc, take-append-drop, drop-drop, dr
 use Rattle.std.proofs.lemmas.Nat.{be_bytes_4, be_bytes_8}
 use Rattle.std.specs.Int.{w32, w64, to_be_bytes, from_be_bytes}
 use Rattle.wp_outside.specs.Disk.{Each}
+use Rattle.wp_fields.specs.declared.format.Format.{Format}
+use Rattle.wp_fields.specs.Format.{format_byte}
 use Rattle.wp_gatelog.specs.Damage.{IsBadHead, IsBadHeadAt, IsCut, IsShort, stated_length}
-use Rattle.wp_gatelog.specs.Spelling.{Gated, IsOpen, framed, identity, all_gated, log_of, records_of, IsUnmade, Spells, SpellsAt}
-use Rattle.wp_gatelog.proofs.HeadLemmas.{identity_spelled}
+use Rattle.wp_gatelog.specs.Spelling.{Gated, Stamp, IsOpen, framed, identity, all_gated, log_of, records_of, IsUnmade, Spells, SpellsAt, stamped, IsUpTo}
+use Rattle.wp_gatelog.proofs.HeadLemmas.{identity_spelled, named_or_none}
 
 abbrev AreBytes : List ℕ → Type 0
 AreBytes bytes = (i : ℕ) → get_or bytes i 0 < 256
@@ -100,34 +102,36 @@ same_list (x ∷ xs) (y ∷ ys) = elim (cases_eq x y) [
 ]
 
 -- what any bytes are
-abbrev pub Reading : List ℕ → List ℕ → Type 0
-Reading bytes magic = ((id : ℕ) × (records : List (List ℕ)) × Spells bytes magic id records) ⊎ IsBadHead magic bytes ⊎ ((index : ℕ) × IsCut magic index bytes)
+abbrev pub Reading : List ℕ → List ℕ → Format → Type 0
+Reading bytes magic newest = ((stamp : Stamp) × (records : List (List ℕ)) × IsUpTo newest stamp.format × Spells bytes magic stamp records) ⊎ IsBadHead magic newest bytes ⊎ ((index : ℕ) × IsCut magic newest index bytes)
 
-module _ (magic : List ℕ) (bytes : List ℕ) (head : ℕ) (opened : head ≢ 0) where
-  read_after : (id : ℕ) (following : List ℕ) → bytes ≡ head ∷ (identity magic id ++ following) → Reads following → Reading bytes magic
-  read_after id following is reads =
-      let log : bytes ≡ log_of magic id head reads.gated ++ reads.tail =
-      is ∙ ap (λ (l : List ℕ). head ∷ (identity magic id ++ l)) reads.spelling ∙ ap (λ (l : List ℕ). head ∷ l) (sym (append_assoc (identity magic id) (all_gated reads.gated) reads.tail)) in
+module _ (magic : List ℕ) (newest : Format) (bytes : List ℕ) (head : ℕ) (opened : head ≢ 0) where
+  read_after : (stamp : Stamp) (following : List ℕ) → IsUpTo newest stamp.format → bytes ≡ head ∷ (identity magic stamp ++ following) → Reads following → Reading bytes magic newest
+  read_after stamp following up is reads =
+      let log : bytes ≡ log_of magic stamp head reads.gated ++ reads.tail =
+      is ∙ ap (λ (l : List ℕ). head ∷ (identity magic stamp ++ l)) reads.spelling ∙ ap (λ (l : List ℕ). head ∷ l) (sym (append_assoc (identity magic stamp) (all_gated reads.gated) reads.tail)) in
       elim reads.ends [
         | inl w ↦ inl (
-          id,
+          stamp,
           records_of reads.gated,
+          up,
           inr (
             head,
             reads.gated,
-            record { rest = w.0; spelling = log ∙ ap (λ (l : List ℕ). log_of magic id head reads.gated ++ l) w.1; head_open = opened; gates_open = reads.gates_open },
+            record { rest = w.0; spelling = log ∙ ap (λ (l : List ℕ). log_of magic stamp head reads.gated ++ l) w.1; head_open = opened; gates_open = reads.gates_open },
             refl,
           ),
         )
         | inr w ↦ inr (inr (
           length reads.gated,
           record {
-            id = id;
+            stamp = stamp;
+            readable = up;
             head = head;
             gated = reads.gated;
             gate = w.0;
             rest = w.1;
-            spelling = log ∙ ap (λ (l : List ℕ). log_of magic id head reads.gated ++ l) w.4;
+            spelling = log ∙ ap (λ (l : List ℕ). log_of magic stamp head reads.gated ++ l) w.4;
             head_open = opened;
             gates_open = reads.gates_open;
             before = refl;
@@ -137,54 +141,57 @@ module _ (magic : List ℕ) (bytes : List ℕ) (head : ℕ) (opened : head ≢ 0
         ))
       ]
 
-  read_made : (tail : List ℕ) → bytes ≡ head ∷ tail → 11 ≤ length bytes → take 4 (drop 1 bytes) ≡ magic → get_or bytes 5 0 ≡ 1 → AreBytes bytes → Reading bytes magic
-  read_made tail is size magic_is version small =
+  read_made : (format : Format) (tail : List ℕ) → IsUpTo newest format → bytes ≡ head ∷ tail → 11 ≤ length bytes → take 4 (drop 1 bytes) ≡ magic → get_or bytes 5 0 ≡ format_byte format → AreBytes bytes → Reading bytes magic newest
+  read_made format tail up is size magic_is version small =
       let id : ℕ = from_be_bytes w32 (take 4 (drop 6 bytes)) in
       let number : to_be_bytes w32 id ≡ take 4 (drop 6 bytes) =
       be_bytes_4 (take 4 (drop 6 bytes)) id (length-take-le 4 (drop 6 bytes) (omega (arith, size, length-drop 6 bytes)))
       (take_bytes 4 (drop 6 bytes) (omega (arith, size, length-drop 6 bytes)) (drop_bytes 6 bytes small)) refl in
       let first : drop 1 bytes ≡ magic ++ drop 5 bytes =
       sym (take-append-drop 4 (drop 1 bytes)) ∙ ap (λ (l : List ℕ). l ++ drop 4 (drop 1 bytes)) magic_is ∙ ap (λ (l : List ℕ). magic ++ l) (drop-drop 4 1 bytes) in
-      let second : drop 5 bytes ≡ 1 ∷ drop 6 bytes = drop_more bytes 5 0 (omega (arith, size)) ∙ ap (λ (v : ℕ). v ∷ drop 6 bytes) version in
+      let second : drop 5 bytes ≡ format_byte format ∷ drop 6 bytes = drop_more bytes 5 0 (omega (arith, size)) ∙ ap (λ (v : ℕ). v ∷ drop 6 bytes) version in
       let third : drop 6 bytes ≡ to_be_bytes w32 id ++ drop 10 bytes =
       sym (take-append-drop 4 (drop 6 bytes)) ∙ ap (λ (l : List ℕ). l ++ drop 4 (drop 6 bytes)) (sym number) ∙ ap (λ (l : List ℕ). to_be_bytes w32 id ++ l) (drop-drop 4 6 bytes) in
       let fourth = drop_more bytes 10 0 (omega (arith, size)) in
-      let following = identity_spelled magic (drop 1 bytes) (drop 5 bytes) (drop 6 bytes) (drop 10 bytes) (drop 11 bytes) id (get_or bytes 10 0) first second third fourth in
-      let whole : bytes ≡ head ∷ (identity magic id ++ drop 10 bytes) =
-      is ∙ ap (λ (l : List ℕ). head ∷ l) (sym (ap (λ (l : List ℕ). drop 1 l) is) ∙ following ∙ ap (λ (l : List ℕ). identity magic id ++ l) (sym fourth)) in
-      read_after id (drop 10 bytes) whole (reads_some (length (drop 10 bytes)) (drop 10 bytes) (omega arith) (omega (arith, size, length-drop 10 bytes)) (drop_bytes 10 bytes small))
+      let following = identity_spelled magic (drop 1 bytes) (drop 5 bytes) (drop 6 bytes) (drop 10 bytes) (drop 11 bytes) format id (get_or bytes 10 0) first second third fourth in
+      let whole : bytes ≡ head ∷ (identity magic (stamped format id) ++ drop 10 bytes) =
+      is ∙ ap (λ (l : List ℕ). head ∷ l) (sym (ap (λ (l : List ℕ). drop 1 l) is) ∙ following ∙ ap (λ (l : List ℕ). identity magic (stamped format id) ++ l) (sym fourth)) in
+      read_after (stamped format id) (drop 10 bytes) up whole (reads_some (length (drop 10 bytes)) (drop 10 bytes) (omega arith) (omega (arith, size, length-drop 10 bytes)) (drop_bytes 10 bytes small))
 
-  read_head : (tail : List ℕ) → bytes ≡ head ∷ tail → (IsUnmade bytes → ⊥) → AreBytes bytes → Reading bytes magic
+  read_head : (tail : List ℕ) → bytes ≡ head ∷ tail → (IsUnmade bytes → ⊥) → AreBytes bytes → Reading bytes magic newest
   read_head tail is is_made small = elim (cases_lt (length bytes) 11) [
     | inl short ↦ inr (inl (record { made = is_made; wrong = inl short }))
     | inr size ↦ elim (same_list (take 4 (drop 1 bytes)) magic) [
       | inr other ↦ inr (inl (record { made = is_made; wrong = inr (inl other) }))
-      | inl magic_is ↦ elim (cases_eq (get_or bytes 5 0) 1) [
-        | inr other ↦ inr (inl (record { made = is_made; wrong = inr (inr other) }))
-        | inl version ↦ read_made tail is size magic_is version small
+      | inl magic_is ↦ elim (named_or_none newest (get_or bytes 5 0)) [
+        | inr none ↦ inr (inl (record { made = is_made; wrong = inr (inr none) }))
+        | inl named ↦ read_made named.0 tail named.1 is size magic_is named.2 small
       ]
     ]
   ]
 
-pub some_reading : (bytes magic : List ℕ) → length magic ≡ 4 → ((i : ℕ) → get_or bytes i 0 < 256) → Reading bytes magic
-some_reading [] magic four small = inl (0, [], inl (tt, refl))
-some_reading (gate ∷ []) magic four small = inl (0, [], inl (tt, refl))
-some_reading (gate ∷ byte ∷ bytes) magic four small = elim (cases_eq gate 0) [
-  | inl shut ↦ inl (0, [], inl (shut, refl))
-  | inr opened ↦ read_head magic (gate ∷ byte ∷ bytes) gate opened (byte ∷ bytes) refl opened small
+pub some_reading : (bytes magic : List ℕ) (newest : Format) → length magic ≡ 4 → ((i : ℕ) → get_or bytes i 0 < 256) → Reading bytes magic newest
+some_reading [] magic newest four small = inl (stamped newest 0, [], omega arith, inl (tt, refl))
+some_reading (gate ∷ []) magic newest four small = inl (stamped newest 0, [], omega arith, inl (tt, refl))
+some_reading (gate ∷ byte ∷ bytes) magic newest four small = elim (cases_eq gate 0) [
+  | inl shut ↦ inl (stamped newest 0, [], omega arith, inl (shut, refl))
+  | inr opened ↦ read_head magic newest (gate ∷ byte ∷ bytes) gate opened (byte ∷ bytes) refl opened small
 ]
 
 -- ---- at a place
 
-abbrev pub ReadingAt : ℕ → List ℕ → List ℕ → Type 0
-ReadingAt place bytes magic = ((id : ℕ) × (records : List (List ℕ)) × SpellsAt place bytes magic id records) ⊎ IsBadHeadAt place magic bytes ⊎ ((index : ℕ) × IsCut magic index (drop place bytes))
+abbrev pub ReadingAt : ℕ → List ℕ → List ℕ → Format → Type 0
+ReadingAt place bytes magic newest =
+    ((stamp : Stamp) × (records : List (List ℕ)) × IsUpTo newest stamp.format × SpellsAt place bytes magic stamp records)
+    ⊎ IsBadHeadAt place magic newest bytes
+    ⊎ ((index : ℕ) × IsCut magic newest index (drop place bytes))
 
-pub some_reading_at : (place : ℕ) (bytes magic : List ℕ) → length magic ≡ 4 → ((i : ℕ) → get_or bytes i 0 < 256) → ReadingAt place bytes magic
-some_reading_at zero bytes magic four small = some_reading bytes magic four small
-some_reading_at (suc place) bytes magic four small = elim (some_reading (drop (suc place) bytes) magic four (drop_bytes (suc place) bytes small)) [
-  | inl w ↦ elim w.2 [
+pub some_reading_at : (place : ℕ) (bytes magic : List ℕ) (newest : Format) → length magic ≡ 4 → ((i : ℕ) → get_or bytes i 0 < 256) → ReadingAt place bytes magic newest
+some_reading_at zero bytes magic newest four small = some_reading bytes magic newest four small
+some_reading_at (suc place) bytes magic newest four small = elim (some_reading (drop (suc place) bytes) magic newest four (drop_bytes (suc place) bytes small)) [
+  | inl w ↦ elim w.3 [
     | inl none ↦ inr (inl (inl none.0))
-    | inr log ↦ inl (w.0, w.1, inr log)
+    | inr log ↦ inl (w.0, w.1, w.2, inr log)
   ]
   | inr other ↦ elim other [
     | inl bad ↦ inr (inl (inr bad))

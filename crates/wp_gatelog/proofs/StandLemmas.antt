@@ -2,7 +2,7 @@
 use Rattle.std.proofs.Common.{◌≡◌, ◌≢◌, ℕ, ◌<◌, List, [], ◌∷◌, ◌++◌, length, drop, refl, sym, ◌∙◌, ap, subst, arith, length-append}
 use Rattle.std.proofs.lemmas.List.{append_assoc}
 use Rattle.wp_outside.specs.Disk.{Each}
-use Rattle.wp_gatelog.specs.Spelling.{Gated, IsOpen, IsUnmade, framed, identity, all_gated, log_of, records_of}
+use Rattle.wp_gatelog.specs.Spelling.{Gated, Stamp, IsOpen, IsUnmade, framed, identity, all_gated, log_of, records_of}
 use Rattle.wp_gatelog.specs.Stands.{Stands}
 use Rattle.wp_gatelog.proofs.ParseLemmas.{same_parts, same_framed, first_split, length-identities}
 
@@ -47,19 +47,19 @@ module _ (byte new : ℕ) (old_rest new_rest : List ℕ) (at_gate : (x : Gated) 
 
 -- ---- the whole log
 
-module _ (magic : List ℕ) (id head : ℕ) (gs : List Gated) (opened : head ≢ 0) (open_gates : Each IsOpen gs) (other : ℕ) (records : List (List ℕ)) where
-  log_split : (rest : List ℕ) → log_of magic id head gs ++ rest ≡ head ∷ (identity magic id ++ (all_gated gs ++ rest))
-  log_split rest = ap (λ (l : List ℕ). head ∷ l) (append_assoc (identity magic id) (all_gated gs) rest)
+module _ (magic : List ℕ) (stamp : Stamp) (head : ℕ) (gs : List Gated) (opened : head ≢ 0) (open_gates : Each IsOpen gs) (other : Stamp) (records : List (List ℕ)) where
+  log_split : (rest : List ℕ) → log_of magic stamp head gs ++ rest ≡ head ∷ (identity magic stamp ++ (all_gated gs ++ rest))
+  log_split rest = ap (λ (l : List ℕ). head ∷ l) (append_assoc (identity magic stamp) (all_gated gs) rest)
 
   -- from the records behind the head to all
   stands_whole : (byte new : ℕ) (old_rest new_rest : List ℕ)
       → ((hs : List Gated) (gate : ℕ) (rest : List ℕ) → Each IsOpen hs → all_gated gs ++ byte ∷ old_rest ≡ all_gated hs ++ gate ∷ rest → StandIn (records_of hs) (all_gated gs ++ new ∷ new_rest))
-      → Stands magic other records (log_of magic id head gs ++ byte ∷ old_rest) → Stands magic other records (log_of magic id head gs ++ new ∷ new_rest)
+      → Stands magic other records (log_of magic stamp head gs ++ byte ∷ old_rest) → Stands magic other records (log_of magic stamp head gs ++ new ∷ new_rest)
   stands_whole byte new old_rest new_rest past stands =
-      let is : head ∷ (identity magic id ++ (all_gated gs ++ byte ∷ old_rest)) ≡ stands.head ∷ (identity magic other ++ (all_gated stands.gated ++ stands.gate ∷ stands.rest)) =
+      let is : head ∷ (identity magic stamp ++ (all_gated gs ++ byte ∷ old_rest)) ≡ stands.head ∷ (identity magic other ++ (all_gated stands.gated ++ stands.gate ∷ stands.rest)) =
       sym (log_split (byte ∷ old_rest)) ∙ stands.spelling ∙ ap (λ (l : List ℕ). stands.head ∷ l) (append_assoc (identity magic other) (all_gated stands.gated) (stands.gate ∷ stands.rest)) in
-      let behind : identity magic id ++ (all_gated gs ++ byte ∷ old_rest) ≡ identity magic other ++ (all_gated stands.gated ++ stands.gate ∷ stands.rest) = cc in
-      let split = same_parts (identity magic id) (identity magic other) (all_gated gs ++ byte ∷ old_rest) (all_gated stands.gated ++ stands.gate ∷ stands.rest) (length-identities magic id other) behind in
+      let behind : identity magic stamp ++ (all_gated gs ++ byte ∷ old_rest) ≡ identity magic other ++ (all_gated stands.gated ++ stands.gate ∷ stands.rest) = cc in
+      let split = same_parts (identity magic stamp) (identity magic other) (all_gated gs ++ byte ∷ old_rest) (all_gated stands.gated ++ stands.gate ∷ stands.rest) (length-identities magic stamp other) behind in
       let found = past stands.gated stands.gate stands.rest stands.gates_open split.1 in
       record {
         head = head;
@@ -74,7 +74,7 @@ module _ (magic : List ℕ) (id head : ℕ) (gs : List Gated) (opened : head ≢
       }
 
   -- what follows a closed gate may change
-  pub stands_behind : (old_rest new_rest : List ℕ) → Stands magic other records (log_of magic id head gs ++ 0 ∷ old_rest) → Stands magic other records (log_of magic id head gs ++ 0 ∷ new_rest)
+  pub stands_behind : (old_rest new_rest : List ℕ) → Stands magic other records (log_of magic stamp head gs ++ 0 ∷ old_rest) → Stands magic other records (log_of magic stamp head gs ++ 0 ∷ new_rest)
   stands_behind old_rest new_rest =
       stands_whole 0 0 old_rest new_rest (λ hs gate rest eh is. stands_past 0 0 old_rest new_rest none gs hs gate rest open_gates eh is)
     where
@@ -85,7 +85,7 @@ module _ (magic : List ℕ) (id head : ℕ) (gs : List Gated) (opened : head ≢
           absurd (ox.gate shut)
 
   -- a gate is opened wholly
-  pub stands_gate : (byte : ℕ) (rest : List ℕ) → Stands magic other records (log_of magic id head gs ++ byte ∷ rest) → Stands magic other records (log_of magic id head gs ++ 1 ∷ rest)
+  pub stands_gate : (byte : ℕ) (rest : List ℕ) → Stands magic other records (log_of magic stamp head gs ++ byte ∷ rest) → Stands magic other records (log_of magic stamp head gs ++ 1 ∷ rest)
   stands_gate byte following =
       stands_whole byte 1 following following (λ hs gate rest eh is. stands_past byte 1 following following by gs hs gate rest open_gates eh is)
     where
@@ -98,14 +98,14 @@ module _ (magic : List ℕ) (id head : ℕ) (gs : List Gated) (opened : head ≢
           (record { gated = xs; gate = gate; rest = rest; spelling = refl; gates_open = exs; same = refl }))
 
 -- the head's gate is opened wholly
-pub stands_head : (magic : List ℕ) (id head : ℕ) (records : List (List ℕ)) (tail : List ℕ) → Stands magic id records (head ∷ tail) → Stands magic id records (1 ∷ tail)
-stands_head magic id head records tail stands = record {
+pub stands_head : (magic : List ℕ) (stamp : Stamp) (head : ℕ) (records : List (List ℕ)) (tail : List ℕ) → Stands magic stamp records (head ∷ tail) → Stands magic stamp records (1 ∷ tail)
+stands_head magic stamp head records tail stands = record {
   head = 1;
   gated = stands.gated;
   gate = stands.gate;
   rest = stands.rest;
   spelling =
-      (let behind : tail ≡ (identity magic id ++ all_gated stands.gated) ++ stands.gate ∷ stands.rest = ap (λ (l : List ℕ). drop 1 l) stands.spelling in
+      (let behind : tail ≡ (identity magic stamp ++ all_gated stands.gated) ++ stands.gate ∷ stands.rest = ap (λ (l : List ℕ). drop 1 l) stands.spelling in
       ap (λ (l : List ℕ). 1 ∷ l) behind);
   head_open = λ e. cc e;
   gates_open = stands.gates_open;
@@ -113,9 +113,9 @@ stands_head magic id head records tail stands = record {
 }
 
 -- where no log was made none stand
-pub unmade_stands : (magic : List ℕ) (id : ℕ) (records : List (List ℕ)) (bytes : List ℕ) → IsUnmade bytes → Stands magic id records bytes → ⊥
-unmade_stands magic id records bytes unmade stands =
-    by ((identity magic id ++ all_gated stands.gated) ++ stands.gate ∷ stands.rest) (omega (arith, length-append (identity magic id ++ all_gated stands.gated) (stands.gate ∷ stands.rest))) (subst IsUnmade stands.spelling unmade)
+pub unmade_stands : (magic : List ℕ) (stamp : Stamp) (records : List (List ℕ)) (bytes : List ℕ) → IsUnmade bytes → Stands magic stamp records bytes → ⊥
+unmade_stands magic stamp records bytes unmade stands =
+    by ((identity magic stamp ++ all_gated stands.gated) ++ stands.gate ∷ stands.rest) (omega (arith, length-append (identity magic stamp ++ all_gated stands.gated) (stands.gate ∷ stands.rest))) (subst IsUnmade stands.spelling unmade)
   where
     by : (tail : List ℕ) → 0 < length tail → IsUnmade (stands.head ∷ tail) → ⊥
     by [] some unmade = omega arith

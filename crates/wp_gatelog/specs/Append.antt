@@ -5,7 +5,7 @@ use Rattle.wp_outside.specs.Faults.{Rose}
 use Rattle.wp_gatelog.specs.declared.log.AppendError.{AppendError}
 use Rattle.wp_gatelog.specs.declared.log.AppendError.TheVariants.{DiskFault, Closed}
 use Rattle.wp_gatelog.specs.Durability.{HasAcknowledged, LosesNoRecordAt}
-use Rattle.wp_gatelog.specs.Log.{LogState, Rests, BeforeOrAfter}
+use Rattle.wp_gatelog.specs.Log.{LogState, Rests, BeforeOrAfter, stamp_of}
 use Rattle.wp_gatelog.specs.Moments.{Leaves, LeavesFrom}
 use Rattle.wp_gatelog.specs.Spelling.{SpellsAt, frame_of}
 use Rattle.wp_gatelog.specs.Stands.{StandsOn}
@@ -15,15 +15,15 @@ use Rattle.wp_gatelog.specs.Stands.{StandsOn}
 -- A record with these bytes is appended to a log of this kind that has these records, between these bytes.
 pub record AppendsAfter {T E : Type 0} (magic front dead : List ℕ) (records : List (List ℕ)) (bytes : List ℕ) (old new : LogState) (result : Result T E) : Type 0 where
   -- at each moment since its beginning a crash leaves the records before it, or those and the new one, whole
-  pub any_moment : Passes (Leaves (BeforeOrAfter (length front) magic old.id records bytes)) old.moments new.moments
-  pub left : Rests magic old front dead records → (image : List ℕ) → images new.moments image → BeforeOrAfter (length front) magic old.id records bytes image
+  pub any_moment : Passes (Leaves (BeforeOrAfter (length front) magic (stamp_of old) records bytes)) old.moments new.moments
+  pub left : Rests magic old front dead records → (image : List ℕ) → images new.moments image → BeforeOrAfter (length front) magic (stamp_of old) records bytes image
   -- what each crash at one moment would leave acknowledged, each crash at a later moment leaves too: the records before
   -- it, all along
   pub durable : LosesNoRecordAt (length front) magic old.moments new.moments
-  pub acknowledged : Passes (LeavesFrom (length front) (HasAcknowledged magic old.id records)) old.moments new.moments
+  pub acknowledged : Passes (LeavesFrom (length front) (HasAcknowledged magic (stamp_of old) records)) old.moments new.moments
   -- once it is acknowledged, the log is at rest with the new record too, over the first dead bytes, and a crash leaves it
   pub rests : OnOk result (Rests magic new front (drop (length bytes + 9) dead) (records ++ bytes ∷ []))
-  pub spelled : OnOk result ((image : List ℕ) → images new.moments image → SpellsAt (length front) image magic new.id (records ++ bytes ∷ []))
+  pub spelled : OnOk result ((image : List ℕ) → images new.moments image → SpellsAt (length front) image magic (stamp_of new) (records ++ bytes ∷ []))
   pub stands : OnOk result (StandsOn (length front) magic old.moments new.moments)
 
 -- The same of each kind of log, and of all records with which it is at rest. A closed log stays as it is, at rest or not.

@@ -1,21 +1,31 @@
 -- What the opener of a log leaves that refuses the records in it.
-use Rattle.std.specs.Prelude.{◌≡◌, ◌⊎◌, ℕ, List, []}
+use Rattle.std.specs.Prelude.{◌≡◌, ◌⊎◌, ℕ, List, [], take}
 use Rattle.wp_outside.specs.Disk.{Moment, IfKnown, added, after_sync}
 use Rattle.wp_gatelog.specs.Log.{IsAtRest}
-use Rattle.wp_gatelog.specs.Spelling.{Spells}
+use Rattle.wp_gatelog.specs.Spelling.{Stamp, SpellsAt}
 
--- the log is at rest with the records that the bytes spelled
-pub record RestsAsSpelled (magic bytes : List ℕ) (m : Moment) : Type 0 where
-  pub id : ℕ
+-- the log at that place is at rest with the records that the bytes spelled there, behind the bytes that stood before it
+pub record RestsAsSpelledAt (place : ℕ) (magic bytes : List ℕ) (m : Moment) : Type 0 where
+  pub stamp : Stamp
   pub end : ℕ
   pub records : List (List ℕ)
-  pub spelled : Spells bytes magic id records
-  pub rests : IsAtRest magic id end [] [] records m
+  pub spelled : SpellsAt place bytes magic stamp records
+  pub rests : IsAtRest magic stamp end (take place bytes) [] records m
 
 -- where the disk is known, the log is left at rest, with its records as they were
-abbrev pub IsLeftAtRest : List ℕ → List Moment → List Moment → Type 0
-IsLeftAtRest magic old new = IfKnown old (λ m. IfKnown new (RestsAsSpelled magic m.reads))
+abbrev pub IsLeftAtRestAt : ℕ → List ℕ → List Moment → List Moment → Type 0
+IsLeftAtRestAt place magic old new = IfKnown old (λ m. IfKnown new (RestsAsSpelledAt place magic m.reads))
 
 -- no records were read, and nothing came but a sync; or they were, and the log is left at rest
+abbrev pub IsSyncedOrAtRestAt : ℕ → List ℕ → List Moment → List Moment → Type 0
+IsSyncedOrAtRestAt place magic old new = (new ≡ added after_sync old) ⊎ IsLeftAtRestAt place magic old new
+
+-- the same of a log at place 0
+abbrev pub RestsAsSpelled : List ℕ → List ℕ → Moment → Type 0
+RestsAsSpelled = RestsAsSpelledAt 0
+
+abbrev pub IsLeftAtRest : List ℕ → List Moment → List Moment → Type 0
+IsLeftAtRest = IsLeftAtRestAt 0
+
 abbrev pub IsSyncedOrAtRest : List ℕ → List Moment → List Moment → Type 0
-IsSyncedOrAtRest magic old new = (new ≡ added after_sync old) ⊎ IsLeftAtRest magic old new
+IsSyncedOrAtRest = IsSyncedOrAtRestAt 0

@@ -2,15 +2,15 @@
 use Rattle.std.specs.Prelude.{◌≡◌, ◌≢◌, ◌⊎◌, ℕ, ◌+◌, List, [], ◌∷◌, ◌++◌, length, Option}
 use Rattle.wp_gatelog.specs.declared.gate.GateByte.{GateByte}
 use Rattle.wp_gatelog.specs.Scanning.{IsLast}
-use Rattle.wp_gatelog.specs.Spelling.{Gated, HasLog, log_of, records_of}
+use Rattle.wp_gatelog.specs.Spelling.{Gated, Stamp, HasLog, log_of, records_of}
 
 -- a log was read whole in these bytes, which are all that is behind a front
-pub record IsReadLog (front magic : List ℕ) (id head : ℕ) (records : List (List ℕ)) (last : Option GateByte) (end len : ℕ) (bytes : List ℕ) : Type 0 where
+pub record IsReadLog (front magic : List ℕ) (stamp : Stamp) (head : ℕ) (records : List (List ℕ)) (last : Option GateByte) (end len : ℕ) (bytes : List ℕ) : Type 0 where
   pub gated : List Gated
-  pub has_log : HasLog magic id head gated bytes
+  pub has_log : HasLog magic stamp head gated bytes
   pub same : records ≡ records_of gated
   pub last_is : IsLast (length front + 10) last gated
-  pub place : end ≡ length front + length (log_of magic id head gated)
+  pub place : end ≡ length front + length (log_of magic stamp head gated)
   pub size : len ≡ length front + length bytes
   pub magic_size : length magic ≡ 4
 
@@ -24,9 +24,9 @@ Reopens front byte following image = (byte ≢ 1) × (gate : ℕ) × (more : Lis
 
 -- While a log is repaired, a crash leaves its head and its records with their gates; but where the head's gate was not
 -- 01, it may be any, and after a head's gate of 01 so may the last record's gate that was not.
-abbrev pub IsRepaired : List ℕ → ℕ → ℕ → List Gated → List ℕ → Type 0
-IsRepaired magic id head gated image =
-    HasFront (log_of magic id head gated) image
-    ⊎ ((head ≢ 1) × (gate : ℕ) × HasFront (log_of magic id gate gated) image)
+abbrev pub IsRepaired : List ℕ → Stamp → ℕ → List Gated → List ℕ → Type 0
+IsRepaired magic stamp head gated image =
+    HasFront (log_of magic stamp head gated) image
+    ⊎ ((head ≢ 1) × (gate : ℕ) × HasFront (log_of magic stamp gate gated) image)
     ⊎ ((before : List Gated) × (last : Gated) × (gate : ℕ) × (gated ≡ before ++ last ∷ []) × (last.gate ≢ 1)
-    × HasFront (log_of magic id 1 (before ++ record { gate = gate; bytes = last.bytes } ∷ [])) image)
+    × HasFront (log_of magic stamp 1 (before ++ record { gate = gate; bytes = last.bytes } ∷ [])) image)

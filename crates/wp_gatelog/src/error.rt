@@ -12,7 +12,7 @@ pub enum LogError {
     Memory,
     DiskFault,
 
-    /// The head is cut, or has another magic or another version; or no log was made at a place above 0.
+    /// The head is cut, or has another magic or a version that is not read; or no log was made at a place above 0.
     BadHead,
 
     /// After an open gate the record with this index, from 0 on, or the gate after it is not there whole. The id is the

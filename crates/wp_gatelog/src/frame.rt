@@ -1,6 +1,6 @@
 //! What is written for a new record.
 
-ghost use Rattle.std.specs.Prelude.{◌≡◌, ◌+◌, ◌≤◌, ◌++◌, List, length, drop, IfOk};
+ghost use Rattle.std.specs.Prelude.{◌≡◌, ◌+◌, ◌≤◌, ◌++◌, List, length, take, drop, IfOk};
 ghost use Rattle.std.specs.Int.{w64, to_be_bytes};
 ghost use Rattle.wp_gatelog.specs.Spelling.{frame_of};
 
@@ -9,8 +9,8 @@ use std::alloc::{AllocError, Global};
 use std::marker::Model;
 use wp_fields::{push_u8, push_u64};
 
-/// How many bytes a record's length takes.
-const LENGTH_LEN: usize = 8;
+/// How many bytes a number takes, as a record's length does.
+const U64_LEN: usize = 8;
 
 /// What an append writes for a record: its length, its bytes, and the next record's gate, closed. Clauses see the record's
 /// bytes.
@@ -30,12 +30,12 @@ impl Model for Frame {
     ghost invariant = { λ f. f.bytes.items ≡ frame_of (framed_in f.bytes.items) };
 }
 
-/// Writes the length over the room in front.
-fn fill_length(room: &mut [u8], len: u64)
-    requires { 8 ≤ length room.old }
-    ensures { room.new ≡ to_be_bytes w64 len ++ drop 8 room.old }
+/// Writes a number over eight bytes, from `at` on.
+fn write_u64(bytes: &mut [u8], at: usize, value: u64)
+    requires { at + 8 ≤ length bytes.old }
+    ensures { bytes.new ≡ take at bytes.old ++ (to_be_bytes w64 value ++ drop (at + 8) bytes.old) }
 {
-    room[..LENGTH_LEN].copy_from_slice(&len.to_be_bytes());
+    bytes[at..at + U64_LEN].copy_from_slice(&value.to_be_bytes());
 }
 
 impl Frame {
@@ -54,10 +54,18 @@ impl Frame {
         ensures { IfOk result (λ frame. frame ≡ drop 8 room.items) }
     {
         let mut bytes = room;
-        let len = (bytes.len() - LENGTH_LEN) as u64;
-        fill_length(&mut bytes, len);
+        let len = (bytes.len() - U64_LEN) as u64;
+        write_u64(&mut bytes, 0, len);
         push_u8(&mut bytes, CLOSED)?;
         Ok(Frame { bytes })
+    }
+
+    /// Writes a number over eight of the record's bytes, from `at` on.
+    pub fn put_u64(&mut self, at: usize, value: u64)
+        requires { at + 8 ≤ length self.old }
+        ensures { self.new ≡ take at self.old ++ (to_be_bytes w64 value ++ drop (at + 8) self.old) }
+    {
+        write_u64(&mut self.bytes, U64_LEN + at, value);
     }
 
     /// What is written.

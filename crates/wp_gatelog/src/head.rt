@@ -1,35 +1,46 @@
 //! The head of a log: its gate, magic, version and id, and the gate after it.
 
 ghost use Rattle.std.specs.Prelude.{◌≡◌, ◌≢◌, ◌⊎◌, ℕ, ◌<◌, ◌≤◌, ◌^◌, ◌∷◌, [], ◌++◌, List, length, take, drop, slice_index, IfSome, IfNone, IfOk};
+ghost use Rattle.wp_fields.specs.Format.{format_byte};
 ghost use Rattle.wp_outside.specs.Disk.{IfKnown, Looks};
 ghost use Rattle.wp_outside.specs.Faults.{HasCause};
-ghost use Rattle.wp_gatelog.specs.Heads.{IsHead};
-ghost use Rattle.wp_gatelog.specs.Spelling.{identity};
+ghost use Rattle.wp_gatelog.specs.Damage.{IsNoVersion};
+ghost use Rattle.wp_gatelog.specs.Heads.{IsHead, IsReadUpTo};
+ghost use Rattle.wp_gatelog.specs.Spelling.{IsUpTo, identity, stamped};
 
 use crate::gate::CLOSED;
-use wp_fields::Fields;
+use wp_fields::{Fields, Format};
 use wp_outside::{Disk, Failed, Peek};
 
 /// How many bytes come before the first record's gate.
 pub const HEAD_LEN: u64 = 10;
-
-const VERSION: u8 = 1;
 
 /// What is where a log's head should be.
 pub enum Head {
     Unmade,
     Bad,
 
-    /// The head's gate, the id, and the gate of the first record.
-    Made { gate: u8, id: u32, first: u8 },
+    /// The head's gate, the version, the id, and the gate of the first record.
+    Made {
+        gate: u8,
+        format: Format,
+        id: u32,
+        first: u8,
+    },
 }
 
-/// Reads the head at `place`: its gate first, and where that is open all of it.
-pub fn read_head<P: Peek>(disk: &mut P, place: u64, magic: &[u8]) -> Result<Head, Failed>
+/// Reads the head at `place`: its gate first, and where that is open all of it. Versions up to `newest` are read.
+pub fn read_head<P: Peek>(
+    disk: &mut P,
+    place: u64,
+    magic: &[u8],
+    newest: Format,
+) -> Result<Head, Failed>
     requires magic { length magic.now ≡ 4 }
     requires place { place ≤ 2 ^ 62 }
     ensures found { IfOk result (λ head.
-        IfKnown (P.moments disk.new) (λ m. IsHead magic.now (drop place m.reads) head)) }
+        IfKnown (P.moments disk.new) (λ m. IsHead magic.now newest (drop place m.reads) head)) }
+    ensures readable { IfOk result (IsReadUpTo newest) }
     ensures looks { Looks (P.moments disk.old) (P.moments disk.new) (P.is_alone disk.old) (P.is_alone disk.new) }
     ensures cause { HasCause (P.faults disk.old) (P.faults disk.new) result }
 {
@@ -40,31 +51,39 @@ pub fn read_head<P: Peek>(disk: &mut P, place: u64, magic: &[u8]) -> Result<Head
     }
     let mut bytes = [0; 11];
     let read = disk.read_at(place, &mut bytes)?;
-    Ok(head_of(&bytes[..read], magic))
+    Ok(head_of(&bytes[..read], magic, newest))
 }
 
 /// Reads the head of a disk's log.
-pub fn own_head<D: Disk>(disk: &mut D, place: u64, magic: &[u8]) -> Result<Head, Failed>
+pub fn own_head<D: Disk>(
+    disk: &mut D,
+    place: u64,
+    magic: &[u8],
+    newest: Format,
+) -> Result<Head, Failed>
     requires magic { length magic.now ≡ 4 }
     requires place { place ≤ 2 ^ 62 }
     ensures found { IfOk result (λ head.
-        IfKnown (D.moments disk.old) (λ m. IsHead magic.now (drop place m.reads) head)) }
+        IfKnown (D.moments disk.old) (λ m. IsHead magic.now newest (drop place m.reads) head)) }
+    ensures readable { IfOk result (IsReadUpTo newest) }
     ensures unchanged { D.moments disk.new ≡ D.moments disk.old }
     ensures cause { HasCause (D.faults disk.old) (D.faults disk.new) result }
 {
-    read_head(disk, place, magic)
+    read_head(disk, place, magic, newest)
 }
 
 /// The head by its first eleven bytes, or by all where there are fewer.
-fn head_of(bytes: &[u8], magic: &[u8]) -> Head
+fn head_of(bytes: &[u8], magic: &[u8], newest: Format) -> Head
     requires { length magic.now ≡ 4 }
-    ensures { IsHead magic.now bytes.now result }
+    ensures found { IsHead magic.now newest bytes.now result }
+    ensures readable { IsReadUpTo newest result }
 {
     match bytes {
         [] | [_] | [CLOSED, ..] => Head::Unmade,
-        [gate, rest @ ..] => match id_of(rest, magic) {
-            Some((id, first)) => Head::Made {
+        [gate, rest @ ..] => match stamp_in(rest, magic, newest) {
+            Some((format, id, first)) => Head::Made {
                 gate: *gate,
+                format,
                 id,
                 first,
             },
@@ -73,13 +92,14 @@ fn head_of(bytes: &[u8], magic: &[u8]) -> Head
     }
 }
 
-/// The id after this magic and version and the gate after it, where they follow the head's gate.
-fn id_of(bytes: &[u8], magic: &[u8]) -> Option<(u32, u8)>
+/// The version and the id after this magic and the gate after them, where they follow the head's gate.
+fn stamp_in(bytes: &[u8], magic: &[u8], newest: Format) -> Option<(Format, u32, u8)>
     requires { length magic.now ≡ 4 }
-    ensures found { IfSome result (λ found.
-        (rest : List ℕ) × (bytes.now ≡ identity magic.now found.0 ++ found.1 ∷ rest)) }
-    ensures none { IfNone result
-        ((length bytes.now < 10) ⊎ (take 4 bytes.now ≢ magic.now) ⊎ (slice_index bytes.now 4 ≢ 1)) }
+    ensures found { IfSome result (λ found. (rest : List ℕ)
+        × (bytes.now ≡ identity magic.now (stamped found.0 found.1) ++ found.2 ∷ rest)) }
+    ensures readable { IfSome result (λ found. IsUpTo newest found.0) }
+    ensures none { IfNone result ((length bytes.now < 10) ⊎ (take 4 bytes.now ≢ magic.now)
+        ⊎ IsNoVersion newest (slice_index bytes.now 4)) }
 {
     let mut fields = Fields::of(bytes);
     let found = fields.piece(4)?;
@@ -89,17 +109,29 @@ fn id_of(bytes: &[u8], magic: &[u8]) -> Option<(u32, u8)>
     if found != magic {
         return None;
     }
-    if version != VERSION {
+    let format = version_of(version, newest)?;
+    Some((format, id, first))
+}
+
+/// The version that the byte names, if it names one up to `newest`.
+fn version_of(byte: u8, newest: Format) -> Option<Format>
+    ensures found { IfSome result (λ format. IsUpTo newest format × (byte ≡ format_byte format)) }
+    ensures none { IfNone result (IsNoVersion newest byte) }
+{
+    let Some(format) = Format::of(byte) else {
+        return None;
+    };
+    if format.byte() > newest.byte() {
         return None;
     }
-    Some((id, first))
+    Some(format)
 }
 
 /// The bytes after the head's gate: magic, version, id and the closed gate of the first record.
-pub fn head_bytes(magic: [u8; 4], id: u32) -> [u8; 10]
-    ensures { result ≡ identity magic id ++ 0 ∷ [] }
+pub fn head_bytes(magic: [u8; 4], format: Format, id: u32) -> [u8; 10]
+    ensures { result ≡ identity magic (stamped format id) ++ 0 ∷ [] }
 {
     let [a, b, c, d] = magic;
     let [e, f, g, h] = id.to_be_bytes();
-    [a, b, c, d, VERSION, e, f, g, h, CLOSED]
+    [a, b, c, d, format.byte(), e, f, g, h, CLOSED]
 }

@@ -22,6 +22,7 @@ mod piece;
 mod record;
 mod repair;
 mod scan;
+mod whole;
 
 pub use error::{DiskRefused, LogError};
 pub use frame::Frame;
@@ -30,3 +31,4 @@ pub use laws::{
 };
 pub use log::{AppendError, GateLog};
 pub use record::Record;
+pub use whole::WholeLog;

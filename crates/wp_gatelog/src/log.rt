@@ -8,7 +8,7 @@ ghost use Rattle.wp_gatelog.specs.Beside.{BringsBoth, Writes};
 ghost use Rattle.wp_gatelog.specs.Changes.{BringsTo};
 ghost use Rattle.wp_gatelog.specs.Log.{BeforeOrAfter, IsAtRest};
 ghost use Rattle.wp_gatelog.specs.Opening.{IsOpened, IsUnopened, KeepsLogAt};
-ghost use Rattle.wp_gatelog.specs.Spelling.{frame_of};
+ghost use Rattle.wp_gatelog.specs.Spelling.{Stamp, frame_of, stamped};
 
 use crate::device::write_synced;
 use crate::error::{DiskRefused, LogError};
@@ -18,7 +18,8 @@ use crate::open::{FoundLog, find};
 use crate::record::Record;
 use std::alloc::Global;
 use std::marker::Model;
-use wp_outside::{Disk, Failed};
+use wp_fields::Format;
+use wp_outside::{Disk, Failed, own_len};
 
 /// Why a record was not acknowledged.
 #[derive(Clone, Copy, PartialEq, Eq)]
@@ -30,10 +31,11 @@ pub enum AppendError {
     Closed(u64),
 }
 
-/// An open log. Clauses see its disk's moments and faults, its id, how many records it has, where it ends, and whether
-/// it is closed.
+/// An open log. Clauses see its disk's moments and faults, its version and id, how many records it has, where it ends, and
+/// whether it is closed.
 pub struct GateLog<D: Disk> {
     disk: D,
+    format: Format,
     id: u32,
     end: u64,
     count: u64,
@@ -49,6 +51,7 @@ impl<D: Disk> Model for GateLog<D> {
     ghost view = { λ l. record {
       moments = D.moments l.disk;
       faults = D.faults l.disk;
+      format = l.format;
       id = l.id;
       count = l.count;
       end = l.end;
@@ -60,28 +63,38 @@ impl<D: Disk> Model for GateLog<D> {
 
 impl<D: Disk> GateLog<D> {
     /// Opens the log that stands at `place` of the disk, repairs what a crash left of it, and hands out its records. A log
-    /// is of one kind, which its magic names. At place 0, where none was made, one is made, with this id. Above it that is
-    /// `BadHead`, and so is a place with fewer than eleven bytes behind it, or past the disk's end.
+    /// is of one kind, which its magic names, and of one version; one later than `newest` is `BadHead`. At place 0, where
+    /// none was made, one is made, of the newest version and with this id. Above it that is `BadHead`, and so is a place
+    /// with fewer than eleven bytes behind it, or past the disk's end.
     pub fn open(
         alloc: Global,
         mut disk: D,
         place: u64,
         magic: [u8; 4],
+        newest: Format,
         id: u32,
     ) -> Result<(GateLog<D>, Vec<Record>), DiskRefused<D, LogError>>
-        ensures opened { IfOk result (λ opened. IsOpened place magic id (D.moments disk) opened.0 opened.1.items) }
-        ensures refused { IfErr result (λ refused. IsUnopened place magic
+        ensures opened { IfOk result (λ opened. IsOpened place magic (stamped newest id) (D.moments disk) opened.0 opened.1.items) }
+        ensures refused { IfErr result (λ refused. IsUnopened place magic newest
             (D.moments disk) (D.moments refused.disk) (D.faults disk) (D.faults refused.disk) refused.why) }
         ensures kept { MatchResult result
-            (λ opened. KeepsLogAt place magic id (D.moments disk) opened.0.moments (D.faults disk) opened.0.faults)
-            (λ refused. KeepsLogAt place magic id
+            (λ opened. KeepsLogAt place magic (stamped newest id) (D.moments disk) opened.0.moments (D.faults disk) opened.0.faults)
+            (λ refused. KeepsLogAt place magic (stamped newest id)
             (D.moments disk) (D.moments refused.disk) (D.faults disk) (D.faults refused.disk)) }
     {
-        match find(alloc, &mut disk, place, magic, id) {
-            Ok(FoundLog { id, records, end }) => {
+        match find(alloc, &mut disk, place, magic, newest, id) {
+            Ok(
+                FoundLog {
+                    format,
+                    id,
+                    records,
+                    end,
+                },
+            ) => {
                 let count = records.len() as u64;
                 let log = GateLog {
                     disk,
+                    format,
                     id,
                     end,
                     count,
@@ -91,6 +104,13 @@ impl<D: Disk> GateLog<D> {
             }
             Err(why) => Err(DiskRefused { disk, why }),
         }
+    }
+
+    /// The version in the log's head.
+    pub fn format(&self) -> Format
+        ensures { result ≡ self.now.format }
+    {
+        self.format
     }
 
     /// The id in the log's head.
@@ -153,15 +173,37 @@ impl<D: Disk> GateLog<D> {
         }
     }
 
-    /// The log in use is from now on one that was written beside it under the same id: it has so many records, and the gate
-    /// that ends it is at `end`. What was in use is dead.
-    pub fn move_to(&mut self, end: u64, count: u64)
+    /// The log in use is from now on one of this version that was written beside it under the same id: it has so many
+    /// records, and the gate that ends it is at `end`. What was in use is dead.
+    pub fn move_to(&mut self, format: Format, end: u64, count: u64)
         requires count { count ≤ end }
         requires end { end ≤ 2 ^ 62 }
-        ensures { self.new ≡ record self.old { end = end; count = count } }
+        ensures { self.new ≡ record self.old { format = format; end = end; count = count } }
     {
+        self.format = format;
         self.end = end;
         self.count = count;
+    }
+
+    /// How many bytes the disk has.
+    pub fn disk_len(&mut self) -> Result<u64, AppendError>
+        ensures ok { IfOk result (λ len. (self.old.closed ≡ false) × (len ≤ 2 ^ 62)
+            × IfKnown self.old.moments (λ m. len ≡ length m.reads)
+            × (self.new ≡ record self.old { faults = self.new.faults })) }
+        ensures err { IfErr result (FrameRefused self.old self.new) }
+        ensures moments { self.new.moments ≡ self.old.moments }
+        ensures later { self.old.faults ≤ self.new.faults }
+    {
+        if self.closed {
+            return Err(AppendError::Closed(self.count));
+        }
+        match own_len(&mut self.disk) {
+            Ok(len) => Ok(len),
+            Err(Failed) => {
+                self.closed = true;
+                Err(AppendError::DiskFault)
+            }
+        }
     }
 
     /// Gives the disk back.
@@ -171,6 +213,7 @@ impl<D: Disk> GateLog<D> {
     {
         let GateLog {
             disk,
+            format: _format,
             id: _id,
             end: _end,
             count: _count,
@@ -196,10 +239,10 @@ fn write_aside<D: Disk>(disk: &mut D, place: u64, bytes: &[u8]) -> Result<(), Fa
 /// before the next begins.
 fn append_frame<D: Disk>(disk: &mut D, end: u64, frame: &Frame) -> Result<(), Failed>
     requires { end ≤ 2 ^ 62 }
-    ensures appended { (magic : List ℕ) (id : ℕ) (front dead : List ℕ) (records : List (List ℕ))
-        → IfKnown (D.moments disk.old) (IsAtRest magic id end front dead records)
-        → BringsTo (length front) magic (BeforeOrAfter (length front) magic id records frame.now)
-        (IsAtRest magic id (end + (length frame.now + 9)) front (drop (length frame.now + 9) dead)
+    ensures appended { (magic : List ℕ) (stamp : Stamp) (front dead : List ℕ) (records : List (List ℕ))
+        → IfKnown (D.moments disk.old) (IsAtRest magic stamp end front dead records)
+        → BringsTo (length front) magic (BeforeOrAfter (length front) magic stamp records frame.now)
+        (IsAtRest magic stamp (end + (length frame.now + 9)) front (drop (length frame.now + 9) dead)
         (records ++ frame.now ∷ []))
         (D.moments disk.old) (D.moments disk.new) result }
     ensures calls { OnOk result (D.moments disk.new ≡ added after_sync (added (after_write end (1 ∷ []))
@@ -216,6 +259,7 @@ impl<D: Disk + Drop> Drop for GateLog<D> {
     fn drop(self) {
         let Self {
             disk: _disk,
+            format: _format,
             id: _id,
             end: _end,
             count: _count,

@@ -6,24 +6,32 @@ ghost use Rattle.wp_outside.specs.Faults.{HasCause};
 ghost use Rattle.wp_gatelog.specs.Changes.{BringsTo, Changes};
 ghost use Rattle.wp_gatelog.specs.Moments.{IsSynced};
 ghost use Rattle.wp_gatelog.specs.Heads.{SpellsNone};
-ghost use Rattle.wp_gatelog.specs.Spelling.{IsUnmade, log_of};
+ghost use Rattle.wp_gatelog.specs.Spelling.{IsUnmade, log_of, stamped};
 
 use crate::device::{cut_synced, write_synced};
 use crate::gate::{CLOSED, OPEN};
 use crate::head::head_bytes;
+use wp_fields::Format;
 use wp_outside::{Disk, Failed};
 
 /// Makes a log without records on a disk of so many bytes. Its head's gate stays closed until the rest of the head is
 /// on the disk for good.
-pub fn make<D: Disk>(disk: &mut D, len: u64, magic: [u8; 4], id: u32) -> Result<(), Failed>
+pub fn make<D: Disk>(
+    disk: &mut D,
+    len: u64,
+    magic: [u8; 4],
+    format: Format,
+    id: u32,
+) -> Result<(), Failed>
     ensures made { (before : List ℕ) → IsUnmade before → len ≡ length before → IsSynced before (D.moments disk.old)
-        → BringsTo 0 magic (SpellsNone magic id) (λ m. m ≡ synced (log_of magic id 1 [] ++ 0 ∷ []))
+        → BringsTo 0 magic (SpellsNone magic (stamped format id))
+        (λ m. m ≡ synced (log_of magic (stamped format id) 1 [] ++ 0 ∷ []))
         (D.moments disk.old) (D.moments disk.new) result }
     ensures unknown { D.moments disk.old ≡ [] → D.moments disk.new ≡ [] }
     ensures cause { HasCause (D.faults disk.old) (D.faults disk.new) result }
 {
     close_head(disk, len)?;
-    write_synced(disk, 1, &head_bytes(magic, id))?;
+    write_synced(disk, 1, &head_bytes(magic, format, id))?;
     write_synced(disk, 0, &[OPEN])
 }
 

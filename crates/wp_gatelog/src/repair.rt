@@ -6,6 +6,7 @@ ghost use Rattle.wp_gatelog.specs.Changes.{BringsTo, Changes};
 ghost use Rattle.wp_gatelog.specs.Log.{IsAtRest};
 ghost use Rattle.wp_gatelog.specs.Repair.{IsReadLog, HasFront, Reopens, IsRepaired};
 ghost use Rattle.wp_gatelog.specs.Moments.{IsSynced};
+ghost use Rattle.wp_gatelog.specs.Spelling.{Stamp};
 
 use crate::device::{cut_synced, write_synced};
 use crate::gate::{GateByte, OPEN};
@@ -22,11 +23,11 @@ pub fn repair<D: Disk>(
     scan: &Scan,
 ) -> Result<(), Failed>
     requires { scan.now.end ≤ 2 ^ 62 }
-    ensures repaired { (magic : List ℕ) (id : ℕ) (front bytes : List ℕ) → place ≡ length front
-        → (log : IsReadLog front magic id head scan.now.records.items scan.now.last scan.now.end len bytes)
+    ensures repaired { (magic : List ℕ) (stamp : Stamp) (front bytes : List ℕ) → place ≡ length front
+        → (log : IsReadLog front magic stamp head scan.now.records.items scan.now.last scan.now.end len bytes)
         → IsSynced (front ++ bytes) (D.moments disk.old)
-        → BringsTo (length front) magic (λ image. IsRepaired magic id head log.gated (drop (length front) image))
-        (IsAtRest magic id scan.now.end front [] scan.now.records.items)
+        → BringsTo (length front) magic (λ image. IsRepaired magic stamp head log.gated (drop (length front) image))
+        (IsAtRest magic stamp scan.now.end front [] scan.now.records.items)
         (D.moments disk.old) (D.moments disk.new) result }
     ensures unknown { D.moments disk.old ≡ [] → D.moments disk.new ≡ [] }
     ensures cause { HasCause (D.faults disk.old) (D.faults disk.new) result }

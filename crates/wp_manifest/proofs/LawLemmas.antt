@@ -5,31 +5,33 @@ use Rattle.std.proofs.lemmas.Bool.{cases_order}
 use Rattle.std.specs.Int.{w32, from_be_bytes}
 use Rattle.std.proofs.lemmas.Nat.{from_be_bytes-to_be_bytes_4}
 use Rattle.wp_outside.specs.Disk.{Each}
-use Rattle.wp_gatelog.specs.Damage.{IsBadHead, IsCut}
-use Rattle.wp_gatelog.specs.Spelling.{IsUnmade, Spells, identity}
+use Rattle.wp_fields.specs.declared.format.Format.{Format}
+use Rattle.wp_fields.specs.declared.format.Format.TheVariants.{One}
+use Rattle.wp_gatelog.specs.Damage.{IsBadHead, IsCut, IsNoVersion}
+use Rattle.wp_gatelog.specs.Spelling.{Stamp, IsUnmade, IsUpTo, Spells, identity}
 use Rattle.wp_manifest.specs.Edit.{Edit, IsEdit, IsSpelling, edit_bytes}
 use Rattle.wp_manifest.specs.Opening.{IsStranger, IsBadEdit}
 use Rattle.wp_manifest.specs.Reading.{IsBadAmong}
-use Rattle.wp_manifest.specs.Spelling.{MAGIC, AreEdits, IsManifestOf, HasHead}
+use Rattle.wp_manifest.specs.Spelling.{MAGIC, head_stamp, AreEdits, IsManifestOf, HasHead}
 use Rattle.wp_manifest.proofs.EditLemmas.{one_edit}
 use Rattle.wp_manifest.proofs.OpeningLemmas.{cut_head, head_of}
 
 -- ---- what a gate log's laws say
 
 abbrev pub SpellOneList : Type 0
-SpellOneList = (bytes magic : List ℕ) (id other : ℕ) (records others : List (List ℕ)) → Spells bytes magic id records → Spells bytes magic other others → records ≡ others
+SpellOneList = (bytes magic : List ℕ) (stamp other : Stamp) (records others : List (List ℕ)) → Spells bytes magic stamp records → Spells bytes magic other others → records ≡ others
 
 abbrev pub AreSpelledOrCut : Type 0
-AreSpelledOrCut = (bytes magic : List ℕ) (id index : ℕ) (records : List (List ℕ)) → Spells bytes magic id records → IsCut magic index bytes → ⊥
+AreSpelledOrCut = (bytes magic : List ℕ) (newest : Format) (stamp : Stamp) (index : ℕ) (records : List (List ℕ)) → Spells bytes magic stamp records → IsCut magic newest index bytes → ⊥
 
 abbrev pub AreCutOnce : Type 0
-AreCutOnce = (bytes magic : List ℕ) (index other : ℕ) → IsCut magic index bytes → IsCut magic other bytes → index ≡ other
+AreCutOnce = (bytes magic : List ℕ) (newest : Format) (index other : ℕ) → IsCut magic newest index bytes → IsCut magic newest other bytes → index ≡ other
 
 abbrev pub AreSpelledOrBad : Type 0
-AreSpelledOrBad = (bytes magic : List ℕ) (id : ℕ) (records : List (List ℕ)) → length magic ≡ 4 → Spells bytes magic id records → IsBadHead magic bytes → ⊥
+AreSpelledOrBad = (bytes magic : List ℕ) (newest : Format) (stamp : Stamp) (records : List (List ℕ)) → length magic ≡ 4 → IsUpTo newest stamp.format → Spells bytes magic stamp records → IsBadHead magic newest bytes → ⊥
 
 abbrev pub AreCutOrBad : Type 0
-AreCutOrBad = (bytes magic : List ℕ) (index : ℕ) → length magic ≡ 4 → IsCut magic index bytes → IsBadHead magic bytes → ⊥
+AreCutOrBad = (bytes magic : List ℕ) (newest : Format) (index : ℕ) → length magic ≡ 4 → IsCut magic newest index bytes → IsBadHead magic newest bytes → ⊥
 
 -- ---- edits
 
@@ -46,7 +48,7 @@ same_edits (edit ∷ edits) (other ∷ others) are too same =
 
 pub one_manifest : SpellOneList → (bytes : List ℕ) (id other : ℕ) (edits others : List Edit) → IsManifestOf id edits bytes → IsManifestOf other others bytes → edits ≡ others
 one_manifest lists bytes id other edits others (records, spells, are) (records_too, spells_too, are_too) =
-    let same : records ≡ records_too = lists bytes MAGIC id other records records_too spells spells_too in
+    let same : records ≡ records_too = lists bytes MAGIC (head_stamp id) (head_stamp other) records records_too spells spells_too in
     same_edits edits others are.are are_too.are (sym are.spelled ∙ same ∙ are_too.spelled)
 
 -- an edit is among edits where the record is
@@ -62,16 +64,16 @@ none_bad records index edits are bad =
     bad.wrong found.0 found.1
 
 pub manifest_not_bad : SpellOneList → AreSpelledOrCut → (bytes : List ℕ) (id index : ℕ) (edits : List Edit) → IsManifestOf id edits bytes → IsBadEdit id index bytes → ⊥
-manifest_not_bad lists whole bytes id index edits (records, spells, are) (inl cut) = whole bytes MAGIC id index records spells cut.0
+manifest_not_bad lists whole bytes id index edits (records, spells, are) (inl cut) = whole bytes MAGIC One (head_stamp id) index records spells cut.0
 manifest_not_bad lists whole bytes id index edits (records, spells, are) (inr bad) =
-    none_bad records index edits are (subst (λ (rs : List (List ℕ)). IsBadAmong rs index) (lists bytes MAGIC id id bad.0 records bad.1 spells) bad.2)
+    none_bad records index edits are (subst (λ (rs : List (List ℕ)). IsBadAmong rs index) (lists bytes MAGIC (head_stamp id) (head_stamp id) bad.0 records bad.1 spells) bad.2)
 
-pub manifest_not_bad_head : AreSpelledOrBad → (bytes : List ℕ) (id : ℕ) (edits : List Edit) → IsManifestOf id edits bytes → IsBadHead MAGIC bytes → ⊥
-manifest_not_bad_head spelled bytes id edits (records, spells, are) bad = spelled bytes MAGIC id records refl spells bad
+pub manifest_not_bad_head : AreSpelledOrBad → (bytes : List ℕ) (id : ℕ) (edits : List Edit) → IsManifestOf id edits bytes → IsBadHead MAGIC One bytes → ⊥
+manifest_not_bad_head spelled bytes id edits (records, spells, are) bad = spelled bytes MAGIC One (head_stamp id) records refl (omega arith) spells bad
 
-pub bad_head_not_bad_edit : AreSpelledOrBad → AreCutOrBad → (bytes : List ℕ) (id index : ℕ) → IsBadHead MAGIC bytes → IsBadEdit id index bytes → ⊥
-bad_head_not_bad_edit spelled cut bytes id index bad (inl edit) = cut bytes MAGIC index refl edit.0 bad
-bad_head_not_bad_edit spelled cut bytes id index bad (inr edit) = spelled bytes MAGIC id edit.0 refl edit.1 bad
+pub bad_head_not_bad_edit : AreSpelledOrBad → AreCutOrBad → (bytes : List ℕ) (id index : ℕ) → IsBadHead MAGIC One bytes → IsBadEdit id index bytes → ⊥
+bad_head_not_bad_edit spelled cut bytes id index bad (inl edit) = cut bytes MAGIC One index refl edit.0 bad
+bad_head_not_bad_edit spelled cut bytes id index bad (inr edit) = spelled bytes MAGIC One (head_stamp id) edit.0 refl (omega arith) edit.1 bad
 
 -- ---- one bad edit
 
@@ -98,11 +100,11 @@ one_place records i j one other =
     ]
 
 pub one_bad_edit : SpellOneList → AreSpelledOrCut → AreCutOnce → (bytes : List ℕ) (id index other : ℕ) → IsBadEdit id index bytes → IsBadEdit id other bytes → index ≡ other
-one_bad_edit lists whole cuts bytes id index other (inl cut) (inl also) = cuts bytes MAGIC index other cut.0 also.0
-one_bad_edit lists whole cuts bytes id index other (inl cut) (inr bad) = absurd (whole bytes MAGIC id index bad.0 bad.1 cut.0)
-one_bad_edit lists whole cuts bytes id index other (inr bad) (inl cut) = absurd (whole bytes MAGIC id other bad.0 bad.1 cut.0)
+one_bad_edit lists whole cuts bytes id index other (inl cut) (inl also) = cuts bytes MAGIC One index other cut.0 also.0
+one_bad_edit lists whole cuts bytes id index other (inl cut) (inr bad) = absurd (whole bytes MAGIC One (head_stamp id) index bad.0 bad.1 cut.0)
+one_bad_edit lists whole cuts bytes id index other (inr bad) (inl cut) = absurd (whole bytes MAGIC One (head_stamp id) other bad.0 bad.1 cut.0)
 one_bad_edit lists whole cuts bytes id index other (inr bad) (inr also) =
-    one_place bad.0 index other bad.2 (subst (λ (rs : List (List ℕ)). IsBadAmong rs other) (lists bytes MAGIC id id also.0 bad.0 also.1 bad.1) also.2)
+    one_place bad.0 index other bad.2 (subst (λ (rs : List (List ℕ)). IsBadAmong rs other) (lists bytes MAGIC (head_stamp id) (head_stamp id) also.0 bad.0 also.1 bad.1) also.2)
 
 -- ---- another store's head
 
@@ -117,7 +119,7 @@ head_made : (id : ℕ) (bytes : List ℕ) → HasHead id bytes → IsUnmade byte
 unfolding identity
 head_made id bytes has unmade = has.head_open (subst IsUnmade has.spelling unmade)
 
-manifest_head : (id found : ℕ) (bytes : List ℕ) (records : List (List ℕ)) → Spells bytes MAGIC id records → HasHead found bytes → HasHead id bytes
+manifest_head : (id found : ℕ) (bytes : List ℕ) (records : List (List ℕ)) → Spells bytes MAGIC (head_stamp id) records → HasHead found bytes → HasHead id bytes
 manifest_head id found bytes records (inl unmade) has = absurd (head_made found bytes has unmade.0)
 manifest_head id found bytes records (inr made) has = head_of id made.0 0 made.1 bytes made.2.rest made.2.head_open made.2.spelling
 
@@ -132,14 +134,14 @@ bad_edit_not_stranger bytes id index log found small less (inl cut) stranger =
 bad_edit_not_stranger bytes id index log found small less (inr bad) stranger =
     stranger.other (sym (one_head id found bytes small less (manifest_head id found bytes bad.0 bad.1 stranger.head) stranger.head))
 
-head_whole : (id : ℕ) (bytes : List ℕ) → HasHead id bytes → IsBadHead MAGIC bytes → ⊥
+head_whole : (id : ℕ) (bytes : List ℕ) → HasHead id bytes → IsBadHead MAGIC One bytes → ⊥
 unfolding identity
-head_whole id bytes has bad = by (subst (λ (all : List ℕ). (length all < 11) ⊎ ((take 4 (drop 1 all) ≢ MAGIC) ⊎ (slice_index all 5 ≢ 1))) has.spelling bad.wrong)
+head_whole id bytes has bad = by (subst (λ (all : List ℕ). (length all < 11) ⊎ ((take 4 (drop 1 all) ≢ MAGIC) ⊎ IsNoVersion One (slice_index all 5))) has.spelling bad.wrong)
   where
-    by : (length (has.head ∷ (identity MAGIC id ++ has.gate ∷ has.rest)) < 11) ⊎ ((take 4 (drop 1 (has.head ∷ (identity MAGIC id ++ has.gate ∷ has.rest))) ≢ MAGIC) ⊎ (slice_index (has.head ∷ (identity MAGIC id ++ has.gate ∷ has.rest)) 5 ≢ 1)) → ⊥
+    by : (length (has.head ∷ (identity MAGIC (head_stamp id) ++ has.gate ∷ has.rest)) < 11) ⊎ ((take 4 (drop 1 (has.head ∷ (identity MAGIC (head_stamp id) ++ has.gate ∷ has.rest))) ≢ MAGIC) ⊎ IsNoVersion One (slice_index (has.head ∷ (identity MAGIC (head_stamp id) ++ has.gate ∷ has.rest)) 5)) → ⊥
     by (inl short) = omega (arith, short)
     by (inr (inl magic)) = magic refl
-    by (inr (inr version)) = version refl
+    by (inr (inr none)) = none One (omega arith) refl
 
-pub bad_head_not_stranger : (bytes : List ℕ) (id log found : ℕ) → IsBadHead MAGIC bytes → IsStranger id log found bytes → ⊥
+pub bad_head_not_stranger : (bytes : List ℕ) (id log found : ℕ) → IsBadHead MAGIC One bytes → IsStranger id log found bytes → ⊥
 bad_head_not_stranger bytes id log found bad stranger = head_whole found bytes stranger.head bad

@@ -2,3 +2,4 @@ pub mod EditLemmas
 pub mod OpeningLemmas
 pub mod InstallLemmas
 pub mod LawLemmas
+pub mod RoomLemmas

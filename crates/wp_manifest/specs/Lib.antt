@@ -1,4 +1,5 @@
 pub mod Edit
+pub mod Room
 pub mod Errors
 pub mod Reading
 pub mod Spelling

@@ -5,7 +5,7 @@ use Rattle.wp_outside.specs.Faults.{Rose}
 use Rattle.wp_gatelog.specs.Damage.{IsBadHead, IsCut}
 use Rattle.wp_gatelog.specs.Left.{IsSyncedOrAtRest}
 use Rattle.wp_gatelog.specs.Spelling.{Spells}
-use Rattle.wp_manifest.specs.Spelling.{MAGIC, HasHead}
+use Rattle.wp_manifest.specs.Spelling.{MAGIC, VERSION, HasHead, head_stamp}
 use Rattle.wp_manifest.specs.Reading.{IsBadAmong}
 use Rattle.wp_manifest.specs.declared.error.ManifestError.{ManifestError}
 use Rattle.wp_manifest.specs.declared.error.ManifestError.TheVariants.{Memory, DiskFault, BadHead, Stranger, BadEdit}
@@ -19,8 +19,8 @@ pub record IsStranger (id log found : ℕ) (bytes : List ℕ) : Type 0 where
 -- the head has the log's id, and the record with this index is cut; or none is, and it is the first that is no edit
 abbrev pub IsBadEdit : ℕ → ℕ → List ℕ → Type 0
 IsBadEdit id index bytes =
-    ((cut : IsCut MAGIC index bytes) × (cut.id ≡ id))
-    ⊎ ((records : List (List ℕ)) × Spells bytes MAGIC id records × IsBadAmong records index)
+    ((cut : IsCut MAGIC VERSION index bytes) × (cut.stamp.id ≡ id))
+    ⊎ ((records : List (List ℕ)) × Spells bytes MAGIC (head_stamp id) records × IsBadAmong records index)
 
 -- Why the manifest was not opened: its disk's count of faults rose, or what was read of it is so. Of the ids and the records that were
 -- read that is said on every disk; a bad head and a cut record are bytes that are not kept, and so are said of a disk that is known.
@@ -28,11 +28,11 @@ IsBadEdit id index bytes =
 abbrev pub IsManifestCause : ℕ → (rose : Type 0) → List Moment → ManifestError → Type 0
 IsManifestCause id rose moments Memory = Unit {0}
 IsManifestCause id rose moments DiskFault = rose
-IsManifestCause id rose moments BadHead = IfKnown moments (λ m. IsBadHead MAGIC m.reads)
+IsManifestCause id rose moments BadHead = IfKnown moments (λ m. IsBadHead MAGIC VERSION m.reads)
 IsManifestCause id rose moments (Stranger log found) = (log ≡ id) × (found ≢ id) × IfKnown moments (λ m. HasHead found m.reads)
 IsManifestCause id rose moments (BadEdit index) =
-    IfKnown moments (λ m. (cut : IsCut MAGIC index m.reads) × (cut.id ≡ id))
-    ⊎ ((records : List (List ℕ)) × IsBadAmong records index × IfKnown moments (λ m. Spells m.reads MAGIC id records))
+    IfKnown moments (λ m. (cut : IsCut MAGIC VERSION index m.reads) × (cut.stamp.id ≡ id))
+    ⊎ ((records : List (List ℕ)) × IsBadAmong records index × IfKnown moments (λ m. Spells m.reads MAGIC (head_stamp id) records))
 
 -- what a refusal leaves; where the disk failed, that is left open
 abbrev pub LeavesEdits : List Moment → List Moment → ManifestError → Type 0

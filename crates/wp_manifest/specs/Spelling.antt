@@ -1,12 +1,22 @@
 -- The manifest: a log of edits.
 use Rattle.std.specs.Prelude.{◌≡◌, ◌≢◌, ◌⊎◌, ℕ, List, [], ◌∷◌, ◌++◌, map, codes}
 use Rattle.wp_outside.specs.Disk.{Each}
-use Rattle.wp_gatelog.specs.Spelling.{Spells, identity}
+use Rattle.wp_fields.specs.declared.format.Format.{Format}
+use Rattle.wp_fields.specs.declared.format.Format.TheVariants.{One}
+use Rattle.wp_gatelog.specs.Spelling.{Stamp, stamped, Spells, identity}
 use Rattle.wp_manifest.specs.Edit.{Edit, IsEdit, no_edit, edit_bytes}
 
 -- the first four bytes after the head's gate
 abbrev pub MAGIC : List ℕ
 MAGIC = codes "WPMF"
+
+-- a manifest is of the first version
+abbrev pub VERSION : Format
+VERSION = One
+
+-- what the head of one with this id says
+abbrev pub head_stamp : ℕ → Stamp
+head_stamp id = stamped VERSION id
 
 -- the records are these edits, in order
 pub record AreEdits (records : List (List ℕ)) (edits : List Edit) : Type 0 where
@@ -21,7 +31,7 @@ last_edit (edit ∷ second ∷ others) = last_edit (second ∷ others)
 
 -- the bytes spell these edits under the id
 abbrev pub IsManifestOf : ℕ → List Edit → List ℕ → Type 0
-IsManifestOf id edits bytes = (records : List (List ℕ)) × Spells bytes MAGIC id records × AreEdits records edits
+IsManifestOf id edits bytes = (records : List (List ℕ)) × Spells bytes MAGIC (head_stamp id) records × AreEdits records edits
 
 -- the bytes spell these edits, or them and the next one
 abbrev pub IsManifestOrNext : ℕ → List Edit → Edit → List ℕ → Type 0
@@ -33,4 +43,4 @@ pub record HasHead (id : ℕ) (bytes : List ℕ) : Type 0 where
   pub gate : ℕ
   pub rest : List ℕ
   pub head_open : head ≢ 0
-  pub spelling : bytes ≡ head ∷ (identity MAGIC id ++ gate ∷ rest)
+  pub spelling : bytes ≡ head ∷ (identity MAGIC (head_stamp id) ++ gate ∷ rest)

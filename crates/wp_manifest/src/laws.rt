@@ -4,7 +4,7 @@ ghost use Rattle.std.specs.Prelude.{◌≡◌, ◌<◌, ◌^◌, ℕ, List};
 ghost use Rattle.wp_gatelog.specs.Damage.{IsBadHead};
 ghost use Rattle.wp_manifest.specs.Edit.{Edit, IsEdit, edit_bytes};
 ghost use Rattle.wp_manifest.specs.Opening.{IsBadEdit, IsStranger};
-ghost use Rattle.wp_manifest.specs.Spelling.{MAGIC, IsManifestOf};
+ghost use Rattle.wp_manifest.specs.Spelling.{MAGIC, IsManifestOf, VERSION};
 
 use wp_gatelog::bytes_are_read_in_one_way;
 
@@ -21,13 +21,13 @@ pub fn a_manifest_is_read_in_one_way()
     ensures one_bad_edit { (bytes : List ℕ) (id index other : ℕ)
         → IsBadEdit id index bytes → IsBadEdit id other bytes → index ≡ other }
     ensures edits_or_bad_head { (bytes : List ℕ) (id : ℕ) (edits : List Edit)
-        → IsManifestOf id edits bytes → IsBadHead MAGIC bytes → ⊥ }
+        → IsManifestOf id edits bytes → IsBadHead MAGIC VERSION bytes → ⊥ }
     ensures edits_or_bad_edit { (bytes : List ℕ) (id index : ℕ) (edits : List Edit)
         → IsManifestOf id edits bytes → IsBadEdit id index bytes → ⊥ }
     ensures bad_head_or_bad_edit { (bytes : List ℕ) (id index : ℕ)
-        → IsBadHead MAGIC bytes → IsBadEdit id index bytes → ⊥ }
+        → IsBadHead MAGIC VERSION bytes → IsBadEdit id index bytes → ⊥ }
     ensures bad_head_or_stranger { (bytes : List ℕ) (id log found : ℕ)
-        → IsBadHead MAGIC bytes → IsStranger id log found bytes → ⊥ }
+        → IsBadHead MAGIC VERSION bytes → IsStranger id log found bytes → ⊥ }
     ensures edits_or_stranger { (bytes : List ℕ) (id log found : ℕ) (edits : List Edit)
         → id < 2 ^ 32 → found < 2 ^ 32 → IsManifestOf id edits bytes → IsStranger id log found bytes → ⊥ }
     ensures bad_edit_or_stranger { (bytes : List ℕ) (id index log found : ℕ)

@@ -2,7 +2,8 @@
 //!
 //! It is a gate log of edits. An edit says up to which number the entries are in tables, and where in the tables' device
 //! each table is, the newest first. The last edit counts; without one there is no table. `install` appends an edit, so at
-//! each moment a crash leaves the old edits, or those and the new one.
+//! each moment a crash leaves the old edits, or those and the new one. `room` takes the memory of an install before, while places
+//! of the edit are not known yet; `install_in` takes none.
 #![tactic(auto)]
 
 mod edit;
@@ -10,9 +11,11 @@ mod error;
 mod laws;
 mod manifest;
 mod read;
+mod room;
 mod write;
 
 pub use edit::Edit;
 pub use error::{InstallError, ManifestError};
 pub use laws::{a_manifest_is_read_in_one_way, edits_have_one_spelling};
 pub use manifest::Manifest;
+pub use room::EditRoom;

@@ -1,22 +1,21 @@
 //! An open manifest.
 
-ghost use Rattle.std.specs.Prelude.{◌≡◌, ◌≤◌, ◌++◌, [], ◌∷◌, List, length, true, is_some, false, IfOk, IfErr, OnOk, MatchResult};
-ghost use Rattle.wp_outside.specs.Disk.{Passes};
-ghost use Rattle.wp_gatelog.specs.Durability.{LosesNoRecord};
-ghost use Rattle.wp_gatelog.specs.Moments.{Leaves};
+ghost use Rattle.std.specs.Prelude.{◌≡◌, ◌≢◌, ◌≤◌, length, true, is_some, IfOk, IfErr, MatchResult};
 ghost use Rattle.wp_gatelog.specs.Opening.{KeepsLog};
-ghost use Rattle.wp_manifest.specs.Edit.{Edit, no_edit};
 ghost use Rattle.wp_manifest.specs.Errors.{manifest_error_of};
-ghost use Rattle.wp_manifest.specs.Spelling.{MAGIC, IsManifestOrNext};
-ghost use Rattle.wp_manifest.specs.Manifest.{Opened, StoresEdits, InstallRefused};
+ghost use Rattle.wp_manifest.specs.Spelling.{MAGIC, head_stamp};
+ghost use Rattle.wp_manifest.specs.Manifest.{Opened, InstallsInto};
+ghost use Rattle.wp_manifest.specs.declared.error.InstallError.TheVariants.{Memory};
 ghost use Rattle.wp_manifest.specs.Opening.{IsUnopenedManifest};
 
 use crate::edit::Edit;
 use crate::error::{InstallError, ManifestError};
 use crate::read::last_edit;
+use crate::room::EditRoom;
 use crate::write::frame_edit;
-use std::alloc::Global;
+use std::alloc::{AllocError, Global};
 use std::marker::Model;
+use wp_fields::Format;
 use wp_gatelog::{DiskRefused, GateLog, LogError, acknowledged_records_come_first};
 use wp_outside::Disk;
 
@@ -55,8 +54,8 @@ fn error_of(why: LogError, id: u32) -> ManifestError
 }
 
 impl<D: Disk> Manifest<D> {
-    /// Opens the manifest on the disk for a log with this id, or makes it with the id. Its id is asked for before its
-    /// records are.
+    /// Opens the manifest on the disk for a log with this id, or makes it with the id. It is of the first version, and one of
+    /// a later version is a bad head. Its id is asked for before its records are.
     pub fn open(
         alloc: Global,
         disk: D,
@@ -67,11 +66,11 @@ impl<D: Disk> Manifest<D> {
         ensures refused { IfErr result (λ refused. IsUnopenedManifest id
             (D.moments disk) (D.moments refused.disk) (D.faults disk) (D.faults refused.disk) refused.why) }
         ensures kept { MatchResult result
-            (λ opened. KeepsLog MAGIC id (D.moments disk) opened.log.moments (D.faults disk) opened.log.faults)
-            (λ refused. KeepsLog MAGIC id
+            (λ opened. KeepsLog MAGIC (head_stamp id) (D.moments disk) opened.log.moments (D.faults disk) opened.log.faults)
+            (λ refused. KeepsLog MAGIC (head_stamp id)
             (D.moments disk) (D.moments refused.disk) (D.faults disk) (D.faults refused.disk)) }
     {
-        let (log, records) = match GateLog::open(alloc, disk, 0, MANIFEST_MAGIC, id) {
+        let (log, records) = match GateLog::open(alloc, disk, 0, MANIFEST_MAGIC, Format::One, id) {
             Ok(opened) => opened,
             Err(DiskRefused { disk, why }) => {
                 let why = error_of(why, id);
@@ -109,30 +108,33 @@ impl<D: Disk> Manifest<D> {
         &self.edit
     }
 
+    /// Takes all the memory that the install of this edit needs, which is of the second form.
+    pub fn room(&self, edit: Edit) -> Result<EditRoom, AllocError>
+        requires place { is_some edit.place ≡ true }
+        requires count { length edit.tables ≤ edit.flushed }
+        ensures { IfOk result (λ room. room ≡ edit) }
+    {
+        let frame = frame_edit(self.alloc, &edit)?;
+        Ok(EditRoom { frame, edit })
+    }
+
     /// Makes the edit, which is of the second form, the last one. The tables that it names are durable before.
     pub fn install(&mut self, edit: Edit) -> Result<(), InstallError>
         requires place { is_some edit.place ≡ true }
         requires count { length edit.tables ≤ edit.flushed }
+        ensures { InstallsInto self.old self.new edit result }
+    {
+        let room = self.room(edit)?;
+        self.install_in(room)
+    }
 
-        // At each moment since its beginning a crash leaves the edits before it, or those and the new one, whole.
-        ensures any_moment { (edits : List Edit) → StoresEdits self.old edits no_edit → self.old.log.closed ≡ false
-            → Passes (Leaves (IsManifestOrNext self.old.log.id edits edit)) self.old.log.moments self.new.log.moments }
-
-        // What each crash at one moment would leave acknowledged, each crash at a later moment leaves too.
-        ensures durable { (edits : List Edit) (next : Edit) → StoresEdits self.old edits next
-            → LosesNoRecord MAGIC self.old.log.moments self.new.log.moments }
-
-        // Once it is installed, a crash leaves it; and after a fault still one of the two.
-        ensures installed { OnOk result ((edits : List Edit) → StoresEdits self.old edits no_edit
-            → StoresEdits self.new (edits ++ edit ∷ []) no_edit) }
-        ensures last { OnOk result (self.new.edit ≡ edit) }
-        ensures running { OnOk result ((self.old.log.closed ≡ false) × (self.new.log.closed ≡ false)) }
-        ensures refused { IfErr result (InstallRefused self.old self.new edit) }
-        ensures id { self.new.log.id ≡ self.old.log.id }
-        ensures later { self.old.log.faults ≤ self.new.log.faults }
+    /// Makes the edit the last one, in memory that was taken before. The tables that it names are durable before.
+    pub fn install_in(&mut self, room: EditRoom) -> Result<(), InstallError>
+        ensures installs { InstallsInto self.old self.new room result }
+        ensures no_memory { IfErr result (λ why. why ≢ Memory) }
     {
         acknowledged_records_come_first();
-        let frame = frame_edit(self.alloc, &edit)?;
+        let EditRoom { frame, edit } = room;
         self.log.append(&frame)?;
         self.edit = edit;
         Ok(())

@@ -6,10 +6,10 @@ pub invariant_of-result : goal.invariant_of-result
 invariant_of-result c =
     let len : c.len.result - 8 ≡ length c.args.room.items - 8 = search rules in
     let whole : c.args.room.len ≡ length c.args.room.items = search rules in
-    frame_of-framed_in _ _ (frame_filled c.args.room.items c.deref_mut.result.now c.fill_length.new.room c.push_u8.new.out.items (c.len.result - 8) c.args.room.len c.requires len c.deref_mut.ensures.value c.fill_length.ensures whole c.in_ok-push_u8.ensures.pushed)
+    frame_of-framed_in _ _ (frame_filled c.args.room.items c.deref_mut.result.now c.write_u64.new.bytes c.push_u8.new.out.items (c.len.result - 8) c.args.room.len c.requires len c.deref_mut.ensures.value c.write_u64.ensures whole c.in_ok-push_u8.ensures.pushed)
 
 pub returns : goal.returns
 returns c =
     let len : c.len.result - 8 ≡ length c.args.room.items - 8 = search rules in
     let whole : c.args.room.len ≡ length c.args.room.items = search rules in
-    framed_in-written _ _ (frame_filled c.args.room.items c.deref_mut.result.now c.fill_length.new.room c.push_u8.new.out.items (c.len.result - 8) c.args.room.len c.requires len c.deref_mut.ensures.value c.fill_length.ensures whole c.in_ok-push_u8.ensures.pushed)
+    framed_in-written _ _ (frame_filled c.args.room.items c.deref_mut.result.now c.write_u64.new.bytes c.push_u8.new.out.items (c.len.result - 8) c.args.room.len c.requires len c.deref_mut.ensures.value c.write_u64.ensures whole c.in_ok-push_u8.ensures.pushed)

@@ -1,4 +1,5 @@
 use Rattle.std.proofs.Common.{◌∙◌}
+use Rattle.wp_gatelog.specs.Log.{stamp_of}
 use Rattle.wp_manifest.proofs.OpeningLemmas.{opened_left, refused_cause, refused_left, stranger_cause}
 use Rattle.wp_manifest.proofs.manifest.Manifest.open.Goals as goal
 
@@ -12,6 +13,6 @@ pub returns-then-id-clause-refused : goal.returns-then-id-clause-refused
 returns-then-id-clause-refused g c =
     let opened = c.in-Ok.ensures.opened in
     rw (c.id-then-id.ensures, c.into_disk-disk.ensures.moments) (record {
-      cause = stranger_cause c.args.id c.in-Ok.opened.0.id c.in-Ok.opened.1.items _ (λ e. c.if-id.true (c.id.ensures ∙ e)) opened.found;
+      cause = stranger_cause c.args.id (stamp_of c.in-Ok.opened.0) c.in-Ok.opened.1.items _ (λ e. c.if-id.true (c.id.ensures ∙ e)) opened.found;
       left = opened_left c.args.id c.in-Ok.opened.0 c.in-Ok.opened.1.items _ opened;
     })

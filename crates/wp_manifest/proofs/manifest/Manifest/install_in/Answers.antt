@@ -1,0 +1,43 @@
+use Rattle.std.proofs.Common.{[], ap, refl, ◌∙◌}
+use Rattle.std.proofs.lemmas.Result.{err_from_is_err_and}
+use Rattle.wp_gatelog.specs.Log.{LogState}
+use Rattle.wp_manifest.specs.Edit.{Edit}
+use Rattle.wp_manifest.specs.Manifest.{ManifestState}
+use Rattle.wp_manifest.proofs.InstallLemmas.{passes_edits, rests_found, stores_installed, install_refused, refused_id, never_memory}
+use Rattle.wp_manifest.proofs.manifest.Manifest.install_in.Goals as goal
+
+pub returns-in_err-append-clause-installs : goal.returns-in_err-append-clause-installs
+returns-in_err-append-clause-installs g c =
+    let p = err_from_is_err_and c.from_residual.result c.from_residual.ensures.1 in
+    let room : Edit = c.room.inside.edit in
+    let old : ManifestState = record { log = c.self.inside.log; edit = c.self.inside.edit } in
+    rw (p.1, p.2, ← c.self.view_is, ← c.room.view_is) record {
+      any_moment = passes_edits old c.append.new.self _ room _ c.room.invariant.spelling c.room.invariant.is c.in_err-append.ensures.appends;
+      durable = λ edits next stores. (c.in_err-append.ensures.appends _ [] [] stores.records (rests_found old edits next stores)).durable;
+      installed = tt;
+      last = tt;
+      running = tt;
+      refused = install_refused _ old c.append.new.self _ room c.in_err-append.field-0.0 c.acknowledged_records_come_first.ensures.at_rest c.room.invariant.spelling c.room.invariant.is c.in_err-append.ensures.err c.in_err-append.ensures.appends;
+      id = refused_id old.log c.append.new.self c.in_err-append.field-0.0 c.in_err-append.ensures.err;
+      later = c.in_err-append.ensures.later;
+    }
+
+pub returns-in_err-append-clause-no_memory : goal.returns-in_err-append-clause-no_memory
+returns-in_err-append-clause-no_memory g c =
+    let p = err_from_is_err_and c.from_residual.result c.from_residual.ensures.1 in
+    rw (p.1, p.2) (never_memory c.in_err-append.field-0.0)
+
+pub returns-clause-installs : goal.returns-clause-installs
+returns-clause-installs g c =
+    let room : Edit = c.room.inside.edit in
+    let old : ManifestState = record { log = c.self.inside.log; edit = c.self.inside.edit } in
+    rw (← c.self.view_is, ← c.room.view_is) record {
+      any_moment = passes_edits old c.append.new.self _ room _ c.room.invariant.spelling c.room.invariant.is c.in_ok-append.ensures.appends;
+      durable = λ edits next stores. (c.in_ok-append.ensures.appends _ [] [] stores.records (rests_found old edits next stores)).durable;
+      installed = stores_installed _ old c.append.new.self _ room c.room.invariant.spelling c.room.invariant.is c.in_ok-append.ensures.ok c.in_ok-append.ensures.appends;
+      last = refl;
+      running = (c.in_ok-append.ensures.ok.was_open, ap (λ (s : LogState). s.closed) c.in_ok-append.ensures.ok.changed ∙ c.in_ok-append.ensures.ok.was_open);
+      refused = tt;
+      id = ap (λ (s : LogState). s.id) c.in_ok-append.ensures.ok.changed;
+      later = c.in_ok-append.ensures.later;
+    }
