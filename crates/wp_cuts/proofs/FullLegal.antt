@@ -1,9 +1,9 @@
 -- The full list of a legal cut is legal, where the versions lie below what the cut carries; and the other way round.
-use Rattle.std.proofs.Common.{◌≡◌, ℕ, zero, suc, ◌-◌, ◌<◌, ◌≤◌, Bool, true, false, List, [], ◌∷◌, ◌++◌, length, take, Option, Some, None, refl, sym, ap, ◌∙◌, subst, inl, inr, length-append, arith}
+use Rattle.std.proofs.Common.{◌≡◌, ℕ, zero, suc, ◌+◌, ◌-◌, ◌<◌, ◌≤◌, Bool, true, false, List, [], ◌∷◌, ◌++◌, length, take, drop, Option, Some, None, refl, sym, ap, ◌∙◌, subst, inl, inr, length-append, arith}
 use Rattle.std.specs.Prelude.{slice_get, is_some}
 use Rattle.std.specs.Str.{bytes_eq}
 use Rattle.std.proofs.lemmas.Bool.{cases_lt, cases_order}
-use Rattle.std.proofs.lemmas.List.{take-append-le}
+use Rattle.std.proofs.lemmas.List.{take-append-le, take-append-drop}
 use Rattle.std.proofs.lemmas.Option.{same_Some, slice_get_within}
 use Rattle.std.proofs.lemmas.Slice.Eq.{bytes_eq-Decides}
 use Rattle.wp_model.specs.declared.carried.Carried.{Carried}
@@ -12,22 +12,22 @@ use Rattle.wp_model.specs.declared.entry.Entry.{Entry}
 use Rattle.wp_model.specs.declared.version.Version.{Version}
 use Rattle.wp_model.specs.Batch.{key_of}
 use Rattle.wp_model.specs.History.{prepared_name, prepared_batch, name_at, batch_at, is_undecided, named, is_changed, holder_of}
-use Rattle.wp_model.specs.Legal.{NamesUndecided, AreFree, IsOrderlyNext, IsLegalNext, IsLegal}
+use Rattle.wp_model.specs.Legal.{NamesUndecided, RestoresPrior, AreFree, IsOrderlyNext, IsLegalNext, IsLegal, log_end}
 use Rattle.wp_model.specs.Versions.{AreInOrder, version_at}
 use Rattle.wp_model.proofs.Entries.{slice_get_old}
 use Rattle.wp_model.proofs.Found.{found_holder, found_named}
 use Rattle.wp_history.proofs.Held.{not_free, free_key}
-use Rattle.wp_history.proofs.Following.{Follow}
+use Rattle.wp_history.proofs.Following.{Follow, follows, follow_front, follow_take, follow_next}
 use Rattle.wp_history.proofs.Growth.{AreNaming}
 use Rattle.wp_cuts.specs.Cut.{Cut, carried_at, is_carried, base_value, changes_at, front_entry_of, front_entry, full_of}
-use Rattle.wp_cuts.specs.LegalCut.{AreNumbered, AreApart, cut_front, prepares_of, IsLegalCut, AreBelow}
-use Rattle.wp_cuts.proofs.Alike.{orderly_alike}
+use Rattle.wp_cuts.specs.LegalCut.{AreNumbered, AreApart, cut_front, prepares_of, IsOrderlyCut, IsLegalCut, AreBelow}
+use Rattle.wp_cuts.proofs.Alike.{alike_back, names_alike, orderly_alike}
 use Rattle.wp_cuts.proofs.Decided.{slice_get_behind}
-use Rattle.wp_cuts.proofs.Agreeing.{take_behind, naming_to}
+use Rattle.wp_cuts.proofs.Agreeing.{take_behind}
 use Rattle.wp_cuts.proofs.Rows.{start_names}
 use Rattle.wp_cuts.proofs.Versions.{changes_to, changes_ascend}
 use Rattle.wp_cuts.proofs.FullList.{front, full_is, starts, front_long, front_at, front_undone, front_take, numbered_low, carried_in, carried_undecided, carried_entry, full_is_cut, full_value, settled_from, settled_parts}
-use Rattle.wp_cuts.proofs.Standing.{stands_for, restores_to}
+use Rattle.wp_cuts.proofs.Standing.{StandsFor, stands_for, restores_to}
 use Rattle.wp_cuts.proofs.LegalCuts.{cut_is_legal}
 
 -- ---- what is free
@@ -139,37 +139,84 @@ module _ (c : Cut) (versions : List Version) (order : AreInOrder versions) (belo
     restores_prior = tt;
   }
 
-front_numbered : (c : Cut) (n : ℕ) → AreNumbered c → AreNumbered (cut_front c n)
-front_numbered c n numbered = record { ascend = numbered.ascend; within = numbered.within }
+-- ---- an orderly cut
+
+-- what it says of its entries is that each may follow those before it
+abbrev Follows : Cut → List Entry → Entry → Type 0
+Follows c entries entry = IsOrderlyNext (prepares_of (record c { entries = entries })) entry
+
+pub orderly_front : (c : Cut) (n : ℕ) → IsOrderlyCut c → IsOrderlyCut (cut_front c n)
+orderly_front c n orderly = record {
+  few = let parts : length (take n c.entries ++ drop n c.entries) ≡ length c.entries = ap length (take-append-drop n c.entries) in omega (arith, orderly.few, parts, length-append (take n c.entries) (drop n c.entries));
+  numbered = record { ascend = orderly.numbered.ascend; within = orderly.numbered.within };
+  apart = record { ascending = orderly.apart.ascending; names = orderly.apart.names; keys = orderly.apart.keys };
+  each = follow_take (Follows c) n c.entries orderly.each;
+}
+
+pub orderly_next : (c : Cut) (entry : Entry) → IsOrderlyCut c → IsOrderlyNext (prepares_of c) entry → c.base + length c.entries + 1 < log_end → IsOrderlyCut (record c { entries = c.entries ++ entry ∷ [] })
+orderly_next c entry orderly after few = record {
+  few = omega (arith, few, length-append c.entries (entry ∷ []));
+  numbered = record { ascend = orderly.numbered.ascend; within = orderly.numbered.within };
+  apart = record { ascending = orderly.apart.ascending; names = orderly.apart.names; keys = orderly.apart.keys };
+  each = follow_next (Follows c) c.entries entry orderly.each after;
+}
+
+pub orderly_before : (c : Cut) (more : List Entry) → IsOrderlyCut (record c { entries = c.entries ++ more }) → IsOrderlyCut c
+orderly_before c more orderly = record {
+  few = omega (arith, orderly.few, length-append c.entries more);
+  numbered = record { ascend = orderly.numbered.ascend; within = orderly.numbered.within };
+  apart = record { ascending = orderly.apart.ascending; names = orderly.apart.names; keys = orderly.apart.keys };
+  each = follow_front (Follows c) c.entries more orderly.each;
+}
+
+pub orderly_at : (c : Cut) (more : List Entry) (entry : Entry) → IsOrderlyCut (record c { entries = c.entries ++ entry ∷ more }) → IsOrderlyNext (prepares_of c) entry
+orderly_at c more entry orderly = follows (Follows c) c.entries entry more orderly.each
 
 -- the list of its prepares follows the rule that decisions find them
-prepares_naming : (c : Cut) (values : List ℕ → Option (List ℕ)) → IsLegalCut c values → AreNaming (prepares_of c)
-prepares_naming c values legal =
+prepares_naming : (c : Cut) → IsOrderlyCut c → AreNaming (prepares_of c)
+prepares_naming c orderly =
     follow_full NamesUndecided c [] (λ n lt. start_names (front c [] n) (front_entry c [] (suc n)) (starts c [] (suc n)))
-    (λ n entry at. subst (λ (h : List Entry). NamesUndecided h entry) (full_is (cut_front c n) []) (legal.orderly n entry at).names_undecided)
+    (λ n entry at. subst (λ (h : List Entry). NamesUndecided h entry) (full_is (cut_front c n) []) (orderly.each n entry at).names_undecided)
 
-pub full_is_legal : (c : Cut) (versions : List Version) → AreInOrder versions → AreBelow c versions → IsLegalCut c (base_value c versions) → IsLegal (full_of c versions)
-full_is_legal c versions order below legal = record {
-  few = omega (arith, legal.few, ap length (full_is c versions), length-append (front c versions c.base) c.entries, front_long c versions c.base);
-  each = follow_full IsLegalNext c versions (λ n lt. front_legal_by c versions order below legal.numbered legal.apart n lt (carried_at c (suc n)) refl) behind;
+-- each full list of it is like that list, and follows that rule
+pub orderly_stands : (c : Cut) (versions : List Version) → IsOrderlyCut c → StandsFor (prepares_of c) c versions
+orderly_stands c versions orderly = stands_for (prepares_of c) c versions (prepares_naming c orderly) (full_is_cut c [] orderly.numbered)
+
+-- so what may follow one full list may follow each
+pub orderly_over : (c : Cut) (one other : List Version) (entry : Entry) → IsOrderlyCut c → IsOrderlyNext (full_of c one) entry → IsOrderlyNext (full_of c other) entry
+orderly_over c one other entry orderly after =
+    orderly_alike (prepares_of c) (full_of c other) entry (orderly_stands c other orderly).alike
+    (orderly_alike (full_of c one) (prepares_of c) entry (alike_back (prepares_of c) (full_of c one) (orderly_stands c one orderly).alike) after)
+
+-- ---- the full list
+
+-- the full list of an orderly cut is legal where each undo behind the base restores what a key had
+pub full_is_legal_by : (c : Cut) (versions : List Version) → AreInOrder versions → AreBelow c versions → IsOrderlyCut c
+    → ((n : ℕ) (entry : Entry) → slice_get c.entries n ≡ Some entry → RestoresPrior (full_of (cut_front c n) versions) entry) → IsLegal (full_of c versions)
+full_is_legal_by c versions order below orderly restores = record {
+  few = omega (arith, orderly.few, ap length (full_is c versions), length-append (front c versions c.base) c.entries, front_long c versions c.base);
+  each = follow_full IsLegalNext c versions (λ n lt. front_legal_by c versions order below orderly.numbered orderly.apart n lt (carried_at c (suc n)) refl) behind;
 }
   where
-    naming : (n : ℕ) → AreNaming (prepares_of (cut_front c n))
-    naming n = subst AreNaming (sym (full_is (cut_front c n) [])) (naming_to (front c [] c.base) c.entries n (subst AreNaming (full_is c []) (prepares_naming c (base_value c versions) legal)))
-
-    numbered : (n : ℕ) → AreNumbered (cut_front c n)
-    numbered n = front_numbered c n legal.numbered
-
     behind : (n : ℕ) (entry : Entry) → slice_get c.entries n ≡ Some entry → IsLegalNext (front c versions c.base ++ take n c.entries) entry
     behind n entry at =
         let d = cut_front c n in
-        let stands = stands_for (prepares_of d) d versions (naming n) (full_is_cut d [] (numbered n)) in
-        let orderly : IsOrderlyNext (full_of d versions) entry = orderly_alike (prepares_of d) (full_of d versions) entry stands.alike (legal.orderly n entry at) in
         let P : List Entry → Type 0 = λ h. IsLegalNext h entry in
         subst P (full_is d versions) (record {
-          orderly = orderly;
-          restores_prior = restores_to (full_of d versions) d (base_value c versions) stands.naming (full_is_cut d versions (numbered n)) (λ key. full_value d versions key (numbered n) order) entry orderly.names_undecided (legal.restores n entry at);
+          orderly = orderly_alike (prepares_of d) (full_of d versions) entry (orderly_stands d versions (orderly_front c n orderly)).alike (orderly.each n entry at);
+          restores_prior = restores n entry at;
         })
+
+pub full_is_legal : (c : Cut) (versions : List Version) → AreInOrder versions → AreBelow c versions → IsLegalCut c (base_value c versions) → IsLegal (full_of c versions)
+full_is_legal c versions order below legal = full_is_legal_by c versions order below legal.orderly restores
+  where
+    restores : (n : ℕ) (entry : Entry) → slice_get c.entries n ≡ Some entry → RestoresPrior (full_of (cut_front c n) versions) entry
+    restores n entry at =
+        let d = cut_front c n in
+        let orderly = orderly_front c n legal.orderly in
+        let stands = orderly_stands d versions orderly in
+        let names = names_alike (prepares_of d) (full_of d versions) entry stands.alike (legal.orderly.each n entry at).names_undecided in
+        restores_to (full_of d versions) d (base_value c versions) stands.naming (full_is_cut d versions orderly.numbered) (λ key. full_value d versions key orderly.numbered order) entry names (legal.restores n entry at)
 
 -- ---- the other way round
 

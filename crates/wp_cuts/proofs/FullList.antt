@@ -15,10 +15,10 @@ use Rattle.wp_model.specs.Versions.{AreInOrder, version_at}
 use Rattle.wp_model.proofs.Entries.{entry_at_old, undecided_within}
 use Rattle.wp_history.specs.Growth.{AreAscending}
 use Rattle.wp_history.proofs.Growth.{AreNaming}
-use Rattle.wp_cuts.specs.Cut.{Cut, carried_from, carried_of, IsCut, carried_at, is_carried, is_settled, value_in, base_value, front_entry_of, front_entry, full_of}
+use Rattle.wp_cuts.specs.Cut.{Cut, carried_from, carried_of, IsCut, carried_at, is_carried, is_settled, value_in, base_value, is_start, front_entry_of, front_entry, full_of}
 use Rattle.wp_cuts.specs.LegalCut.{AreNumbered}
 use Rattle.wp_cuts.proofs.Decided.{entry_at_behind}
-use Rattle.wp_cuts.proofs.Rows.{is_start, rows, rows_long, rows_at, rows_take, rows_undecided, rows_undone, rows_naming, rows_newest}
+use Rattle.wp_cuts.proofs.Rows.{rows, rows_long, rows_at, rows_take, rows_undecided, rows_undone, rows_naming, rows_newest}
 use Rattle.wp_cuts.proofs.Versions.{changes_to, newest_passing, IsNewestPassing, NonePassing, found_none, found_some}
 
 -- ---- carried prepares by their numbers

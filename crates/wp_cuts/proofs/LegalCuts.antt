@@ -108,10 +108,12 @@ module _ (history : List Entry) (c : Cut) (values : List ℕ → Option (List �
 
   pub cut_is_legal : IsLegalCut c values
   cut_is_legal = record {
-    few = omega (arith, legal.few, entries_long history c cut);
-    numbered = cut_numbered history c cut;
-    apart = are_apart history c legal.each cut;
-    orderly = λ n entry at. orderly_from (take (c.base + n) history) (cut_front c n) entry (legal_naming (take (c.base + n) history) (front_legal n)) (front_cut n entry at) (legal.each (c.base + n) entry (at_entry n entry at)).orderly;
+    orderly = record {
+      few = omega (arith, legal.few, entries_long history c cut);
+      numbered = cut_numbered history c cut;
+      apart = are_apart history c legal.each cut;
+      each = λ n entry at. orderly_from (take (c.base + n) history) (cut_front c n) entry (legal_naming (take (c.base + n) history) (front_legal n)) (front_cut n entry at) (legal.each (c.base + n) entry (at_entry n entry at)).orderly;
+    };
     restores = λ n entry at.
         let after = legal.each (c.base + n) entry (at_entry n entry at) in
         restores_from (take (c.base + n) history) (cut_front c n) values (legal_naming (take (c.base + n) history) (front_legal n)) (front_cut n entry at) (λ key. value_of_front history c n key ∙ same key) entry after.orderly.names_undecided after.restores_prior;

@@ -1,21 +1,21 @@
-mod Alike
-mod Decided
-mod Agreeing
-mod Growing
-mod Rows
-mod Versions
-mod FullList
-mod Standing
-mod Distinct
-mod LegalCuts
-mod FullLegal
-mod Settled
-mod Reopening
-mod Copying
-mod Keeping
-mod UpTo
-mod Fronts
-mod Several
-mod Whole
-mod Members
-mod Staying
+pub mod Alike
+pub mod Decided
+pub mod Agreeing
+pub mod Growing
+pub mod Rows
+pub mod Versions
+pub mod FullList
+pub mod Standing
+pub mod Distinct
+pub mod LegalCuts
+pub mod FullLegal
+pub mod Settled
+pub mod Reopening
+pub mod Copying
+pub mod Keeping
+pub mod UpTo
+pub mod Fronts
+pub mod Several
+pub mod Whole
+pub mod Members
+pub mod Staying

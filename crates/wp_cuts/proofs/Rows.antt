@@ -12,11 +12,7 @@ use Rattle.wp_history.proofs.Undone.{undone_next}
 use Rattle.wp_history.proofs.Following.{follow_none, follow_next}
 use Rattle.wp_history.proofs.Growth.{AreNaming}
 use Rattle.wp_history.proofs.Newest.{newest_next}
-
-abbrev pub is_start : Entry → Bool
-is_start (Write batch) = true
-is_start (Prepare name batch) = true
-is_start other = false
+use Rattle.wp_cuts.specs.Cut.{is_start}
 
 pub start_names : (before : List Entry) (entry : Entry) → is_start entry ≡ true → NamesUndecided before entry
 start_names before (Write batch) is = tt

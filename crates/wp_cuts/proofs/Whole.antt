@@ -27,7 +27,7 @@ undone_over (Commit p) (second ∷ before) last more = undone_over second before
 undone_over (Undo p batch) (second ∷ before) last more = undone_over second before last more
 undone_over (Close p) (second ∷ before) last more = undone_over second before last more
 
-undone_behind : (before more : List Entry) → undone_last before ≡ None → undone_last (before ++ more) ≡ undone_last more
+pub undone_behind : (before more : List Entry) → undone_last before ≡ None → undone_last (before ++ more) ≡ undone_last more
 undone_behind [] more none = refl
 undone_behind (first ∷ before) [] none = ap undone_last (append-nil (first ∷ before)) ∙ none
 undone_behind (first ∷ before) (last ∷ more) none = undone_over first before last more

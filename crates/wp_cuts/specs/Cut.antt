@@ -1,5 +1,5 @@
 -- A history cut at a base, and the full list that stands for a cut and the versions of a store.
-use Rattle.std.specs.Prelude.{◌≡◌, ℕ, ◌≤◌, Bool, ◌==◌, ◌&&◌, not, nat_le, List, ◌++◌, length, map, take, drop, Option, Some, None, is_some}
+use Rattle.std.specs.Prelude.{◌≡◌, ℕ, ◌≤◌, Bool, true, false, ◌==◌, ◌&&◌, not, nat_le, List, ◌++◌, length, map, take, drop, Option, Some, None, is_some}
 use Rattle.std.specs.List.{filter, find, range_with_len}
 use Rattle.std.specs.Str.{bytes_eq}
 use Rattle.wp_model.specs.declared.carried.Carried.{Carried}
@@ -56,6 +56,12 @@ abbrev pub base_value : Cut → List Version → List ℕ → Option (List ℕ)
 base_value c versions key = value_in (find (λ v. bytes_eq v.key key && is_settled c v.number) versions)
 
 -- ---- the full list
+
+-- an entry that may stand up to a base
+abbrev pub is_start : Entry → Bool
+is_start (Write batch) = true
+is_start (Prepare name batch) = true
+is_start other = false
 
 -- the change that makes a version
 abbrev pub change_in : Version → Change

@@ -47,13 +47,16 @@ RestoresBehind c values other = Unit {0}
 
 -- ---- together
 
--- The prepares that it carries fit one another, each entry may follow those before it, and each undo restores what a key
--- had, where the values are those at the base.
-pub record IsLegalCut (c : Cut) (values : List ℕ → Option (List ℕ)) : Type 0 where
+-- The prepares that it carries fit one another, and each entry may follow those before it, but for what an undo restores.
+pub record IsOrderlyCut (c : Cut) : Type 0 where
   pub few : c.base + length c.entries < log_end
   pub numbered : AreNumbered c
   pub apart : AreApart c
-  pub orderly : (n : ℕ) (entry : Entry) → slice_get c.entries n ≡ Some entry → IsOrderlyNext (prepares_of (cut_front c n)) entry
+  pub each : (n : ℕ) (entry : Entry) → slice_get c.entries n ≡ Some entry → IsOrderlyNext (prepares_of (cut_front c n)) entry
+
+-- besides, each undo restores what a key had, where the values are those at the base
+pub record IsLegalCut (c : Cut) (values : List ℕ → Option (List ℕ)) : Type 0 where
+  pub orderly : IsOrderlyCut c
   pub restores : (n : ℕ) (entry : Entry) → slice_get c.entries n ≡ Some entry → RestoresBehind (cut_front c n) values entry
 
 -- a settled version of a carried prepare's key is below that prepare

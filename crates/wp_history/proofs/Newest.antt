@@ -9,10 +9,10 @@ use Rattle.wp_model.specs.declared.entry.Entry.{Entry}
 use Rattle.wp_model.specs.declared.entry.Entry.TheVariants.{Write, Prepare, Commit, Undo, Close}
 use Rattle.wp_model.specs.Batch.{change_to}
 use Rattle.wp_model.specs.History.{changes_of, value_after, newest}
-use Rattle.wp_model.specs.Legal.{IsLegal, IsLegalNext, NamesUndecided}
+use Rattle.wp_model.specs.Legal.{NamesUndecided}
 use Rattle.wp_model.proofs.Entries.{batch_at_old, undecided_within}
 use Rattle.wp_history.proofs.Following.{follow_take, by_following}
-use Rattle.wp_history.proofs.Growth.{AreNaming, legal_naming}
+use Rattle.wp_history.proofs.Growth.{AreNaming}
 
 -- an entry makes the same changes, whatever follows
 pub changes_stay : (history more : List Entry) (entry : Entry) → NamesUndecided history entry → changes_of (history ++ more) entry ≡ changes_of history entry
@@ -55,8 +55,8 @@ newest_next history entry key naming names = one_more (history ++ entry ∷ []) 
 
 -- ---- backwards from an entry
 
-after_at : (history : List Entry) (i : ℕ) (here : Entry) → IsLegal history → i < length history → here ≡ get_or history i here → IsLegalNext (take i history) here
-after_at history i here legal lt is = legal.each i here (slice_get-get_or history i here lt ∙ ap (λ (e : Entry). Some e) (sym is))
+names_at : (history : List Entry) (i : ℕ) (here : Entry) → AreNaming history → i < length history → here ≡ get_or history i here → NamesUndecided (take i history) here
+names_at history i here naming lt is = naming i here (slice_get-get_or history i here lt ∙ ap (λ (e : Entry). Some e) (sym is))
 
 take_next : (history : List Entry) (i : ℕ) (here : Entry) → i < length history → here ≡ get_or history i here → take (i + 1) history ≡ take i history ++ here ∷ []
 take_next history i here lt is = take_more history i here lt ∙ ap (λ (e : Entry). take i history ++ e ∷ []) (sym is)
@@ -65,18 +65,18 @@ changes_here : (history : List Entry) (i : ℕ) (here : Entry) → NamesUndecide
 changes_here history i here names = sym (changes_stay (take i history) (drop i history) here names) ∙ ap (λ (h : List Entry). changes_of h here) (take-append-drop i history)
 
 -- what the first i + 1 entries leave under the key, by what the last of them changes there
-newest_at : (history : List Entry) (key : List ℕ) (i : ℕ) (here : Entry) → IsLegal history → i < length history → here ≡ get_or history i here
+newest_at : (history : List Entry) (key : List ℕ) (i : ℕ) (here : Entry) → AreNaming history → i < length history → here ≡ get_or history i here
     → newest (take (i + 1) history) key ≡ unwrap_or (change_to (changes_of history here) key) (newest (take i history) key)
-newest_at history key i here legal lt is =
-    let after : IsLegalNext (take i history) here = after_at history i here legal lt is in
+newest_at history key i here naming lt is =
+    let names = names_at history i here naming lt is in
     ap (λ (h : List Entry). newest h key) (take_next history i here lt is)
-    ∙ newest_next (take i history) here key (follow_take NamesUndecided i history (legal_naming history legal.each)) after.orderly.names_undecided
-    ∙ ap (λ (changes : List Change). unwrap_or (change_to changes key) (newest (take i history) key)) (changes_here history i here after.orderly.names_undecided)
+    ∙ newest_next (take i history) here key (follow_take NamesUndecided i history naming) names
+    ∙ ap (λ (changes : List Change). unwrap_or (change_to changes key) (newest (take i history) key)) (changes_here history i here names)
 
-pub unchanged_at : (history : List Entry) (key : List ℕ) (i j : ℕ) (here : Entry) → IsLegal history → j ≡ i + 1 → i < length history → here ≡ get_or history i here → change_to (changes_of history here) key ≡ None
+pub unchanged_at : (history : List Entry) (key : List ℕ) (i j : ℕ) (here : Entry) → AreNaming history → j ≡ i + 1 → i < length history → here ≡ get_or history i here → change_to (changes_of history here) key ≡ None
     → newest (take j history) key ≡ newest (take i history) key
-unchanged_at history key i j here legal next lt is unchanged = rw next (newest_at history key i here legal lt is ∙ ap (λ (change : Option (Option (List ℕ))). unwrap_or change (newest (take i history) key)) unchanged)
+unchanged_at history key i j here naming next lt is unchanged = rw next (newest_at history key i here naming lt is ∙ ap (λ (change : Option (Option (List ℕ))). unwrap_or change (newest (take i history) key)) unchanged)
 
-pub changed_at : (history : List Entry) (key : List ℕ) (i j : ℕ) (here : Entry) (value : Option (List ℕ)) → IsLegal history → j ≡ i + 1 → i < length history → here ≡ get_or history i here → Some value ≡ change_to (changes_of history here) key
+pub changed_at : (history : List Entry) (key : List ℕ) (i j : ℕ) (here : Entry) (value : Option (List ℕ)) → AreNaming history → j ≡ i + 1 → i < length history → here ≡ get_or history i here → Some value ≡ change_to (changes_of history here) key
     → newest (take j history) key ≡ value
-changed_at history key i j here value legal next lt is changed = rw next (newest_at history key i here legal lt is ∙ ap (λ (change : Option (Option (List ℕ))). unwrap_or change (newest (take i history) key)) (sym changed))
+changed_at history key i j here value naming next lt is changed = rw next (newest_at history key i here naming lt is ∙ ap (λ (change : Option (Option (List ℕ))). unwrap_or change (newest (take i history) key)) (sym changed))

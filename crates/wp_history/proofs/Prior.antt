@@ -4,7 +4,6 @@ use Rattle.std.specs.Prelude.{◌==◌, nat_le}
 use Rattle.std.specs.declared.cmp.Ordering.TheVariants.{Less, Greater}
 use Rattle.std.specs.Ordering.{is_lt, ordering_reverse}
 use Rattle.std.specs.Cmp.Lexicographic.{pointwise, told_text}
-use Rattle.std.proofs.Math.Seq.{take-length}
 use Rattle.std.proofs.lemmas.Bool.{and_parts, and_from, leb-true}
 use Rattle.std.proofs.lemmas.Cmp.{nat_list_cmp_total}
 use Rattle.std.proofs.lemmas.List.{take_more, take-append-drop, map-append, length-map, length-take-le}
@@ -31,20 +30,17 @@ same_del : (key other : List ℕ) (r : Bool) → r ≡ pointwise ◌==◌ other 
 same_del key other true e = let told : other ≡ key = told_text other key true e in (λ _. ap (λ (k : List ℕ). Del k) told, λ _. refl)
 same_del key other false e = (λ no. absurd cc, λ same. let equal : other ≡ key = cc in absurd (told_text other key false e equal))
 
-newest_whole : (history : List Entry) (key : List ℕ) (n : ℕ) → n ≡ length history → value_at history key n ≡ newest history key
-newest_whole history key n whole = rw (whole, take-length history) refl
-
-pub put_restores : (history : List Entry) (key other value old : List ℕ) (n : ℕ) (change : Change) (r : Bool) → n ≡ length history → Some old ≡ value_at history key n → change ≡ Put other value → true ≡ pointwise ◌==◌ other key → r ≡ pointwise ◌==◌ value old
-    → Same r change (change_that_leaves key (newest history key))
-put_restores history key other value old n change r whole found put keys values =
-    let store : newest history key ≡ Some old = sym (newest_whole history key n whole) ∙ sym found in
+pub put_restores : (history : List Entry) (key other value old : List ℕ) (n : ℕ) (change : Change) (r : Bool) → Some old ≡ value_at history key n → change ≡ Put other value → true ≡ pointwise ◌==◌ other key → r ≡ pointwise ◌==◌ value old
+    → Same r change (change_that_leaves key (value_at history key n))
+put_restores history key other value old n change r found put keys values =
+    let store : value_at history key n ≡ Some old = sym found in
     let key-is : other ≡ key = told_text other key true keys in
     rw (put, store, key-is) (same_put key value old r values)
 
-pub del_restores : (history : List Entry) (key other : List ℕ) (n : ℕ) (change : Change) (r : Bool) → n ≡ length history → None ≡ value_at history key n → change ≡ Del other → r ≡ pointwise ◌==◌ other key
-    → Same r change (change_that_leaves key (newest history key))
-del_restores history key other n change r whole found del keys =
-    let store : newest history key ≡ None = sym (newest_whole history key n whole) ∙ sym found in
+pub del_restores : (history : List Entry) (key other : List ℕ) (n : ℕ) (change : Change) (r : Bool) → None ≡ value_at history key n → change ≡ Del other → r ≡ pointwise ◌==◌ other key
+    → Same r change (change_that_leaves key (value_at history key n))
+del_restores history key other n change r found del keys =
+    let store : value_at history key n ≡ None = sym found in
     rw (del, store) (same_del key other r keys)
 
 -- ---- ascending changes

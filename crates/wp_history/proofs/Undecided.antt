@@ -1,5 +1,5 @@
 -- The undecided prepares of a legal history, and what an entry more makes of them.
-use Rattle.std.proofs.Common.{◌≡◌, ℕ, zero, suc, ◌+◌, ◌^◌, ◌<◌, ◌≤◌, Bool, true, false, ◌&&◌, ◌||◌, not, cond, eqb, List, [], ◌∷◌, ◌++◌, length, Some, refl, sym, ap, ◌∙◌, subst, inl, inr, add-one, arith}
+use Rattle.std.proofs.Common.{◌≡◌, ℕ, zero, suc, ◌+◌, ◌<◌, ◌≤◌, Bool, true, false, ◌&&◌, ◌||◌, not, cond, eqb, List, [], ◌∷◌, ◌++◌, length, Some, refl, sym, ap, ◌∙◌, inl, inr, add-one, arith}
 use Rattle.std.specs.List.{list_any, filter, range_with_len}
 use Rattle.std.proofs.lemmas.Bool.{cases_eq, and_from, or_left, or_right, eqb-true, eq-eqb, ne_eqb, false_from_ne_true}
 use Rattle.std.proofs.lemmas.List.{append-nil}
@@ -11,9 +11,8 @@ use Rattle.wp_model.specs.declared.entry.Entry.TheVariants.{Write, Prepare, Comm
 use Rattle.wp_model.specs.History.{entry_at, is_prepare, decides, is_undecided, undecided}
 use Rattle.wp_model.specs.Legal.{IsLegal, IsLegalNext, NamesUndecided, undone_last}
 use Rattle.wp_history.specs.Growth.{without_decided, undecided_after}
-use Rattle.wp_history.specs.History.{IsLegalWith}
 use Rattle.wp_model.proofs.Entries.{undecided_within, entry_at_old, prepared_within}
-use Rattle.wp_history.proofs.Growth.{entry_at_next, length_next, legal_next, decides_undecided, decided_next, legal_naming, AreNaming, decided_prepared}
+use Rattle.wp_history.proofs.Growth.{entry_at_next, length_next, decides_undecided, decided_next, legal_naming, AreNaming, decided_prepared}
 
 -- ---- numbers in a row
 
@@ -77,20 +76,23 @@ and_true : (b : Bool) → (b && true) ≡ b
 and_true true = refl
 and_true false = refl
 
+at_next : (history : List Entry) (entry : Entry) → AreNaming history → decides (length history + 1) entry ≡ false → is_undecided (history ++ entry ∷ []) (length history + 1) ≡ is_prepare (Some entry)
+at_next history entry naming not_it = rw (entry_at_next history entry, decided_next history entry (length history + 1), never_decided history (length history + 1) naming (omega arith), not_it) (and_true (is_prepare (Some entry)))
+
 pub undecided_at_next : (history : List Entry) (entry : Entry) → IsLegal history → decides (length history + 1) entry ≡ false → is_undecided (history ++ entry ∷ []) (length history + 1) ≡ is_prepare (Some entry)
-undecided_at_next history entry legal not_it = rw (entry_at_next history entry, decided_next history entry (length history + 1), never_decided history (length history + 1) (legal_naming history legal.each) (omega arith), not_it) (and_true (is_prepare (Some entry)))
+undecided_at_next history entry legal not_it = at_next history entry (legal_naming history legal.each) not_it
 
 -- the undecided prepares with an entry more, by the test at each number
-undecided_split : (history : List Entry) (entry : Entry) → IsLegal history → NamesUndecided history entry
+undecided_split : (history : List Entry) (entry : Entry) → AreNaming history → NamesUndecided history entry
     → undecided (history ++ entry ∷ []) ≡ filter (λ k. not (decides k entry)) (undecided history) ++ cond (is_prepare (Some entry)) ((length history + 1) ∷ []) []
-undecided_split history entry legal names =
+undecided_split history entry naming names =
     let next = length history + 1 in
     let test : ℕ → Bool = is_undecided (history ++ entry ∷ []) in
     let numbers : range_with_len 1 (length (history ++ entry ∷ [])) ≡ range_with_len 1 (length history) ++ next ∷ [] =
     ap (range_with_len 1) (length_next history entry) ∙ range_more 1 (length history) ∙ ap (λ (m : ℕ). range_with_len 1 (length history) ++ m ∷ []) (omega arith) in
     let old : filter test (range_with_len 1 (length history)) ≡ filter (λ k. not (decides k entry)) (undecided history) =
     filter_range test (λ k. is_undecided history k && not (decides k entry)) 1 (length history) (λ k le lt. undecided_old history entry k (omega arith)) ∙ filter_both (is_undecided history) (λ k. not (decides k entry)) (range_with_len 1 (length history)) in
-    let last : filter test (next ∷ []) ≡ cond (is_prepare (Some entry)) (next ∷ []) [] = ap (λ (b : Bool). cond b (next ∷ []) []) (undecided_at_next history entry legal (not_decided_by history entry next names (omega arith))) in
+    let last : filter test (next ∷ []) ≡ cond (is_prepare (Some entry)) (next ∷ []) [] = ap (λ (b : Bool). cond b (next ∷ []) []) (at_next history entry naming (not_decided_by history entry next names (omega arith))) in
     ap (filter test) numbers ∙ filter-append test (range_with_len 1 (length history)) (next ∷ []) ∙ ap (λ (xs : List ℕ). xs ++ filter test (next ∷ [])) old ∙ ap (λ (xs : List ℕ). filter (λ k. not (decides k entry)) (undecided history) ++ xs) last
 
 filter_all : (xs : List ℕ) → filter (λ k. true) xs ≡ xs
@@ -107,12 +109,15 @@ without_swapped : (p : ℕ) (xs : List ℕ) → filter (λ k. not (eqb p k)) xs 
 without_swapped p [] = refl
 without_swapped p (x ∷ xs) = rw (eqb_swapped p x, without_swapped p xs) refl
 
+pub undecided_more : (history : List Entry) (entry : Entry) → AreNaming history → NamesUndecided history entry → undecided (history ++ entry ∷ []) ≡ undecided_after (undecided history) (length history + 1) entry
+undecided_more history (Write batch) naming names = undecided_split history (Write batch) naming names ∙ append-nil (filter (λ k. true) (undecided history)) ∙ filter_all (undecided history)
+undecided_more history (Prepare name batch) naming names = undecided_split history (Prepare name batch) naming names ∙ ap (λ (xs : List ℕ). xs ++ (length history + 1) ∷ []) (filter_all (undecided history))
+undecided_more history (Commit p) naming names = undecided_split history (Commit p) naming names ∙ append-nil (filter (λ k. not (eqb p k)) (undecided history)) ∙ without_swapped p (undecided history)
+undecided_more history (Undo p batch) naming names = undecided_split history (Undo p batch) naming names ∙ append-nil (filter (λ k. true) (undecided history)) ∙ filter_all (undecided history)
+undecided_more history (Close p) naming names = undecided_split history (Close p) naming names ∙ append-nil (filter (λ k. not (eqb p k)) (undecided history)) ∙ without_swapped p (undecided history)
+
 pub undecided_next : (history : List Entry) (entry : Entry) → IsLegal history → NamesUndecided history entry → undecided (history ++ entry ∷ []) ≡ undecided_after (undecided history) (length history + 1) entry
-undecided_next history (Write batch) legal names = undecided_split history (Write batch) legal names ∙ append-nil (filter (λ k. true) (undecided history)) ∙ filter_all (undecided history)
-undecided_next history (Prepare name batch) legal names = undecided_split history (Prepare name batch) legal names ∙ ap (λ (xs : List ℕ). xs ++ (length history + 1) ∷ []) (filter_all (undecided history))
-undecided_next history (Commit p) legal names = undecided_split history (Commit p) legal names ∙ append-nil (filter (λ k. not (eqb p k)) (undecided history)) ∙ without_swapped p (undecided history)
-undecided_next history (Undo p batch) legal names = undecided_split history (Undo p batch) legal names ∙ append-nil (filter (λ k. true) (undecided history)) ∙ filter_all (undecided history)
-undecided_next history (Close p) legal names = undecided_split history (Close p) legal names ∙ append-nil (filter (λ k. not (eqb p k)) (undecided history)) ∙ without_swapped p (undecided history)
+undecided_next history entry legal names = undecided_more history entry (legal_naming history legal.each) names
 
 -- ---- an undo and its close
 
@@ -131,15 +136,3 @@ close_follows history p batch after = record {
   };
   restores_prior = tt;
 }
-
--- ---- the numbers that are kept
-
-pub grows_with : (history old : List Entry) (numbers : List ℕ) (entry : Entry) (n : ℕ) (grown : List Entry) (left : List ℕ)
-    → IsLegalWith history numbers → history ≡ old → IsLegalNext old entry → n ≡ length old → length old + 1 < 2 ^ 32
-    → grown ≡ history ++ entry ∷ [] → left ≡ undecided_after numbers (n + 1) entry → IsLegalWith grown left
-grows_with history old numbers entry n grown left kept same after number few grown-is left-is =
-    let kept_old : IsLegalWith old numbers = subst (λ (h : List Entry). IsLegalWith h numbers) same kept in
-    record {
-      legal = rw (grown-is, same) (legal_next old entry kept_old.legal after few);
-      numbered = rw (left-is, grown-is, same, kept_old.numbered, number) (sym (undecided_next old entry kept_old.legal after.orderly.names_undecided));
-    }

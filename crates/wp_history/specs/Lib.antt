@@ -1,4 +1,3 @@
-pub mod History
 pub mod Growth
 pub mod Prepares
 pub mod Opened

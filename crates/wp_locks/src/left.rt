@@ -11,7 +11,7 @@ ghost use Rattle.wp_locks.specs.Locks.{Joins};
 
 use std::alloc::{AllocError, Global};
 use std::collections::BTreeMap;
-use wp_history::History;
+use wp_ledger::History;
 use wp_model::{Batch, Change, Holder, Key, Name};
 
 /// The name, had by nobody.

@@ -11,7 +11,7 @@ use crate::left::{keys_of, names_of};
 use std::alloc::{AllocError, Global};
 use std::collections::BTreeMap;
 use std::marker::Model;
-use wp_history::History;
+use wp_ledger::History;
 use wp_model::{Change, Holder, Key, Name, Seq};
 
 /// The live names, the held keys and the board, which the holder of the locks turn changes.

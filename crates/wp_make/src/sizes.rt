@@ -7,7 +7,7 @@ ghost use Rattle.wp_model.specs.History.{newest};
 ghost use Rattle.wp_make.specs.Totals.{keys_in, has_key, with_key, keys_of, size_of, store_of};
 
 use std::alloc::{AllocError, Global};
-use wp_history::History;
+use wp_ledger::History;
 use wp_model::{Change, Entry, Key, Value};
 
 /// How many keys have a value, and how many bytes they and their values have together.
@@ -95,11 +95,12 @@ fn bytes_of(history: &History, keys: &[Key]) -> Result<u64, AllocError>
     Ok(bytes)
 }
 
-/// How much the history leaves.
+/// How much the history leaves, which has all of its entries in memory.
 pub fn store_of(alloc: Global, history: &History) -> Result<Sizes, AllocError>
+    requires { history.now.base ≡ 0 }
     ensures { IfOk result (λ sizes. sizes ≡ store_of history.now.entries) }
 {
-    let keys = keys_of(alloc, history.entries())?;
+    let keys = keys_of(alloc, history.later())?;
     Ok(Sizes {
         keys: held_of(history, &keys),
         bytes: bytes_of(history, &keys)?,

@@ -4,7 +4,7 @@ ghost use Rattle.wp_make.specs.Summary as text;
 use crate::kind::{Kind, count_of};
 use crate::sizes::{Sizes, store_of};
 use std::alloc::{AllocError, Global};
-use wp_history::History;
+use wp_ledger::History;
 use wp_text::{Reply, end_line};
 
 fn made_line(
@@ -60,6 +60,7 @@ pub fn summary(
     sessions: &[&[Reply]],
     history: &History,
 ) -> Result<Vec<u8>, AllocError>
+    requires { history.now.base ≡ 0 }
     ensures { IfOk result (λ out. out.items ≡ text.summary_of seed clients lines (map (λ replies. replies.now) sessions.now) history.now.entries) }
 {
     let mut out = Vec::new(alloc);

@@ -1,0 +1,18 @@
+use Rattle.wp_ledger.proofs.Judged.{has_base_values, is_kept, is_illegal}
+use Rattle.wp_ledger.proofs.history.History.from_outline.Goals as goal
+
+pub first_wrong-requires : goal.first_wrong-requires
+first_wrong-requires c =
+    let made = c.with_versions-outline.ensures in
+    has_base_values _ _ c.args.versions.value _ made.whole made.cut c.requires.order c.requires.below c.requires.store
+
+pub invariant_of-result : goal.invariant_of-result
+invariant_of-result c =
+    let made = c.with_versions-outline.ensures in
+    is_kept _ _ c.args.versions.value _ made.whole made.cut c.requires.order c.requires.below c.in-None.ensures.none
+    (has_base_values _ _ c.args.versions.value _ made.whole made.cut c.requires.order c.requires.below c.requires.store)
+
+pub returns-in-Some-clause-illegal : goal.returns-in-Some-clause-illegal
+returns-in-Some-clause-illegal c =
+    let made = c.with_versions-outline.ensures in
+    is_illegal _ _ c.args.versions.value c.args.store made.whole made.cut c.requires.order c.requires.below _ c.in-Some.ensures.some
