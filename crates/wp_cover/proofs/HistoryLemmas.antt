@@ -8,6 +8,7 @@ use Rattle.wp_model.specs.declared.entry.Entry.{Entry}
 use Rattle.wp_model.specs.Batch.{change_to}
 use Rattle.wp_model.specs.History.{entry_at, decides, changes_of, newest, value_at}
 use Rattle.wp_model.specs.Legal.{IsLegal}
+use Rattle.wp_history.proofs.Growth.{legal_naming}
 use Rattle.wp_history.proofs.Newest.{changed_at, unchanged_at}
 use Rattle.wp_cover.specs.Decisions.{decider_of}
 
@@ -45,8 +46,8 @@ pub value_more : (history : List Entry) (key : List ℕ) (i : ℕ) (here : Entry
 value_more history key i here legal lt is = by (change_to (changes_of history here) key) refl
   where
     by : (c : Option (Option (List ℕ))) → change_to (changes_of history here) key ≡ c → newest (take (i + 1) history) key ≡ unwrap_or c (newest (take i history) key)
-    by None e = unchanged_at history key i (i + 1) here legal refl lt is e
-    by (Some value) e = changed_at history key i (i + 1) here value legal refl lt is (sym e)
+    by None e = unchanged_at history key i (i + 1) here (legal_naming history legal.each) refl lt is e
+    by (Some value) e = changed_at history key i (i + 1) here value (legal_naming history legal.each) refl lt is (sym e)
 
 -- ---- the last entry
 

@@ -1,3 +1,4 @@
+pub mod Based
 mod HistoryLemmas
 pub mod Order
 pub mod Places

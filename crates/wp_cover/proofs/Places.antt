@@ -99,7 +99,7 @@ each_at n (entry ∷ others) key zero p is =
     ∙ or_none (change_to (changes_in entry) key)
 each_at n (entry ∷ others) key (suc i) p is = behind_first n entry others key p (λ same. absurd (omega (arith, same, is))) ∙ each_at (suc n) others key i p (omega (arith, is))
 
-get_dropped : (history : List Entry) (n i : ℕ) → slice_get (drop n history) i ≡ slice_get history (n + i)
+pub get_dropped : (history : List Entry) (n i : ℕ) → slice_get (drop n history) i ≡ slice_get history (n + i)
 get_dropped history zero i = ap (slice_get history) (let e : i ≡ 0 + i = omega arith in e)
 get_dropped [] (suc n) i = refl
 get_dropped (entry ∷ others) (suc n) i = get_dropped others n i ∙ ap (slice_get (entry ∷ others)) (let e : suc (n + i) ≡ suc n + i = omega arith in e)

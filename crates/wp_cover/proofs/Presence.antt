@@ -24,6 +24,8 @@ use Rattle.wp_history.proofs.Undecided.{is_undecided_by_list}
 use Rattle.wp_history.proofs.Undone.{undone_at_last}
 use Rattle.std.specs.Option.{option_or}
 use Rattle.wp_model.specs.Flushed.{later_versions}
+use Rattle.wp_ledger.specs.History.{RoomyHistory}
+use Rattle.wp_cover.specs.Sources.{is_settled, AreSettled}
 use Rattle.wp_cover.specs.Present.{ArePart, AreParts, AreAllPart, HasChanges, HasBatches, HasUndone, restored}
 use Rattle.wp_cover.proofs.HistoryLemmas.{entry_at_last}
 use Rattle.wp_model.proofs.BatchLemmas.{less_from_test, ascending_rest}
@@ -33,18 +35,30 @@ use Rattle.wp_cover.proofs.Places.{at_all, none_later, own_later}
 
 -- ---- each is that of its entry
 
-module _ (history : List Entry) where
-  part_at : (vs : List Version) → ArePart history vs → (key : List ℕ) (p : ℕ) (value : Option (List ℕ)) → version_at vs key p ≡ Some value → entry_version history p key ≡ Some value
+module _ (h : RoomyHistory) where
+  abbrev history : List Entry
+  history = h.entries
+
+  -- the number is settled, or the history has this version there
+  abbrev IsOwnAt : List ℕ → ℕ → Option (List ℕ) → Type 0
+  IsOwnAt key p value = (is_settled h p ≡ true) ⊎ (entry_version history p key ≡ Some value)
+
+  part_at : (vs : List Version) → ArePart h vs → (key : List ℕ) (p : ℕ) (value : Option (List ℕ)) → version_at vs key p ≡ Some value → IsOwnAt key p value
   part_at [] part key p value e = absurd cc
   part_at (v ∷ vs) part key p value e = by (is_here key p v) refl e (part_at vs part.1 key p value)
     where
-      by : (b : Bool) → is_here key p v ≡ b → cond b (Some v.value) (version_at vs key p) ≡ Some value → (version_at vs key p ≡ Some value → entry_version history p key ≡ Some value) → entry_version history p key ≡ Some value
+      by : (b : Bool) → is_here key p v ≡ b → cond b (Some v.value) (version_at vs key p) ≡ Some value → (version_at vs key p ≡ Some value → IsOwnAt key p value) → IsOwnAt key p value
       by false here is rest = rest is
-      by true here is rest = let at = at_here key p v here in (λ i. entry_version history (sym at.number_is i) (sym at.key_is i)) ∙ part.0 ∙ is
+      by true here is rest =
+          let at = at_here key p v here in
+          elim part.0 [
+            | inl settled ↦ inl (ap (is_settled h) (sym at.number_is) ∙ settled)
+            | inr own ↦ inr ((λ i. entry_version history (sym at.number_is i) (sym at.key_is i)) ∙ own ∙ is)
+          ]
 
-  part_from : (vs : List Version) → AreInOrder vs → ((key : List ℕ) (p : ℕ) (value : Option (List ℕ)) → version_at vs key p ≡ Some value → entry_version history p key ≡ Some value) → ArePart history vs
+  part_from : (vs : List Version) → AreInOrder vs → ((key : List ℕ) (p : ℕ) (value : Option (List ℕ)) → version_at vs key p ≡ Some value → entry_version history p key ≡ Some value) → ArePart h vs
   part_from [] order every = tt
-  part_from (v ∷ vs) order every = let parts = in_order_parts v vs order in (every v.key v.number v.value (ap (λ b. cond b (Some v.value) (version_at vs v.key v.number)) (here_itself v)), part_from vs parts.1 (λ key p value e. every key p value (behind key p value (is_here key p v) refl e)))
+  part_from (v ∷ vs) order every = let parts = in_order_parts v vs order in (inr (every v.key v.number v.value (ap (λ b. cond b (Some v.value) (version_at vs v.key v.number)) (here_itself v))), part_from vs parts.1 (λ key p value e. every key p value (behind key p value (is_here key p v) refl e)))
     where
       behind : (key : List ℕ) (p : ℕ) (value : Option (List ℕ)) (b : Bool) → is_here key p v ≡ b → version_at vs key p ≡ Some value → cond b (Some v.value) (version_at vs key p) ≡ Some value
       behind key p value false here e = e
@@ -55,77 +69,88 @@ module _ (history : List Entry) where
 
 -- ---- each that counts is that of its entry
 
-module _ (history : List Entry) (all : List Version) where
+module _ (h : RoomyHistory) (all : List Version) where
   -- under the places of these versions something counts
   abbrev pub AreWithin : List Version → Type 0
   AreWithin vs = (key : List ℕ) (p : ℕ) (value : Option (List ℕ)) → version_at vs key p ≡ Some value → (w : Option (List ℕ)) × (version_at all key p ≡ Some w)
 
-  parts_at : (vs : List Version) → AreParts history all vs → (key : List ℕ) (p : ℕ) (value : Option (List ℕ)) → version_at vs key p ≡ Some value → (entry_version history p key ≡ Some value) ⊎ (entry_version history p key ≡ version_at all key p)
+  abbrev IsPartAt : List ℕ → ℕ → Option (List ℕ) → Type 0
+  IsPartAt key p value = IsOwnAt h key p value ⊎ (entry_version h.entries p key ≡ version_at all key p)
+
+  parts_at : (vs : List Version) → AreParts h all vs → (key : List ℕ) (p : ℕ) (value : Option (List ℕ)) → version_at vs key p ≡ Some value → IsPartAt key p value
   parts_at [] parts key p value e = absurd cc
   parts_at (v ∷ vs) parts key p value e = by (is_here key p v) refl e (parts_at vs parts.1 key p value)
     where
-      by : (b : Bool) → is_here key p v ≡ b → cond b (Some v.value) (version_at vs key p) ≡ Some value → (version_at vs key p ≡ Some value → (entry_version history p key ≡ Some value) ⊎ (entry_version history p key ≡ version_at all key p)) → (entry_version history p key ≡ Some value) ⊎ (entry_version history p key ≡ version_at all key p)
+      by : (b : Bool) → is_here key p v ≡ b → cond b (Some v.value) (version_at vs key p) ≡ Some value → (version_at vs key p ≡ Some value → IsPartAt key p value) → IsPartAt key p value
       by false here is rest = rest is
       by true here is rest =
           let at = at_here key p v here in
           elim parts.0 [
-            | inl own ↦ inl ((λ i. entry_version history (sym at.number_is i) (sym at.key_is i)) ∙ own ∙ is)
-            | inr same ↦ inr ((λ i. entry_version history (sym at.number_is i) (sym at.key_is i)) ∙ same ∙ (λ i. version_at all (at.key_is i) (at.number_is i)))
+            | inl (inl settled) ↦ inl (inl (ap (is_settled h) (sym at.number_is) ∙ settled))
+            | inl (inr own) ↦ inl (inr ((λ i. entry_version h.entries (sym at.number_is i) (sym at.key_is i)) ∙ own ∙ is))
+            | inr same ↦ inr ((λ i. entry_version h.entries (sym at.number_is i) (sym at.key_is i)) ∙ same ∙ (λ i. version_at all (at.key_is i) (at.number_is i)))
           ]
 
-  parts_from : (vs : List Version) → AreWithin vs → AreAllPart history all → AreParts history all vs
+  parts_from : (vs : List Version) → AreWithin vs → AreAllPart h.entries all → AreParts h all vs
   parts_from [] within every = tt
   parts_from (v ∷ vs) within every = (inr (first (within v.key v.number v.value (ap (λ b. cond b (Some v.value) (version_at vs v.key v.number)) (here_itself v)))), parts_from vs (λ key p value e. behind key p value (is_here key p v) refl e) every)
     where
-      first : ((w : Option (List ℕ)) × (version_at all v.key v.number ≡ Some w)) → entry_version history v.number v.key ≡ version_at all v.key v.number
+      first : ((w : Option (List ℕ)) × (version_at all v.key v.number ≡ Some w)) → entry_version h.entries v.number v.key ≡ version_at all v.key v.number
       first k = every v.key v.number k.0 k.1 ∙ sym k.1
 
       behind : (key : List ℕ) (p : ℕ) (value : Option (List ℕ)) (b : Bool) → is_here key p v ≡ b → version_at vs key p ≡ Some value → (w : Option (List ℕ)) × (version_at all key p ≡ Some w)
       behind key p value false here e = within key p value (ap (λ b. cond b (Some v.value) (version_at vs key p)) here ∙ e)
       behind key p value true here e = within key p v.value (ap (λ b. cond b (Some v.value) (version_at vs key p)) here)
 
-  pub parts_both : (xs ys : List Version) → AreParts history all xs → AreParts history all ys → AreParts history all (xs ++ ys)
+  pub parts_both : (xs ys : List Version) → AreParts h all xs → AreParts h all ys → AreParts h all (xs ++ ys)
   parts_both [] ys first second = second
   parts_both (x ∷ xs) ys first second = (first.0, parts_both xs ys first.1 second)
 
-  pub parts_split : (xs ys : List Version) → AreParts history all (xs ++ ys) → AreParts history all xs × AreParts history all ys
+  pub parts_split : (xs ys : List Version) → AreParts h all (xs ++ ys) → AreParts h all xs × AreParts h all ys
   parts_split [] ys parts = (tt, parts)
   parts_split (x ∷ xs) ys parts = let rest = parts_split xs ys parts.1 in ((parts.0, rest.0), rest.1)
 
 -- those of a list, of tables, and of the entries above a number
-module _ (history : List Entry) (list stored : List Version) (flushed : ℕ) where
-  abbrev all : List Version
-  all = list ++ (stored ++ later_versions history flushed)
+module _ (h : RoomyHistory) (list stored : List Version) (flushed : ℕ) where
+  abbrev entries : List Entry
+  entries = h.entries
 
-  later_is : (key : List ℕ) (p : ℕ) (value : Option (List ℕ)) → version_at (later_versions history flushed) key p ≡ Some value → entry_version history p key ≡ Some value
+  abbrev all : List Version
+  all = list ++ (stored ++ later_versions entries flushed)
+
+  later_is : (key : List ℕ) (p : ℕ) (value : Option (List ℕ)) → version_at (later_versions entries flushed) key p ≡ Some value → entry_version entries p key ≡ Some value
   later_is key p value e = elim (cases_lt flushed p) [
-    | inl above ↦ sym (own_later history flushed key p above) ∙ e
-    | inr low ↦ let none = none_later history flushed key p low in absurd cc
+    | inl above ↦ sym (own_later entries flushed key p above) ∙ e
+    | inr low ↦ let none = none_later entries flushed key p low in absurd cc
   ]
 
-  pub all_part : ArePart history list → AreParts history all stored → AreAllPart history all
-  all_part first second key p value e = by (version_at list key p) refl (version_at stored key p) refl (sym (at_all history list stored flushed key p) ∙ e)
+  pub all_part : AreSettled h all → ArePart h list → AreParts h all stored → AreAllPart entries all
+  all_part settled first second key p value e = by (version_at list key p) refl (version_at stored key p) refl (sym (at_all entries list stored flushed key p) ∙ e)
     where
-      by : (a : Option (Option (List ℕ))) → version_at list key p ≡ a → (b : Option (Option (List ℕ))) → version_at stored key p ≡ b → option_or a (option_or b (version_at (later_versions history flushed) key p)) ≡ Some value → entry_version history p key ≡ Some value
-      by (Some v) here b there is = part_at history list first key p v here ∙ is
-      by None here (Some v) there is = elim (parts_at history all stored second key p v there) [
-        | inl own ↦ own ∙ is
+      by : (a : Option (Option (List ℕ))) → version_at list key p ≡ a → (b : Option (Option (List ℕ))) → version_at stored key p ≡ b → option_or a (option_or b (version_at (later_versions entries flushed) key p)) ≡ Some value → entry_version entries p key ≡ Some value
+      by (Some v) here b there is = elim (part_at h list first key p v here) [
+        | inl up ↦ settled key p value up e
+        | inr own ↦ own ∙ is
+      ]
+      by None here (Some v) there is = elim (parts_at h all stored second key p v there) [
+        | inl (inl up) ↦ settled key p value up e
+        | inl (inr own) ↦ own ∙ is
         | inr same ↦ same ∙ e
       ]
       by None here None there is = later_is key p value is
 
-  pub list_part : AreInOrder list → AreAllPart history all → ArePart history list
-  list_part order every = part_from history list order (λ key p value e. every key p value (at_all history list stored flushed key p ∙ ap (λ (o : Option (Option (List ℕ))). option_or o (option_or (version_at stored key p) (version_at (later_versions history flushed) key p))) e))
+  pub list_part : AreInOrder list → AreAllPart entries all → ArePart h list
+  list_part order every = part_from h list order (λ key p value e. every key p value (at_all entries list stored flushed key p ∙ ap (λ (o : Option (Option (List ℕ))). option_or o (option_or (version_at stored key p) (version_at (later_versions entries flushed) key p))) e))
 
-  pub stored_part : AreAllPart history all → AreParts history all stored
-  stored_part every = parts_from history all stored within every
+  pub stored_part : AreAllPart entries all → AreParts h all stored
+  stored_part every = parts_from h all stored within every
     where
-      within : AreWithin history all stored
+      within : AreWithin h all stored
       within key p value e = by (version_at list key p) refl
         where
           by : (a : Option (Option (List ℕ))) → version_at list key p ≡ a → (w : Option (List ℕ)) × (version_at all key p ≡ Some w)
-          by (Some v) here = (v, at_all history list stored flushed key p ∙ ap (λ (o : Option (Option (List ℕ))). option_or o (option_or (version_at stored key p) (version_at (later_versions history flushed) key p))) here)
-          by None here = (value, at_all history list stored flushed key p ∙ (λ i. option_or (here i) (option_or (e i) (version_at (later_versions history flushed) key p))))
+          by (Some v) here = (v, at_all entries list stored flushed key p ∙ ap (λ (o : Option (Option (List ℕ))). option_or o (option_or (version_at stored key p) (version_at (later_versions entries flushed) key p))) here)
+          by None here = (value, at_all entries list stored flushed key p ∙ (λ i. option_or (here i) (option_or (e i) (version_at (later_versions entries flushed) key p))))
 
 -- ---- what changes say
 
@@ -244,7 +269,7 @@ module _ (history : List Entry) (versions : List Version) where
   ends_undone (Undo q other) batch r at e has = let same : batch ≡ other = cc in ends_with q other r at (subst (λ (changes : List Change). Decides r (HasChanges versions (length history) changes)) same has)
   ends_undone (Close p) batch r at e has = absurd cc
 
-  nothing_undone : undone_last history ≡ None → Decides true (HasUndone history versions)
+  pub nothing_undone : undone_last history ≡ None → Decides true (HasUndone history versions)
   nothing_undone none = (λ _ key p value undone e. absurd cc, λ _. refl)
 
   by_none : (entry : Entry) → None ≡ restored entry → undone_by entry ≡ None
@@ -254,5 +279,5 @@ module _ (history : List Entry) (versions : List Version) where
   by_none (Undo p batch) e = absurd cc
   by_none (Close p) e = refl
 
-  pub ends_otherwise : (entry : Entry) → slice_get history (length history - 1) ≡ Some entry → None ≡ restored entry → Decides true (HasUndone history versions)
-  ends_otherwise entry at e = nothing_undone (sym (undone_at_last history entry at) ∙ by_none entry e)
+  pub ends_otherwise : (entry : Entry) → undone_by entry ≡ undone_last history → None ≡ restored entry → Decides true (HasUndone history versions)
+  ends_otherwise entry last e = nothing_undone (sym last ∙ by_none entry e)

@@ -1,6 +1,6 @@
 -- What is left under keys, and when two maps have the same.
-use Rattle.std.proofs.Common.{◌≡◌, ℕ, suc, ◌+◌, ◌<◌, Bool, true, false, ◌&&◌, cond, min, List, [], ◌∷◌, ◌++◌, length, map, get_or, take, drop, drop-cons, Bor, Option, Some, None, Less, Equal, Greater, refl, sym, ap, ◌∙◌, subst, arith}
-use Rattle.std.specs.Prelude.{unwrap_or}
+use Rattle.std.proofs.Common.{◌≡◌, ℕ, suc, ◌+◌, ◌-◌, ◌<◌, ◌≤◌, Bool, true, false, ◌&&◌, cond, min, List, [], ◌∷◌, ◌++◌, length, map, get_or, take, drop, drop-cons, Bor, Option, Some, None, Less, Equal, Greater, refl, sym, ap, ◌∙◌, subst, inl, inr, arith}
+use Rattle.std.specs.Prelude.{unwrap_or, is_some}
 use Rattle.std.specs.List.{AllByRecursion}
 use Rattle.std.specs.List.Sorted.{IsStrictlySortedBy}
 use Rattle.std.specs.Option.{option_or, option_copied}
@@ -12,22 +12,25 @@ use Rattle.std.specs.Cmp.Lexicographic.{pointwise}
 use Rattle.std.specs.Ordering.{nat_cmp, is_eq, eq_by_cmp, ordering_reverse}
 use Rattle.std.specs.Map.{lookup, keys_of}
 use Rattle.std.specs.BTreeMap.{BTreeMap, IsOrdered, UpdatesBy, is_at, get}
-use Rattle.std.proofs.lemmas.Bool.{and_parts, and_from}
+use Rattle.std.proofs.lemmas.Bool.{and_parts, and_from, cases_lt}
 use Rattle.std.proofs.lemmas.Cmp.{nat_list_cmp_total}
-use Rattle.std.proofs.lemmas.List.{take_more, length-take-le, length-take, get_or-take}
+use Rattle.std.proofs.lemmas.List.{take_all, take_more, length-take-le, length-take, get_or-take}
 use Rattle.std.proofs.lemmas.Map.{lookup-none}
 use Rattle.std.proofs.lemmas.Map.Keys.{sorted_tail, IsDistinct-from_sorted}
 use Rattle.std.proofs.lemmas.Map.Entries.{lookup_head, lookup_tail, none_past_head, none_below_head}
 use Rattle.std.proofs.lemmas.Map.Lookups.{exact_bytes}
-use Rattle.std.proofs.lemmas.Map.Text.{btree_map_updates_str}
+use Rattle.std.proofs.lemmas.Map.Text.{is_eq-slice_cmp, btree_map_updates_str}
 use Rattle.std.proofs.lemmas.Slice.Eq.{bytes_eq-Decides, slice_eq-Decides}
 use Rattle.wp_model.specs.declared.change.Change.{Change}
 use Rattle.wp_model.specs.declared.entry.Entry.{Entry}
 use Rattle.wp_model.specs.Batch.{key_cmp, key_of, value_of, change_to}
-use Rattle.wp_model.specs.History.{changes_of, value_at, decides}
+use Rattle.wp_model.specs.History.{changes_of, newest, value_at, decides}
 use Rattle.wp_model.specs.Legal.{IsLegal}
+use Rattle.wp_ledger.specs.History as ledger
+use Rattle.wp_ledger.proofs.Full.{later_at}
 use Rattle.wp_cover.specs.Decisions.{decider_of, HasDeciders}
 use Rattle.wp_cover.specs.Store.{Store, IsStore, Leaves, LeavesChanges, under}
+use Rattle.wp_cover.proofs.Based.{behind_long}
 use Rattle.wp_cover.proofs.HistoryLemmas.{decider_next, value_more}
 
 -- ---- one key more
@@ -87,25 +90,44 @@ pub store_more : (history : List Entry) (i : ℕ) (here : Entry) (changes : List
 store_more history i here changes store new legal lt is its had left =
     as_values _ _ new (λ key. ap (λ (cs : List Change). unwrap_or (change_to cs key) (value_at history key i)) its ∙ sym (value_more history key i here legal lt is)) (left _ had)
 
--- the same over the first m of the entries
-pub store_next : (history first : List Entry) (m i : ℕ) (here : Entry) (changes : List Change) (store new : Store) → IsLegal history → first ≡ take m history → i < length first → here ≡ get_or first i here → changes ≡ changes_of history here → IsStore (λ key. value_at history key i) store → LeavesChanges changes store new → IsStore (λ key. value_at history key (i + 1)) new
-store_next history first m i here changes store new legal front lt is its had left =
-    let long : length first ≡ min m (length history) = ap (λ (h : List Entry). length h) front ∙ length-take m history in
-    let same : here ≡ get_or history i here = is ∙ ap (λ (h : List Entry). get_or h i here) front ∙ get_or-take m history i here (omega arith) in
-    store_more history i here changes store new legal (omega arith) same its had left
+-- the same over the first m of the entries behind a base
+pub store_behind : (history later first : List Entry) (base m i : ℕ) (here : Entry) (changes : List Change) (store new : Store) → IsLegal history → later ≡ drop base history → base ≤ length history → first ≡ take m later → i < length first → here ≡ get_or first i here → changes ≡ changes_of history here
+    → IsStore (λ key. value_at history key (base + i)) store → LeavesChanges changes store new → IsStore (λ key. value_at history key (base + (i + 1))) new
+store_behind history later first base m i here changes store new legal behind within front lt is its had left =
+    let few : length first ≡ min m (length later) = ap (λ (h : List Entry). length h) front ∙ length-take m later in
+    let long = behind_long history later base behind in
+    let there : here ≡ get_or later i here = is ∙ ap (λ (h : List Entry). get_or h i here) front ∙ get_or-take m later i here (omega arith) in
+    let same : here ≡ get_or history (base + i) here = later_at history base i later here behind there in
+    subst (λ (n : ℕ). IsStore (λ key. value_at history key n) new) (let e : base + i + 1 ≡ base + (i + 1) = omega arith in e)
+    (store_more history (base + i) here changes store new legal (omega (arith, long, within)) same its had left)
+
+-- all of them, up to the number, or to the last
+pub store_whole : (history first later : List Entry) (base n last i : ℕ) (store : Store) → base ≤ n → base ≤ length history → later ≡ drop base history → last ≡ min n (length history) → first ≡ take (last - base) later → i ≡ length first
+    → IsStore (λ key. value_at history key (base + i)) store → IsStore (λ key. value_at history key n) store
+store_whole history first later base n last i store from within behind is front at had =
+    let long = behind_long history later base behind in
+    let few : length first ≡ min (last - base) (length later) = ap (λ (h : List Entry). length h) front ∙ length-take (last - base) later in
+    elim (cases_lt (length history) n) [
+      | inl past ↦
+          let end : base + i ≡ length history = omega (arith, few, long, is, past, within, at) in
+          as_values _ _ store (λ key. ap (λ (m : ℕ). value_at history key m) end ∙ ap (λ (h : List Entry). newest h key) (take_all (length history) history (omega arith) ∙ sym (take_all n history (omega (arith, past))))) had
+      | inr le ↦
+          let end : base + i ≡ n = omega (arith, few, long, is, le, from, at) in
+          subst (λ (m : ℕ). IsStore (λ key. value_at history key m) store) end had
+    ]
 
 -- ---- two maps, by the entries that they borrow
 
-abbrev Pair : Type 0
+abbrev pub Pair : Type 0
 Pair = Bor (List ℕ) × Bor (List ℕ)
 
-abbrev Seen : Type 0
+abbrev pub Seen : Type 0
 Seen = List ℕ × List ℕ
 
 abbrev see : Pair → Seen
 see e = (e.0.now, e.1.now)
 
-abbrev find : List Seen → List ℕ → Option (List ℕ)
+abbrev pub find : List Seen → List ℕ → Option (List ℕ)
 find es q = lookup (is_at (key_cmp q)) es
 
 seen_get : (es : List Pair) (key : List ℕ) → find (map see es) key ≡ option_copied (lookup (is_at (λ (k : Bor (List ℕ)). key_cmp key k.now)) es)
@@ -137,7 +159,7 @@ pairs_decide p q = (
 
 -- ---- keys in order: equal look-ups give equal entries
 
-abbrev AreOrdered : List Seen → Type 0
+abbrev pub AreOrdered : List Seen → Type 0
 AreOrdered es = IsStrictlySortedBy key_cmp (keys_of es)
 
 some_none : (v : List ℕ) → Some v ≡ None → ⊥
@@ -188,6 +210,70 @@ same_stores f g a b r first second e =
           (λ key. seen_get a.entries key ∙ first.each key ∙ same key ∙ sym (second.each key) ∙ sym (seen_get b.entries key))),
     )
 
+-- ---- a map that is copied, key by key
+
+bytes_back : (a b : List ℕ) → bytes_eq a b ≡ bytes_eq b a
+bytes_back a b = sym (is_eq-slice_cmp a b) ∙ (eq_by_cmp_equiv nat_list_cmp_total).symm a b ∙ is_eq-slice_cmp b a
+
+at_bytes : (key k : List ℕ) → is_at (key_cmp key) k ≡ bytes_eq k key
+at_bytes key k = is_eq-slice_cmp key k ∙ bytes_back key k
+
+-- what the values are, but for the keys that are left
+abbrev pub but_left : List Seen → (List ℕ → Option (List ℕ)) → List ℕ → Option (List ℕ)
+but_left left values key = cond (is_some (find left key)) None (values key)
+
+-- what is left has these values, under keys in order
+pub record AreLeft (left : List Seen) (values : List ℕ → Option (List ℕ)) : Type 0 where
+  pub ordered : AreOrdered left
+  pub each : (key value : List ℕ) → find left key ≡ Some value → values key ≡ Some value
+
+module _ (values : List ℕ → Option (List ℕ)) where
+  pub all_left : (base : BTreeMap (List ℕ) (List ℕ)) (left : List Seen) → ledger.IsStore values base → left ≡ base.entries → AreLeft left values
+  all_left base left had is = subst (λ (es : List Seen). AreLeft es values) (sym is) (record { ordered = had.ordered; each = λ key value found. sym (had.each key) ∙ found })
+
+  pub none_copied : (base : BTreeMap (List ℕ) (List ℕ)) (left : List Seen) (store : Store) → ledger.IsStore values base → left ≡ base.entries → store.entries ≡ [] → IsStore (but_left left values) store
+  none_copied base left store had is none = subst (λ (es : List Seen). IsStore (but_left es values) store) (sym is) (as_values _ _ store (λ key. nothing key (find base.entries key) refl) (none_left store none))
+    where
+      nothing : (key : List ℕ) (o : Option (List ℕ)) → find base.entries key ≡ o → None ≡ cond (is_some (find base.entries key)) None (values key)
+      nothing key None e = sym (ap (λ (b : Bool). cond b None (values key)) (ap is_some e) ∙ sym (had.each key) ∙ e)
+      nothing key (Some v) e = sym (ap (λ (b : Bool). cond b None (values key)) (ap is_some e))
+
+  module _ (k v : List ℕ) (rest : List Seen) (are : AreLeft ((k, v) ∷ rest) values) where
+    gone : (key : List ℕ) → is_at (key_cmp key) k ≡ true → find rest key ≡ None
+    gone key here = past_head key (k, v) rest are.ordered here
+
+    others_left : (key value : List ℕ) (b : Bool) → is_at (key_cmp key) k ≡ b → find rest key ≡ Some value → values key ≡ Some value
+    others_left key value true e found = absurd (some_none value (sym found ∙ gone key e))
+    others_left key value false e found = are.each key value (ap (λ (b : Bool). cond b (Some v) (find rest key)) e ∙ found)
+
+    fewer_left : AreLeft rest values
+    fewer_left = record { ordered = sorted_tail key_cmp k (keys_of rest) are.ordered; each = λ key value found. others_left key value (is_at (key_cmp key) k) refl found }
+
+    one_less : (key : List ℕ) (b : Bool) → is_at (key_cmp key) k ≡ b → cond (bytes_eq k key) (Some v) (but_left ((k, v) ∷ rest) values key) ≡ but_left rest values key
+    one_less key true e =
+        ap (λ (b : Bool). cond b (Some v) (but_left ((k, v) ∷ rest) values key)) (sym (at_bytes key k) ∙ e)
+        ∙ sym (are.each key v (ap (λ (b : Bool). cond b (Some v) (find rest key)) e))
+        ∙ sym (ap (λ (o : Option (List ℕ)). cond (is_some o) None (values key)) (gone key e))
+    one_less key false e =
+        ap (λ (b : Bool). cond b (Some v) (but_left ((k, v) ∷ rest) values key)) (sym (at_bytes key k) ∙ e)
+        ∙ ap (λ (b : Bool). cond (is_some (cond b (Some v) (find rest key))) None (values key)) e
+
+    one_copied : (store new : Store) → IsStore (but_left ((k, v) ∷ rest) values) store → Leaves k (Some v) store new → IsStore (but_left rest values) new
+    one_copied store new had left = as_values _ _ new (λ key. one_less key (is_at (key_cmp key) k) refl) (left _ had)
+
+  -- the next one is copied
+  pub record IsNext (rest : List Seen) (new : Store) : Type 0 where
+    pub left : AreLeft rest values
+    pub has : IsStore (but_left rest values) new
+
+  pub copied_next : (left rest : List Seen) (k v : List ℕ) (store new : Store) → left ≡ (k, v) ∷ rest → AreLeft left values → IsStore (but_left left values) store → Leaves k (Some v) store new → IsNext rest new
+  copied_next left rest k v store new is are had leaves_one =
+      let first = subst (λ (es : List Seen). AreLeft es values) is are in
+      record { left = fewer_left k v rest first; has = one_copied k v rest first store new (subst (λ (es : List Seen). IsStore (but_left es values) store) is had) leaves_one }
+
+  pub all_copied : (left : List Seen) (store : Store) → left ≡ [] → IsStore (but_left left values) store → IsStore values store
+  all_copied left store none had = subst (λ (es : List Seen). IsStore (but_left es values) store) none had
+
 -- ---- deciders
 
 -- what is noted with the entry, which has that number
@@ -203,3 +289,10 @@ deciders_more entries i here old new lt is had notes p =
   where
     number : i + 1 ≡ suc (length (take i entries))
     number = omega (arith, length-take-le i entries (omega arith))
+
+-- the same behind a base
+pub deciders_behind : (history later : List Entry) (base i number : ℕ) (here : Entry) (old new : BTreeMap ℕ ℕ) → later ≡ drop base history → base ≤ length history → i < length later → here ≡ get_or later i here → number ≡ base + i + 1 → HasDeciders (take (base + i) history) old → Notes here number old new → HasDeciders (take (base + (i + 1)) history) new
+deciders_behind history later base i number here old new behind within lt is due had notes =
+    let long = behind_long history later base behind in
+    subst (λ (n : ℕ). HasDeciders (take n history) new) (let e : base + i + 1 ≡ base + (i + 1) = omega arith in e)
+    (deciders_more history (base + i) here old new (omega (arith, lt, long, within)) (later_at history base i later here behind is) had (subst (λ (n : ℕ). Notes here n old new) due notes))

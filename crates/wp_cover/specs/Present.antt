@@ -1,5 +1,5 @@
 -- Which versions have to be there, and which may be.
-use Rattle.std.specs.Prelude.{◌≡◌, ◌⊎◌, ℕ, List, [], ◌∷◌, length, Option, Some, None}
+use Rattle.std.specs.Prelude.{◌≡◌, ◌⊎◌, ℕ, true, List, [], ◌∷◌, length, Option, Some, None}
 use Rattle.std.specs.declared.cmp.Ordering.{Ordering}
 use Rattle.std.specs.Ordering.{nat_cmp, ordering_then}
 use Rattle.wp_model.specs.declared.change.Change.{Change}
@@ -11,23 +11,28 @@ use Rattle.wp_model.specs.History.{batch_at}
 use Rattle.wp_model.specs.Legal.{undone_last}
 use Rattle.wp_model.specs.Decision.{entry_version}
 use Rattle.wp_model.specs.Versions.{version_at}
+use Rattle.wp_ledger.specs.History.{RoomyHistory}
+use Rattle.wp_cover.specs.Sources.{is_settled}
 
 -- how a version compares to a version of the key with that number
 abbrev pub place_cmp : List ℕ → ℕ → Version → Ordering
 place_cmp key n v = ordering_then (key_cmp v.key key) (nat_cmp n v.number)
 
--- each version is that of its entry
-abbrev pub ArePart : List Entry → List Version → Type 0
-ArePart history [] = Unit {0}
-ArePart history (v ∷ vs) = (entry_version history v.number v.key ≡ Some v.value) × ArePart history vs
+-- the version has a settled number, or is that of its entry
+abbrev pub IsOwn : RoomyHistory → Version → Type 0
+IsOwn h v = (is_settled h v.number ≡ true) ⊎ (entry_version h.entries v.number v.key ≡ Some v.value)
 
--- the version is that of its entry, or the one that counts in its place is
-abbrev pub IsPart : List Entry → List Version → Version → Type 0
-IsPart history all v = (entry_version history v.number v.key ≡ Some v.value) ⊎ (entry_version history v.number v.key ≡ version_at all v.key v.number)
+abbrev pub ArePart : RoomyHistory → List Version → Type 0
+ArePart h [] = Unit {0}
+ArePart h (v ∷ vs) = IsOwn h v × ArePart h vs
 
-abbrev pub AreParts : List Entry → List Version → List Version → Type 0
-AreParts history all [] = Unit {0}
-AreParts history all (v ∷ vs) = IsPart history all v × AreParts history all vs
+-- ... or the one that counts in its place is
+abbrev pub IsPart : RoomyHistory → List Version → Version → Type 0
+IsPart h all v = IsOwn h v ⊎ (entry_version h.entries v.number v.key ≡ version_at all v.key v.number)
+
+abbrev pub AreParts : RoomyHistory → List Version → List Version → Type 0
+AreParts h all [] = Unit {0}
+AreParts h all (v ∷ vs) = IsPart h all v × AreParts h all vs
 
 -- each version that counts is that of its entry
 abbrev pub AreAllPart : List Entry → List Version → Type 0

@@ -6,10 +6,11 @@ ghost use Rattle.wp_model.specs.History.{decides};
 ghost use Rattle.wp_model.specs.Decision.{decision_of, is_committed};
 ghost use Rattle.wp_cover.specs.Decisions.{HasDeciders, decided_by};
 
+use crate::sources::is_settled;
 use std::alloc::{AllocError, Global};
 use std::collections::BTreeMap;
 use std::marker::Model;
-use wp_history::History;
+use wp_ledger::History;
 use wp_model::{Entry, Seq};
 
 /// A history, with what decides its prepares: one pass over its entries notes that, so that no decision is searched for.
@@ -55,12 +56,13 @@ fn note(deciders: &mut BTreeMap<Seq, Seq>, entry: &Entry, number: Seq) -> Result
     Ok(())
 }
 
-fn deciders_of(alloc: Global, entries: &[Entry]) -> Result<BTreeMap<Seq, Seq>, AllocError>
-    ensures { IfOk result (λ deciders. HasDeciders entries.now deciders) }
+/// No entry up to the base decides anything.
+fn deciders_of(alloc: Global, history: &History) -> Result<BTreeMap<Seq, Seq>, AllocError>
+    ensures { IfOk result (λ deciders. HasDeciders history.now.entries deciders) }
 {
     let mut deciders = BTreeMap::new(alloc);
-    for (i, entry) in entries.iter().enumerate() {
-        note(&mut deciders, entry, i as Seq + 1)?;
+    for (i, entry) in history.later().iter().enumerate() {
+        note(&mut deciders, entry, history.base() + i as Seq + 1)?;
     }
     Ok(deciders)
 }
@@ -72,26 +74,25 @@ impl<'a> Decisions<'a> {
     {
         Ok(Decisions {
             history,
-            deciders: deciders_of(alloc, history.entries())?,
+            deciders: deciders_of(alloc, history)?,
         })
     }
 
-    /// The history itself.
-    pub fn history(&self) -> &History
-        ensures { result.now.entries ≡ self.now }
-    {
-        self.history
-    }
-
     /// The number that decides the entry with that number: of a write or an undo its own, of a prepare that of the first
-    /// entry that commits or closes it. None, where nothing decides it yet, and at a commit, a close or no entry.
+    /// entry that commits or closes it. None, where nothing decides it yet, and at a commit, a close or no entry. Up to the base
+    /// stand writes and prepares alone.
     pub fn decision_of(&self, p: Seq) -> Option<Seq>
         ensures { result ≡ decision_of self.now p }
     {
+        if is_settled(self.history, p) {
+            return Some(p);
+        }
+        if self.history.prepare_at(p).is_some() {
+            return self.deciders.get(&p).copied();
+        }
         match self.history.entry_at(p)? {
             Entry::Write(_) | Entry::Undo(_, _) => Some(p),
-            Entry::Prepare(_, _) => self.deciders.get(&p).copied(),
-            Entry::Commit(_) | Entry::Close(_) => None,
+            Entry::Prepare(_, _) | Entry::Commit(_) | Entry::Close(_) => None,
         }
     }
 

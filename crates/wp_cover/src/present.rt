@@ -1,5 +1,5 @@
 //! Versions that have to be there, and that have to be of the history.
-ghost use Rattle.std.specs.Prelude.{◌≡◌, ◌↔◌, true, Some, map, IfOk};
+ghost use Rattle.std.specs.Prelude.{◌≡◌, ◌↔◌, ◌≤◌, true, Some, map, IfOk};
 ghost use Rattle.std.specs.Arc.{arc_value};
 ghost use Rattle.std.specs.Option.{option_map, option_copied};
 ghost use Rattle.wp_model.specs.History.{undecided};
@@ -7,13 +7,13 @@ ghost use Rattle.wp_model.specs.Versions.{AreInOrder};
 ghost use Rattle.wp_table.specs.Borrowed.{seen};
 ghost use Rattle.wp_table.specs.Table.{has_words};
 ghost use Rattle.wp_merge.specs.Merge.{joined};
-ghost use Rattle.wp_cover.specs.Present.{ArePart, IsPart, AreParts, AreAllPart, HasChanges, HasBatches, HasUndone, restored};
-ghost use Rattle.wp_cover.specs.Sources.{all_of};
+ghost use Rattle.wp_cover.specs.Present.{IsOwn, ArePart, IsPart, AreParts, AreAllPart, HasChanges, HasBatches, HasUndone, restored};
+ghost use Rattle.wp_cover.specs.Sources.{all_of, AreSettled};
 
-use crate::sources::{Sources, bytes_of, entry_version};
+use crate::sources::{Sources, bytes_of, entry_version, is_settled};
 use std::alloc::{AllocError, Global};
-use wp_history::History;
-use wp_model::{Batch, Entry, Seq, Versions};
+use wp_ledger::History;
+use wp_model::{Batch, Entry, Seq, Version, Versions};
 use wp_table::{Table, VersionRef};
 
 /// Whether both are the same version, or neither is one.
@@ -23,14 +23,24 @@ fn are_same(one: Option<Option<&[u8]>>, other: Option<Option<&[u8]>>) -> bool
     one == other
 }
 
-/// Whether each version of the list is that of its entry.
+/// Whether the version has a settled number, or is that of its entry.
+fn is_own(history: &History, version: &Version) -> bool
+    ensures { (result ≡ true) ↔ IsOwn history.now version.now }
+{
+    if is_settled(history, version.number) {
+        return true;
+    }
+    let due = entry_version(history, version.number, version.key.bytes());
+    are_same(due, Some(bytes_of(version.value.as_ref())))
+}
+
+/// Whether each version of the list is that.
 fn is_list_part(history: &History, versions: &Versions) -> bool
-    ensures part { (result ≡ true) ↔ ArePart history.now.entries versions.now }
+    ensures part { (result ≡ true) ↔ ArePart history.now versions.now }
     ensures in_order { AreInOrder versions.now }
 {
     for version in versions.as_slice() {
-        let due = entry_version(history, version.number, version.key.bytes());
-        if !are_same(due, Some(bytes_of(version.value.as_ref()))) {
+        if !is_own(history, version) {
             return false;
         }
     }
@@ -43,9 +53,13 @@ fn is_part(
     sources: &Sources<'_>,
     version: VersionRef<'_>,
 ) -> Result<bool, AllocError>
-    requires { has_words (seen version) ≡ true }
-    ensures { IfOk result (λ yes. (yes ≡ true) ↔ IsPart sources.now.history.now.entries (all_of sources.now) (seen version.entry)) }
+    requires words { has_words (seen version) ≡ true }
+    requires flushed { sources.now.history.now.base ≤ sources.now.flushed }
+    ensures { IfOk result (λ yes. (yes ≡ true) ↔ IsPart sources.now.history.now (all_of sources.now) (seen version.entry)) }
 {
+    if is_settled(sources.history, version.number) {
+        return Ok(true);
+    }
     let due = entry_version(sources.history, version.number, version.key);
     if are_same(due, Some(version.value)) {
         return Ok(true);
@@ -55,7 +69,8 @@ fn is_part(
 }
 
 fn is_table_part(alloc: Global, sources: &Sources<'_>, table: &Table) -> Result<bool, AllocError>
-    ensures { IfOk result (λ yes. (yes ≡ true) ↔ AreParts sources.now.history.now.entries (all_of sources.now) table.now) }
+    requires { sources.now.history.now.base ≤ sources.now.flushed }
+    ensures { IfOk result (λ yes. (yes ≡ true) ↔ AreParts sources.now.history.now (all_of sources.now) table.now) }
 {
     for version in table.all() {
         if !is_part(alloc, sources, version)? {
@@ -66,7 +81,8 @@ fn is_table_part(alloc: Global, sources: &Sources<'_>, table: &Table) -> Result<
 }
 
 fn are_tables_part(alloc: Global, sources: &Sources<'_>) -> Result<bool, AllocError>
-    ensures { IfOk result (λ yes. (yes ≡ true) ↔ AreParts sources.now.history.now.entries (all_of sources.now) (joined (map arc_value sources.now.tables.now))) }
+    requires { sources.now.history.now.base ≤ sources.now.flushed }
+    ensures { IfOk result (λ yes. (yes ≡ true) ↔ AreParts sources.now.history.now (all_of sources.now) (joined (map arc_value sources.now.tables.now))) }
 {
     for table in sources.tables {
         if !is_table_part(alloc, sources, table)? {
@@ -78,6 +94,8 @@ fn are_tables_part(alloc: Global, sources: &Sources<'_>) -> Result<bool, AllocEr
 
 /// Whether each version that counts is that of its entry. Those of later entries are.
 pub fn are_part(alloc: Global, sources: &Sources<'_>) -> Result<bool, AllocError>
+    requires flushed { sources.now.history.now.base ≤ sources.now.flushed }
+    requires settled { AreSettled sources.now.history.now (all_of sources.now) }
     ensures { IfOk result (λ yes. (yes ≡ true) ↔ AreAllPart sources.now.history.now.entries (all_of sources.now)) }
 {
     if !is_list_part(sources.history, sources.list) {
@@ -88,6 +106,7 @@ pub fn are_part(alloc: Global, sources: &Sources<'_>) -> Result<bool, AllocError
 
 /// Whether the version of each change is there, with that number.
 fn has_changes<'b>(sources: &'b Sources<'_>, number: Seq, batch: &'b Batch) -> bool
+    requires { sources.now.history.now.base ≤ sources.now.flushed }
     ensures { (result ≡ true) ↔ HasChanges (all_of sources.now) number batch.now }
 {
     for change in batch.changes() {
@@ -103,6 +122,7 @@ fn has_changes<'b>(sources: &'b Sources<'_>, number: Seq, batch: &'b Batch) -> b
 
 /// Whether the versions of the undecided prepares are there.
 pub fn has_undecided(sources: &Sources<'_>) -> bool
+    requires { sources.now.history.now.base ≤ sources.now.flushed }
     ensures { (result ≡ true) ↔ HasBatches sources.now.history.now.entries (all_of sources.now) (undecided sources.now.history.now.entries) }
 {
     for p in sources.history.undecided() {
@@ -125,9 +145,10 @@ fn restored(entry: &Entry) -> Option<&Batch>
 
 /// Whether the versions of an undo that ends the history are there.
 pub fn has_undone(sources: &Sources<'_>) -> bool
+    requires { sources.now.history.now.base ≤ sources.now.flushed }
     ensures { (result ≡ true) ↔ HasUndone sources.now.history.now.entries (all_of sources.now) }
 {
-    let Some(entry) = sources.history.entries().last() else {
+    let Some(entry) = sources.history.later().last() else {
         return true;
     };
     let Some(batch) = restored(entry) else {

@@ -1,5 +1,5 @@
 //! What versions show a reader at a number, as a map.
-ghost use Rattle.std.specs.Prelude.{◌≡◌, ◌↔◌, ℕ, List, [], ◌∷◌, true, None, map, IfOk, OnOk};
+ghost use Rattle.std.specs.Prelude.{◌≡◌, ◌↔◌, ◌≤◌, ℕ, List, [], ◌∷◌, true, None, map, IfOk, OnOk};
 ghost use Rattle.std.specs.Arc.{arc_value};
 ghost use Rattle.wp_model.specs.Covered.{GivesStore};
 ghost use Rattle.wp_model.specs.Flushed.{later_versions, versions_under};
@@ -15,7 +15,7 @@ use crate::store::{leave, store_at};
 use std::alloc::{AllocError, Global};
 use std::collections::BTreeMap;
 use std::sync::Arc;
-use wp_history::History;
+use wp_ledger::History;
 use wp_model::{Change, Seq, Versions};
 use wp_table::{Table, VersionRef};
 
@@ -128,11 +128,14 @@ fn note_later<'a>(
     flushed: Seq,
     n: Seq,
 ) -> Result<(), AllocError>
+    requires { history.now.base ≤ flushed }
     ensures { OnOk result (Notes decisions.now n (later_versions history.now.entries flushed) newest.old newest.new) }
 {
-    let entries = history.entries();
+    let later = history.later();
+    let base = history.base();
     for i in flushed..history.published() {
-        note_changes(newest, decisions, i + 1, entries[i as usize].changes(), n)?;
+        let entry = &later[(i - base) as usize];
+        note_changes(newest, decisions, i + 1, entry.changes(), n)?;
     }
     Ok(())
 }
@@ -144,6 +147,7 @@ fn newest_at<'a>(
     sources: &Sources<'a>,
     n: Seq,
 ) -> Result<Newest<'a>, AllocError>
+    requires { sources.now.history.now.base ≤ sources.now.flushed }
     ensures { IfOk result (IsNewest (λ key. newest_from decisions.now n key None (all_of sources.now))) }
 {
     let mut newest = Newest {
@@ -163,9 +167,12 @@ pub fn gives_store<'a>(
     sources: &Sources<'a>,
     n: Seq,
 ) -> Result<bool, AllocError>
+    requires from { sources.now.history.now.base ≤ n }
+    requires flushed { sources.now.history.now.base ≤ sources.now.flushed }
+    requires same { sources.now.history.now.entries ≡ decisions.now }
     ensures { IfOk result (λ yes. (yes ≡ true) ↔ ((key : List ℕ) → GivesStore (all_of sources.now) decisions.now key n)) }
 {
-    let store = store_at(alloc, decisions.history(), n)?;
+    let store = store_at(alloc, sources.history, n)?;
     let newest = newest_at(alloc, decisions, sources, n)?;
     Ok(store == newest.values)
 }

@@ -1,23 +1,23 @@
 //! Versions, each read where it is.
-ghost use Rattle.std.specs.Prelude.{◌≡◌, map};
+ghost use Rattle.std.specs.Prelude.{◌≡◌, ◌≤◌, Some, true, false, map};
 ghost use Rattle.std.specs.Arc.{arc_value};
 ghost use Rattle.std.specs.Option.{option_map, option_copied};
 ghost use Rattle.wp_model.specs.Batch.{change_to};
-ghost use Rattle.wp_model.specs.Decision.{entry_version};
+ghost use Rattle.wp_model.specs.Decision.{decision_of, entry_version};
 ghost use Rattle.wp_model.specs.Flushed.{later_versions};
 ghost use Rattle.wp_model.specs.Versions.{version_at};
 ghost use Rattle.wp_merge.specs.Merge.{joined};
 ghost use Rattle.wp_cover.specs.Present.{place_cmp};
-ghost use Rattle.wp_cover.specs.Sources.{all_of};
+ghost use Rattle.wp_cover.specs.Sources.{all_of, is_settled};
 
 use std::cmp::Ordering;
 use std::sync::Arc;
-use wp_history::History;
+use wp_ledger::History;
 use wp_model::{Batch, Entry, Key, Seq, Value, Version, Versions};
 use wp_table::Table;
 
 /// Versions of which each is read where it is: those of a list, then those of tables, one after the other, then those of
-/// the history's entries above the flushed number. Of several with one key and number the first one counts.
+/// the history's entries above the flushed number, which is not below its base. Of several with one key and number the first one counts.
 #[derive(Drop)]
 pub struct Sources<'a> {
     pub history: &'a History,
@@ -48,10 +48,23 @@ fn change_to<'a>(batch: &'a Batch, key: &[u8]) -> Option<Option<&'a [u8]>>
     None
 }
 
-/// The version of the key of the entry with that number.
+/// Whether the number is one up to the base, and no prepare has it: its versions are those of the tables, and it is a write's.
+#[tactic(auto, using(crate::proofs::Based::settled_decides))]
+pub fn is_settled(history: &History, p: Seq) -> bool
+    ensures value { result ≡ is_settled history.now p }
+    ensures decided { is_settled history.now p ≡ true → decision_of history.now.entries p ≡ Some p }
+{
+    1 <= p && p <= history.base() && history.prepare_at(p).is_none()
+}
+
+/// The version of the key of the entry with that number, which is not settled.
 pub fn entry_version<'a>(history: &'a History, p: Seq, key: &[u8]) -> Option<Option<&'a [u8]>>
+    requires { is_settled history.now p ≡ false }
     ensures { option_map option_copied result ≡ entry_version history.now.entries p key.now }
 {
+    if let Some((_, batch)) = history.prepare_at(p) {
+        return change_to(batch, key);
+    }
     match history.entry_at(p)? {
         Entry::Write(batch) | Entry::Prepare(_, batch) | Entry::Undo(_, batch) => {
             change_to(batch, key)
@@ -114,6 +127,7 @@ fn later_version<'a>(
     key: &Key,
     number: Seq,
 ) -> Option<Option<&'a [u8]>>
+    requires { history.now.base ≤ flushed }
     ensures { option_map option_copied result ≡ version_at (later_versions history.now.entries flushed) key.now number }
 {
     if number <= flushed {
@@ -125,6 +139,7 @@ fn later_version<'a>(
 impl<'a> Sources<'a> {
     /// What counts under the key and the number.
     pub fn find<'b>(&'b self, key: &'b Key, number: Seq) -> Option<Option<&'b [u8]>>
+        requires { self.now.history.now.base ≤ self.now.flushed }
         ensures { option_map option_copied result ≡ version_at (all_of self.now) key.now number }
     {
         let listed = version_at(self.list, key, number);

@@ -1,5 +1,5 @@
 //! What the first entries of a history leave in the store, as a map.
-ghost use Rattle.std.specs.Prelude.{◌≡◌, ℕ, List, IfOk, OnOk};
+ghost use Rattle.std.specs.Prelude.{◌≡◌, ◌≤◌, ℕ, List, IfOk, OnOk};
 ghost use Rattle.std.specs.Option.{option_copied};
 ghost use Rattle.wp_model.specs.History.{changes_of, value_at};
 ghost use Rattle.wp_cover.specs.Store.{IsStore, Leaves, LeavesChanges};
@@ -7,7 +7,7 @@ ghost use Rattle.wp_cover.specs.Store.{IsStore, Leaves, LeavesChanges};
 use crate::sources::bytes_of;
 use std::alloc::{AllocError, Global};
 use std::collections::BTreeMap;
-use wp_history::History;
+use wp_ledger::History;
 use wp_model::{Change, Entry, Seq};
 
 /// Leaves the value under the key, or nothing where there is none. Both are borrowed.
@@ -56,16 +56,32 @@ fn changes_of<'a>(history: &'a History, entry: &'a Entry) -> &'a [Change]
     }
 }
 
-/// What the first `n` entries leave.
+/// What the history had at its base.
+fn base_store<'a>(
+    alloc: Global,
+    history: &'a History,
+) -> Result<BTreeMap<&'a [u8], &'a [u8]>, AllocError>
+    ensures { IfOk result (IsStore (λ key. value_at history.now.entries key history.now.base)) }
+{
+    let mut store = BTreeMap::new(alloc);
+    for (key, value) in history.store() {
+        leave(&mut store, key.bytes(), Some(value.bytes()))?;
+    }
+    Ok(store)
+}
+
+/// What the first `n` entries leave, from the base on.
 pub fn store_at<'a>(
     alloc: Global,
     history: &'a History,
     n: Seq,
 ) -> Result<BTreeMap<&'a [u8], &'a [u8]>, AllocError>
+    requires { history.now.base ≤ n }
     ensures { IfOk result (IsStore (λ key. value_at history.now.entries key n)) }
 {
-    let mut store = BTreeMap::new(alloc);
-    let first = &history.entries()[..n.min(history.published()) as usize];
+    let mut store = base_store(alloc, history)?;
+    let last = n.min(history.published());
+    let first = &history.later()[..(last - history.base()) as usize];
     for entry in first {
         leave_changes(&mut store, changes_of(history, entry))?;
     }

@@ -1,9 +1,15 @@
-use Rattle.std.proofs.Common.{◌↔◌, ◌≡◌, true, List, subst}
+use Rattle.std.proofs.Common.{◌↔◌, ◌≡◌, true, List, sym, subst}
 use Rattle.std.proofs.lemmas.Result.{IfOk-weaker}
 use Rattle.wp_model.specs.declared.version.Version.{Version}
 use Rattle.wp_model.specs.Covered.{IsCovered}
+use Rattle.wp_cover.specs.Sources.{AreSettled}
 use Rattle.wp_cover.proofs.Places.{list_alone}
 use Rattle.wp_cover.proofs.covering.covers.Goals as goal
+
+pub are_covering-requires-clause-settled : goal.are_covering-requires-clause-settled
+are_covering-requires-clause-settled c =
+    let alone = list_alone c.args.history.now.entries c.args.versions.now c.published.result c.published.ensures.value in
+    subst (AreSettled c.args.history.now) (sym alone) c.requires.settled
 
 pub returns : goal.returns
 returns c =

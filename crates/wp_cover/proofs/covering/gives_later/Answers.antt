@@ -8,7 +8,7 @@ pub returns-then-not-branch : goal.returns-then-not-branch
 returns-then-not-branch c = (
   λ no. absurd cc,
   λ all.
-      let within : c.loop-n.n ≤ length c.args.decisions.now = omega (arith, c.loop-n-test.true, c.published-last.ensures.value, ap (λ (h : List Entry). length h) c.history.ensures) in
+      let within : c.loop-n.n ≤ length c.args.decisions.now = omega (arith, c.loop-n-test.true, c.published-last.ensures.value, ap (λ (h : List Entry). length h) c.requires.same) in
       sym c.if-not-branch.true ∙ c.in_ok-gives_store.ensures.1 (λ key. all key c.loop-n.n c.loop-n.invariant.from within),
 )
 

@@ -9,7 +9,7 @@ use Rattle.wp_cover.proofs.present.are_tables_part.Goals as goal
 
 pub returns-then-not-branch : goal.returns-then-not-branch
 returns-then-not-branch c =
-    let history = c.args.sources.now.history.now.entries in
+    let history = c.args.sources.now.history.now in
     let all = all_of c.args.sources.now in
     let here_is = arc_value c.table-item.result in
     let rest_is = joined (map arc_value (drop (c.loop-table.table-index + 1) c.args.sources.now.tables.now)) in
@@ -20,7 +20,7 @@ returns-then-not-branch c =
 
 pub loop-table-preserved : goal.loop-table-preserved
 loop-table-preserved c =
-    let history = c.args.sources.now.history.now.entries in
+    let history = c.args.sources.now.history.now in
     let all = all_of c.args.sources.now in
     let here_is = arc_value c.table-item.result in
     let rest_is = joined (map arc_value (drop (c.loop-table.table-index + 1) c.args.sources.now.tables.now)) in

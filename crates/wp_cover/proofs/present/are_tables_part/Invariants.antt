@@ -7,6 +7,6 @@ use Rattle.wp_cover.proofs.present.are_tables_part.Given as goal
 
 abbrev pub invariant-loop-table : goal.invariant-loop-table
 invariant-loop-table l = record {
-  onward : AreParts l.sources.history.now.entries (all_of l.sources) (joined (map arc_value l.sources.tables.now)) → AreParts l.sources.history.now.entries (all_of l.sources) (joined (map arc_value (drop l.table-index l.sources.tables.now)));
-  back : AreParts l.sources.history.now.entries (all_of l.sources) (joined (map arc_value (drop l.table-index l.sources.tables.now))) → AreParts l.sources.history.now.entries (all_of l.sources) (joined (map arc_value l.sources.tables.now));
+  onward : AreParts l.sources.history.now (all_of l.sources) (joined (map arc_value l.sources.tables.now)) → AreParts l.sources.history.now (all_of l.sources) (joined (map arc_value (drop l.table-index l.sources.tables.now)));
+  back : AreParts l.sources.history.now (all_of l.sources) (joined (map arc_value (drop l.table-index l.sources.tables.now))) → AreParts l.sources.history.now (all_of l.sources) (joined (map arc_value l.sources.tables.now));
 }

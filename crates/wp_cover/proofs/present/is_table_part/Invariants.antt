@@ -8,6 +8,6 @@ use Rattle.wp_cover.proofs.present.is_table_part.Given as goal
 abbrev pub invariant-loop-version : goal.invariant-loop-version
 invariant-loop-version l = record {
   in_range : list_all has_words l.version-iterator ≡ true;
-  onward : AreParts l.sources.history.now.entries (all_of l.sources) l.table → AreParts l.sources.history.now.entries (all_of l.sources) l.version-iterator;
-  back : AreParts l.sources.history.now.entries (all_of l.sources) l.version-iterator → AreParts l.sources.history.now.entries (all_of l.sources) l.table;
+  onward : AreParts l.sources.history.now (all_of l.sources) l.table → AreParts l.sources.history.now (all_of l.sources) l.version-iterator;
+  back : AreParts l.sources.history.now (all_of l.sources) l.version-iterator → AreParts l.sources.history.now (all_of l.sources) l.table;
 }
