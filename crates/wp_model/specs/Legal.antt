@@ -81,9 +81,9 @@ pub record IsLegalNext (before : List Entry) (entry : Entry) : Type 0 where
 abbrev pub AreLegal : List Entry → Type 0
 AreLegal history = (n : ℕ) (entry : Entry) → slice_get history n ≡ Some entry → IsLegalNext (take n history) entry
 
--- each number of an entry is below this: the log has four bytes for it
+-- each number of an entry is below this: no version of the log has a greater one
 abbrev pub log_end : ℕ
-log_end = 2 ^ 32
+log_end = 2 ^ 56
 
 -- A legal history: few enough entries for their numbers, and each may follow those before it.
 pub record IsLegal (history : List Entry) : Type 0 where

@@ -27,14 +27,14 @@ use Rattle.wp_open.proofs.OneWay.{SpellOneId, LogLaws, ManifestLaws, TableLaws, 
 pub record LogFaultLaws : Type 0 where
   pub one_bad_record : (bytes : List ℕ) (index other : ℕ) (why also : RecordError) → IsBadLog bytes index why → IsBadLog bytes other also → (index ≡ other) × (why ≡ also)
   pub one_illegal : (bytes : List ℕ) (number other : ℕ) → IsIllegalLog bytes number → IsIllegalLog bytes other → number ≡ other
-  pub head_or_record : (bytes : List ℕ) (index : ℕ) (why : RecordError) → IsBadHead wal.MAGIC bytes → IsBadLog bytes index why → ⊥
-  pub head_or_illegal : (bytes : List ℕ) (number : ℕ) → IsBadHead wal.MAGIC bytes → IsIllegalLog bytes number → ⊥
+  pub head_or_record : (bytes : List ℕ) (index : ℕ) (why : RecordError) → IsBadHead wal.MAGIC wal.NEWEST bytes → IsBadLog bytes index why → ⊥
+  pub head_or_illegal : (bytes : List ℕ) (number : ℕ) → IsBadHead wal.MAGIC wal.NEWEST bytes → IsIllegalLog bytes number → ⊥
   pub record_or_illegal : (bytes : List ℕ) (index number : ℕ) (why : RecordError) → IsBadLog bytes index why → IsIllegalLog bytes number → ⊥
 
 pub record ManifestFaultLaws : Type 0 where
   pub one_bad_edit : (bytes : List ℕ) (id index other : ℕ) → IsBadEdit id index bytes → IsBadEdit id other bytes → index ≡ other
-  pub head_or_edit : (bytes : List ℕ) (id index : ℕ) → IsBadHead edits.MAGIC bytes → IsBadEdit id index bytes → ⊥
-  pub head_or_stranger : (bytes : List ℕ) (id log found : ℕ) → IsBadHead edits.MAGIC bytes → IsStranger id log found bytes → ⊥
+  pub head_or_edit : (bytes : List ℕ) (id index : ℕ) → IsBadHead edits.MAGIC edits.VERSION bytes → IsBadEdit id index bytes → ⊥
+  pub head_or_stranger : (bytes : List ℕ) (id log found : ℕ) → IsBadHead edits.MAGIC edits.VERSION bytes → IsStranger id log found bytes → ⊥
   pub edit_or_stranger : (bytes : List ℕ) (id index log found : ℕ) → id < 2 ^ 32 → found < 2 ^ 32 → IsBadEdit id index bytes → IsStranger id log found bytes → ⊥
 
 abbrev pub TablesHaveOneFault : Type 0

@@ -6,7 +6,7 @@ use Rattle.wp_model.specs.declared.version.Version.{Version}
 use Rattle.wp_model.specs.Legal.{IsLegal}
 use Rattle.wp_outside.specs.declared.disk.Device.TheVariants as device
 use Rattle.wp_gatelog.specs.Damage.{IsBadHead}
-use Rattle.wp_gatelog.specs.Spelling.{IsUnmade, Spells}
+use Rattle.wp_gatelog.specs.Spelling.{IsUnmade, Spells, Stamp, stamped}
 use Rattle.wp_entry.specs.declared.error.RecordError.{RecordError}
 use Rattle.wp_wal.specs.Opening.{IsBadLog, IsIllegalLog}
 use Rattle.wp_wal.specs.Spelling as wal
@@ -26,17 +26,17 @@ use Rattle.wp_open.specs.Opens.{AreCovering, Opens, installed_of}
 -- ---- what the laws below say
 
 abbrev pub SpellOneId : Type 0
-SpellOneId = (bytes magic : List ℕ) (id other : ℕ) (records others : List (List ℕ)) → (IsUnmade bytes → ⊥) → id < 2 ^ 32 → other < 2 ^ 32 → Spells bytes magic id records → Spells bytes magic other others → id ≡ other
+SpellOneId = (bytes magic : List ℕ) (stamp other : Stamp) (records others : List (List ℕ)) → (IsUnmade bytes → ⊥) → stamp.id < 2 ^ 32 → other.id < 2 ^ 32 → Spells bytes magic stamp records → Spells bytes magic other others → stamp.id ≡ other.id
 
 pub record LogLaws : Type 0 where
   pub one_history : (bytes : List ℕ) (id other : ℕ) (history another : List Entry) → wal.IsLogOf id history bytes → wal.IsLogOf other another bytes → history ≡ another
-  pub bad_head : (bytes : List ℕ) (id : ℕ) (history : List Entry) → wal.IsLogOf id history bytes → IsBadHead wal.MAGIC bytes → ⊥
+  pub bad_head : (bytes : List ℕ) (id : ℕ) (history : List Entry) → wal.IsLogOf id history bytes → IsBadHead wal.MAGIC wal.NEWEST bytes → ⊥
   pub bad_record : (bytes : List ℕ) (id index : ℕ) (history : List Entry) (why : RecordError) → wal.IsLogOf id history bytes → IsBadLog bytes index why → ⊥
   pub illegal : (bytes : List ℕ) (id number : ℕ) (history : List Entry) → wal.IsLogOf id history bytes → IsLegal history → IsIllegalLog bytes number → ⊥
 
 pub record ManifestLaws : Type 0 where
   pub one_list : (bytes : List ℕ) (id other : ℕ) (list others : List Edit) → edits.IsManifestOf id list bytes → edits.IsManifestOf other others bytes → list ≡ others
-  pub bad_head : (bytes : List ℕ) (id : ℕ) (list : List Edit) → edits.IsManifestOf id list bytes → IsBadHead edits.MAGIC bytes → ⊥
+  pub bad_head : (bytes : List ℕ) (id : ℕ) (list : List Edit) → edits.IsManifestOf id list bytes → IsBadHead edits.MAGIC edits.VERSION bytes → ⊥
   pub bad_edit : (bytes : List ℕ) (id index : ℕ) (list : List Edit) → edits.IsManifestOf id list bytes → IsBadEdit id index bytes → ⊥
   pub stranger : (bytes : List ℕ) (id log found : ℕ) (list : List Edit) → id < 2 ^ 32 → found < 2 ^ 32 → edits.IsManifestOf id list bytes → IsStranger id log found bytes → ⊥
 
@@ -59,7 +59,7 @@ log_is_right laws bytes id history (bad.Illegal number) spells legal is = laws.i
 log_is_right laws bytes id history other spells legal is = is
 
 pub log_id : SpellOneId → (bytes : List ℕ) (id other : ℕ) (history another : List Entry) → (IsUnmade bytes → ⊥) → id < 2 ^ 32 → other < 2 ^ 32 → wal.IsLogOf id history bytes → wal.IsLogOf other another bytes → id ≡ other
-log_id one bytes id other history another made fits less (records, spells, are) (others, too, are_too) = one bytes wal.MAGIC id other records others made fits less spells too
+log_id one bytes id other history another made fits less (format, records, up, spells, are) (also, others, up_too, too, are_too) = one bytes wal.MAGIC (stamped format id) (stamped also other) records others made fits less spells too
 
 pub found_id : SpellOneId → (asked id found : ℕ) (history another : List Entry) (bytes : List ℕ) → (IsUnmade bytes → id ≡ asked) → id < 2 ^ 32 → wal.IsLogOf id history bytes → Finds asked found another bytes → found ≡ id
 found_id one asked id found history another bytes asks fits spells finds = elim (unmade_or_made bytes) [
@@ -131,7 +131,7 @@ same_edit one lists laws manifest tables id other list others parts more fits le
       let same : parts ≡ more = parts_are ∙ sym more_are in
       λ i. installed_of (edits.last_edit (same_list i)) (same i)
   | inr made ↦
-      let ids : other ≡ id = one manifest edits.MAGIC other id also.0 spells.0 made less fits also.1 spells.1 in
+      let ids : other ≡ id = one manifest edits.MAGIC (edits.head_stamp other) (edits.head_stamp id) also.0 spells.0 made less fits also.1 spells.1 in
       let same_list : list ≡ others = lists.one_list manifest id other list others spells also in
       let here : HasTables id (edits.last_edit list).flushed tables (edits.last_edit list).tables more =
       subst (λ (l : List Edit). HasTables id (edits.last_edit l).flushed tables (edits.last_edit l).tables more) (sym same_list)

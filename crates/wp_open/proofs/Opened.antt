@@ -2,7 +2,7 @@
 use Rattle.std.proofs.Common.{◌≡◌, ℕ, List, [], ◌∷◌, false, ap, subst}
 use Rattle.wp_model.specs.declared.entry.Entry.{Entry}
 use Rattle.wp_outside.specs.Disk.{Moment, images}
-use Rattle.wp_gatelog.specs.Spelling.{Spells}
+use Rattle.wp_gatelog.specs.Spelling.{Spells, stamped}
 use Rattle.wp_gatelog.proofs.SurvivalLemmas.{rest_spells}
 use Rattle.wp_wal.specs.Spelling.{IsLogOf}
 use Rattle.wp_wal.specs.Spelling as wal
@@ -16,12 +16,12 @@ use Rattle.wp_open.specs.Opens.{AllKnown, AreCovering, OpensTo, installed_of}
 use Rattle.wp_open.specs.Parts.{PartsOpened}
 
 log_spells : (state : WalState) (history : List Entry) (image : List ℕ) → StoresHistory state history [] → state.closed ≡ false → images state.moments image → IsLogOf state.id history image
-log_spells state history image s running is = (s.records, rest_spells wal.MAGIC state.id state.end [] [] s.records state.moments (s.rests running) image is, s.spelled)
+log_spells state history image s running is = (state.format, s.records, s.readable, rest_spells wal.MAGIC (stamped state.format state.id) state.end [] [] s.records state.moments (s.rests running) image is, s.spelled)
 
 manifest_spells : (id : ℕ) (before : List Moment) (state : ManifestState) (o : Opened id before state) (image : List ℕ) → images state.log.moments image → edits.IsManifestOf id o.edits image
 manifest_spells id before state o image is = (
   o.stores.records,
-  subst (λ (n : ℕ). Spells image edits.MAGIC n o.stores.records) o.id_is (rest_spells edits.MAGIC state.log.id state.log.end [] [] o.stores.records state.log.moments (o.stores.rests o.running) image is),
+  subst (λ (n : ℕ). Spells image edits.MAGIC (edits.head_stamp n) o.stores.records) o.id_is (rest_spells edits.MAGIC (edits.head_stamp state.log.id) state.log.end [] [] o.stores.records state.log.moments (o.stores.rests o.running) image is),
   o.stores.spelled,
 )
 

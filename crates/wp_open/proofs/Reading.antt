@@ -18,7 +18,7 @@ use Rattle.wp_table.specs.declared.error.TableError.{TableError}
 use Rattle.wp_table.specs.declared.error.TableError.TheVariants as table
 use Rattle.wp_table.specs.Errors.{table_fault}
 use Rattle.wp_table.specs.Faults.{IsTableFault}
-use Rattle.wp_table.specs.File.{HasTable, HasTables}
+use Rattle.wp_table.specs.File.{HasTable}
 use Rattle.wp_table.specs.Table.{IsTable, SpellsTable}
 use Rattle.wp_open.specs.declared.bad.Bad.TheVariants as bad
 use Rattle.wp_open.specs.declared.opening.OpenError.{OpenError}

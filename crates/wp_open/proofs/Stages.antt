@@ -8,8 +8,6 @@ use Rattle.wp_outside.specs.declared.disk.Device.TheVariants as device
 use Rattle.wp_outside.specs.Disk.{Moment, IfKnown, added, after_sync, images}
 use Rattle.wp_outside.proofs.Moments.{image_of_synced}
 use Rattle.wp_outside.specs.Faults.{Rose}
-use Rattle.wp_entry.specs.declared.error.RecordError.{RecordError}
-use Rattle.wp_entry.specs.declared.error.RecordError.TheVariants.{Short}
 use Rattle.wp_gatelog.specs.Damage.{IsCut}
 use Rattle.wp_gatelog.specs.Durability.{LosesNoRecord}
 use Rattle.wp_gatelog.specs.Left.{IsLeftAtRest, RestsAsSpelled}
@@ -18,8 +16,7 @@ use Rattle.wp_gatelog.specs.Opening.{KeepsLog}
 use Rattle.wp_gatelog.specs.Spelling.{IsUnmade, Spells}
 use Rattle.wp_wal.specs.declared.error.WalError.{WalError}
 use Rattle.wp_wal.specs.declared.error.WalError.TheVariants as wal_error
-use Rattle.wp_wal.specs.Opening.{IsBadLog, IsLogCause}
-use Rattle.wp_wal.specs.Reading.{IsBadRecord}
+use Rattle.wp_wal.specs.Opening.{IsLogCause}
 use Rattle.wp_wal.specs.Spelling.{IsLogOf}
 use Rattle.wp_wal.specs.Spelling as wal
 use Rattle.wp_wal.specs.Wal.{LeavesHistory}
@@ -65,23 +62,17 @@ kept_tables P (m ∷ past) new synced has image is =
 same_damage : (one other : Bad) → open_error.Contents one ≡ open_error.Contents other → one ≡ other
 same_damage one other same = cc
 
-bad_log : (bytes : List ℕ) (index : ℕ) (fault : RecordError) → (IsCut wal.MAGIC index bytes × (fault ≡ Short)) ⊎ ((records : List (List ℕ)) × ((id : ℕ) × Spells bytes wal.MAGIC id records) × IsBadRecord records index fault) → IsBadLog bytes index fault
-bad_log bytes index fault cause = ⊎_elim
-    (λ (cut : IsCut wal.MAGIC index bytes × (fault ≡ Short)). inl cut)
-    (λ (read : (records : List (List ℕ)) × ((id : ℕ) × Spells bytes wal.MAGIC id records) × IsBadRecord records index fault). inr (read.1.0, read.0, read.1.1, read.2))
-    cause
-
 log_damaged : (rose : Type 0) (l : Moment) (past : List Moment) (refusal : WalError) (damage : Bad) → IsLogReason refusal (open_error.Contents damage) → IsLogCause rose (l ∷ past) refusal → IsLogDamaged l.reads damage
 log_damaged rose l past wal_error.Memory damage is cause = absurd cc
 log_damaged rose l past wal_error.DiskFault damage is cause = absurd cc
 log_damaged rose l past wal_error.BadHead damage is cause = rw (same_damage damage (bad.BadHead device.Log) is) cause
-log_damaged rose l past (wal_error.BadRecord index fault) damage is cause = rw (same_damage damage (bad.BadRecord index fault) is) (bad_log l.reads index fault cause)
-log_damaged rose l past (wal_error.Illegal number) damage is cause = rw (same_damage damage (bad.Illegal number) is) (cause.1.0, cause.0, cause.1.1, cause.2)
+log_damaged rose l past (wal_error.BadRecord index fault) damage is cause = rw (same_damage damage (bad.BadRecord index fault) is) cause
+log_damaged rose l past (wal_error.Illegal number) damage is cause = rw (same_damage damage (bad.Illegal number) is) cause
 
-bad_edit : (id index : ℕ) (bytes : List ℕ) → ((cut : IsCut edits.MAGIC index bytes) × (cut.id ≡ id)) ⊎ ((records : List (List ℕ)) × IsBadAmong records index × Spells bytes edits.MAGIC id records) → IsBadEdit id index bytes
+bad_edit : (id index : ℕ) (bytes : List ℕ) → ((cut : IsCut edits.MAGIC edits.VERSION index bytes) × (cut.stamp.id ≡ id)) ⊎ ((records : List (List ℕ)) × IsBadAmong records index × Spells bytes edits.MAGIC (edits.head_stamp id) records) → IsBadEdit id index bytes
 bad_edit id index bytes cause = ⊎_elim
-    (λ (cut : (cut : IsCut edits.MAGIC index bytes) × (cut.id ≡ id)). inl cut)
-    (λ (read : (records : List (List ℕ)) × IsBadAmong records index × Spells bytes edits.MAGIC id records). inr (read.0, read.2, read.1))
+    (λ (cut : (cut : IsCut edits.MAGIC edits.VERSION index bytes) × (cut.stamp.id ≡ id)). inl cut)
+    (λ (read : (records : List (List ℕ)) × IsBadAmong records index × Spells bytes edits.MAGIC (edits.head_stamp id) records). inr (read.0, read.2, read.1))
     cause
 
 manifest_damaged : (id : ℕ) (rose : Type 0) (m : Moment) (past : List Moment) (refusal : ManifestError) (damage : Bad) → IsManifestReason refusal (open_error.Contents damage) → IsManifestCause id rose (m ∷ past) refusal → IsManifestDamaged id m.reads damage
@@ -137,15 +128,15 @@ pub manifest_rests : (id : ℕ) (moments : List Moment) (state : ManifestState) 
 manifest_rests id [] state o = tt
 manifest_rests id (m ∷ past) state o = by state.log.moments (o.stores.rests o.running)
   where
-    spelled : Spells m.reads edits.MAGIC state.log.id o.stores.records
+    spelled : Spells m.reads edits.MAGIC (edits.head_stamp state.log.id) o.stores.records
     spelled =
         let found = o.found in
-        subst (λ (n : ℕ). Spells m.reads edits.MAGIC n o.stores.records) (sym o.id_is)
-        (subst (λ (rs : List (List ℕ)). Spells m.reads edits.MAGIC id rs) (same_records found.0 o.stores.records o.edits found.2 o.stores.spelled) found.1)
+        subst (λ (n : ℕ). Spells m.reads edits.MAGIC (edits.head_stamp n) o.stores.records) (sym o.id_is)
+        (subst (λ (rs : List (List ℕ)). Spells m.reads edits.MAGIC (edits.head_stamp id) rs) (same_records found.0 o.stores.records o.edits found.2 o.stores.spelled) found.1)
 
-    by : (now : List Moment) → IfKnown now (IsAtRest edits.MAGIC state.log.id state.log.end [] [] o.stores.records) → IfKnown now (RestsAsSpelled edits.MAGIC m.reads)
+    by : (now : List Moment) → IfKnown now (IsAtRest edits.MAGIC (edits.head_stamp state.log.id) state.log.end [] [] o.stores.records) → IfKnown now (RestsAsSpelled edits.MAGIC m.reads)
     by [] rests = tt
-    by (n ∷ before) rests = record { id = state.log.id; end = state.log.end; records = o.stores.records; spelled = spelled; rests = rests }
+    by (n ∷ before) rests = record { stamp = edits.head_stamp state.log.id; end = state.log.end; records = o.stores.records; spelled = spelled; rests = rests }
 
 -- ---- how far an opening came
 
@@ -178,7 +169,7 @@ edit_left same_manifest same_tables rose log log_now manifest manifest_now table
 pub refused_from : OpensOrDamaged → (asked : ℕ) (same_manifest same_tables : Type 0) (old new : DevicesLeft) (why : OpenError)
     → IsCause asked (Rose old.log_faults new.log_faults) (Rose old.manifest_faults new.manifest_faults) (Rose old.tables_faults new.tables_faults) old.log old.manifest old.tables why
     → IsLeft same_manifest same_tables old.log new.log old.manifest new.manifest old.tables new.tables why
-    → KeepsLog wal.MAGIC asked old.log new.log old.log_faults new.log_faults → LosesNoRecord edits.MAGIC old.manifest new.manifest → old.manifest_faults ≤ new.manifest_faults → old.tables_faults ≤ new.tables_faults
+    → KeepsLog wal.MAGIC (wal.new_stamp asked) old.log new.log old.log_faults new.log_faults → LosesNoRecord edits.MAGIC old.manifest new.manifest → old.manifest_faults ≤ new.manifest_faults → old.tables_faults ≤ new.tables_faults
     → IsRefusedFrom asked same_manifest same_tables old new why
 refused_from law asked same_manifest same_tables old new why cause left log manifest manifest_later tables_later = record {
   cause = cause;

@@ -24,7 +24,7 @@ use Rattle.wp_open.specs.Opens.{AreCovering}
 -- ---- the log
 
 abbrev pub IsLogDamaged : List ℕ → Bad → Type 0
-IsLogDamaged bytes (bad.BadHead device.Log) = IsBadHead wal.MAGIC bytes
+IsLogDamaged bytes (bad.BadHead device.Log) = IsBadHead wal.MAGIC wal.NEWEST bytes
 IsLogDamaged bytes (bad.BadRecord index why) = IsBadLog bytes index why
 IsLogDamaged bytes (bad.Illegal number) = IsIllegalLog bytes number
 IsLogDamaged bytes other = ⊥
@@ -39,7 +39,7 @@ pub record Finds (asked id : ℕ) (history : List Entry) (bytes : List ℕ) : Ty
 -- ---- the manifest, after a log with that id
 
 abbrev pub IsManifestDamaged : ℕ → List ℕ → Bad → Type 0
-IsManifestDamaged id bytes (bad.BadHead device.Manifest) = IsBadHead edits.MAGIC bytes
+IsManifestDamaged id bytes (bad.BadHead device.Manifest) = IsBadHead edits.MAGIC edits.VERSION bytes
 IsManifestDamaged id bytes (bad.Stranger log found) = (found < 2 ^ 32) × IsStranger id log found bytes
 IsManifestDamaged id bytes (bad.BadEdit index) = IsBadEdit id index bytes
 IsManifestDamaged id bytes other = ⊥

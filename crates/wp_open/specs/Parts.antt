@@ -50,7 +50,7 @@ pub record ArePartsOf (asked : ℕ) (old : DevicesLeft) (wal : WalState) (histor
   -- what the devices read opens to the history that is handed out, and to the edit that names the store's tables
   pub opens : AllKnown old.log old.manifest old.tables (OpensTo wal.id history (installed_of edits.edit parts.tables))
   -- what each of the two logs keeps of its device
-  pub log : KeepsLog log_spelling.MAGIC asked old.log wal.moments old.log_faults wal.faults
-  pub manifest : KeepsLog edits_spelling.MAGIC wal.id old.manifest edits.log.moments old.manifest_faults edits.log.faults
+  pub log : KeepsLog log_spelling.MAGIC (log_spelling.new_stamp asked) old.log wal.moments old.log_faults wal.faults
+  pub manifest : KeepsLog edits_spelling.MAGIC (edits_spelling.head_stamp wal.id) old.manifest edits.log.moments old.manifest_faults edits.log.faults
   -- no fault of the third device is forgotten
   pub tables_later : old.tables_faults ≤ tables_faults

@@ -19,7 +19,7 @@ use Rattle.wp_manifest.specs.declared.error.ManifestError.{ManifestError}
 use Rattle.wp_manifest.specs.declared.error.ManifestError.TheVariants as manifest_error
 use Rattle.wp_manifest.specs.Edit.{Edit, IsEdit, place_of}
 use Rattle.wp_manifest.specs.Opening.{IsManifestCause, LeavesEdits}
-use Rattle.wp_manifest.specs.Spelling.{MAGIC, IsManifestOf, last_edit}
+use Rattle.wp_manifest.specs.Spelling.{MAGIC, IsManifestOf, last_edit, head_stamp}
 use Rattle.wp_table.specs.declared.error.TableError.{TableError}
 use Rattle.wp_table.specs.declared.error.TableError.TheVariants as table
 use Rattle.wp_open.specs.declared.bad.Bad.TheVariants as bad
@@ -100,13 +100,13 @@ pub record IsLogLeft (id : ℕ) (history : List Entry) (old new : List Moment) :
 pub record IsManifestLeft (id : ℕ) (edits : List Edit) (old new : List Moment) : Type 0 where
   pub found : IfKnown old (λ m. IsManifestOf id edits m.reads)
   pub rests : IsLeftAtRest MAGIC old new
-  pub survives : SurvivesThrough MAGIC id old new
+  pub survives : SurvivesThrough MAGIC (head_stamp id) old new
 
 -- How far a refused opening came, and what it left, besides what a stop in the opening of the log would leave. The devices that it
 -- did not reach are the same: `same_manifest` and `same_tables` say so.
 pub data IsLeft (same_manifest same_tables : Type 0) (log log_now manifest manifest_now tables tables_now : List Moment) (why : OpenError) : Type 0 where
   at_log : (refusal : WalError) → IsLogReason refusal why → LeavesRecords log log_now refusal → same_manifest → same_tables → IsLeft same_manifest same_tables log log_now manifest manifest_now tables tables_now why
-  at_manifest : (id : ℕ) (history : List Entry) (refusal : ManifestError) → IsLogLeft id history log log_now → IsManifestReason refusal why → LeavesEdits manifest manifest_now refusal → SurvivesThrough MAGIC id manifest manifest_now → same_tables → IsLeft same_manifest same_tables log log_now manifest manifest_now tables tables_now why
+  at_manifest : (id : ℕ) (history : List Entry) (refusal : ManifestError) → IsLogLeft id history log log_now → IsManifestReason refusal why → LeavesEdits manifest manifest_now refusal → SurvivesThrough MAGIC (head_stamp id) manifest manifest_now → same_tables → IsLeft same_manifest same_tables log log_now manifest manifest_now tables tables_now why
   at_place : (id : ℕ) (history : List Entry) (edits : List Edit) → IsLogLeft id history log log_now → IsManifestLeft id edits manifest manifest_now → place_of (last_edit edits) ≢ 0 → why ≡ open_error.Contents (bad.BadHead device.Log) → same_tables → IsLeft same_manifest same_tables log log_now manifest manifest_now tables tables_now why
   at_edit : (id : ℕ) (history : List Entry) (edits : List Edit) → IsLogLeft id history log log_now → IsManifestLeft id edits manifest manifest_now → length history < (last_edit edits).flushed → why ≡ open_error.Contents (bad.LogBehind (last_edit edits).flushed (length history)) → same_tables → IsLeft same_manifest same_tables log log_now manifest manifest_now tables tables_now why
   at_tables : (id : ℕ) (history : List Entry) (edits : List Edit) → IsLogLeft id history log log_now → IsManifestLeft id edits manifest manifest_now → (last_edit edits).flushed ≤ length history → IsOfTables id why → LeavesSynced same_tables tables tables_now why → IsLeft same_manifest same_tables log log_now manifest manifest_now tables tables_now why
@@ -119,7 +119,7 @@ pub record IsRefusedFrom (asked : ℕ) (same_manifest same_tables : Type 0) (old
   pub cause : IsCause asked (Rose old.log_faults new.log_faults) (Rose old.manifest_faults new.manifest_faults) (Rose old.tables_faults new.tables_faults) old.log old.manifest old.tables why
   pub only : AllKnown old.log old.manifest old.tables (λ log manifest tables. (found : ℕ) (history : List Entry) → Opens found history log manifest tables → (IsUnmade log → found ≡ asked) → IsOutside why)
   pub left : IsLeft same_manifest same_tables old.log new.log old.manifest new.manifest old.tables new.tables why
-  pub log_survives : SurvivesThrough log_spelling.MAGIC asked old.log new.log
+  pub log_survives : SurvivesThrough log_spelling.MAGIC (log_spelling.new_stamp asked) old.log new.log
   pub log_durable : LosesNoRecord log_spelling.MAGIC old.log new.log
   pub manifest_durable : LosesNoRecord MAGIC old.manifest new.manifest
   pub log_later : old.log_faults ≤ new.log_faults

@@ -8,7 +8,7 @@ ghost use Rattle.wp_open.specs.Opens.{AreCovering};
 
 use std::alloc::{AllocError, Global};
 use wp_cover::tables_cover;
-use wp_history::History;
+use wp_ledger::History;
 use wp_model::Seq;
 use wp_store::Store;
 
@@ -29,6 +29,7 @@ pub fn are_covering(
     flushed: Seq,
     store: &Store,
 ) -> Result<bool, AllocError>
+    requires { history.now.base ≡ 0 }
     ensures { (edit : Edit) → flushed ≡ edit.flushed → edit.flushed ≤ length history.now.entries → IsLegal history.now.entries
         → store.now.memory ≡ sorted_of (later_versions history.now.entries edit.flushed) → store.now.frozen ≡ []
         → IfOk result (λ yes. (yes ≡ true) ↔ AreCovering history.now.entries edit store.now.tables) }

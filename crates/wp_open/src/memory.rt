@@ -7,7 +7,7 @@ ghost use Rattle.wp_memtable.specs.Memtable.{HasChanges};
 ghost use Rattle.wp_merge.specs.Merge.{sorted_of};
 
 use std::alloc::{AllocError, Global};
-use wp_history::History;
+use wp_ledger::History;
 use wp_memtable::Memtable;
 use wp_model::{Entry, Seq};
 
@@ -24,16 +24,18 @@ fn insert_entry(memory: &mut Memtable, number: Seq, entry: &Entry) -> Result<(),
     }
 }
 
-/// The versions of the entries above the flushed number, in memory.
+/// The versions of the entries above the flushed number, in memory. That number is not below the base.
 pub fn later_memory(alloc: Global, history: &History, flushed: Seq) -> Result<Memtable, AllocError>
-    requires { flushed ≤ length history.now.entries }
+    requires from { history.now.base ≤ flushed }
+    requires within { flushed ≤ length history.now.entries }
     ensures memory { IfOk result (λ memory. memory ≡ sorted_of (later_versions history.now.entries flushed)) }
     ensures legal { IsLegal history.now.entries }
 {
-    let entries = history.entries();
+    let later = history.later();
+    let base = history.base();
     let mut memory = Memtable::new(alloc);
     for n in flushed..history.published() {
-        insert_entry(&mut memory, n + 1, &entries[n as usize])?;
+        insert_entry(&mut memory, n + 1, &later[(n - base) as usize])?;
     }
     Ok(memory)
 }

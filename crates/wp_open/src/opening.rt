@@ -18,7 +18,7 @@ use crate::reason::{log_reason, manifest_reason};
 use crate::tables::own_tables;
 use std::alloc::{AllocError, AllocFailed, Global};
 use wp_gatelog::DiskRefused;
-use wp_history::History;
+use wp_ledger::History;
 use wp_manifest::{Edit, Manifest};
 use wp_outside::{Device, Disk, Disks};
 use wp_store::Store;
@@ -83,6 +83,7 @@ fn open_store<D: Disk>(
     history: &History,
     edit: &Edit,
 ) -> Result<Store, OpenError>
+    requires { history.now.base ≡ 0 }
     ensures store { IfOk result (IsStoreOf history.now.entries edit.now) }
     ensures there { IfOk result (λ store. IfKnown (D.moments tables.old) (λ m. HasTables id edit.now.flushed m.reads edit.now.tables store.tables)) }
     ensures are { IfOk result (λ store. AllByRecursion (IsTable id edit.now.flushed) store.tables) }
@@ -120,6 +121,7 @@ pub fn open_parts<D: Disk>(
     disks: Disks<D>,
     id: u32,
 ) -> Result<Parts<D>, OpenRefused<D>>
+    ensures base { IfOk result (λ parts. parts.history.base ≡ 0) }
     ensures opened { IfOk result (λ parts. PartsOpened id (D.moments disks.log) (D.moments disks.manifest) (D.moments disks.tables) parts.wal parts.history.entries parts.manifest (D.moments parts.tables) parts.store) }
 
     ensures found { IfOk result (λ parts. ArePartsOf id (devices_of D.moments D.faults disks) parts.wal parts.history.entries parts.manifest (D.faults parts.tables) parts.store) }

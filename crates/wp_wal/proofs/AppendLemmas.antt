@@ -4,39 +4,42 @@ use Rattle.std.proofs.lemmas.List.{drop_all}
 use Rattle.std.specs.Prelude.{IfSome}
 use Rattle.wp_model.specs.declared.entry.Entry.{Entry}
 use Rattle.wp_outside.specs.Disk.{Moment, IsImage, IfKnown, Each, Passes}
-use Rattle.wp_fields.specs.declared.format.Format.TheVariants.{One}
+use Rattle.wp_fields.specs.declared.format.Format.{Format}
 use Rattle.wp_entry.specs.Record.{IsRecord, record_bytes}
 use Rattle.wp_gatelog.specs.declared.log.AppendError.{AppendError}
 use Rattle.wp_gatelog.specs.declared.log.AppendError.TheVariants.{DiskFault, Closed}
 use Rattle.wp_gatelog.specs.Append.{Appends, AppendsAfter, FrameAppended, FrameRefused}
 use Rattle.wp_gatelog.specs.Durability.{HasAcknowledged}
-use Rattle.wp_gatelog.specs.Log.{LogState, IsAtRest, BeforeOrAfter}
+use Rattle.wp_gatelog.specs.Log.{LogState, IsAtRest, BeforeOrAfter, stamp_of}
 use Rattle.wp_gatelog.specs.Moments.{Leaves}
-use Rattle.wp_gatelog.specs.Spelling.{Spells, log_of}
+use Rattle.wp_gatelog.specs.Spelling.{Stamp, stamped, IsUpTo, Spells, log_of}
 use Rattle.wp_outside.proofs.Moments.{image_of_synced}
 use Rattle.wp_gatelog.proofs.AcknowledgedLemmas.{rest_acknowledged}
-use Rattle.wp_wal.specs.Spelling.{MAGIC, AreEntries, IsLogOf, IsLogOrNext, HasAcknowledgedEntries}
+use Rattle.wp_wal.specs.Spelling.{MAGIC, NEWEST, AreEntries, IsLogOf, IsLogOrNext, HasAcknowledgedEntries}
 use Rattle.wp_wal.specs.Wal.{Reserved, reserved_of, WalState, wal_state, StoresHistory, LeavesHistory, IsReserved, AppendsNext, Appended}
 use Rattle.wp_wal.proofs.EntriesLemmas.{AreEntries-push}
 
 -- ---- images
 
-rests_image : (magic : List ℕ) (id end : ℕ) (dead : List ℕ) (records : List (List ℕ)) (m : Moment) (rests : IsAtRest magic id end [] dead records m) (image : List ℕ) → IsImage m image → image ≡ log_of magic id 1 rests.gated ++ 0 ∷ dead
-rests_image magic id end dead records m rests image is =
-    image_of_synced (log_of magic id 1 rests.gated ++ 0 ∷ dead) image (subst (λ (s : Moment). IsImage s image) rests.on_disk is)
+rests_image : (magic : List ℕ) (stamp : Stamp) (end : ℕ) (dead : List ℕ) (records : List (List ℕ)) (m : Moment) (rests : IsAtRest magic stamp end [] dead records m) (image : List ℕ) → IsImage m image → image ≡ log_of magic stamp 1 rests.gated ++ 0 ∷ dead
+rests_image magic stamp end dead records m rests image is =
+    image_of_synced (log_of magic stamp 1 rests.gated ++ 0 ∷ dead) image (subst (λ (s : Moment). IsImage s image) rests.on_disk is)
 
-rests_spells : (magic : List ℕ) (id end : ℕ) (dead : List ℕ) (records : List (List ℕ)) (m : Moment) → IsAtRest magic id end [] dead records m → Leaves (λ image. Spells image magic id records) m
-rests_spells magic id end dead records m rests image is =
-    inr (1, rests.gated, record { rest = dead; spelling = rests_image magic id end dead records m rests image is; head_open = λ e. absurd cc; gates_open = rests.acknowledged.gates_open }, rests.acknowledged.same)
+rests_spells : (magic : List ℕ) (stamp : Stamp) (end : ℕ) (dead : List ℕ) (records : List (List ℕ)) (m : Moment) → IsAtRest magic stamp end [] dead records m → Leaves (λ image. Spells image magic stamp records) m
+rests_spells magic stamp end dead records m rests image is =
+    inr (1, rests.gated, record { rest = dead; spelling = rests_image magic stamp end dead records m rests image is; head_open = λ e. absurd cc; gates_open = rests.acknowledged.gates_open }, rests.acknowledged.same)
 
 -- at rest, a crash leaves the history
-rests_history : (id end : ℕ) (dead : List ℕ) (records : List (List ℕ)) (history : List Entry) (moments : List Moment) → AreEntries 1 records history → IfKnown moments (IsAtRest MAGIC id end [] dead records) → IfKnown moments (LeavesHistory id history)
-rests_history id end dead records history [] spelled rests = tt
-rests_history id end dead records history (m ∷ past) spelled rests = λ image is.
-    ((records, rests_spells MAGIC id end dead records m rests image is, spelled), (records, rest_acknowledged MAGIC id end [] dead records m rests image is, spelled))
+rests_history : (format : Format) (id end : ℕ) (dead : List ℕ) (records : List (List ℕ)) (history : List Entry) (moments : List Moment) → IsUpTo NEWEST format → AreEntries format 1 records history
+    → IfKnown moments (IsAtRest MAGIC (stamped format id) end [] dead records) → IfKnown moments (LeavesHistory id history)
+rests_history format id end dead records history [] up spelled rests = tt
+rests_history format id end dead records history (m ∷ past) up spelled rests = λ image is. (
+  (format, records, up, rests_spells MAGIC (stamped format id) end dead records m rests image is, spelled),
+  (format, records, up, rest_acknowledged MAGIC (stamped format id) end [] dead records m rests image is, spelled),
+)
 
 pub running_history : (wal : WalState) (history next : List Entry) → StoresHistory wal history next → wal.closed ≡ false → IfKnown wal.moments (LeavesHistory wal.id history)
-running_history wal history next stores running = rests_history wal.id wal.end [] stores.records history wal.moments stores.spelled (stores.rests running)
+running_history wal history next stores running = rests_history wal.format wal.id wal.end [] stores.records history wal.moments stores.readable stores.spelled (stores.rests running)
 
 -- ---- moments
 
@@ -72,22 +75,22 @@ left_both P Q old new before ps qs =
 -- ---- the record after the history
 
 -- The bytes are the record of the next entries, which is reserved with their count.
-record IsNext (history next : List Entry) (due : ℕ) (r : Reserved) : Type 0 where
-  spelled : r.bytes ≡ record_bytes One (length history + 1) next
+record IsNext (format : Format) (history next : List Entry) (due : ℕ) (r : Reserved) : Type 0 where
+  spelled : r.bytes ≡ record_bytes format (length history + 1) next
   numbered : due ≡ length history + 1
   counted : r.count ≡ length next
-  is : IsRecord One (length history + 1) next
+  is : IsRecord format (length history + 1) next
 
-next_reserved : (log : LogState) (due : ℕ) (reserved : Option Reserved) (r : Reserved) (history next : List Entry) → reserved ≡ Some r → IsReserved (wal_state log due reserved) history next → IsNext history next due r
+next_reserved : (log : LogState) (due : ℕ) (reserved : Option Reserved) (r : Reserved) (history next : List Entry) → reserved ≡ Some r → IsReserved (wal_state log due reserved) history next → IsNext log.format history next due r
 next_reserved log due reserved r history next there is =
     let numbered : due ≡ length history + 1 = is.stores.numbered in
-    let lies : reserved ≡ Some (reserved_of due next) = is.reserved in
-    let same : r ≡ reserved_of due next = cc in
+    let lies : reserved ≡ Some (reserved_of log.format due next) = is.reserved in
+    let same : r ≡ reserved_of log.format due next = cc in
     record {
-      spelled = ap (λ (s : Reserved). s.bytes) same ∙ ap (λ (n : ℕ). record_bytes One n next) numbered;
+      spelled = ap (λ (s : Reserved). s.bytes) same ∙ ap (λ (n : ℕ). record_bytes log.format n next) numbered;
       numbered = numbered;
       counted = ap (λ (s : Reserved). s.count) same;
-      is = subst (λ (n : ℕ). IsRecord One n next) numbered is.is;
+      is = subst (λ (n : ℕ). IsRecord log.format n next) numbered is.is;
     }
 
 pub appended_reserved : (old new : LogState) (due : ℕ) (reserved : Option Reserved) (r : Reserved) → reserved ≡ Some r → FrameAppended old new r.bytes
@@ -95,28 +98,29 @@ pub appended_reserved : (old new : LogState) (due : ℕ) (reserved : Option Rese
 appended_reserved old new due reserved r there appended =
     let grown : new.end ≡ old.end + (length r.bytes + 9) = ap (λ (s : LogState). s.end) appended.changed in
     let end : new.end ≡ old.end + length r.bytes + 9 = omega arith in
+    let format : new.format ≡ old.format = ap (λ (s : LogState). s.format) appended.changed in
     let id : new.id ≡ old.id = ap (λ (s : LogState). s.id) appended.changed in
     let count : new.count ≡ old.count + 1 = ap (λ (s : LogState). s.count) appended.changed in
     let closed : new.closed ≡ old.closed = ap (λ (s : LogState). s.closed) appended.changed in
-    rw there (record { was_open = appended.was_open; changed = rw (end, id, count, closed) refl })
+    rw there (record { was_open = appended.was_open; changed = rw (end, format, id, count, closed) refl })
 
 module _ (old new : LogState) (due : ℕ) (reserved : Option Reserved) (r : Reserved) (there : reserved ≡ Some r) (history next : List Entry) (is : IsReserved (wal_state old due reserved) history next) where
   abbrev records : List (List ℕ)
   records = is.stores.records
 
-  one : IsNext history next due r
+  one : IsNext old.format history next due r
   one = next_reserved old due reserved r history next there is
 
-  spelled_next : AreEntries 1 (records ++ r.bytes ∷ []) (history ++ next)
+  spelled_next : AreEntries old.format 1 (records ++ r.bytes ∷ []) (history ++ next)
   spelled_next =
-      subst (λ (bytes : List ℕ). AreEntries 1 (records ++ bytes ∷ []) (history ++ next)) (sym one.spelled) (AreEntries-push records history next is.stores.spelled one.is)
+      subst (λ (bytes : List ℕ). AreEntries old.format 1 (records ++ bytes ∷ []) (history ++ next)) (sym one.spelled) (AreEntries-push old.format records history next is.stores.spelled one.is)
 
   -- before or after, an image spells the history or it with the next entries
-  grown : (image : List ℕ) → BeforeOrAfter 0 MAGIC old.id records r.bytes image → IsLogOrNext old.id history next image
+  grown : (image : List ℕ) → BeforeOrAfter 0 MAGIC (stamp_of old) records r.bytes image → IsLogOrNext old.id history next image
   grown image h =
       elim h [
-        | inl before ↦ inl (records, before, is.stores.spelled)
-        | inr after ↦ inr (records ++ r.bytes ∷ [], after, spelled_next)
+        | inl before ↦ inl (old.format, records, is.stores.readable, before, is.stores.spelled)
+        | inr after ↦ inr (old.format, records ++ r.bytes ∷ [], is.stores.readable, after, spelled_next)
       ]
 
   module _ {T E : Type 0} (result : Result T E) (appends : Appends r.bytes old new result) where
@@ -126,28 +130,30 @@ module _ (old new : LogState) (due : ℕ) (reserved : Option Reserved) (r : Rese
     passes : Passes (Leaves (IsLogOrNext old.id history next)) old.moments new.moments
     passes =
         let passed = after.any_moment in
-        (passed.0, passed.1, each_other (BeforeOrAfter 0 MAGIC old.id records r.bytes) (IsLogOrNext old.id history next) passed.0 grown passed.2)
+        (passed.0, passed.1, each_other (BeforeOrAfter 0 MAGIC (stamp_of old) records r.bytes) (IsLogOrNext old.id history next) passed.0 grown passed.2)
 
     acknowledges : Passes (Leaves (HasAcknowledgedEntries old.id history)) old.moments new.moments
     acknowledges =
         let passed = after.acknowledged in
-        (passed.0, passed.1, each_other (HasAcknowledged MAGIC old.id records) (HasAcknowledgedEntries old.id history) passed.0 (λ image h. (records, h, is.stores.spelled)) passed.2)
+        (passed.0, passed.1, each_other (HasAcknowledged MAGIC (stamp_of old) records) (HasAcknowledgedEntries old.id history) passed.0 (λ image h. (old.format, records, is.stores.readable, h, is.stores.spelled)) passed.2)
 
   pub appends_next : {T U E F : Type 0} (x : T) (y : U) → FrameAppended old new r.bytes → Appends {E = E} r.bytes old new (Ok x) → AppendsNext {E = F} history next (wal_state old due reserved) (wal_state new (due + r.count) None) (Ok y)
   appends_next x y appended appends =
       let count : new.count ≡ old.count + 1 = ap (λ (s : LogState). s.count) appended.changed in
       let before : old.count ≡ length records = is.stores.counted in
       let running : new.closed ≡ old.closed = ap (λ (s : LogState). s.closed) appended.changed in
+      let version : new.format ≡ old.format = ap (λ (s : LogState). s.format) appended.changed in
       let was_open = appended.was_open in
       record {
         any_moment = passes (Ok x) appends;
         acknowledged = acknowledges (Ok x) appends;
         stores = record {
           records = records ++ r.bytes ∷ [];
-          spelled = spelled_next;
+          readable = subst (IsUpTo NEWEST) (sym version) is.stores.readable;
+          spelled = subst (λ (f : Format). AreEntries f 1 (records ++ r.bytes ∷ []) (history ++ next)) (sym version) spelled_next;
           counted = omega (arith, count, before, length-append records (r.bytes ∷ []));
           numbered = omega (arith, one.numbered, one.counted, length-append history next);
-          rests = λ _. subst (λ (l : List ℕ). IfKnown new.moments (IsAtRest MAGIC new.id new.end [] l (records ++ r.bytes ∷ []))) (drop_all (length r.bytes + 9) [] (omega arith)) (after (Ok x) appends).rests;
+          rests = λ _. subst (λ (l : List ℕ). IfKnown new.moments (IsAtRest MAGIC (stamp_of new) new.end [] l (records ++ r.bytes ∷ []))) (drop_all (length r.bytes + 9) [] (omega arith)) (after (Ok x) appends).rests;
           left = λ closed. absurd cc;
         };
         refused = tt;
@@ -158,11 +164,13 @@ module _ (old new : LogState) (due : ℕ) (reserved : Option Reserved) (r : Rese
       let before = known_other (λ image. IsLogOf old.id history image × HasAcknowledgedEntries old.id history image) (λ image. IsLogOrNext old.id history next image × HasAcknowledgedEntries old.id history image) old.moments
       (λ image h. (inl h.0, h.1)) (running_history (wal_state old due reserved) history [] is.stores is.running) in
       let same : new.id ≡ old.id = ap (λ (s : LogState). s.id) refuses.2 in
+      let version : new.format ≡ old.format = ap (λ (s : LogState). s.format) refuses.2 in
       let closed : new.closed ≡ true = ap (λ (s : LogState). s.closed) refuses.2 in
       let count : new.count ≡ old.count = ap (λ (s : LogState). s.count) refuses.2 in
       record {
         records = records;
-        spelled = is.stores.spelled;
+        readable = subst (IsUpTo NEWEST) (sym version) is.stores.readable;
+        spelled = subst (λ (f : Format). AreEntries f 1 records history) (sym version) is.stores.spelled;
         counted = count ∙ is.stores.counted;
         numbered = is.stores.numbered;
         rests = λ reopened. absurd cc;

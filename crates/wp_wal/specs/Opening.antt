@@ -4,14 +4,15 @@ use Rattle.wp_model.specs.declared.entry.Entry.{Entry}
 use Rattle.wp_model.specs.Legal.{IsLegal}
 use Rattle.wp_outside.specs.Disk.{Moment, IfKnown, added, after_sync}
 use Rattle.wp_outside.specs.Faults.{Rose}
+use Rattle.wp_fields.specs.declared.format.Format.{Format}
 use Rattle.wp_entry.specs.declared.error.RecordError.{RecordError}
 use Rattle.wp_entry.specs.declared.error.RecordError.TheVariants.{Short}
 use Rattle.wp_gatelog.specs.Damage.{IsBadHead, IsCut}
 use Rattle.wp_gatelog.specs.Left.{IsLeftAtRest, IsSyncedOrAtRest}
-use Rattle.wp_gatelog.specs.Spelling.{IsUnmade, Spells}
+use Rattle.wp_gatelog.specs.Spelling.{IsUnmade, IsUpTo, Spells, stamped}
 use Rattle.wp_wal.specs.declared.error.WalError.{WalError}
 use Rattle.wp_wal.specs.declared.error.WalError.TheVariants.{Memory, DiskFault, BadHead, BadRecord, Illegal}
-use Rattle.wp_wal.specs.Spelling.{MAGIC, IsLogOf}
+use Rattle.wp_wal.specs.Spelling.{MAGIC, NEWEST, IsLogOf}
 use Rattle.wp_wal.specs.Reading.{IsBadRecord, IsIllegal}
 use Rattle.wp_wal.specs.Wal.{WalState, StoresHistory}
 
@@ -27,22 +28,31 @@ pub record IsOpenedLog (asked : ℕ) (old : List Moment) (wal : WalState) (histo
 
 -- ---- refusals
 
+-- the bytes spell these records, in this version
+abbrev pub SpellsIn : Format → List (List ℕ) → List ℕ → Type 0
+SpellsIn format records bytes = (id : ℕ) × Spells bytes MAGIC (stamped format id) records
+
 -- record index of the log's bytes is cut; or none is, and it is the first that is no record
 abbrev pub IsBadLog : List ℕ → ℕ → RecordError → Type 0
-IsBadLog bytes index why = (IsCut MAGIC index bytes × (why ≡ Short)) ⊎ ((id : ℕ) × (records : List (List ℕ)) × Spells bytes MAGIC id records × IsBadRecord records index why)
+IsBadLog bytes index why =
+    (IsCut MAGIC NEWEST index bytes × (why ≡ Short))
+    ⊎ ((format : Format) × (records : List (List ℕ)) × IsUpTo NEWEST format × SpellsIn format records bytes × IsBadRecord format records index why)
 
 -- the log's bytes spell records, and the entry with this number is the first that is illegal
 abbrev pub IsIllegalLog : List ℕ → ℕ → Type 0
-IsIllegalLog bytes number = (id : ℕ) × (records : List (List ℕ)) × Spells bytes MAGIC id records × IsIllegal records number
+IsIllegalLog bytes number = (format : Format) × (records : List (List ℕ)) × IsUpTo NEWEST format × SpellsIn format records bytes × IsIllegal format records number
 
 -- Why the log was not opened: its disk's count of faults rose, or its bytes are damaged. What they are may be unknown; that
 -- the records which they spell are damaged so holds all the same. Want of memory needs no cause.
 abbrev pub IsLogCause : (rose : Type 0) → List Moment → WalError → Type 0
 IsLogCause rose moments Memory = Unit {0}
 IsLogCause rose moments DiskFault = rose
-IsLogCause rose moments BadHead = IfKnown moments (λ m. IsBadHead MAGIC m.reads)
-IsLogCause rose moments (BadRecord index why) = (IfKnown moments (λ m. IsCut MAGIC index m.reads) × (why ≡ Short)) ⊎ ((records : List (List ℕ)) × IfKnown moments (λ m. (id : ℕ) × Spells m.reads MAGIC id records) × IsBadRecord records index why)
-IsLogCause rose moments (Illegal number) = (records : List (List ℕ)) × IfKnown moments (λ m. (id : ℕ) × Spells m.reads MAGIC id records) × IsIllegal records number
+IsLogCause rose moments BadHead = IfKnown moments (λ m. IsBadHead MAGIC NEWEST m.reads)
+IsLogCause rose moments (BadRecord index why) =
+    (IfKnown moments (λ m. IsCut MAGIC NEWEST index m.reads) × (why ≡ Short))
+    ⊎ ((format : Format) × (records : List (List ℕ)) × IsUpTo NEWEST format × IfKnown moments (λ m. SpellsIn format records m.reads) × IsBadRecord format records index why)
+IsLogCause rose moments (Illegal number) =
+    (format : Format) × (records : List (List ℕ)) × IsUpTo NEWEST format × IfKnown moments (λ m. SpellsIn format records m.reads) × IsIllegal format records number
 
 -- what a refusal leaves; where the disk failed, that is left open
 abbrev pub LeavesRecords : List Moment → List Moment → WalError → Type 0

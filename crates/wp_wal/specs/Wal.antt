@@ -1,17 +1,17 @@
 -- An open log that stores a history, and what an append makes of it.
 use Rattle.std.specs.Prelude.{◌≡◌, ℕ, ◌+◌, ◌≤◌, Bool, true, false, List, [], ◌++◌, length, Option, Some, None, Result, OnOk, OnErr}
-use Rattle.wp_model.specs.Legal.{log_end}
 use Rattle.wp_model.specs.declared.entry.Entry.{Entry}
 use Rattle.wp_outside.specs.Disk.{Moment, IfKnown, Passes}
 use Rattle.wp_outside.specs.Faults.{Rose}
-use Rattle.wp_fields.specs.declared.format.Format.TheVariants.{One}
-use Rattle.wp_entry.specs.Record.{IsRecord, record_bytes}
+use Rattle.wp_fields.specs.declared.format.Format.{Format}
+use Rattle.wp_entry.specs.Record.{IsRecord, last_number, record_bytes}
 use Rattle.wp_gatelog.specs.declared.log.AppendError.{AppendError}
 use Rattle.wp_gatelog.specs.declared.log.AppendError.TheVariants.{DiskFault, Closed}
 use Rattle.wp_gatelog.specs.Log.{LogState, IsAtRest}
 use Rattle.wp_gatelog.specs.Durability.{LosesNoRecord}
 use Rattle.wp_gatelog.specs.Moments.{Leaves}
-use Rattle.wp_wal.specs.Spelling.{MAGIC, AreEntries, IsLogOf, IsLogOrNext, HasAcknowledgedEntries}
+use Rattle.wp_gatelog.specs.Spelling.{IsUpTo, stamped}
+use Rattle.wp_wal.specs.Spelling.{MAGIC, NEWEST, AreEntries, IsLogOf, IsLogOrNext, HasAcknowledgedEntries}
 
 -- ---- the log
 
@@ -20,13 +20,14 @@ pub record Reserved : Type 0 where
   pub bytes : List ℕ
   pub count : ℕ  -- its entries
 
--- the record of these entries, of which the first has that number
-abbrev pub reserved_of : ℕ → List Entry → Reserved
-reserved_of first entries = record { bytes = record_bytes One first entries; count = length entries }
+-- the record of this version of these entries, of which the first has that number
+abbrev pub reserved_of : Format → ℕ → List Entry → Reserved
+reserved_of format first entries = record { bytes = record_bytes format first entries; count = length entries }
 
 pub record WalState : Type 0 where
   pub moments : List Moment  -- its disk's
   pub faults : ℕ  -- its disk's
+  pub format : Format
   pub id : ℕ
   pub end : ℕ  -- the place of the gate that ends it
   pub closed : Bool  -- an append has failed
@@ -39,6 +40,7 @@ abbrev pub wal_state : LogState → ℕ → Option Reserved → WalState
 wal_state log due reserved = record {
   moments = log.moments;
   faults = log.faults;
+  format = log.format;
   id = log.id;
   end = log.end;
   closed = log.closed;
@@ -47,10 +49,10 @@ wal_state log due reserved = record {
   reserved = reserved;
 }
 
--- the numbers before the next one fit in four bytes, those of the entries that are reserved too
-abbrev pub HasNumbers : ℕ → Option Reserved → Type 0
-HasNumbers due None = due ≤ log_end
-HasNumbers due (Some reserved) = due + reserved.count ≤ log_end
+-- the numbers before the next one are those of entries in this version, those of the entries that are reserved too
+abbrev pub HasNumbers : Format → ℕ → Option Reserved → Type 0
+HasNumbers format due None = due ≤ last_number format + 1
+HasNumbers format due (Some reserved) = due + reserved.count ≤ last_number format + 1
 
 -- each image of the moment spells the history, and has it acknowledged
 abbrev pub LeavesHistory : ℕ → List Entry → Moment → Type 0
@@ -64,10 +66,11 @@ LeavesHistoryOrNext id history next = Leaves (λ image. IsLogOrNext id history n
 -- those, or those and one that spells the next entries, whole.
 pub record StoresHistory (wal : WalState) (history next : List Entry) : Type 0 where
   pub records : List (List ℕ)
-  pub spelled : AreEntries 1 records history
+  pub readable : IsUpTo NEWEST wal.format
+  pub spelled : AreEntries wal.format 1 records history
   pub counted : wal.count ≡ length records
   pub numbered : wal.due ≡ length history + 1
-  pub rests : wal.closed ≡ false → IfKnown wal.moments (IsAtRest MAGIC wal.id wal.end [] [] records)
+  pub rests : wal.closed ≡ false → IfKnown wal.moments (IsAtRest MAGIC (stamped wal.format wal.id) wal.end [] [] records)
   pub left : wal.closed ≡ true → IfKnown wal.moments (LeavesHistoryOrNext wal.id history next)
 
 -- ---- appending
@@ -76,8 +79,8 @@ pub record StoresHistory (wal : WalState) (history next : List Entry) : Type 0 w
 pub record IsReserved (wal : WalState) (history next : List Entry) : Type 0 where
   pub stores : StoresHistory wal history []
   pub running : wal.closed ≡ false
-  pub is : IsRecord One wal.due next
-  pub reserved : wal.reserved ≡ Some (reserved_of wal.due next)
+  pub is : IsRecord wal.format wal.due next
+  pub reserved : wal.reserved ≡ Some (reserved_of wal.format wal.due next)
 
 -- The record of these entries, which is reserved, is appended to a log that stores the history.
 pub record AppendsNext {T E : Type 0} (history next : List Entry) (old new : WalState) (result : Result T E) : Type 0 where

@@ -8,7 +8,7 @@ ghost use Rattle.wp_entry.specs.declared.error.RecordError.{RecordError};
 ghost use Rattle.wp_gatelog.specs.Damage.{IsBadHead};
 ghost use Rattle.wp_gatelog.specs.Moments.{Leaves};
 ghost use Rattle.wp_wal.specs.Opening.{IsBadLog, IsIllegalLog};
-ghost use Rattle.wp_wal.specs.Spelling.{MAGIC, IsLogOf, HasAcknowledgedEntries};
+ghost use Rattle.wp_wal.specs.Spelling.{MAGIC, NEWEST, IsLogOf, HasAcknowledgedEntries};
 ghost use Rattle.wp_wal.specs.Wal.{WalState, StoresHistory};
 
 use wp_entry::{records_are_read, spellings_differ};
@@ -25,15 +25,15 @@ pub fn a_log_is_read_in_one_way()
     ensures one_illegal { (bytes : List ℕ) (number other : ℕ)
         → IsIllegalLog bytes number → IsIllegalLog bytes other → number ≡ other }
     ensures legal_or_bad_head { (bytes : List ℕ) (id : ℕ) (history : List Entry)
-        → IsLogOf id history bytes → IsBadHead MAGIC bytes → ⊥ }
+        → IsLogOf id history bytes → IsBadHead MAGIC NEWEST bytes → ⊥ }
     ensures legal_or_bad_record { (bytes : List ℕ) (id index : ℕ) (history : List Entry) (why : RecordError)
         → IsLogOf id history bytes → IsBadLog bytes index why → ⊥ }
     ensures legal_or_illegal { (bytes : List ℕ) (id number : ℕ) (history : List Entry)
         → IsLogOf id history bytes → IsLegal history → IsIllegalLog bytes number → ⊥ }
     ensures bad_head_or_bad_record { (bytes : List ℕ) (index : ℕ) (why : RecordError)
-        → IsBadHead MAGIC bytes → IsBadLog bytes index why → ⊥ }
+        → IsBadHead MAGIC NEWEST bytes → IsBadLog bytes index why → ⊥ }
     ensures bad_head_or_illegal { (bytes : List ℕ) (number : ℕ)
-        → IsBadHead MAGIC bytes → IsIllegalLog bytes number → ⊥ }
+        → IsBadHead MAGIC NEWEST bytes → IsIllegalLog bytes number → ⊥ }
     ensures bad_record_or_illegal { (bytes : List ℕ) (index number : ℕ) (why : RecordError)
         → IsBadLog bytes index why → IsIllegalLog bytes number → ⊥ }
 {

@@ -10,19 +10,20 @@ use std::alloc::Global;
 use wp_entry::{RecordError, read_record};
 use wp_fields::Format;
 use wp_gatelog::Record;
-use wp_history::History;
+use wp_ledger::History;
 use wp_model::{Entry, Seq};
 
 /// Puts the entries after the history, up to the first that may not come there: the error is its number.
 fn take_entries(history: &mut History, entries: Vec<Entry>) -> Result<(), Seq>
     requires few { length history.old.entries + length entries.items < log_end }
     requires room { length entries.items ≤ history.old.room }
+    ensures base { history.new.base ≡ history.old.base }
     ensures ok { OnOk result (history.new.entries ≡ history.old.entries ++ entries.items) }
     ensures err { IfErr result (IsIllegalAmong history.old.entries entries.items) }
 {
     for entry in entries {
         if !history.is_legal_next(&entry) {
-            return Err(history.entries().len() as u64 + 1);
+            return Err(history.published() + 1);
         }
         history.push(entry);
     }
@@ -32,15 +33,17 @@ fn take_entries(history: &mut History, entries: Vec<Entry>) -> Result<(), Seq>
 /// Puts the entries after the history that the record with this index is.
 fn take_record(
     alloc: Global,
+    format: Format,
     history: &mut History,
     index: u64,
     bytes: &[u8],
 ) -> Result<(), WalError>
-    ensures ok { OnOk result (TakesRecord history.old.entries history.new.entries bytes.now) }
-    ensures err { IfErr result (IsRefusedRecord history.old.entries index bytes.now) }
+    ensures base { history.new.base ≡ history.old.base }
+    ensures ok { OnOk result (TakesRecord format history.old.entries history.new.entries bytes.now) }
+    ensures err { IfErr result (IsRefusedRecord format history.old.entries index bytes.now) }
 {
-    let due = history.entries().len() as u64 + 1;
-    let entries = match read_record(alloc, bytes, Format::One, due) {
+    let due = history.published() + 1;
+    let entries = match read_record(alloc, bytes, format, due) {
         Ok(entries) => entries,
         Err(RecordError::Memory) => return Err(WalError::Memory),
         Err(why) => return Err(WalError::BadRecord { index, why }),
@@ -52,14 +55,19 @@ fn take_record(
     }
 }
 
-/// The history that the records spell. Most records have one entry, so it begins with room for so many.
-pub(crate) fn history_of(alloc: Global, records: &[Record]) -> Result<History, WalError>
-    ensures ok { IfOk result (λ history. AreEntries 1 records.now history.entries) }
-    ensures err { IfErr result (IsRecordCause records.now) }
+/// The history that the records of this version spell. Most records have one entry, so it begins with room for so many.
+pub(crate) fn history_of(
+    alloc: Global,
+    format: Format,
+    records: &[Record],
+) -> Result<History, WalError>
+    ensures base { IfOk result (λ history. history.base ≡ 0) }
+    ensures ok { IfOk result (λ history. AreEntries format 1 records.now history.entries) }
+    ensures err { IfErr result (IsRecordCause format records.now) }
 {
     let mut history = History::with_capacity(alloc, records.len())?;
     for (i, record) in records.iter().enumerate() {
-        take_record(alloc, &mut history, i as u64, record.bytes())?;
+        take_record(alloc, format, &mut history, i as u64, record.bytes())?;
     }
     Ok(history)
 }

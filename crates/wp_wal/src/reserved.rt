@@ -1,6 +1,5 @@
 //! What the next append writes.
 ghost use Rattle.std.specs.Prelude.{◌≡◌, IfOk};
-ghost use Rattle.wp_fields.specs.declared.format.Format.TheVariants.{One};
 ghost use Rattle.wp_entry.specs.Record.{FormRecord, IsRecord};
 ghost use Rattle.wp_wal.specs.Wal.{reserved_of};
 
@@ -27,14 +26,20 @@ impl Model for Reserved {
 }
 
 impl Reserved {
-    /// The record of the entries, where the first of them has the number `due`. Its bytes are written once, into its frame.
-    pub(crate) fn of(alloc: Global, due: Seq, entries: &[Entry]) -> Result<Reserved, AllocError>
-        requires { FormRecord One due entries.now }
-        ensures reserved { IfOk result (λ reserved. reserved ≡ reserved_of due entries.now) }
-        ensures record { IfOk result (λ _. IsRecord One due entries.now) }
+    /// The record of this version of the entries, where the first of them has the number `due`. Its bytes are written once,
+    /// into its frame.
+    pub(crate) fn of(
+        alloc: Global,
+        format: Format,
+        due: Seq,
+        entries: &[Entry],
+    ) -> Result<Reserved, AllocError>
+        requires { FormRecord format due entries.now }
+        ensures reserved { IfOk result (λ reserved. reserved ≡ reserved_of format due entries.now) }
+        ensures record { IfOk result (λ _. IsRecord format due entries.now) }
     {
         let mut room = Frame::room(alloc)?;
-        push_record(&mut room, Format::One, due, entries)?;
+        push_record(&mut room, format, due, entries)?;
         Ok(Reserved {
             frame: Frame::of(room)?,
             count: entries.len() as u64,

@@ -2,10 +2,9 @@
 ghost use Rattle.std.specs.Prelude.{◌≡◌, ◌≤◌, List, Some, true, false, is_some, IfOk, IfErr, IfSome, OnOk, OnErr, MatchResult};
 ghost use Rattle.wp_model.specs.declared.entry.Entry.{Entry};
 ghost use Rattle.wp_outside.specs.Disk.{IfKnown};
-ghost use Rattle.wp_fields.specs.declared.format.Format.TheVariants.{One};
 ghost use Rattle.wp_entry.specs.Record.{FormRecord, IsRecord};
 ghost use Rattle.wp_gatelog.specs.Opening.{KeepsLog};
-ghost use Rattle.wp_wal.specs.Spelling.{MAGIC};
+ghost use Rattle.wp_wal.specs.Spelling.{MAGIC, new_stamp};
 ghost use Rattle.wp_wal.specs.Opening.{IsOpenedLog, IsUnopenedLog};
 ghost use Rattle.wp_wal.specs.Wal.{LosesNothing, StoresHistory, IsReserved, LeavesHistory, AppendsNext, Appended, Refuses, reserved_of};
 
@@ -14,16 +13,17 @@ use crate::read::history_of;
 use crate::reserved::Reserved;
 use std::alloc::{AllocError, Global};
 use std::marker::Model;
+use wp_fields::Format;
 use wp_gatelog::{AppendError, DiskRefused, GateLog};
-use wp_history::History;
+use wp_ledger::History;
 use wp_model::{Entry, Seq};
 use wp_outside::Disk;
 
 /// The first four bytes after the gate of the log's head.
 const LOG_MAGIC: [u8; 4] = *b"WPLG";
 
-/// An open log whose records spell a history. Clauses see its disk's moments and faults, its id, where it ends,
-/// whether it is closed, how many records it has, the number that the next entry gets, and the record that is
+/// An open log whose records spell a history. Clauses see its disk's moments and faults, its version and id, where it
+/// ends, whether it is closed, how many records it has, the number that the next entry gets, and the record that is
 /// reserved.
 pub struct Wal<D: Disk> {
     alloc: Global,
@@ -39,7 +39,7 @@ impl<D: Disk> Model for Wal<D> {
 
     ghost view = { λ w. wal_state w.log w.due w.reserved };
 
-    ghost invariant = { λ w. HasNumbers w.due w.reserved };
+    ghost invariant = { λ w. HasNumbers w.log.format w.due w.reserved };
 }
 
 impl<D: Disk> Wal<D> {
@@ -49,22 +49,23 @@ impl<D: Disk> Wal<D> {
         disk: D,
         id: u32,
     ) -> Result<(Wal<D>, History), DiskRefused<D, WalError>>
+        ensures base { IfOk result (λ opened. opened.1.base ≡ 0) }
         ensures opened { IfOk result (λ opened. IsOpenedLog id (D.moments disk) opened.0 opened.1.entries) }
         ensures refused { IfErr result (λ refused. IsUnopenedLog
             (D.moments disk) (D.moments refused.disk) (D.faults disk) (D.faults refused.disk) refused.why) }
         ensures kept { MatchResult result
-            (λ opened. KeepsLog MAGIC id (D.moments disk) opened.0.moments (D.faults disk) opened.0.faults)
-            (λ refused. KeepsLog MAGIC id
+            (λ opened. KeepsLog MAGIC (new_stamp id) (D.moments disk) opened.0.moments (D.faults disk) opened.0.faults)
+            (λ refused. KeepsLog MAGIC (new_stamp id)
             (D.moments disk) (D.moments refused.disk) (D.faults disk) (D.faults refused.disk)) }
     {
-        let (log, records) = match GateLog::open(alloc, disk, 0, LOG_MAGIC, id) {
+        let (log, records) = match GateLog::open(alloc, disk, 0, LOG_MAGIC, Format::One, id) {
             Ok(opened) => opened,
             Err(DiskRefused { disk, why }) => {
                 let why = WalError::from(why);
                 return Err(DiskRefused { disk, why });
             }
         };
-        match history_of(alloc, &records) {
+        match history_of(alloc, log.format(), &records) {
             Ok(history) => {
                 let due = history.published() + 1;
                 let wal = Wal {
@@ -82,6 +83,13 @@ impl<D: Disk> Wal<D> {
         }
     }
 
+    /// The version in the log's head: what is appended is of it.
+    pub fn format(&self) -> Format
+        ensures { result ≡ self.now.format }
+    {
+        self.log.format()
+    }
+
     /// The id in the log's head.
     pub fn id(&self) -> u32
         ensures { result ≡ self.now.id }
@@ -92,12 +100,12 @@ impl<D: Disk> Wal<D> {
     /// Makes the record of the entries for the next append, in place of the one that was reserved. Their numbers are
     /// the next ones.
     pub fn reserve(&mut self, entries: &[Entry]) -> Result<(), AllocError>
-        requires { FormRecord One self.old.due entries.now }
-        ensures ok { OnOk result (self.new ≡ record self.old { reserved = Some (reserved_of self.old.due entries.now) }) }
-        ensures record { OnOk result (IsRecord One self.old.due entries.now) }
+        requires { FormRecord self.old.format self.old.due entries.now }
+        ensures ok { OnOk result (self.new ≡ record self.old { reserved = Some (reserved_of self.old.format self.old.due entries.now) }) }
+        ensures record { OnOk result (IsRecord self.old.format self.old.due entries.now) }
         ensures err { OnErr result (self.new ≡ self.old) }
     {
-        self.reserved = Some(Reserved::of(self.alloc, self.due, entries)?);
+        self.reserved = Some(Reserved::of(self.alloc, self.log.format(), self.due, entries)?);
         Ok(())
     }
 

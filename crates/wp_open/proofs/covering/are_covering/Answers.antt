@@ -6,6 +6,7 @@ use Rattle.wp_model.specs.Covered.{IsCovered}
 use Rattle.wp_model.specs.Flushed.{later_versions}
 use Rattle.wp_merge.specs.Merge.{joined}
 use Rattle.wp_open.specs.Opens.{AreCovering}
+use Rattle.wp_cover.proofs.Based.{none_settled}
 use Rattle.wp_open.proofs.AllVersions.{covering_is}
 use Rattle.wp_open.proofs.OwnVersions.{all_in_memory}
 use Rattle.wp_open.proofs.covering.are_covering.Goals as goal
@@ -15,6 +16,9 @@ returns-then-is_all_in_memory c = λ edit same low legal is none. (
   λ _. all_in_memory c.args.history.now.entries edit c.args.store.now.tables (sym same ∙ c.is_all_in_memory.ensures.flushed c.if-is_all_in_memory.true) (c.is_all_in_memory.ensures.tables c.if-is_all_in_memory.true) legal,
   λ _. refl,
 )
+
+pub tables_cover-requires-clause-settled : goal.tables_cover-requires-clause-settled
+tables_cover-requires-clause-settled c = none_settled c.args.history.now _ c.requires
 
 pub returns : goal.returns
 returns c = λ edit same low legal is none.

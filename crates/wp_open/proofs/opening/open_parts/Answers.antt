@@ -97,7 +97,7 @@ returns-in-Err-open_store-clause-refused g c =
     let rests : IsManifestLeft c.id-found.result opened.edits manifest (g.D.Peek.moments c.into_disk-in-Err-open_store-2.result) = record {
       found = opened.found;
       rests = subst (λ (ms : List Moment). IsLeftAtRest edits.MAGIC manifest ms) (sym back) (manifest_rests c.id-found.result manifest c.in-Ok-open.manifest opened);
-      survives = subst (λ (ms : List Moment). SurvivesThrough edits.MAGIC c.id-found.result manifest ms) (sym back) c.in-Ok-open.ensures.kept.survives;
+      survives = subst (λ (ms : List Moment). SurvivesThrough edits.MAGIC (edits.head_stamp c.id-found.result) manifest ms) (sym back) c.in-Ok-open.ensures.kept.survives;
     } in
     refused_from c.a_store_is_opened_in_one_way.ensures.opened_or_damaged c.args.id _ _ _ _ _
     (of_edit c.id-found.result history opened.edits was (record { are = opened.stores.spelled.are; known = opened.found })

@@ -1,4 +1,4 @@
-use Rattle.std.proofs.Common.{◌≡◌, true, map}
+use Rattle.std.proofs.Common.{map}
 use Rattle.std.specs.Arc.{arc_value}
 use Rattle.std.proofs.lemmas.Result.{IfOk-weaker, IfErr-weaker}
 use Rattle.wp_outside.specs.Disk.{IfKnown}
