@@ -22,7 +22,7 @@ use Rattle.wp_core.specs.Notes.{forgets, ends}
 use Rattle.wp_core.specs.Sound.Actors.{seen_of, own_of, AreSeen, AreLearned, AreOwned, AreHeld, HoldersHave, AreLed, IsIdle, AreIdle, participants_of, learned_of, held_of, role_of, Role, EachParticipant}
 use Rattle.wp_core.specs.Sound.History.{IsHistory, IsPendingHeld}
 use Rattle.wp_core.specs.Sound.Prepared.{IsCache, AreDecided, AreUndecided, AreDelayed, AreFlags}
-use Rattle.wp_core.specs.Sound.Snapshots.{registered_of, AreRegistered, view_of, HasSeen}
+use Rattle.wp_core.specs.Sound.Snapshots.{registered_of, AreRegistered, AreFromOpening, view_of, HasSeen}
 use Rattle.wp_core.specs.Sound.Store.{IsStored, IsSettled}
 use Rattle.wp_core.specs.Sound.Segments.{AreCoupled}
 use Rattle.wp_core.specs.Sound.Locks.{owner_of, AreLocked}
@@ -54,6 +54,7 @@ pub record ViewParts (opened history : List Entry) (m : Snapshots) (actors : Lis
   pub learned : AreLearned history (map learned_of actors)
   pub owned : AreOwned opened history (map (participants_of own_of) actors)
   pub registrations : AreRegistered history m (map (participants_of registered_of) actors)
+  pub from_opening : AreFromOpening opened m
   pub viewed : EachParticipant HasSeen (map (participants_of view_of) actors)
 
 -- the pasts
@@ -111,6 +112,7 @@ all_parts w actors tables views locks pasts turns readers notes led idle = recor
   undecided = tables.undecided;
   delayed = tables.delayed;
   registrations = views.registrations;
+  from_opening = views.from_opening;
   viewed = views.viewed;
   flags = tables.flags;
   versions = tables.versions;
@@ -136,7 +138,7 @@ module _ (w : World) (s : IsSound w) where
   tables_of = record { history = s.history; cache = s.cache; decided = s.decided; undecided = s.undecided; delayed = s.delayed; flags = s.flags; versions = s.versions; settled = s.settled; coupled = s.coupled; pending = s.pending }
 
   pub views_of : ViewsOf w w.actors
-  views_of = record { seen = s.seen; learned = s.learned; owned = s.owned; registrations = s.registrations; viewed = s.viewed }
+  views_of = record { seen = s.seen; learned = s.learned; owned = s.owned; registrations = s.registrations; from_opening = s.from_opening; viewed = s.viewed }
 
   pub pasts_of : PastsOf w w.actors
   pasts_of = record { holders = s.holders; board = s.board; faults = s.faults; edits = s.edits }
@@ -161,6 +163,7 @@ module _ (w : World) (by : ℕ) (a b : Actor) (at : get_elem? w.actors by ≡ so
     learned = kept_part learned_of (AreLearned history) (λ i. (same i).4) k.learned;
     owned = kept_part (participants_of own_of) (AreOwned opened history) (λ i. (same i).1) k.owned;
     registrations = kept_part (participants_of registered_of) (AreRegistered history m) (λ i. (same i).2) k.registrations;
+    from_opening = k.from_opening;
     viewed = kept_part (participants_of view_of) (EachParticipant HasSeen) (λ i. (same i).3) k.viewed;
   }
 

@@ -54,6 +54,7 @@ module _ (w : World) (by : ℕ) (a : Actor) (step : Step) (failure : Event) (fai
     pub last : (edit : InstalledEdit) → last_after edit failure ≡ edit
     pub record_is : (entries : List Entry) → failure ≡ log_failed entries → failed ≡ entries
     pub behind : failure ≡ log_stopped → w.installed.halted ≡ true
+    pub unfailed : failure ≡ log_stopped → failed ≡ []
 
   module _ (at : get_elem? w.actors by ≡ some a) (k : Closes) (s : IsSound w) where
     abbrev p : Participant
@@ -87,6 +88,7 @@ module _ (w : World) (by : ℕ) (a : Actor) (step : Step) (failure : Event) (fai
       stopped = λ m h. ⊎_elim (λ f. absurd (true≢false (sym (s.faults.stopped m f).0 ∙ k.running))) (λ (q : failure ≡ stopped m). absurd (subst FindsNothing q k.nothing)) (past_before w.actors by a b failure at refl refl (stopped m) h);
       failed = λ entries h. ⊎_elim (λ f. absurd (true≢false (sym (s.faults.failed entries f).0 ∙ k.running))) (λ (q : failure ≡ log_failed entries). (refl, k.record_is entries q)) (past_before w.actors by a b failure at refl refl (log_failed entries) h);
       behind = λ h. ⊎_elim (λ f. s.faults.behind f) (λ (q : failure ≡ log_stopped). k.behind q) (past_before w.actors by a b failure at refl refl log_stopped h);
+      unfailed = λ h. (refl, ⊎_elim (λ f. absurd (true≢false (sym (s.faults.unfailed f).0 ∙ k.running))) (λ (q : failure ≡ log_stopped). k.unfailed q) (past_before w.actors by a b failure at refl refl log_stopped h));
     }
 
     coupled_closed : AreCoupled d w.installed w.holders.write
@@ -104,7 +106,7 @@ module _ (w : World) (by : ℕ) (a : Actor) (step : Step) (failure : Event) (fai
           holders = holders_still w.actors by a b failure at refl refl w.opened w.writes.history w.locks k.nothing s.holders;
           board = board_still w.actors by a b failure at refl refl (world.published w) w.locks k.tells_nothing s.board;
           faults = faults_closed;
-          edits = edits_still w.actors by a b failure at refl refl w.first_edit w.installed k.due k.last k.quiet (λ m tables due halted q. absurd (subst FindsNothing q k.nothing)) (λ m tables due q. absurd (subst FindsNothing q k.nothing)) s.edits;
+          edits = edits_still w.actors by a b failure at refl refl w.first_edit w.installed k.due k.last k.quiet (λ m base tables due halted q. absurd (subst FindsNothing q k.nothing)) (λ m base tables due q. absurd (subst FindsNothing q k.nothing)) s.edits;
         }) (turns_changed w by a b at (writes d) k.holds refl s)
         (readers_still w by a b at refl s)
         (notes_stay w by a b at step w.holders (SoPending w d) refl (λ fact left m. record { guarded = m.guarded; is_so = so_closed fact m.is_so }) (λ j x fact ne there m. record { guarded = m.guarded; is_so = others_closed x.0 fact m.is_so }) s)
@@ -130,6 +132,7 @@ closes_log_by_fault w by a at n s = log_closes w by a close_log (log_failed w.wr
   last = λ m. refl;
   record_is = λ entries q. let same : w.writes.pending ≡ entries = cc in same;
   behind = λ q. absurd cc;
+  unfailed = λ q. absurd cc;
 }) s
 
 -- ---- it is stopped
@@ -149,4 +152,5 @@ stops_log w by a at n s = log_closes w by a stop_log log_stopped w.writes.failed
   last = λ m. refl;
   record_is = λ entries q. absurd cc;
   behind = λ q. n.5;
+  unfailed = λ q. s.history.none_failed n.3;
 }) s

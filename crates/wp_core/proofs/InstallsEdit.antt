@@ -8,7 +8,7 @@ use Rattle.wp_core.specs.Turns.{tables_turn}
 use Rattle.wp_core.specs.Tables.{Installed}
 use Rattle.wp_model.specs.Flushed.{InstalledEdit}
 use Rattle.wp_model.specs.declared.segment.Segment.{Segment}
-use Rattle.wp_core.specs.Views.{Event, log_failed, tables_failed, stopped, found_edit, Fact, nothing_flushed}
+use Rattle.wp_core.specs.Views.{Event, log_failed, log_stopped, tables_failed, stopped, Fact, nothing_flushed}
 use Rattle.wp_core.specs.Views as event
 use Rattle.wp_core.specs.World.{Actor, Participant, World}
 use Rattle.wp_core.specs.Steps.{install, halt}
@@ -16,11 +16,11 @@ use Rattle.wp_core.specs.Effects.{done, with_failed}
 use Rattle.wp_core.specs.Conditions.{NamesSegment, NamesNext}
 use Rattle.wp_core.specs.Needs.{Needs}
 use Rattle.wp_core.specs.Notes.{forgets}
-use Rattle.wp_core.specs.Sound.Pasts.{IsPast, closes_log, is_tables_fault, AreFaults, raised_to, WasInstalled, due_after, tables_due, last_after, last_installed, OtherDid, OtherCompacts, AreEdits}
+use Rattle.wp_core.specs.Sound.Pasts.{IsPast, closes_log, is_tables_fault, AreFaults, raised_to, WasInstalled, WasBased, due_after, tables_due, last_after, last_installed, OtherDid, OtherCompacts, AreEdits}
 use Rattle.wp_core.specs.Sound.Segments.{AreCoupled}
 use Rattle.wp_core.specs.IsSound.{IsSound}
 use Rattle.wp_core.proofs.PastsGrow.{done_last, past_last, past_before, times_more}
-use Rattle.wp_core.proofs.Remembers.{installed_still, faults_more, edits_grown}
+use Rattle.wp_core.proofs.Remembers.{installed_still, based_still, faults_more, edits_grown}
 use Rattle.wp_core.proofs.TablesChange.{SoInstalled, actor_after, pasts_after, tables_change}
 use Rattle.wp_core.proofs.AllParts.{SoIn}
 use Rattle.wp_core.proofs.Quiet.{Stays, stays_not}
@@ -89,16 +89,17 @@ module _ (w : World) (by : ℕ) (a : Actor) (edit : InstalledEdit) (compacts : B
   edits_installed : AreEdits w.first_edit t after
   edits_installed = edits_grown w.actors by a c e at refl refl w.first_edit w.installed t record {
     last = flushed_at compacts refl;
+    based = subst (λ (x : Segment). WasBased w.first_edit after x.base) (sym n.6) (based_still w.actors by a c e at refl refl w.first_edit w.installed.last.segment.base s.edits.based);
     rises = n.5;
     new = raised compacts;
-    found = λ n tables due halted q. absurd cc;
+    found = λ n base tables due halted q. absurd cc;
     its_edit = λ same. sym (last_more w.first_edit a.participant.past e);
     their_edit = λ j i past apart same. inr (e, refl, by_other j i apart);
     its_tables = λ due. subst (λ (z : ℕ). z ≤ edit.tables) (sym (due_more w.first_edit a.participant.past e)) (its_tables compacts refl due);
     their_tables = their_tables compacts refl;
     failed = λ last failing h. ⊎_elim (λ k. absurd (true≢false (sym (s.edits.failed last failing k).0 ∙ n.1))) (λ (q : e ≡ tables_failed last failing). absurd cc) (past_before w.actors by a c e at refl refl (tables_failed last failing) h);
     stays = λ halted. absurd (true≢false (sym halted ∙ n.1));
-    found_halted = λ n tables due q. absurd cc;
+    found_halted = λ n base tables due q. absurd cc;
     none_failed = s.edits.none_failed;
   } s.edits
 
@@ -168,6 +169,7 @@ module _ (w : World) (by : ℕ) (a : Actor) (edit : Option InstalledEdit) (at : 
         stopped = λ n h. ⊎_elim (λ k. s.faults.stopped n k) (λ (q : failure ≡ stopped n). absurd cc) (past_before w.actors by a b failure at refl refl (stopped n) h);
         failed = λ entries h. ⊎_elim (λ k. s.faults.failed entries k) (λ (q : failure ≡ log_failed entries). absurd cc) (past_before w.actors by a b failure at refl refl (log_failed entries) h);
         behind = λ h. is_halted w.installed edit;
+        unfailed = λ h. ⊎_elim (λ k. s.faults.unfailed k) (λ (q : failure ≡ log_stopped). absurd cc) (past_before w.actors by a b failure at refl refl log_stopped h);
       }
 
   -- it is the one failure
@@ -185,14 +187,15 @@ module _ (w : World) (by : ℕ) (a : Actor) (edit : Option InstalledEdit) (at : 
         rises = let flushed = ap (λ (z : InstalledEdit). z.flushed) same in omega (arith, flushed);
         new = λ x q. absurd cc;
         last = subst (λ (z : InstalledEdit). WasInstalled w.first_edit then z.flushed) (sym same) (installed_still w.actors by a b failure at refl refl w.first_edit w.installed.last.flushed s.edits.last);
-        found = λ n tables due halted q. absurd cc;
+        based = subst (λ (z : InstalledEdit). WasBased w.first_edit then z.segment.base) (sym same) (based_still w.actors by a b failure at refl refl w.first_edit w.installed.last.segment.base s.edits.based);
+        found = λ n base tables due halted q. absurd cc;
         its_edit = λ known. same ∙ known ∙ sym (last_more w.first_edit a.participant.past failure);
         their_edit = λ j i past apart known. inl (same ∙ known);
         its_tables = λ due. let q = due_more w.first_edit a.participant.past failure in omega arith;
         their_tables = λ j i past apart due. inl (omega arith);
         failed = λ last failing h. ⊎_elim (λ k. absurd (true≢false (sym (s.edits.failed last failing k).0 ∙ running))) (λ q. failed_now last failing q) (past_before w.actors by a b failure at refl refl (tables_failed last failing) h);
         stays = λ halted. (is_halted w.installed edit, same);
-        found_halted = λ n tables due q. absurd cc;
+        found_halted = λ n base tables due q. absurd cc;
         none_failed = λ q. absurd (true≢false (sym (is_halted w.installed edit) ∙ q));
       } s.edits
 

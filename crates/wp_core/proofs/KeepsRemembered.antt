@@ -21,7 +21,7 @@ use Rattle.wp_core.specs.Conditions.{Accounts, IsHolder, IsSelf}
 use Rattle.wp_core.specs.Notes.{forgets}
 use Rattle.wp_core.specs.Sound.Actors.{seen_of, participants_of, IsParticipantAt}
 use Rattle.wp_core.specs.Sound.Locks.{Owner, owner_of, Has, HasKeyAt, PrepareHas}
-use Rattle.wp_core.specs.Sound.Pasts.{past_of, IsPast, HasDone, HasBegun, MadeHolder, IsAccounted, WasInstalled, tables_due, OtherCompacts}
+use Rattle.wp_core.specs.Sound.Pasts.{past_of, IsPast, HasDone, HasBegun, MadeHolder, IsAccounted, WasInstalled, WasBased, tables_due, OtherCompacts}
 use Rattle.wp_core.specs.Sound.Views.{noter_of}
 use Rattle.wp_core.specs.IsSound.{IsSound, participants}
 use Rattle.wp_core.proofs.Frames.{at_map}
@@ -45,14 +45,14 @@ abbrev pub MayRemember : World → ℕ → Event → Type 0
 MayRemember w by (found key holder seen account) = IsAccounted w.opened w.writes.history (participants past_of w) by 0 key holder seen account
 MayRemember w by (heard label n) = (is_some (finite.get w.locks.labels label) ≡ true) × IsPast (participants past_of w) (told label n)
 MayRemember w by (stopped n) = (w.writes.closed ≡ true) × (n ≡ length w.writes.history)
-MayRemember w by (found_edit n tables due halted) = WasInstalled w.first_edit (participants past_of w) n × (tables < due → OtherCompacts (participants past_of w) by 0) × (halted ≡ true → (w.installed.halted ≡ true) × (n ≡ w.installed.last.flushed))
+MayRemember w by (found_edit n base tables due halted) = WasInstalled w.first_edit (participants past_of w) n × WasBased w.first_edit (participants past_of w) base × (tables < due → OtherCompacts (participants past_of w) by 0) × (halted ≡ true → (w.installed.halted ≡ true) × (n ≡ w.installed.last.flushed))
 MayRemember w by e = ⊥
 
 remembered_quietly : (w : World) (by : ℕ) (e : Event) → MayRemember w by e → IsQuiet e
 remembered_quietly w by (found key holder seen account) may = record { log = refl; tables = refl; due = λ m. refl; last = λ m. refl }
 remembered_quietly w by (heard label n) may = record { log = refl; tables = refl; due = λ m. refl; last = λ m. refl }
 remembered_quietly w by (stopped n) may = record { log = refl; tables = refl; due = λ m. refl; last = λ m. refl }
-remembered_quietly w by (found_edit n tables due halted) may = record { log = refl; tables = refl; due = λ m. refl; last = λ m. refl }
+remembered_quietly w by (found_edit n base tables due halted) may = record { log = refl; tables = refl; due = λ m. refl; last = λ m. refl }
 remembered_quietly w by e may = absurd may
 
 pub remembering : (w : World) (by : ℕ) (a : Actor) (e : Event) (step : Step) → get_elem? w.actors by ≡ some a → (a.live ≡ false → ⊥) → MayRemember w by e → IsSound w
@@ -66,7 +66,7 @@ remembering w by a e step at live may s =
       board = board_more w.actors by a b e at refl refl (world.published w) w.locks
           (λ label n q. ⊎_elim (λ (r : e ≡ told label n). absurd (is (told label n) r)) (λ (r : e ≡ heard label n). (is (heard label n) r).0) q) (λ label n q. (is (heard label n) q).1) (λ label n q. is (told label n) q) s.board;
       faults = faults_more w.actors by a b e at refl refl w.writes w.installed.halted quiet.log quiet.tables (λ n q. is (stopped n) q) s.faults;
-      edits = edits_more w.actors by a b e at refl refl w.first_edit w.installed quiet (λ n tables due halted q. let k = is (found_edit n tables due halted) q in (k.0, k.1)) (λ n tables due q. (is (found_edit n tables due true) q).2 refl) s.edits;
+      edits = edits_more w.actors by a b e at refl refl w.first_edit w.installed quiet (λ n base tables due halted q. let k = is (found_edit n base tables due halted) q in (k.0, k.1, k.2)) (λ n base tables due q. (is (found_edit n base tables due true) q).3 refl) s.edits;
     }) (turns_still w by a b at refl s)
     (readers_still w by a b at refl s)
     (notes_stay w by a b at step w.holders (SoIn w) refl (λ fact left m. record { guarded = m.guarded; is_so = so_past w a.participant (a.participant.past ++ e ∷ []) fact m.is_so }) (λ j x fact ne there m. m) s)
@@ -89,7 +89,7 @@ pub finds_edit : (w : World) (by : ℕ) (a : Actor) → get_elem? w.actors by �
     → IsSound (done w by (forgets w.writes.history (length w.cache) find_edit a) find_edit)
 finds_edit w by a at n s =
     let e = w.installed in
-    remembering w by a (found_edit e.last.flushed e.last.tables (tables_due w.first_edit a.participant.past) e.halted) find_edit at (holder_lives w by a tables_turn at n s) (s.edits.last, few_found w by a at s, λ q. (q, refl)) s
+    remembering w by a (found_edit e.last.flushed e.last.segment.base e.last.tables (tables_due w.first_edit a.participant.past) e.halted) find_edit at (holder_lives w by a tables_turn at n s) (s.edits.last, s.edits.based, few_found w by a at s, λ q. (q, refl)) s
 
 pub hears : (w : World) (by : ℕ) (a : Actor) (label : List ℕ) (n : ℕ) → get_elem? w.actors by ≡ some a → Needs w by a (hear label n) → IsSound w
     → IsSound (done w by (forgets w.writes.history (length w.cache) (hear label n) a) (hear label n))

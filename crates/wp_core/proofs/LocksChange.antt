@@ -67,7 +67,7 @@ module _ (w : World) (by : ℕ) (a : Actor) (step : Step) (p : Participant) (t :
       holders = holders_new w.actors by a actor_after e at refl grown w.opened w.writes.history w.locks t nothing names keys s.holders;
       board = board;
       faults = faults_more w.actors by a actor_after e at refl grown w.writes w.installed.halted quiet.log quiet.tables (λ n q. absurd (subst FindsNothing q nothing)) s.faults;
-      edits = edits_more w.actors by a actor_after e at refl grown w.first_edit w.installed quiet (λ n tables due halted q. absurd (subst FindsNothing q nothing)) (λ n tables due q. absurd (subst FindsNothing q nothing)) s.edits;
+      edits = edits_more w.actors by a actor_after e at refl grown w.first_edit w.installed quiet (λ n base tables due halted q. absurd (subst FindsNothing q nothing)) (λ n base tables due q. absurd (subst FindsNothing q nothing)) s.edits;
     }
 
     -- the board hangs on the labels of a table alone

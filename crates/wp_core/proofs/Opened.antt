@@ -212,6 +212,7 @@ module _ (opened : List Entry) (cache : List ℕ) (flag : ℕ) (logged : Bool) (
       live = λ s x e. absurd (no_live s x e);
       smallest = λ j i rs at k r there. let q : get_elem? [] k ≡ some r = ap (λ (z : List Registration). get_elem? z k) (one_participant [] j i rs at) ∙ there in absurd (some-ne-none r (sym q));
     };
+    from_opening = λ t live. absurd (true≢false (sym live ∙ ap is_some (finite.get-empty nat_cmp t)));
     flags = record { none_delayed = none_delayed; none_kept = λ _ s p. not_kept s p; delayed_free = λ _ none. delayed_free none; old_free = λ _ _. refl };
     versions = versions;
     settled = λ _. settled;
@@ -249,16 +250,19 @@ module _ (opened : List Entry) (cache : List ℕ) (flag : ℕ) (logged : Bool) (
       stopped = λ n k. absurd (no_past (stopped n) k);
       failed = λ entries k. absurd (no_past (log_failed entries) k);
       behind = λ k. absurd (no_past log_stopped k);
+      unfailed = λ k. absurd (no_past log_stopped k);
     };
     edits = record {
       last = inl refl;
       rises = λ n k. ⊎_elim (λ (q : n ≡ edit.flushed). omega (arith, q)) (λ (h : (x : Event) × (raised_to x ≡ Some n) × IsPast (([] ∷ []) ∷ []) x). absurd (no_past h.0 h.2)) k;
-      found = λ n tables due halted k. absurd (no_past (found_edit n tables due halted) k);
-      few = λ j i n tables due halted k less. absurd (no_past (found_edit n tables due halted) (j, i, k));
+      based = inl refl;
+      found = λ n base tables due halted k. absurd (no_past (found_edit n base tables due halted) k);
+      found_base = λ n base tables due halted k. absurd (no_past (found_edit n base tables due halted) k);
+      few = λ j i n base tables due halted k less. absurd (no_past (found_edit n base tables due halted) (j, i, k));
       edit = λ j i past at. inl (ap (last_installed edit) (one_participant [] j i past at));
       tables = λ j i past at. inl (subst (λ (z : List Event). tables_due edit z ≤ edit.tables) (one_participant [] j i past at) (omega arith));
       failed = λ last failing k. absurd (no_past (tables_failed last failing) k);
-      found_halted = λ n tables due k. absurd (no_past (found_edit n tables due true) k);
+      found_halted = λ n base tables due k. absurd (no_past (found_edit n base tables due true) k);
       none_failed = λ _. refl;
     };
     pending = λ _. refl;

@@ -20,7 +20,7 @@ use Rattle.wp_core.specs.World.{Actor, Participant, Transaction}
 use Rattle.wp_core.specs.Sound.Actors.{participants_of, IsParticipantAt, StartsWith, seen_of, own_of, times, AreSeen, AreOwned, EachParticipant}
 use Rattle.wp_core.specs.Sound.Snapshots.{registered_of, AreBelowCommitted, AreRegistered, view_of, HasSeen}
 use Rattle.wp_core.specs.Sound.Locks.{Owner, owner_of, Has, IsOwner, AreLocked}
-use Rattle.wp_core.specs.Sound.Pasts.{past_of, HasDone, IsPast, HasBegun, MadeHolder, IsAccounted, WasLocked, AreHolders, IsBoard, closes_log, is_tables_fault, AreFaults, is_install, raised_to, WasInstalled, due_after, tables_due, last_after, last_installed, OtherDid, OtherInstalls, OtherCompacts, AreEdits}
+use Rattle.wp_core.specs.Sound.Pasts.{past_of, HasDone, IsPast, HasBegun, MadeHolder, IsAccounted, WasLocked, AreHolders, IsBoard, closes_log, is_tables_fault, AreFaults, is_install, raised_to, WasInstalled, WasBased, due_after, tables_due, last_after, last_installed, OtherDid, OtherInstalls, OtherCompacts, AreEdits}
 use Rattle.wp_core.proofs.PastsGrow.{at_place}
 use Rattle.wp_core.proofs.Persons.{IsNone, Moves, same_there, apart_still, CameWith, IsOfNone, came_from, goes_to, total_same}
 
@@ -255,11 +255,16 @@ module _ (row place : ℕ → ℕ → ℕ) (history : List Entry) (xs ys : List 
     stopped = λ n h. k.stopped n (past_was _ h);
     failed = λ entries h. k.failed entries (past_was _ h);
     behind = λ h. k.behind (past_was _ h);
+    unfailed = λ h. k.unfailed (past_was _ h);
   }
 
   installed_moved : (first : InstalledEdit) (n : ℕ) → WasInstalled first (pasts xs) n → WasInstalled first (pasts ys) n
   installed_moved first n (inl k) = inl k
   installed_moved first n (inr (e, raised, k)) = inr (e, raised, past_moved e k)
+
+  based_moved : (first : InstalledEdit) (base : ℕ) → WasBased first (pasts xs) base → WasBased first (pasts ys) base
+  based_moved first base (inl k) = inl k
+  based_moved first base (inr (edit, is, k)) = inr (edit, is, past_moved (renewed edit) k)
 
   other_moved : (j i : ℕ) (e : Event) → OtherDid (pasts xs) j i e → OtherDid (pasts ys) (row j i) (place j i) e
   other_moved j i e (l, n, apart, k) = (row l n, place l n, apart_still row place history xs ys m j i l n apart, done_moved l n e k)
@@ -310,16 +315,18 @@ module _ (row place : ℕ → ℕ → ℕ) (history : List Entry) (xs ys : List 
   is_empty : (past : List Event) → NonePast past → past ≡ []
   is_empty past n = sym n.0.has ∙ no_past n.0.person n.0.none
 
-  few_moved : (first : InstalledEdit) (t : Installed) → AreEdits first t (pasts xs) → (j i n tables due : ℕ) (halted : Bool) → HasDone (pasts ys) j i (found_edit n tables due halted) → tables < due → OtherCompacts (pasts ys) j i
-  few_moved first t k j i n tables due halted h few =
-      let o = done_was j i (found_edit n tables due halted) h in
-      at_place (OtherCompacts (pasts ys)) j i (row o.at o.at_place) (place o.at o.at_place) o.row_is o.place_is (compacts_moved o.at o.at_place (k.few o.at o.at_place n tables due halted o.done few))
+  few_moved : (first : InstalledEdit) (t : Installed) → AreEdits first t (pasts xs) → (j i n base tables due : ℕ) (halted : Bool) → HasDone (pasts ys) j i (found_edit n base tables due halted) → tables < due → OtherCompacts (pasts ys) j i
+  few_moved first t k j i n base tables due halted h few =
+      let o = done_was j i (found_edit n base tables due halted) h in
+      at_place (OtherCompacts (pasts ys)) j i (row o.at o.at_place) (place o.at o.at_place) o.row_is o.place_is (compacts_moved o.at o.at_place (k.few o.at o.at_place n base tables due halted o.done few))
 
   pub edits_moved : (by : ℕ) (a : Actor) (first : InstalledEdit) (t : Installed) → get_elem? xs by ≡ some a → IsParticipantAt (pasts xs) by 0 a.participant.past → AreEdits first t (pasts xs) → AreEdits first t (pasts ys)
   edits_moved by a first t at mine k = record {
     last = installed_moved first t.last.flushed k.last;
     rises = λ n h. k.rises n (⊎_elim (λ q. inl q) (λ (c : (e : Event) × (raised_to e ≡ Some n) × IsPast (pasts ys) e). inr (c.0, c.1, past_was c.0 c.2)) h);
-    found = λ n tables due halted h. installed_moved first n (k.found n tables due halted (past_was _ h));
+    based = based_moved first t.last.segment.base k.based;
+    found = λ n base tables due halted h. installed_moved first n (k.found n base tables due halted (past_was _ h));
+    found_base = λ n base tables due halted h. based_moved first base (k.found_base n base tables due halted (past_was _ h));
     few = few_moved first t k;
     edit = λ j i past there. ⊎_elim
         (λ (c : CameWith row place history xs ys m past_of j i past). ⊎_elim
@@ -342,6 +349,6 @@ module _ (row place : ℕ → ℕ → ℕ) (history : List Entry) (xs ys : List 
         (tables_else by a first t mine k j i (subst (IsParticipantAt (pasts ys) j i) empty there)))
         (came_from row place history xs ys m past_of j i past there);
     failed = λ last edit h. k.failed last edit (past_was _ h);
-    found_halted = λ n tables due h. k.found_halted n tables due (past_was _ h);
+    found_halted = λ n base tables due h. k.found_halted n base tables due (past_was _ h);
     none_failed = k.none_failed;
   }

@@ -149,4 +149,5 @@ faults_part t entry others halted pasts open_log k = record {
   stopped = λ n h. absurd (true≢false (sym (k.stopped n h).0 ∙ open_log));
   failed = k.failed;
   behind = k.behind;
+  unfailed = k.unfailed;
 }

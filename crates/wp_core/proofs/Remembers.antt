@@ -13,7 +13,7 @@ use Rattle.wp_model.specs.Flushed.{InstalledEdit}
 use Rattle.wp_core.specs.Views.{Account, own, another, prepare_at, Event, claimed, took, locked, told, heard, installed, renewed, log_failed, log_stopped, tables_failed, stopped, found_edit, found}
 use Rattle.wp_core.specs.World.{Actor}
 use Rattle.wp_core.specs.Sound.Actors.{participants_of, IsParticipantAt}
-use Rattle.wp_core.specs.Sound.Pasts.{past_of, HasDone, IsPast, HasBegun, MadeHolder, IsAccounted, WasLocked, AreHolders, IsBoard, closes_log, is_tables_fault, AreFaults, raised_to, WasInstalled, due_after, tables_due, last_after, last_installed, OtherDid, OtherInstalls, OtherCompacts, AreEdits}
+use Rattle.wp_core.specs.Sound.Pasts.{past_of, HasDone, IsPast, HasBegun, MadeHolder, IsAccounted, WasLocked, AreHolders, IsBoard, closes_log, is_tables_fault, AreFaults, raised_to, WasInstalled, WasBased, due_after, tables_due, last_after, last_installed, OtherDid, OtherInstalls, OtherCompacts, AreEdits}
 use Rattle.wp_core.proofs.AllParticipants.{mine, was_apart}
 use Rattle.wp_core.proofs.PastsGrow.{at_place, done_still, done_before, past_still, past_last, past_before, times_more}
 
@@ -28,7 +28,7 @@ pub record IsQuiet (e : Event) : Type 0 where
 abbrev pub FindsNothing : Event → Type 0
 FindsNothing (found key holder seen account) = ⊥
 FindsNothing (stopped n) = ⊥
-FindsNothing (found_edit n tables due halted) = ⊥
+FindsNothing (found_edit n base tables due halted) = ⊥
 FindsNothing e = Unit {0}
 
 -- it tells and hears nothing
@@ -131,11 +131,16 @@ module _ (xs : List Actor) (by : ℕ) (a b : Actor) (e : Event) (at : get_elem? 
     stopped = λ n h. ⊎_elim (λ c. k.stopped n c) (λ c. new n c) (past_before xs by a b e at same grown (stopped n) h);
     failed = λ entries h. ⊎_elim (λ c. k.failed entries c) (λ (q : e ≡ log_failed entries). absurd (true≢false (sym (ap closes_log q) ∙ open_))) (past_before xs by a b e at same grown (log_failed entries) h);
     behind = λ h. ⊎_elim (λ c. k.behind c) (λ (q : e ≡ log_stopped). absurd (true≢false (sym (ap closes_log q) ∙ open_))) (past_before xs by a b e at same grown log_stopped h);
+    unfailed = λ h. ⊎_elim (λ c. k.unfailed c) (λ (q : e ≡ log_stopped). absurd (true≢false (sym (ap closes_log q) ∙ open_))) (past_before xs by a b e at same grown log_stopped h);
   }
 
   pub installed_still : (first : InstalledEdit) (n : ℕ) → WasInstalled first before n → WasInstalled first after n
   installed_still first n (inl k) = inl k
   installed_still first n (inr (x, raised, k)) = inr (x, raised, past_still xs by a b e at same grown x k)
+
+  pub based_still : (first : InstalledEdit) (base : ℕ) → WasBased first before base → WasBased first after base
+  based_still first base (inl k) = inl k
+  based_still first base (inr (edit, is, k)) = inr (edit, is, past_still xs by a b e at same grown (renewed edit) k)
 
   other_still : (j i : ℕ) (x : Event) → OtherDid before j i x → OtherDid after j i x
   other_still j i x (l, m, apart, k) = (l, m, apart, done_still xs by a b e at same grown l m x k)
@@ -154,11 +159,12 @@ module _ (xs : List Actor) (by : ℕ) (a b : Actor) (e : Event) (at : get_elem? 
 
   -- what of a found edit is so by itself
   abbrev pub AreFound : InstalledEdit → Type 0
-  AreFound first = (n tables due : ℕ) (halted : Bool) → e ≡ found_edit n tables due halted → WasInstalled first before n × (tables < due → OtherCompacts before by 0)
+  AreFound first = (n base tables due : ℕ) (halted : Bool) → e ≡ found_edit n base tables due halted → WasInstalled first before n × WasBased first before base × (tables < due → OtherCompacts before by 0)
 
   -- what the edits need, where the last one may be another, and more tables may be due
   pub record EditsGrow (first : InstalledEdit) (t u : Installed) : Type 0 where
     pub last : WasInstalled first after u.last.flushed
+    pub based : WasBased first after u.last.segment.base
     pub rises : t.last.flushed ≤ u.last.flushed
     pub new : (n : ℕ) → raised_to e ≡ Some n → n ≤ u.last.flushed
     pub found : AreFound first
@@ -168,14 +174,14 @@ module _ (xs : List Actor) (by : ℕ) (a b : Actor) (e : Event) (at : get_elem? 
     pub their_tables : (j i : ℕ) (past : List Event) → (j ≢ by) ⊎ (i ≢ 0) → tables_due first past ≤ t.last.tables → (tables_due first past ≤ u.last.tables) ⊎ OtherCompacts after j i
     pub failed : (last : InstalledEdit) (edit : Option InstalledEdit) → IsPast after (tables_failed last edit) → (u.halted ≡ true) × (u.last ≡ last) × (u.failed ≡ edit)
     pub stays : t.halted ≡ true → (u.halted ≡ true) × (u.last ≡ t.last)
-    pub found_halted : (n tables due : ℕ) → e ≡ found_edit n tables due true → (u.halted ≡ true) × (n ≡ u.last.flushed)
+    pub found_halted : (n base tables due : ℕ) → e ≡ found_edit n base tables due true → (u.halted ≡ true) × (n ≡ u.last.flushed)
     pub none_failed : u.halted ≡ false → u.failed ≡ None
 
-  few_more : (first : InstalledEdit) (t : Installed) → AreFound first → AreEdits first t before → (j i n tables due : ℕ) (halted : Bool) → HasDone after j i (found_edit n tables due halted) → tables < due → OtherCompacts after j i
-  few_more first t is_so k j i n tables due halted h few = ⊎_elim
-      (λ (c : HasDone before j i (found_edit n tables due halted)). compacts_still j i (k.few j i n tables due halted c few))
-      (λ (c : (j ≡ by) × (i ≡ 0) × (e ≡ found_edit n tables due halted)). at_place (OtherCompacts after) j i by 0 (sym c.0) (sym c.1) (compacts_still by 0 ((is_so n tables due halted c.2).1 few)))
-      (done_before xs by a b e at same grown j i (found_edit n tables due halted) h)
+  few_more : (first : InstalledEdit) (t : Installed) → AreFound first → AreEdits first t before → (j i n base tables due : ℕ) (halted : Bool) → HasDone after j i (found_edit n base tables due halted) → tables < due → OtherCompacts after j i
+  few_more first t is_so k j i n base tables due halted h few = ⊎_elim
+      (λ (c : HasDone before j i (found_edit n base tables due halted)). compacts_still j i (k.few j i n base tables due halted c few))
+      (λ (c : (j ≡ by) × (i ≡ 0) × (e ≡ found_edit n base tables due halted)). at_place (OtherCompacts after) j i by 0 (sym c.0) (sym c.1) (compacts_still by 0 ((is_so n base tables due halted c.2).2 few)))
+      (done_before xs by a b e at same grown j i (found_edit n base tables due halted) h)
 
   risen : (first : InstalledEdit) (t u : Installed) → EditsGrow first t u → AreEdits first t before → (n : ℕ) → WasInstalled first after n → n ≤ u.last.flushed
   risen first t u g k n (inl q) = let was = k.rises n (inl q) in let more = g.rises in omega (arith, was, more)
@@ -188,7 +194,9 @@ module _ (xs : List Actor) (by : ℕ) (a b : Actor) (e : Event) (at : get_elem? 
   edits_grown first t u g k = record {
     last = g.last;
     rises = risen first t u g k;
-    found = λ n tables due halted h. installed_still first n (⊎_elim (λ c. k.found n tables due halted c) (λ c. (g.found n tables due halted c).0) (past_before xs by a b e at same grown (found_edit n tables due halted) h));
+    based = g.based;
+    found = λ n base tables due halted h. installed_still first n (⊎_elim (λ c. k.found n base tables due halted c) (λ c. (g.found n base tables due halted c).0) (past_before xs by a b e at same grown (found_edit n base tables due halted) h));
+    found_base = λ n base tables due halted h. based_still first base (⊎_elim (λ c. k.found_base n base tables due halted c) (λ c. (g.found n base tables due halted c).1) (past_before xs by a b e at same grown (found_edit n base tables due halted) h));
     few = few_more first t g.found k;
     edit = λ j i past there. ⊎_elim
         (λ (c : (j ≡ by) × (i ≡ 0) × (past ≡ b.participant.past)).
@@ -215,18 +223,19 @@ module _ (xs : List Actor) (by : ℕ) (a b : Actor) (e : Event) (at : get_elem? 
         (k.tables j i past c.1))
         (was_apart past_of xs by a b at same j i past there);
     failed = g.failed;
-    found_halted = λ n tables due h. ⊎_elim
-        (λ (c : IsPast before (found_edit n tables due true)). let was = k.found_halted n tables due c in let stays = g.stays was.0 in (stays.0, was.1 ∙ ap (λ (edit : InstalledEdit). edit.flushed) (sym stays.1)))
-        (λ (q : e ≡ found_edit n tables due true). g.found_halted n tables due q)
-        (past_before xs by a b e at same grown (found_edit n tables due true) h);
+    found_halted = λ n base tables due h. ⊎_elim
+        (λ (c : IsPast before (found_edit n base tables due true)). let was = k.found_halted n base tables due c in let stays = g.stays was.0 in (stays.0, was.1 ∙ ap (λ (edit : InstalledEdit). edit.flushed) (sym stays.1)))
+        (λ (q : e ≡ found_edit n base tables due true). g.found_halted n base tables due q)
+        (past_before xs by a b e at same grown (found_edit n base tables due true) h);
     none_failed = g.none_failed;
   }
 
   -- the same where the event installs nothing and is no fault of the tables' devices
   pub edits_still : (first : InstalledEdit) (t : Installed) → ((n : ℕ) → due_after n e ≡ n) → ((edit : InstalledEdit) → last_after edit e ≡ edit) → is_tables_fault e ≡ false → AreFound first
-      → ((n tables due : ℕ) → e ≡ found_edit n tables due true → (t.halted ≡ true) × (n ≡ t.last.flushed)) → AreEdits first t before → AreEdits first t after
+      → ((n base tables due : ℕ) → e ≡ found_edit n base tables due true → (t.halted ≡ true) × (n ≡ t.last.flushed)) → AreEdits first t before → AreEdits first t after
   edits_still first t due last working is_so halted_so k = edits_grown first t t record {
     last = installed_still first t.last.flushed k.last;
+    based = based_still first t.last.segment.base k.based;
     rises = omega arith;
     new = λ n q. absurd (not_raised e first last n q);
     found = is_so;
@@ -240,5 +249,5 @@ module _ (xs : List Actor) (by : ℕ) (a b : Actor) (e : Event) (at : get_elem? 
     none_failed = k.none_failed;
   } k
 
-  pub edits_more : (first : InstalledEdit) (t : Installed) → IsQuiet e → AreFound first → ((n tables due : ℕ) → e ≡ found_edit n tables due true → (t.halted ≡ true) × (n ≡ t.last.flushed)) → AreEdits first t before → AreEdits first t after
+  pub edits_more : (first : InstalledEdit) (t : Installed) → IsQuiet e → AreFound first → ((n base tables due : ℕ) → e ≡ found_edit n base tables due true → (t.halted ≡ true) × (n ≡ t.last.flushed)) → AreEdits first t before → AreEdits first t after
   edits_more first t quiet is_so halted_so k = edits_still first t quiet.due quiet.last quiet.tables is_so halted_so k

@@ -1,5 +1,5 @@
 -- Installing an edit that names the log's next segment, and the use of that segment, keep a world sound.
-use Rattle.std.proofs.Common.{◌≡◌, ◌≢◌, ◌⊎◌, ⊎_elim, inl, inr, ℕ, ◌≤◌, true, false, true≢false, List, [], ◌∷◌, ◌++◌, length, refl, sym, ap, ◌∙◌, arith, Option, Some, None, unwrap_or}
+use Rattle.std.proofs.Common.{◌≡◌, ◌≢◌, ⊎_elim, inl, inr, ℕ, ◌≤◌, true≢false, List, [], ◌∷◌, ◌++◌, length, refl, sym, ap, ◌∙◌, arith, Option, Some, None, unwrap_or}
 use mathlib.Core.Option.{some}
 use lib.ListN.{get_elem?}
 use Rattle.wp_model.specs.declared.segment.Segment.{Segment}
@@ -62,16 +62,17 @@ module _ (w : World) (by : ℕ) (a : Actor) (edit : InstalledEdit) (at : get_ele
   edits_renewed : AreEdits w.first_edit t after
   edits_renewed = edits_grown w.actors by a c e at refl refl w.first_edit w.installed t record {
     last = inr (e, refl, past_last w.actors by a c e at refl refl);
+    based = inr (edit, refl, past_last w.actors by a c e at refl refl);
     rises = let low = s.versions.last.flushed in let is = n.3.3 in omega (arith, low, is);
     new = λ m q. let same : edit.flushed ≡ m = same_some edit.flushed m q in omega (arith, same);
-    found = λ m tables due halted q. absurd cc;
+    found = λ m base tables due halted q. absurd cc;
     its_edit = λ same. sym (last_more w.first_edit a.participant.past e);
     their_edit = λ j i past apart same. inr (e, refl, (by, 0, ⊎_elim (λ (ne : j ≢ by). inl (λ q. ne (sym q))) (λ (ne : i ≢ 0). inr (λ q. ne (sym q))) apart, done_last w.actors by a c e at refl refl));
     its_tables = due_still;
     their_tables = λ j i past apart due. let more = n.4 in inl (omega (arith, more, due));
     failed = λ last failing h. ⊎_elim (λ k. absurd (true≢false (sym (s.edits.failed last failing k).0 ∙ n.1))) (λ (q : e ≡ tables_failed last failing). absurd cc) (past_before w.actors by a c e at refl refl (tables_failed last failing) h);
     stays = λ halted. absurd (true≢false (sym halted ∙ n.1));
-    found_halted = λ m tables due q. absurd cc;
+    found_halted = λ m base tables due q. absurd cc;
     none_failed = s.edits.none_failed;
   } s.edits
 
@@ -98,7 +99,7 @@ uses_segment w by a at n s =
     log_changes w by a use_segment w.writes.pending w.writes.logged w.writes.log segment None at n.0
     (record { legal = k.legal; grown = k.grown; bounded = k.bounded; log = k.log; rest = k.rest; legal_next = k.legal_next; legal_failed = k.legal_failed; none_failed = k.none_failed; undo_closes = k.undo_closes })
     s.cache s.undecided s.delayed s.versions
-    (record { log = s.faults.log; tables = s.faults.tables; not_logged = s.faults.not_logged; stopped = s.faults.stopped; failed = s.faults.failed; behind = s.faults.behind })
+    (record { log = s.faults.log; tables = s.faults.tables; not_logged = s.faults.not_logged; stopped = s.faults.stopped; failed = s.faults.failed; behind = s.faults.behind; unfailed = s.faults.unfailed })
     (record {
       last = inl is_next;
       failed = λ edit q. inl (⊎_elim (λ (same : edit.segment ≡ w.installed.last.segment). same) (λ (next : w.writes.next ≡ Some edit.segment). same_some edit.segment w.installed.last.segment (sym next ∙ n.2)) (s.coupled.failed edit q));

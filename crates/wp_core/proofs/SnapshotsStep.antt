@@ -33,6 +33,7 @@ use Rattle.wp_core.specs.Sound.Store.{IsStored}
 use Rattle.wp_core.specs.Sound.Reader.{IsReader, AnswersFor, IsRight, reader_of}
 use Rattle.wp_core.specs.Sound.Views.{IsSo}
 use Rattle.wp_core.specs.IsSound.{IsSound}
+use Rattle.wp_core.proofs.KeepsSeen.{shorter}
 use Rattle.wp_core.proofs.Frames.{map_set, each_map_set, at_map, set_else, here}
 use Rattle.wp_core.proofs.KeepsRemembered.{from_map}
 use Rattle.wp_core.proofs.Registered.{registered_live}
@@ -161,6 +162,7 @@ snapshots_step w by a step m seen learned registered reading at holds grows view
       learned = each_map_set learned_of (λ j entries. StartsWith w.writes.history entries) w.actors by b views.learned_part (λ j x ne there. s.learned j x there);
       owned = kept_part w by a b at (participants_of own_of) (AreOwned w.opened w.writes.history) refl s.owned;
       registrations = subst (AreRegistered w.writes.history m) (map_set (participants_of registered_of) w.actors by (with_view a seen learned registered reading) ∙ sym (map_set (participants_of registered_of) w.actors by b)) counted;
+      from_opening = λ t live. ⊎_elim (λ old. s.from_opening t old) (λ (new : t ≡ length w.writes.history). let low = shorter w.writes.history w.opened s.history.grown in omega (arith, low, new)) (grows.live t live);
       viewed = each_person_set view_of HasSeen w.actors by a b at views.view_part refl s.viewed;
     })
     (locks_still w by a b at refl s) (pasts_still w by a b at refl s) (turns_changed w by a b at e holds refl s)

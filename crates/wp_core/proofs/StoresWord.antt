@@ -1,5 +1,5 @@
 -- Storing a word of the commit cache keeps a world sound: what is evicted is passed, and noted where it has to be.
-use Rattle.std.proofs.Common.{◌≡◌, ◌≢◌, inl, inr, ⊎_elim, ℕ, suc, ◌^◌, ◌<◌, ◌≤◌, ◌==◌, eq-eqb, Bool, true, false, true≢false, not, cond, List, [], ◌∷◌, ◌++◌, length, slice_index, refl, sym, subst, ap, ◌∙◌, Option, Some, None, mod-lt, length-append, arith, map}
+use Rattle.std.proofs.Common.{◌≡◌, ◌≢◌, inl, inr, ⊎_elim, ℕ, suc, ◌<◌, ◌≤◌, ◌==◌, eq-eqb, Bool, true, false, true≢false, not, cond, List, [], ◌∷◌, ◌++◌, length, slice_index, refl, sym, subst, ap, ◌∙◌, Option, Some, None, mod-lt, length-append, arith, map}
 use Rattle.std.proofs.lemmas.Bool.Decides.{nat_tests}
 use Rattle.std.proofs.lemmas.List.{get_or-set_same, get_or-set_other, length-set}
 use mathlib.Core.Option.{some}
@@ -9,7 +9,7 @@ use lib.ListN.{get_elem?}
 use Rattle.std.specs.FinMap as finite
 use Rattle.wp_model.specs.declared.entry.Entry.{Entry}
 use Rattle.wp_model.specs.Decision.{decision_of}
-use Rattle.wp_model.specs.Legal.{IsLegal}
+use Rattle.wp_model.specs.Legal.{IsLegal, log_end}
 use Rattle.wp_model.specs.PreparedTables.{is_prepared}
 use Rattle.wp_model.specs.Snapshots.{IsLive, is_old_commit}
 use Rattle.wp_judge.specs.Words.{CommitPair, word_of, pair_of, decision_if, seq_end}
@@ -236,7 +236,7 @@ pending_next history (entry ∷ others) pair legal e =
     let k = next_decides history entry pair one e in
     (entry, refl, k, few history entry pair.decision one.few k.last)
   where
-    few : (h : List Entry) (y : Entry) (d : ℕ) → length (h ++ y ∷ []) < 2 ^ 32 → d ≡ suc (length h) → d < seq_end
+    few : (h : List Entry) (y : Entry) (d : ℕ) → length (h ++ y ∷ []) < log_end → d ≡ suc (length h) → d < seq_end
     few h y d lt is = let q = length-append h (y ∷ []) in omega (arith, q, is, lt)
 
 -- who reads at a snapshot registered it, so it is live

@@ -68,7 +68,7 @@ done w by a (replace_versions tables floor) = change w by a (store (record w.sto
 done w by a (install edit compacts) = change w by (remembers a (event.installed edit compacts)) (installed (record w.installed { last = edit }))
 done w by a (renew edit) = change w by (remembers a (renewed edit)) (installed (record w.installed { last = edit }))
 done w by a (halt edit) = change w by (remembers a (tables_failed w.installed.last edit)) (installed (with_failed w.installed edit))
-done w by a find_edit = with_actor w by (remembers a (found_edit w.installed.last.flushed w.installed.last.tables (tables_due w.first_edit a.participant.past) w.installed.halted))
+done w by a find_edit = with_actor w by (remembers a (found_edit w.installed.last.flushed w.installed.last.segment.base w.installed.last.tables (tables_due w.first_edit a.participant.past) w.installed.halted))
 done w by a (claim_name name) = change w by (remembers (has_transaction a name (record { batch = []; locked = set.empty })) (claimed name)) (locks (with_name w.locks name (Some a.participant.client)))
 done w by a (take_name name p) = change w by (remembers (has_transaction a name (record { batch = batch_at w.writes.history p; locked = keys_of_holder w.locks (Txn name) })) (took name)) (locks (with_name w.locks name (Some a.participant.client)))
 done w by a (leave_name name) = change w by (has_no_transaction a name) (locks (with_name w.locks name None))

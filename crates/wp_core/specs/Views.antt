@@ -32,9 +32,9 @@ pub data Event : Type 0 where
   tables_failed : InstalledEdit → Option InstalledEdit → Event
   -- the log was found closed at this published number
   stopped : ℕ → Event
-  -- the last edit was found, with this flushed number and so many tables, by one who knew of so many; true where the
-  -- devices had failed
-  found_edit : ℕ → ℕ → ℕ → Bool → Event
+  -- the last edit was found, with this flushed number, this base of the log and so many tables, by one who knew of so many; true where
+  -- the devices had failed
+  found_edit : ℕ → ℕ → ℕ → ℕ → Bool → Event
   -- this holder was found, of a key or else of a live name, by one who had seen so many entries
   found : Option (List ℕ) → Holder → ℕ → Account → Event
 

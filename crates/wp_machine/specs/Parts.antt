@@ -37,7 +37,7 @@ event_of (found.LogFailed entries) = view.log_failed entries.items
 event_of found.LogStopped = view.log_stopped
 event_of (found.TablesFailed last edit) = view.tables_failed last edit
 event_of (found.Stopped n) = view.stopped n
-event_of (found.Edit flushed tables due halted) = view.found_edit flushed tables due halted
+event_of (found.Edit flushed base tables due halted) = view.found_edit flushed base tables due halted
 event_of (found.Holder key holder seen account) = view.found key holder seen (account_of account)
 
 abbrev pub fact_of : Noted → Fact

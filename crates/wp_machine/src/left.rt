@@ -6,7 +6,7 @@ ghost use Rattle.wp_model.specs.declared.holder.Holder.TheVariants.{Txn};
 ghost use Rattle.wp_history.proofs.Opened.{name_left, keys_left, names_of, keys_of};
 
 use std::alloc::{AllocError, Global};
-use wp_history::History;
+use wp_ledger::History;
 use wp_model::{Batch, Change, Holder, Key, Name};
 
 /// The name of a prepare, had by nobody.

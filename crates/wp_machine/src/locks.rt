@@ -11,7 +11,7 @@ ghost use Rattle.wp_machine.specs.Pairs.{newest_under};
 use crate::left::{keys_left, names_left};
 use std::alloc::{AllocError, Global};
 use std::marker::Model;
-use wp_history::History;
+use wp_ledger::History;
 use wp_model::{Holder, Key, Name, Seq};
 
 /// The live names, each with the client that has it, if one does; the held keys; and the labels. Each is a list whose

@@ -11,8 +11,8 @@ ghost use Rattle.wp_machine.specs.Pairs.{newest_of};
 
 use std::alloc::{AllocError, Global};
 use std::marker::Model;
-use wp_history::History;
 use wp_judge::InPrepared;
+use wp_ledger::History;
 use wp_model::Seq;
 
 /// The prepared heap, the delayed set and the delayed commits. Each is a list whose newest item comes first: of two pairs

@@ -34,9 +34,9 @@ pub enum Found {
     TablesFailed(InstalledEdit, Option<InstalledEdit>),
     /// The log was found closed at this published number.
     Stopped(Seq),
-    /// The last edit, with this flushed number and so many tables, by one who knew of so many; true where the devices had
-    /// failed.
-    Edit(Seq, u64, u64, bool),
+    /// The last edit, with this flushed number, this base of the log and so many tables, by one who knew of so many; true where the
+    /// devices had failed.
+    Edit(Seq, Seq, u64, u64, bool),
     /// This holder, of a key or else of a live name, by one who had seen so many entries.
     Holder(Option<Key>, Holder, Seq, Account),
 }

@@ -20,7 +20,7 @@ use crate::turn::Holders;
 use crate::writes::WriteTable;
 use std::alloc::{AllocError, Global};
 use std::marker::Model;
-use wp_history::History;
+use wp_ledger::History;
 use wp_model::{Entry, Name, Seq};
 
 /// The words, the turns, the tables that they guard, and the actors.
@@ -68,13 +68,14 @@ impl World {
         World::opened(alloc, client, &History::new(alloc), 0)
     }
 
-    /// An opening on the history: one client, a commit cache of so many bits with empty words, and all versions in memory.
+    /// An opening on the history, which has no base: one client, a commit cache of so many bits with empty words, and all versions in memory.
     pub fn opened(
         alloc: Global,
         client: Name,
         history: &History,
         bits: u32,
     ) -> Result<World, AllocError>
+        requires base { history.now.base ≡ 0 }
         requires closed { undone_last history.now.entries ≡ None }
         requires bits { bits ≤ 16 }
         ensures opening { IfOk result IsOpening }
@@ -87,11 +88,12 @@ impl World {
     }
 
     fn on(alloc: Global, client: Name, history: &History, bits: u32) -> Result<World, AllocError>
-        requires { bits ≤ 16 }
+        requires base { history.now.base ≡ 0 }
+        requires bits { bits ≤ 16 }
         ensures world { IfOk result (λ world. world ≡ opened_world history.now.entries (replicate (2 ^ bits) 0) client) }
         ensures legal { IsLegal history.now.entries }
     {
-        let entries = history.entries();
+        let entries = history.later();
         let opened = copy_entries(entries, alloc)?;
         let cache = Cache::empty(bits, alloc)?;
         let (writes, store) = stored(entries, alloc)?;

@@ -6,7 +6,7 @@ ghost use Rattle.wp_model.specs.Decision.{decision_of};
 
 use crate::read::history_of;
 use std::alloc::{AllocError, Global};
-use wp_history::History;
+use wp_ledger::History;
 use wp_model::{Entry, Seq};
 
 /// The place of the Commit or the Close of the prepare.
@@ -22,12 +22,13 @@ fn place_of_decider(entries: &[Entry], p: Seq) -> Option<usize>
 
 /// The number that decides the version with that number, if one does.
 pub(crate) fn decision_of(history: &History, p: Seq) -> Option<Seq>
+    requires { history.now.base ≡ 0 }
     ensures { result ≡ decision_of history.now.entries p }
 {
     match history.entry_at(p)? {
         Entry::Write(_) | Entry::Undo(_, _) => Some(p),
         Entry::Prepare(_, _) => {
-            let before = place_of_decider(history.entries(), p)?;
+            let before = place_of_decider(history.later(), p)?;
             Some(before as u64 + 1)
         }
         Entry::Commit(_) | Entry::Close(_) => None,

@@ -11,7 +11,7 @@ use crate::order::in_order;
 use crate::versions::{are_equal, joined, none_flushed, up_to};
 use std::alloc::{AllocError, Global};
 use wp_cover::covers;
-use wp_history::History;
+use wp_ledger::History;
 use wp_machine::{InstalledEdit, Snapshots, World, versions_of_next};
 use wp_model::{Entry, Segment, Seq, Version};
 
@@ -50,6 +50,7 @@ fn are_covered(
     from: Seq,
     alloc: Global,
 ) -> Result<bool, AllocError>
+    requires { history.now.base ≡ 0 }
     ensures { IfOk result (λ yes. yes ≡ true → IsCovered list.now history.now.entries numbers.now from) }
 {
     let versions = in_order(list, alloc)?;
@@ -77,13 +78,14 @@ pub(crate) fn is_edit_covered(
     edit: &InstalledEdit,
     alloc: Global,
 ) -> Result<bool, AllocError>
+    requires { history.now.base ≡ 0 }
     ensures { IfOk result (λ yes. yes ≡ true → IsEditCovered history.now.entries edit.now) }
 {
     let base = edit.segment.base;
     if base > edit.flushed || edit.flushed > history.published() {
         return Ok(false);
     }
-    let later = later_versions(history.entries(), edit.flushed, alloc)?;
+    let later = later_versions(history.later(), edit.flushed, alloc)?;
     let all = joined(&edit.versions, &later, alloc)?;
     let yes = are_covered(history, &all, &[base], history.published(), alloc)?;
     Ok(yes)
@@ -95,6 +97,7 @@ pub(crate) fn is_any_covered(
     edit: Option<&InstalledEdit>,
     alloc: Global,
 ) -> Result<bool, AllocError>
+    requires { history.now.base ≡ 0 }
     ensures { IfOk result (λ yes. yes ≡ true → (some : InstalledEdit) → option_copied edit.entry ≡ Some some → IsEditCovered history.now.entries some) }
 {
     match edit {
@@ -112,6 +115,7 @@ pub(crate) fn is_store_covered(
     floor: Seq,
     alloc: Global,
 ) -> Result<bool, AllocError>
+    requires { history.now.base ≡ 0 }
     ensures { IfOk result (λ yes. yes ≡ true
         → IsCovered (up_to (length history.now.entries) (memory.now ++ tables.now)) history.now.entries (live_numbers snapshots.now) floor) }
 {

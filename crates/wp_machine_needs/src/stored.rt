@@ -13,7 +13,7 @@ use crate::edits::{is_any_covered, is_edit_covered, is_store_covered};
 use crate::pending::has_versions_of;
 use crate::versions::version_at;
 use std::alloc::{AllocError, Global};
-use wp_history::History;
+use wp_ledger::History;
 use wp_machine::{InstalledEdit, Snapshots};
 use wp_model::{Entry, Key, Seq, Value, Version};
 
@@ -28,12 +28,14 @@ fn version_in<'a>(entry: Option<&'a Entry>, key: &Key) -> Option<Option<&'a Valu
 }
 
 fn is_of(history: &History, versions: &[Version], key: &Key, p: Seq) -> bool
+    requires { history.now.base ≡ 0 }
     ensures { (result ≡ true) ↔ (entry_version history.now.entries p key.now ≡ version_at versions.now key.now p) }
 {
     version_in(history.entry_at(p), key) == version_at(versions, key, p)
 }
 
 fn each_is_of(history: &History, versions: &[Version], listed: &[Version]) -> bool
+    requires { history.now.base ≡ 0 }
     ensures { (result ≡ true) ↔ Each (λ (v : Version). entry_version history.now.entries v.number v.key ≡ version_at versions.now v.key v.number) listed.now }
 {
     for version in listed {
@@ -46,6 +48,7 @@ fn each_is_of(history: &History, versions: &[Version], listed: &[Version]) -> bo
 
 /// Whether each of the versions is that of its entry.
 fn are_of(history: &History, versions: &[Version]) -> bool
+    requires { history.now.base ≡ 0 }
     ensures { (result ≡ true) ↔ AreOf history.now.entries versions.now }
 {
     each_is_of(history, versions, versions)
@@ -90,6 +93,7 @@ fn are_next(history: &History, pending: &[Entry], versions: &[Version]) -> bool
 
 /// Whether what the entry with that number says of keys is there.
 fn has_version(history: &History, memory: &[Version], p: Seq) -> bool
+    requires { history.now.base ≡ 0 }
     ensures { (result ≡ true) ↔ HasEntry history.now.entries memory.now p }
 {
     match history.entry_at(p) {
@@ -100,6 +104,7 @@ fn has_version(history: &History, memory: &[Version], p: Seq) -> bool
 
 /// Whether each version of the history's that is above `flushed` is there.
 fn has_later(history: &History, flushed: Seq, memory: &[Version]) -> bool
+    requires { history.now.base ≡ 0 }
     ensures { result ≡ true → HasLater history.now.entries flushed memory.now }
 {
     let mut p = flushed;
@@ -119,6 +124,7 @@ fn are_versions(
     tables: &[Version],
     flushed: Seq,
 ) -> bool
+    requires { history.now.base ≡ 0 }
     ensures { result ≡ true → AreVersions history.now.entries pending.now memory.now tables.now flushed }
 {
     if !are_next(history, pending, memory) {
@@ -136,6 +142,7 @@ fn are_edits(
     failed: Option<&InstalledEdit>,
     alloc: Global,
 ) -> Result<bool, AllocError>
+    requires { history.now.base ≡ 0 }
     ensures { IfOk result (λ yes. yes ≡ true → AreEdits history.now.entries last.now (option_copied failed.entry)) }
 {
     if !is_edit_covered(history, last, alloc)? {
@@ -157,6 +164,7 @@ pub(crate) fn is_stored(
     failed: Option<&InstalledEdit>,
     alloc: Global,
 ) -> Result<bool, AllocError>
+    requires { history.now.base ≡ 0 }
     ensures { IfOk result (λ yes. (halted : Bool) → yes ≡ true
         → IsStored history.now.entries pending.now snapshots.now (record { memory = memory.now; tables = tables.now; floor = floor })
         (record { last = last.now; failed = option_copied failed.entry; halted = halted })) }

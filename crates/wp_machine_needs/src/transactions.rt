@@ -13,7 +13,7 @@ ghost use Rattle.wp_machine_needs.specs.Holding.{IsUndecidedAt, HasPrior, IsUnpr
 
 use crate::read::history_of;
 use std::alloc::{AllocError, Global};
-use wp_history::History;
+use wp_ledger::History;
 use wp_machine::{LockTables, Participant, Transaction};
 use wp_model::{Batch, Change, Entry, Holder, Key, Name, Seq};
 
@@ -76,9 +76,9 @@ fn are_held_for(locks: &LockTables, changes: &[Change], name: &Name) -> bool
 fn holds_batch(locks: &LockTables, history: &History, p: Seq, name: &Name) -> bool
     ensures { (result ≡ true) ↔ AreHeldFor locks.now (batch_at history.now.entries p) name.now }
 {
-    match history.entry_at(p) {
-        Some(Entry::Prepare(_, batch)) => are_held_for(locks, batch.changes(), name),
-        _ => true,
+    match history.prepare_at(p) {
+        Some((_, batch)) => are_held_for(locks, batch.changes(), name),
+        None => true,
     }
 }
 

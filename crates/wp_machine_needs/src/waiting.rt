@@ -8,12 +8,13 @@ use crate::clearing::cached;
 use crate::decided::decision_of;
 use crate::read::history_of;
 use std::alloc::AllocError;
-use wp_history::History;
+use wp_ledger::History;
 use wp_machine::World;
 use wp_model::Seq;
 
 /// Whether the pair of the number, if that is decided at the bound or before, is in its word.
 fn is_in_word(world: &World, history: &History, p: Seq) -> bool
+    requires { history.now.base ≡ 0 }
     ensures { result ≡ true → IsInWord history.now.entries world.now.cache world.now.max_evicted p }
 {
     match decision_of(history, p) {
@@ -23,6 +24,7 @@ fn is_in_word(world: &World, history: &History, p: Seq) -> bool
 }
 
 fn are_in_words(world: &World, history: &History, numbers: &[Seq]) -> bool
+    requires { history.now.base ≡ 0 }
     ensures { result ≡ true → Each (IsInWord history.now.entries world.now.cache world.now.max_evicted) numbers.now }
 {
     for p in numbers {

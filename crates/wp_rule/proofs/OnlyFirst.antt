@@ -9,12 +9,12 @@ use Rattle.wp_model.specs.declared.holder.Holder.{Holder}
 use Rattle.wp_model.specs.declared.holder.Holder.TheVariants.{Txn, Client}
 use Rattle.wp_core.specs.Lists.{IsIn, one_if, total}
 use Rattle.wp_core.specs.Turns.{Turn, turn_holder}
-use Rattle.wp_core.specs.Views.{Account, Event, own, another, prepare_at}
+use Rattle.wp_core.specs.Views.{Account, Event, own, another, prepare_at, renewed}
 use Rattle.wp_core.specs.World.{Actor, Participant, World, new_participant}
 use Rattle.wp_core.specs.World as world
 use Rattle.wp_core.specs.Sound.Actors.{seen_of, own_of, learned_of, held_of, role_of, participants_of, IsParticipantAt, total_participants, times}
 use Rattle.wp_core.specs.Sound.Locks.{Owner, owner_of, IsNameOf, IsDirectOf, AreLocked}
-use Rattle.wp_core.specs.Sound.Pasts.{past_of, HasDone, IsPast, closes_log, is_tables_fault, HasBegun, MadeHolder, IsAccounted, WasLocked, WasInstalled, OtherDid, OtherInstalls, OtherCompacts, AreHolders, IsBoard, AreFaults, AreEdits}
+use Rattle.wp_core.specs.Sound.Pasts.{past_of, HasDone, IsPast, closes_log, is_tables_fault, HasBegun, MadeHolder, IsAccounted, WasLocked, WasInstalled, WasBased, OtherDid, OtherInstalls, OtherCompacts, AreHolders, IsBoard, AreFaults, AreEdits}
 use Rattle.wp_core.specs.Sound.Reader.{reader_of}
 use Rattle.wp_core.specs.Sound.Snapshots.{registered_of, view_of}
 use Rattle.wp_core.specs.Sound.Views.{noter_of}
@@ -161,6 +161,7 @@ module _ (w : World) (a : Actor) (others : List Actor) (is : w.actors ≡ a ∷ 
     stopped = λ n q. k.stopped n (past_up _ q);
     failed = λ entries q. k.failed entries (past_up _ q);
     behind = λ q. k.behind (past_up _ q);
+    unfailed = λ q. k.unfailed (past_up _ q);
   }
 
   installed_down : (n : ℕ) → WasInstalled w.first_edit (participants past_of w) n → WasInstalled w.first_edit (participants past_of v) n
@@ -168,6 +169,9 @@ module _ (w : World) (a : Actor) (others : List Actor) (is : w.actors ≡ a ∷ 
 
   installed_up : (n : ℕ) → WasInstalled w.first_edit (participants past_of v) n → WasInstalled w.first_edit (participants past_of w) n
   installed_up n k = ⊎_elim (λ e. inl e) (λ q. inr (q.0, q.1, past_up q.0 q.2)) k
+
+  based_down : (base : ℕ) → WasBased w.first_edit (participants past_of w) base → WasBased w.first_edit (participants past_of v) base
+  based_down base k = ⊎_elim (λ e. inl e) (λ q. inr (q.0, q.1, past_down (renewed q.0) q.2)) k
 
   other_down : (j i : ℕ) (e : Event) → OtherDid (participants past_of w) j i e → OtherDid (participants past_of v) j i e
   other_down j i e o = (o.0, o.1, o.2, done_down o.0 o.1 e o.3)
@@ -179,12 +183,14 @@ module _ (w : World) (a : Actor) (others : List Actor) (is : w.actors ≡ a ∷ 
   edits_down = let k = s.edits in record {
     last = installed_down w.installed.last.flushed k.last;
     rises = λ n q. k.rises n (installed_up n q);
-    found = λ n tables due halted q. installed_down n (k.found n tables due halted (past_up _ q));
-    few = λ j i n tables due halted d less. compacts_down j i (k.few j i n tables due halted (done_up j i _ d) less);
+    based = based_down w.installed.last.segment.base k.based;
+    found = λ n base tables due halted q. installed_down n (k.found n base tables due halted (past_up _ q));
+    found_base = λ n base tables due halted q. based_down base (k.found_base n base tables due halted (past_up _ q));
+    few = λ j i n base tables due halted d less. compacts_down j i (k.few j i n base tables due halted (done_up j i _ d) less);
     edit = λ j i past there. ⊎_elim (λ same. inl same) (λ (o : OtherInstalls (participants past_of w) j i). inr (o.0, o.1, other_down j i _ o.2)) (k.edit j i past (up past_of j i past there));
     tables = λ j i past there. ⊎_elim (λ le. inl le) (λ (o : OtherCompacts (participants past_of w) j i). inr (compacts_down j i o)) (k.tables j i past (up past_of j i past there));
     failed = λ last edit q. k.failed last edit (past_up _ q);
-    found_halted = λ n tables due q. k.found_halted n tables due (past_up _ q);
+    found_halted = λ n base tables due q. k.found_halted n base tables due (past_up _ q);
     none_failed = k.none_failed;
   }
 
@@ -203,6 +209,7 @@ module _ (w : World) (a : Actor) (others : List Actor) (is : w.actors ≡ a ∷ 
       live = k.live;
       smallest = λ j i x there. k.smallest j i x (up registered_of j i x there);
     };
+    from_opening = s.from_opening;
     viewed = λ j i x there. s.viewed j i x (up view_of j i x there);
     flags = s.flags;
     versions = s.versions;

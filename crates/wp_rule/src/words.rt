@@ -32,7 +32,7 @@ use std::marker::{Brand, Model};
 use std::snapshot::Snapshot;
 use std::sync::Wait;
 use wp_actor::{Actor, Turn};
-use wp_history::History;
+use wp_ledger::History;
 use wp_model::{Name, Seq};
 
 const PUBLISHED: usize = 0;

@@ -94,8 +94,9 @@ pub record AreFaults (writes : WriteTable) (halted : Bool) (pasts : List (List (
   pub stopped : (n : ℕ) → IsPast pasts (stopped n) → (writes.closed ≡ true) × (n ≡ length writes.history)
   -- the record whose append failed is the one that the log may have
   pub failed : (entries : List Entry) → IsPast pasts (log_failed entries) → (writes.closed ≡ true) × (writes.failed ≡ entries)
-  -- it was stopped only where the devices of the tables had failed
+  -- it was stopped only where the devices of the tables had failed, and then no append failed
   pub behind : IsPast pasts log_stopped → halted ≡ true
+  pub unfailed : IsPast pasts log_stopped → (writes.closed ≡ true) × (writes.failed ≡ [])
 
 -- ---- edits
 
@@ -114,6 +115,10 @@ raised_to other = None
 -- a flushed number is that of the opening, or one that a flush or a renewal installed
 abbrev pub WasInstalled : InstalledEdit → List (List (List Event)) → ℕ → Type 0
 WasInstalled first pasts n = (n ≡ first.flushed) ⊎ ((e : Event) × (raised_to e ≡ Some n) × IsPast pasts e)
+
+-- a base of the log is that of the opening, or one that a renewal installed
+abbrev pub WasBased : InstalledEdit → List (List (List Event)) → ℕ → Type 0
+WasBased first pasts base = (base ≡ first.segment.base) ⊎ ((edit : InstalledEdit) × (edit.segment.base ≡ base) × IsPast pasts (renewed edit))
 
 -- the tables that are there at least, for one who knows of so many and installed an edit
 abbrev pub due_after : ℕ → Event → ℕ
@@ -143,17 +148,20 @@ OtherInstalls pasts j i = (e : Event) × (is_install e ≡ true) × OtherDid pas
 abbrev pub OtherCompacts : List (List (List Event)) → ℕ → ℕ → Type 0
 OtherCompacts pasts j i = (edit : InstalledEdit) × OtherDid pasts j i (installed edit true)
 
--- The last edit's flushed number is the opening's, a flush's or a renewal's, of which none is greater, and so is each that was found. It is
--- the edit that a participant installed last, unless another one installed one, and has at least the tables that this one knows
--- of, unless another one compacted; so has the edit that was found. Where the devices failed, it is that one still, and so is the
--- one whose install failed; and it has the flushed number that was found once they had failed.
+-- The last edit's flushed number is the opening's, a flush's or a renewal's, of which none is greater, and so is each that was found; its
+-- base is the opening's or a renewal's, and so is each that was found. It is the edit that a participant installed last, unless
+-- another one installed one, and has at least the tables that this one knows of, unless another one compacted; so has the edit that was
+-- found. Where the devices failed, it is that one still, and so is the one whose install failed; and it has the flushed number that was
+-- found once they had failed.
 pub record AreEdits (first : InstalledEdit) (t : Installed) (pasts : List (List (List Event))) : Type 0 where
   pub last : WasInstalled first pasts t.last.flushed
   pub rises : (n : ℕ) → WasInstalled first pasts n → n ≤ t.last.flushed
-  pub found : (n tables due : ℕ) (halted : Bool) → IsPast pasts (found_edit n tables due halted) → WasInstalled first pasts n
-  pub few : (j i n tables due : ℕ) (halted : Bool) → HasDone pasts j i (found_edit n tables due halted) → tables < due → OtherCompacts pasts j i
+  pub based : WasBased first pasts t.last.segment.base
+  pub found : (n base tables due : ℕ) (halted : Bool) → IsPast pasts (found_edit n base tables due halted) → WasInstalled first pasts n
+  pub found_base : (n base tables due : ℕ) (halted : Bool) → IsPast pasts (found_edit n base tables due halted) → WasBased first pasts base
+  pub few : (j i n base tables due : ℕ) (halted : Bool) → HasDone pasts j i (found_edit n base tables due halted) → tables < due → OtherCompacts pasts j i
   pub edit : (j i : ℕ) (past : List Event) → IsParticipantAt pasts j i past → (t.last ≡ last_installed first past) ⊎ OtherInstalls pasts j i
   pub tables : (j i : ℕ) (past : List Event) → IsParticipantAt pasts j i past → (tables_due first past ≤ t.last.tables) ⊎ OtherCompacts pasts j i
   pub failed : (last : InstalledEdit) (edit : Option InstalledEdit) → IsPast pasts (tables_failed last edit) → (t.halted ≡ true) × (t.last ≡ last) × (t.failed ≡ edit)
-  pub found_halted : (n tables due : ℕ) → IsPast pasts (found_edit n tables due true) → (t.halted ≡ true) × (n ≡ t.last.flushed)
+  pub found_halted : (n base tables due : ℕ) → IsPast pasts (found_edit n base tables due true) → (t.halted ≡ true) × (n ≡ t.last.flushed)
   pub none_failed : t.halted ≡ false → t.failed ≡ None

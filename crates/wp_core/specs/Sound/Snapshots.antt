@@ -7,7 +7,7 @@ use Rattle.wp_model.specs.History.{entry_at}
 use Rattle.wp_model.specs.Decision.{IsCommittedAt}
 use Rattle.wp_model.specs.Snapshots as snaps
 use Rattle.wp_core.specs.Lists.{EachAt, IsIn, one_if, total}
-use Rattle.wp_model.specs.Snapshots.{Snapshots}
+use Rattle.wp_model.specs.Snapshots.{Snapshots, IsLive}
 use Rattle.wp_core.specs.Reading.{Registration}
 use Rattle.wp_core.specs.World.{Participant}
 use Rattle.wp_core.specs.Sound.Actors.{EachParticipant, total_participants}
@@ -49,6 +49,10 @@ abbrev pub HasSeen : List Entry × List Registration → Type 0
 HasSeen view = (r : Registration) → IsIn r view.1 → r.number ≤ length view.0
 
 -- ---- together
+
+-- no live number is below the end of the history that was opened
+abbrev pub AreFromOpening : List Entry → Snapshots → Type 0
+AreFromOpening opened snapshots = (s : ℕ) → IsLive snapshots s → length opened ≤ s
 
 -- the counts are the sums of the actors' registrations, and each live number is at most the published one
 pub record AreRegistered (history : List Entry) (snapshots : Snapshots) (registered : List (List (List Registration))) : Type 0 where

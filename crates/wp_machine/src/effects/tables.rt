@@ -53,8 +53,15 @@ fn find_edit(world: &mut World, actor: &mut Actor) -> Result<(), AllocError>
 {
     let due = tables_due(&world.first_edit, &actor.participant.past)?;
     let installed = &world.installed;
-    let (flushed, tables) = (installed.last.flushed, installed.last.tables);
-    actor.remember(Event::of(Found::Edit(flushed, tables, due, installed.halted)))
+    let last = &installed.last;
+    let found = Found::Edit(
+        last.flushed,
+        last.segment.base,
+        last.tables,
+        due,
+        installed.halted,
+    );
+    actor.remember(Event::of(found))
 }
 
 pub(crate) fn tables(

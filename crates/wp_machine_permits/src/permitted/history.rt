@@ -3,20 +3,20 @@ ghost use Rattle.std.specs.Prelude.{◌≡◌, true, [], ◌∷◌, ◌++◌, If
 ghost use Rattle.wp_machine_permits.specs.Permits.{MayFollow};
 
 use std::alloc::{AllocError, Global};
-use wp_history::History;
 use wp_history::laws::legal_grows;
+use wp_ledger::History;
 use wp_machine::World;
 use wp_model::Entry;
 
-/// The greatest number of an entry: 2^32 - 1.
-const MOST_ENTRIES: u64 = 4294967295;
+/// The greatest number of an entry: 2^56 - 1.
+const MOST_ENTRIES: u64 = 72057594037927935;
 
 /// Whether the entry may follow those of the history, and leaves them few enough.
 pub(super) fn may_follow(history: &History, entry: &Entry) -> bool
     ensures { result ≡ true → MayFollow history.now.entries entry.now }
 {
     legal_grows();
-    history.entries().len() as u64 <= MOST_ENTRIES - 1 && history.is_legal_next(entry)
+    history.published() < MOST_ENTRIES && history.is_legal_next(entry)
 }
 
 /// Adds the entry, where it may follow.

@@ -20,7 +20,7 @@ ghost use Rattle.wp_machine_permits.specs.Permits.{IsEntitled, IsHeldKey, IsLock
 use crate::permitted::evicting::fits_no_word;
 use crate::permitted::history::{history_of, may_follow};
 use std::alloc::AllocError;
-use wp_history::History;
+use wp_ledger::History;
 use wp_machine::{Actor, Transaction, Turn, World};
 use wp_machine_needs::{cached, has_versions_of};
 use wp_model::{Batch, Change, Entry, Holder, Key, Name, Seq};

@@ -90,7 +90,7 @@ fn is_legal_with(world: &World, entries: &[Entry]) -> Result<bool, AllocError>
         return Ok(false);
     };
     let follow = add_all(&mut history, entries, world.alloc)?;
-    let _ = history.entries();
+    let _ = history.later();
     Ok(follow)
 }
 
