@@ -4,12 +4,12 @@ use crate::play::played;
 use crate::step::first_word;
 use crate::trouble::{Tried, Trouble, number};
 use std::alloc::Global;
-use wp_history::History;
+use wp_ledger::History;
 use wp_machine::World;
 use wp_model::{Entry, Name};
 
-/// The greatest number of an entry: 2^32 - 1.
-const MOST_ENTRIES: u64 = 4294967295;
+/// The greatest number of an entry: 2^56 - 1.
+const MOST_ENTRIES: u64 = 72057594037927935;
 
 /// The name of the client.
 const CLIENT: &[u8] = b"a";
@@ -18,8 +18,8 @@ const CLIENT: &[u8] = b"a";
 pub(crate) struct Case {
     /// What an opening finds.
     found: History,
-    /// None where there is no case.
-    world: Option<World>,
+    /// None where there is no case. So the other lines of one that ended are passed over.
+    pub(crate) world: Option<World>,
 }
 
 fn add(history: &mut History, entry: Entry) -> Tried<()> {
@@ -31,9 +31,9 @@ fn add(history: &mut History, entry: Entry) -> Tried<()> {
     Ok(())
 }
 
-/// The world that is opened on the history, with a commit cache of one word.
+/// The world that is opened on the history, which has no base, with a commit cache of one word.
 fn opened(alloc: Global, history: &History) -> Tried<World> {
-    if history.undone_last().is_some() {
+    if history.base() != 0 || history.undone_last().is_some() {
         return Err(Trouble::Wrong);
     }
     match Name::read(alloc, CLIENT) {
@@ -51,11 +51,6 @@ impl Case {
         }
     }
 
-    /// Ends the case: its other lines are passed over.
-    pub(crate) fn end(&mut self) {
-        self.world = None;
-    }
-
     /// Begins a case, on the empty history.
     pub(crate) fn begin(&mut self, alloc: Global) -> Tried<()> {
         self.found = History::new(alloc);
@@ -63,20 +58,14 @@ impl Case {
         Ok(())
     }
 
-    /// Reads `2 ENTRY`: twice this entry is found.
+    /// Reads `2 ENTRY`: twice this entry is found, and the world is opened on that.
     pub(crate) fn find(&mut self, alloc: Global, words: &str) -> Tried<()> {
-        let (times, words) = first_word(words);
-        for _ in 0..number(times)? {
-            let entry = entry_of(alloc, words)?;
-            add(&mut self.found, entry)?;
-        }
-        Ok(())
-    }
-
-    /// Opens the world on what was found.
-    pub(crate) fn open(&mut self, alloc: Global) -> Tried<()> {
         if self.world.is_none() {
             return Ok(());
+        }
+        let (times, words) = first_word(words);
+        for _ in 0..number(times)? {
+            add(&mut self.found, entry_of(alloc, words)?)?;
         }
         self.world = Some(opened(alloc, &self.found)?);
         Ok(())
@@ -84,10 +73,9 @@ impl Case {
 
     /// Plays the lines.
     pub(crate) fn play(&mut self, lines: &str) -> Tried<()> {
-        let Some(world) = self.world.take() else {
-            return Ok(());
-        };
-        self.world = Some(played(world, lines)?);
+        if let Some(world) = self.world.take() {
+            self.world = Some(played(world, lines)?);
+        }
         Ok(())
     }
 }

@@ -18,19 +18,15 @@ fn stepped(world: World, line: &str) -> Tried<World> {
     Ok(apply(world, step)?)
 }
 
-/// The world, if it is so.
-fn confirmed(world: World, what: &str) -> Tried<World> {
-    if !is_so(&world, what)? {
-        return Err(Trouble::Wrong);
-    }
-    Ok(world)
-}
-
 /// The world after the line, which says what is so or is a step.
 fn after(world: World, line: &str) -> Tried<World> {
-    match line.strip_prefix("expect ") {
-        Some(what) => confirmed(world, what),
-        None => stepped(world, line),
+    let Some(what) = line.strip_prefix("expect ") else {
+        return stepped(world, line);
+    };
+    if is_so(&world, what)? {
+        Ok(world)
+    } else {
+        Err(Trouble::Wrong)
     }
 }
 

@@ -17,23 +17,29 @@ fn is_permitted(world: &World, words: &str) -> Tried<bool> {
 }
 
 /// The client's answer as a reader, where it has one.
-fn answer(world: &World) -> Option<bool> {
-    let client = world.actors.first()?;
-    let seen = client.reading?;
+fn answer(world: &World) -> &'static str {
+    let Some(client) = world.actors.first() else {
+        return "none";
+    };
+    let Some(seen) = client.reading else {
+        return "none";
+    };
     if seen.bits > MOST_BITS {
-        return None;
+        return "none";
     }
     match ask(&seen) {
-        Asked::Answer(visible) => Some(visible),
-        Asked::Load(_) => None,
+        Asked::Answer(true) => "visible",
+        Asked::Answer(false) => "hidden",
+        Asked::Load(_) => "none",
     }
 }
 
-fn is_answer(world: &World, wanted: &str) -> bool {
-    match answer(world) {
-        Some(true) => wanted == "visible",
-        Some(false) => wanted == "hidden",
-        None => wanted == "none",
+fn number_of(world: &World, what: &str) -> Tried<u64> {
+    match what {
+        "published" => Ok(world.writes.history.len() as u64),
+        "pending" => Ok(world.writes.pending.len() as u64),
+        "delayed-flag" => Ok(world.delayed_flag),
+        _ => Err(Trouble::Unclear),
     }
 }
 
@@ -43,10 +49,7 @@ pub(crate) fn is_so(world: &World, what: &str) -> Tried<bool> {
     match verb {
         "permitted" => is_permitted(world, rest),
         "refused" => Ok(!is_permitted(world, rest)?),
-        "answer" => Ok(is_answer(world, rest)),
-        "published" => Ok(world.writes.history.len() as u64 == number(rest)?),
-        "pending" => Ok(world.writes.pending.len() as u64 == number(rest)?),
-        "delayed-flag" => Ok(world.delayed_flag == number(rest)?),
-        _ => Err(Trouble::Unclear),
+        "answer" => Ok(answer(world) == rest),
+        _ => Ok(number_of(world, verb)? == number(rest)?),
     }
 }

@@ -10,6 +10,16 @@ pub(crate) enum Trouble {
     Wrong,
 }
 
+impl Trouble {
+    pub(crate) fn why(self) -> &'static str {
+        match self {
+            Trouble::Memory => "out of memory",
+            Trouble::Unclear => "not understood",
+            Trouble::Wrong => "otherwise",
+        }
+    }
+}
+
 pub(crate) type Tried<T> = Result<T, Trouble>;
 
 impl From<AllocError> for Trouble {
