@@ -13,7 +13,7 @@ use Rattle.wp_answers.specs.Answers.{AnswersFrom, BreaksOffFrom}
 use Rattle.wp_answers.specs.Holdings.{HoldsTxn, HoldsFrom}
 use Rattle.wp_answers.specs.Replies.{refusal}
 use Rattle.wp_answers.proofs.Clients.{answers_from, holds_from, breaks_from}
-use Rattle.wp_sole_client.proofs.Changing.{asking, acknowledging}
+use Rattle.wp_answers.proofs.Alone.Changing.{asking, acknowledging}
 use Rattle.wp_answers.proofs.Writes.{written_answers, not_written_answers, not_written_breaks, written_holds}
 
 pub put_same : (k v key value : List ℕ) → k ≡ key → v ≡ value → change.Put k v ≡ change.Put key value

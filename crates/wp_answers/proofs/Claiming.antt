@@ -31,7 +31,7 @@ use Rattle.wp_replies.specs.declared.client.Txn.TheVariants.{Idle, Open, Prepare
 use Rattle.wp_replies.specs.Client.{Client}
 use Rattle.wp_replies.specs.Progress.{Progress}
 use Rattle.wp_replies.specs.Replies.{Evidence, WasUndecided}
-use Rattle.wp_sole_client.proofs.Names.{begun_alone, took_alone, taken_alone, unknown_alone, never_in_use}
+use Rattle.wp_answers.proofs.Alone.Names.{begun_alone, took_alone, taken_alone, unknown_alone, never_in_use}
 use Rattle.wp_answers.specs.declared.holdings.HeldTxn.TheVariants as held
 use Rattle.wp_answers.specs.Agrees.{Agrees, KnowsHolder}
 use Rattle.wp_answers.specs.Answers.{IsProgress, IsExplained, Answers, BreaksOff, IsAnswered}

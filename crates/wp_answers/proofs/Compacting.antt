@@ -23,7 +23,7 @@ use Rattle.wp_core.proofs.KeepsSeen.{shorter}
 use Rattle.wp_core.proofs.Registered.{registered_live}
 use Rattle.wp_core.proofs.Tests.{same_some}
 use Rattle.wp_rule.proofs.Knows.{at_sound, one_was_first}
-use Rattle.wp_parts.specs.Parts.{content}
+use Rattle.wp_shared.specs.Parts.{content}
 use Rattle.wp_shared.specs.Seats.{SharedState, SeatState, place_at}
 use Rattle.wp_read.specs.Registers as pins
 use Rattle.wp_maint.specs.declared.done.Done.{Done}
@@ -34,8 +34,8 @@ use Rattle.wp_replies.specs.Client.{Client, numbers_of}
 use Rattle.wp_replies.specs.Progress.{Progress}
 use Rattle.wp_replies.specs.Replies.{Evidence, OtherCompacted, IsKnown, HasNothingToMerge, FailsCompaction}
 use Rattle.wp_replies.specs.Tables.{after_compaction}
-use Rattle.wp_sole_client.proofs.Retained.{numbers_in}
-use Rattle.wp_sole_client.proofs.Compacting.{compacted_alone, nothing_compacted_alone, compact_failed_alone, compact_halted_alone}
+use Rattle.wp_answers.proofs.Alone.Retained.{numbers_in}
+use Rattle.wp_answers.proofs.Alone.Compacting.{compacted_alone, nothing_compacted_alone, compact_failed_alone, compact_halted_alone}
 use Rattle.wp_answers.specs.Agrees.{Agrees}
 use Rattle.wp_answers.specs.Answers.{IsExplained, Answers, BreaksOff, IsDue, IsAnswered}
 use Rattle.wp_answers.specs.declared.holdings.HeldSnapshot.{HeldSnapshot}

@@ -18,7 +18,7 @@ use Rattle.wp_core.specs.Sound.Actors.{StartsWith}
 use Rattle.wp_core.specs.Views.{Fact}
 use Rattle.wp_core.specs.World.{Participant, Transactions}
 use Rattle.wp_core.proofs.KeepsSeen.{shorter}
-use Rattle.wp_records.specs.Records.{numbers_behind}
+use Rattle.wp_txn.specs.Records.{numbers_behind}
 use Rattle.wp_shared.specs.Calls.{ContinuesWith}
 use Rattle.wp_shared.specs.Seats.{SharedState, SeatState}
 use Rattle.wp_txn.specs.declared.error.TxnError.{TxnError}
@@ -35,7 +35,7 @@ use Rattle.wp_replies.specs.Kind.{acknowledged, fresh_in, last_after}
 use Rattle.wp_replies.specs.Progress.{Progress, heard_after}
 use Rattle.wp_replies.specs.Replies.{Evidence, IsLoggedAt, Row, UnlessRefused, refusal_of, Allows}
 use Rattle.wp_replies.specs.Plan.{next}
-use Rattle.wp_sole_client.proofs.Decisions.{prepared_alone, committed_now_alone, open_stopped_alone, open_full_alone, open_fault_alone, prepare_asks, commit_now_asks, committed_alone, rolled_back_alone, commit_stopped_alone, commit_full_alone, commit_fault_alone, rollback_stopped_alone, rollback_full_alone, rollback_fault_alone, dropped_alone, left_alone}
+use Rattle.wp_answers.proofs.Alone.Decisions.{prepared_alone, committed_now_alone, open_stopped_alone, open_full_alone, open_fault_alone, prepare_asks, commit_now_asks, committed_alone, rolled_back_alone, commit_stopped_alone, commit_full_alone, commit_fault_alone, rollback_stopped_alone, rollback_full_alone, rollback_fault_alone, dropped_alone, left_alone}
 use Rattle.wp_answers.specs.declared.holdings.HeldTxn.{HeldTxn}
 use Rattle.wp_answers.specs.declared.holdings.HeldTxn.TheVariants as held
 use Rattle.wp_answers.specs.Answers.{Answers, BreaksOff, IsDue, IsAnswered}

@@ -14,9 +14,9 @@ use Rattle.wp_core.specs.Sound.Pasts.{due_after}
 use Rattle.wp_core.specs.Views.{Event, Fact}
 use Rattle.wp_core.specs.World.{Participant}
 use Rattle.wp_core.proofs.KeepsSeen.{shorter}
-use Rattle.wp_records.specs.Records.{numbers_behind}
+use Rattle.wp_txn.specs.Records.{numbers_behind}
 use Rattle.wp_rule.specs.Shows.{WasLast}
-use Rattle.wp_parts.specs.Parts.{content}
+use Rattle.wp_shared.specs.Parts.{content}
 use Rattle.wp_shared.specs.Calls.{ContinuesWith}
 use Rattle.wp_shared.specs.Seats.{SharedState, SeatState}
 use Rattle.wp_txn.specs.Writes.{HasPut}
@@ -27,7 +27,7 @@ use Rattle.wp_replies.specs.Kind.{acknowledged, is_fault, is_tables_fault, last_
 use Rattle.wp_replies.specs.Progress.{Progress, heard_after, knows_label}
 use Rattle.wp_replies.specs.Replies.{Evidence, IsLoggedAt, Allows}
 use Rattle.wp_answers.specs.Agrees.{Agrees}
-use Rattle.wp_sole_client.specs.Alone.{log_faults, tables_faults}
+use Rattle.wp_answers.specs.Alone.{log_faults, tables_faults}
 use Rattle.wp_answers.specs.Answers.{IsProgress, IsExplained, findings, IsRemembered, Answers}
 use Rattle.wp_answers.proofs.Staying.{in_place}
 use Rattle.wp_answers.proofs.Growing.{of_one, progress_by, last_still}

@@ -21,7 +21,7 @@ use Rattle.wp_txn.specs.declared.error.TxnError.TheVariants.{Memory, Taken, Busy
 use Rattle.wp_txn.specs.Calls.{Keeps, IsSilent, Tells, Hears}
 use Rattle.wp_replies.specs.Client.{Client}
 use Rattle.wp_replies.specs.Progress.{knows_label}
-use Rattle.wp_sole_client.proofs.Board.{told_alone, heard_alone, silent_alone}
+use Rattle.wp_answers.proofs.Alone.Board.{told_alone, heard_alone, silent_alone}
 use Rattle.wp_answers.specs.Fresh.{NamesPublished}
 use Rattle.wp_answers.specs.Answers.{IsExplained, Answers, BreaksOff, IsAnswered}
 use Rattle.wp_answers.specs.Holdings.{HoldingsState, Holds}

@@ -17,7 +17,7 @@ use Rattle.wp_core.specs.World.{Participant}
 use Rattle.wp_core.proofs.KeepsSeen.{shorter}
 use Rattle.wp_core.proofs.Tests.{same_some}
 use Rattle.wp_rule.specs.Shows.{WasLast}
-use Rattle.wp_parts.specs.Parts.{content}
+use Rattle.wp_shared.specs.Parts.{content}
 use Rattle.wp_shared.specs.Calls.{Continues, remembering}
 use Rattle.wp_shared.specs.Seats.{SharedState, SeatState}
 use Rattle.wp_maint.specs.declared.done.Done.{Done}
@@ -30,7 +30,7 @@ use Rattle.wp_replies.specs.Progress.{Progress, heard_after}
 use Rattle.wp_replies.specs.Replies.{Evidence, WasFlushed, IsKnown, IsHaltedAt, HasNothingToFlush, FailsFlush, refusal_of, Row, UnlessRefused}
 use Rattle.wp_replies.specs.After.{after_reply}
 use Rattle.wp_replies.specs.Tables.{unflushed, after_flush}
-use Rattle.wp_sole_client.proofs.Flushing.{flushed_alone, nothing_flushed_alone, flush_failed_alone, flush_halted_alone}
+use Rattle.wp_answers.proofs.Alone.Flushing.{flushed_alone, nothing_flushed_alone, flush_failed_alone, flush_halted_alone}
 use Rattle.wp_answers.specs.Agrees.{Agrees, Knows}
 use Rattle.wp_answers.specs.Answers.{IsProgress, IsExplained, Answers, BreaksOff, IsDue, IsAnswered}
 use Rattle.wp_answers.specs.Holdings.{HoldingsState, Holds}
@@ -78,9 +78,9 @@ module _ {D : Type 0} (z : SharedState D) (old new : SeatState) where
     pub halted_answers : (t : Installed) (flushed : ℕ) → IsStopped (Continues z old new) z old new t flushed → Answers z old new client client c (reply.Halted flushed)
     halted_answers t flushed k =
         let event : Event = found_by z old new t k.found in
-        let same : event ≡ found_edit flushed t.last.tables (tables_due k.found.world.first_edit it.past) true = λ i. found_edit (sym k.flushed_is i) t.last.tables (tables_due k.found.world.first_edit it.past) (k.halted i) in
+        let same : event ≡ found_edit flushed t.last.segment.base t.last.tables (tables_due k.found.world.first_edit it.past) true = λ i. found_edit (sym k.flushed_is i) t.last.segment.base t.last.tables (tables_due k.found.world.first_edit it.past) (k.halted i) in
         tables_answers (reply.Halted flushed) (event ∷ []) k.goes_on
-        (record { acknowledges = refl; tables = λ before. refl; labels = λ before. of.labels before (reply.Halted flushed); log_failed = refl; tables_failed = refl; once = omega arith; remembered = (t.last.tables, tables_due k.found.world.first_edit it.past, inl same); explained = of_one (IsExplained it.client client.txn c (Some (reply.Halted flushed))) event tt })
+        (record { acknowledges = refl; tables = λ before. refl; labels = λ before. of.labels before (reply.Halted flushed); log_failed = refl; tables_failed = refl; once = omega arith; remembered = (t.last.segment.base, t.last.tables, tables_due k.found.world.first_edit it.past, inl same); explained = of_one (IsExplained it.client client.txn c (Some (reply.Halted flushed))) event tt })
         refl (λ before low. low)
         (λ first is_first before p e agrees. let known = known_of (event ∷ []) k.goes_on e agrees event (inl refl) in
         of.halted e before client flushed (subst (IsHaltedAt e) (sym k.flushed_is) (known.1 k.halted)))

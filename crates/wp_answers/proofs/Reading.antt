@@ -16,7 +16,7 @@ use Rattle.wp_core.specs.Sound.Actors.{StartsWith}
 use Rattle.wp_core.proofs.KeepsSeen.{whole, shorter}
 use Rattle.wp_core.proofs.Tests.{same_some}
 use Rattle.wp_rule.specs.Shows.{WasLast}
-use Rattle.wp_parts.specs.Parts.{content}
+use Rattle.wp_shared.specs.Parts.{content}
 use Rattle.wp_shared.specs.Seats.{SharedState, SeatState, IsFree}
 use Rattle.wp_shared.proofs.Onward.{starts_on}
 use Rattle.wp_txn.specs.Calls.{Keeps}
@@ -28,8 +28,8 @@ use Rattle.wp_replies.specs.Plan.{read_reply}
 use Rattle.wp_replies.specs.Progress.{Progress, heard_after}
 use Rattle.wp_replies.specs.Replies.{Evidence, TxnIsWithin, OwnSays, IsFresh, Row, Allows, UnlessRefused, unless_labelled}
 use Rattle.wp_replies.specs.Due.{Store}
-use Rattle.wp_sole_client.specs.Alone.{IsOnly, IsStoreOf}
-use Rattle.wp_sole_client.proofs.ReadKeys.{prepared_changes, got_own_alone, missing_own_alone, read_alone, read_at_alone, unknown_snapshot_alone}
+use Rattle.wp_answers.specs.Alone.{IsOnly, IsStoreOf}
+use Rattle.wp_answers.proofs.Alone.ReadKeys.{prepared_changes, got_own_alone, missing_own_alone, read_alone, read_at_alone, unknown_snapshot_alone}
 use Rattle.wp_answers.specs.declared.holdings.HeldTxn.{HeldTxn}
 use Rattle.wp_answers.specs.declared.holdings.HeldTxn.TheVariants as held
 use Rattle.wp_answers.specs.Agrees.{Agrees}

@@ -24,7 +24,7 @@ use Rattle.wp_replies.specs.Kind.{number_in, fresh_in, last_after}
 use Rattle.wp_replies.specs.Progress.{Progress, heard_after}
 use Rattle.wp_replies.specs.Replies.{Evidence, refusal_of, needed, AsksFor, IsFresh, Row, UnlessRefused, Allows}
 use Rattle.wp_answers.specs.Agrees.{Agrees}
-use Rattle.wp_sole_client.specs.Alone.{log_faults, tables_faults}
+use Rattle.wp_answers.specs.Alone.{log_faults, tables_faults}
 use Rattle.wp_answers.specs.Answers.{IsProgress, IsExplained, is_finding, findings, Answers}
 use Rattle.wp_answers.specs.Holdings.{HoldingsState, Holds}
 use Rattle.wp_answers.specs.Replies.{refusal}

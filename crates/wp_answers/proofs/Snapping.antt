@@ -24,7 +24,7 @@ use Rattle.wp_replies.specs.declared.client.LabelledSnapshot.{LabelledSnapshot}
 use Rattle.wp_replies.specs.Client.{Client, number_of, without_label, AreWithin}
 use Rattle.wp_replies.specs.Replies.{UnlessRefused, unless_labelled, refuses_label, Row}
 use Rattle.wp_replies.proofs.Within.{within_more}
-use Rattle.wp_sole_client.proofs.Snapshots.{snapped_alone, freed_alone, not_snapped_alone, not_freed_alone}
+use Rattle.wp_answers.proofs.Alone.Snapshots.{snapped_alone, freed_alone, not_snapped_alone, not_freed_alone}
 use Rattle.wp_answers.specs.declared.holdings.HeldSnapshot.{HeldSnapshot}
 use Rattle.wp_answers.specs.Answers.{Answers, IsDue, IsAnswered}
 use Rattle.wp_answers.specs.Holdings.{HoldingsState, txn_of, labelled, client_of, snapshot_of, times_registered, AreDistinct, Holds}

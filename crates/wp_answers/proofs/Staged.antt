@@ -45,8 +45,8 @@ use Rattle.wp_answers.proofs.Growing.{of_one}
 use Rattle.wp_answers.proofs.Holders.{found_busy}
 use Rattle.wp_answers.proofs.Labels.{itself}
 use Rattle.wp_answers.proofs.Staying.{holds_still, keeps_holds, broke_off, only_this, has_now, holds_now}
-use Rattle.wp_sole_client.proofs.Changing.{asking}
-use Rattle.wp_sole_client.proofs.Staged.{held_alone, too_many_alone, busy_alone}
+use Rattle.wp_answers.proofs.Alone.Changing.{asking}
+use Rattle.wp_answers.proofs.Alone.Staged.{held_alone, too_many_alone, busy_alone}
 use Rattle.wp_answers.proofs.Writes.{labels_same, last_same}
 
 -- ---- room in the batch

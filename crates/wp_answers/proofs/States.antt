@@ -8,7 +8,7 @@ use Rattle.wp_replies.specs.Due.{Store, due}
 use Rattle.wp_replies.specs.Kind.{fresh_in}
 use Rattle.wp_replies.specs.Progress.{heard_after}
 use Rattle.wp_replies.specs.Replies.{refusal_of}
-use Rattle.wp_sole_client.proofs.ReadKeys.{state_alone}
+use Rattle.wp_answers.proofs.Alone.ReadKeys.{state_alone}
 use Rattle.wp_answers.specs.declared.holdings.HeldTxn.{HeldTxn}
 use Rattle.wp_answers.specs.Answers.{AnswersFrom}
 use Rattle.wp_answers.specs.Holdings.{txn_of, HoldsTxn}

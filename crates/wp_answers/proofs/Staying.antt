@@ -19,7 +19,7 @@ use Rattle.wp_replies.specs.Client.{Client}
 use Rattle.wp_replies.proofs.Within.{within_more}
 use Rattle.wp_answers.specs.declared.holdings.HeldTxn.{HeldTxn}
 use Rattle.wp_answers.specs.declared.holdings.HeldTxn.TheVariants as held
-use Rattle.wp_sole_client.specs.Alone.{log_faults, tables_faults}
+use Rattle.wp_answers.specs.Alone.{log_faults, tables_faults}
 use Rattle.wp_answers.specs.Answers.{IsExplained, findings, Stays, BreaksOff}
 use Rattle.wp_answers.specs.Holdings.{HoldingsState, labelled, HasTxn, is_named, times_registered, HoldsTxn, Holds, HoldsFrom}
 

@@ -7,10 +7,10 @@ use Rattle.wp_text.specs.declared.reply.Reply.{Reply}
 use Rattle.wp_model.specs.Flushed.{InstalledEdit}
 use Rattle.wp_core.specs.World.{World}
 use Rattle.wp_rule.specs.Shows.{WasLast}
-use Rattle.wp_parts.specs.Parts.{content}
+use Rattle.wp_shared.specs.Parts.{content}
 use Rattle.wp_shared.specs.Seats.{SharedState, SeatState, Stands}
 use Rattle.wp_replies.specs.Due.{Store}
-use Rattle.wp_sole_client.specs.Alone.{IsOnly, IsStoreOf, AnswersAlone}
+use Rattle.wp_answers.specs.Alone.{IsOnly, IsStoreOf, AnswersAlone}
 use Rattle.wp_txn.specs.Calls.{Keeps}
 use Rattle.wp_replies.specs.Client.{Client}
 use Rattle.wp_answers.specs.declared.holdings.HeldTxn.{HeldTxn}

@@ -30,8 +30,8 @@ use Rattle.wp_replies.specs.After.{after_reply}
 use Rattle.wp_replies.specs.Kind.{number_in, last_after}
 use Rattle.wp_replies.specs.Progress.{Progress, heard_after}
 use Rattle.wp_replies.specs.Replies.{Evidence, IsLoggedAt, IsBusy, Allows}
-use Rattle.wp_sole_client.proofs.Changing.{asking, acknowledging}
-use Rattle.wp_sole_client.proofs.Writes.{written_alone, busy_alone, stopped_alone, full_alone, fault_alone}
+use Rattle.wp_answers.proofs.Alone.Changing.{asking, acknowledging}
+use Rattle.wp_answers.proofs.Alone.Writes.{written_alone, busy_alone, stopped_alone, full_alone, fault_alone}
 use Rattle.wp_answers.specs.declared.holdings.HeldTxn.TheVariants as held
 use Rattle.wp_answers.specs.Answers.{IsExplained, Answers, BreaksOff, IsDue, IsAnswered}
 use Rattle.wp_answers.specs.Holdings.{HoldingsState, HoldsTxn, Holds}

@@ -35,7 +35,7 @@ Knows e (heard label n) = (m : ℕ) → n ≤ m → IsKnown e (WasTold label m)
 Knows e (stopped n) = IsKnown e (LogFailed n)
 Knows e (log_failed entries) = e.failed.entries ≡ entries
 Knows e (tables_failed last edit) = (e.installed ≡ last) × (e.failed.edit ≡ edit)
-Knows e (found_edit flushed tables due halted) = IsKnown e (WasFlushed flushed) × (halted ≡ true → IsHaltedAt e flushed) × (tables < due → IsKnown e OtherCompacted)
+Knows e (found_edit flushed base tables due halted) = IsKnown e (WasFlushed flushed) × (halted ≡ true → IsHaltedAt e flushed) × (tables < due → IsKnown e OtherCompacted)
 Knows e other = Unit {0}
 
 -- The history begins with what the seat has seen, the limit is the store's, and what the seat's past tells is known. Less of it

@@ -12,7 +12,7 @@ use Rattle.wp_core.specs.Sound.Pasts.{tables_due}
 use Rattle.wp_core.specs.Views.{Event, claimed, took, locked, told, heard, installed, renewed, log_stopped, stopped, found_edit, found}
 use Rattle.wp_core.specs.World.{Participant, World}
 use Rattle.wp_rule.specs.Shows.{WasLast}
-use Rattle.wp_parts.specs.Parts.{content}
+use Rattle.wp_shared.specs.Parts.{content}
 use Rattle.wp_shared.specs.Seats.{SharedState, SeatState, Stands}
 use Rattle.wp_replies.specs.declared.client.Txn.{Txn}
 use Rattle.wp_replies.specs.Client.{Client}
@@ -22,7 +22,7 @@ use Rattle.wp_replies.specs.Kind.{acknowledged, is_fault, is_flushed, is_compact
 use Rattle.wp_replies.specs.Known.{gets_name, takes_name, stages_key, writes_key, tells}
 use Rattle.wp_replies.specs.Progress.{Progress, knows_label, progress_after}
 use Rattle.wp_replies.specs.Replies.{Evidence, Allows}
-use Rattle.wp_sole_client.specs.Alone.{log_faults, tables_faults, IsOnly, IsStoreOf, AnswersAlone}
+use Rattle.wp_answers.specs.Alone.{log_faults, tables_faults, IsOnly, IsStoreOf, AnswersAlone}
 use Rattle.wp_answers.specs.declared.holdings.HeldTxn.{HeldTxn}
 use Rattle.wp_answers.specs.Agrees.{Agrees}
 use Rattle.wp_answers.specs.Holdings.{txn_of}
@@ -66,7 +66,7 @@ IsExplained client txn command answer event = IfSome (explaining client event) (
 abbrev pub is_finding : Event → Bool
 is_finding (found key holder seen account) = true
 is_finding (stopped n) = true
-is_finding (found_edit flushed tables due halted) = true
+is_finding (found_edit flushed base tables due halted) = true
 is_finding other = false
 
 -- how often the seat found such a thing
@@ -77,7 +77,7 @@ findings events = total (λ e. one_if (is_finding e)) events
 abbrev pub IsRemembered : List Event → Reply → Type 0
 IsRemembered past (reply.Stopped n) = IsIn (stopped n) past
 IsRemembered past (reply.Flushed n versions) = (edit : InstalledEdit) × (edit.flushed ≡ n) × IsIn (installed edit false) past
-IsRemembered past (reply.Halted flushed) = (tables due : ℕ) × IsIn (found_edit flushed tables due true) past
+IsRemembered past (reply.Halted flushed) = (base tables due : ℕ) × IsIn (found_edit flushed base tables due true) past
 IsRemembered past other = Unit {0}
 
 -- ---- one command

@@ -1,3 +1,4 @@
+pub mod Alone
 pub mod Holdings
 pub mod Fresh
 pub mod Replies

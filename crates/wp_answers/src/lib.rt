@@ -6,7 +6,14 @@
 //! the reply acknowledges, and what is new in its past is there by the command and its reply. A fresh read and a snapshot are at
 //! a number that was published as the seat took a snapshot, what is told and heard was published too, and a flush and a
 //! compaction are answered with what the call made (`specs/Fresh.antt`). Where the seat is the only one, the reply is also the
-//! very one that is due, as `wp_sole_client` says, and the store is left so.
+//! very one that is due, and the store is left so.
+//!
+//! Where no other seat did anything, the world in which a seat stands is told by the seat's own doings: its history is what the
+//! seat has seen, for each entry since the opening is the seat's own; the log is closed, and the tables are halted, where the
+//! seat met that; the last edit is the last one that it installed; and who has a name or a key is the seat itself, or an
+//! undecided prepare. So each call of the layers below, by its own contract, answers what a store answers that one client uses
+//! alone: `specs/Alone.antt` says what that store is, `laws` has two laws of it, and `proofs/Alone` a lemma for each outcome of
+//! each call.
 //!
 //! Between two commands the client has a transaction and snapshots (`Holdings`), and its seat has just these. A command that
 //! finds no memory for its reply has none, and ends the session.
@@ -18,6 +25,7 @@ mod changes;
 mod decisions;
 mod ending;
 mod holdings;
+pub mod laws;
 mod maintenance;
 mod naming;
 mod reads;

@@ -26,7 +26,8 @@ fn device(alloc: Global) -> Result<MemDisk, Fail> {
 }
 
 fn parts(alloc: Global) -> Result<Parts<MemDisk>, Fail>
-    ensures { IfOk result (λ parts. (asked : ℕ) × (log : List Moment) × (manifest : List Moment) × (tables : List Moment)
+    ensures base { IfOk result (λ parts. parts.history.base ≡ 0) }
+    ensures opened { IfOk result (λ parts. (asked : ℕ) × (log : List Moment) × (manifest : List Moment) × (tables : List Moment)
         × PartsOpened asked log manifest tables parts.wal parts.history.entries parts.manifest (⟦<MemDisk as Peek>⟧.moments parts.tables) parts.store) }
 {
     let disks = Disks {

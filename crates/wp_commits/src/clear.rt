@@ -23,9 +23,8 @@ use std::alloc::AllocError;
 use std::sync::Wait;
 use wp_model::Seq;
 use wp_outside::Disk;
-use wp_parts::Log;
 use wp_prepared::Prepared;
-use wp_shared::{Seat, Shared};
+use wp_shared::{Log, Seat, Shared};
 use wp_snaps::Snaps;
 
 /// Under the prepared turn: raises the bound by the rule where it has not come to this decision.

@@ -18,9 +18,8 @@ use crate::way::{Way, next_way};
 use std::sync::Wait;
 use wp_model::Seq;
 use wp_outside::Disk;
-use wp_parts::Log;
 use wp_prepared::Prepared;
-use wp_shared::{Seat, Shared};
+use wp_shared::{Log, Seat, Shared};
 
 /// Makes the word at this place ready to be replaced, as far as it was not cleared. It takes no memory.
 fn clear_again<D: Disk + Drop, R: Wait>(

@@ -9,9 +9,8 @@ use crate::steps;
 use std::alloc::AllocError;
 use std::sync::Wait;
 use wp_outside::Disk;
-use wp_parts::Log;
 use wp_prepared::Prepared;
-use wp_shared::{Seat, Shared};
+use wp_shared::{Log, Seat, Shared};
 use wp_snaps::Snaps;
 
 /// Under the two turns: each delayed commit that the bound has passed is kept under each live number that it overlaps, and then its

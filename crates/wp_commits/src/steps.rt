@@ -31,10 +31,9 @@ use std::marker::Brand;
 use wp_judge::{pack, unpack};
 use wp_model::Seq;
 use wp_outside::Disk;
-use wp_parts::Log;
 use wp_prepared::Prepared;
 use wp_rule::Moves;
-use wp_shared::{Seat, Shared};
+use wp_shared::{Log, Seat, Shared};
 use wp_snaps::Snaps;
 
 // ---- what the words are

@@ -7,7 +7,7 @@ ghost use Rattle.wp_commits.specs.Ways.{way_of};
 use wp_judge::fits;
 use wp_model::{Entry, Seq};
 use wp_outside::Disk;
-use wp_parts::Log;
+use wp_shared::Log;
 
 /// How the pair is kept that an entry decides: a version's number, and the number that decides it.
 #[derive(Clone, Copy)]

@@ -13,8 +13,8 @@ use Rattle.wp_core.specs.Views.{tables_failed, tables_stay, nothing_flushed, fro
 use Rattle.wp_core.specs.Views as event
 use Rattle.wp_core.specs.World.{Participant}
 use Rattle.wp_rule.specs.Knows.{KnowsTables}
-use Rattle.wp_parts.specs.Edits.{EditsState}
-use Rattle.wp_parts.specs.Installs.{SurvivesInstall}
+use Rattle.wp_shared.specs.Edits.{EditsState}
+use Rattle.wp_shared.specs.Installs.{SurvivesInstall}
 use Rattle.wp_shared.specs.Calls.{GoesOnAs, remembering}
 use Rattle.wp_shared.specs.Notes.{no_fact, GoesOn}
 use Rattle.wp_shared.specs.Seats.{SharedState, SeatState}

@@ -6,7 +6,7 @@ use Rattle.wp_core.specs.Lists.{IsIn}
 use Rattle.wp_core.specs.Tables.{Installed, installed}
 use Rattle.wp_core.specs.Views.{Event, Fact, tables_stay, nothing_flushed}
 use Rattle.wp_rule.specs.Knows.{KnowsTables, KnowsInstalled}
-use Rattle.wp_parts.specs.Edits.{EditsState}
+use Rattle.wp_shared.specs.Edits.{EditsState}
 use Rattle.wp_shared.specs.Calls.{remembering}
 use Rattle.wp_shared.specs.Notes.{being, GoesOn}
 use Rattle.wp_shared.specs.Seats.{SharedState, SeatState}

@@ -19,9 +19,9 @@ use Rattle.wp_core.specs.World.{Actor, World}
 use Rattle.wp_rule.specs.Knows.{KnowsTables}
 use Rattle.wp_rule.proofs.Knows.{at_sound, noted_is}
 use Rattle.wp_rule.specs.Words.{IsAt}
-use Rattle.wp_parts.specs.Edits.{EditsState}
-use Rattle.wp_parts.specs.Log.{LogState}
-use Rattle.wp_parts.specs.Stock.{StockState, store_table}
+use Rattle.wp_shared.specs.Edits.{EditsState}
+use Rattle.wp_shared.specs.Log.{LogState}
+use Rattle.wp_shared.specs.Stock.{StockState, store_table}
 use Rattle.wp_shared.specs.Notes.{no_fact, is_under, noting, seeing, GoesOn}
 use Rattle.wp_shared.specs.Seats.{SharedState, SeatState, Stands, place_at}
 use Rattle.wp_shared.specs.Turns.{HoldsTurn, Taken, TookLog, Given}

@@ -91,7 +91,7 @@ found z so s u same t held m =
     }
   where
     find_of : InstalledEdit → Installed → Participant → Event
-    find_of first x p = found_edit x.last.flushed x.last.tables (tables_due first p.past) x.halted
+    find_of first x p = found_edit x.last.flushed x.last.segment.base x.last.tables (tables_due first p.past) x.halted
 
 -- ---- an edit
 

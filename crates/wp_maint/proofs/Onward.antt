@@ -16,8 +16,8 @@ use Rattle.wp_core.specs.World.{Participant, World}
 use Rattle.wp_rule.specs.Knows.{KnowsTables}
 use Rattle.wp_rule.specs.Words.{IsAt}
 use Rattle.wp_tableset.specs.Changes.{compacted_parts}
-use Rattle.wp_parts.specs.Edits.{EditsState}
-use Rattle.wp_parts.specs.Installs.{SurvivesInstall}
+use Rattle.wp_shared.specs.Edits.{EditsState}
+use Rattle.wp_shared.specs.Installs.{SurvivesInstall}
 use Rattle.wp_shared.specs.Calls.{IsLoose, GoesOnAs, remembering}
 use Rattle.wp_shared.specs.Notes.{seeing, being, GoesOn}
 use Rattle.wp_shared.specs.Seats.{SharedState, SeatState, Stands, place_at}
@@ -168,7 +168,7 @@ module _ {D : Type 0} (First Last : Participant → Type 0) (z : SharedState D) 
   -- what is remembered of the tables that were found, and then of these events
   remembers_so : (k : Finds z t u e) (events : List Event) → First (remembering (found_by z t u e k ∷ events) t.knows.participant) → Last (remembering (found_by z s v e (found_so k) ∷ events) s.knows.participant)
   remembers_so k events first =
-      subst (λ (past : List Event). Last (remembering (found_edit e.last.flushed e.last.tables (tables_due k.world.first_edit past) e.halted ∷ events) s.knows.participant)) same_past (more (found_by z t u e k ∷ events) first)
+      subst (λ (past : List Event). Last (remembering (found_edit e.last.flushed e.last.segment.base e.last.tables (tables_due k.world.first_edit past) e.halted ∷ events) s.knows.participant)) same_past (more (found_by z t u e k ∷ events) first)
 
   throughout_so : (old new : EditsState) (next edit : InstalledEdit) → next ≡ edit → OpensThroughout t.knows.participant.seen u.knows.participant.seen old new next → OpensThroughout s.knows.participant.seen v.knows.participant.seen old new edit
   throughout_so old new next edit is k = throughout_between s.knows.participant.seen t.knows.participant.seen u.knows.participant.seen v.knows.participant.seen old new next edit starts grown is k

@@ -5,7 +5,7 @@ use Rattle.wp_core.specs.Tables.{StoreTable, store, installed}
 use Rattle.wp_core.specs.Turns.{store_turn}
 use Rattle.wp_core.specs.Views.{Fact, tables_stay, nothing_flushed}
 use Rattle.wp_rule.specs.Knows.{Noted, KnowsTables}
-use Rattle.wp_parts.specs.Edits.{EditsState}
+use Rattle.wp_shared.specs.Edits.{EditsState}
 use Rattle.wp_shared.specs.Notes.{no_fact, is_under, GoesOn}
 use Rattle.wp_shared.specs.Seats.{SharedState, SeatState}
 use Rattle.wp_shared.specs.Turns.{HoldsTurn, Taken, Given}

@@ -29,7 +29,7 @@ use Rattle.wp_shared.proofs.Onward.{starts_on}
 use Rattle.wp_shared.proofs.Tables.{held_table}
 use Rattle.wp_read.specs.Registers.{numbers_of}
 use Rattle.wp_maint.specs.Compaction.{MayReplace}
-use Rattle.wp_parts.specs.Installs.{in_one_table}
+use Rattle.wp_shared.specs.Installs.{in_one_table}
 use Rattle.wp_maint.proofs.Covering.{kept_keeps}
 
 -- ---- what was seen up to the floor

@@ -10,7 +10,7 @@ use Rattle.wp_gatelog.specs.Moments.{Leaves}
 use Rattle.wp_gatelog.proofs.SurvivalLemmas.{rest_spells}
 use Rattle.wp_wal.specs.Spelling.{IsLogOf}
 use Rattle.wp_manifest.specs.Edit.{Edit, place_of}
-use Rattle.wp_manifest.specs.Spelling.{MAGIC, IsManifestOf, IsManifestOrNext, last_edit}
+use Rattle.wp_manifest.specs.Spelling.{MAGIC, IsManifestOf, IsManifestOrNext, last_edit, head_stamp}
 use Rattle.wp_manifest.proofs.EditLemmas.{last-push}
 use Rattle.wp_merge.specs.Merge.{joined, sorted_of}
 use Rattle.wp_merge.proofs.Sorted.{merged_sorted}
@@ -23,9 +23,9 @@ use Rattle.wp_core.specs.World.{World, history}
 use Rattle.wp_core.proofs.CrashImages.{left_by_crash}
 use Rattle.wp_core.proofs.EachStep.{reached_is_sound}
 use Rattle.wp_rule.proofs.Maintenance.{edit_later}
-use Rattle.wp_parts.specs.Edits.{EditsState, IsEdits}
-use Rattle.wp_parts.specs.Installs.{SurvivesInstall}
-use Rattle.wp_parts.proofs.LogLemmas.{known_image}
+use Rattle.wp_shared.specs.Edits.{EditsState, IsEdits}
+use Rattle.wp_shared.specs.Installs.{SurvivesInstall}
+use Rattle.wp_shared.proofs.LogLemmas.{known_image}
 use Rattle.wp_shared.proofs.Onward.{starts_on, starts_equal, starts_same}
 use Rattle.wp_maint.specs.Moments.{LeftSince, LeftInInstall, MaySpellAmid, OpensFrom, OpensThroughout}
 
@@ -68,7 +68,7 @@ module _ (seen : List Entry) (old new : EditsState) (next : InstalledEdit) (k : 
 
   manifest_rests : (image : List ℕ) → images old.set.manifest.log.moments image → IsManifestOf id s.edits image
   manifest_rests image at =
-      (s.stores.manifest.records, rest_spells MAGIC id old.set.manifest.log.end [] [] s.stores.manifest.records old.set.manifest.log.moments (s.stores.manifest.rests (k.running running)) image at, s.stores.manifest.spelled)
+      (s.stores.manifest.records, rest_spells MAGIC (head_stamp id) old.set.manifest.log.end [] [] s.stores.manifest.records old.set.manifest.log.moments (s.stores.manifest.rests (k.running running)) image at, s.stores.manifest.spelled)
 
   tables_rest : (image : List ℕ) → images old.set.moments image → Last image
   tables_rest image at =

@@ -17,9 +17,9 @@ use Rattle.wp_core.specs.Views.{Event, tables_failed, found_edit}
 use Rattle.wp_core.specs.Views as event
 use Rattle.wp_core.specs.World.{Actor, Participant, World}
 use Rattle.wp_rule.specs.Words.{IsAt}
-use Rattle.wp_parts.specs.Edits.{EditsState, IsEdits}
-use Rattle.wp_parts.specs.Installs.{HadCause, SurvivesInstall}
-use Rattle.wp_parts.specs.Parts.{set_first}
+use Rattle.wp_shared.specs.Edits.{EditsState, IsEdits}
+use Rattle.wp_shared.specs.Installs.{HadCause, SurvivesInstall}
+use Rattle.wp_shared.specs.Parts.{set_first}
 use Rattle.wp_shared.specs.Calls.{Continues, remembering}
 use Rattle.wp_shared.specs.Notes.{seeing}
 use Rattle.wp_shared.specs.Seats.{SharedState, SeatState, place_at}
@@ -67,7 +67,7 @@ Finds z old new e = HeldTables z old new old.knows.participant.past e
 
 -- what it remembers of them: how many it knew of is told by its past, and by the first edit of that world
 abbrev pub found_by : {D : Type 0} → (z : SharedState D) → (old new : SeatState) → (e : Installed) → Finds z old new e → Event
-found_by z old new e found = found_edit e.last.flushed e.last.tables (tables_due found.world.first_edit old.knows.participant.past) e.halted
+found_by z old new e found = found_edit e.last.flushed e.last.segment.base e.last.tables (tables_due found.world.first_edit old.knows.participant.past) e.halted
 
 -- The store's tables on their devices, as the call found them, with this table, and as it left them, with that one. Both are what
 -- the value behind the turn may be: the devices have the tables that it names, no fault since the opening was forgotten, and what was

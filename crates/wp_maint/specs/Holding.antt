@@ -2,8 +2,8 @@
 use Rattle.std.specs.Prelude.{◌≡◌, Bool, true, false, [], Some}
 use Rattle.wp_core.specs.Tables.{installed}
 use Rattle.wp_core.specs.Views.{Fact, tables_stay, nothing_flushed, frozen_stay}
-use Rattle.wp_parts.specs.Edits.{EditsState}
-use Rattle.wp_parts.specs.Parts.{set_first}
+use Rattle.wp_shared.specs.Edits.{EditsState}
+use Rattle.wp_shared.specs.Parts.{set_first}
 use Rattle.wp_shared.specs.Seats.{SharedState, SeatState}
 use Rattle.wp_shared.specs.Turns.{HoldsTurn}
 

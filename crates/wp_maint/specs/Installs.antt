@@ -5,8 +5,8 @@ use Rattle.wp_core.specs.Effects.{with_failed}
 use Rattle.wp_core.specs.Views.{tables_failed}
 use Rattle.wp_core.specs.Views as event
 use Rattle.wp_core.specs.World.{World}
-use Rattle.wp_parts.specs.Edits.{EditsState, IsEdits}
-use Rattle.wp_parts.specs.Installs.{SurvivesInstall}
+use Rattle.wp_shared.specs.Edits.{EditsState, IsEdits}
+use Rattle.wp_shared.specs.Installs.{SurvivesInstall}
 use Rattle.wp_shared.specs.Notes.{no_fact}
 use Rattle.wp_shared.specs.Seats.{SharedState, SeatState, Stands}
 use Rattle.wp_maint.specs.declared.error.MaintError.{MaintError}

@@ -10,7 +10,7 @@ use Rattle.wp_core.specs.Runs.{Reaches}
 use Rattle.wp_core.specs.Sound.Actors.{StartsWith}
 use Rattle.wp_core.specs.Tables.{WriteTable}
 use Rattle.wp_core.specs.World.{World, history}
-use Rattle.wp_parts.specs.Edits.{EditsState}
+use Rattle.wp_shared.specs.Edits.{EditsState}
 
 -- ---- the devices
 

@@ -20,9 +20,8 @@ use crate::unchanged::are_unchanged;
 use std::alloc::Global;
 use std::sync::Wait;
 use wp_outside::Disk;
-use wp_parts::Edits;
 use wp_read::{Pinned, pin_all};
-use wp_shared::{Seat, Shared};
+use wp_shared::{Edits, Seat, Shared};
 
 /// Merges the tables, of which there are several, or begins again where they are others than those that were decided.
 fn compact_several<D: Disk + Drop, R: Wait>(

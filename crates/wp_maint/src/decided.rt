@@ -17,9 +17,8 @@ use std::sync::{Arc, Wait};
 use wp_keep::Pair;
 use wp_model::{Seq, Version, Versions};
 use wp_outside::Disk;
-use wp_parts::Stock;
 use wp_read::{Pinned, Snapshot, visible};
-use wp_shared::{Seat, Shared};
+use wp_shared::{Seat, Shared, Stock};
 use wp_store::merged_tables;
 use wp_table::Table;
 

@@ -19,8 +19,7 @@ use crate::steps::{find_edits, halt, install_flush, move_versions};
 use std::sync::{Arc, Wait};
 use wp_model::Versions;
 use wp_outside::Disk;
-use wp_parts::{Edits, Stock};
-use wp_shared::{Seat, Shared};
+use wp_shared::{Edits, Seat, Shared, Stock};
 use wp_table::Table;
 use wp_tableset::TableSetError;
 

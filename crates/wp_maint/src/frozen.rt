@@ -6,7 +6,7 @@ ghost use Rattle.wp_core.specs.Tables as table;
 ghost use Rattle.wp_core.specs.Turns.{write_turn};
 ghost use Rattle.wp_core.specs.World.{World};
 ghost use Rattle.wp_rule.specs.Knows.{KnowsTables};
-ghost use Rattle.wp_parts.specs.Stock.{store_table};
+ghost use Rattle.wp_shared.specs.Stock.{store_table};
 ghost use Rattle.wp_shared.specs.Notes.{no_fact, is_under, seeing, GoesOn};
 ghost use Rattle.wp_shared.specs.Seats.{Stands};
 ghost use Rattle.wp_shared.specs.Turns.{HoldsTurn};
@@ -19,8 +19,7 @@ use std::alloc::AllocError;
 use std::sync::{Arc, Wait};
 use wp_model::Seq;
 use wp_outside::Disk;
-use wp_parts::{Edits, Log, Stock};
-use wp_shared::{Seat, Shared};
+use wp_shared::{Edits, Log, Seat, Shared, Stock};
 use wp_store::FrozenParts;
 use wp_table::Table;
 

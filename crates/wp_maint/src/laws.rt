@@ -3,8 +3,8 @@ ghost use Rattle.std.specs.Prelude.{◌≡◌, ◌⊎◌, false, Bool, List, ◌
 ghost use Rattle.wp_model.specs.declared.entry.Entry.{Entry};
 ghost use Rattle.wp_model.specs.Flushed.{InstalledEdit, IsEditCovered};
 ghost use Rattle.wp_core.specs.Views as event;
-ghost use Rattle.wp_parts.specs.Edits.{EditsState, IsEdits};
-ghost use Rattle.wp_parts.specs.Installs.{SurvivesInstall};
+ghost use Rattle.wp_shared.specs.Edits.{EditsState, IsEdits};
+ghost use Rattle.wp_shared.specs.Installs.{SurvivesInstall};
 ghost use Rattle.wp_shared.specs.Seats.{SharedState, SeatState};
 ghost use Rattle.wp_maint.specs.declared.error.MaintError.{MaintError};
 ghost use Rattle.wp_maint.specs.declared.error.MaintError.TheVariants.{TableFault};

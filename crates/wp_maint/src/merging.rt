@@ -20,7 +20,7 @@ ghost use Rattle.wp_shared.specs.Notes.{GoesOn};
 ghost use Rattle.wp_read.specs.Registers.{numbers_of};
 ghost use Rattle.wp_maint.specs.Calls.{CompactsFrom, HasAlone, SeveralTables, UnlessFault};
 ghost use Rattle.wp_maint.specs.Compaction.{HasDecided, IsPin, MayMerge, MayReplace};
-ghost use Rattle.wp_parts.specs.Installs.{in_one_table};
+ghost use Rattle.wp_shared.specs.Installs.{in_one_table};
 ghost use Rattle.wp_maint.specs.Holding.{is_of_tables, HoldsEdits};
 ghost use Rattle.wp_maint.specs.Installs.{AreLeft, HasInstalled, NotInstalled};
 
@@ -34,9 +34,8 @@ use std::sync::{Arc, Wait};
 use wp_keep::{Pair, keep};
 use wp_model::{Seq, Versions};
 use wp_outside::Disk;
-use wp_parts::{Edits, Stock};
 use wp_read::Pinned;
-use wp_shared::{Seat, Shared};
+use wp_shared::{Edits, Seat, Shared, Stock};
 use wp_table::Table;
 use wp_tableset::TableSetError;
 

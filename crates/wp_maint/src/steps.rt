@@ -12,7 +12,7 @@ ghost use Rattle.wp_core.specs.Views.{tables_failed, tables_stay, nothing_flushe
 ghost use Rattle.wp_core.specs.Views as event;
 ghost use Rattle.wp_core.specs.World.{World};
 ghost use Rattle.wp_rule.specs.Knows.{Noted, KnowsMoved, KnowsInstalled};
-ghost use Rattle.wp_parts.specs.Stock.{store_table};
+ghost use Rattle.wp_shared.specs.Stock.{store_table};
 ghost use Rattle.wp_shared.specs.Calls.{remembering};
 ghost use Rattle.wp_shared.specs.Notes.{no_fact, being, noting, GoesOn};
 ghost use Rattle.wp_shared.specs.Seats.{Stands};
@@ -23,8 +23,7 @@ ghost use Rattle.wp_maint.specs.Finding.{Changes, Remembers};
 use crate::frozen::Frozen;
 use std::marker::Brand;
 use wp_outside::Disk;
-use wp_parts::{Edits, Stock};
-use wp_shared::{Seat, Shared};
+use wp_shared::{Edits, Seat, Shared, Stock};
 
 /// The seat remembers how it found the tables.
 pub(crate) fn find_edits<D: Disk + Drop>(store: &Shared<D>, seat: &mut Seat<D>)

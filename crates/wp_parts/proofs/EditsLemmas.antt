@@ -5,7 +5,7 @@ use Rattle.wp_model.specs.declared.version.Version.{Version}
 use Rattle.wp_model.specs.Flushed.{InstalledEdit}
 use Rattle.wp_outside.specs.Disk.{images}
 use Rattle.wp_gatelog.proofs.SurvivalLemmas.{rest_spells}
-use Rattle.wp_manifest.specs.Spelling.{MAGIC, IsManifestOf}
+use Rattle.wp_manifest.specs.Spelling.{MAGIC, IsManifestOf, head_stamp}
 use Rattle.wp_manifest.proofs.EditLemmas.{last-push}
 use Rattle.wp_open.specs.Opens.{installed_of}
 use Rattle.wp_table.specs.File.{HasTables}
@@ -45,7 +45,7 @@ module _ (s : EditsState) (k : IsEdits s) (last_is : s.table.last ≡ installed_
     | inr open_ ↦
         named_last image (
           k.stores.manifest.records,
-          rest_spells MAGIC s.set.manifest.log.id s.set.manifest.log.end [] [] k.stores.manifest.records s.set.manifest.log.moments (k.stores.manifest.rests open_) image at,
+          rest_spells MAGIC (head_stamp s.set.manifest.log.id) s.set.manifest.log.end [] [] k.stores.manifest.records s.set.manifest.log.moments (k.stores.manifest.rests open_) image at,
           k.stores.manifest.spelled,
         )
   ]

@@ -86,6 +86,7 @@ running_stores set edits next parts next_parts open_ stores = record {
     records = stores.manifest.records;
     spelled = stores.manifest.spelled;
     counted = stores.manifest.counted;
+    version = stores.manifest.version;
     last = stores.manifest.last;
     rests = stores.manifest.rests;
     left = λ closed. absurd cc;

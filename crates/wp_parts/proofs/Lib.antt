@@ -6,3 +6,4 @@ pub mod InstallLemmas
 pub mod LaterVersions
 pub mod OpeningLemmas
 pub mod Sent
+pub use Rattle.wp_merge.proofs.Sorted

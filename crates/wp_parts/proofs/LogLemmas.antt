@@ -1,5 +1,5 @@
 -- What is so of a log, call by call.
-use Rattle.std.proofs.Common.{◌≡◌, ◌≢◌, inl, inr, ℕ, ◌+◌, ◌≤◌, Bool, true, false, List, [], ◌∷◌, ◌++◌, length, Option, Some, None, IfSome, slice_index_or, refl, sym, ap, ◌∙◌, subst, append-nil, length-append, arith}
+use Rattle.std.proofs.Common.{◌≡◌, ◌≢◌, inl, inr, ℕ, ◌+◌, ◌≤◌, Bool, true, false, List, [], ◌∷◌, ◌++◌, length, Option, Some, None, IfSome, slice_index_or, refl, sym, ap, ◌∙◌, subst, append-nil, arith}
 use Rattle.std.proofs.lemmas.Bool.{cases_Bool}
 use Rattle.wp_model.specs.declared.entry.Entry.{Entry}
 use Rattle.wp_model.specs.declared.entry.Entry.TheVariants as entry
@@ -11,10 +11,11 @@ use Rattle.wp_history.proofs.Growth.{after_front, legal_before}
 use Rattle.wp_outside.specs.Disk.{Moment, IfKnown, images}
 use Rattle.wp_outside.specs.Faults.{Rose}
 use Rattle.wp_gatelog.specs.Moments.{Leaves}
+use Rattle.wp_gatelog.specs.Spelling.{stamped}
 use Rattle.wp_gatelog.proofs.DurabilityLemmas.{preserves_on}
 use Rattle.wp_gatelog.proofs.SurvivalLemmas.{rest_spells}
-use Rattle.wp_fields.specs.declared.format.Format.TheVariants.{One}
-use Rattle.wp_entry.specs.Record.{FormRecord, IsRecord, IsEarlier}
+use Rattle.wp_fields.specs.declared.format.Format.{Format}
+use Rattle.wp_entry.specs.Record.{FormRecord, IsRecord, IsEarlier, last_number}
 use Rattle.wp_wal.specs.Spelling.{MAGIC, IsLogOf}
 use Rattle.wp_gatelog.specs.declared.log.AppendError.TheVariants.{DiskFault}
 use Rattle.wp_wal.specs.Wal.{WalState, Reserved, LosesNothing, StoresHistory, IsReserved, Appended, Refuses, reserved_of}
@@ -40,18 +41,18 @@ rose_since first old new later rose = omega (arith, later, rose)
 earlier : (history : List Entry) (p : ℕ) → is_undecided history p ≡ true → IsEarlier (length history + 1) p
 earlier history p is = let within = undecided_within history p is in record { from = within.0; below = omega (arith, within.1) }
 
--- one record that may come next has numbers that fit
-pub form_next : (history entries : List Entry) → IsOneRecord entries → IsLegal (history ++ entries) → FormRecord One (length history + 1) entries
-form_next history (entry.Write batch ∷ []) one legal = omega (arith, legal.few, length-append history (entry.Write batch ∷ []))
-form_next history (entry.Prepare name batch ∷ []) one legal = omega (arith, legal.few, length-append history (entry.Prepare name batch ∷ []))
-form_next history (entry.Commit p ∷ []) one legal =
-    (earlier history p (after_front history (entry.Commit p) [] legal).orderly.names_undecided, omega (arith, legal.few, length-append history (entry.Commit p ∷ [])))
-form_next history (entry.Undo p batch ∷ entry.Close q ∷ []) one legal = record {
+-- one record that may come next, whose numbers are those of entries in this version, is one of it
+pub form_next : (format : Format) (history entries : List Entry) → IsOneRecord entries → IsLegal (history ++ entries) → length history + length entries ≤ last_number format → FormRecord format (length history + 1) entries
+form_next format history (entry.Write batch ∷ []) one legal within = within
+form_next format history (entry.Prepare name batch ∷ []) one legal within = within
+form_next format history (entry.Commit p ∷ []) one legal within =
+    (earlier history p (after_front history (entry.Commit p) [] legal).orderly.names_undecided, within)
+form_next format history (entry.Undo p batch ∷ entry.Close q ∷ []) one legal within = record {
   same = one;
   earlier = earlier history p (after_front history (entry.Undo p batch) (entry.Close q ∷ []) legal).orderly.names_undecided;
-  small = omega (arith, legal.few, length-append history (entry.Undo p batch ∷ entry.Close q ∷ []));
+  small = omega (arith, within);
 }
-form_next history others one legal = absurd one
+form_next format history others one legal within = absurd one
 
 -- ---- what the log spells
 
@@ -60,27 +61,27 @@ unlogged false history pending none = refl
 unlogged true history pending none = ap (λ (xs : List Entry). history ++ xs) none ∙ append-nil history
 
 stores_reserved : (wal : WalState) (history failed : List Entry) (reserved : Option Reserved) → StoresHistory wal history failed → StoresHistory (record wal { reserved = reserved }) history failed
-stores_reserved wal history failed reserved stores = record { records = stores.records; spelled = stores.spelled; counted = stores.counted; numbered = stores.numbered; rests = stores.rests; left = stores.left }
+stores_reserved wal history failed reserved stores = record { records = stores.records; readable = stores.readable; spelled = stores.spelled; counted = stores.counted; numbered = stores.numbered; rests = stores.rests; left = stores.left }
 
 -- the record of these entries is ready
 abbrev with_record : WalState → List Entry → WalState
-with_record wal entries = record wal { reserved = Some (reserved_of wal.due entries) }
+with_record wal entries = record wal { reserved = Some (reserved_of wal.format wal.due entries) }
 
 -- ---- the calls
 
-module _ (wal first : WalState) (history pending failed : List Entry) (logged closed : Bool) (room : ℕ) (kept : IsKept (log_state wal first history pending logged failed) room closed) where
+module _ (wal first : WalState) (history pending failed : List Entry) (logged closed : Bool) (room base : ℕ) (kept : IsKept (log_state wal first history pending logged failed) room base closed) where
   -- nothing is pending, and the entries may come next
   module _ (none : pending ≡ []) (entries : List Entry) (legal : IsLegal (history ++ entries)) where
-    pub form_due : IsOneRecord entries → FormRecord One wal.due entries
-    form_due one =
+    pub form_due : IsOneRecord entries → length history + length entries ≤ last_number wal.format → FormRecord wal.format wal.due entries
+    form_due one within =
         let due : wal.due ≡ length history + 1 = kept.log.stores.numbered ∙ ap (λ (xs : List Entry). length xs + 1) (unlogged logged history pending none) in
-        rw due (form_next history entries one legal)
+        rw due (form_next wal.format history entries one legal within)
 
     still_stored : StoresHistory (with_record wal entries) history failed
-    still_stored = stores_reserved wal history failed (Some (reserved_of wal.due entries)) (subst (λ (xs : List Entry). StoresHistory wal xs failed) (unlogged logged history pending none) kept.log.stores)
+    still_stored = stores_reserved wal history failed (Some (reserved_of wal.format wal.due entries)) (subst (λ (xs : List Entry). StoresHistory wal xs failed) (unlogged logged history pending none) kept.log.stores)
 
-    pub made_pending : (ready : WalState) (more : ℕ) → wal.closed ≡ false → ready ≡ with_record wal entries → IsRecord One wal.due entries → length entries ≤ more → IsKept (log_state ready first history entries false failed) more closed
-    made_pending ready more running is record_is fits = subst (λ (w : WalState). IsKept (log_state w first history entries false failed) more closed) (sym is) record {
+    pub made_pending : (ready : WalState) (more : ℕ) → wal.closed ≡ false → ready ≡ with_record wal entries → IsRecord wal.format wal.due entries → length entries ≤ more → IsKept (log_state ready first history entries false failed) more base closed
+    made_pending ready more running is record_is fits = subst (λ (w : WalState). IsKept (log_state w first history entries false failed) more base closed) (sym is) record {
       log = record {
         stores = still_stored;
         legal = legal;
@@ -95,23 +96,25 @@ module _ (wal first : WalState) (history pending failed : List Entry) (logged cl
         reserved = λ some not_logged open_. record { stores = subst (λ (xs : List Entry). StoresHistory (with_record wal entries) history xs) (kept.log.none_failed running) still_stored; running = running; is = record_is; reserved = refl };
         fits = fits;
       };
+      whole = kept.whole;
       noted = kept.noted;
     }
 
   -- what is pending is dropped
-  pub dropped : (nothing : List Entry) → nothing ≡ [] → logged ≡ false → IsKept (log_state wal first history nothing logged failed) room closed
-  dropped nothing none not_logged = subst (λ (xs : List Entry). IsKept (log_state wal first history xs logged failed) room closed) (sym none) record {
+  pub dropped : (nothing : List Entry) → nothing ≡ [] → logged ≡ false → IsKept (log_state wal first history nothing logged failed) room base closed
+  dropped nothing none not_logged = subst (λ (xs : List Entry). IsKept (log_state wal first history xs logged failed) room base closed) (sym none) record {
     log = record {
       stores = subst (λ (xs : List Entry). StoresHistory wal xs failed) (same logged not_logged) kept.log.stores;
       legal = subst IsLegal (sym (append-nil history)) (legal_before history pending kept.log.legal);
       none_failed = kept.log.none_failed;
-      whole = λ shut. subst (λ (xs : List Entry). IsRecord One (length xs + 1) failed) (same logged not_logged) (kept.log.whole shut);
+      whole = λ shut. subst (λ (xs : List Entry). IsRecord wal.format (length xs + 1) failed) (same logged not_logged) (kept.log.whole shut);
       id = kept.log.id;
       later = kept.log.later;
       cause = kept.log.cause;
       durable = kept.log.durable;
     };
     ready = record { reserved = λ some. absurd (some refl); fits = omega arith };
+    whole = kept.whole;
     noted = kept.noted;
   }
     where
@@ -124,14 +127,14 @@ module _ (wal first : WalState) (history pending failed : List Entry) (logged cl
     pub is_reserved : IsReserved wal history pending
     is_reserved = kept.ready.reserved some not_logged running
 
-    reserved_is : wal.reserved ≡ Some (reserved_of wal.due pending)
+    reserved_is : wal.reserved ≡ Some (reserved_of wal.format wal.due pending)
     reserved_is = is_reserved.reserved
 
     module _ (new : WalState) (later : wal.faults ≤ new.faults) (durable : LosesNothing wal.moments new.moments) where
-      pub is_appended : IfSome wal.reserved (Appended wal new) → Appended wal new (reserved_of wal.due pending)
+      pub is_appended : IfSome wal.reserved (Appended wal new) → Appended wal new (reserved_of wal.format wal.due pending)
       is_appended ok = subst (λ (o : Option Reserved). IfSome o (Appended wal new)) reserved_is ok
 
-      pub appended : IfSome wal.reserved (Appended wal new) → StoresHistory new (history ++ pending) [] → IsKept (log_state new first history pending true failed) room closed
+      pub appended : IfSome wal.reserved (Appended wal new) → StoresHistory new (history ++ pending) [] → IsKept (log_state new first history pending true failed) room base closed
       appended ok stores =
           let changed = (is_appended ok).changed in
           let open_ : new.closed ≡ false = ap (λ (w : WalState). w.closed) changed ∙ running in
@@ -147,25 +150,28 @@ module _ (wal first : WalState) (history pending failed : List Entry) (logged cl
               durable = loses_on first.moments wal.moments new.moments kept.log.durable durable;
             };
             ready = record { reserved = λ _ unlogged_ _. absurd cc; fits = kept.ready.fits };
+            whole = kept.whole;
             noted = kept.noted ∙ running ∙ sym open_;
           }
 
-      pub closed_now : (record_ : List Entry) → record_ ≡ pending → Refuses wal new DiskFault → StoresHistory new history pending → IsKept (log_state new first history pending logged record_) room true
+      pub closed_now : (record_ : List Entry) → record_ ≡ pending → Refuses wal new DiskFault → StoresHistory new history pending → IsKept (log_state new first history pending logged record_) room base true
       closed_now record_ same refused stores =
           let shut : new.closed ≡ true = ap (λ (w : WalState). w.closed) refused.2 in
-          subst (λ (b : Bool). IsKept (log_state new first history pending b record_) room true) (sym not_logged)
-          (subst (λ (xs : List Entry). IsKept (log_state new first history pending false xs) room true) (sym same) record {
+          subst (λ (b : Bool). IsKept (log_state new first history pending b record_) room base true) (sym not_logged)
+          (subst (λ (xs : List Entry). IsKept (log_state new first history pending false xs) room base true) (sym same) record {
             log = record {
               stores = stores;
               legal = kept.log.legal;
               none_failed = λ open_. absurd cc;
-              whole = λ _. subst (λ (n : ℕ). IsRecord One n pending) is_reserved.stores.numbered is_reserved.is;
+              whole = λ _. subst (λ (f : Format). IsRecord f (length history + 1) pending) (sym (ap (λ (w : WalState). w.format) refused.2))
+                  (subst (λ (n : ℕ). IsRecord wal.format n pending) is_reserved.stores.numbered is_reserved.is);
               id = ap (λ (w : WalState). w.id) refused.2 ∙ kept.log.id;
               later = omega (arith, kept.log.later, later);
               cause = λ _. rose_since first.faults wal.faults new.faults kept.log.later refused.1;
               durable = loses_on first.moments wal.moments new.moments kept.log.durable durable;
             };
             ready = record { reserved = λ _ _ open_. absurd cc; fits = kept.ready.fits };
+            whole = kept.whole;
             noted = sym shut;
           })
 
@@ -188,6 +194,6 @@ log_tells wal first history pending failed logged log image at = (in_use, λ seg
         | inr after ↦ (spelled logged history pending ++ failed, (refl, after), inr (closed, refl))
       ]
       | inr open_ ↦
-          let found = rest_spells MAGIC wal.id wal.end [] [] log.stores.records wal.moments (log.stores.rests open_) image at in
-          (spelled logged history pending, (refl, (log.stores.records, found, log.stores.spelled)), inl refl)
+          let found = rest_spells MAGIC (stamped wal.format wal.id) wal.end [] [] log.stores.records wal.moments (log.stores.rests open_) image at in
+          (spelled logged history pending, (refl, (wal.format, log.stores.records, log.stores.readable, found, log.stores.spelled)), inl refl)
     ]

@@ -23,7 +23,7 @@ use Rattle.wp_model.specs.Snapshots.{Snapshots}
 use Rattle.wp_model.specs.Versions.{version_at}
 use Rattle.wp_model.proofs.Entries.{undone_after}
 use Rattle.wp_outside.specs.Disk.{Moment, IfKnown, added, after_sync}
-use Rattle.wp_fields.specs.declared.format.Format.TheVariants.{One}
+use Rattle.wp_fields.specs.declared.format.Format.{Format}
 use Rattle.wp_entry.specs.Record.{FormRecord}
 use Rattle.wp_manifest.specs.Edit.{Edit}
 use Rattle.wp_manifest.specs.Manifest.{ManifestState}
@@ -66,21 +66,21 @@ Found = Option (Option (List ℕ))
 
 -- ---- what the log spells ends in no undo
 
-record_closes : (first : ℕ) (entries : List Entry) → FormRecord One first entries → undone_last entries ≡ None
-record_closes first (entry.Write batch ∷ []) form = refl
-record_closes first (entry.Prepare name batch ∷ []) form = refl
-record_closes first (entry.Commit p ∷ []) form = refl
-record_closes first (entry.Undo p batch ∷ entry.Close q ∷ []) form = refl
-record_closes first others form = absurd form
+record_closes : (format : Format) (first : ℕ) (entries : List Entry) → FormRecord format first entries → undone_last entries ≡ None
+record_closes format first (entry.Write batch ∷ []) form = refl
+record_closes format first (entry.Prepare name batch ∷ []) form = refl
+record_closes format first (entry.Commit p ∷ []) form = refl
+record_closes format first (entry.Undo p batch ∷ entry.Close q ∷ []) form = refl
+record_closes format first others form = absurd form
 
 closes_after : (front rest : List Entry) → undone_last front ≡ None → undone_last rest ≡ None → undone_last (front ++ rest) ≡ None
 closes_after front [] closed rest_closed = ap undone_last (append-nil front) ∙ closed
 closes_after front (e ∷ rest) closed rest_closed = undone_after front rest e ∙ rest_closed
 
-pub all_close : (first : ℕ) (records : List (List ℕ)) (entries : List Entry) → AreEntries first records entries → undone_last entries ≡ None
-all_close first [] entries is = ap undone_last is
-all_close first (r ∷ records) entries (front, rest, parts, is, bytes, more) =
-    ap undone_last parts ∙ closes_after front rest (record_closes first front is.form) (all_close (first + length front) records rest more)
+pub all_close : (format : Format) (first : ℕ) (records : List (List ℕ)) (entries : List Entry) → AreEntries format first records entries → undone_last entries ≡ None
+all_close format first [] entries is = ap undone_last is
+all_close format first (r ∷ records) entries (front, rest, parts, is, bytes, more) =
+    ap undone_last parts ∙ closes_after front rest (record_closes format first front is.form) (all_close format (first + length front) records rest more)
 
 -- ---- the tables at rest
 
@@ -216,7 +216,7 @@ module _ (asked : ℕ) (log manifest tables : List Moment) (wal : WalState) (his
     opens : IsOpening opened_world
     opens = record {
       legal = opened.legal;
-      closed_undo = all_close 1 opened.stores.records history opened.stores.spelled;
+      closed_undo = all_close wal.format 1 opened.stores.records history opened.stores.spelled;
       history = refl;
       pending = refl;
       log = refl;

@@ -7,7 +7,7 @@ use Rattle.std.proofs.Crossing.{crosses, Box-send, Vec-send}
 use Rattle.std.proofs.alloc.Global.TheSendSync as heap
 use Rattle.wp_outside.specs.declared.disk.Peek.{Ghosts}
 use Rattle.wp_model.proofs.entry.Entry.TheSendSync as entry
-use Rattle.wp_history.proofs.history.History.TheSendSync as history
+use Rattle.wp_ledger.proofs.Sent.{history_send}
 use Rattle.wp_wal.proofs.wal.Wal.TheSendSync as wal
 use Rattle.wp_parts.proofs.gone.Gone.TheSendSync as gone
 use Rattle.wp_tableset.proofs.set.TableSet.TheSendSync as set
@@ -28,7 +28,7 @@ pub log_send : (D : RattleType) (g : Ghosts D.Denot) → IsSend D → IsSend (Lo
 log_send D g d =
     view_send (LogInside.the_row D g) _ _ _ _
     (recorded_send (LogInside.the_field D g).row _ _ (LogInside.the_type D g).to_one
-    (struct_send (shape (LogInside.the_type D g)) (heap.the_field_send, (wal.the_send D g d, (history.the_send, (Vec-send _ entry.the_send, (plain_send _ _ _ _ _, (plain_send _ _ _ _ _, (search crosses, (search crosses, tt))))))))))
+    (struct_send (shape (LogInside.the_type D g)) (heap.the_field_send, (wal.the_send D g d, (history_send, (Vec-send _ entry.the_send, (plain_send _ _ _ _ _, (plain_send _ _ _ _ _, (search crosses, (search crosses, tt))))))))))
 
 failed_send : IsSend FailedInstall.the_row
 failed_send =

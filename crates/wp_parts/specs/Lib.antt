@@ -5,3 +5,8 @@ pub mod Installs
 pub mod Parts
 pub mod Devices
 pub mod Opening
+pub use Rattle.wp_table.specs.File
+pub use Rattle.wp_merge.specs.Merge
+pub use Rattle.wp_store.specs.Store
+pub use Rattle.wp_tableset.specs.Set
+pub use Rattle.wp_tableset.specs.Device

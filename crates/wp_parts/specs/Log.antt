@@ -5,7 +5,6 @@ use Rattle.wp_model.specs.declared.segment.Segment.{Segment}
 use Rattle.wp_model.specs.Flushed.{first_segment}
 use Rattle.wp_model.specs.Legal.{IsLegal}
 use Rattle.wp_outside.specs.Faults.{Rose}
-use Rattle.wp_fields.specs.declared.format.Format.TheVariants.{One}
 use Rattle.wp_entry.specs.Record.{IsRecord}
 use Rattle.wp_wal.specs.Spelling.{IsLogOf}
 use Rattle.wp_wal.specs.Wal.{WalState, LosesNothing, StoresHistory, IsReserved}
@@ -43,7 +42,7 @@ pub record IsLog (s : LogState) : Type 0 where
   pub stores : StoresHistory s.wal s.table.log s.table.failed
   pub legal : IsLegal (s.table.history ++ s.table.pending)
   pub none_failed : s.table.closed ≡ false → s.table.failed ≡ []
-  pub whole : s.table.closed ≡ true → IsRecord One (length s.table.log + 1) s.table.failed
+  pub whole : s.table.closed ≡ true → IsRecord s.wal.format (length s.table.log + 1) s.table.failed
   pub id : s.wal.id ≡ s.first.id
   pub later : s.first.faults ≤ s.wal.faults
   pub cause : s.table.closed ≡ true → Rose s.first.faults s.wal.faults
@@ -55,8 +54,9 @@ pub record IsReady (s : LogState) (room : ℕ) : Type 0 where
   pub reserved : s.table.pending ≢ [] → s.table.logged ≡ false → s.table.closed ≡ false → IsReserved s.wal s.table.history s.table.pending
   pub fits : length s.table.pending ≤ room
 
--- how the value is kept: as a log that is ready, and with what it notes of the device
-pub record IsKept (s : LogState) (room : ℕ) (closed : Bool) : Type 0 where
+-- how the value is kept: as a log that is ready, of a history with the base 0, and with what it notes of the device
+pub record IsKept (s : LogState) (room base : ℕ) (closed : Bool) : Type 0 where
   pub log : IsLog s
+  pub whole : base ≡ 0
   pub ready : IsReady s room
   pub noted : closed ≡ s.wal.closed

@@ -1,9 +1,10 @@
 //! What the write turn guards: the history with its pending record, and the log.
-ghost use Rattle.std.specs.Prelude.{◌≡◌, ◌≢◌, ◌≤◌, ◌<◌, true, false, List, [], ◌∷◌, ◌++◌, length, None, IfErr, OnOk, OnErr};
+ghost use Rattle.std.specs.Prelude.{◌≡◌, ◌≢◌, ◌+◌, ◌≤◌, ◌<◌, true, false, List, [], ◌∷◌, ◌++◌, length, None, IfErr, OnOk, OnErr};
 ghost use Rattle.wp_model.specs.declared.entry.Entry.{Entry};
 ghost use Rattle.wp_model.specs.Legal.{IsLegal, log_end};
 ghost use Rattle.wp_outside.specs.Disk.{images, Passes};
 ghost use Rattle.wp_outside.specs.Faults.{Rose};
+ghost use Rattle.wp_entry.specs.Record.{last_number};
 ghost use Rattle.wp_gatelog.specs.Moments.{Leaves};
 ghost use Rattle.wp_wal.specs.Spelling.{IsLogOrNext};
 ghost use Rattle.wp_wal.specs.Wal.{LosesNothing, StoresHistory, reserved_of};
@@ -16,8 +17,9 @@ use std::alloc::Global;
 use std::marker::Model;
 use std::mem;
 use std::snapshot::Snapshot;
+use wp_fields::Format;
 use wp_gatelog::AppendError;
-use wp_history::History;
+use wp_ledger::History;
 use wp_model::{Entry, Seq};
 use wp_outside::{Disk, Failed};
 use wp_wal::Wal;
@@ -45,19 +47,20 @@ impl<D: Disk> Model for Log<D> {
 
     ghost view = { λ l. log_state l.wal l.first.value l.history.entries l.pending.items l.logged l.failed.value.items };
 
-    ghost invariant = { λ l. IsKept (log_state l.wal l.first.value l.history.entries l.pending.items l.logged l.failed.value.items) l.history.room l.closed };
+    ghost invariant = { λ l. IsKept (log_state l.wal l.first.value l.history.entries l.pending.items l.logged l.failed.value.items) l.history.room l.history.base l.closed };
 }
 
 /// For the proof alone: a history is legal.
 fn shows_legal(history: &History)
     ensures { IsLegal history.now.entries }
 {
-    history.entries();
+    history.later();
 }
 
 impl<D: Disk> Log<D> {
     /// The log as an opening gives it, with nothing pending.
     pub fn new(alloc: Global, wal: Wal<D>, history: History) -> Log<D>
+        requires base { history.base ≡ 0 }
         requires stores { StoresHistory wal history.entries [] }
         requires running { wal.closed ≡ false }
         ensures { result ≡ log_state wal wal history.entries [] false [] }
@@ -91,6 +94,13 @@ impl<D: Disk> Log<D> {
         self.history.published()
     }
 
+    /// The version of the log: what is appended is of it.
+    pub fn format(&self) -> Format
+        ensures { result ≡ self.now.wal.format }
+    {
+        self.wal.format()
+    }
+
     /// The entries that are pending.
     pub fn pending(&self) -> &[Entry]
         ensures { result.now ≡ self.now.table.pending }
@@ -106,12 +116,13 @@ impl<D: Disk> Log<D> {
     }
 
     /// Makes the entries pending, which are one record and may come next, and takes all the memory that they need. Where it is
-    /// wanting they come back.
+    /// wanting they come back. Their numbers are those of entries in the log's version.
     pub fn reserve(&mut self, entries: Vec<Entry>) -> Result<(), Vec<Entry>>
         requires running { self.old.table.closed ≡ false }
         requires nothing { self.old.table.pending ≡ [] }
         requires one { IsOneRecord entries.items }
         requires legal { IsLegal (self.old.table.history ++ entries.items) }
+        requires within { length self.old.table.history + length entries.items ≤ last_number self.old.wal.format }
         ensures ok { OnOk result (self.new.table ≡ record self.old.table { pending = entries.items; logged = false }) }
         ensures reserved { OnOk result (self.new.wal ≡ record self.old.wal { reserved = self.new.wal.reserved }) }
         ensures err { IfErr result (λ back. (back ≡ entries) × (self.new ≡ self.old)) }
@@ -192,6 +203,7 @@ impl<D: Disk> Log<D> {
     /// The log, and the history.
     pub fn into_parts(self) -> (Wal<D>, History)
         ensures wal { result.0 ≡ self.wal }
+        ensures base { result.1.base ≡ 0 }
         ensures history { result.1.entries ≡ self.table.history }
         ensures log { IsLog self }
     {

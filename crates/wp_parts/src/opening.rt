@@ -21,7 +21,7 @@ use crate::stock::Stock;
 use crate::table_versions::TableVersions;
 use std::alloc::{AllocError, Global};
 use std::sync::Arc;
-use wp_history::History;
+use wp_ledger::History;
 use wp_locks::Locks;
 use wp_open::Parts;
 use wp_outside::{Disk, Disks};
@@ -86,6 +86,7 @@ fn make_guarded<D: Disk + Drop>(
 ) -> Result<Guarded<D>, Disks<D>>
     requires opened { (asked : ℕ) × (log : List Moment) × (manifest : List Moment) × (tables : List Moment)
         × PartsOpened asked log manifest tables parts.wal parts.history.entries parts.manifest (D.moments parts.tables) parts.store }
+    requires base { parts.history.base ≡ 0 }
     requires tables { versions.items ≡ parts.store.tables }
     ensures log { IfOk result (λ made. made.log.value ≡ log_state parts.wal parts.wal parts.history.entries [] false []) }
     ensures stock { IfOk result (λ made. made.stock.value ≡ record { parts = parts.store; floor = length parts.history.entries }) }
@@ -162,6 +163,7 @@ fn disks_of<D: Disk>(parts: Parts<D>) -> Disks<D>
 pub fn guard<D: Disk + Drop>(alloc: Global, parts: Parts<D>) -> Result<Vec<Part<D>>, Disks<D>>
     requires opened { (asked : ℕ) × (log : List Moment) × (manifest : List Moment) × (tables : List Moment)
         × PartsOpened asked log manifest tables parts.wal parts.history.entries parts.manifest (D.moments parts.tables) parts.store }
+    requires base { parts.history.base ≡ 0 }
     ensures founds { IfOk result (λ slots. (client : List ℕ) (cells flag : ℕ) → 1 ≤ cells → IsFlagOf parts.history.entries flag
         → Founds content (tells slots.items) client parts.history.entries cells flag slots.items) }
     ensures slots { IfOk result (λ slots. AreFilled parts.wal parts.history.entries (running_set parts.manifest (D.moments parts.tables) (D.faults parts.tables)) parts.store slots.items) }
@@ -178,6 +180,7 @@ pub fn guard<D: Disk + Drop>(alloc: Global, parts: Parts<D>) -> Result<Vec<Part<
 
 /// The history and the devices of what lay behind the write turn and the tables turn.
 pub fn take_apart<D: Disk>(log: Log<D>, edits: Edits<D>) -> (History, Disks<D>)
+    ensures base { result.0.base ≡ 0 }
     ensures history { result.0.entries ≡ log.table.history }
     ensures disks { devices_of D.moments D.faults result.1 ≡ devices_behind log.wal edits.set }
     ensures log { IsLog log }

@@ -20,8 +20,7 @@ use std::alloc::AllocError;
 use std::sync::Wait;
 use wp_model::{Key, Seq, Value, Version, Versions};
 use wp_outside::Disk;
-use wp_parts::Stock;
-use wp_shared::{Seat, Shared};
+use wp_shared::{Seat, Shared, Stock};
 
 /// How many versions of a key are copied at first: mostly the newest is the one.
 pub const FIRST_COPIES: usize = 1;

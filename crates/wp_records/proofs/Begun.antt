@@ -6,7 +6,7 @@ use Rattle.wp_core.specs.Entries.{IsOneRecord}
 use Rattle.wp_core.specs.Tables.{WriteTable, writes}
 use Rattle.wp_core.specs.Views.{versions_nowhere, number_not_in_heap, pair_not_delayed}
 use Rattle.wp_rule.specs.Knows.{Noted}
-use Rattle.wp_parts.specs.Log.{LogState}
+use Rattle.wp_shared.specs.Log.{LogState}
 use Rattle.wp_shared.specs.Seats.{SharedState, SeatState}
 use Rattle.wp_shared.specs.Notes.{GoesOn}
 use Rattle.wp_shared.specs.Notes.{KnowsWords}

@@ -15,7 +15,7 @@ use Rattle.wp_core.specs.Views.{Fact, passed, in_old_commits, words_stay, versio
 use Rattle.wp_core.specs.World.{Transaction, Participant, Actor}
 use Rattle.wp_core.proofs.HistoryLaws.{first_legal}
 use Rattle.wp_rule.specs.Knows.{KnowsHeld, Noted}
-use Rattle.wp_parts.specs.Log.{LogState}
+use Rattle.wp_shared.specs.Log.{LogState}
 use Rattle.wp_shared.specs.Seats.{SharedState, SeatState}
 use Rattle.wp_commits.specs.declared.way.Way.{Way}
 use Rattle.wp_commits.specs.declared.way.Way.TheVariants.{Undecided, InWord, Delayed}

@@ -14,7 +14,7 @@ use Rattle.wp_core.specs.Tables.{WriteTable, Content, writes}
 use Rattle.wp_core.specs.Views.{Fact, words_stay, versions_in_memory, none_waits}
 use Rattle.wp_core.specs.World.{Participant, World}
 use Rattle.wp_rule.specs.Knows.{Noted}
-use Rattle.wp_parts.specs.Log.{LogState}
+use Rattle.wp_shared.specs.Log.{LogState}
 use Rattle.wp_shared.specs.Seats.{SharedState, SeatState, Stands}
 use Rattle.wp_shared.specs.Notes.{being, noting, GoesOn}
 use Rattle.wp_shared.proofs.Goes.{holds, notes}

@@ -7,7 +7,7 @@ use Rattle.wp_core.specs.Tables.{WriteTable}
 use Rattle.wp_core.specs.Views.{words_stay}
 use Rattle.wp_core.specs.World.{Participant, Actor}
 use Rattle.wp_rule.specs.Knows.{Noted}
-use Rattle.wp_parts.specs.Log.{LogState}
+use Rattle.wp_shared.specs.Log.{LogState}
 use Rattle.wp_shared.specs.Seats.{SharedState, SeatState}
 use Rattle.wp_shared.specs.Notes.{GoesOn}
 use Rattle.wp_shared.proofs.Goes.{wider}

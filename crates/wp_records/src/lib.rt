@@ -25,3 +25,4 @@ mod steps;
 pub use error::WriteError;
 pub use putting::put;
 pub use record::Record;
+pub use wp_commits::forget_prepared;

@@ -1,6 +1,7 @@
 //! A record from its making to the history.
-ghost use Rattle.std.specs.Prelude.{◌≡◌, ◌≢◌, suc, false, List, [], ◌∷◌, ◌++◌, length, OnOk, OnErr};
+ghost use Rattle.std.specs.Prelude.{◌≡◌, ◌≢◌, ◌+◌, ◌≤◌, suc, false, List, [], ◌∷◌, ◌++◌, length, OnOk, OnErr};
 ghost use Rattle.wp_model.specs.declared.entry.Entry.{Entry};
+ghost use Rattle.wp_entry.specs.Record.{last_number};
 ghost use Rattle.wp_core.specs.Entries.{IsOneRecord};
 ghost use Rattle.wp_core.specs.Views.{versions_in_memory, versions_nowhere, number_not_in_heap, pair_not_delayed, none_waits};
 ghost use Rattle.wp_rule.specs.Knows.{Noted};
@@ -20,8 +21,7 @@ use std::alloc::AllocError;
 use std::sync::Wait;
 use wp_commits::{clear_all, enter};
 use wp_outside::Disk;
-use wp_parts::Log;
-use wp_shared::{Seat, Shared};
+use wp_shared::{Log, Seat, Shared};
 
 // ---- before the log call
 
@@ -162,8 +162,8 @@ fn put_pending<D: Disk + Drop, R: Wait>(
     Ok(())
 }
 
-/// Puts the entries of a record into the history. Of two whose pairs have one place in the commit cache the earlier one decides
-/// itself.
+/// Puts the entries of a record into the history, with numbers that the log's version has. Of two whose pairs have one place in the
+/// commit cache the earlier one decides itself.
 pub fn put<D: Disk + Drop, R: Wait>(
     store: &Shared<D>,
     rt: &R,
@@ -174,6 +174,7 @@ pub fn put<D: Disk + Drop, R: Wait>(
     requires holds { HoldsWrite store.now seat.old log.old }
     requires running { log.old.table.closed ≡ false }
     requires may { MayPut seat.old.knows log.old.table.history entries }
+    requires within { length log.old.table.history + length entries ≤ last_number log.old.wal.format }
     requires apart { AreApart store.now.cells (ways_of store.now.cells (suc (length log.old.table.history)) entries) }
     ensures { Puts store.now seat.old log.old entries result seat.new log.new }
 {

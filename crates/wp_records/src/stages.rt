@@ -1,15 +1,16 @@
 //! The stages of a record before its log call, and how it is taken back from each.
-ghost use Rattle.std.specs.Prelude.{◌≡◌, suc, true, false, [], ◌∷◌, ◌++◌, length, Some, OnOk, OnErr, MatchOption};
+ghost use Rattle.std.specs.Prelude.{◌≡◌, ◌+◌, ◌≤◌, suc, true, false, [], ◌∷◌, ◌++◌, length, Some, OnOk, OnErr, MatchOption};
 ghost use Rattle.wp_model.specs.declared.entry.Entry.{Entry};
 ghost use Rattle.wp_model.specs.History.{is_prepare};
 ghost use Rattle.wp_model.specs.Legal.{IsLegal, changes_in};
+ghost use Rattle.wp_entry.specs.Record.{last_number};
 ghost use Rattle.wp_core.specs.Entries.{next_of, IsOneRecord};
 ghost use Rattle.wp_core.specs.Sound.Views.{IsNowhere};
 ghost use Rattle.wp_core.specs.Tables.{writes, prepared};
 ghost use Rattle.wp_core.specs.Tables as table;
 ghost use Rattle.wp_core.specs.Views.{versions_in_memory, versions_nowhere, number_in_heap, number_not_in_heap, pair_not_delayed};
 ghost use Rattle.wp_rule.specs.Knows.{HasNoVersions, Noted};
-ghost use Rattle.wp_parts.specs.Stock.{store_table};
+ghost use Rattle.wp_shared.specs.Stock.{store_table};
 ghost use Rattle.wp_shared.specs.Notes.{GoesOn, DelayedFlagTells};
 ghost use Rattle.wp_records.specs.Stages.{is_of_versions, is_of_number, is_of_pending, is_of_stage, HoldsPending, HasPrepare, IsBegun};
 ghost use Rattle.wp_records.specs.Writing.{HoldsWrite};
@@ -20,9 +21,8 @@ use std::alloc::AllocError;
 use std::sync::Wait;
 use wp_model::{Batch, Entry};
 use wp_outside::Disk;
-use wp_parts::{Log, Stock};
 use wp_prepared::Prepared;
-use wp_shared::{Seat, Shared};
+use wp_shared::{Log, Seat, Shared, Stock};
 
 // ---- the pending record
 
@@ -36,6 +36,7 @@ pub(crate) fn make_pending<D: Disk + Drop>(
     requires holds { HoldsWrite store.now seat.old log.old }
     requires running { log.old.table.closed ≡ false }
     requires legal { IsLegal (log.old.table.history ++ entries) }
+    requires within { length log.old.table.history + length entries ≤ last_number log.old.wal.format }
     ensures ok { OnOk result (IsBegun store.now seat.old log.old entries seat.new log.new) }
     ensures one { OnOk result (IsOneRecord log.new.table.pending) }
     ensures err { OnErr result ((seat.new ≡ seat.old) × (log.new ≡ log.old)) }

@@ -11,16 +11,15 @@ ghost use Rattle.wp_core.specs.Tables.{WriteTable, StoreTable, writes, prepared}
 ghost use Rattle.wp_core.specs.Tables as table;
 ghost use Rattle.wp_core.specs.Views.{versions_in_memory, versions_nowhere, number_in_heap, number_not_in_heap, pair_not_delayed};
 ghost use Rattle.wp_rule.specs.Knows.{HasNoVersions, Noted};
-ghost use Rattle.wp_parts.specs.Stock.{store_table};
+ghost use Rattle.wp_shared.specs.Stock.{store_table};
 ghost use Rattle.wp_shared.specs.Notes.{noting, GoesOn, KnowsWords};
 ghost use Rattle.wp_records.specs.Stages.{is_of_versions, is_of_heap, is_of_pending, holding, as_failed, HasPrepare, IsUnlogged, IsNext, IsInPlace, IsPublished};
 
 use std::marker::Brand;
 use wp_model::Seq;
 use wp_outside::Disk;
-use wp_parts::{Log, Stock};
 use wp_prepared::Prepared;
-use wp_shared::{Seat, Shared};
+use wp_shared::{Log, Seat, Shared, Stock};
 
 // ---- the pending record
 

@@ -13,8 +13,8 @@ use Rattle.wp_tableset.specs.Set.{TableSetState}
 use Rattle.wp_gatelog.specs.Durability.{LosesNoRecord}
 use Rattle.wp_open.specs.Opens.{AllKnown, OpensTo, installed_of}
 use Rattle.wp_core.specs.Lists.{one_if}
-use Rattle.wp_parts.specs.Opening.{running_set}
-use Rattle.wp_parts.specs.Devices.{DevicesLeft}
+use Rattle.wp_shared.specs.Opening.{running_set}
+use Rattle.wp_shared.specs.Devices.{DevicesLeft}
 use Rattle.wp_shared.specs.Ended.{IsEnded}
 use Rattle.wp_shared.specs.OpenedFrom.{IsOpenedFrom}
 use Rattle.wp_shared.specs.Seats.{SharedState, SeatState}

@@ -3,7 +3,8 @@ use Rattle.std.specs.Prelude.{Result, Ok, Err, IfOk, OnErr}
 use Rattle.std.specs.Global.{Vec}
 use Rattle.std.specs.declared.alloc.AllocError.{AllocError}
 use Rattle.std.proofs.Common.{◌≡◌, ℕ, ◌≤◌, ◌<◌, ◌^◌, Bool, true, false, List, [], ◌∷◌, length, Option, Some, None, refl, sym, subst, inl, inr, ap, ◌∙◌, arith}
-use Rattle.wp_model.specs.Legal.{log_end}
+use Rattle.wp_fields.specs.declared.format.Format.TheVariants.{One}
+use Rattle.wp_entry.specs.Record.{last_number}
 use Rattle.wp_model.specs.declared.entry.Entry.{Entry}
 use Rattle.wp_open.specs.declared.opening.OpenError.{OpenError}
 use Rattle.wp_open.specs.declared.opening.OpenError.TheVariants as open_error
@@ -14,7 +15,7 @@ use Rattle.wp_core.specs.Lists.{one_if}
 use Rattle.wp_core.specs.World.{Actor}
 use Rattle.wp_rule.specs.Words.{SawAll}
 use Rattle.wp_rule.proofs.Knows.{one_was_first}
-use Rattle.wp_parts.specs.Parts.{content}
+use Rattle.wp_shared.specs.Parts.{content}
 use Rattle.wp_replies.specs.Exact.{IsExact}
 use Rattle.wp_replies.specs.Explains.{Faults, Explains}
 use Rattle.wp_replies.specs.Kind.{is_fault, is_tables_fault}
@@ -187,10 +188,10 @@ ends_only call (status.Contents damage) h = served_only call (status.Contents da
 ends_only call (status.OpenFault device) h = served_only call (status.OpenFault device) h
 
 -- the numbers of a choice are in their ranges
-pub in_ranges : (words : List (List ℕ)) (choice : Choice) → IsChoice words choice → (choice.bits ≤ 16) × (1 ≤ choice.limit) × (choice.limit < log_end)
+pub in_ranges : (words : List (List ℕ)) (choice : Choice) → IsChoice words choice → (choice.bits ≤ 16) × (1 ≤ choice.limit) × (choice.limit ≤ last_number One)
 in_ranges words choice is = by _ is.entered
   where
-    by : (entered : Option (List ℕ × List _)) → IsEntered entered choice → (choice.bits ≤ 16) × (1 ≤ choice.limit) × (choice.limit < log_end)
+    by : (entered : Option (List ℕ × List _)) → IsEntered entered choice → (choice.bits ≤ 16) × (1 ≤ choice.limit) × (choice.limit ≤ last_number One)
     by None none = absurd none
     by (Some x) has = let high = has.limit.high in (has.bits.high, has.limit.low, omega (arith, high))
 

@@ -4,8 +4,8 @@ use Rattle.std.specs.List.{list_any}
 use Rattle.wp_model.specs.Flushed.{InstalledEdit}
 use Rattle.wp_outside.specs.Disk.{IfKnown}
 use Rattle.wp_outside.specs.Faults.{Rose}
-use Rattle.wp_gatelog.specs.Spelling.{IsUnmade}
-use Rattle.wp_fields.specs.declared.format.Format.TheVariants.{One}
+use Rattle.wp_gatelog.specs.Spelling.{IsUnmade, IsUpTo}
+use Rattle.wp_fields.specs.declared.format.Format.{Format}
 use Rattle.wp_entry.specs.Record.{IsRecord}
 use Rattle.wp_core.specs.World.{World}
 use Rattle.wp_core.specs.Runs.{Reaches}
@@ -14,7 +14,7 @@ use Rattle.wp_replies.specs.Explains.{Faults, IsLastEdit}
 use Rattle.wp_replies.specs.Kind.{is_fault, is_stopped, is_tables_fault, is_halted}
 use Rattle.wp_replies.specs.Known.{StoredState}
 use Rattle.wp_replies.specs.Replies.{Untaken}
-use Rattle.wp_wal.specs.Spelling.{IsLogOf}
+use Rattle.wp_wal.specs.Spelling.{NEWEST, IsLogOf}
 use Rattle.wp_wal.specs.Wal.{LeavesHistoryOrNext}
 use Rattle.wp_run.specs.Use.{DisksUse}
 
@@ -29,14 +29,14 @@ pub record SharesWords (cells : ℕ) (found : StoredState) : Type 0 where
   pub cache : length world.cache ≡ cells
 
 -- The log's bytes spelled what was found, under the id that was asked for where it had none. A crash leaves the history that is
--- left in the log, acknowledged, or it and the record that the log failed to take, whole. The log failed once at most, and so did
--- the tables; where one did, the count of a device of it has risen.
+-- left in the log, acknowledged, or it and the record that the log failed to take, whole, of a version that is read. The log
+-- failed once at most, and so did the tables; where one did, the count of a device of it has risen.
 pub record IsStored (disks : DisksUse) (asked id : ℕ) (found left : StoredState) (failed : Untaken) (faults : Faults) : Type 0 where
   pub made : IfKnown disks.log.before (λ m. IsUnmade m.reads → id ≡ asked)
   pub spelled : IfKnown disks.log.before (λ m. IsLogOf id found.history m.reads)
   pub stored : IfKnown disks.log.after (LeavesHistoryOrNext id left.history failed.entries)
   pub unfailed : faults.log ≡ 0 → failed.entries ≡ []
-  pub whole : 1 ≤ faults.log → IsRecord One (length left.history + 1) failed.entries
+  pub whole : 1 ≤ faults.log → (format : Format) × IsUpTo NEWEST format × IsRecord format (length left.history + 1) failed.entries
   pub once : faults.log ≤ 1
   pub cause : 1 ≤ faults.log → Rose disks.log.faults_before disks.log.faults_after
   pub tables_once : faults.tables ≤ 1

@@ -4,7 +4,7 @@ use Rattle.wp_model.specs.declared.entry.Entry.{Entry}
 use Rattle.wp_outside.specs.Faults.{Rose}
 use Rattle.wp_gatelog.specs.Spelling.{IsUnmade}
 use Rattle.wp_gatelog.specs.Opening.{SurvivesThrough}
-use Rattle.wp_wal.specs.Spelling.{MAGIC}
+use Rattle.wp_wal.specs.Spelling.{MAGIC, new_stamp}
 use Rattle.wp_open.specs.declared.opening.OpenError.{OpenError}
 use Rattle.wp_open.specs.Opens.{Opens, AllKnown}
 use Rattle.wp_open.specs.Refused.{IsCause, IsOutside, IsLeft}
@@ -18,4 +18,4 @@ pub record IsUnopened (s : Serving) (why : OpenError) : Type 0 where
       (λ log manifest tables. (id : ℕ) (history : List Entry) → Opens id history log manifest tables → (IsUnmade log → id ≡ s.id) → IsOutside why)
   pub left : IsLeft s.disks.manifest.uncalled s.disks.tables.uncalled s.disks.log.before s.disks.log.after
       s.disks.manifest.before s.disks.manifest.after s.disks.tables.before s.disks.tables.after why
-  pub survives : SurvivesThrough MAGIC s.id s.disks.log.before s.disks.log.after
+  pub survives : SurvivesThrough MAGIC (new_stamp s.id) s.disks.log.before s.disks.log.after

@@ -1,6 +1,7 @@
 //! A script served over a store.
-ghost use Rattle.std.specs.Prelude.{◌≡◌, ◌≤◌, ◌<◌, length};
-ghost use Rattle.wp_model.specs.Legal.{log_end};
+ghost use Rattle.std.specs.Prelude.{◌≡◌, ◌≤◌, length};
+ghost use Rattle.wp_fields.specs.declared.format.Format.TheVariants.{One};
+ghost use Rattle.wp_entry.specs.Record.{last_number};
 ghost use Rattle.wp_outside.specs.Disk.{ReadsItself};
 ghost use Rattle.wp_run.specs.Seating.{IsSeating};
 ghost use Rattle.wp_run.specs.Serving.{ServesExactly, HasEnded};
@@ -35,7 +36,8 @@ fn finish<D: Drop, K: Sink>(
     run: ScriptRun<D>,
     sink: &mut K,
 ) -> Served<D>
-    requires { length parts.now ≡ length run.answers.items }
+    requires parts { length parts.now ≡ length run.answers.items }
+    requires base { run.history.base ≡ 0 }
     ensures disks { result.disks ≡ run.disks }
     ensures ended { HasEnded action parts.now run.answers.items run.history.entries (sink_use K.contents K.faults sink.old sink.new) result.status }
     ensures silent { IsBeforeSink (stage_of result.status) → sink.new ≡ sink.old }
@@ -81,7 +83,7 @@ pub(crate) fn serve<R: Threads + Wait + Sync, D: Disk + Drop + Send, K: Sink, G:
     sink: &mut K,
     gate: &G,
 ) -> Served<D>
-    requires ranges { (choice.bits ≤ 16) × (1 ≤ choice.limit) × (choice.limit < log_end) }
+    requires ranges { (choice.bits ≤ 16) × (1 ≤ choice.limit) × (choice.limit ≤ last_number One) }
     requires seating { IsSeating parts.now seating.client seating.room }
     ensures serves { ServesExactly (record {
       action = choice.action;

@@ -13,7 +13,7 @@ use crate::status::Status;
 use crate::transcript::transcript;
 use std::alloc::{AllocError, Global};
 use wp_args::Action;
-use wp_history::History;
+use wp_ledger::History;
 use wp_make::summary;
 use wp_outside::{Failed, Sink, write_all};
 use wp_text::{Part, Reply};
@@ -85,6 +85,7 @@ fn summary_of(
     answers: &[Answered],
     history: &History,
 ) -> Result<Vec<u8>, AllocError>
+    requires { history.now.base ≡ 0 }
     ensures { IfOk result (λ text. text.items ≡ summary_of seed clients lines (replies_of answers.now) history.now.entries) }
 {
     let sessions = replies_of(alloc, answers)?;
@@ -99,7 +100,8 @@ pub(crate) fn text_of(
     answers: &[Answered],
     history: &History,
 ) -> Result<Vec<u8>, AllocError>
-    requires { length parts.now ≡ length answers.now }
+    requires parts { length parts.now ≡ length answers.now }
+    requires base { history.now.base ≡ 0 }
     ensures whole { IfOk result (λ text. are_whole answers.now ≡ true) }
     ensures text { IfOk result (λ text. text.items ≡ text_of action parts.now (replies_of answers.now) history.now.entries) }
 {

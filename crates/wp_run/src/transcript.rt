@@ -5,7 +5,7 @@ ghost use Rattle.wp_threads.specs.Over.{replies_of};
 ghost use Rattle.wp_run.specs.Transcript.{client_text, client_lines, transcript_of};
 
 use std::alloc::{AllocError, Global};
-use wp_history::History;
+use wp_ledger::History;
 use wp_model::Entry;
 use wp_text::{Part, Reply, client_line, end_line, history_line, reply_line};
 use wp_threads::Answered;
@@ -52,13 +52,14 @@ pub(crate) fn transcript(
     sessions: &[Answered],
     history: &History,
 ) -> Result<Vec<u8>, AllocError>
-    requires { length parts.now ≡ length sessions.now }
+    requires parts { length parts.now ≡ length sessions.now }
+    requires base { history.now.base ≡ 0 }
     ensures { IfOk result (λ text. text.items ≡ transcript_of parts.now (replies_of sessions.now) history.now.entries) }
 {
     let mut out = Vec::new(alloc);
     push_clients(&mut out, parts, sessions)?;
     out.extend_from_slice(b"history\n")?;
-    push_history(&mut out, history.entries())?;
+    push_history(&mut out, history.later())?;
     let undecided = history.undecided().len() as u64;
     end_line(&mut out, history.published(), undecided)?;
     Ok(out)

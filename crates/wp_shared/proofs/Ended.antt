@@ -4,15 +4,16 @@ use Rattle.std.proofs.Common.{Box, ◌≡◌, inl, ℕ, ◌+◌, Bool, true, fal
 use Rattle.wp_model.specs.declared.entry.Entry.{Entry}
 use Rattle.wp_model.specs.Flushed.{IsEditCovered}
 use Rattle.wp_outside.specs.Disk.{Moment, images, IfKnown}
-use Rattle.wp_fields.specs.declared.format.Format.TheVariants.{One}
+use Rattle.wp_fields.specs.declared.format.Format.{Format}
 use Rattle.wp_entry.specs.Record.{IsRecord}
-use Rattle.wp_wal.specs.Spelling.{IsLogOf}
+use Rattle.wp_gatelog.specs.Spelling.{IsUpTo}
+use Rattle.wp_wal.specs.Spelling.{NEWEST, IsLogOf}
 use Rattle.wp_wal.specs.Wal.{WalState, LeavesHistory, LeavesHistoryOrNext}
 use Rattle.wp_manifest.specs.Spelling.{IsManifestOf, last_edit}
-use Rattle.wp_merge.specs.Merge.{joined, sorted_of}
-use Rattle.wp_merge.proofs.Sorted.{merged_sorted}
-use Rattle.wp_table.specs.File.{HasTables}
-use Rattle.wp_tableset.specs.Set.{TableSetState}
+use Rattle.wp_parts.specs.Merge.{joined, sorted_of}
+use Rattle.wp_parts.proofs.Sorted.{merged_sorted}
+use Rattle.wp_parts.specs.File.{HasTables}
+use Rattle.wp_parts.specs.Set.{TableSetState}
 use Rattle.wp_core.specs.Images.{MaySpell, MayName}
 use Rattle.wp_core.specs.IsSound.{participants}
 use Rattle.wp_core.specs.Tables.{WriteTable, Installed, Content, writes, installed}
@@ -96,9 +97,13 @@ module _ {D : Type 0} (z : SharedState D) (first : SeatState) (others : List Sea
   log_is : w.writes.log ≡ w.writes.history
   log_is = l.alone.history.log ∙ (ap (λ (xs : List Entry). w.writes.history ++ xs) (ap (logged_part w.writes.logged) (l.alone.pending (l.free write_turn)) ∙ none_logged w.writes.logged) ∙ append-nil w.writes.history)
 
-  whole_failed : w.writes.closed ≡ true → IsRecord One (length w.writes.history + 1) w.writes.failed
-  whole_failed closed =
-      subst (λ (xs : List Entry). IsRecord One (length xs + 1) w.writes.failed) log_is (subst (λ (t : WriteTable). t.closed ≡ true → IsRecord One (length t.log + 1) t.failed) same_writes k.whole closed)
+  whole_failed : w.writes.closed ≡ true → (format : Format) × IsUpTo NEWEST format × IsRecord format (length w.writes.history + 1) w.writes.failed
+  whole_failed closed = (
+    log.wal.format,
+    k.stores.readable,
+    subst (λ (xs : List Entry). IsRecord log.wal.format (length xs + 1) w.writes.failed) log_is
+        (subst (λ (t : WriteTable). t.closed ≡ true → IsRecord log.wal.format (length t.log + 1) t.failed) same_writes k.whole closed),
+  )
 
   none_asked : w.installed.halted ≡ false → w.installed.failed ≡ None
   none_asked = subst (λ (t : Installed). t.halted ≡ false → t.failed ≡ None) same_installed (λ running. e.none_failed (e.running running))

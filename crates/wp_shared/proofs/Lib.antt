@@ -11,3 +11,5 @@ pub mod Opened
 pub mod Endings
 pub mod Ended
 pub mod Sent
+pub use Rattle.wp_parts.proofs.LaterVersions
+pub use Rattle.wp_parts.proofs.LogLemmas

@@ -6,14 +6,14 @@ use Rattle.std.specs.List.{remove}
 use Rattle.wp_model.specs.declared.entry.Entry.{Entry}
 use Rattle.wp_outside.specs.Disk.{Moment}
 use Rattle.wp_gatelog.specs.Opening.{SurvivesThrough}
-use Rattle.wp_store.specs.Store.{StoreParts}
-use Rattle.wp_tableset.specs.Set.{TableSetState}
+use Rattle.wp_parts.specs.Store.{StoreParts}
+use Rattle.wp_parts.specs.Set.{TableSetState}
 use Rattle.wp_wal.specs.declared.error.WalError.TheVariants as wal_error
 use Rattle.wp_wal.specs.Wal.{WalState}
 use Rattle.wp_wal.proofs.AppendLemmas.{running_history}
 use Rattle.wp_manifest.specs.Edit.{Edit}
 use Rattle.wp_manifest.specs.Manifest.{ManifestState}
-use Rattle.wp_manifest.specs.Spelling.{MAGIC}
+use Rattle.wp_manifest.specs.Spelling.{MAGIC, head_stamp}
 use Rattle.wp_open.specs.Opens.{AllKnown, installed_of}
 use Rattle.wp_open.specs.Parts.{PartsOpened, ArePartsOf}
 use Rattle.wp_open.specs.Refused.{of_log, IsLeft, at_tables, IsRefusedFrom}
@@ -88,7 +88,7 @@ module _ {D : Type 0} (slots : List (Part D)) (wal : WalState) (history : List E
 
 -- what the devices are then left as
 left_behind : (same_manifest same_tables : Type 0) (asked : ℕ) (log manifest tables : List Moment) (wal : WalState) (history : List Entry) (edits : ManifestState) (tables_now : List Moment) (versions : StoreParts)
-    → PartsOpened asked log manifest tables wal history edits tables_now versions → SurvivesThrough MAGIC wal.id manifest edits.log.moments
+    → PartsOpened asked log manifest tables wal history edits tables_now versions → SurvivesThrough MAGIC (head_stamp wal.id) manifest edits.log.moments
     → IsLeft same_manifest same_tables log wal.moments manifest edits.log.moments tables tables_now open_error.Memory
 left_behind same_manifest same_tables asked log manifest tables wal history edits tables_now versions p survives =
     at_tables wal.id history p.installed.edits

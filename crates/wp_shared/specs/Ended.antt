@@ -6,13 +6,15 @@ use Rattle.wp_model.specs.Legal.{IsLegal}
 use Rattle.wp_model.specs.LockTables.{LockTables}
 use Rattle.wp_outside.specs.Disk.{images, IfKnown}
 use Rattle.wp_outside.specs.Faults.{Rose}
-use Rattle.wp_fields.specs.declared.format.Format.TheVariants.{One}
+use Rattle.wp_fields.specs.declared.format.Format.{Format}
 use Rattle.wp_entry.specs.Record.{IsRecord}
 use Rattle.wp_gatelog.specs.Durability.{LosesNoRecord}
+use Rattle.wp_gatelog.specs.Spelling.{IsUpTo}
+use Rattle.wp_wal.specs.Spelling.{NEWEST}
 use Rattle.wp_wal.specs.Wal.{WalState, LosesNothing, LeavesHistoryOrNext}
 use Rattle.wp_manifest.specs.Spelling.{MAGIC}
-use Rattle.wp_tableset.specs.Device.{KeepsFronts}
-use Rattle.wp_tableset.specs.Set.{TableSetState}
+use Rattle.wp_parts.specs.Device.{KeepsFronts}
+use Rattle.wp_parts.specs.Set.{TableSetState}
 use Rattle.wp_open.specs.Opens.{OpensTo}
 use Rattle.wp_core.specs.Images.{MaySpell, MayName}
 use Rattle.wp_core.specs.Tables.{WriteTable, Installed}
@@ -68,11 +70,11 @@ pub record IsEnded {D : Type 0} (z : SharedState D) (seats : List SeatState) (hi
   pub board : IsBoard (length history) locks (of_seats past_of seats)
   pub faults : AreFaults writes edits.halted (of_seats past_of seats)
   pub installed : AreEdits first_edit edits (of_seats past_of seats)
-  -- The log spells the history. Once an append has failed, it spells that, or that and the failed record, whole. Until a device
-  -- of the tables has failed, the manifest names the last edit.
+  -- The log spells the history. Once an append has failed, it spells that, or that and the failed record, whole, of a version
+  -- that is read. Until a device of the tables has failed, the manifest names the last edit.
   pub log : writes.log ≡ history
   pub none_failed : writes.closed ≡ false → writes.failed ≡ []
-  pub whole : writes.closed ≡ true → IsRecord One (length history + 1) writes.failed
+  pub whole : writes.closed ≡ true → (format : Format) × IsUpTo NEWEST format × IsRecord format (length history + 1) writes.failed
   pub none_asked : edits.halted ≡ false → edits.failed ≡ None
   -- so a crash leaves the log with the history acknowledged, and perhaps with the failed record behind it, under the store's id;
   -- and what it leaves of the three devices opens

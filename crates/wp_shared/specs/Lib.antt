@@ -7,3 +7,9 @@ pub mod Clients
 pub mod Calls
 pub mod Ending
 pub mod Ended
+pub use Rattle.wp_parts.specs.Log
+pub use Rattle.wp_parts.specs.Stock
+pub use Rattle.wp_parts.specs.Edits
+pub use Rattle.wp_parts.specs.Installs
+pub use Rattle.wp_parts.specs.Parts
+pub use Rattle.wp_parts.specs.Devices

@@ -7,7 +7,7 @@ use Rattle.wp_wal.specs.Spelling as log_spelling
 use Rattle.wp_wal.specs.Wal.{WalState}
 use Rattle.wp_manifest.specs.Manifest.{ManifestState}
 use Rattle.wp_manifest.specs.Spelling as edits_spelling
-use Rattle.wp_store.specs.Store.{StoreParts}
+use Rattle.wp_parts.specs.Store.{StoreParts}
 use Rattle.wp_open.specs.Opens.{OpensTo, AllKnown, installed_of}
 use Rattle.wp_open.specs.Parts.{PartsOpened}
 use Rattle.wp_rule.specs.Shows.{WasLast}
@@ -30,8 +30,8 @@ pub record IsOpenedFrom {D : Type 0} (asked : ℕ) (old : DevicesLeft) (z : Shar
   pub last_is : WasLast content z.first (installed_of edits.edit versions.tables)
   pub parts : PartsOpened asked old.log old.manifest old.tables wal z.opened edits tables versions
   pub opens : AllKnown old.log old.manifest old.tables (OpensTo wal.id z.opened (installed_of edits.edit versions.tables))
-  pub log_survives : SurvivesThrough log_spelling.MAGIC asked old.log wal.moments
-  pub manifest_survives : SurvivesThrough edits_spelling.MAGIC wal.id old.manifest edits.log.moments
+  pub log_survives : SurvivesThrough log_spelling.MAGIC (log_spelling.new_stamp asked) old.log wal.moments
+  pub manifest_survives : SurvivesThrough edits_spelling.MAGIC (edits_spelling.head_stamp wal.id) old.manifest edits.log.moments
   pub log_durable : LosesNoRecord log_spelling.MAGIC old.log wal.moments
   pub manifest_durable : LosesNoRecord edits_spelling.MAGIC old.manifest edits.log.moments
   pub log_later : old.log_faults ≤ wal.faults

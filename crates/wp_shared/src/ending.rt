@@ -9,7 +9,7 @@ ghost use Rattle.wp_shared.specs.Ended.{IsEnded};
 
 use crate::seat::Seat;
 use crate::shared::Shared;
-use wp_history::History;
+use wp_ledger::History;
 use wp_outside::{Disk, Disks};
 use wp_parts::{BehindTurn, Edits, Log, Part, take_apart};
 use wp_rule::Parts;
@@ -52,7 +52,8 @@ impl<D: Disk + Drop> Shared<D> {
     pub fn finish(self, seats: Vec<Seat<D>>) -> Finished<D>
         requires free { AllFree self.table seats.items }
         requires all { AreAll seats.items }
-        ensures { IsEnded self seats.items result.history.entries (devices_of D.moments D.faults result.disks) }
+        ensures base { result.history.base ≡ 0 }
+        ensures ended { IsEnded self seats.items result.history.entries (devices_of D.moments D.faults result.disks) }
     {
         self.shows_one_store();
         let Parts { write, tables, .. } = self.close(seats);

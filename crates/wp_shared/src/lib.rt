@@ -28,3 +28,4 @@ pub use ending::Finished;
 pub use note::Note;
 pub use seat::Seat;
 pub use shared::Shared;
+pub use wp_parts::{Edits, Log, Stock};

@@ -1,6 +1,7 @@
 //! A store that was opened, for clients to share.
-ghost use Rattle.std.specs.Prelude.{◌≡◌, ◌<◌, ◌≤◌, ◌^◌, [], ℕ, List, Some, true, length, IfOk, IfErr};
-ghost use Rattle.wp_model.specs.Legal.{log_end};
+ghost use Rattle.std.specs.Prelude.{◌≡◌, ◌≤◌, ◌^◌, [], ℕ, List, Some, true, length, IfOk, IfErr};
+ghost use Rattle.wp_fields.specs.declared.format.Format.TheVariants.{One};
+ghost use Rattle.wp_entry.specs.Record.{last_number};
 ghost use Rattle.wp_outside.specs.Disk.{Moment};
 ghost use Rattle.wp_open.specs.Opens.{installed_of};
 ghost use Rattle.wp_open.specs.Parts.{PartsOpened};
@@ -37,8 +38,9 @@ impl<D: Disk + Drop> Shared<D> {
     ) -> Result<(Shared<D>, Seat<D>), Disks<D>>
         requires opened { (asked : ℕ) × (log : List Moment) × (manifest : List Moment) × (tables : List Moment)
             × PartsOpened asked log manifest tables parts.wal parts.history.entries parts.manifest (D.moments parts.tables) parts.store }
+        requires base { parts.history.base ≡ 0 }
         requires bits { bits ≤ 16 }
-        requires limit { (1 ≤ limit) × (limit < log_end) }
+        requires limit { (1 ≤ limit) × (limit ≤ last_number One) }
         ensures store { IfOk result (λ r. (r.0.opened ≡ parts.history.entries) × (r.0.cells ≡ 2 ^ bits) × (r.0.limit ≡ limit)) }
         ensures log { IfOk result (λ r. log_first r.0.first ≡ Some parts.wal) }
         ensures set { IfOk result (λ r. set_first r.0.first ≡ Some (running_set parts.manifest (D.moments parts.tables) (D.faults parts.tables))) }
@@ -78,7 +80,7 @@ impl<D: Disk + Drop> Shared<D> {
         id: u32,
     ) -> Result<(Shared<D>, Seat<D>), OpenRefused<D>>
         requires bits { bits ≤ 16 }
-        requires limit { (1 ≤ limit) × (limit < log_end) }
+        requires limit { (1 ≤ limit) × (limit ≤ last_number One) }
         ensures store { IfOk result (λ r. (r.0.cells ≡ 2 ^ bits) × (r.0.limit ≡ limit)) }
         ensures opened { IfOk result (λ r. IsOpenedFrom id (devices_of D.moments D.faults disks) r.0) }
         ensures seat { IfOk result (λ r. r.1 ≡ record { table = r.0.table; by = 0; knows = new_actor true client r.0.opened; turns = [] }) }

@@ -23,7 +23,7 @@ use Rattle.wp_core.specs.Sound.Locks.{WasPrepared}
 use Rattle.wp_core.specs.Sound.Pasts.{HasDone, IsPast, MadeHolder, IsAccounted, raised_to, WasInstalled, past_of}
 use Rattle.wp_core.specs.Views.{Account, own, another, prepare_at, Event, claimed, took, locked, told, heard, installed, renewed, log_failed, log_stopped, tables_failed, stopped, found_edit, found}
 use Rattle.wp_core.specs.World.{Participant}
-use Rattle.wp_parts.specs.Devices.{DevicesLeft}
+use Rattle.wp_shared.specs.Devices.{DevicesLeft}
 use Rattle.wp_shared.specs.Ended.{IsEnded, of_seats}
 use Rattle.wp_shared.specs.Ending.{participant_of}
 use Rattle.wp_shared.specs.Seats.{SharedState, SeatState}
@@ -143,9 +143,9 @@ module _ {D : Type 0} {z : SharedState D} {seats : List SeatState} {history : Li
         let d = (done_by j i (told label n) h).1 in
         one_did (λ (x : Dialogue). comes_to (tells label m) new_client x.part.commands x.answers) i d.own d.there (comes_wider (tells label n) (tells label m) (tells_more label n m le) new_client d.own.part.commands d.own.answers d.told)
 
-    other_compacted : (tables due n : ℕ) (halted : Bool) → IsIn (found_edit n tables due halted) p.past → tables < due → IsKnown evidence OtherCompacted
-    other_compacted tables due n halted there lt =
-        let o = ended.installed.few 0 (length before) n tables due halted (mine_did (found_edit n tables due halted) there) lt in
+    other_compacted : (n base tables due : ℕ) (halted : Bool) → IsIn (found_edit n base tables due halted) p.past → tables < due → IsKnown evidence OtherCompacted
+    other_compacted n base tables due halted there lt =
+        let o = ended.installed.few 0 (length before) n base tables due halted (mine_did (found_edit n base tables due halted) there) lt in
         let d = done_by o.1.0 o.1.1 (installed o.0 true) o.1.3 in
         answers_any is_compacted (before ++ after) (other_did (λ (x : Dialogue). list_any is_compacted x.answers) o.1.1 d.1.own d.1.there (elsewhere o.1.0 o.1.1 d.0 o.1.2) (comes_answered is_compacted new_client d.1.own.part.commands d.1.own.answers d.1.told))
 
@@ -157,10 +157,10 @@ module _ {D : Type 0} {z : SharedState D} {seats : List SeatState} {history : Li
         both_so (n == length history) (list_any is_fault (answers_in (before ++ mine ∷ after))) (eq-eqb n (length history) (k.1 ∙ ap (λ (h : List Entry). length h) ended.history_is)) (closed_said k.0)
     knows (log_failed entries) there = (ended.faults.failed entries (past_is (log_failed entries) there)).1
     knows (tables_failed last edit) there = let f = ended.installed.failed last edit (past_is (tables_failed last edit) there) in (f.1, f.2)
-    knows (found_edit n tables due halted) there = (
-      was_flushed n (ended.installed.found n tables due halted (past_is (found_edit n tables due halted) there)),
-      (λ is. let k = ended.installed.found_halted n tables due (past_is (found_edit n tables due true) (subst (λ (b : Bool). IsIn (found_edit n tables due b) p.past) is there)) in (k.1, halted_said k.0)),
-      (λ lt. other_compacted tables due n halted there lt),
+    knows (found_edit n base tables due halted) there = (
+      was_flushed n (ended.installed.found n base tables due halted (past_is (found_edit n base tables due halted) there)),
+      (λ is. let k = ended.installed.found_halted n base tables due (past_is (found_edit n base tables due true) (subst (λ (b : Bool). IsIn (found_edit n base tables due b) p.past) is there)) in (k.1, halted_said k.0)),
+      (λ lt. other_compacted n base tables due halted there lt),
     )
     knows (claimed name) there = tt
     knows (took name) there = tt

@@ -77,7 +77,7 @@ explained_same name c a (heard label n) p q is = tt
 explained_same name c a (log_failed entries) p q is = tt
 explained_same name c a (tables_failed last edit) p q is = tt
 explained_same name c a (stopped n) p q is = tt
-explained_same name c a (found_edit flushed tables due halted) p q is = tt
+explained_same name c a (found_edit flushed base tables due halted) p q is = tt
 explained_same name c a (found key h seen account) p q is = tt
 
 -- so what one of them explains, the other does

@@ -13,7 +13,7 @@ use Rattle.wp_core.specs.Lists.{IsIn, one_if}
 use Rattle.wp_core.specs.Sound.Pasts.{closes_log, is_tables_fault, past_of}
 use Rattle.wp_core.specs.Views.{Event, stopped, found_edit}
 use Rattle.wp_core.specs.World.{Participant}
-use Rattle.wp_parts.specs.Devices.{DevicesLeft}
+use Rattle.wp_shared.specs.Devices.{DevicesLeft}
 use Rattle.wp_shared.specs.Ended.{IsEnded}
 use Rattle.wp_shared.specs.Ending.{AreAll, participant_of}
 use Rattle.wp_shared.specs.Seats.{SharedState, SeatState}
@@ -58,8 +58,8 @@ stopped_there : (past : List Event) (r : Reply) → is_stopped r ≡ true → Is
 stopped_there past (reply.Stopped n) is there = (n, there)
 stopped_there past other is there = absurd cc
 
-halted_there : (past : List Event) (r : Reply) → is_halted r ≡ true → IsRemembered past r → (n tables due : ℕ) × IsIn (found_edit n tables due true) past
-halted_there past (reply.Halted n) is (tables, due, there) = (n, tables, due, there)
+halted_there : (past : List Event) (r : Reply) → is_halted r ≡ true → IsRemembered past r → (n base tables due : ℕ) × IsIn (found_edit n base tables due true) past
+halted_there past (reply.Halted n) is (base, tables, due, there) = (n, base, tables, due, there)
 halted_there past other is there = absurd cc
 
 one_at_least : (b : Bool) → b ≡ true → 1 ≤ one_if b
@@ -123,7 +123,7 @@ module _ {D : Type 0} {z : SharedState D} {seats : List SeatState} {history : Li
     tables_failed = tables_counted;
     halted = λ said.
         let k = remembers z (found_in ended) is_halted parts answered seats over said in let n = halted_there k.past k.answer k.is k.remembered in
-        one_at_least ended.edits.halted (ended.installed.found_halted n.0 n.1 n.2 (0, k.place, (k.past, (map past_of (map participant_of seats), refl, k.there), n.3))).0;
+        one_at_least ended.edits.halted (ended.installed.found_halted n.0 n.1 n.2 n.3 (0, k.place, (k.past, (map past_of (map participant_of seats), refl, k.there), n.4))).0;
     edit = let first = first_past seats all in last_edit ended parts answered over first.0 first.1;
   }
 

@@ -12,7 +12,7 @@ use Rattle.wp_core.specs.Lists.{IsIn}
 use Rattle.wp_core.specs.Sound.Pasts.{HasDone, is_install, raised_to, WasInstalled, last_installed, past_of}
 use Rattle.wp_core.specs.Views.{Event, installed, renewed}
 use Rattle.wp_core.proofs.Tests.{same_some}
-use Rattle.wp_parts.specs.Devices.{DevicesLeft}
+use Rattle.wp_shared.specs.Devices.{DevicesLeft}
 use Rattle.wp_shared.specs.Ended.{IsEnded, of_seats}
 use Rattle.wp_shared.specs.Ending.{participant_of}
 use Rattle.wp_shared.specs.Seats.{SharedState, SeatState}

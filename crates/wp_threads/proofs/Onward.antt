@@ -24,7 +24,7 @@ use Rattle.wp_replies.specs.Kind as kinds
 use Rattle.wp_replies.specs.Known.{StoredState, known_at_first, comes_to}
 use Rattle.wp_replies.specs.Progress.{progress_after}
 use Rattle.wp_replies.specs.Session.{IsSession}
-use Rattle.wp_sole_client.specs.Alone.{IsOnly, IsStoreOf, AnswersAlone}
+use Rattle.wp_answers.specs.Alone.{IsOnly, IsStoreOf, AnswersAlone}
 use Rattle.wp_answers.specs.Answers.{explaining, IsExplained, IsRemembered, Stays, Answers}
 use Rattle.wp_answers.specs.Holdings.{HoldingsState, client_of, Holds}
 use Rattle.wp_answers.proofs.Growing.{agrees_before, in_back}
@@ -51,7 +51,7 @@ only_before s t stays only = record { by = sym stays.same_by ∙ only.by; made =
 pub remembered_wider : (xs ys : List Event) (r : Reply) → ((e : Event) → IsIn e xs → IsIn e ys) → IsRemembered xs r → IsRemembered ys r
 remembered_wider xs ys (reply.Stopped n) f there = f _ there
 remembered_wider xs ys (reply.Flushed n versions) f (edit, same, there) = (edit, same, f _ there)
-remembered_wider xs ys (reply.Halted flushed) f (tables, due, there) = (tables, due, f _ there)
+remembered_wider xs ys (reply.Halted flushed) f (base, tables, due, there) = (base, tables, due, f _ there)
 remembered_wider xs ys other f k = tt
 
 count_one : (p : Reply → Bool) (r : Reply) → count_by p (r ∷ []) ≡ one_if (p r)

@@ -9,7 +9,7 @@ use Rattle.wp_core.specs.Lists.{IsIn, one_if}
 use Rattle.wp_core.specs.Sound.Actors.{once}
 use Rattle.wp_core.specs.Sound.Pasts.{HasDone}
 use Rattle.wp_core.specs.Views.{Event}
-use Rattle.wp_parts.specs.Devices.{DevicesLeft}
+use Rattle.wp_shared.specs.Devices.{DevicesLeft}
 use Rattle.wp_shared.specs.Ended.{IsEnded}
 use Rattle.wp_shared.specs.Seats.{SharedState, SeatState}
 use Rattle.wp_replies.specs.Explains.{Explains}

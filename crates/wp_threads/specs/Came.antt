@@ -4,11 +4,11 @@ use Rattle.wp_text.specs.declared.script.Command.{Command}
 use Rattle.wp_text.specs.declared.reply.Reply.{Reply}
 use Rattle.wp_model.specs.Flushed.{InstalledEdit}
 use Rattle.wp_rule.specs.Shows.{WasLast}
-use Rattle.wp_parts.specs.Parts.{content}
+use Rattle.wp_shared.specs.Parts.{content}
 use Rattle.wp_shared.specs.Seats.{SharedState, SeatState}
 use Rattle.wp_replies.specs.Due.{Store}
 use Rattle.wp_replies.specs.Known.{StoredState}
-use Rattle.wp_sole_client.specs.Alone.{IsOnly, IsStoreOf, AnswersAlone}
+use Rattle.wp_answers.specs.Alone.{IsOnly, IsStoreOf, AnswersAlone}
 use Rattle.wp_answers.specs.Answers.{Answers}
 use Rattle.wp_answers.specs.Holdings.{HoldingsState, client_of, Holds}
 use Rattle.wp_threads.specs.SoFar.{IsSessionSoFar}

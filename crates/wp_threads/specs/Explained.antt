@@ -3,7 +3,7 @@ use Rattle.std.specs.Prelude.{◌≡◌, ℕ, ◌<◌, ◌≤◌, true, List, []
 use Rattle.wp_model.specs.declared.entry.Entry.{Entry}
 use Rattle.wp_text.specs.declared.script.Part.{Part}
 use Rattle.wp_core.specs.Lists.{one_if}
-use Rattle.wp_parts.specs.Devices.{DevicesLeft}
+use Rattle.wp_shared.specs.Devices.{DevicesLeft}
 use Rattle.wp_shared.specs.Ended.{IsEnded}
 use Rattle.wp_shared.specs.Seats.{SharedState, SeatState}
 use Rattle.wp_replies.specs.Exact.{IsExact}

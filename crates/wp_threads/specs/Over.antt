@@ -22,7 +22,7 @@ use Rattle.wp_replies.specs.Known.{StoredState, known_at_first, comes_to}
 use Rattle.wp_replies.specs.Replies.{Evidence}
 use Rattle.wp_replies.specs.Session.{IsSession}
 use Rattle.wp_answers.specs.Agrees.{Agrees}
-use Rattle.wp_sole_client.specs.Alone.{log_faults, tables_faults, IsOnly}
+use Rattle.wp_answers.specs.Alone.{log_faults, tables_faults, IsOnly}
 use Rattle.wp_answers.specs.Answers.{explaining, IsRemembered, IsExplained, Stays}
 use Rattle.wp_answers.specs.Holdings.{no_holdings, Holds}
 

@@ -9,7 +9,7 @@ use Rattle.wp_core.specs.Lists.{IsIn}
 use Rattle.wp_core.specs.Views.{Event, log_failed, tables_failed}
 use Rattle.wp_core.specs.World.{Participant}
 use Rattle.wp_rule.specs.Shows.{WasLast}
-use Rattle.wp_parts.specs.Parts.{content}
+use Rattle.wp_shared.specs.Parts.{content}
 use Rattle.wp_shared.specs.Seats.{SharedState, SeatState}
 use Rattle.wp_replies.specs.declared.client.Txn.{Txn}
 use Rattle.wp_replies.specs.declared.client.Txn.TheVariants.{Prepared}
@@ -23,7 +23,7 @@ use Rattle.wp_replies.specs.Progress.{Progress}
 use Rattle.wp_replies.specs.Replies.{Evidence}
 use Rattle.wp_replies.specs.Session.{IsSession}
 use Rattle.wp_answers.specs.Agrees.{Agrees}
-use Rattle.wp_sole_client.specs.Alone.{log_faults, tables_faults, IsOnly, IsStoreOf}
+use Rattle.wp_answers.specs.Alone.{log_faults, tables_faults, IsOnly, IsStoreOf}
 use Rattle.wp_answers.specs.Answers.{IsProgress, explaining, IsRemembered}
 use Rattle.wp_answers.specs.Holdings.{HoldingsState, client_of, Holds}
 

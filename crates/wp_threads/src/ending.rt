@@ -1,6 +1,6 @@
 //! The end of all sessions: their seats are handed in, and the store is ended.
 ghost use Rattle.std.specs.Prelude.{◌≡◌, ◌≤◌, ◌<◌, ℕ, List, [], map, vec_len, vec_capacity};
-ghost use Rattle.wp_parts.specs.Devices.{devices_of};
+ghost use Rattle.wp_shared.specs.Devices.{devices_of};
 ghost use Rattle.wp_shared.specs.Ending.{AreAll};
 ghost use Rattle.wp_threads.specs.New.{AreNew, clients_of, first_seat};
 ghost use Rattle.wp_threads.specs.Lists.{seat_of, answers_of};
@@ -11,7 +11,7 @@ use crate::threads::{Session, run_all};
 use std::alloc::Global;
 use std::sync::Wait;
 use std::thread::Threads;
-use wp_history::History;
+use wp_ledger::History;
 use wp_outside::{Disk, Disks, Gate};
 use wp_shared::{Finished, Seat, Shared};
 use wp_text::Part;
@@ -55,6 +55,7 @@ pub(crate) fn end_unused<D: Disk + Drop>(
     requires first { (client : List ℕ) × (first ≡ first_seat store client) }
     requires empty { (seats.items ≡ []) × (answers.items ≡ []) }
     requires room { 0 < vec_capacity seats }
+    ensures base { result.history.base ≡ 0 }
     ensures run { HaveRun store [] [] result.history.entries (devices_of D.moments D.faults result.disks) }
     ensures answers { result.answers.items ≡ [] }
 {
@@ -85,7 +86,8 @@ pub(crate) fn run_to_end<D: Disk + Drop + Send, G: Gate + Sync, R: Threads + Wai
     requires all { AreAll (map seat_of sessions.items) }
     requires empty { (seats.items ≡ []) × (answers.items ≡ []) }
     requires room { (vec_len sessions ≤ vec_capacity seats) × (vec_len sessions ≤ vec_capacity answers) }
-    ensures { HaveRun store parts.now result.answers.items result.history.entries (devices_of D.moments D.faults result.disks) }
+    ensures base { result.history.base ≡ 0 }
+    ensures run { HaveRun store parts.now result.answers.items result.history.entries (devices_of D.moments D.faults result.disks) }
 {
     let mut sessions = sessions;
     run_all(&store, rt, alloc, gate, parts, sessions.as_mut_slice());

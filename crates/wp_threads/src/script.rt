@@ -1,6 +1,6 @@
 //! A script's sessions at an opened store.
 ghost use Rattle.std.specs.Prelude.{◌≡◌, ◌+◌, ◌<◌, [], ◌∷◌, map, vec_len, vec_capacity};
-ghost use Rattle.wp_parts.specs.Devices.{devices_of};
+ghost use Rattle.wp_shared.specs.Devices.{devices_of};
 ghost use Rattle.wp_shared.specs.Ending.{AreAll};
 ghost use Rattle.wp_threads.specs.New.{AreNew, having_made, first_seat, IsFirst, others_of};
 ghost use Rattle.wp_threads.specs.Lists.{seat_of};
@@ -96,7 +96,8 @@ pub fn run_script<D: Disk + Drop + Send, G: Gate + Sync, R: Threads + Wait + Syn
 ) -> ScriptRun<D>
     requires first { IsFirst store parts.now first }
     requires room { room ≡ others_of parts.now }
-    ensures { HaveRun store parts.now result.answers.items result.history.entries (devices_of D.moments D.faults result.disks) }
+    ensures base { result.history.base ≡ 0 }
+    ensures run { HaveRun store parts.now result.answers.items result.history.entries (devices_of D.moments D.faults result.disks) }
 {
     let (names, sessions, seats, answers) = room.into_lists();
     if parts.is_empty() {

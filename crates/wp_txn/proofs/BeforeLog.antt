@@ -10,7 +10,7 @@ use Rattle.wp_model.specs.declared.holder.Holder.TheVariants.{Client}
 use Rattle.wp_core.specs.Sound.Pasts.{is_log_fault}
 use Rattle.wp_core.specs.Views.{Event, found, locked, log_failed, stopped}
 use Rattle.wp_core.specs.World.{Participant}
-use Rattle.wp_parts.specs.Log.{LogState}
+use Rattle.wp_shared.specs.Log.{LogState}
 use Rattle.wp_records.specs.declared.error.WriteError.{WriteError}
 use Rattle.wp_records.specs.declared.error.WriteError.TheVariants as write_error
 use Rattle.wp_records.specs.Records.{Puts, IsUncalled, FailsAppend}

@@ -25,7 +25,7 @@ use Rattle.wp_core.specs.World.{Transactions, Participant}
 use Rattle.wp_core.proofs.HistoryGrows.{none_is}
 use Rattle.wp_core.proofs.Tests.{either, same_some, some_none}
 use Rattle.wp_rule.proofs.Knows.{at_sound, noted_is}
-use Rattle.wp_parts.specs.Log.{LogState}
+use Rattle.wp_shared.specs.Log.{LogState}
 use Rattle.wp_records.specs.Records.{OwnsEntry, MayPut}
 use Rattle.wp_shared.specs.Seats.{SharedState, SeatState, place_at}
 use Rattle.wp_txn.specs.Recording.{OpensLog}

@@ -19,7 +19,7 @@ use Rattle.wp_core.specs.Sound.Actors.{StartsWith}
 use Rattle.wp_core.proofs.HistoryGrows.{named_stays}
 use Rattle.wp_core.proofs.HistoryLaws.{next_decides_prepare}
 use Rattle.wp_core.proofs.KeepsSeen.{shorter}
-use Rattle.wp_parts.specs.Log.{LogState}
+use Rattle.wp_shared.specs.Log.{LogState}
 use Rattle.wp_records.specs.Records.{is_about, IsAboutNone}
 use Rattle.wp_shared.specs.Calls.{IsLoose, Continues}
 use Rattle.wp_shared.specs.Seats.{SharedState, SeatState}

@@ -1,17 +1,20 @@
 -- A seat that took the write turn, put a record into the history or could not, and gave the turn.
-use Rattle.std.proofs.Common.{◌≡◌, ◌⊎◌, ⊎_elim, inl, inr, ℕ, suc, ◌+◌, ◌≤◌, ◌<◌, Bool, cond, true, false, List, [], ◌∷◌, ◌++◌, length, refl, sym, subst, ap, ◌∙◌, Some, None, is_some, length-append, eq-eqb}
+use Rattle.std.proofs.Common.{◌≡◌, ◌⊎◌, ⊎_elim, inl, inr, ℕ, suc, ◌+◌, ◌≤◌, ◌<◌, Bool, cond, true, false, List, [], ◌∷◌, ◌++◌, length, refl, sym, subst, ap, ◌∙◌, Some, None, is_some, length-append, eq-eqb, arith}
 use Rattle.std.specs.Prelude.{Result, Ok, Err}
 use Rattle.std.specs.FinMap as finite
 use Rattle.std.proofs.lemmas.Slice.Eq.{bytes_eq-Decides}
 use Rattle.wp_model.specs.History.{prepared_name, name_at, named}
-use Rattle.wp_model.specs.Legal.{IsLegal, log_end}
+use Rattle.wp_model.specs.Legal.{IsLegal}
 use Rattle.wp_model.specs.declared.change.Change.{Change}
 use Rattle.wp_model.specs.declared.entry.Entry.{Entry}
 use Rattle.wp_model.specs.declared.entry.Entry.TheVariants.{Prepare, Commit, Undo, Close}
 use Rattle.wp_model.proofs.Found.{found_named}
-use Rattle.wp_commits.specs.Ways.{way_of, ways_of, MayPrecede, AreApart}
-use Rattle.wp_commits.specs.declared.way.Way.{Way}
-use Rattle.wp_commits.specs.declared.way.Way.TheVariants.{Undecided, InWord, Delayed}
+use Rattle.wp_fields.specs.declared.format.Format.{Format}
+use Rattle.wp_fields.specs.declared.format.Format.TheVariants.{One, Two}
+use Rattle.wp_entry.specs.Record.{last_number}
+use Rattle.wp_records.specs.Ways.{way_of, ways_of, MayPrecede, AreApart}
+use Rattle.wp_records.specs.Way.{Way}
+use Rattle.wp_records.specs.Way.TheVariants.{Undecided, InWord, Delayed}
 use Rattle.wp_judge.specs.Words.{fits}
 use Rattle.wp_core.specs.Entries.{transaction_of, pair_by}
 use Rattle.wp_core.specs.Lists.{IsIn}
@@ -30,8 +33,8 @@ use Rattle.wp_rule.specs.Words.{Place, IsAt}
 use Rattle.wp_rule.proofs.Forgets.{EndsNothing}
 use Rattle.wp_rule.proofs.MayBeMade.{known_made}
 use Rattle.wp_shared.proofs.Tables.{held_table}
-use Rattle.wp_parts.specs.Log.{LogState, IsLog}
-use Rattle.wp_parts.specs.Parts.{log_first}
+use Rattle.wp_shared.specs.Log.{LogState, IsLog}
+use Rattle.wp_shared.specs.Parts.{log_first}
 use Rattle.wp_records.specs.declared.error.WriteError.{WriteError}
 use Rattle.wp_records.specs.declared.error.WriteError.TheVariants as write_error
 use Rattle.wp_records.specs.Records.{numbers_behind, putting, IsAboutNone, failing, MayPut, IsPut, IsNotPut, IsUncalled}
@@ -81,6 +84,11 @@ given_back Stays z old s new after gives by starts is loose notes made joined =
     }
 
 -- ---- the turn is taken
+
+-- each version of the log has the numbers that the first one has
+last_least : (format : Format) → last_number One ≤ last_number format
+last_least One = omega arith
+last_least Two = omega arith
 
 module _ {D : Type 0} (z : SharedState D) (old s : SeatState) (log : LogState) (took : TookLog z old s log) where
   abbrev history : List Entry
@@ -133,13 +141,14 @@ module _ {D : Type 0} (z : SharedState D) (old s : SeatState) (log : LogState) (
   pub alone : IsFree z.table old → HoldsTurn z s (writes log.table) [] []
   alone free = subst (λ (x : List Content × List ℕ). HoldsTurn z s (writes log.table) x.0 x.1) (λ i. (free.held i, free.turns i)) took.holds
 
-  pub opened : IsFree z.table old → (needed published : ℕ) → log.table.closed ≡ false → published ≡ length history → published + needed ≤ z.limit → z.limit < log_end → IsLog log → OpensLog z old s log needed
+  pub opened : IsFree z.table old → (needed published : ℕ) → log.table.closed ≡ false → published ≡ length history → published + needed ≤ z.limit → z.limit ≤ last_number One → IsLog log → OpensLog z old s log needed
   opened free needed published running number within few is_log = record {
     took = took;
     holds = record { turn = alone free; pending = took.knows.0; seen = took.seen; of_store = took.of_store; words = took.knows.1 };
     running = running;
     within = subst (λ (n : ℕ). n + needed ≤ z.limit) number within;
     few = few;
+    numbers = (let fits = last_least log.wal.format in omega (arith, fits, few, within, number));
     is_log = is_log;
   }
 

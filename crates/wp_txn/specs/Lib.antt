@@ -6,3 +6,5 @@ pub mod Calls
 pub mod Keys
 pub mod Writes
 pub mod Recording
+pub use Rattle.wp_records.specs.Records
+pub use Rattle.wp_records.specs.Writing

@@ -1,16 +1,18 @@
 -- How a call puts a record of entries into the history, and what it does beside that.
-use Rattle.std.specs.Prelude.{◌≡◌, ◌⊎◌, ℕ, ◌+◌, ◌≤◌, ◌<◌, false, List, [], ◌∷◌, ◌++◌, length, take, Some, None, Result, Ok, Err}
+use Rattle.std.specs.Prelude.{◌≡◌, ◌⊎◌, ℕ, ◌+◌, ◌≤◌, false, List, [], ◌∷◌, ◌++◌, length, take, Some, None, Result, Ok, Err}
 use Rattle.std.specs.FinMap as finite
 use Rattle.wp_model.specs.declared.entry.Entry.{Entry}
 use Rattle.wp_model.specs.declared.entry.Entry.TheVariants.{Prepare, Commit, Undo, Close}
 use Rattle.wp_model.specs.History.{named}
-use Rattle.wp_model.specs.Legal.{IsLegal, prior, log_end}
+use Rattle.wp_model.specs.Legal.{IsLegal, prior}
 use Rattle.wp_model.specs.declared.change.Change.{Change}
+use Rattle.wp_fields.specs.declared.format.Format.TheVariants.{One}
+use Rattle.wp_entry.specs.Record.{last_number}
 use Rattle.wp_core.specs.Lists.{IsIn}
 use Rattle.wp_core.specs.Sound.Views.{guarded_by}
 use Rattle.wp_core.specs.Views.{Fact, undecided_at, unprepared, direct_free}
 use Rattle.wp_core.specs.World.{Participant}
-use Rattle.wp_parts.specs.Log.{LogState, IsLog}
+use Rattle.wp_shared.specs.Log.{LogState, IsLog}
 use Rattle.wp_records.specs.declared.error.WriteError.{WriteError}
 use Rattle.wp_records.specs.declared.error.WriteError.TheVariants as write_error
 use Rattle.wp_records.specs.Records.{IsAboutNone, IsPut, Puts}
@@ -43,13 +45,14 @@ MayNote (noting.Undecided name) history entries = (batch : List Change) × (entr
 MayNote (noting.Unprepared name) history entries = IsEndOf name.now history entries
 
 -- The seat took the write turn with this log, which is running, and holds no other. So many entries more have their numbers within
--- the limit. The device has what the log's table says.
+-- the limit, and the log's version has them. The device has what the log's table says.
 pub record OpensLog {D : Type 0} (z : SharedState D) (old new : SeatState) (log : LogState) (needed : ℕ) : Type 0 where
   pub took : TookLog z old new log
   pub holds : HoldsWrite z new log
   pub running : log.table.closed ≡ false
   pub within : length log.table.history + needed ≤ z.limit
-  pub few : z.limit < log_end
+  pub few : z.limit ≤ last_number One
+  pub numbers : length log.table.history + needed ≤ last_number log.wal.format
   pub is_log : IsLog log
 
 -- what a record leaves, behind which these facts are noted while the write turn is held

@@ -15,8 +15,8 @@ use Rattle.wp_core.specs.Lists.{IsIn}
 use Rattle.wp_core.specs.Sound.Pasts.{is_log_fault}
 use Rattle.wp_core.specs.Views.{Event, Fact, has_left, locked, log_failed, stopped}
 use Rattle.wp_core.specs.World.{Participant}
-use Rattle.wp_parts.specs.Log.{LogState, IsLog}
-use Rattle.wp_parts.specs.Parts.{log_first}
+use Rattle.wp_shared.specs.Log.{LogState, IsLog}
+use Rattle.wp_shared.specs.Parts.{log_first}
 use Rattle.wp_records.specs.Writing.{FoundLog}
 use Rattle.wp_records.specs.Records.{numbers_behind, failing, FailsAppend, IsUncalled}
 use Rattle.wp_shared.specs.Calls.{ContinuesWith, Continues, remembering}

@@ -16,10 +16,10 @@ use crate::recording::record_commit;
 use crate::txn::PreparedTxn;
 use std::alloc::Global;
 use std::sync::Wait;
-use wp_commits::forget_prepared;
 use wp_judge::fits;
 use wp_model::Seq;
 use wp_outside::Disk;
+use wp_records::forget_prepared;
 use wp_shared::{Seat, Shared};
 
 /// Frees a transaction whose prepare is decided, and takes the number of that out of the prepared tables, where its pair fits a word.

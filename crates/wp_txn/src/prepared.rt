@@ -13,12 +13,11 @@ use crate::steps::{find_name, leave_name, take_name};
 use crate::txn::PreparedTxn;
 use std::alloc::{AllocError, Global};
 use std::sync::Wait;
-use wp_history::History;
+use wp_ledger::History;
 use wp_locks::{LockError, Locks, TakeRefused};
 use wp_model::{Batch, Name, Seq};
 use wp_outside::Disk;
-use wp_parts::Log;
-use wp_shared::{Seat, Shared};
+use wp_shared::{Log, Seat, Shared};
 
 /// Leaves a prepared transaction to whoever takes it: its name stays live, and its keys stay held. It takes no memory.
 pub fn leave<D: Disk + Drop, R: Wait>(

@@ -1,11 +1,12 @@
 //! A record of entries, from the taking of the write turn to its giving.
-ghost use Rattle.std.specs.Prelude.{◌≡◌, ◌≤◌, ℕ, true, false, List, [], ◌∷◌, length, IfOk, IfErr};
+ghost use Rattle.std.specs.Prelude.{◌≡◌, ◌+◌, ◌≤◌, ℕ, true, false, List, [], ◌∷◌, length, IfOk, IfErr};
 ghost use Rattle.wp_model.specs.Batch.{is_batch};
 ghost use Rattle.wp_model.specs.declared.entry.Entry.TheVariants.{Write, Prepare, Commit, Undo, Close};
+ghost use Rattle.wp_entry.specs.Record.{last_number};
 ghost use Rattle.wp_core.specs.Turns.{write_turn};
 ghost use Rattle.wp_core.specs.Views.{undecided_at, unprepared};
-ghost use Rattle.wp_commits.specs.Ways.{ways_of, AreApart};
-ghost use Rattle.wp_parts.specs.Log.{LogState, IsLog};
+ghost use Rattle.wp_records.specs.Ways.{ways_of, AreApart};
+ghost use Rattle.wp_shared.specs.Log.{LogState, IsLog};
 ghost use Rattle.wp_records.specs.Records.{MayPut};
 ghost use Rattle.wp_records.specs.Writing.{HoldsWrite};
 ghost use Rattle.wp_shared.specs.Seats.{IsFree, SeatState};
@@ -21,10 +22,9 @@ use std::alloc::Global;
 use std::sync::Wait;
 use wp_model::{Batch, Name, Seq};
 use wp_outside::Disk;
-use wp_parts::Log;
 use wp_read::laws::held_keys_keep_their_values;
 use wp_records::{Record, WriteError, put};
-use wp_shared::{Seat, Shared};
+use wp_shared::{Log, Seat, Shared};
 
 /// What is noted of a record once it is in the history.
 #[derive(Drop)]
@@ -99,6 +99,7 @@ fn put_noting<D: Disk + Drop, R: Wait>(
     requires running { log.old.table.closed ≡ false }
     requires may { MayPut seat.old.knows log.old.table.history entries }
     requires apart { (n : ℕ) → AreApart store.now.cells (ways_of store.now.cells n entries) }
+    requires within { length log.old.table.history + length entries ≤ last_number log.old.wal.format }
     requires noting { MayNote noting log.old.table.history entries }
     ensures { PutsNoting store.now seat.old log.old entries (notes_of noting.entry (length log.new.table.history)) result seat.new log.new }
 {

@@ -26,8 +26,7 @@ use std::marker::Brand;
 use wp_locks::Locks;
 use wp_model::{Batch, Holder, Key, Name, Seq};
 use wp_outside::Disk;
-use wp_parts::Log;
-use wp_shared::{Seat, Shared};
+use wp_shared::{Log, Seat, Shared};
 
 /// The seat claimed the name, which was not live. It still holds the tables as they were before.
 pub(crate) fn claim_name<D: Disk + Drop>(store: &Shared<D>, seat: &mut Seat<D>, name: &Name)

@@ -1,6 +1,6 @@
 use Rattle.std.proofs.Common.{◌≡◌, [], sym, subst, ap, ◌∙◌}
 use Rattle.wp_rule.specs.Knows.{KnowsTables}
-use Rattle.wp_parts.specs.Edits.{EditsState, IsEdits}
+use Rattle.wp_shared.specs.Edits.{EditsState, IsEdits}
 use Rattle.wp_shared.specs.Calls.{Continues}
 use Rattle.wp_shared.specs.Seats.{SeatState}
 use Rattle.wp_shared.proofs.Onward.{holds_alone}

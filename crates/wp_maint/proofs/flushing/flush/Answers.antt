@@ -3,7 +3,7 @@ use Rattle.wp_core.specs.Tables.{installed}
 use Rattle.wp_core.specs.Turns.{tables_turn}
 use Rattle.wp_core.specs.World.{Participant}
 use Rattle.wp_rule.specs.Knows.{KnowsTables}
-use Rattle.wp_parts.specs.Edits.{EditsState, IsEdits}
+use Rattle.wp_shared.specs.Edits.{EditsState, IsEdits}
 use Rattle.wp_shared.specs.Calls.{GoesOnAs, Continues, remembering}
 use Rattle.wp_shared.specs.Notes.{no_fact, is_under}
 use Rattle.wp_shared.specs.Seats.{SeatState}

@@ -6,7 +6,7 @@ use Rattle.wp_core.specs.Tables.{Installed}
 use Rattle.wp_core.specs.Views.{tables_failed}
 use Rattle.wp_core.specs.Views as event
 use Rattle.wp_rule.specs.Knows.{KnowsInstalled}
-use Rattle.wp_parts.specs.Installs.{HadCause, with_table, IsRefused, SurvivesInstall}
+use Rattle.wp_shared.specs.Installs.{HadCause, with_table, IsRefused, SurvivesInstall}
 use Rattle.wp_shared.specs.Notes.{no_fact}
 use Rattle.wp_tableset.specs.declared.error.TableSetError.TheVariants.{Fault}
 use Rattle.wp_maint.specs.Finding.{Changes}

@@ -5,7 +5,7 @@ use Rattle.wp_merge.specs.Merge.{joined, sorted_of}
 use Rattle.wp_core.specs.Sound.Store.{NoneFlushed}
 use Rattle.wp_core.specs.Tables.{StoreTable, installed}
 use Rattle.wp_rule.specs.Knows.{KnowsMoved}
-use Rattle.wp_parts.specs.Stock.{StockState, store_table}
+use Rattle.wp_shared.specs.Stock.{StockState, store_table}
 use Rattle.wp_shared.specs.Notes.{GoesOn}
 use Rattle.wp_maint.specs.Holding.{is_of_tables}
 use Rattle.wp_maint.proofs.Installed.{knows_moved, none_flushed, tables_named}

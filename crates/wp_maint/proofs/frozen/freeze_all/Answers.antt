@@ -1,7 +1,7 @@
 use Rattle.std.proofs.Common.{ℕ, List, [], ◌∷◌, sym, subst, ap, ◌∙◌}
 use Rattle.wp_core.specs.Tables.{writes, installed}
 use Rattle.wp_core.specs.Turns.{write_turn}
-use Rattle.wp_parts.specs.Stock.{store_table}
+use Rattle.wp_shared.specs.Stock.{store_table}
 use Rattle.wp_shared.specs.Notes.{is_under, seeing, GoesOn}
 use Rattle.wp_maint.proofs.Freezes.{holds_lent, none_shown, seen_shown, settled_two, holds_given, holds_left, goes_five, grown_five, whole_five, frozen_five}
 use Rattle.wp_maint.proofs.frozen.freeze_all.Goals as goal

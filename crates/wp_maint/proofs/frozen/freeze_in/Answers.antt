@@ -1,5 +1,5 @@
 use Rattle.std.proofs.Common.{subst}
-use Rattle.wp_parts.specs.Stock.{store_table}
+use Rattle.wp_shared.specs.Stock.{store_table}
 use Rattle.wp_maint.specs.Flush.{IsCopied}
 use Rattle.wp_maint.proofs.Freezes.{has_frozen, none_frozen}
 use Rattle.wp_maint.proofs.frozen.freeze_in.Goals as goal

@@ -4,7 +4,7 @@ use Rattle.wp_core.specs.Tables.{Installed}
 use Rattle.wp_core.specs.Views.{tables_failed}
 use Rattle.wp_core.specs.Views as event
 use Rattle.wp_rule.specs.Knows.{KnowsInstalled}
-use Rattle.wp_parts.specs.Installs.{HadCause, in_one_table, IsRefused}
+use Rattle.wp_shared.specs.Installs.{HadCause, in_one_table, IsRefused}
 use Rattle.wp_shared.specs.Notes.{no_fact}
 use Rattle.wp_maint.specs.Finding.{Changes}
 use Rattle.wp_maint.specs.Holding.{is_of_flushed}

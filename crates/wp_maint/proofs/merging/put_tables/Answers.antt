@@ -2,7 +2,7 @@ use Rattle.std.proofs.Common.{◌≤◌, ℕ, List, [], ◌∷◌, refl, subst, 
 use Rattle.wp_core.specs.Conditions.{KeepsStore}
 use Rattle.wp_core.specs.Tables.{StoreTable, installed}
 use Rattle.wp_core.specs.Views.{nothing_flushed}
-use Rattle.wp_parts.specs.Stock.{store_table}
+use Rattle.wp_shared.specs.Stock.{store_table}
 use Rattle.wp_shared.specs.Notes.{GoesOn}
 use Rattle.wp_shared.specs.Seats.{SeatState}
 use Rattle.wp_maint.specs.Holding.{is_of_tables}

@@ -1,4 +1,4 @@
-use Rattle.wp_parts.specs.Stock.{store_table}
+use Rattle.wp_shared.specs.Stock.{store_table}
 use Rattle.wp_maint.proofs.Made.{may_move, was_moved, noted_moved}
 use Rattle.wp_maint.proofs.steps.move_versions.Goals as goal
 

@@ -1,4 +1,4 @@
-use Rattle.wp_parts.specs.Stock.{store_table}
+use Rattle.wp_shared.specs.Stock.{store_table}
 use Rattle.wp_maint.proofs.Made.{may_replace, was_replaced, noted_replaced, gone_replaced}
 use Rattle.wp_maint.proofs.steps.replace_versions.Goals as goal
 

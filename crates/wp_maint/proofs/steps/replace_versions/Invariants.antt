@@ -1,4 +1,4 @@
-use Rattle.wp_parts.specs.Stock.{store_table}
+use Rattle.wp_shared.specs.Stock.{store_table}
 use Rattle.wp_shared.specs.Seats.{place_at}
 use Rattle.wp_maint.proofs.Made.{replacing}
 use Rattle.wp_maint.proofs.steps.replace_versions.Given as goal

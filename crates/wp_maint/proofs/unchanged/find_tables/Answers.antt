@@ -1,7 +1,7 @@
 use Rattle.std.proofs.Common.{ℕ, List, [], ◌∷◌, refl, subst, sym, ap}
 use Rattle.std.proofs.lemmas.Result.{IfOk-weaker}
 use Rattle.wp_core.specs.Tables.{store, installed}
-use Rattle.wp_parts.specs.Stock.{store_table}
+use Rattle.wp_shared.specs.Stock.{store_table}
 use Rattle.wp_shared.specs.Notes.{no_fact, seeing, GoesOn}
 use Rattle.wp_shared.specs.Seats.{SeatState}
 use Rattle.wp_shared.proofs.Goes.{none_under_store}

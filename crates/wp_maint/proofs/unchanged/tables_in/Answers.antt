@@ -1,7 +1,7 @@
 use Rattle.std.proofs.Common.{◌≡◌, inl, inr, ℕ, true, subst, ◌∙◌, arith}
 use Rattle.std.specs.List.{list_all}
 use Rattle.wp_table.specs.Table.{is_flushed}
-use Rattle.wp_parts.specs.Stock.{store_table}
+use Rattle.wp_shared.specs.Stock.{store_table}
 use Rattle.wp_maint.proofs.StillTabled.{saw_more, saw_grown, saw_holding, tables_here, may_merge}
 use Rattle.wp_maint.proofs.unchanged.tables_in.Goals as goal
 

@@ -1,6 +1,6 @@
 use Rattle.std.proofs.Common.{◌∙◌, ap, sym}
 use Rattle.wp_wal.specs.Wal.{WalState}
-use Rattle.wp_parts.specs.Log.{LogState}
+use Rattle.wp_shared.specs.Log.{LogState}
 use Rattle.wp_records.proofs.Puts.{not_put}
 use Rattle.wp_records.proofs.putting.give_up.Goals as goal
 

@@ -1,7 +1,7 @@
 use Rattle.std.proofs.Common.{◌≡◌, ◌≢◌, List, [], length, sym, subst, ap, ◌∙◌, rules, arith}
 use Rattle.wp_model.specs.declared.entry.Entry.{Entry}
 use Rattle.wp_core.specs.Views.{versions_in_memory}
-use Rattle.wp_parts.specs.Log.{LogState}
+use Rattle.wp_shared.specs.Log.{LogState}
 use Rattle.wp_shared.specs.Seats.{SeatState}
 use Rattle.wp_records.specs.Records.{IsPutWith}
 use Rattle.wp_records.proofs.Joined.{split, noted_join}

@@ -1,5 +1,5 @@
 use Rattle.std.proofs.Common.{ap}
-use Rattle.wp_parts.specs.Log.{LogState}
+use Rattle.wp_shared.specs.Log.{LogState}
 use Rattle.wp_records.proofs.Begun.{words_before, dropped_holds}
 use Rattle.wp_records.proofs.stages.drop_pending.Goals as goal
 

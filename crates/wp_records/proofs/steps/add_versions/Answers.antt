@@ -1,4 +1,4 @@
-use Rattle.wp_parts.specs.Stock.{store_table}
+use Rattle.wp_shared.specs.Stock.{store_table}
 use Rattle.wp_records.proofs.Made.{may_add, added}
 use Rattle.wp_records.proofs.steps.add_versions.Goals as goal
 

@@ -1,7 +1,7 @@
 use Rattle.std.proofs.Common.{sym, subst, ap, inl, refl}
 use Rattle.wp_core.specs.Lists.{IsIn}
 use Rattle.wp_core.specs.Tables.{writes}
-use Rattle.wp_parts.specs.Log.{LogState}
+use Rattle.wp_shared.specs.Log.{LogState}
 use Rattle.wp_shared.specs.Seats.{place_at}
 use Rattle.wp_records.proofs.Made.{may_publish, published}
 use Rattle.wp_records.proofs.steps.publish.Goals as goal

@@ -1,4 +1,4 @@
-use Rattle.wp_parts.specs.Stock.{store_table}
+use Rattle.wp_shared.specs.Stock.{store_table}
 use Rattle.wp_records.proofs.Made.{may_take, taken}
 use Rattle.wp_records.proofs.steps.take_versions.Goals as goal
 

@@ -1,6 +1,6 @@
 use Rattle.std.proofs.Common.{sym, subst, ap}
 use Rattle.wp_outside.specs.declared.disk.Disks.{Disks}
-use Rattle.wp_parts.specs.Devices.{devices_of}
+use Rattle.wp_shared.specs.Devices.{devices_of}
 use Rattle.wp_shared.specs.Seats.{SeatState}
 use Rattle.wp_threads.specs.Explained.{HaveRun}
 use Rattle.wp_run.proofs.Opened.{refused_fronts}
@@ -12,20 +12,20 @@ use Rattle.wp_run.proofs.serve.serve.Goals as goal
 pub run_script-run-requires-clause-first : goal.run_script-run-requires-clause-first
 run_script-run-requires-clause-first g c κs within = is_first c.in-Ok.store c.args.parts.now c.args.seating.client c.in-Ok.first c.in-Ok.ensures.seat c.requires.seating.0
 
-pub finish-requires : goal.finish-requires
-finish-requires g c = as_many c.args.parts.now c.run_script-run.ensures.run c.run_script-run.result.answers.items c.run_script-run.ensures.whole
+pub finish-requires-clause-parts : goal.finish-requires-clause-parts
+finish-requires-clause-parts g c = as_many c.args.parts.now c.run_script-run.ensures.run.run c.run_script-run.result.answers.items c.run_script-run.ensures.run.whole
 
 pub returns-in-Ok-clause-serves : goal.returns-in-Ok-clause-serves
 returns-in-Ok-clause-serves g c =
     let left = c.run_script-run.result in
-    let ran = subst (λ (ds : Disks g.row.D.Denot). HaveRun c.in-Ok.store c.args.parts.now left.answers.items left.history.entries (devices_of g.D.Peek.moments g.D.Peek.faults ds)) (sym c.finish.ensures.disks) c.run_script-run.ensures in
+    let ran = subst (λ (ds : Disks g.row.D.Denot). HaveRun c.in-Ok.store c.args.parts.now left.answers.items left.history.entries (devices_of g.D.Peek.moments g.D.Peek.faults ds)) (sym c.finish.ensures.disks) c.run_script-run.ensures.run in
     serves_run c.in-Ok.store _ left.answers.items left.history.entries c.in-Ok.ensures.store.0 c.in-Ok.ensures.store.1
     c.in-Ok.first.knows c.in-Ok.ensures.stands (ap (λ (seat : SeatState). seat.knows.participant.seen) c.in-Ok.ensures.seat) c.in-Ok.ensures.opened ran c.finish.result.status c.finish.ensures.ended
 
 pub returns-in-Ok-clause-durable : goal.returns-in-Ok-clause-durable
 returns-in-Ok-clause-durable g c =
     let left = c.run_script-run.result in
-    let ran = subst (λ (ds : Disks g.row.D.Denot). HaveRun c.in-Ok.store c.args.parts.now left.answers.items left.history.entries (devices_of g.D.Peek.moments g.D.Peek.faults ds)) (sym c.finish.ensures.disks) c.run_script-run.ensures in
+    let ran = subst (λ (ds : Disks g.row.D.Denot). HaveRun c.in-Ok.store c.args.parts.now left.answers.items left.history.entries (devices_of g.D.Peek.moments g.D.Peek.faults ds)) (sym c.finish.ensures.disks) c.run_script-run.ensures.run in
     is_durable c.args.choice.id _ c.in-Ok.ensures.opened ran.ended c.shows_reading.ensures
 
 pub returns-in-Err-clause-serves : goal.returns-in-Err-clause-serves

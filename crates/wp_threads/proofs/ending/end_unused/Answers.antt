@@ -14,8 +14,8 @@ finish-left-requires g c =
       all = subst AreAll (sym seats) (refl, refl, refl);
     }
 
-pub returns : goal.returns
-returns g c =
+pub returns-clause-run : goal.returns-clause-run
+returns-clause-run g c =
     let first = c.requires.first in
     let seats : c.push_reserved.new.self.items ≡ first_seat c.args.store first.0 ∷ [] = c.push_reserved.ensures.items ∙ (ap (λ (ss : List SeatState). ss ++ c.args.first ∷ []) c.requires.empty.0 ∙ ap (λ (s : SeatState). s ∷ []) first.1) in
-    record { run = unused_run c.args.store first.0 _ _ _ seats c.finish-left.ensures; answers = c.requires.empty.1 }
+    unused_run c.args.store first.0 _ _ _ seats c.finish-left.ensures.ended

@@ -9,8 +9,8 @@ pub end_unused-requires-clause-first : goal.end_unused-requires-clause-first
 end_unused-requires-clause-first g c =
     let none : length c.args.parts.now ≡ 0 = grind (arith, nat_tests, c.is_empty.ensures, c.if-is_empty.true) in nobodys c.args.store c.args.parts.now c.args.first c.requires.first none
 
-pub returns-then-is_empty : goal.returns-then-is_empty
-returns-then-is_empty g c =
+pub returns-then-is_empty-clause-run : goal.returns-then-is_empty-clause-run
+returns-then-is_empty-clause-run g c =
     let none : length c.args.parts.now ≡ 0 = grind (arith, nat_tests, c.is_empty.ensures, c.if-is_empty.true) in
     let run = run_of_none c.args.store c.args.parts.now c.end_unused.result.answers.items _ _ none c.end_unused.ensures.answers c.end_unused.ensures.run in search rules
 

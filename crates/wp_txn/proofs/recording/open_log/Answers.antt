@@ -1,6 +1,7 @@
 use Rattle.std.proofs.Common.{ℕ, ◌+◌, ◌≤◌, ◌<◌, [], length, sym, subst, ap, ◌∙◌}
-use Rattle.wp_model.specs.Legal.{log_end}
-use Rattle.wp_parts.specs.Log.{LogState, IsLog}
+use Rattle.wp_fields.specs.declared.format.Format.TheVariants.{One}
+use Rattle.wp_entry.specs.Record.{last_number}
+use Rattle.wp_shared.specs.Log.{LogState, IsLog}
 use Rattle.wp_shared.specs.Notes.{seat_of}
 use Rattle.wp_txn.specs.Actors.{with_stopped}
 use Rattle.wp_txn.proofs.UnderLog.{alone, alone_still, stopped_back, full_back, opened}
@@ -38,4 +39,4 @@ returns-clause-ok g c =
     let number = p.ensures.value ∙ ap (λ (x : LogState). length x.table.history) c.deref-2.ensures in
     let running = ap (λ (x : LogState). x.table.closed) (sym c.deref-3.ensures) ∙ sym c.is_closed.ensures ∙ c.if-is_closed.false in
     opened _ _ _ _ c.take_log-log.ensures c.requires.free c.args.needed p.result running number (subst (λ (n : ℕ). p.result + c.args.needed ≤ n) c.limit-limit.ensures.0 c.if-published-needed.false)
-    (subst (λ (n : ℕ). n < log_end) c.limit-limit.ensures.0 c.limit-limit.ensures.2) (subst IsLog c.deref.ensures c.shows_told.ensures.log)
+    (subst (λ (n : ℕ). n ≤ last_number One) c.limit-limit.ensures.0 c.limit-limit.ensures.2) (subst IsLog c.deref.ensures c.shows_told.ensures.log)

@@ -1,8 +1,9 @@
-use Rattle.std.proofs.Common.{◌≡◌, ℕ, length, subst, sym, ap, ◌∙◌, Err}
+use Rattle.std.proofs.Common.{◌≡◌, ◌+◌, ◌≤◌, ℕ, length, subst, sym, ap, ◌∙◌, Err}
 use Rattle.std.specs.Prelude.{Result}
 use Rattle.std.proofs.lemmas.Result.{err_from_is_err_and}
+use Rattle.wp_entry.specs.Record.{last_number}
 use Rattle.wp_txn.specs.declared.error.TxnError.{TxnError}
-use Rattle.wp_parts.specs.Log.{LogState}
+use Rattle.wp_shared.specs.Log.{LogState}
 use Rattle.wp_records.specs.Records.{MayPut}
 use Rattle.wp_records.specs.Writing.{HoldsWrite}
 use Rattle.wp_txn.specs.Recording.{OpensLog, MayNote, PutsNoting, Records, notes_of}
@@ -27,6 +28,11 @@ put_noting-outcome-requires-clause-running g c = ap (λ (x : LogState). x.table.
 pub put_noting-outcome-requires-clause-may : goal.put_noting-outcome-requires-clause-may
 put_noting-outcome-requires-clause-may g c = let t = c.open_log.new.seat in
     subst (λ (x : LogState). MayPut t.knows x.table.history c.args.entries) (sym c.deref_mut.ensures.value) (c.requires.may t c.in_ok-log.log.value (subst (OpensLog c.args.store.now c.args.seat.now t c.in_ok-log.log.value) c.len.ensures c.in_ok-log.ensures.ok)).0
+
+pub put_noting-outcome-requires-clause-within : goal.put_noting-outcome-requires-clause-within
+put_noting-outcome-requires-clause-within g c =
+    let o = subst (OpensLog c.args.store.now c.args.seat.now c.open_log.new.seat c.in_ok-log.log.value) c.len.ensures c.in_ok-log.ensures.ok in
+    subst (λ (x : LogState). length x.table.history + length c.args.entries ≤ last_number x.wal.format) (sym c.deref_mut.ensures.value) o.numbers
 
 pub put_noting-outcome-requires-clause-noting : goal.put_noting-outcome-requires-clause-noting
 put_noting-outcome-requires-clause-noting g c = let t = c.open_log.new.seat in

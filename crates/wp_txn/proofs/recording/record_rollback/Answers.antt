@@ -2,8 +2,8 @@ use Rattle.std.proofs.Common.{◌≤◌, ℕ, List, [], ◌∷◌, length, inr, 
 use Rattle.wp_model.specs.declared.entry.Entry.{Entry}
 use Rattle.wp_model.specs.declared.entry.Entry.TheVariants.{Undo, Close}
 use Rattle.wp_core.specs.Views.{unprepared}
-use Rattle.wp_commits.specs.Ways.{ways_of, AreApart}
-use Rattle.wp_parts.specs.Log.{LogState}
+use Rattle.wp_records.specs.Ways.{ways_of, AreApart}
+use Rattle.wp_shared.specs.Log.{LogState}
 use Rattle.wp_records.specs.Records.{MayPut}
 use Rattle.wp_shared.specs.Seats.{SeatState}
 use Rattle.wp_txn.specs.Recording.{OpensLog, IsEndOf, Records, HadPrior}

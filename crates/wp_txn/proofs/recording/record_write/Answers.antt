@@ -1,8 +1,8 @@
 use Rattle.std.proofs.Common.{◌≤◌, List, [], length, ℕ, subst, sym, arith}
 use Rattle.wp_model.specs.declared.entry.Entry.{Entry}
 use Rattle.wp_model.specs.declared.entry.Entry.TheVariants.{Write}
-use Rattle.wp_commits.specs.Ways.{ways_of, AreApart}
-use Rattle.wp_parts.specs.Log.{LogState}
+use Rattle.wp_records.specs.Ways.{ways_of, AreApart}
+use Rattle.wp_shared.specs.Log.{LogState}
 use Rattle.wp_records.specs.Records.{MayPut}
 use Rattle.wp_shared.specs.Seats.{SeatState}
 use Rattle.wp_txn.specs.Recording.{OpensLog, Records}

@@ -4,4 +4,4 @@ use Rattle.wp_parts.proofs.log.Log.drop_pending.Goals as goal
 pub invariant_of-self : goal.invariant_of-self
 invariant_of-self g c =
     let inside = c.self.inside in
-    dropped inside.wal inside.first.value inside.history.entries inside.pending.items inside.failed.value.items inside.logged inside.closed inside.history.room c.self.invariant c.replace.new.dest.items (rw c.replace.ensures.after c.new.ensures.items) (rw (← c.self.view_is) at c.requires)
+    dropped inside.wal inside.first.value inside.history.entries inside.pending.items inside.failed.value.items inside.logged inside.closed inside.history.room inside.history.base c.self.invariant c.replace.new.dest.items (rw c.replace.ensures.after c.new.ensures.items) (rw (← c.self.view_is) at c.requires)

@@ -12,7 +12,7 @@ use Rattle.wp_text.specs.declared.reply.Reply.{Reply}
 use Rattle.wp_text.specs.declared.reply.Reply.TheVariants as reply
 use Rattle.wp_core.specs.Sound.Views.{guarded_by}
 use Rattle.wp_core.specs.World.{Participant, World}
-use Rattle.wp_records.specs.Writing.{FoundLog}
+use Rattle.wp_txn.specs.Writing.{FoundLog}
 use Rattle.wp_shared.specs.Seats.{SharedState, SeatState, Stands}
 use Rattle.wp_txn.specs.declared.error.TxnError.TheVariants.{NumbersFull, LogFault, Stopped}
 use Rattle.wp_txn.specs.Calls.{GivesUp, without_transaction}
@@ -24,10 +24,10 @@ use Rattle.wp_replies.specs.declared.client.Txn.TheVariants.{Idle, Open, Prepare
 use Rattle.wp_replies.specs.Client.{Client}
 use Rattle.wp_replies.specs.Due.{Store, logged, client_after}
 use Rattle.wp_replies.specs.Plan.{next}
-use Rattle.wp_sole_client.specs.Alone.{IsOnly, IsStoreOf, AnswersAlone}
-use Rattle.wp_sole_client.proofs.Seated.{none_quiet, follows_on}
-use Rattle.wp_sole_client.proofs.Quiet.{quiet_answers}
-use Rattle.wp_sole_client.proofs.Logged.{AsksFor, put_answers, stopped_answers, full_answers, fault_answers}
+use Rattle.wp_answers.specs.Alone.{IsOnly, IsStoreOf, AnswersAlone}
+use Rattle.wp_answers.proofs.Alone.Seated.{none_quiet, follows_on}
+use Rattle.wp_answers.proofs.Alone.Quiet.{quiet_answers}
+use Rattle.wp_answers.proofs.Alone.Logged.{AsksFor, put_answers, stopped_answers, full_answers, fault_answers}
 
 -- the number of the last entry, where these were put behind a history
 last_number : (history store_history seen entries : List Entry) (n : ℕ) → n ≡ length seen → seen ≡ history ++ entries → history ≡ store_history → n ≡ length store_history + length entries

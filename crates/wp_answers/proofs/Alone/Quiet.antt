@@ -14,9 +14,9 @@ use Rattle.wp_replies.specs.Due.{Store, IsReply, edit_of, board_after, store_aft
 use Rattle.wp_replies.specs.Kind.{is_logged, is_fault, is_installed}
 use Rattle.wp_replies.specs.Kind as kind
 use Rattle.wp_replies.specs.Plan.{plan, asked_of}
-use Rattle.wp_sole_client.specs.Alone.{IsOnly, IsStoreOf, AnswersAlone}
-use Rattle.wp_sole_client.proofs.Published.{not_counted}
-use Rattle.wp_sole_client.proofs.Seated.{AreQuiet, Follows, same_store}
+use Rattle.wp_answers.specs.Alone.{IsOnly, IsStoreOf, AnswersAlone}
+use Rattle.wp_answers.proofs.Alone.Published.{not_counted}
+use Rattle.wp_answers.proofs.Alone.Seated.{AreQuiet, Follows, same_store}
 
 -- the reply says of no change of the store
 pub record LeavesStore (c : Command) (r : Reply) : Type 0 where

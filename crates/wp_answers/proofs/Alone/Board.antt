@@ -19,11 +19,11 @@ use Rattle.wp_txn.specs.Calls.{Tells, Hears}
 use Rattle.wp_replies.specs.Client.{Client}
 use Rattle.wp_replies.specs.Due.{Store, store_after}
 use Rattle.wp_replies.specs.Due as due
-use Rattle.wp_sole_client.specs.Alone.{IsOnly, IsStoreOf, AnswersAlone}
-use Rattle.wp_sole_client.proofs.Published.{in_both, not_counted}
-use Rattle.wp_sole_client.proofs.Worlds.{was_told}
-use Rattle.wp_sole_client.proofs.Seated.{none_quiet, one_quiet, follows_on, is_alone, begins_opened, few_now, log_still, edit_still, tables_now, seen_still}
-use Rattle.wp_sole_client.proofs.Quiet.{quiet_answers}
+use Rattle.wp_answers.specs.Alone.{IsOnly, IsStoreOf, AnswersAlone}
+use Rattle.wp_answers.proofs.Alone.Published.{in_both, not_counted}
+use Rattle.wp_answers.proofs.Alone.Worlds.{was_told}
+use Rattle.wp_answers.proofs.Alone.Seated.{none_quiet, one_quiet, follows_on, is_alone, begins_opened, few_now, log_still, edit_still, tables_now, seen_still}
+use Rattle.wp_answers.proofs.Alone.Quiet.{quiet_answers}
 
 -- the store once something was told
 store_told : (store : Store) (was : Client) (label : List ℕ) (n : ℕ) → store_after store was (command.Tell label) (reply.Told n) ≡ record store { board = finite.insert store.board label n }

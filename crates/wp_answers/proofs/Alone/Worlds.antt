@@ -27,7 +27,7 @@ use Rattle.wp_core.proofs.OneActor.{tells}
 use Rattle.wp_core.proofs.OneHolder.{holder_is}
 use Rattle.wp_core.proofs.Registered.{total_at}
 use Rattle.wp_core.proofs.Tests.{some_there, none_some}
-use Rattle.wp_sole_client.proofs.Published.{whole_seen}
+use Rattle.wp_answers.proofs.Alone.Published.{whole_seen}
 
 -- ---- in any reached world
 

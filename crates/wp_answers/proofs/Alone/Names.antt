@@ -21,10 +21,10 @@ use Rattle.wp_replies.specs.declared.client.Txn.TheVariants.{Idle, Open, Prepare
 use Rattle.wp_replies.specs.Client.{Client}
 use Rattle.wp_replies.specs.Due.{Store}
 use Rattle.wp_replies.specs.Plan.{begin_reply, take_reply}
-use Rattle.wp_sole_client.specs.Alone.{IsOnly, IsStoreOf, AnswersAlone}
-use Rattle.wp_sole_client.proofs.Worlds.{only_of, left_name, open_is_free}
-use Rattle.wp_sole_client.proofs.Seated.{one_quiet, none_quiet, follows_on, alone_with_locks, history_with_locks, alone_at, is_alone, history_still, seen_still}
-use Rattle.wp_sole_client.proofs.Quiet.{quiet_answers}
+use Rattle.wp_answers.specs.Alone.{IsOnly, IsStoreOf, AnswersAlone}
+use Rattle.wp_answers.proofs.Alone.Worlds.{only_of, left_name, open_is_free}
+use Rattle.wp_answers.proofs.Alone.Seated.{one_quiet, none_quiet, follows_on, alone_with_locks, history_with_locks, alone_at, is_alone, history_still, seen_still}
+use Rattle.wp_answers.proofs.Alone.Quiet.{quiet_answers}
 
 module _ {D : Type 0} (z : SharedState D) (first : InstalledEdit) (old new : SeatState) (only : IsOnly old) (store : Store) (is : IsStoreOf z first old.knows.participant store) (stood : (w : World) × Stands z new w) (snapshots : List LabelledSnapshot) where
   abbrev idle : Client

@@ -16,15 +16,15 @@ use Rattle.wp_core.specs.Views.{Event, Fact, told}
 use Rattle.wp_core.proofs.KeepsSeen.{shorter}
 use Rattle.wp_core.proofs.PastsGrow.{in_front}
 use Rattle.wp_rule.specs.Words.{IsAt}
-use Rattle.wp_records.specs.Records.{numbers_behind}
+use Rattle.wp_txn.specs.Records.{numbers_behind}
 use Rattle.wp_shared.specs.Calls.{ContinuesWith}
 use Rattle.wp_shared.specs.Seats.{SharedState, SeatState, Stands, place_at}
 use Rattle.wp_shared.proofs.Onward.{starts_on}
 use Rattle.wp_txn.specs.Calls.{StoodWithLocks}
 use Rattle.wp_replies.specs.Due.{Store}
-use Rattle.wp_sole_client.specs.Alone.{log_faults, tables_faults, IsOnly, IsStoreOf}
-use Rattle.wp_sole_client.proofs.Published.{total_both, in_both, is_own, whole_seen}
-use Rattle.wp_sole_client.proofs.Worlds.{has_seen, only_of, seen_whole}
+use Rattle.wp_answers.specs.Alone.{log_faults, tables_faults, IsOnly, IsStoreOf}
+use Rattle.wp_answers.proofs.Alone.Published.{total_both, in_both, is_own, whole_seen}
+use Rattle.wp_answers.proofs.Alone.Worlds.{has_seen, only_of, seen_whole}
 
 -- ---- events
 

@@ -17,7 +17,7 @@ use Rattle.wp_core.proofs.EachStep.{reached_is_sound}
 use Rattle.wp_core.proofs.KeepsSeen.{shorter}
 use Rattle.wp_core.proofs.Registered.{registered_live}
 use Rattle.wp_rule.specs.Shows.{WasLast}
-use Rattle.wp_parts.specs.Parts.{content}
+use Rattle.wp_shared.specs.Parts.{content}
 use Rattle.wp_shared.specs.Seats.{SharedState, SeatState, Stands}
 use Rattle.wp_maint.specs.declared.done.Done.{Done}
 use Rattle.wp_maint.specs.declared.error.MaintError.TheVariants.{Nothing, TableFault, TablesStopped}
@@ -28,11 +28,11 @@ use Rattle.wp_replies.specs.Client.{Client, numbers_of}
 use Rattle.wp_replies.specs.Due.{Store, compacted}
 use Rattle.wp_replies.specs.Kind.{is_installed}
 use Rattle.wp_replies.specs.Tables.{retained, after_compaction}
-use Rattle.wp_sole_client.specs.Alone.{IsOnly, IsStoreOf, AnswersAlone}
-use Rattle.wp_sole_client.proofs.Worlds.{only_of}
-use Rattle.wp_sole_client.proofs.Seated.{follows_on, alone_at, seen_still}
-use Rattle.wp_sole_client.proofs.TablesFound.{AsksTablesFor, last_is, halted_answers, nothing_answers, installs_answers, failed_answers}
-use Rattle.wp_sole_client.proofs.Retained.{AreSame, retained_same, compaction_same, contained, containing, numbers_in, number_in, of_number, times_in, numbers_same}
+use Rattle.wp_answers.specs.Alone.{IsOnly, IsStoreOf, AnswersAlone}
+use Rattle.wp_answers.proofs.Alone.Worlds.{only_of}
+use Rattle.wp_answers.proofs.Alone.Seated.{follows_on, alone_at, seen_still}
+use Rattle.wp_answers.proofs.Alone.TablesFound.{AsksTablesFor, last_is, halted_answers, nothing_answers, installs_answers, failed_answers}
+use Rattle.wp_answers.proofs.Alone.Retained.{AreSame, retained_same, compaction_same, contained, containing, numbers_in, number_in, of_number, times_in, numbers_same}
 
 module _ {D : Type 0} (z : SharedState D) (first : InstalledEdit) (old new : SeatState) (only : IsOnly old) (store : Store) (is : IsStoreOf z first old.knows.participant store) (stood : (w : World) × Stands z new w) (was_last : WasLast content z.first first) (txn : Txn) (snapshots : List LabelledSnapshot)
     (registered : List Registration) (numbered : numbers_in registered ≡ numbers_of snapshots) (just_these : (r : Registration) → times_in r old.knows.participant.registered ≡ times_in r registered) where

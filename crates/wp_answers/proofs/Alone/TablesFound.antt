@@ -16,7 +16,7 @@ use Rattle.wp_core.specs.Views as event
 use Rattle.wp_core.specs.World.{World}
 use Rattle.wp_rule.specs.Shows.{WasLast}
 use Rattle.wp_rule.proofs.Knows.{held_is, one_was_first}
-use Rattle.wp_parts.specs.Parts.{content}
+use Rattle.wp_shared.specs.Parts.{content}
 use Rattle.wp_shared.specs.Calls.{Continues, remembering}
 use Rattle.wp_shared.specs.Seats.{SharedState, SeatState, Stands, place_at}
 use Rattle.wp_maint.specs.Calls.{Finds, found_by}
@@ -25,11 +25,11 @@ use Rattle.wp_replies.specs.Due.{Store, due, unless_halted, edit_of, board_after
 use Rattle.wp_replies.specs.Kind.{is_logged, is_fault, is_installed}
 use Rattle.wp_replies.specs.Kind as kind
 use Rattle.wp_replies.specs.Plan.{plan, asked_of}
-use Rattle.wp_sole_client.specs.Alone.{IsOnly, IsStoreOf, AnswersAlone}
-use Rattle.wp_sole_client.proofs.Published.{none_if, if_one, not_counted}
-use Rattle.wp_sole_client.proofs.Worlds.{only_of}
-use Rattle.wp_sole_client.proofs.Seated.{last_over, AreQuiet, one_quiet, Follows, follows_on, alone_at, begins_opened, few_now, log_still, edit_still, tables_now, board_still, seen_still}
-use Rattle.wp_sole_client.proofs.Quiet.{quiet_answers}
+use Rattle.wp_answers.specs.Alone.{IsOnly, IsStoreOf, AnswersAlone}
+use Rattle.wp_answers.proofs.Alone.Published.{none_if, if_one, not_counted}
+use Rattle.wp_answers.proofs.Alone.Worlds.{only_of}
+use Rattle.wp_answers.proofs.Alone.Seated.{last_over, AreQuiet, one_quiet, Follows, follows_on, alone_at, begins_opened, few_now, log_still, edit_still, tables_now, board_still, seen_still}
+use Rattle.wp_answers.proofs.Alone.Quiet.{quiet_answers}
 use Rattle.wp_replies.specs.Due.{client_after}
 
 -- where the tables are not halted, the command is answered so, and has the tables take this edit

@@ -18,9 +18,9 @@ use Rattle.wp_replies.specs.declared.client.Txn.{Txn}
 use Rattle.wp_replies.specs.Client.{Client, number_of, own_batch}
 use Rattle.wp_replies.specs.Due.{Store, due, board_after, client_after}
 use Rattle.wp_replies.specs.Plan.{read_reply, get_reply, get_at_reply}
-use Rattle.wp_sole_client.specs.Alone.{IsOnly, IsStoreOf, AnswersAlone}
-use Rattle.wp_sole_client.proofs.Seated.{none_quiet, follows_on, seen_still}
-use Rattle.wp_sole_client.proofs.Quiet.{LeavesStore, at_once, quiet_answers}
+use Rattle.wp_answers.specs.Alone.{IsOnly, IsStoreOf, AnswersAlone}
+use Rattle.wp_answers.proofs.Alone.Seated.{none_quiet, follows_on, seen_still}
+use Rattle.wp_answers.proofs.Alone.Quiet.{LeavesStore, at_once, quiet_answers}
 
 -- what is read says of no change of the store, nor of the client
 read_leaves : (key : List ℕ) (value : Option (List ℕ)) (n : ℕ) → LeavesStore (command.Get key) (read_reply value n)

@@ -1,15 +1,15 @@
-//! What is proved of a store that one seat alone uses. What each call then answers is told by the lemmas of this crate, in the clauses of
-//! the calls of the crate above.
+//! What is proved of a store that one seat alone uses. What each call then answers is told by the lemmas of `proofs/Alone`, in the
+//! clauses of the calls.
 ghost use Rattle.std.specs.Prelude.{◌≡◌, List, ℕ};
 ghost use Rattle.wp_core.specs.World.{World, new_participant};
-ghost use Rattle.wp_parts.specs.Parts.{content};
+ghost use Rattle.wp_shared.specs.Parts.{content};
 ghost use Rattle.wp_model.specs.Flushed.{InstalledEdit};
 ghost use Rattle.wp_rule.specs.Shows.{WasLast};
 ghost use Rattle.wp_replies.specs.Current.{opened_store};
 ghost use Rattle.wp_replies.specs.Due.{Store};
 ghost use Rattle.wp_replies.specs.Known.{StoredState};
 ghost use Rattle.wp_shared.specs.Seats.{SharedState, SeatState, Stands};
-ghost use Rattle.wp_sole_client.specs.Alone.{IsOnly, IsStoreOf, IsAsStored};
+ghost use Rattle.wp_answers.specs.Alone.{IsOnly, IsStoreOf, IsAsStored};
 
 /// As it was opened, the store is what a seat tells of it at which nothing was done.
 pub fn an_opened_store_is_told<D>()

@@ -1,3 +1,5 @@
+-- A seat that is the only one: what each call then answers is told by the seat's own doings. A file for each outcome of each call.
+
 pub mod Published
 pub mod Worlds
 pub mod Seated

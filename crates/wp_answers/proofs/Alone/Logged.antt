@@ -15,8 +15,8 @@ use Rattle.wp_core.specs.World.{Participant, World}
 use Rattle.wp_core.specs.Sound.Pasts.{closes_log, is_tables_fault}
 use Rattle.wp_core.specs.Views.{Event, Fact, log_failed, tables_failed, stopped}
 use Rattle.wp_core.proofs.EachStep.{reached_is_sound}
-use Rattle.wp_records.specs.Writing.{FoundLog}
-use Rattle.wp_records.specs.Records.{numbers_behind}
+use Rattle.wp_txn.specs.Writing.{FoundLog}
+use Rattle.wp_txn.specs.Records.{numbers_behind}
 use Rattle.wp_shared.specs.Seats.{SharedState, SeatState, Stands}
 use Rattle.wp_txn.specs.declared.error.TxnError.TheVariants.{NumbersFull, LogFault, Stopped}
 use Rattle.wp_txn.specs.Writes.{HasPut, Refuses}
@@ -25,11 +25,11 @@ use Rattle.wp_replies.specs.Due.{Store, logged, due, edit_of, board_after, store
 use Rattle.wp_replies.specs.Kind.{is_logged, is_fault, is_installed}
 use Rattle.wp_replies.specs.Kind as kind
 use Rattle.wp_replies.specs.Plan.{plan, asked_of}
-use Rattle.wp_sole_client.specs.Alone.{log_faults, IsOnly, IsStoreOf, AnswersAlone}
-use Rattle.wp_sole_client.proofs.Published.{total_both, none_if, if_one, in_both, in_behind, not_counted}
-use Rattle.wp_sole_client.proofs.Worlds.{has_seen, no_log_fault, only_of, was_stopped}
-use Rattle.wp_sole_client.proofs.Seated.{LeaveTables, AreQuiet, one_quiet, one_leaves, both_leave, both_quiet, Follows, follows, follows_on, is_alone, begins_opened, log_now, log_still, past_still, seen_still, few_now, few_put, put_behind}
-use Rattle.wp_sole_client.proofs.Quiet.{LeavesStore, quiet_answers}
+use Rattle.wp_answers.specs.Alone.{log_faults, IsOnly, IsStoreOf, AnswersAlone}
+use Rattle.wp_answers.proofs.Alone.Published.{total_both, none_if, if_one, in_both, in_behind, not_counted}
+use Rattle.wp_answers.proofs.Alone.Worlds.{has_seen, no_log_fault, only_of, was_stopped}
+use Rattle.wp_answers.proofs.Alone.Seated.{LeaveTables, AreQuiet, one_quiet, one_leaves, both_leave, both_quiet, Follows, follows, follows_on, is_alone, begins_opened, log_now, log_still, past_still, seen_still, few_now, few_put, put_behind}
+use Rattle.wp_answers.proofs.Alone.Quiet.{LeavesStore, quiet_answers}
 
 -- ---- what is due
 

@@ -23,11 +23,11 @@ use Rattle.wp_replies.specs.declared.client.LabelledSnapshot.{LabelledSnapshot}
 use Rattle.wp_replies.specs.declared.client.Txn.TheVariants.{Open}
 use Rattle.wp_replies.specs.Client as session
 use Rattle.wp_replies.specs.Due.{Store, reply_to}
-use Rattle.wp_sole_client.specs.Alone.{IsOnly, IsStoreOf, AnswersAlone}
-use Rattle.wp_sole_client.proofs.Worlds.{held_by_prepare, open_is_free}
-use Rattle.wp_sole_client.proofs.Seated.{AreQuiet, none_quiet, one_quiet, Follows, follows_on, alone_with_locks, history_with_locks, is_alone, history_still}
-use Rattle.wp_sole_client.proofs.Quiet.{quiet_answers}
-use Rattle.wp_sole_client.proofs.Changing.{asking, board_same, holds_change, is_busy_open, has_too_many, has_change, full_has_none, not_full_has_room, changed_now}
+use Rattle.wp_answers.specs.Alone.{IsOnly, IsStoreOf, AnswersAlone}
+use Rattle.wp_answers.proofs.Alone.Worlds.{held_by_prepare, open_is_free}
+use Rattle.wp_answers.proofs.Alone.Seated.{AreQuiet, none_quiet, one_quiet, Follows, follows_on, alone_with_locks, history_with_locks, is_alone, history_still}
+use Rattle.wp_answers.proofs.Alone.Quiet.{quiet_answers}
+use Rattle.wp_answers.proofs.Alone.Changing.{asking, board_same, holds_change, is_busy_open, has_too_many, has_change, full_has_none, not_full_has_room, changed_now}
 
 -- what is remembered of a change, by whether the key has one already
 abbrev locks : Bool → List ℕ → List ℕ → List Event

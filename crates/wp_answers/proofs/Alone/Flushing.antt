@@ -10,7 +10,7 @@ use Rattle.wp_text.specs.declared.reply.Reply.{Reply}
 use Rattle.wp_text.specs.declared.reply.Reply.TheVariants as reply
 use Rattle.wp_core.specs.World.{World}
 use Rattle.wp_rule.specs.Shows.{WasLast}
-use Rattle.wp_parts.specs.Parts.{content}
+use Rattle.wp_shared.specs.Parts.{content}
 use Rattle.wp_shared.specs.Seats.{SharedState, SeatState, Stands}
 use Rattle.wp_maint.specs.declared.done.Done.{Done}
 use Rattle.wp_maint.specs.declared.error.MaintError.TheVariants.{Nothing, TableFault, TablesStopped}
@@ -19,9 +19,9 @@ use Rattle.wp_replies.specs.Client.{Client}
 use Rattle.wp_replies.specs.Due.{Store, flushed}
 use Rattle.wp_replies.specs.Kind.{is_installed}
 use Rattle.wp_replies.specs.Tables.{unflushed, after_flush}
-use Rattle.wp_sole_client.specs.Alone.{IsOnly, IsStoreOf, AnswersAlone}
-use Rattle.wp_sole_client.proofs.Seated.{follows_on, seen_still}
-use Rattle.wp_sole_client.proofs.TablesFound.{AsksTablesFor, last_is, halted_answers, nothing_answers, installs_answers, failed_answers}
+use Rattle.wp_answers.specs.Alone.{IsOnly, IsStoreOf, AnswersAlone}
+use Rattle.wp_answers.proofs.Alone.Seated.{follows_on, seen_still}
+use Rattle.wp_answers.proofs.Alone.TablesFound.{AsksTablesFor, last_is, halted_answers, nothing_answers, installs_answers, failed_answers}
 
 -- some versions are flushed
 flushes : (n : ℕ) (versions : List Version) → 1 ≤ length versions → flushed n versions ≡ reply.Flushed n (length versions)

@@ -18,9 +18,9 @@ use Rattle.wp_replies.specs.Client.{Client, number_of, without_label}
 use Rattle.wp_replies.specs.Due.{Store}
 use Rattle.wp_replies.specs.Plan.{free_reply}
 use Rattle.wp_replies.specs.Replies.{refuses_label}
-use Rattle.wp_sole_client.specs.Alone.{IsOnly, IsStoreOf, AnswersAlone}
-use Rattle.wp_sole_client.proofs.Seated.{none_quiet, follows_on, seen_still}
-use Rattle.wp_sole_client.proofs.Quiet.{at_once, quiet_answers}
+use Rattle.wp_answers.specs.Alone.{IsOnly, IsStoreOf, AnswersAlone}
+use Rattle.wp_answers.proofs.Alone.Seated.{none_quiet, follows_on, seen_still}
+use Rattle.wp_answers.proofs.Alone.Quiet.{at_once, quiet_answers}
 
 -- why no snapshot is taken: the label is taken, or there are too many
 refused_is : (snapshots : List LabelledSnapshot) (label : List ℕ) (r : Reply) → refuses_label snapshots label ≡ Some r → (r ≡ reply.Taken label) ⊎ (r ≡ reply.TooMany)

@@ -7,15 +7,15 @@ use Rattle.wp_core.specs.Sound.Pasts.{last_installed}
 use Rattle.wp_core.specs.World.{World, new_participant}
 use Rattle.wp_rule.specs.Shows.{WasLast}
 use Rattle.wp_rule.proofs.Knows.{one_was_first}
-use Rattle.wp_parts.specs.Parts.{content}
+use Rattle.wp_shared.specs.Parts.{content}
 use Rattle.wp_shared.specs.Seats.{SharedState, SeatState, Stands}
 use Rattle.wp_replies.specs.Current.{opened_store}
 use Rattle.wp_replies.specs.Due.{Store}
 use Rattle.wp_replies.specs.Known.{StoredState}
-use Rattle.wp_sole_client.specs.Alone.{IsOnly, IsStoreOf, IsAsStored}
-use Rattle.wp_sole_client.proofs.Published.{same_if}
-use Rattle.wp_sole_client.proofs.Worlds.{only_of}
-use Rattle.wp_sole_client.proofs.Seated.{alone_then, history_then}
+use Rattle.wp_answers.specs.Alone.{IsOnly, IsStoreOf, IsAsStored}
+use Rattle.wp_answers.proofs.Alone.Published.{same_if}
+use Rattle.wp_answers.proofs.Alone.Worlds.{only_of}
+use Rattle.wp_answers.proofs.Alone.Seated.{alone_then, history_then}
 
 pub opened_is_told : {D : Type 0} (z : SharedState D) (found : StoredState) (client : List ℕ) → found.history ≡ z.opened → IsStoreOf z found.edit (new_participant client z.opened) (opened_store z.limit found)
 opened_is_told z found client same = record {

@@ -1,5 +1,0 @@
-use Rattle.wp_sole_client.proofs.Stores.{opened_is_told}
-use Rattle.wp_sole_client.proofs.laws.an_opened_store_is_told.Goals as goal
-
-pub returns : goal.returns
-returns g c z found client same = opened_is_told z found client same

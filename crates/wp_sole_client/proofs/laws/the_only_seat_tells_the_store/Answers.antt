@@ -1,5 +1,0 @@
-use Rattle.wp_sole_client.proofs.Stores.{tells_the_store}
-use Rattle.wp_sole_client.proofs.laws.the_only_seat_tells_the_store.Goals as goal
-
-pub returns : goal.returns
-returns g c z first s store only is was_last w at = tells_the_store z first s store only is was_last w at
