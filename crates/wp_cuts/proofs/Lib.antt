@@ -19,3 +19,4 @@ pub mod Several
 pub mod Whole
 pub mod Members
 pub mod Staying
+pub mod Own

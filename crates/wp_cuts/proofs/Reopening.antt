@@ -28,7 +28,7 @@ use Rattle.wp_cuts.proofs.Settled.{is_carried_is, settled_committed, committed_s
 
 -- ---- what is committed
 
-committed_by : (history : List Entry) (p n : ℕ) → is_committed history p n ≡ true → IsCommittedAt history p n
+pub committed_by : (history : List Entry) (p n : ℕ) → is_committed history p n ≡ true → IsCommittedAt history p n
 committed_by history p n h = by (decision_of history p) refl h
   where
     by : (o : Option ℕ) → decision_of history p ≡ o → is_by o n ≡ true → IsCommittedAt history p n

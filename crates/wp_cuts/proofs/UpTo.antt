@@ -118,7 +118,7 @@ entry_with_later : (versions later : List Version) (n p : ℕ) (o : Option Carri
 entry_with_later versions later n p None above le = ap Write (changes_with_later n p versions later above le)
 entry_with_later versions later n p (Some x) above le = refl
 
-map_within : (f g : ℕ → Entry) (a n : ℕ) → ((p : ℕ) → p < a + n → f p ≡ g p) → map f (range_with_len a n) ≡ map g (range_with_len a n)
+pub map_within : (f g : ℕ → Entry) (a n : ℕ) → ((p : ℕ) → p < a + n → f p ≡ g p) → map f (range_with_len a n) ≡ map g (range_with_len a n)
 map_within f g a zero same = refl
 map_within f g a (suc n) same =
     let rest : map f (range_with_len (a + 1) n) ≡ map g (range_with_len (a + 1) n) = map_within f g (a + 1) n (λ p lt. same p (omega (arith, lt))) in

@@ -7,3 +7,4 @@ mod Lookups
 mod Undone
 pub mod Covers
 pub mod Choosing
+pub mod Tests

@@ -96,7 +96,7 @@ module _ (c : Cut) (versions : List Version) (order : AreInOrder versions) (belo
           subst (λ (h : List Entry). RestoresPrior h entry) (front ∙ ap (λ (es : List Entry). full_of (record c { entries = es }) versions) (sym same))
           (restore (c.base + n) entry (omega arith) (omega (arith, lt, from)) (at_behind n entry it.there))
 
-entry_within : (entries : List Entry) (p : ℕ) (entry : Entry) → entry_at entries p ≡ Some entry → p ≤ length entries
+pub entry_within : (entries : List Entry) (p : ℕ) (entry : Entry) → entry_at entries p ≡ Some entry → p ≤ length entries
 entry_within entries zero entry at = absurd cc
 entry_within entries (suc n) entry at = let lt = slice_get_within entries n entry at in omega (arith, lt)
 

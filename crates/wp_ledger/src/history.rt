@@ -8,7 +8,7 @@ ghost use Rattle.wp_history.specs.Prepares.{prepare_of};
 ghost use Rattle.wp_cuts.specs.Cut.{base_value, carried_of, is_start};
 ghost use Rattle.wp_cuts.specs.LegalCut.{AreBelow};
 ghost use Rattle.wp_ledger.specs.History.{HasBaseValues, IsStore, entry_behind};
-ghost use Rattle.wp_ledger.specs.Outline.{cut_in, full_with, IsIllegalFrom};
+ghost use Rattle.wp_ledger.specs.Outline.{cut_in, full_with, IsFirstWrong, IsIllegalFrom};
 
 use crate::outline::Outline;
 use std::alloc::{AllocError, Global};
@@ -67,6 +67,7 @@ impl History {
         requires store { IsStore (base_value (cut_in outline) versions.value) store }
         ensures whole { IfOk result (λ history. history ≡ record outline { entries = full_with outline versions.value }) }
         ensures illegal { IfErr result (IsIllegalFrom (full_with outline versions.value)) }
+        ensures wrong { IfErr result (IsFirstWrong (record outline { entries = full_with outline versions.value })) }
     {
         let outline = outline.with_versions(versions);
         match outline.first_wrong(&store) {

@@ -39,7 +39,7 @@ impl Outline {
     }
 
     /// Whether the entry, if it is an undo, holds what the keys of its prepare have behind the first `n` entries, which it may follow.
-    /// The map has what the store has at the base.
+    /// The map has what the entries up to the base leave: nothing, as long as the versions of the tables are not known.
     pub fn restores_prior(&self, store: &BTreeMap<Key, Value>, entry: &Entry, n: Seq) -> bool
         requires store { HasBaseValues self.now store.now }
         requires from { self.now.base ≤ n }
@@ -54,7 +54,7 @@ impl Outline {
     }
 
     /// The number of the first undo behind the base that does not hold what the keys of its prepare had before it.
-    pub(crate) fn first_wrong(&self, store: &BTreeMap<Key, Value>) -> Option<Seq>
+    pub fn first_wrong(&self, store: &BTreeMap<Key, Value>) -> Option<Seq>
         requires { HasBaseValues self.now store.now }
         ensures none { IfNone result (RestoreUpTo self.now (length self.now.entries)) }
         ensures some { IfSome result (IsFirstWrong self.now) }

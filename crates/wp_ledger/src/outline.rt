@@ -195,7 +195,7 @@ impl Outline {
     }
 
     /// The same outline with the versions that its full list has below the base.
-    pub(crate) fn with_versions(self, versions: Snapshot<Versions>) -> Outline
+    pub fn with_versions(self, versions: Snapshot<Versions>) -> Outline
         ensures whole { result ≡ record self { entries = full_with self versions.value } }
         ensures cut { IsOrderlyCut (cut_in self) }
     {

@@ -22,7 +22,7 @@ impl Outline {
     }
 
     /// What the first `n` entries leave under the key, from the base on, where the map has what those up to the base leave.
-    pub fn value_at<'a>(
+    pub(crate) fn value_at<'a>(
         &'a self,
         store: &'a BTreeMap<Key, Value>,
         key: &Key,

@@ -1,4 +1,4 @@
-use Rattle.std.proofs.Common.{◌≡◌, ◌<◌, ◌≤◌, ◌++◌, ◌∷◌, [], false, get_or, List, length, length-append, refl, ap, ◌∙◌, arith}
+use Rattle.std.proofs.Common.{◌≡◌, ◌<◌, ◌≤◌, ◌∷◌, [], false, get_or, List, length, length-append, refl, ap, ◌∙◌, arith}
 use Rattle.wp_model.specs.declared.version.Version.{Version}
 use Rattle.wp_keep.specs.Chosen.{chosen}
 use Rattle.wp_keep.specs.Keep.{by_commits}

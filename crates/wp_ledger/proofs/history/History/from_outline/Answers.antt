@@ -1,3 +1,6 @@
+use Rattle.std.proofs.Common.{subst}
+use Rattle.wp_ledger.specs.History.{RoomyHistory}
+use Rattle.wp_ledger.specs.Outline.{IsFirstWrong}
 use Rattle.wp_ledger.proofs.Judged.{has_base_values, is_kept, is_illegal}
 use Rattle.wp_ledger.proofs.history.History.from_outline.Goals as goal
 
@@ -16,3 +19,6 @@ pub returns-in-Some-clause-illegal : goal.returns-in-Some-clause-illegal
 returns-in-Some-clause-illegal c =
     let made = c.with_versions-outline.ensures in
     is_illegal _ _ c.args.versions.value c.args.store made.whole made.cut c.requires.order c.requires.below _ c.in-Some.ensures.some
+
+pub returns-in-Some-clause-wrong : goal.returns-in-Some-clause-wrong
+returns-in-Some-clause-wrong c = subst (λ (h : RoomyHistory). IsFirstWrong h c.in-Some.number) c.with_versions-outline.ensures.whole c.in-Some.ensures.some
