@@ -248,7 +248,7 @@ module _ (place : ℕ) (magic : List ℕ) (asked : Stamp) where
   opens_why why [] new opens = tt
   opens_why why (m ∷ past) new opens = opens.answered
 
-before_place : (place : ℕ) (m : Moment) (past : List Moment) → front_at place (m ∷ past) ≡ take place m.reads
+pub before_place : (place : ℕ) (m : Moment) (past : List Moment) → front_at place (m ∷ past) ≡ take place m.reads
 before_place zero m past = refl
 before_place (suc place) m past = refl
 

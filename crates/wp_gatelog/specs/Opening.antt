@@ -84,6 +84,7 @@ pub record IsOpened (place : ℕ) (magic : List ℕ) (asked : Stamp) (old : List
   pub counted : log.count ≡ length records
   pub running : log.closed ≡ false
   pub readable : IsUpTo asked.format log.format
+  pub unknown : old ≡ [] → log.moments ≡ []  -- a disk that does not tell its moments goes on so
 
 -- No log at that place was opened on a disk with these moments and so many faults: its bytes are as the refusal says, and they are left
 -- as they were; or the disk failed, or memory ran out.

@@ -1,4 +1,5 @@
 pub mod EditLemmas
+pub mod HeadLemmas
 pub mod OpeningLemmas
 pub mod InstallLemmas
 pub mod LawLemmas

@@ -5,6 +5,7 @@ use Rattle.wp_outside.specs.Faults.{Rose}
 use Rattle.wp_gatelog.specs.Durability.{HasAcknowledged, LosesNoRecord}
 use Rattle.wp_gatelog.specs.Log.{LogState, IsAtRest}
 use Rattle.wp_gatelog.specs.Moments.{Leaves}
+use Rattle.wp_gatelog.specs.Spelling.{IsUnmade}
 use Rattle.wp_manifest.specs.Edit.{Edit, no_edit}
 use Rattle.wp_manifest.specs.Spelling.{MAGIC, VERSION, head_stamp, AreEdits, last_edit, IsManifestOf, IsManifestOrNext}
 use Rattle.wp_manifest.specs.declared.error.InstallError.{InstallError}
@@ -29,13 +30,13 @@ pub record StoresEdits (manifest : ManifestState) (edits : List Edit) (next : Ed
   pub rests : manifest.log.closed ≡ false → IfKnown manifest.log.moments (IsAtRest MAGIC (head_stamp manifest.log.id) manifest.log.end [] [] records)
   pub left : manifest.log.closed ≡ true → IfKnown manifest.log.moments (LeavesEditsOrNext manifest.log.id records edits next)
 
--- The manifest was opened on a disk with these moments, for a log with this id: it stores what the disk spelled as it was
--- handed in, and a crash from now on leaves that.
-pub record Opened (id : ℕ) (moments : List Moment) (manifest : ManifestState) : Type 0 where
+-- The manifest was opened on a disk with these moments: it stores what the disk spelled as it was handed in, and a crash
+-- from now on leaves that. Its id is that in the head, or the one that was asked for where none was made.
+pub record Opened (asked : ℕ) (moments : List Moment) (manifest : ManifestState) : Type 0 where
   pub edits : List Edit
   pub stores : StoresEdits manifest edits no_edit
-  pub found : IfKnown moments (λ m. IsManifestOf id edits m.reads)
-  pub id_is : manifest.log.id ≡ id
+  pub found : IfKnown moments (λ m. IsManifestOf manifest.log.id edits m.reads)
+  pub made : IfKnown moments (λ m. IsUnmade m.reads → manifest.log.id ≡ asked)
   pub running : manifest.log.closed ≡ false
 
 -- Why an edit was not installed, and what that leaves. Want of memory changes nothing. The disk failed, and the manifest is

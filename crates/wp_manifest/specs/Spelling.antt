@@ -1,9 +1,9 @@
 -- The manifest: a log of edits.
-use Rattle.std.specs.Prelude.{◌≡◌, ◌≢◌, ◌⊎◌, ℕ, List, [], ◌∷◌, ◌++◌, map, codes}
+use Rattle.std.specs.Prelude.{◌≡◌, ◌⊎◌, ℕ, List, [], ◌∷◌, ◌++◌, map, codes}
 use Rattle.wp_outside.specs.Disk.{Each}
 use Rattle.wp_fields.specs.declared.format.Format.{Format}
 use Rattle.wp_fields.specs.declared.format.Format.TheVariants.{One}
-use Rattle.wp_gatelog.specs.Spelling.{Stamp, stamped, Spells, identity}
+use Rattle.wp_gatelog.specs.Spelling.{Stamp, stamped, Spells}
 use Rattle.wp_manifest.specs.Edit.{Edit, IsEdit, no_edit, edit_bytes}
 
 -- the first four bytes after the head's gate
@@ -36,11 +36,3 @@ IsManifestOf id edits bytes = (records : List (List ℕ)) × Spells bytes MAGIC 
 -- the bytes spell these edits, or them and the next one
 abbrev pub IsManifestOrNext : ℕ → List Edit → Edit → List ℕ → Type 0
 IsManifestOrNext id edits next bytes = IsManifestOf id edits bytes ⊎ IsManifestOf id (edits ++ next ∷ []) bytes
-
--- a manifest was made in the bytes, and its head has this id
-pub record HasHead (id : ℕ) (bytes : List ℕ) : Type 0 where
-  pub head : ℕ
-  pub gate : ℕ
-  pub rest : List ℕ
-  pub head_open : head ≢ 0
-  pub spelling : bytes ≡ head ∷ (identity MAGIC (head_stamp id) ++ gate ∷ rest)

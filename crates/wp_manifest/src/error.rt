@@ -17,8 +17,6 @@ pub enum ManifestError {
     DiskFault,
     /// The head is cut, or has another magic or another version.
     BadHead,
-    /// The head has the id `found`, which is not the log's.
-    Stranger { log: u32, found: u32 },
     /// The record with this index, from 0 on, is cut; or none is, and it is the first that is no edit.
     BadEdit { index: u64 },
 }

@@ -1,9 +1,9 @@
 //! What bytes are as an edit.
 
-ghost use Rattle.std.specs.Prelude.{◌≡◌, ◌<◌, ◌^◌, ℕ, List};
+ghost use Rattle.std.specs.Prelude.{◌≡◌, ℕ, List};
 ghost use Rattle.wp_gatelog.specs.Damage.{IsBadHead};
 ghost use Rattle.wp_manifest.specs.Edit.{Edit, IsEdit, edit_bytes};
-ghost use Rattle.wp_manifest.specs.Opening.{IsBadEdit, IsStranger};
+ghost use Rattle.wp_manifest.specs.Opening.{IsBadEdit};
 ghost use Rattle.wp_manifest.specs.Spelling.{MAGIC, IsManifestOf, VERSION};
 
 use wp_gatelog::bytes_are_read_in_one_way;
@@ -13,25 +13,19 @@ pub fn edits_have_one_spelling()
     ensures { (one other : Edit) → IsEdit one → IsEdit other → edit_bytes one ≡ edit_bytes other → one ≡ other }
 {}
 
-/// Bytes are the manifest of one list of edits, or have a bad head, or the head of another store, or a first record that is no
-/// edit: at most one of these, in one way.
+/// Bytes are the manifest of one list of edits, or have a bad head, or a first record that is no edit: at most one of these, in
+/// one way.
 pub fn a_manifest_is_read_in_one_way()
     ensures one_list { (bytes : List ℕ) (id other : ℕ) (edits others : List Edit)
         → IsManifestOf id edits bytes → IsManifestOf other others bytes → edits ≡ others }
-    ensures one_bad_edit { (bytes : List ℕ) (id index other : ℕ)
-        → IsBadEdit id index bytes → IsBadEdit id other bytes → index ≡ other }
+    ensures one_bad_edit { (bytes : List ℕ) (index other : ℕ)
+        → IsBadEdit index bytes → IsBadEdit other bytes → index ≡ other }
     ensures edits_or_bad_head { (bytes : List ℕ) (id : ℕ) (edits : List Edit)
         → IsManifestOf id edits bytes → IsBadHead MAGIC VERSION bytes → ⊥ }
     ensures edits_or_bad_edit { (bytes : List ℕ) (id index : ℕ) (edits : List Edit)
-        → IsManifestOf id edits bytes → IsBadEdit id index bytes → ⊥ }
-    ensures bad_head_or_bad_edit { (bytes : List ℕ) (id index : ℕ)
-        → IsBadHead MAGIC VERSION bytes → IsBadEdit id index bytes → ⊥ }
-    ensures bad_head_or_stranger { (bytes : List ℕ) (id log found : ℕ)
-        → IsBadHead MAGIC VERSION bytes → IsStranger id log found bytes → ⊥ }
-    ensures edits_or_stranger { (bytes : List ℕ) (id log found : ℕ) (edits : List Edit)
-        → id < 2 ^ 32 → found < 2 ^ 32 → IsManifestOf id edits bytes → IsStranger id log found bytes → ⊥ }
-    ensures bad_edit_or_stranger { (bytes : List ℕ) (id index log found : ℕ)
-        → id < 2 ^ 32 → found < 2 ^ 32 → IsBadEdit id index bytes → IsStranger id log found bytes → ⊥ }
+        → IsManifestOf id edits bytes → IsBadEdit index bytes → ⊥ }
+    ensures bad_head_or_bad_edit { (bytes : List ℕ) (index : ℕ)
+        → IsBadHead MAGIC VERSION bytes → IsBadEdit index bytes → ⊥ }
 {
     bytes_are_read_in_one_way();
 }

@@ -1,7 +1,10 @@
 //! An open manifest.
 
-ghost use Rattle.std.specs.Prelude.{◌≡◌, ◌≢◌, ◌≤◌, length, true, is_some, IfOk, IfErr, MatchResult};
+ghost use Rattle.std.specs.Prelude.{◌≡◌, ◌≢◌, ◌↔◌, ◌≤◌, length, true, false, is_some, IfOk, IfErr, MatchResult};
+ghost use Rattle.wp_outside.specs.Disk.{IfKnown};
+ghost use Rattle.wp_outside.specs.Faults.{HasCause};
 ghost use Rattle.wp_gatelog.specs.Opening.{KeepsLog};
+ghost use Rattle.wp_gatelog.specs.Spelling.{IsUnmade};
 ghost use Rattle.wp_manifest.specs.Errors.{manifest_error_of};
 ghost use Rattle.wp_manifest.specs.Spelling.{MAGIC, head_stamp};
 ghost use Rattle.wp_manifest.specs.Manifest.{Opened, InstallsInto};
@@ -17,7 +20,7 @@ use std::alloc::{AllocError, Global};
 use std::marker::Model;
 use wp_fields::Format;
 use wp_gatelog::{DiskRefused, GateLog, LogError, acknowledged_records_come_first};
-use wp_outside::Disk;
+use wp_outside::{Disk, Failed};
 
 /// The first four bytes after the gate of the manifest's head.
 const MANIFEST_MAGIC: [u8; 4] = *b"WPMF";
@@ -37,25 +40,42 @@ impl<D: Disk> Model for Manifest<D> {
     ghost view = { λ m. record { log = m.log; edit = m.edit } };
 }
 
-/// What a refusal of the log of edits means for a manifest that is opened with this id.
-fn error_of(why: LogError, id: u32) -> ManifestError
-    ensures { result ≡ manifest_error_of id why }
+/// What a refusal of the log of edits means for the manifest.
+fn error_of(why: LogError) -> ManifestError
+    ensures { result ≡ manifest_error_of why }
 {
     match why {
         LogError::Memory => ManifestError::Memory,
         LogError::DiskFault => ManifestError::DiskFault,
         LogError::BadHead => ManifestError::BadHead,
-        LogError::Cut { id: found, .. } if found != id => ManifestError::Stranger {
-            log: id,
-            found,
-        },
         LogError::Cut { index, .. } => ManifestError::BadEdit { index },
     }
 }
 
+/// Whether the bytes begin a manifest that was made: its head's gate is open, and more follows.
+fn begins_one(bytes: &[u8]) -> bool
+    ensures { (result ≡ false) ↔ IsUnmade bytes.now }
+{
+    match bytes {
+        [] | [_] | [0, ..] => false,
+        _ => true,
+    }
+}
+
+/// Whether a manifest was made on the disk.
+pub fn is_made<D: Disk>(disk: &mut D) -> Result<bool, Failed>
+    ensures made { IfOk result (λ made. IfKnown (D.moments disk.old) (λ m. (made ≡ false) ↔ IsUnmade m.reads)) }
+    ensures unchanged { D.moments disk.new ≡ D.moments disk.old }
+    ensures cause { HasCause (D.faults disk.old) (D.faults disk.new) result }
+{
+    let mut bytes = [0; 2];
+    let read = disk.read_at(0, &mut bytes)?;
+    Ok(begins_one(&bytes[..read]))
+}
+
 impl<D: Disk> Manifest<D> {
-    /// Opens the manifest on the disk for a log with this id, or makes it with the id. It is of the first version, and one of
-    /// a later version is a bad head. Its id is asked for before its records are.
+    /// Opens the manifest on the disk, whatever its id is, or makes it with this one. It is of the first version, and one of a
+    /// later version is a bad head.
     pub fn open(
         alloc: Global,
         disk: D,
@@ -63,7 +83,7 @@ impl<D: Disk> Manifest<D> {
     ) -> Result<Manifest<D>, DiskRefused<D, ManifestError>>
         ensures opened { IfOk result (Opened id (D.moments disk)) }
 
-        ensures refused { IfErr result (λ refused. IsUnopenedManifest id
+        ensures refused { IfErr result (λ refused. IsUnopenedManifest
             (D.moments disk) (D.moments refused.disk) (D.faults disk) (D.faults refused.disk) refused.why) }
         ensures kept { MatchResult result
             (λ opened. KeepsLog MAGIC (head_stamp id) (D.moments disk) opened.log.moments (D.faults disk) opened.log.faults)
@@ -73,18 +93,10 @@ impl<D: Disk> Manifest<D> {
         let (log, records) = match GateLog::open(alloc, disk, 0, MANIFEST_MAGIC, Format::One, id) {
             Ok(opened) => opened,
             Err(DiskRefused { disk, why }) => {
-                let why = error_of(why, id);
+                let why = error_of(why);
                 return Err(DiskRefused { disk, why });
             }
         };
-        if log.id() != id {
-            let why = ManifestError::Stranger {
-                log: id,
-                found: log.id(),
-            };
-            let disk = log.into_disk();
-            return Err(DiskRefused { disk, why });
-        }
         match last_edit(alloc, &records) {
             Ok(edit) => Ok(Manifest { alloc, log, edit }),
             Err(why) => {

@@ -115,7 +115,7 @@ fn read_edit(alloc: Global, bytes: &[u8]) -> Result<Option<Edit>, AllocError>
 }
 
 /// The last of the edits that the records are, or no edit where there is no record.
-pub(crate) fn last_edit(alloc: Global, records: &[Record]) -> Result<Edit, ManifestError>
+pub fn last_edit(alloc: Global, records: &[Record]) -> Result<Edit, ManifestError>
     ensures ok { IfOk result (IsLastOf records.now) }
     ensures err { IfErr result (IsEditCause records.now) }
 {

@@ -1,4 +1,4 @@
-use Rattle.wp_manifest.proofs.LawLemmas.{one_manifest, one_bad_edit, manifest_not_bad_head, manifest_not_bad, bad_head_not_bad_edit, bad_head_not_stranger, manifest_not_stranger, bad_edit_not_stranger}
+use Rattle.wp_manifest.proofs.LawLemmas.{one_manifest, one_bad_edit, manifest_not_bad_head, manifest_not_bad, bad_head_not_bad_edit}
 use Rattle.wp_manifest.proofs.laws.a_manifest_is_read_in_one_way.Goals as goal
 
 pub returns-clause-one_list : goal.returns-clause-one_list
@@ -15,12 +15,3 @@ returns-clause-edits_or_bad_edit c = manifest_not_bad c.bytes_are_read_in_one_wa
 
 pub returns-clause-bad_head_or_bad_edit : goal.returns-clause-bad_head_or_bad_edit
 returns-clause-bad_head_or_bad_edit c = bad_head_not_bad_edit c.bytes_are_read_in_one_way.ensures.spelled_or_bad c.bytes_are_read_in_one_way.ensures.cut_or_bad
-
-pub returns-clause-bad_head_or_stranger : goal.returns-clause-bad_head_or_stranger
-returns-clause-bad_head_or_stranger c = bad_head_not_stranger
-
-pub returns-clause-edits_or_stranger : goal.returns-clause-edits_or_stranger
-returns-clause-edits_or_stranger c = manifest_not_stranger
-
-pub returns-clause-bad_edit_or_stranger : goal.returns-clause-bad_edit_or_stranger
-returns-clause-bad_edit_or_stranger c = bad_edit_not_stranger

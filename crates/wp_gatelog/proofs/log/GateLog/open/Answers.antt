@@ -15,6 +15,7 @@ returns-in-Ok-clause-opened g c =
       counted = counted;
       running = refl;
       readable = c.in-Ok.ensures.readable;
+      unknown = c.find.ensures.unknown;
     }
 
 pub returns-in-Err-clause-refused : goal.returns-in-Err-clause-refused
