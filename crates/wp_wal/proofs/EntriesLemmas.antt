@@ -1,17 +1,13 @@
 -- Entries and the records that spell them, one record after the other.
-use Rattle.std.proofs.Common.{◌≡◌, ℕ, ◌+◌, ◌<◌, ◌≤◌, List, [], ◌∷◌, ◌++◌, length, get_or, take, refl, sym, ap, subst, ◌∙◌, append_assoc, arith, length-append}
-use Rattle.std.proofs.lemmas.List.{append-nil, take_more}
-use Rattle.std.proofs.lemmas.Option.{slice_get_read}
+use Rattle.std.proofs.Common.{◌≡◌, ℕ, ◌+◌, ◌<◌, ◌≤◌, List, [], ◌∷◌, ◌++◌, length, refl, sym, ap, subst, ◌∙◌, append_assoc, arith, length-append}
+use Rattle.std.proofs.lemmas.List.{append-nil}
 use Rattle.wp_model.specs.declared.entry.Entry.{Entry}
 use Rattle.wp_model.specs.declared.entry.Entry.TheVariants.{Write, Prepare, Commit, Undo, Close}
 use Rattle.wp_model.specs.Legal.{log_end}
 use Rattle.wp_fields.specs.declared.format.Format.{Format}
 use Rattle.wp_fields.specs.declared.format.Format.TheVariants.{One, Two}
 use Rattle.wp_entry.specs.Record.{FormRecord, IsRecord, last_number, record_bytes}
-use Rattle.wp_wal.specs.declared.error.WalError.{WalError}
-use Rattle.wp_wal.specs.declared.error.WalError.TheVariants.{Memory, DiskFault, BadHead, BadRecord, Illegal}
 use Rattle.wp_wal.specs.Spelling.{AreEntries}
-use Rattle.wp_wal.specs.Reading.{TakesRecord, LiesAt, IsRefusedRecord, IsRecordCause}
 
 -- ---- numbers
 
@@ -41,31 +37,19 @@ AreEntries-fit format first (r ∷ records) entries (front, rest, parts, is, byt
 
 -- ---- one record more
 
-push : (format : Format) (first : ℕ) (records : List (List ℕ)) (entries added : List Entry) → AreEntries format first records entries → IsRecord format (first + length entries) added → AreEntries format first (records ++ record_bytes format (first + length entries) added ∷ []) (entries ++ added)
-push format first [] entries added is one =
+pub AreEntries-push_at : (format : Format) (first : ℕ) (records : List (List ℕ)) (entries added : List Entry) → AreEntries format first records entries → IsRecord format (first + length entries) added → AreEntries format first (records ++ record_bytes format (first + length entries) added ∷ []) (entries ++ added)
+AreEntries-push_at format first [] entries added is one =
     let here : first + length entries ≡ first = rw is (omega arith) in
     (added, [], ap (λ (xs : List Entry). xs ++ added) is ∙ sym (append-nil added), subst (λ (n : ℕ). IsRecord format n added) here one, ap (λ (n : ℕ). record_bytes format n added) here, refl)
-push format first (r ∷ records) entries added (front, rest, parts, is, bytes, more) one =
+AreEntries-push_at format first (r ∷ records) entries added (front, rest, parts, is, bytes, more) one =
     let far : first + length entries ≡ (first + length front) + length rest = omega (arith, ap (λ (xs : List Entry). length xs) parts, length-append front rest) in (
       front,
       rest ++ added,
       ap (λ (xs : List Entry). xs ++ added) parts ∙ append_assoc front rest added,
       is,
       bytes,
-      subst (λ (n : ℕ). AreEntries format (first + length front) (records ++ record_bytes format n added ∷ []) (rest ++ added)) (sym far) (push format (first + length front) records rest added more (subst (λ (n : ℕ). IsRecord format n added) far one)),
+      subst (λ (n : ℕ). AreEntries format (first + length front) (records ++ record_bytes format n added ∷ []) (rest ++ added)) (sym far) (AreEntries-push_at format (first + length front) records rest added more (subst (λ (n : ℕ). IsRecord format n added) far one)),
     )
-
--- a record after those of a history
-pub AreEntries-push : (format : Format) (records : List (List ℕ)) (history next : List Entry) → AreEntries format 1 records history → IsRecord format (length history + 1) next → AreEntries format 1 (records ++ record_bytes format (length history + 1) next ∷ []) (history ++ next)
-AreEntries-push format records history next spelled one =
-    let place : 1 + length history ≡ length history + 1 = omega arith in
-    subst (λ (n : ℕ). AreEntries format 1 (records ++ record_bytes format n next ∷ []) (history ++ next)) place (push format 1 records history next spelled (subst (λ (n : ℕ). IsRecord format n next) (sym place) one))
-
--- one record more was read
-pub AreEntries-more : (format : Format) (records : List (List ℕ)) (i : ℕ) (here : List ℕ) (history longer : List Entry) → i < length records → here ≡ get_or records i here → AreEntries format 1 (take i records) history → TakesRecord format history longer here → AreEntries format 1 (take (i + 1) records) longer
-AreEntries-more format records i here history longer lt is so_far takes =
-    let piece : take (i + 1) records ≡ take i records ++ record_bytes format (length history + 1) takes.entries ∷ [] = take_more records i here lt ∙ ap (λ (x : List ℕ). take i records ++ x ∷ []) (sym is ∙ takes.spelling) in
-    rw (takes.whole, piece) (AreEntries-push format (take i records) history takes.entries so_far takes.is)
 
 -- ---- records that begin others
 
@@ -82,16 +66,3 @@ AreEntries-first differ format first (r ∷ records) others history longer (fron
       other_parts ∙ ap (λ (xs : List Entry). xs ++ other_rest) same ∙ ap (λ (xs : List Entry). front ++ xs) following.1 ∙ sym (append_assoc front rest following.0)
           ∙ ap (λ (xs : List Entry). xs ++ following.0) (sym parts),
     )
-
--- ---- a record that is refused
-
-pub refused_cause : (format : Format) (records : List (List ℕ)) (i : ℕ) (here : List ℕ) (history : List Entry) (why : WalError) → i < length records → here ≡ get_or records i here → AreEntries format 1 (take i records) history → IsRefusedRecord format history i here why → IsRecordCause format records why
-refused_cause format records i here history Memory lt is so_far refused = tt
-refused_cause format records i here history DiskFault lt is so_far refused = absurd refused
-refused_cause format records i here history BadHead lt is so_far refused = absurd refused
-refused_cause format records i here history (BadRecord index why) lt is so_far refused =
-    let lies : LiesAt format records i history here = record { before = so_far; there = slice_get_read records (length records) i here refl lt is } in
-    rw refused.0 (history, here, lies, refused.1)
-refused_cause format records i here history (Illegal number) lt is so_far refused =
-    let lies : LiesAt format records i history here = record { before = so_far; there = slice_get_read records (length records) i here refl lt is } in
-    (i, history, here, lies, refused)

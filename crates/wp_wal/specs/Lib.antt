@@ -3,3 +3,4 @@ pub mod Reading
 pub mod Errors
 pub mod Opening
 pub mod Wal
+pub mod Segment

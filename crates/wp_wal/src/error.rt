@@ -15,7 +15,7 @@ pub enum WalError {
     Memory,
     /// The device failed.
     DiskFault,
-    /// The head is cut, or has another magic or another version.
+    /// The head is cut, or has another magic or a version that is not read; or no log is there, where one is to be.
     BadHead,
     /// The record with this index, from 0 on, is cut; or none is, and it is the first that is no record at its number.
     BadRecord { index: u64, why: RecordError },

@@ -1,4 +1,4 @@
-//! The write-ahead log: the records of a gate log that spell a legal history.
+//! The write-ahead log: the records of a gate log that spell an orderly history, from a base on in the second version.
 //!
 //! An opening reads the records in order, each at the number that is due: first its grammar, then whether each of its
 //! entries may come after those before it. The first record that fails is named, and nothing after it is read.
@@ -8,14 +8,17 @@
 //! one moment would leave acknowledged, each crash at a later moment leaves too, inside an opening as inside an append.
 #![tactic(auto)]
 
+mod base;
 mod error;
 mod laws;
 mod read;
 mod reserved;
+mod segment;
 mod wal;
 
 pub use error::WalError;
 pub use laws::{
-    a_log_is_read_in_one_way, acknowledged_history_comes_first, stored_history_is_acknowledged,
+    a_log_is_read_in_one_way, acknowledged_cut_comes_first, stored_cut_is_acknowledged,
 };
+pub use segment::{NewSegment, Written};
 pub use wal::Wal;

@@ -1,35 +1,38 @@
 //! An open write-ahead log.
 ghost use Rattle.std.specs.Prelude.{◌≡◌, ◌≤◌, List, Some, true, false, is_some, IfOk, IfErr, IfSome, OnOk, OnErr, MatchResult};
 ghost use Rattle.wp_model.specs.declared.entry.Entry.{Entry};
+ghost use Rattle.wp_cuts.specs.Cut.{Cut};
+ghost use Rattle.wp_cuts.specs.LegalCut.{prepares_of};
 ghost use Rattle.wp_outside.specs.Disk.{IfKnown};
 ghost use Rattle.wp_entry.specs.Record.{FormRecord, IsRecord};
-ghost use Rattle.wp_gatelog.specs.Opening.{KeepsLog};
-ghost use Rattle.wp_wal.specs.Spelling.{MAGIC, new_stamp};
-ghost use Rattle.wp_wal.specs.Opening.{IsOpenedLog, IsUnopenedLog};
-ghost use Rattle.wp_wal.specs.Wal.{LosesNothing, StoresHistory, IsReserved, LeavesHistory, AppendsNext, Appended, Refuses, reserved_of};
+ghost use Rattle.wp_ledger.specs.Outline.{cut_in};
+ghost use Rattle.wp_wal.specs.Opening.{IsOpenedLog, IsUnopenedLog, KeepsWal};
+ghost use Rattle.wp_wal.specs.Wal.{LosesNothingAt, StoresCut, IsReserved, LeavesCut, AppendsNext, Appended, Refuses, reserved_of};
 
+use crate::base::begin_log;
 use crate::error::WalError;
-use crate::read::history_of;
+use crate::read::outline_of;
 use crate::reserved::Reserved;
 use std::alloc::{AllocError, Global};
 use std::marker::Model;
 use wp_fields::Format;
 use wp_gatelog::{AppendError, DiskRefused, GateLog};
-use wp_ledger::History;
-use wp_model::{Entry, Seq};
+use wp_ledger::Outline;
+use wp_model::{Entry, Segment, Seq};
 use wp_outside::Disk;
 
 /// The first four bytes after the gate of the log's head.
-const LOG_MAGIC: [u8; 4] = *b"WPLG";
+pub(crate) const LOG_MAGIC: [u8; 4] = *b"WPLG";
 
-/// An open log whose records spell a history. Clauses see its disk's moments and faults, its version and id, where it
-/// ends, whether it is closed, how many records it has, the number that the next entry gets, and the record that is
-/// reserved.
+/// An open log whose records spell a history from a base on. Clauses see its disk's moments and faults, its version and id,
+/// where it ends, whether it is closed, how many records it has, the number that the next entry gets, the segment in use,
+/// where it begins and its base, and the record that is reserved.
 pub struct Wal<D: Disk> {
-    alloc: Global,
-    log: GateLog<D>,
+    pub(crate) alloc: Global,
+    pub(crate) log: GateLog<D>,
+    pub(crate) segment: Segment,
     due: Seq,
-    reserved: Option<Reserved>,
+    pub(crate) reserved: Option<Reserved>,
 }
 
 impl<D: Disk> Model for Wal<D> {
@@ -37,50 +40,70 @@ impl<D: Disk> Model for Wal<D> {
 
     ghost Value = { WalState };
 
-    ghost view = { λ w. wal_state w.log w.due w.reserved };
+    ghost view = { λ w. wal_state w.log w.segment w.due w.reserved };
 
     ghost invariant = { λ w. HasNumbers w.log.format w.due w.reserved };
 }
 
 impl<D: Disk> Wal<D> {
-    /// Opens the log on the disk, or makes it with this id, and reads the history that it spells.
+    /// Opens the log at `place` of the disk, or makes it at place 0 with this id, and reads what it spells. A log of the second
+    /// version gets its base record before the opening answers, where it has none: a fault of that is one of the opening.
     pub fn open(
         alloc: Global,
         disk: D,
+        place: u64,
         id: u32,
-    ) -> Result<(Wal<D>, History), DiskRefused<D, WalError>>
-        ensures base { IfOk result (λ opened. opened.1.base ≡ 0) }
-        ensures opened { IfOk result (λ opened. IsOpenedLog id (D.moments disk) opened.0 opened.1.entries) }
-        ensures refused { IfErr result (λ refused. IsUnopenedLog
+    ) -> Result<(Wal<D>, Outline), DiskRefused<D, WalError>>
+        ensures opened { IfOk result (λ opened. IsOpenedLog id place (D.moments disk) opened.0 (cut_in opened.1)) }
+        ensures full { IfOk result (λ opened. opened.1.entries ≡ prepares_of (cut_in opened.1)) }
+        ensures refused { IfErr result (λ refused. IsUnopenedLog place
             (D.moments disk) (D.moments refused.disk) (D.faults disk) (D.faults refused.disk) refused.why) }
         ensures kept { MatchResult result
-            (λ opened. KeepsLog MAGIC (new_stamp id) (D.moments disk) opened.0.moments (D.faults disk) opened.0.faults)
-            (λ refused. KeepsLog MAGIC (new_stamp id)
+            (λ opened. KeepsWal place id (D.moments disk) opened.0.moments (D.faults disk) opened.0.faults)
+            (λ refused. KeepsWal place id
             (D.moments disk) (D.moments refused.disk) (D.faults disk) (D.faults refused.disk)) }
     {
-        let (log, records) = match GateLog::open(alloc, disk, 0, LOG_MAGIC, Format::One, id) {
+        let (mut log, records) = match GateLog::open(
+            alloc,
+            disk,
+            place,
+            LOG_MAGIC,
+            Format::Two,
+            id,
+        ) {
             Ok(opened) => opened,
             Err(DiskRefused { disk, why }) => {
                 let why = WalError::from(why);
                 return Err(DiskRefused { disk, why });
             }
         };
-        match history_of(alloc, log.format(), &records) {
-            Ok(history) => {
-                let due = history.published() + 1;
-                let wal = Wal {
-                    alloc,
-                    log,
-                    due,
-                    reserved: None,
-                };
-                Ok((wal, history))
-            }
+        let outline = match outline_of(alloc, log.format(), place, &records) {
+            Ok(outline) => outline,
             Err(why) => {
                 let disk = log.into_disk();
-                Err(DiskRefused { disk, why })
+                return Err(DiskRefused { disk, why });
+            }
+        };
+        match begin_log(alloc, &mut log) {
+            Ok(()) => {}
+            Err(why) => {
+                let disk = log.into_disk();
+                return Err(DiskRefused { disk, why });
             }
         }
+        let segment = Segment {
+            place,
+            base: outline.base(),
+        };
+        let due = outline.published() + 1;
+        let wal = Wal {
+            alloc,
+            log,
+            segment,
+            due,
+            reserved: None,
+        };
+        Ok((wal, outline))
     }
 
     /// The version in the log's head: what is appended is of it.
@@ -88,6 +111,13 @@ impl<D: Disk> Wal<D> {
         ensures { result ≡ self.now.format }
     {
         self.log.format()
+    }
+
+    /// Where the log in use begins, and its base.
+    pub fn segment_in_use(&self) -> Segment
+        ensures { result ≡ self.now.segment }
+    {
+        self.segment
     }
 
     /// The id in the log's head.
@@ -113,12 +143,12 @@ impl<D: Disk> Wal<D> {
     /// afterwards; after a fault the log is closed, and is to be opened again.
     pub fn append(&mut self) -> Result<(), AppendError>
         requires { is_some self.old.reserved ≡ true }
-        ensures appends { (history entries : List Entry) → IsReserved self.old history entries
-            → AppendsNext history entries self.old self.new result }
+        ensures appends { (c : Cut) (entries : List Entry) → IsReserved self.old c entries
+            → AppendsNext c entries self.old self.new result }
 
         // What each crash at one moment would leave acknowledged, each crash at a later moment leaves too.
-        ensures durable { (history next : List Entry) → StoresHistory self.old history next
-            → LosesNothing self.old.moments self.new.moments }
+        ensures durable { (c : Cut) (next : List Entry) → StoresCut self.old c next
+            → LosesNothingAt self.old.segment.place self.old.moments self.new.moments }
         ensures ok { OnOk result (IfSome self.old.reserved (Appended self.old self.new)) }
         ensures err { IfErr result (Refuses self.old self.new) }
         ensures later { self.old.faults ≤ self.new.faults }
@@ -136,13 +166,14 @@ impl<D: Disk> Wal<D> {
         ensures moments { D.moments result ≡ self.moments }
         ensures faults { D.faults result ≡ self.faults }
 
-        // Until an append has failed, a crash leaves the history.
-        ensures left { (history next : List Entry) → StoresHistory self history next → self.closed ≡ false
-            → IfKnown self.moments (LeavesHistory self.id history) }
+        // Until an append has failed, a crash leaves the cut.
+        ensures left { (c : Cut) (next : List Entry) → StoresCut self c next → self.closed ≡ false
+            → IfKnown self.moments (LeavesCut self.id self.segment.place c) }
     {
         let Wal {
             log,
             alloc: _alloc,
+            segment: _segment,
             due: _due,
             reserved: _reserved,
         } = self;
@@ -156,6 +187,7 @@ impl<D: Disk + Drop> Drop for Wal<D> {
         let Self {
             alloc: _alloc,
             log: _log,
+            segment: _segment,
             due: _due,
             reserved: _reserved,
         } = self;

@@ -1,5 +1,5 @@
-use Rattle.wp_wal.proofs.AppendLemmas.{running_history}
+use Rattle.wp_wal.proofs.AppendLemmas.{running_cut}
 use Rattle.wp_wal.proofs.wal.Wal.into_disk.Goals as goal
 
 pub returns-clause-left : goal.returns-clause-left
-returns-clause-left g c = running_history c.args.self
+returns-clause-left g c = running_cut c.args.self
