@@ -1,17 +1,21 @@
--- Whether tables cover a history: what is asked of all versions, and what that says of the tables'.
-use Rattle.std.proofs.Common.{◌≡◌, ◌↔◌, ℕ, ◌≤◌, Bool, true, List, [], ◌∷◌, ◌++◌, length, inl, inr, sym, ap, ◌∙◌, arith}
+-- Whether tables cover what stands for a cut and them: what is asked of all versions, and what that says of the tables'.
+use Rattle.std.proofs.Common.{◌≡◌, ◌↔◌, ℕ, ◌≤◌, Bool, true, List, [], ◌∷◌, ◌++◌, length, inl, inr, sym, ap, ◌∙◌}
 use Rattle.std.specs.Option.{option_or}
 use Rattle.wp_model.specs.declared.entry.Entry.{Entry}
 use Rattle.wp_model.specs.declared.version.Version.{Version}
 use Rattle.wp_model.specs.Covered.{GivesStore, IsCovered}
 use Rattle.wp_model.specs.Flushed.{later_versions}
+use Rattle.wp_model.specs.Legal.{IsLegal}
 use Rattle.wp_model.specs.Versions.{version_at}
-use Rattle.wp_history.proofs.Listed.{zero_covered, none_listed}
+use Rattle.wp_history.proofs.Listed.{none_listed}
+use Rattle.wp_cuts.specs.Cut.{Cut}
+use Rattle.wp_cuts.specs.LegalCut.{AreBelow, AreNumbered}
 use Rattle.wp_manifest.specs.Edit.{Edit}
-use Rattle.wp_merge.specs.Merge.{AreMerged, first_at, joined, sorted_of}
-use Rattle.wp_merge.proofs.Sorted.{at_sorted, merged_sorted}
+use Rattle.wp_merge.specs.Merge.{joined}
+use Rattle.wp_merge.proofs.Sorted.{at_sorted}
 use Rattle.wp_cover.proofs.Places.{at_append}
-use Rattle.wp_open.specs.Opens.{AreCovering}
+use Rattle.wp_open.specs.Opens.{AreCovering, all_in, history_over}
+use Rattle.wp_open.proofs.Base.{base_covered}
 
 -- ---- what covers a history hangs on look-ups alone
 
@@ -33,31 +37,30 @@ covers_same xs ys history numbers from same k = record {
 
 -- ---- the tables' versions as they come, and merged
 
-module _ (history : List Entry) (edit : Edit) (parts : List (List Version)) where
-  abbrev later : List Version
-  later = later_versions history edit.flushed
+module _ (c : Cut) (edit : Edit) (parts : List (List Version)) where
+  abbrev full : List Entry
+  full = history_over c parts
 
-  joined_at : (key : List ℕ) (p : ℕ) → version_at (joined parts) key p ≡ first_at parts key p
-  joined_at key p = sym (at_sorted (joined parts) key p) ∙ (merged_sorted parts).each key p
+  abbrev later : List Version
+  later = later_versions full edit.flushed
 
   -- as all versions merged, so those of the tables one after the other
-  same_at : (all : List Version) → AreMerged parts all → (key : List ℕ) (p : ℕ) → version_at (joined parts ++ later) key p ≡ version_at (all ++ later) key p
-  same_at all merged key p =
+  same_at : (key : List ℕ) (p : ℕ) → version_at (joined parts ++ later) key p ≡ version_at (all_in parts ++ later) key p
+  same_at key p =
       at_append (joined parts) later key p
-      ∙ ap (λ o. option_or o (version_at later key p)) (joined_at key p ∙ sym (merged.each key p))
-      ∙ sym (at_append all later key p)
+      ∙ ap (λ o. option_or o (version_at later key p)) (sym (at_sorted (joined parts) key p))
+      ∙ sym (at_append (all_in parts) later key p)
 
-  pub covering_is : edit.flushed ≤ length history → (r : Bool) → (r ≡ true) ↔ IsCovered (joined parts ++ later_versions history edit.flushed) history [] (length history) → (r ≡ true) ↔ AreCovering history edit parts
-  covering_is low r asked = (
+  pub covering_is : AreNumbered c → IsLegal full → AreBelow c (all_in parts) → c.base ≤ edit.flushed → edit.flushed ≤ length full
+      → (r : Bool) → (r ≡ true) ↔ IsCovered (joined parts ++ later_versions (history_over c parts) edit.flushed) (history_over c parts) [] (length (history_over c parts)) → (r ≡ true) ↔ AreCovering c edit parts
+  covering_is numbered legal below low high r asked = (
     λ e. record {
-      all = sorted_of (joined parts);
-      merged = merged_sorted parts;
+      below = below;
       covered = record {
-        base = omega arith;
-        flushed = low;
-        covered = zero_covered (sorted_of (joined parts) ++ later) history [] (length history)
-            (covers_same (joined parts ++ later) (sorted_of (joined parts) ++ later) history [] (length history) (λ key p. sym (same_at (sorted_of (joined parts)) (merged_sorted parts) key p)) (asked.0 e));
+        base = low;
+        flushed = high;
+        covered = base_covered c parts numbered edit.flushed legal low (covers_same (joined parts ++ later) (all_in parts ++ later) full [] (length full) (λ key p. sym (same_at key p)) (asked.0 e));
       };
     },
-    λ c. asked.1 (covers_same (c.all ++ later) (joined parts ++ later) history [] (length history) (same_at c.all c.merged) (none_listed (c.all ++ later) history (0 ∷ []) (length history) c.covered.covered)),
+    λ k. asked.1 (covers_same (all_in parts ++ later) (joined parts ++ later) full [] (length full) same_at (none_listed (all_in parts ++ later) full (c.base ∷ []) (length full) k.covered.covered)),
   )

@@ -1,5 +1,5 @@
 -- All versions of the entries of a history show every reader what it holds.
-use Rattle.std.proofs.Common.{◌≡◌, ℕ, zero, suc, ◌≤◌, List, [], ◌∷◌, length, inl, inr, refl, sym, subst, ◌∙◌, arith}
+use Rattle.std.proofs.Common.{◌≡◌, ℕ, zero, suc, ◌≤◌, List, [], ◌∷◌, length, inl, inr, sym, subst, ◌∙◌, arith}
 use Rattle.wp_model.specs.declared.entry.Entry.{Entry}
 use Rattle.wp_model.specs.declared.version.Version.{Version}
 use Rattle.wp_model.specs.Covered.{GivesStore, IsCovered}
@@ -7,12 +7,13 @@ use Rattle.wp_model.specs.Decision.{entry_version}
 use Rattle.wp_model.specs.Flushed.{later_versions}
 use Rattle.wp_model.specs.Legal.{IsLegal}
 use Rattle.wp_model.specs.Versions.{version_at}
-use Rattle.wp_model.proofs.VersionLists.{in_order_nil}
 use Rattle.wp_history.proofs.NewestVersion.{one_or_none, newest_is_value, none_is_no_value}
-use Rattle.wp_history.proofs.Listed.{zero_covered}
+use Rattle.wp_cuts.specs.Cut.{Cut}
+use Rattle.wp_cuts.specs.LegalCut.{AreNumbered}
 use Rattle.wp_manifest.specs.Edit.{Edit}
 use Rattle.wp_cover.proofs.Places.{none_later, own_later}
-use Rattle.wp_open.specs.Opens.{AreCovering}
+use Rattle.wp_open.specs.Opens.{AreCovering, history_over}
+use Rattle.wp_open.proofs.Base.{base_covered}
 
 own_version : (history : List Entry) (key : List ℕ) (p : ℕ) → version_at (later_versions history 0) key p ≡ entry_version history p key
 own_version history key zero = none_later history 0 key 0 (omega arith)
@@ -44,14 +45,16 @@ own_covered history legal = record {
 }
 
 -- where nothing was flushed, and there is no table
-pub all_in_memory : (history : List Entry) (edit : Edit) (parts : List (List Version)) → edit.flushed ≡ 0 → length parts ≡ 0 → IsLegal history → AreCovering history edit parts
-all_in_memory history edit [] unflushed empty legal = record {
-  all = [];
-  merged = record { in_order = in_order_nil; each = λ key n. refl };
-  covered = record {
-    base = omega arith;
-    flushed = omega (arith, unflushed);
-    covered = subst (λ (n : ℕ). IsCovered (later_versions history n) history (0 ∷ []) (length history)) (sym unflushed) (zero_covered (later_versions history 0) history [] (length history) (own_covered history legal));
-  };
-}
-all_in_memory history edit (part ∷ parts) unflushed empty legal = absurd (omega (arith, empty))
+pub all_in_memory : (c : Cut) (edit : Edit) (parts : List (List Version)) → AreNumbered c → c.base ≡ 0 → edit.flushed ≡ 0 → length parts ≡ 0 → IsLegal (history_over c parts) → AreCovering c edit parts
+all_in_memory c edit [] numbered no_base unflushed empty legal =
+    let full = history_over c [] in
+    let low : c.base ≤ edit.flushed = omega (arith, no_base) in
+    record {
+      below = λ key q p value x there. absurd cc;
+      covered = record {
+        base = low;
+        flushed = omega (arith, unflushed);
+        covered = base_covered c [] numbered edit.flushed legal low (subst (λ (n : ℕ). IsCovered (later_versions full n) full [] (length full)) (sym unflushed) (own_covered full legal));
+      };
+    }
+all_in_memory c edit (part ∷ parts) numbered no_base unflushed empty legal = absurd (omega (arith, empty))

@@ -1,15 +1,17 @@
 -- What is wrong with the bytes of a store's devices: the first fault, in the order of an opening.
-use Rattle.std.specs.Prelude.{◌≡◌, ◌≢◌, ◌⊎◌, ℕ, ◌<◌, ◌≤◌, ◌^◌, List, ◌∷◌, ◌++◌, length, take, drop}
-use Rattle.wp_model.specs.declared.entry.Entry.{Entry}
+use Rattle.std.specs.Prelude.{◌≡◌, ◌≢◌, ◌⊎◌, ℕ, ◌+◌, ◌<◌, ◌≤◌, ◌^◌, List, ◌∷◌, ◌++◌, length, take, drop}
 use Rattle.wp_model.specs.declared.version.Version.{Version}
-use Rattle.wp_model.specs.Legal.{IsLegal}
 use Rattle.wp_outside.specs.declared.disk.Device.TheVariants as device
-use Rattle.wp_gatelog.specs.Damage.{IsBadHead}
-use Rattle.wp_gatelog.specs.Spelling.{IsUnmade}
+use Rattle.wp_cuts.specs.Cut.{Cut}
+use Rattle.wp_ledger.specs.History.{RoomyHistory}
+use Rattle.wp_ledger.specs.Outline.{IsFirstWrong, RestoreUpTo}
+use Rattle.wp_gatelog.specs.Damage.{IsBadHead, IsBadHeadAt}
+use Rattle.wp_gatelog.specs.Spelling.{IsUnmade, IsUnmadeAt}
 use Rattle.wp_wal.specs.Opening.{IsBadLog, IsIllegalLog}
+use Rattle.wp_wal.specs.Reading.{IsJudged}
 use Rattle.wp_wal.specs.Spelling as wal
 use Rattle.wp_manifest.specs.Edit.{Edit, place_of}
-use Rattle.wp_manifest.specs.Opening.{IsBadEdit, IsStranger}
+use Rattle.wp_manifest.specs.Opening.{IsBadEdit}
 use Rattle.wp_manifest.specs.Spelling as edits
 use Rattle.wp_manifest.specs.Spelling.{IsManifestOf, last_edit}
 use Rattle.wp_table.specs.declared.error.TableError.{TableError}
@@ -19,32 +21,38 @@ use Rattle.wp_table.specs.File.{HasTables}
 use Rattle.wp_table.specs.Table.{SpellsTable}
 use Rattle.wp_open.specs.declared.bad.Bad.{Bad}
 use Rattle.wp_open.specs.declared.bad.Bad.TheVariants as bad
-use Rattle.wp_open.specs.Opens.{AreCovering}
+use Rattle.wp_open.specs.Opens.{AreCovering, history_over}
 
--- ---- the log
+-- ---- the manifest
 
-abbrev pub IsLogDamaged : List ℕ → Bad → Type 0
-IsLogDamaged bytes (bad.BadHead device.Log) = IsBadHead wal.MAGIC wal.NEWEST bytes
-IsLogDamaged bytes (bad.BadRecord index why) = IsBadLog bytes index why
-IsLogDamaged bytes (bad.Illegal number) = IsIllegalLog bytes number
-IsLogDamaged bytes other = ⊥
+abbrev pub IsManifestDamaged : List ℕ → Bad → Type 0
+IsManifestDamaged bytes (bad.BadHead device.Manifest) = IsBadHead edits.MAGIC edits.VERSION bytes
+IsManifestDamaged bytes (bad.BadEdit index) = IsBadEdit index bytes
+IsManifestDamaged bytes other = ⊥
 
--- The log is right: it spells the legal history under the id. One that was not made gets the id that is asked for.
-pub record Finds (asked id : ℕ) (history : List Entry) (bytes : List ℕ) : Type 0 where
+-- ---- the log at the place that the manifest's last edit names
+
+abbrev pub IsLogDamaged : ℕ → List ℕ → Bad → Type 0
+IsLogDamaged place bytes (bad.BadHead device.Log) = IsBadHeadAt place wal.MAGIC wal.NEWEST bytes
+IsLogDamaged place bytes (bad.BadRecord index why) = IsBadLog place bytes index why
+IsLogDamaged place bytes (bad.Illegal number) = IsIllegalLog place bytes number
+IsLogDamaged place bytes other = ⊥
+
+-- The log at that place is right, as far as it tells by itself: it spells the cut under the id. One that was not made gets the id that is
+-- asked for.
+pub record Finds (asked id place : ℕ) (c : Cut) (bytes : List ℕ) : Type 0 where
   pub id_fits : id < 2 ^ 32
-  pub spelled : wal.IsLogOf id history bytes
-  pub legal : IsLegal history
-  pub unmade : IsUnmade bytes → id ≡ asked
+  pub spelled : wal.IsLogAt id place c bytes
+  pub judged : IsJudged c
+  pub unmade : IsUnmadeAt place bytes → id ≡ asked
 
--- ---- the manifest, after a log with that id
+-- the manifest was made, with another id than the log's
+pub record IsOther (id found : ℕ) (manifest : List ℕ) : Type 0 where
+  pub fits : found < 2 ^ 32
+  pub other : found ≢ id
+  pub made : IsUnmade manifest → ⊥
 
-abbrev pub IsManifestDamaged : ℕ → List ℕ → Bad → Type 0
-IsManifestDamaged id bytes (bad.BadHead device.Manifest) = IsBadHead edits.MAGIC edits.VERSION bytes
-IsManifestDamaged id bytes (bad.Stranger log found) = (found < 2 ^ 32) × IsStranger id log found bytes
-IsManifestDamaged id bytes (bad.BadEdit index) = IsBadEdit id index bytes
-IsManifestDamaged id bytes other = ⊥
-
--- ---- the tables, after a log with that id and history, and that last edit
+-- ---- the tables, after a log with that id, and that last edit
 
 -- the bytes at a table's place: as many as the edit says, or as there are
 abbrev pub bytes_at : List ℕ → ℕ × ℕ → List ℕ
@@ -82,22 +90,57 @@ IsTableNamed id flushed bytes tables (bad.Stranger log found) = (log ≡ id) × 
 IsTableNamed id flushed bytes tables (bad.BadTable place why) = IsOwnFault why × IsFirstBadTable id flushed bytes tables place why
 IsTableNamed id flushed bytes tables other = ⊥
 
--- all of the edit's tables are right, and do not cover the history
-abbrev pub IsUncovered : ℕ → List Entry → Edit → List ℕ → Type 0
-IsUncovered id history edit bytes = (parts : List (List Version)) × HasTables id edit.flushed bytes edit.tables parts × (AreCovering history edit parts → ⊥)
+-- ---- the log and the tables together
 
--- The edit names another place of the log's device than its beginning, where no log stands; or it has flushed more entries
--- than the log has; or one of its tables is wrong; or all are right, and do not cover the history.
-pub data IsEditDamaged (id : ℕ) (history : List Entry) (edit : Edit) (bytes : List ℕ) (damage : Bad) : Type 0 where
-  elsewhere : place_of edit ≢ 0 → damage ≡ bad.BadHead device.Log → IsEditDamaged id history edit bytes damage
-  log_behind : place_of edit ≡ 0 → length history < edit.flushed → damage ≡ bad.LogBehind edit.flushed (length history) → IsEditDamaged id history edit bytes damage
-  in_tables : place_of edit ≡ 0 → edit.flushed ≤ length history → IsTableNamed id edit.flushed bytes edit.tables damage → IsEditDamaged id history edit bytes damage
-  uncovered : place_of edit ≡ 0 → edit.flushed ≤ length history → IsUncovered id history edit bytes → damage ≡ bad.Uncovered → IsEditDamaged id history edit bytes damage
+-- the number of the last entry
+abbrev pub end_of : Cut → ℕ
+end_of c = c.base + length c.entries
+
+-- the base is flushed, and the log has all entries that are
+pub record IsWithin (c : Cut) (edit : Edit) : Type 0 where
+  pub base : c.base ≤ edit.flushed
+  pub flushed : edit.flushed ≤ end_of c
+
+-- the list that stands for the cut and the tables, from the base on
+abbrev pub standing : Cut → List (List Version) → RoomyHistory
+standing c parts = record { base = c.base; entries = history_over c parts; room = 0 }
+
+-- each undo behind the base holds what the keys of its prepare had
+abbrev pub UndosRestore : Cut → List (List Version) → Type 0
+UndosRestore c parts = RestoreUpTo (standing c parts) (end_of c)
+
+-- the undo with this number is the first that does not
+abbrev pub IsWrongUndo : Cut → List (List Version) → ℕ → Type 0
+IsWrongUndo c parts = IsFirstWrong (standing c parts)
+
+-- all of the edit's tables are right, and one undo is wrong over them
+pub record IsIllegalOver (id : ℕ) (c : Cut) (edit : Edit) (bytes : List ℕ) (number : ℕ) : Type 0 where
+  pub parts : List (List Version)
+  pub there : HasTables id edit.flushed bytes edit.tables parts
+  pub wrong : IsWrongUndo c parts number
+
+-- all of the edit's tables are right, and so is each undo over them; and they do not cover what stands for them and the cut
+pub record IsUncovered (id : ℕ) (c : Cut) (edit : Edit) (bytes : List ℕ) : Type 0 where
+  pub parts : List (List Version)
+  pub there : HasTables id edit.flushed bytes edit.tables parts
+  pub undos : UndosRestore c parts
+  pub not_covering : AreCovering c edit parts → ⊥
+
+-- The base is ahead of what the edit has flushed; or it has flushed more entries than the log has; or one of its tables is wrong; or all
+-- are right, and an undo is wrong; or all undos are right too, and the tables do not cover the history.
+pub data IsEditDamaged (id : ℕ) (c : Cut) (edit : Edit) (bytes : List ℕ) (damage : Bad) : Type 0 where
+  base_ahead : edit.flushed < c.base → damage ≡ bad.BaseAhead c.base edit.flushed → IsEditDamaged id c edit bytes damage
+  log_behind : c.base ≤ edit.flushed → end_of c < edit.flushed → damage ≡ bad.LogBehind edit.flushed (end_of c) → IsEditDamaged id c edit bytes damage
+  in_tables : IsWithin c edit → IsTableNamed id edit.flushed bytes edit.tables damage → IsEditDamaged id c edit bytes damage
+  wrong_undo : (number : ℕ) → IsWithin c edit → IsIllegalOver id c edit bytes number → damage ≡ bad.Illegal number → IsEditDamaged id c edit bytes damage
+  uncovered : IsWithin c edit → IsUncovered id c edit bytes → damage ≡ bad.Uncovered → IsEditDamaged id c edit bytes damage
 
 -- ---- all three
 
--- The first fault is in the log; or in the manifest, after a log that is right; or, after both, in what the last edit says.
+-- The first fault is in the manifest; or, where that is right, in the log at the place that its last edit names; or both are right, and
+-- have not one id; or they have, and the fault is in what the last edit says.
 pub data IsDamaged (asked : ℕ) (log manifest tables : List ℕ) (damage : Bad) : Type 0 where
-  in_log : IsLogDamaged log damage → IsDamaged asked log manifest tables damage
-  in_manifest : (id : ℕ) (history : List Entry) → Finds asked id history log → IsManifestDamaged id manifest damage → IsDamaged asked log manifest tables damage
-  in_edit : (id : ℕ) (history : List Entry) (edits : List Edit) → Finds asked id history log → IsManifestOf id edits manifest → IsEditDamaged id history (last_edit edits) tables damage → IsDamaged asked log manifest tables damage
+  in_manifest : IsManifestDamaged manifest damage → IsDamaged asked log manifest tables damage
+  in_log : (found : ℕ) (edits : List Edit) → IsManifestOf found edits manifest → IsLogDamaged (place_of (last_edit edits)) log damage → IsDamaged asked log manifest tables damage
+  in_ids : (id found : ℕ) (c : Cut) (edits : List Edit) → IsManifestOf found edits manifest → Finds asked id (place_of (last_edit edits)) c log → IsOther id found manifest → damage ≡ bad.Stranger id found → IsDamaged asked log manifest tables damage
+  in_edit : (id : ℕ) (c : Cut) (edits : List Edit) → IsManifestOf id edits manifest → Finds asked id (place_of (last_edit edits)) c log → IsEditDamaged id c (last_edit edits) tables damage → IsDamaged asked log manifest tables damage

@@ -5,3 +5,5 @@ pub mod Parts
 pub mod Refused
 pub mod Shown
 pub mod Devices
+pub mod Standing
+pub mod Logs

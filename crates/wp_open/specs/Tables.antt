@@ -1,12 +1,13 @@
--- Why the tables of an edit, or one of them, could not be read, or are none of the history; and what that leaves of their device.
-use Rattle.std.specs.Prelude.{◌≡◌, ◌≢◌, ◌⊎◌, ℕ, ◌+◌, ◌<◌, ◌≤◌, List, ◌∷◌, ◌++◌, length}
+-- Why the tables of an edit, or one of them, could not be read, or are none of what the log spells; and what that leaves of their device.
+use Rattle.std.specs.Prelude.{◌≡◌, ◌⊎◌, ℕ, ◌+◌, ◌<◌, ◌≤◌, List, ◌∷◌, ◌++◌, length}
 use Rattle.std.specs.List.{AllByRecursion}
-use Rattle.wp_model.specs.declared.entry.Entry.{Entry}
 use Rattle.wp_model.specs.declared.version.Version.{Version}
 use Rattle.wp_outside.specs.declared.disk.Device.TheVariants as device
 use Rattle.wp_outside.specs.Disk.{Moment, IfKnown, added, after_sync}
+use Rattle.wp_cuts.specs.Cut.{Cut}
+use Rattle.wp_cuts.specs.LegalCut.{AreBelow}
 use Rattle.wp_gatelog.specs.Patched.{Shows, EndsAt}
-use Rattle.wp_manifest.specs.Edit.{Edit, place_of}
+use Rattle.wp_manifest.specs.Edit.{Edit}
 use Rattle.wp_table.specs.declared.error.TableError.{TableError}
 use Rattle.wp_table.specs.declared.error.TableError.TheVariants as table
 use Rattle.wp_table.specs.File.{HasTables}
@@ -14,8 +15,8 @@ use Rattle.wp_table.specs.Table.{IsTable}
 use Rattle.wp_open.specs.declared.bad.Bad.TheVariants as bad
 use Rattle.wp_open.specs.declared.opening.OpenError.{OpenError}
 use Rattle.wp_open.specs.declared.opening.OpenError.TheVariants as open_error
-use Rattle.wp_open.specs.Damage.{HasTableFault, IsFirstBadTable, IsOwnFault}
-use Rattle.wp_open.specs.Opens.{AreCovering}
+use Rattle.wp_open.specs.Damage.{HasTableFault, IsFirstBadTable, IsOwnFault, end_of, IsWithin, UndosRestore, IsWrongUndo}
+use Rattle.wp_open.specs.Opens.{AreCovering, all_in}
 use Rattle.wp_open.specs.Shown.{Sometime, WereShown}
 
 -- ---- why
@@ -85,21 +86,41 @@ IsTablesCause id rose wrong other = IsReadCause rose other
 abbrev pub AreTablesCause : ℕ → Edit → (rose : Type 0) → List Moment → OpenError → Type 0
 AreTablesCause id edit rose moments why = IsTablesCause id rose (IsFirstWrong id edit moments) why
 
--- These were read as the edit's tables, and do not cover the history. Where the device is known, it has them at their places.
-pub record WereUncovered (id : ℕ) (history : List Entry) (edit : Edit) (moments : List Moment) : Type 0 where
-  pub parts : List (List Version)
+-- These were read as the edit's tables. Where the device is known, it has them at their places.
+pub record WereTables (id : ℕ) (edit : Edit) (moments : List Moment) (parts : List (List Version)) : Type 0 where
   pub as_many : length parts ≡ length edit.tables
   pub are : AllByRecursion (IsTable id edit.flushed) parts
-  pub uncovered : AreCovering history edit parts → ⊥
   pub known : IfKnown moments (λ m. HasTables id edit.flushed m.reads edit.tables parts)
 
--- Why the store of an edit was not opened. The edit names another place than the one where the log is; or the log is behind
--- the edit; or it is neither, and the tables were refused, or they do not cover the history.
-pub data IsStoreCause (id : ℕ) (history : List Entry) (edit : Edit) (rose : Type 0) (moments : List Moment) (why : OpenError) : Type 0 where
-  not_there : place_of edit ≢ 0 → why ≡ open_error.Contents (bad.BadHead device.Log) → IsStoreCause id history edit rose moments why
-  behind : place_of edit ≡ 0 → length history < edit.flushed → why ≡ open_error.Contents (bad.LogBehind edit.flushed (length history)) → IsStoreCause id history edit rose moments why
-  of_tables : place_of edit ≡ 0 → edit.flushed ≤ length history → AreTablesCause id edit rose moments why → IsStoreCause id history edit rose moments why
-  not_covered : place_of edit ≡ 0 → edit.flushed ≤ length history → why ≡ open_error.Contents bad.Uncovered → WereUncovered id history edit moments → IsStoreCause id history edit rose moments why
+-- ... and over them an undo is wrong
+pub record WereIllegal (id : ℕ) (c : Cut) (edit : Edit) (moments : List Moment) (number : ℕ) : Type 0 where
+  pub parts : List (List Version)
+  pub read : WereTables id edit moments parts
+  pub wrong : IsWrongUndo c parts number
+
+-- ... or each undo is right, and they do not cover what stands for them and the cut
+pub record WereUncovered (id : ℕ) (c : Cut) (edit : Edit) (moments : List Moment) : Type 0 where
+  pub parts : List (List Version)
+  pub read : WereTables id edit moments parts
+  pub undos : UndosRestore c parts
+  pub uncovered : AreCovering c edit parts → ⊥
+
+-- Why the store of an edit was not opened. The base is ahead of the edit, or the log is behind it. Or it is neither, and the tables were
+-- refused; or an undo is wrong over them; or they do not cover the history.
+pub data IsStoreCause (id : ℕ) (c : Cut) (edit : Edit) (rose : Type 0) (moments : List Moment) (why : OpenError) : Type 0 where
+  ahead : edit.flushed < c.base → why ≡ open_error.Contents (bad.BaseAhead c.base edit.flushed) → IsStoreCause id c edit rose moments why
+  behind : c.base ≤ edit.flushed → end_of c < edit.flushed → why ≡ open_error.Contents (bad.LogBehind edit.flushed (end_of c)) → IsStoreCause id c edit rose moments why
+  of_tables : IsWithin c edit → AreTablesCause id edit rose moments why → IsStoreCause id c edit rose moments why
+  not_legal : (number : ℕ) → IsWithin c edit → WereIllegal id c edit moments number → why ≡ open_error.Contents (bad.Illegal number) → IsStoreCause id c edit rose moments why
+  not_covered : IsWithin c edit → WereUncovered id c edit moments → why ≡ open_error.Contents bad.Uncovered → IsStoreCause id c edit rose moments why
+
+-- Why no history stands for the cut and these tables: memory ran out, or an undo is wrong over them; or each is right, and a version of a
+-- carried prepare's key is not below it.
+abbrev pub IsHistoryCause : Cut → List (List Version) → OpenError → Type 0
+IsHistoryCause c parts open_error.Memory = Unit {0}
+IsHistoryCause c parts (open_error.Contents (bad.Illegal number)) = IsWrongUndo c parts number
+IsHistoryCause c parts (open_error.Contents bad.Uncovered) = UndosRestore c parts × (AreBelow c (all_in parts) → ⊥)
+IsHistoryCause c parts other = ⊥
 
 -- ---- what is left
 
@@ -107,9 +128,9 @@ pub data IsStoreCause (id : ℕ) (history : List Entry) (edit : Edit) (rose : Ty
 abbrev pub IsAtMostSynced : List Moment → List Moment → Type 0
 IsAtMostSynced old new = (new ≡ old) ⊎ (new ≡ added after_sync old)
 
--- The device was not called where the log is elsewhere, or behind the edit; else it was synced, unless it failed.
+-- The device was not called where the base is ahead of the edit, or the log behind it; else it was synced, unless it failed.
 abbrev pub LeavesSynced : (same : Type 0) → List Moment → List Moment → OpenError → Type 0
-LeavesSynced same old new (open_error.Contents (bad.BadHead failed)) = same
+LeavesSynced same old new (open_error.Contents (bad.BaseAhead base flushed)) = same
 LeavesSynced same old new (open_error.Contents (bad.LogBehind flushed published)) = same
 LeavesSynced same old new (open_error.OpenFault failed) = IsAtMostSynced old new
 LeavesSynced same old new other = new ≡ added after_sync old

@@ -17,6 +17,8 @@ pub enum Bad {
     Stranger { log: u32, found: u32 },
     /// The manifest's record with this index, from 0 on, is cut; or none is, and it is the first that is no edit.
     BadEdit { index: u64 },
+    /// The log's base is above what the last edit has flushed.
+    BaseAhead { base: Seq, flushed: Seq },
     /// The last edit has flushed more entries than the log has.
     LogBehind { flushed: Seq, length: Seq },
     /// The table at this place has this fault.
@@ -33,6 +35,7 @@ impl fmt::Display for Bad {
             Bad::Illegal { number } => write!(f, "illegal {number}"),
             Bad::Stranger { log, found } => write!(f, "stranger {log} {found}"),
             Bad::BadEdit { index } => write!(f, "bad edit {index}"),
+            Bad::BaseAhead { base, flushed } => write!(f, "base ahead {base} {flushed}"),
             Bad::LogBehind { flushed, length } => write!(f, "log behind {flushed} {length}"),
             Bad::BadTable { place, why } => write!(f, "bad table {place} {why}"),
             Bad::Uncovered => write!(f, "uncovered"),
@@ -55,6 +58,10 @@ impl Drop for Bad {
                 found: _found,
             } => {}
             Bad::BadEdit { index: _index } => {}
+            Bad::BaseAhead {
+                base: _base,
+                flushed: _flushed,
+            } => {}
             Bad::LogBehind {
                 flushed: _flushed,
                 length: _length,

@@ -1,10 +1,11 @@
 //! Whether the tables cover the history.
-ghost use Rattle.std.specs.Prelude.{◌≡◌, ◌↔◌, ◌≤◌, [], true, length, IfOk};
-ghost use Rattle.wp_model.specs.Flushed.{later_versions};
+ghost use Rattle.std.specs.Prelude.{◌≡◌, ◌↔◌, ◌≤◌, true, length, IfOk};
 ghost use Rattle.wp_model.specs.Legal.{IsLegal};
+ghost use Rattle.wp_cuts.specs.Cut.{IsCut};
+ghost use Rattle.wp_cuts.specs.LegalCut.{AreBelow};
 ghost use Rattle.wp_manifest.specs.Edit.{Edit};
-ghost use Rattle.wp_merge.specs.Merge.{sorted_of};
-ghost use Rattle.wp_open.specs.Opens.{AreCovering};
+ghost use Rattle.wp_ledger.specs.Outline.{cut_in};
+ghost use Rattle.wp_open.specs.Opens.{AreCovering, all_in, history_over};
 
 use std::alloc::{AllocError, Global};
 use wp_cover::tables_cover;
@@ -20,7 +21,15 @@ fn is_all_in_memory(flushed: Seq, store: &Store) -> bool
     flushed == 0 && store.table_count() == 0
 }
 
-/// Whether the tables of a store that was just made show every reader what the history holds, with the versions in memory.
+/// What is so of each history: it is legal, and has the cut that it says.
+fn shows_cut(history: &History)
+    ensures legal { IsLegal history.now.entries }
+    ensures cut { IsCut history.now.entries (cut_in history.now) }
+{
+    let _ = history.later();
+}
+
+/// Whether a store's tables show every reader what the history holds that stands for them, with the versions of its later entries.
 /// Those are of the history's own entries, and are taken from there. Where nothing was flushed they do, and nothing is
 /// read.
 pub fn are_covering(
@@ -29,11 +38,13 @@ pub fn are_covering(
     flushed: Seq,
     store: &Store,
 ) -> Result<bool, AllocError>
-    requires { history.now.base ≡ 0 }
-    ensures { (edit : Edit) → flushed ≡ edit.flushed → edit.flushed ≤ length history.now.entries → IsLegal history.now.entries
-        → store.now.memory ≡ sorted_of (later_versions history.now.entries edit.flushed) → store.now.frozen ≡ []
-        → IfOk result (λ yes. (yes ≡ true) ↔ AreCovering history.now.entries edit store.now.tables) }
+    requires base { history.now.base ≤ flushed }
+    requires within { flushed ≤ length history.now.entries }
+    requires full { history.now.entries ≡ history_over (cut_in history.now) store.now.tables }
+    requires below { AreBelow (cut_in history.now) (all_in store.now.tables) }
+    ensures { (edit : Edit) → flushed ≡ edit.flushed → IfOk result (λ yes. (yes ≡ true) ↔ AreCovering (cut_in history.now) edit store.now.tables) }
 {
+    shows_cut(history);
     if is_all_in_memory(flushed, store) {
         return Ok(true);
     }

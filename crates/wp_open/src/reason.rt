@@ -27,7 +27,6 @@ pub fn manifest_reason(error: ManifestError) -> OpenError
         ManifestError::Memory => OpenError::Memory,
         ManifestError::DiskFault => OpenError::OpenFault(Device::Manifest),
         ManifestError::BadHead => OpenError::Contents(Bad::BadHead(Device::Manifest)),
-        ManifestError::Stranger { log, found } => OpenError::Contents(Bad::Stranger { log, found }),
         ManifestError::BadEdit { index } => OpenError::Contents(Bad::BadEdit { index }),
     }
 }

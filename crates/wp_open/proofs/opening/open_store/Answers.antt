@@ -1,23 +1,105 @@
-use Rattle.std.proofs.Common.{◌≡◌, ℕ, ◌≤◌, List, length, map, refl, ap, ◌∙◌, subst, arith, rules}
+use Rattle.std.proofs.Common.{ℕ, List, map, refl, sym, ap, ◌∙◌, subst, arith}
 use Rattle.std.specs.Arc.{arc_value}
+use Rattle.std.proofs.lemmas.Result.{err_from_is_err_and}
 use Rattle.wp_model.specs.declared.version.Version.{Version}
 use Rattle.wp_model.specs.Flushed.{later_versions}
-use Rattle.wp_manifest.specs.Edit.{Edit, place_of}
+use Rattle.wp_cuts.specs.Cut.{Cut}
+use Rattle.wp_cuts.specs.LegalCut.{AreBelow}
+use Rattle.wp_ledger.specs.Outline.{cut_in}
+use Rattle.wp_manifest.specs.Edit.{Edit}
 use Rattle.wp_merge.specs.Merge.{sorted_of}
-use Rattle.wp_open.specs.Opens.{AreCovering}
+use Rattle.wp_open.specs.Opens.{AreCovering, all_in}
 use Rattle.wp_open.specs.Tables.{not_covered}
-use Rattle.wp_open.proofs.Stages.{not_covering, uncovered_here}
+use Rattle.wp_open.proofs.Stages.{not_covering, were_tables}
+use Rattle.wp_open.proofs.Within.{apart_cause, apart_left, end_over, full_moved, history_cause, history_left, undos_over}
 use Rattle.wp_open.proofs.opening.open_store.Goals as goal
+
+-- ---- the base is ahead, or the log behind
+
+pub returns-in-Err-clause-cause : goal.returns-in-Err-clause-cause
+returns-in-Err-clause-cause g c = apart_cause c.args.id (cut_in c.args.outline) c.args.edit.now _ _ _ c.in-Err.ensures.err
+
+pub returns-in-Err-clause-left : goal.returns-in-Err-clause-left
+returns-in-Err-clause-left g c = apart_left (cut_in c.args.outline) c.args.edit.now _ _ _ _ c.in-Err.ensures.err refl
+
+-- ---- no history stands for the log and the tables
+
+pub returns-in_err-history-clause-cause : goal.returns-in_err-history-clause-cause
+returns-in_err-history-clause-cause g c =
+    let p = err_from_is_err_and c.from_residual-in_err-history.result c.from_residual-in_err-history.ensures.1 in
+    let parts = map arc_value c.in_ok-parts.parts.items in
+    rw (p.1, p.2)
+    (history_cause c.args.id (cut_in c.args.outline) c.args.edit.now _ _ parts c.in_err-history.field-0.0 c.in-Ok.ensures.ok
+    (were_tables c.args.id c.args.edit.now (g.D.Peek.moments c.args.tables.now) (g.D.Peek.moments c.sync.new.self) parts c.in-Ok-sync.ensures.done c.in_ok-parts.ensures.as_many c.in_ok-parts.ensures.are c.in_ok-parts.ensures.found) (rw c.deref.ensures.value at c.in_err-history.ensures.cause))
+
+pub returns-in_err-history-clause-left : goal.returns-in_err-history-clause-left
+returns-in_err-history-clause-left g c =
+    let p = err_from_is_err_and c.from_residual-in_err-history.result c.from_residual-in_err-history.ensures.1 in
+    rw (p.1, p.2) (history_left (cut_in c.args.outline) (map arc_value c.deref.result.now) _ _ _ c.in_err-history.field-0.0 c.in_err-history.ensures.cause (c.own_tables.ensures.unchanged ∙ c.in-Ok-sync.ensures.done))
+
+-- ---- what the later entries and the covering ask
+
+pub later_memory-requires-clause-from : goal.later_memory-requires-clause-from
+later_memory-requires-clause-from g c =
+    let low = c.in-Ok.ensures.ok.base in
+    omega (arith, low, c.in_ok-history.ensures.base, ap (λ (e : Edit). e.flushed) c.edit.view_is)
+
+pub later_memory-requires-clause-within : goal.later_memory-requires-clause-within
+later_memory-requires-clause-within g c =
+    let high = end_over (cut_in c.args.outline) c.args.edit.now c.in_ok-history.history.entries (map arc_value c.deref.result.now) c.in-Ok.ensures.ok c.in_ok-history.ensures.full in
+    omega (arith, high, ap (λ (e : Edit). e.flushed) c.edit.view_is)
+
+pub are_covering-requires-clause-base : goal.are_covering-requires-clause-base
+are_covering-requires-clause-base g c =
+    let low = c.in-Ok.ensures.ok.base in
+    omega (arith, low, c.in_ok-history.ensures.base, ap (λ (e : Edit). e.flushed) c.edit.view_is)
+
+pub are_covering-requires-clause-within : goal.are_covering-requires-clause-within
+are_covering-requires-clause-within g c =
+    let high = end_over (cut_in c.args.outline) c.args.edit.now c.in_ok-history.history.entries (map arc_value c.deref.result.now) c.in-Ok.ensures.ok c.in_ok-history.ensures.full in
+    omega (arith, high, ap (λ (e : Edit). e.flushed) c.edit.view_is)
+
+pub are_covering-requires-clause-full : goal.are_covering-requires-clause-full
+are_covering-requires-clause-full g c =
+    full_moved (cut_in c.args.outline) (cut_in c.in_ok-history.history) c.in_ok-history.history.entries (map arc_value c.deref.result.now) c.new-store.result.tables c.in_ok-history.ensures.full c.in_ok-history.ensures.cut (c.new-store.ensures.tables ∙ sym (ap (map arc_value) c.deref.ensures.value))
+
+pub are_covering-requires-clause-below : goal.are_covering-requires-clause-below
+are_covering-requires-clause-below g c =
+    let tables = c.new-store.ensures.tables ∙ sym (ap (map arc_value) c.deref.ensures.value) in
+    subst (λ (d : Cut). AreBelow d (all_in c.new-store.result.tables)) (sym c.in_ok-history.ensures.cut)
+    (subst (λ (parts : List (List Version)). AreBelow (cut_in c.args.outline) (all_in parts)) (sym tables) c.in_ok-history.ensures.below)
+
+-- ---- they do not cover it
 
 pub returns-then-not-branch-clause-cause : goal.returns-then-not-branch-clause-cause
 returns-then-not-branch-clause-cause g c =
-    let history = c.args.history.now.entries in
+    let edit = c.args.edit.now in
+    let cut = cut_in c.args.outline in
+    let parts = map arc_value c.in_ok-parts.parts.items in
+    let flushed_is = ap (λ (e : Edit). e.flushed) c.edit.view_is in
+    let covering = c.in_ok-are_covering.ensures edit flushed_is in
+    let read = were_tables c.args.id edit (g.D.Peek.moments c.args.tables.now) (g.D.Peek.moments c.sync.new.self) parts c.in-Ok-sync.ensures.done c.in_ok-parts.ensures.as_many c.in_ok-parts.ensures.are c.in_ok-parts.ensures.found in
+    not_covered c.in-Ok.ensures.ok (record {
+      parts = parts;
+      read = read;
+      undos = undos_over cut c.in_ok-history.history.entries parts (rw c.deref.ensures.value at c.in_ok-history.ensures.full) c.in_ok-memory.ensures.legal;
+      uncovered = subst (λ (d : Cut). AreCovering d edit parts → ⊥) c.in_ok-history.ensures.cut
+          (subst (λ (ps : List (List Version)). AreCovering (cut_in c.in_ok-history.history) edit ps → ⊥) c.new-store.ensures.tables
+          (not_covering c.in_ok-are_covering.field-0 (AreCovering (cut_in c.in_ok-history.history) edit c.new-store.result.tables) covering c.if-not-branch.true));
+    }) refl
+
+-- ---- the store
+
+pub returns-clause-store : goal.returns-clause-store
+returns-clause-store g c =
     let edit = c.args.edit.now in
     let flushed_is = ap (λ (e : Edit). e.flushed) c.edit.view_is in
-    let low : edit.flushed ≤ length history = omega (arith, flushed_is, c.published-published.ensures.value, c.if-edit-published.false) in
-    let memory_is = c.new-store.ensures.memory ∙ c.in_ok-memory.ensures.memory ∙ ap (λ (n : ℕ). sorted_of (later_versions history n)) flushed_is in
-    let here : place_of edit ≡ 0 = search rules in
-    let covering = c.in_ok-are_covering.ensures edit flushed_is low c.in_ok-memory.ensures.legal memory_is c.new-store.ensures.frozen in
-    let parts_is = c.new-store.ensures.tables in
-    not_covered here low refl (uncovered_here c.args.id history edit (g.D.Peek.moments c.args.tables.now) (g.D.Peek.moments c.sync.new.self) (map arc_value c.in_ok-parts.parts.items) c.in-Ok.ensures.done c.in_ok-parts.ensures.as_many c.in_ok-parts.ensures.are c.in_ok-parts.ensures.found
-    (subst (λ (parts : List (List Version)). AreCovering history edit parts → ⊥) parts_is (not_covering c.in_ok-are_covering.field-0 (AreCovering history edit c.new-store.result.tables) covering c.if-not-branch.true)))
+    let covering = c.in_ok-are_covering.ensures edit flushed_is in
+    let tables = c.new-store.ensures.tables ∙ sym (ap (map arc_value) c.deref.ensures.value) in
+    record {
+      full = full_moved (cut_in c.args.outline) (cut_in c.args.outline) c.in_ok-history.history.entries (map arc_value c.deref.result.now) c.new-store.result.tables c.in_ok-history.ensures.full refl tables;
+      legal = c.in_ok-memory.ensures.legal;
+      covering = subst (λ (d : Cut). AreCovering d edit c.new-store.result.tables) c.in_ok-history.ensures.cut (covering.0 c.if-not-branch.false);
+      memory = c.new-store.ensures.memory ∙ c.in_ok-memory.ensures.memory ∙ ap (λ (n : ℕ). sorted_of (later_versions c.in_ok-history.history.entries n)) flushed_is;
+      frozen = c.new-store.ensures.frozen;
+    }

@@ -1,0 +1,75 @@
+-- Whether what a log tells is of the entries that an edit has flushed; and what reading over it comes to.
+use Rattle.std.proofs.Common.{◌≡◌, ℕ, ◌<◌, ◌≤◌, List, length, inl, inr, refl, sym, ap, ◌∙◌, subst, arith, length-drop}
+use Rattle.wp_model.specs.declared.entry.Entry.{Entry}
+use Rattle.wp_model.specs.declared.version.Version.{Version}
+use Rattle.wp_model.specs.Legal.{IsLegal}
+use Rattle.wp_outside.specs.Disk.{Moment, added, after_sync}
+use Rattle.wp_cuts.specs.Cut.{Cut}
+use Rattle.wp_cuts.proofs.FullList.{full_long}
+use Rattle.wp_ledger.specs.History.{RoomyHistory}
+use Rattle.wp_ledger.specs.Outline.{cut_in}
+use Rattle.wp_manifest.specs.Edit.{Edit}
+use Rattle.wp_open.specs.declared.bad.Bad.TheVariants as bad
+use Rattle.wp_open.specs.declared.opening.OpenError.{OpenError}
+use Rattle.wp_open.specs.declared.opening.OpenError.TheVariants as open_error
+use Rattle.wp_open.specs.Damage.{IsWithin, UndosRestore, end_of, standing}
+use Rattle.wp_open.specs.Opens.{all_in, history_over}
+use Rattle.wp_open.specs.Refused.{IsApart}
+use Rattle.wp_open.specs.Tables.{IsHistoryCause, IsStoreCause, ahead, behind, of_tables, not_legal, not_covered, LeavesSynced, WereTables}
+use Rattle.wp_open.proofs.Undos.{legal_restores}
+
+-- ---- the numbers
+
+end_is : (h : RoomyHistory) → h.base ≤ length h.entries → end_of (cut_in h) ≡ length h.entries
+end_is h within = let left = length-drop h.base h.entries in omega (arith, left, within)
+
+module _ (h : RoomyHistory) (edit : Edit) (base flushed : ℕ) (base_is : base ≡ h.base) (flushed_is : flushed ≡ edit.flushed) where
+  pub ahead_by : flushed < base → IsApart (cut_in h) edit (open_error.Contents (bad.BaseAhead base flushed))
+  ahead_by lt = inl (omega (arith, lt, base_is, flushed_is), λ i. open_error.Contents (bad.BaseAhead (base_is i) (flushed_is i)))
+
+  module _ (all : ℕ) (all_is : all ≡ length h.entries) (from : h.base ≤ all) (low : base ≤ flushed) where
+    its_end : all ≡ end_of (cut_in h)
+    its_end = all_is ∙ sym (end_is h (omega (arith, from, all_is)))
+
+    pub behind_by : all < flushed → IsApart (cut_in h) edit (open_error.Contents (bad.LogBehind flushed all))
+    behind_by lt = inr (omega (arith, low, base_is, flushed_is), omega (arith, lt, its_end, flushed_is), λ i. open_error.Contents (bad.LogBehind (flushed_is i) (its_end i)))
+
+    pub within_by : flushed ≤ all → IsWithin (cut_in h) edit
+    within_by le = record { base = omega (arith, low, base_is, flushed_is); flushed = omega (arith, le, its_end, flushed_is) }
+
+pub end_over : (c : Cut) (edit : Edit) (entries : List Entry) (parts : List (List Version)) → IsWithin c edit → entries ≡ history_over c parts → edit.flushed ≤ length entries
+end_over c edit entries parts within full = let high = within.flushed in let long = full_long c (all_in parts) in omega (arith, high, long, ap (λ (es : List Entry). length es) full)
+
+pub full_moved : (c d : Cut) (entries : List Entry) (parts tables : List (List Version)) → entries ≡ history_over c parts → d ≡ c → tables ≡ parts → entries ≡ history_over d tables
+full_moved c d entries parts tables full cuts same = full ∙ (λ i. history_over (sym cuts i) (sym same i))
+
+-- a legal history has no wrong undo
+pub undos_over : (c : Cut) (entries : List Entry) (parts : List (List Version)) → entries ≡ history_over c parts → IsLegal entries → UndosRestore c parts
+undos_over c entries parts full legal = legal_restores (standing c parts) (end_of c) (subst IsLegal full legal)
+
+-- ---- why
+
+module _ (id : ℕ) (c : Cut) (edit : Edit) (rose : Type 0) (moments : List Moment) where
+  pub apart_cause : (why : OpenError) → IsApart c edit why → IsStoreCause id c edit rose moments why
+  apart_cause why (inl (lt, named)) = ahead lt named
+  apart_cause why (inr (low, lt, named)) = behind low lt named
+
+  pub history_cause : (parts : List (List Version)) (why : OpenError) → IsWithin c edit → WereTables id edit moments parts → IsHistoryCause c parts why → IsStoreCause id c edit rose moments why
+  history_cause parts open_error.Memory within read cause = of_tables within tt
+  history_cause parts (open_error.OpenFault device) within read cause = absurd cause
+  history_cause parts (open_error.Contents (bad.Illegal number)) within read cause = not_legal number within (record { parts = parts; read = read; wrong = cause }) refl
+  history_cause parts (open_error.Contents bad.Uncovered) within read cause = not_covered within (record { parts = parts; read = read; undos = cause.0; uncovered = λ covering. cause.1 covering.below }) refl
+  history_cause parts (open_error.Contents other) within read cause = absurd cause
+
+-- ---- what is left
+
+pub apart_left : (c : Cut) (edit : Edit) (same : Type 0) (old new : List Moment) (why : OpenError) → IsApart c edit why → same → LeavesSynced same old new why
+apart_left c edit same old new why (inl (lt, named)) is = subst (LeavesSynced same old new) (sym named) is
+apart_left c edit same old new why (inr (low, lt, named)) is = subst (LeavesSynced same old new) (sym named) is
+
+pub history_left : (c : Cut) (parts : List (List Version)) (same : Type 0) (old new : List Moment) (why : OpenError) → IsHistoryCause c parts why → new ≡ added after_sync old → LeavesSynced same old new why
+history_left c parts same old new open_error.Memory cause is = is
+history_left c parts same old new (open_error.OpenFault device) cause is = absurd cause
+history_left c parts same old new (open_error.Contents (bad.Illegal number)) cause is = is
+history_left c parts same old new (open_error.Contents bad.Uncovered) cause is = is
+history_left c parts same old new (open_error.Contents other) cause is = absurd cause
