@@ -54,7 +54,7 @@ tables_flushed id flushed parts all = each_sorted (is_flushed flushed) (joined p
 
 -- ---- a later number
 
-later_flushed : (old flushed : ℕ) → old ≤ flushed → (versions : List Version) → list_all (is_flushed old) versions ≡ true → list_all (is_flushed flushed) versions ≡ true
+pub later_flushed : (old flushed : ℕ) → old ≤ flushed → (versions : List Version) → list_all (is_flushed old) versions ≡ true → list_all (is_flushed flushed) versions ≡ true
 later_flushed old flushed later = each_weaker (is_flushed old) (is_flushed flushed) (λ v within. le-leb v.number flushed (omega (arith, later, leb-true v.number old within)))
 
 -- versions that were flushed up to now, and before them some that were flushed before

@@ -1,9 +1,11 @@
+pub mod CarriedLemmas
 pub mod LogLemmas
 pub mod StockLemmas
 pub mod FlushedVersions
 pub mod EditsLemmas
 pub mod InstallLemmas
 pub mod LaterVersions
+pub mod Reopens
 pub mod OpeningLemmas
 pub mod Sent
 pub use Rattle.wp_merge.proofs.Sorted

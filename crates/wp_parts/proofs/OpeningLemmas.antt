@@ -1,8 +1,8 @@
 -- An opened store is an opening world of the machine.
-use Rattle.std.proofs.Common.{◌≡◌, ◌⊎◌, inl, inr, ℕ, ◌+◌, ◌<◌, ◌≤◌, true, false, true≢false, List, [], ◌∷◌, ◌++◌, length, replicate, Option, Some, None, is_some, refl, sym, ap, ◌∙◌, subst, append-nil, arith}
+use Rattle.std.proofs.Common.{◌≡◌, ◌⊎◌, inl, inr, ℕ, ◌+◌, ◌<◌, ◌≤◌, ◌==◌, true, false, true≢false, List, [], ◌∷◌, ◌++◌, length, replicate, Option, Some, None, is_some, refl, sym, ap, ◌∙◌, subst, append-nil, arith}
 use mathlib.Core.Option.{some}
 use lib.ListN.{get_elem?}
-use Rattle.std.proofs.lemmas.Bool.{cases_lt}
+use Rattle.std.proofs.lemmas.Bool.{cases_lt, or_cases, or_left}
 use Rattle.std.proofs.lemmas.List.{length-replicate}
 use Rattle.std.proofs.lemmas.List.Elements.{All-replicate}
 use Rattle.std.proofs.lemmas.List.FromFn.{length-range_with_len, get_or-range_with_len}
@@ -16,27 +16,31 @@ use Rattle.wp_model.specs.declared.entry.Entry.{Entry}
 use Rattle.wp_model.specs.declared.entry.Entry.TheVariants as entry
 use Rattle.wp_model.specs.declared.version.Version.{Version}
 use Rattle.wp_model.specs.Covered.{IsCovered, is_among}
-use Rattle.wp_model.specs.Flushed.{InstalledEdit, IsEditCovered, later_versions, first_segment}
+use Rattle.wp_model.specs.Flushed.{InstalledEdit, IsEditCovered, later_versions}
 use Rattle.wp_model.specs.History.{is_undecided, undecided}
 use Rattle.wp_model.specs.Legal.{undone_last}
 use Rattle.wp_model.specs.Snapshots.{Snapshots}
 use Rattle.wp_model.specs.Versions.{version_at}
 use Rattle.wp_model.proofs.Entries.{undone_after}
+use Rattle.wp_cuts.specs.Cut.{Cut, IsCut}
+use Rattle.wp_cuts.proofs.FullList.{full_is_cut, full_long}
+use Rattle.wp_cuts.proofs.Whole.{full_undone}
 use Rattle.wp_outside.specs.Disk.{Moment, IfKnown, added, after_sync}
 use Rattle.wp_fields.specs.declared.format.Format.{Format}
+use Rattle.wp_fields.specs.declared.format.Format.TheVariants.{One, Two}
 use Rattle.wp_entry.specs.Record.{FormRecord}
 use Rattle.wp_manifest.specs.Edit.{Edit}
 use Rattle.wp_manifest.specs.Manifest.{ManifestState}
 use Rattle.wp_merge.specs.Merge.{first_at, joined, sorted_of}
 use Rattle.wp_merge.proofs.Merged.{or_none}
-use Rattle.wp_merge.proofs.Sorted.{at_sorted, merged_is_sorted}
-use Rattle.wp_open.specs.Opens.{installed_of}
-use Rattle.wp_open.specs.Parts.{PartsOpened}
+use Rattle.wp_merge.proofs.Sorted.{at_sorted}
+use Rattle.wp_open.specs.Damage.{IsWithin}
+use Rattle.wp_open.specs.Parts.{PartsOpened, stored_cut}
 use Rattle.wp_open.proofs.Later.{at_append}
 use Rattle.wp_store.specs.Store.{StoreParts}
 use Rattle.wp_table.specs.File.{HasTables}
 use Rattle.wp_tableset.specs.Set.{RestsWith}
-use Rattle.wp_wal.specs.Spelling.{AreEntries}
+use Rattle.wp_wal.specs.Spelling.{AreCut, AreEntries}
 use Rattle.wp_wal.specs.Wal.{WalState}
 use Rattle.wp_core.specs.Turns.{Turn, write_turn, prepared_turn, snapshots_turn, store_turn, locks_turn, tables_turn, all_free}
 use Rattle.wp_core.specs.Changes.{turn_index}
@@ -50,9 +54,9 @@ use Rattle.wp_core.proofs.PublishesVersions.{up_to_within, up_to_past}
 use Rattle.wp_core.proofs.SnapshotsStep.{among_live}
 use Rattle.wp_core.proofs.Tests.{none_some}
 use Rattle.wp_rule.specs.Shows.{Founds, IsPart}
-use Rattle.wp_parts.specs.Log.{LogState, log_state}
+use Rattle.wp_parts.specs.Log.{LogState, log_state, open_ending}
 use Rattle.wp_parts.specs.Stock.{StockState, store_table}
-use Rattle.wp_parts.specs.Edits.{EditsState, edits_state}
+use Rattle.wp_parts.specs.Edits.{EditsState, edits_state, installed_at}
 use Rattle.wp_parts.specs.Opening.{AreFilled, IsFlagOf, running_set}
 use Rattle.wp_parts.specs.Parts.{content, LogStands, EditsStand, tells}
 use Rattle.wp_parts.specs.declared.part.Part.{Part}
@@ -77,10 +81,15 @@ closes_after : (front rest : List Entry) → undone_last front ≡ None → undo
 closes_after front [] closed rest_closed = ap undone_last (append-nil front) ∙ closed
 closes_after front (e ∷ rest) closed rest_closed = undone_after front rest e ∙ rest_closed
 
-pub all_close : (format : Format) (first : ℕ) (records : List (List ℕ)) (entries : List Entry) → AreEntries format first records entries → undone_last entries ≡ None
+all_close : (format : Format) (first : ℕ) (records : List (List ℕ)) (entries : List Entry) → AreEntries format first records entries → undone_last entries ≡ None
 all_close format first [] entries is = ap undone_last is
 all_close format first (r ∷ records) entries (front, rest, parts, is, bytes, more) =
     ap undone_last parts ∙ closes_after front rest (record_closes format first front is.form) (all_close format (first + length front) records rest more)
+
+cut_closes : (format : Format) (place : ℕ) (records : List (List ℕ)) (c : Cut) → AreCut format place records c → undone_last c.entries ≡ None
+cut_closes One place records c (none, nothing, are, there) = all_close One 1 records c.entries are
+cut_closes Two place [] c (first, is) = ap (λ (d : Cut). undone_last d.entries) is
+cut_closes Two place (r ∷ records) c (is, bytes, are) = all_close Two (c.base + 1) records c.entries are
 
 -- ---- the tables at rest
 
@@ -112,7 +121,7 @@ none_live n among = true≢false (sym among ∙ among_live finite.empty n ∙ ap
 
 module _ (asked : ℕ) (log manifest tables : List Moment) (wal : WalState) (history : List Entry) (edits : ManifestState) (now : List Moment) (store : StoreParts) (opened : PartsOpened asked log manifest tables wal history edits now store) where
   pub rests : IfKnown now (RestsWith edits.log.id edits.edit store.tables)
-  rests = rw opened.installed.id_is (synced_rests wal.id edits.edit store.tables tables now opened.synced opened.there)
+  rests = rw opened.one_id (synced_rests wal.id edits.edit store.tables tables now opened.synced opened.there)
 
   abbrev flushed : ℕ
   flushed = edits.edit.flushed
@@ -127,10 +136,21 @@ module _ (asked : ℕ) (log manifest tables : List Moment) (wal : WalState) (his
   later = later_versions history flushed
 
   abbrev last : InstalledEdit
-  last = installed_of edits.edit store.tables
+  last = installed_at wal.segment.base edits.edit store.tables
+
+  -- what the log has of the history
+  abbrev cut : Cut
+  cut = stored_cut wal history
 
   covered : IsEditCovered history last
-  covered = subst (λ (vs : List Version). IsEditCovered history (record { segment = first_segment; flushed = flushed; versions = vs; tables = length store.tables })) (merged_is_sorted store.tables opened.store.covering.all opened.store.covering.merged) opened.store.covering.covered
+  covered = subst (λ (h : List Entry). IsEditCovered h last) (sym opened.store.full) opened.store.covering.covered
+
+  -- all that was flushed is in the log, and so is its base
+  pub is_within : IsWithin cut edits.edit
+  is_within = record {
+    base = opened.store.covering.covered.base;
+    flushed = subst (λ (n : ℕ). flushed ≤ n) (full_long cut in_tables) opened.store.covering.covered.flushed;
+  }
 
   at_memory : (key : List ℕ) (p : ℕ) → version_at memory key p ≡ version_at later key p
   at_memory key p =
@@ -156,32 +176,50 @@ module _ (asked : ℕ) (log manifest tables : List Moment) (wal : WalState) (his
       apart (inr low) = inl (later_none history flushed key p low)
 
   memory_past : (key : List ℕ) (p : ℕ) → length history < p → version_at memory key p ≡ None
-  memory_past key p above = at_memory key p ∙ later_past history flushed key p opened.legal covered.flushed above
+  memory_past key p above = at_memory key p ∙ later_past history flushed key p opened.store.legal covered.flushed above
 
   within : (key : List ℕ) (p : ℕ) → version_at (up_to (length history) (memory ++ in_tables)) key p ≡ version_at (in_tables ++ later) key p
   within key p = elim (cases_lt (length history) p) [
     | inr low ↦ up_to_within (length history) (memory ++ in_tables) key p low ∙ at_all key p
     | inl above ↦
         up_to_past (length history) (memory ++ in_tables) key p above
-        ∙ sym (at_append in_tables later key p ∙ ap (λ (o : Found). option_or o (version_at later key p)) (at_tables key p (omega (arith, above, covered.flushed))) ∙ later_past history flushed key p opened.legal covered.flushed above)
+        ∙ sym (at_append in_tables later key p ∙ ap (λ (o : Found). option_or o (version_at later key p)) (at_tables key p (omega (arith, above, covered.flushed))) ∙ later_past history flushed key p opened.store.legal covered.flushed above)
   ]
 
-  shown : IsCovered (up_to (length history) (memory ++ in_tables)) history (0 ∷ []) (length history)
-  shown = covers_same (in_tables ++ later) (up_to (length history) (memory ++ in_tables)) history (0 ∷ []) (length history) within covered.covered
+  shown : IsCovered (up_to (length history) (memory ++ in_tables)) history (wal.segment.base ∷ []) (length history)
+  shown = covers_same (in_tables ++ later) (up_to (length history) (memory ++ in_tables)) history (wal.segment.base ∷ []) (length history) within covered.covered
 
   in_edit : (key : List ℕ) (p : ℕ) (value : Option (List ℕ)) → version_at in_tables key p ≡ Some value → version_at (in_tables ++ later) key p ≡ Some value
   in_edit key p value is = at_append in_tables later key p ∙ ap (λ (o : Found). option_or o (version_at later key p)) is
 
-  stored : (failed : Option InstalledEdit) → failed ≡ None → IsStored history [] finite.empty (record { memory = memory; tables = in_tables; floor = length history }) (record { last = last; failed = failed; halted = false })
+  stored : (failed : Option InstalledEdit) → failed ≡ None → IsStored history [] last.segment.base finite.empty (record { memory = memory; tables = in_tables; floor = length history }) (record { last = last; failed = failed; halted = false })
   stored failed none = record {
-    covered = record { part = shown.part; undecided = shown.undecided; undone = shown.undone; listed = λ key n among. absurd (none_live n among); later = shown.later };
+    covered = record {
+      part = shown.part;
+      undecided = shown.undecided;
+      undone = shown.undone;
+      listed = λ key n among. shown.listed key n (elim (or_cases (wal.segment.base == n) (is_among (live_numbers finite.empty) n) among) [
+        | inl same ↦ or_left (wal.segment.base == n) false same
+        | inr there ↦ absurd (none_live n there)
+      ]);
+      later = shown.later;
+    };
+    based = covered.base;
     floor = omega arith;
     next = λ key p value above is. absurd (none_some (version_at memory key p) value (memory_past key p above) is);
     tables = λ key p value is. covered.covered.part key p value (in_edit key p value is);
     last = covered;
     failed = λ edit is. absurd (none_some failed edit none is);
-    in_memory = λ key p value above is. at_memory key p ∙ later_each history flushed key p opened.legal above ∙ is;
+    in_memory = λ key p value above is. at_memory key p ∙ later_each history flushed key p opened.store.legal above ∙ is;
   }
+
+  closed_undo : undone_last history ≡ None
+  closed_undo =
+      ap undone_last opened.store.full ∙ full_undone cut in_tables ∙ cut_closes wal.format wal.segment.place opened.opened.stores.records cut opened.opened.stores.spelled
+
+  -- the history has the log's cut
+  pub has_cut : IsCut history cut
+  has_cut = subst (λ (h : List Entry). IsCut h cut) (sym opened.store.full) (full_is_cut cut in_tables opened.opened.judged.orderly.numbered)
 
   none_flushed : NoneFlushed memory flushed
   none_flushed key p low = at_memory key p ∙ later_none history flushed key p low
@@ -190,7 +228,7 @@ module _ (asked : ℕ) (log manifest tables : List Moment) (wal : WalState) (his
 
   module _ {D : Type 0} (faults : ℕ) (slots : List (Part D)) (f : AreFilled wal history (running_set edits now faults) store slots) (client : List ℕ) (cells flag : ℕ) (some_cells : 1 ≤ cells) (flagged : IsFlagOf history flag) where
     abbrev installed : Installed
-    installed = (edits_state (running_set edits now faults) (running_set edits now faults) store.tables None).table
+    installed = (edits_state (running_set edits now faults) (running_set edits now faults) wal.segment.base store.tables None).table
 
     abbrev opened_world : World
     opened_world = record {
@@ -200,7 +238,7 @@ module _ (asked : ℕ) (log manifest tables : List Moment) (wal : WalState) (his
       old_flag = 0;
       cache = replicate cells 0;
       holders = all_free;
-      writes = (log_state wal wal history [] false []).table;
+      writes = (log_state wal wal history [] false open_ending).table;
       prepared = f.prepared.value;
       snapshots = finite.empty;
       store = store_table (record { parts = store; floor = length history });
@@ -215,14 +253,15 @@ module _ (asked : ℕ) (log manifest tables : List Moment) (wal : WalState) (his
 
     opens : IsOpening opened_world
     opens = record {
-      legal = opened.legal;
-      closed_undo = all_close wal.format 1 opened.stores.records history opened.stores.spelled;
+      legal = opened.store.legal;
+      closed_undo = closed_undo;
       history = refl;
       pending = refl;
       log = refl;
-      running_log = opened.running;
+      running_log = refl;
       none_failed = refl;
-      segment = refl;
+      unstopped = refl;
+      segment = λ i. record { place = opened.opened.placed i; base = wal.segment.base };
       none_next = refl;
       max_evicted = refl;
       words = rw length-replicate some_cells;

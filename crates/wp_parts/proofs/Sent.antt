@@ -7,6 +7,7 @@ use Rattle.std.proofs.Crossing.{crosses, Box-send, Vec-send}
 use Rattle.std.proofs.alloc.Global.TheSendSync as heap
 use Rattle.wp_outside.specs.declared.disk.Peek.{Ghosts}
 use Rattle.wp_model.proofs.entry.Entry.TheSendSync as entry
+use Rattle.wp_model.proofs.segment.Segment.TheSendSync as segment
 use Rattle.wp_ledger.proofs.Sent.{history_send}
 use Rattle.wp_wal.proofs.wal.Wal.TheSendSync as wal
 use Rattle.wp_parts.proofs.gone.Gone.TheSendSync as gone
@@ -28,11 +29,11 @@ pub log_send : (D : RattleType) (g : Ghosts D.Denot) → IsSend D → IsSend (Lo
 log_send D g d =
     view_send (LogInside.the_row D g) _ _ _ _
     (recorded_send (LogInside.the_field D g).row _ _ (LogInside.the_type D g).to_one
-    (struct_send (shape (LogInside.the_type D g)) (heap.the_field_send, (wal.the_send D g d, (history_send, (Vec-send _ entry.the_send, (plain_send _ _ _ _ _, (plain_send _ _ _ _ _, (search crosses, (search crosses, tt))))))))))
+    (struct_send (shape (LogInside.the_type D g)) (heap.the_field_send, (wal.the_send D g d, (history_send, (Vec-send _ entry.the_send, (plain_send _ _ _ _ _, (plain_send _ _ _ _ _, (plain_send _ _ _ _ _, (search crosses, (search (sendable, segment.the_send), (search crosses, tt))))))))))))
 
 failed_send : IsSend FailedInstall.the_row
 failed_send =
-    recorded_send (FailedInstall.the_field).row _ _ (FailedInstall.the_type).to_one (struct_send (shape FailedInstall.the_type) (plain_send _ _ _ _ _, (gone.the_field_send, (search crosses, tt))))
+    recorded_send (FailedInstall.the_field).row _ _ (FailedInstall.the_type).to_one (struct_send (shape FailedInstall.the_type) (segment.the_field_send, (plain_send _ _ _ _ _, (gone.the_field_send, (search crosses, tt)))))
 
 versions_send : IsSend TableVersions.the_row
 versions_send =
@@ -43,7 +44,7 @@ pub edits_send : (D : RattleType) (g : Ghosts D.Denot) → IsSend D → IsSend (
 edits_send D g d =
     view_send (EditsInside.the_row D g) _ _ _ _
     (recorded_send (EditsInside.the_field D g).row _ _ (EditsInside.the_type D g).to_one
-    (struct_send (shape (EditsInside.the_type D g)) (set.the_send D g d, (Vec-send _ versions_send, (search (sendable, failed_send), (search crosses, tt))))))
+    (struct_send (shape (EditsInside.the_type D g)) (heap.the_field_send, (set.the_send D g d, (plain_send _ _ _ _ _, (Vec-send _ versions_send, (search (sendable, failed_send), (search crosses, tt))))))))
 
 pub part_send : (D : RattleType) (g : Ghosts D.Denot) → IsSend D → IsSend (Part.the_row D g)
 part_send D g d =

@@ -1,12 +1,12 @@
 -- The value behind the tables turn: the tables of the store on their two devices.
-use Rattle.std.specs.Prelude.{◌≡◌, ◌⊎◌, ℕ, ◌≤◌, Bool, true, false, List, ◌∷◌, length, Option, Some, None}
+use Rattle.std.specs.Prelude.{◌≡◌, ◌⊎◌, ℕ, ◌≤◌, Bool, true, false, List, ◌∷◌, ◌++◌, length, Option, Some, None}
 use Rattle.std.specs.List.{list_all}
 use Rattle.wp_model.specs.declared.version.Version.{Version}
-use Rattle.wp_model.specs.Flushed.{InstalledEdit, first_segment}
+use Rattle.wp_model.specs.Flushed.{InstalledEdit}
 use Rattle.wp_outside.specs.Disk.{images}
 use Rattle.wp_outside.specs.Faults.{Rose}
 use Rattle.wp_gatelog.specs.Durability.{LosesNoRecord}
-use Rattle.wp_manifest.specs.Edit.{Edit, place_of}
+use Rattle.wp_manifest.specs.Edit.{Edit}
 use Rattle.wp_manifest.specs.Spelling.{MAGIC, IsManifestOf, last_edit}
 use Rattle.wp_merge.specs.Merge.{joined, sorted_of}
 use Rattle.wp_open.specs.Opens.{installed_of}
@@ -27,24 +27,30 @@ pub record EditsState : Type 0 where
   pub parts : List (List Version)
   pub first : TableSetState
 
+-- what an edit says, where these are its tables, and the log has this base at its place
+abbrev pub installed_at : ℕ → Edit → List (List Version) → InstalledEdit
+installed_at base edit parts = installed_of base edit parts
+
 -- ---- an install that failed
 
--- the tables once the new one takes the place of the frozen parts, or of all tables
+-- the tables once the new one takes the place of the frozen parts, or of all tables, or of the frozen parts if there are any
 abbrev pub parts_after : Gone → List Version → List (List Version) → List (List Version)
 parts_after gone.Frozen versions parts = versions ∷ parts
 parts_after gone.Tables versions parts = compacted_parts versions
+parts_after gone.Segment versions parts = compacted_parts versions ++ parts
 
 abbrev pub asked_for : FailedInstall → List (List Version) → InstalledEdit
-asked_for f parts = record { segment = first_segment; flushed = f.flushed; versions = sorted_of (joined (parts_after f.gone f.versions.value parts)); tables = length (parts_after f.gone f.versions.value parts) }
+asked_for f parts = record { segment = f.segment; flushed = f.flushed; versions = sorted_of (joined (parts_after f.gone f.versions.value parts)); tables = length (parts_after f.gone f.versions.value parts) }
 
 -- only where the manifest's device failed can its edit be found later
 abbrev pub failed_edit : (closed : Bool) → Option FailedInstall → List (List Version) → Option InstalledEdit
 failed_edit true (Some f) parts = Some (asked_for f parts)
 failed_edit closed other parts = None
 
-abbrev pub edits_state : TableSetState → TableSetState → List (List Version) → Option FailedInstall → EditsState
-edits_state set first parts failed = record {
-  table = record { last = installed_of set.manifest.edit parts; failed = failed_edit set.manifest.log.closed failed parts; halted = set.halted };
+-- the manifest does not say the base
+abbrev pub edits_state : TableSetState → TableSetState → ℕ → List (List Version) → Option FailedInstall → EditsState
+edits_state set first base parts failed = record {
+  table = record { last = installed_at base set.manifest.edit parts; failed = failed_edit set.manifest.log.closed failed parts; halted = set.halted };
   set = set;
   parts = parts;
   first = first;
@@ -52,38 +58,36 @@ edits_state set first parts failed = record {
 
 -- ---- what its devices have
 
--- the bytes are a manifest whose last edit is this one, which names the beginning of the log's device, and a crash leaves its
--- tables
+-- the bytes are a manifest whose last edit is this one, with this base, and a crash leaves its tables
 pub record IsNamed (s : EditsState) (image : List ℕ) (edit : InstalledEdit) : Type 0 where
   pub edits : List Edit
   pub spelled : IsManifestOf s.set.manifest.log.id edits image
-  pub place : place_of (last_edit edits) ≡ 0
+  pub base : ℕ
   pub parts : List (List Version)
-  pub is : edit ≡ installed_of (last_edit edits) parts
+  pub is : edit ≡ installed_at base (last_edit edits) parts
   pub there : (tables : List ℕ) → images s.set.moments tables → HasTables s.set.manifest.log.id (last_edit edits).flushed tables (last_edit edits).tables parts
 
 -- the bytes have the tables of this edit, whole
 pub record HasTablesOf (s : EditsState) (image : List ℕ) (installed : InstalledEdit) : Type 0 where
   pub edit : Edit
+  pub base : ℕ
   pub parts : List (List Version)
-  pub is : installed ≡ installed_of edit parts
+  pub is : installed ≡ installed_at base edit parts
   pub there : HasTables s.set.manifest.log.id edit.flushed image edit.tables parts
 
 -- ---- what is so of it
 
--- The set stores its edits, and the tables of the last one; once an install has failed, those of its edit too. Both edits name
--- the beginning of the log's device. No version of the last one's tables has a number above the flushed one. The set has the
+-- The set stores its edits, and the tables of the last one; once an install has failed, those of its edit too. No version of the last one's tables has a number above the flushed one. The set has the
 -- id that it was opened with. No fault was forgotten since then, and what was for good then is so still.
 pub record IsEdits (s : EditsState) : Type 0 where
   pub edits : List Edit
   pub next : Edit
+  pub next_base : ℕ
   pub next_parts : List (List Version)
   pub stores : StoresTables s.set edits next s.parts next_parts
-  pub place : place_of s.set.manifest.edit ≡ 0
-  pub next_place : s.set.manifest.log.closed ≡ true → place_of next ≡ 0
   pub flushed : list_all (is_flushed s.table.last.flushed) s.table.last.versions ≡ true
   pub none_failed : s.set.manifest.log.closed ≡ false → s.table.failed ≡ None
-  pub failed : s.set.manifest.log.closed ≡ true → s.table.failed ≡ Some (installed_of next next_parts)
+  pub failed : s.set.manifest.log.closed ≡ true → s.table.failed ≡ Some (installed_at next_base next next_parts)
   pub running : s.table.halted ≡ false → s.set.manifest.log.closed ≡ false
   pub id : s.set.manifest.log.id ≡ s.first.manifest.log.id
   pub later : s.first.faults ≤ s.set.faults

@@ -2,9 +2,12 @@ pub mod Log
 pub mod Stock
 pub mod Edits
 pub mod Installs
+pub mod Renewal
 pub mod Parts
 pub mod Devices
 pub mod Opening
+pub use Rattle.wp_cuts.specs.Agree
+pub use Rattle.wp_cuts.specs.Cut
 pub use Rattle.wp_table.specs.File
 pub use Rattle.wp_merge.specs.Merge
 pub use Rattle.wp_store.specs.Store

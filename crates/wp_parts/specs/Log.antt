@@ -1,17 +1,25 @@
 -- The value behind the write turn: the history with its pending record, and the log.
-use Rattle.std.specs.Prelude.{◌≡◌, ◌≢◌, ℕ, ◌+◌, ◌≤◌, Bool, true, false, List, [], ◌++◌, length, None}
+use Rattle.std.specs.Prelude.{◌≡◌, ◌≢◌, ◌⊎◌, ℕ, ◌+◌, ◌<◌, ◌≤◌, ◌==◌, if◌then◌else◌, Bool, true, false, List, [], ◌∷◌, ◌++◌, length, Option, None, Some}
 use Rattle.wp_model.specs.declared.entry.Entry.{Entry}
 use Rattle.wp_model.specs.declared.segment.Segment.{Segment}
-use Rattle.wp_model.specs.Flushed.{first_segment}
-use Rattle.wp_model.specs.Legal.{IsLegal}
+use Rattle.wp_model.specs.Legal.{IsLegal, undone_last}
+use Rattle.wp_cuts.specs.Cut.{Cut, IsCut, cut_at}
+use Rattle.wp_outside.specs.Disk.{IfKnown}
 use Rattle.wp_outside.specs.Faults.{Rose}
+use Rattle.wp_fields.specs.declared.format.Format.{Format}
+use Rattle.wp_fields.specs.declared.format.Format.TheVariants.{Two}
+use Rattle.wp_entry.specs.Base.{IsBase, base_bytes}
 use Rattle.wp_entry.specs.Record.{IsRecord}
-use Rattle.wp_wal.specs.Spelling.{IsLogOf}
-use Rattle.wp_wal.specs.Wal.{WalState, LosesNothing, StoresHistory, IsReserved}
+use Rattle.wp_gatelog.specs.Beside.{IsWholeLog}
+use Rattle.wp_gatelog.specs.Spelling.{stamped}
+use Rattle.wp_wal.specs.Segment.{NewSegmentState, WrittenState, IsBeside, base_of}
+use Rattle.wp_wal.specs.Spelling.{MAGIC, IsLogAt}
+use Rattle.wp_wal.specs.Wal.{WalState, LeavesCut, LosesNothingAt, StoresCut, IsReserved}
+use Rattle.wp_core.specs.Conditions.{NoneNext}
 use Rattle.wp_core.specs.Tables.{WriteTable}
 
--- the table of the machine that it is, its log now, and its log as it was opened; the log is in the segment that begins the device, and no
--- other one was written
+-- The table of the machine that it is, its log now, and its log as it was opened. The log may be closed while its device may be called
+-- still, where it was stopped behind a failure of the tables' devices.
 pub record LogState : Type 0 where
   pub table : WriteTable
   pub wal : WalState
@@ -22,41 +30,88 @@ abbrev pub spelled : Bool → List Entry → List Entry → List Entry
 spelled false history pending = history
 spelled true history pending = history ++ pending
 
-abbrev pub log_state : WalState → WalState → List Entry → List Entry → Bool → List Entry → LogState
-log_state wal first history pending logged failed = record {
-  table = record { history = history; pending = pending; logged = logged; log = spelled logged history pending; closed = wal.closed; failed = failed; segment = first_segment; next = None };
+-- how it is closed, by a stop or not, what record failed, and which segment stands beside the one in use
+pub record Ending : Type 0 where
+  pub closed : Bool
+  pub stopped : Bool
+  pub failed : List Entry
+  pub next : Option Segment
+
+abbrev pub log_state : WalState → WalState → List Entry → List Entry → Bool → Ending → LogState
+log_state wal first history pending logged ending = record {
+  table = record { history = history; pending = pending; logged = logged; log = spelled logged history pending; closed = ending.closed; stopped = ending.stopped; failed = ending.failed; segment = wal.segment; next = ending.next };
   wal = wal;
   first = first;
 }
 
--- the bytes have such a log of these entries in this segment
+abbrev pub open_ending : Ending
+open_ending = record { closed = false; stopped = false; failed = []; next = None }
+
+-- in this segment the bytes have the log of the entries, cut at its base
 abbrev pub spells : LogState → Segment → List ℕ → List Entry → Type 0
-spells s segment image entries = (segment ≡ first_segment) × IsLogOf s.wal.id entries image
+spells s segment image entries = (c : Cut) × IsLogAt s.wal.id segment.place c image × IsCut entries c × (c.base ≡ segment.base)
+
+-- the version of the log as it was opened so, once its segment has this base: a renewal alone raises it, and makes the log anew
+abbrev pub format_at : WalState → ℕ → Format
+format_at first base = if base == first.segment.base then first.format else Two
 
 -- ---- what is so of it
 
--- The log stores what the table says that it spells; once an append has failed, that, or that and the failed record,
--- whole. It has the id that it was opened with. No fault was forgotten since then, and what was acknowledged then is so
--- still.
+-- The log stores what the table says that it spells, cut at the base of its segment; once an append has failed, that, or that and the
+-- failed record, whole. No segment waits beside the one in use: there is none, or the log is closed, and then each crash leaves the
+-- history in that one too, cut at its end. The log has the id that it was opened with, its version too until its base was raised, and a
+-- base no lower. No fault was forgotten since then; where its device failed it is closed, and where it is closed and was not stopped its
+-- device failed; and what was acknowledged then is so still, as long as the log is in the segment of then.
 pub record IsLog (s : LogState) : Type 0 where
-  pub stores : StoresHistory s.wal s.table.log s.table.failed
+  pub cut : Cut
+  pub is_cut : IsCut s.table.log cut
+  pub segment : s.table.segment ≡ s.wal.segment
+  pub stores : StoresCut s.wal cut s.table.failed
   pub legal : IsLegal (s.table.history ++ s.table.pending)
   pub none_failed : s.table.closed ≡ false → s.table.failed ≡ []
-  pub whole : s.table.closed ≡ true → IsRecord s.wal.format (length s.table.log + 1) s.table.failed
+  pub whole : (s.table.failed ≡ []) ⊎ ((s.wal.closed ≡ true) × IsRecord s.wal.format (length s.table.log + 1) s.table.failed)
+  pub none_waits : NoneNext s.table
+  pub beside : (segment : Segment) → s.table.next ≡ Some segment
+      → (s.table.pending ≡ []) × (segment.base ≡ length s.table.history) × (undone_last s.table.history ≡ None) × IfKnown s.wal.moments (LeavesCut s.wal.id segment.place (cut_at s.table.history segment.base))
   pub id : s.wal.id ≡ s.first.id
+  pub form : s.wal.format ≡ format_at s.first s.wal.segment.base
+  pub risen : s.first.segment.base ≤ s.wal.segment.base
   pub later : s.first.faults ≤ s.wal.faults
-  pub cause : s.table.closed ≡ true → Rose s.first.faults s.wal.faults
-  pub durable : LosesNothing s.first.moments s.wal.moments
+  pub shut : s.wal.closed ≡ true → s.table.closed ≡ true
+  pub by_fault : s.table.closed ≡ true → s.table.stopped ≡ false → s.wal.closed ≡ true
+  pub cause : s.wal.closed ≡ true → Rose s.first.faults s.wal.faults
+  pub durable : s.wal.segment ≡ s.first.segment → LosesNothingAt s.first.segment.place s.first.moments s.wal.moments
 
 -- What is pending takes no memory any more: its record is ready for the log until it is logged, and the history has room
 -- for its entries.
-pub record IsReady (s : LogState) (room : ℕ) : Type 0 where
-  pub reserved : s.table.pending ≢ [] → s.table.logged ≡ false → s.table.closed ≡ false → IsReserved s.wal s.table.history s.table.pending
+pub record IsReady (s : LogState) (cut : Cut) (room : ℕ) : Type 0 where
+  pub reserved : s.table.pending ≢ [] → s.table.logged ≡ false → s.table.closed ≡ false → IsReserved s.wal cut s.table.pending
   pub fits : length s.table.pending ≤ room
 
--- how the value is kept: as a log that is ready, of a history with the base 0, and with what it notes of the device
-pub record IsKept (s : LogState) (room base : ℕ) (closed : Bool) : Type 0 where
+-- how the value is kept: as a log that is ready, with the history from the base on at which it was opened
+pub record IsKept (s : LogState) (base room : ℕ) : Type 0 where
+  pub opened : base ≡ s.first.segment.base
   pub log : IsLog s
-  pub whole : base ≡ 0
-  pub ready : IsReady s room
-  pub noted : closed ≡ s.wal.closed
+  pub ready : IsReady s log.cut room
+
+-- ---- a segment beside the one in use
+
+-- the bytes of a segment that begins where the history ends, as they are to be written
+abbrev pub IsSegmentOf : LogState → NewSegmentState → Type 0
+IsSegmentOf s new = (new.base ≡ base_of s.table.history) × IsBase new.base × IsWholeLog MAGIC (stamped Two s.wal.id) (base_bytes new.base ∷ []) new.bytes
+
+-- the table once this segment waits beside the one in use
+abbrev pub with_next : WriteTable → Segment → WriteTable
+with_next t segment = record t { next = Some segment }
+
+-- ... and once it is the one in use
+abbrev pub with_segment : WriteTable → Segment → WriteTable
+with_segment t segment = record t { segment = segment; next = None }
+
+-- The segment was written beside the log: it has the history, cut at its end, which is behind the log's base and is no undo, and stands
+-- for good.
+pub record IsWaiting (s : LogState) (w : WrittenState) : Type 0 where
+  pub based : w.segment.base ≡ length s.table.history
+  pub whole : undone_last s.table.history ≡ None
+  pub below : s.table.segment.base < w.segment.base
+  pub beside : IsBeside s.wal (cut_at s.table.history (length s.table.history)) w

@@ -14,7 +14,7 @@ use Rattle.wp_outside.specs.Disk.{Moment}
 use Rattle.wp_store.specs.Store.{StoreParts}
 use Rattle.wp_tableset.specs.Set.{TableSetState}
 use Rattle.wp_wal.specs.Wal.{WalState}
-use Rattle.wp_parts.specs.Log.{LogState, log_state}
+use Rattle.wp_parts.specs.Log.{LogState, log_state, open_ending}
 use Rattle.wp_parts.specs.Edits.{EditsState, edits_state}
 use Rattle.wp_parts.specs.Stock.{StockState}
 use Rattle.wp_parts.specs.declared.part.Part.{Part}
@@ -45,9 +45,9 @@ pub record AreFilled {D : Type 0} (wal : WalState) (history : List Entry) (set :
   pub locks : Box LockTables Global
   pub edits : Box EditsState Global
   pub are : slots ≡ part.Write log ∷ part.Prepared prepared ∷ part.Snapshots snaps ∷ part.Store stock ∷ part.Locks locks ∷ part.Tables edits ∷ []
-  pub log_is : log.value ≡ log_state wal wal history [] false []
+  pub log_is : log.value ≡ log_state wal wal history [] false open_ending
   pub delayed : AreDelayed history prepared.value
   pub none_live : snaps.value ≡ finite.empty
   pub stock_is : stock.value ≡ record { parts = store; floor = length history }
   pub locked : AreOpened history locks.value
-  pub edits_are : edits.value ≡ edits_state set set store.tables None
+  pub edits_are : edits.value ≡ edits_state set set wal.segment.base store.tables None

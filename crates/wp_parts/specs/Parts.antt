@@ -6,6 +6,7 @@ use lib.ListN.{get_elem?}
 use Rattle.wp_outside.specs.Disk.{images}
 use Rattle.wp_tableset.specs.Set.{TableSetState}
 use Rattle.wp_wal.specs.Wal.{WalState}
+use Rattle.wp_core.specs.Conditions.{NoneNext}
 use Rattle.wp_core.specs.Images.{LogTells, ManifestTells, TablesTell}
 use Rattle.wp_core.specs.Tables.{Content, writes, prepared, snapshots, store, locks, installed, turn_of}
 use Rattle.wp_core.specs.Turns.{Turn}
@@ -29,9 +30,9 @@ content (part.Tables edits) = Some (installed edits.value.table)
 abbrev pub IsGuardedBy : {D : Type 0} → Turn → Part D → Type 0
 IsGuardedBy turn x = (c : Content) × (content x ≡ Some c) × (turn_of c ≡ turn)
 
--- what a crash leaves of its devices is as its table says; of the log no segment was written beside the one in use
+-- what a crash leaves of its devices is as its table says; of the log no segment waits beside the one in use
 abbrev pub LogStands : LogState → Type 0
-LogStands log = LogTells (images log.wal.moments) (spells log) log.table × (log.table.next ≡ None)
+LogStands log = LogTells (images log.wal.moments) (spells log) log.table × NoneNext log.table
 
 abbrev pub EditsStand : EditsState → Type 0
 EditsStand edits = ManifestTells (images edits.set.manifest.log.moments) (IsNamed edits) edits.table × TablesTell (images edits.set.moments) (HasTablesOf edits) edits.table

@@ -5,4 +5,6 @@ pub(crate) enum Gone {
     Frozen,
     /// All tables, which a compaction merged.
     Tables,
+    /// The segment of the log in use; and the frozen parts, where something was frozen.
+    Segment,
 }

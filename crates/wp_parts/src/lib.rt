@@ -14,6 +14,7 @@
 //! `guard` puts the parts of an opened store behind the turns, which are then an opening world of the machine.
 #![tactic(auto)]
 
+mod base;
 mod behind_turn;
 mod edits;
 mod gone;
@@ -24,7 +25,7 @@ mod stock;
 mod table_versions;
 
 pub use behind_turn::BehindTurn;
-pub use edits::Edits;
+pub use edits::{Edits, ReadySegment};
 pub use log::Log;
 pub use opening::{delayed_flag, guard, take_apart};
 pub use part::Part;

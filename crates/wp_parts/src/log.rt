@@ -1,34 +1,42 @@
 //! What the write turn guards: the history with its pending record, and the log.
-ghost use Rattle.std.specs.Prelude.{◌≡◌, ◌≢◌, ◌+◌, ◌≤◌, ◌<◌, true, false, List, [], ◌∷◌, ◌++◌, length, None, IfErr, OnOk, OnErr};
+ghost use Rattle.std.specs.Prelude.{◌≡◌, ◌≢◌, ◌+◌, ◌≤◌, ◌<◌, true, false, List, [], ◌∷◌, ◌++◌, length, None, IfOk, IfErr, OnOk, OnErr};
 ghost use Rattle.wp_model.specs.declared.entry.Entry.{Entry};
-ghost use Rattle.wp_model.specs.Legal.{IsLegal, log_end};
+ghost use Rattle.wp_model.specs.Legal.{IsLegal, log_end, undone_last};
+ghost use Rattle.wp_cuts.specs.Cut.{Cut, IsCut};
 ghost use Rattle.wp_outside.specs.Disk.{images, Passes};
 ghost use Rattle.wp_outside.specs.Faults.{Rose};
+ghost use Rattle.wp_fields.specs.declared.format.Format.TheVariants.{Two};
 ghost use Rattle.wp_entry.specs.Record.{last_number};
 ghost use Rattle.wp_gatelog.specs.Moments.{Leaves};
-ghost use Rattle.wp_wal.specs.Spelling.{IsLogOrNext};
-ghost use Rattle.wp_wal.specs.Wal.{LosesNothing, StoresHistory, reserved_of};
+ghost use Rattle.wp_wal.specs.Segment.{base_of};
+ghost use Rattle.wp_wal.specs.Spelling.{IsLogAt, IsLogOrNextAt};
+ghost use Rattle.wp_wal.specs.Wal.{LosesNothingAt, StoresCut};
+ghost use Rattle.wp_core.specs.Conditions.{NoneNext};
 ghost use Rattle.wp_core.specs.Effects.{with_entry};
 ghost use Rattle.wp_core.specs.Entries.{IsOneRecord};
 ghost use Rattle.wp_core.specs.Images.{LogTells};
-ghost use Rattle.wp_parts.specs.Log.{IsLog, log_state, spells};
+ghost use Rattle.wp_parts.specs.Log.{IsLog, IsSegmentOf, IsWaiting, log_state, open_ending, spells, with_next, with_segment};
 
-use std::alloc::Global;
+use crate::base::end_of;
+use std::alloc::{AllocError, Global};
 use std::marker::Model;
 use std::mem;
 use std::snapshot::Snapshot;
 use wp_fields::Format;
 use wp_gatelog::AppendError;
 use wp_ledger::History;
-use wp_model::{Entry, Seq};
+use wp_model::{Entry, Segment, Seq};
 use wp_outside::{Disk, Failed};
-use wp_wal::Wal;
+use wp_wal::{NewSegment, Wal, Written};
 
 /// The history, with the record that is pending, and the log. Clauses see the table of the machine that it is, the log, and
 /// the log as it was when this value was made.
 ///
 /// A record is made pending with all the memory that it will need. From then on it is appended, and its entries join the
 /// history one by one; or it is dropped.
+///
+/// A segment of the log is made ready with all the memory that it needs. It is written beside the log while nothing is pending, and then
+/// the log moves there; or the log is stopped, and takes no entry any more.
 pub struct Log<D: Disk> {
     alloc: Global,
     wal: Wal<D>,
@@ -36,7 +44,10 @@ pub struct Log<D: Disk> {
     pending: Vec<Entry>,
     logged: bool,
     closed: bool,
+    stopped: bool,
     failed: Snapshot<Vec<Entry>>,
+    /// A segment that was written beside the one in use, and did not come into use.
+    next: Option<Segment>,
     first: Snapshot<Wal<D>>,
 }
 
@@ -45,9 +56,9 @@ impl<D: Disk> Model for Log<D> {
 
     ghost Value = { LogState };
 
-    ghost view = { λ l. log_state l.wal l.first.value l.history.entries l.pending.items l.logged l.failed.value.items };
+    ghost view = { λ l. log_state l.wal l.first.value l.history.entries l.pending.items l.logged (record { closed = l.closed; stopped = l.stopped; failed = l.failed.value.items; next = l.next }) };
 
-    ghost invariant = { λ l. IsKept (log_state l.wal l.first.value l.history.entries l.pending.items l.logged l.failed.value.items) l.history.room l.history.base l.closed };
+    ghost invariant = { λ l. IsKept (log_state l.wal l.first.value l.history.entries l.pending.items l.logged (record { closed = l.closed; stopped = l.stopped; failed = l.failed.value.items; next = l.next })) l.history.base l.history.room };
 }
 
 /// For the proof alone: a history is legal.
@@ -60,10 +71,10 @@ fn shows_legal(history: &History)
 impl<D: Disk> Log<D> {
     /// The log as an opening gives it, with nothing pending.
     pub fn new(alloc: Global, wal: Wal<D>, history: History) -> Log<D>
-        requires base { history.base ≡ 0 }
-        requires stores { StoresHistory wal history.entries [] }
+        requires base { history.base ≡ wal.segment.base }
+        requires stores { (c : Cut) × StoresCut wal c [] × IsCut history.entries c }
         requires running { wal.closed ≡ false }
-        ensures { result ≡ log_state wal wal history.entries [] false [] }
+        ensures { result ≡ log_state wal wal history.entries [] false open_ending }
     {
         shows_legal(&history);
         let pending = Vec::new(alloc);
@@ -76,6 +87,8 @@ impl<D: Disk> Log<D> {
             pending,
             logged: false,
             closed: false,
+            stopped: false,
+            next: None,
         }
     }
 
@@ -101,6 +114,20 @@ impl<D: Disk> Log<D> {
         self.wal.format()
     }
 
+    /// The base of the log, in the segment in use.
+    pub fn base(&self) -> Seq
+        ensures { result ≡ self.now.table.segment.base }
+    {
+        self.wal.segment_in_use().base
+    }
+
+    /// The base of the log as it was opened.
+    pub fn opened_base(&self) -> Seq
+        ensures { result ≡ self.now.first.segment.base }
+    {
+        self.history.base()
+    }
+
     /// The entries that are pending.
     pub fn pending(&self) -> &[Entry]
         ensures { result.now ≡ self.now.table.pending }
@@ -108,7 +135,7 @@ impl<D: Disk> Log<D> {
         &self.pending
     }
 
-    /// Whether an append has failed.
+    /// Whether it takes no entry any more: its device has failed, or it was stopped.
     pub fn is_closed(&self) -> bool
         ensures { result ≡ self.now.table.closed }
     {
@@ -150,12 +177,14 @@ impl<D: Disk> Log<D> {
         ensures cause { OnErr result (Rose self.old.wal.faults self.new.wal.faults) }
         ensures later { self.old.wal.faults ≤ self.new.wal.faults }
         ensures id { self.new.wal.id ≡ self.old.wal.id }
+        ensures format { self.new.wal.format ≡ self.old.wal.format }
         ensures first { self.new.first ≡ self.old.first }
 
         // At each moment since its beginning a crash leaves the history, or it and the record, whole; and what each crash at
         // one moment would leave acknowledged, each crash at a later moment leaves too.
-        ensures passed { Passes (Leaves (IsLogOrNext self.old.wal.id self.old.table.history self.old.table.pending)) self.old.wal.moments self.new.wal.moments }
-        ensures durable { LosesNothing self.old.wal.moments self.new.wal.moments }
+        ensures passed { (c : Cut) → IsCut self.old.table.history c → c.base ≡ self.old.table.segment.base
+            → Passes (Leaves (IsLogOrNextAt self.old.wal.id self.old.table.segment.place c self.old.table.pending)) self.old.wal.moments self.new.wal.moments }
+        ensures durable { LosesNothingAt self.old.table.segment.place self.old.wal.moments self.new.wal.moments }
     {
         match self.wal.append() {
             Ok(()) => {
@@ -191,10 +220,102 @@ impl<D: Disk> Log<D> {
         mem::replace(&mut self.pending, Vec::new(self.alloc))
     }
 
-    /// For the proof alone: what a crash leaves of the device is as the table says, and no other segment was written.
+    /// How many prepares are undecided.
+    pub fn undecided_count(&self) -> usize
+        ensures { result ≡ length (base_of self.now.table.history).carried }
+    {
+        self.history.undecided().len()
+    }
+
+    /// Takes the memory of a segment of the log that begins where the history ends, with the prepares that are undecided there.
+    pub fn segment(&self) -> Result<NewSegment, AllocError>
+        requires { undone_last self.now.table.history ≡ None }
+        ensures { IfOk result (IsSegmentOf self.now) }
+    {
+        let segment = self.wal.segment(&end_of(self.alloc, &self.history)?)?;
+        Ok(segment)
+    }
+
+    /// Writes the segment beside the one in use, and puts it on the device for good. It takes no memory. Until it is used, or the log is
+    /// stopped with it, nothing else is called. After a fault of the device the log is closed for good.
+    pub fn write_segment(&mut self, segment: &NewSegment) -> Result<Written, Failed>
+        requires running { self.old.table.closed ≡ false }
+        requires nothing { self.old.table.pending ≡ [] }
+        requires below { self.old.table.segment.base < length self.old.table.history }
+        requires whole { undone_last self.old.table.history ≡ None }
+        requires segment { IsSegmentOf self.old segment.now }
+        ensures ok { OnOk result (self.new.table ≡ self.old.table) }
+        ensures waits { IfOk result (λ written. IsWaiting self.new written × (written.segment.place ≢ self.old.table.segment.place)) }
+        ensures err { OnErr result (self.new.table ≡ record self.old.table { closed = true }) }
+        ensures cause { OnErr result (Rose self.old.wal.faults self.new.wal.faults) }
+        ensures later { self.old.wal.faults ≤ self.new.wal.faults }
+        ensures id { self.new.wal.id ≡ self.old.wal.id }
+        ensures format { self.new.wal.format ≡ self.old.wal.format }
+        ensures first { self.new.first ≡ self.old.first }
+
+        // At each moment since its beginning a crash leaves the history in the segment in use; and what each crash at one moment would
+        // leave acknowledged there, each crash at a later moment leaves too.
+        ensures passed { (c : Cut) → IsCut self.old.table.history c → c.base ≡ self.old.table.segment.base
+            → Passes (Leaves (IsLogAt self.old.wal.id self.old.table.segment.place c)) self.old.wal.moments self.new.wal.moments }
+        ensures durable { LosesNothingAt self.old.table.segment.place self.old.wal.moments self.new.wal.moments }
+    {
+        match self.wal.write_segment(segment) {
+            Ok(written) => Ok(written),
+            Err(AppendError::DiskFault) => {
+                self.closed = true;
+                Err(Failed)
+            }
+            Err(AppendError::Closed(_)) => unreachable!(),
+        }
+    }
+
+    /// The segment that was written is the one in use from now on. The device is not called.
+    pub fn use_segment(&mut self, written: Written)
+        requires running { self.old.table.closed ≡ false }
+        requires nothing { self.old.table.pending ≡ [] }
+        requires waits { IsWaiting self.old written }
+        ensures table { self.new.table ≡ with_segment self.old.table written.segment }
+        ensures device { (self.new.wal.moments ≡ self.old.wal.moments) × (self.new.wal.faults ≡ self.old.wal.faults) × (self.new.wal.id ≡ self.old.wal.id) }
+        ensures format { self.new.wal.format ≡ Two }
+        ensures first { self.new.first ≡ self.old.first }
+    {
+        self.wal.use_segment(written);
+    }
+
+    /// Takes no entry any more: the devices of the tables failed before a segment was written. The device is not called.
+    pub fn stop(&mut self)
+        requires nothing { self.old.table.pending ≡ [] }
+        ensures { self.new ≡ record self.old { table = record self.old.table { closed = true; stopped = true } } }
+    {
+        self.closed = true;
+        self.stopped = true;
+    }
+
+    /// The same behind the write of a segment, which the edit may name whose install failed: what a crash leaves has it too.
+    pub fn stop_with(&mut self, written: Written)
+        requires running { self.old.table.closed ≡ false }
+        requires nothing { self.old.table.pending ≡ [] }
+        requires waits { IsWaiting self.old written }
+        ensures { self.new ≡ record self.old { table = record (with_next self.old.table written.segment) { closed = true; stopped = true } } }
+    {
+        self.next = Some(written.segment());
+        self.closed = true;
+        self.stopped = true;
+    }
+
+    /// For the proof alone: a segment that was written waits, and what a crash leaves of the device has it too.
+    pub fn shows_waiting(&self, written: &Written)
+        requires { IsWaiting self.now written.now }
+        ensures { LogTells (images self.now.wal.moments) (spells self.now) (with_next self.now.table written.now.segment) }
+    {
+        let _ = written;
+        let _ = &self.wal;
+    }
+
+    /// For the proof alone: what a crash leaves of the device is as the table says, and no other segment waits.
     pub fn shows_told(&self)
         ensures tells { LogTells (images self.now.wal.moments) (spells self.now) self.now.table }
-        ensures next { self.now.table.next ≡ None }
+        ensures next { NoneNext self.now.table }
         ensures log { IsLog self.now }
     {
         let _ = &self.wal;
@@ -203,7 +324,7 @@ impl<D: Disk> Log<D> {
     /// The log, and the history.
     pub fn into_parts(self) -> (Wal<D>, History)
         ensures wal { result.0 ≡ self.wal }
-        ensures base { result.1.base ≡ 0 }
+        ensures base { result.1.base ≡ self.first.segment.base }
         ensures history { result.1.entries ≡ self.table.history }
         ensures log { IsLog self }
     {
@@ -214,7 +335,9 @@ impl<D: Disk> Log<D> {
             pending: _pending,
             logged: _logged,
             closed: _closed,
+            stopped: _stopped,
             failed: _failed,
+            next: _next,
             first: _first,
         } = self;
         (wal, history)
@@ -231,7 +354,9 @@ impl<D: Disk + Drop> Drop for Log<D> {
             pending: _pending,
             logged: _logged,
             closed: _closed,
+            stopped: _stopped,
             failed: _failed,
+            next: _next,
             first: _first,
         } = self;
     }

@@ -2,14 +2,13 @@
 ghost use Rattle.std.specs.FinMap as finite;
 ghost use Rattle.std.specs.Prelude.{◌≡◌, ◌≤◌, ℕ, false, List, [], ◌∷◌, None, length, map, ◌+◌, vec_len, vec_capacity, IfOk, IfErr};
 ghost use Rattle.std.specs.Arc.{arc_value};
-ghost use Rattle.wp_outside.specs.Disk.{IfKnown, Moment};
+ghost use Rattle.wp_outside.specs.Disk.{Moment};
 ghost use Rattle.wp_open.specs.Parts.{PartsOpened};
-ghost use Rattle.wp_wal.specs.Wal.{LeavesHistory};
 ghost use Rattle.wp_history.specs.Opened.{AreOpened};
 ghost use Rattle.wp_rule.specs.Shows.{Founds};
 ghost use Rattle.wp_parts.specs.Devices.{devices_of, devices_behind};
 ghost use Rattle.wp_parts.specs.Edits.{IsEdits, edits_state};
-ghost use Rattle.wp_parts.specs.Log.{IsLog, log_state};
+ghost use Rattle.wp_parts.specs.Log.{IsLog, log_state, open_ending};
 ghost use Rattle.wp_parts.specs.Opening.{AreDelayed, AreFilled, IsFlagOf, running_set};
 ghost use Rattle.wp_parts.specs.Parts.{content, tells, LogStands, EditsStand};
 ghost use Rattle.wp_parts.specs.declared.part.Part.TheVariants as part;
@@ -86,11 +85,11 @@ fn make_guarded<D: Disk + Drop>(
 ) -> Result<Guarded<D>, Disks<D>>
     requires opened { (asked : ℕ) × (log : List Moment) × (manifest : List Moment) × (tables : List Moment)
         × PartsOpened asked log manifest tables parts.wal parts.history.entries parts.manifest (D.moments parts.tables) parts.store }
-    requires base { parts.history.base ≡ 0 }
+    requires base { parts.history.base ≡ parts.wal.segment.base }
     requires tables { versions.items ≡ parts.store.tables }
-    ensures log { IfOk result (λ made. made.log.value ≡ log_state parts.wal parts.wal parts.history.entries [] false []) }
+    ensures log { IfOk result (λ made. made.log.value ≡ log_state parts.wal parts.wal parts.history.entries [] false open_ending) }
     ensures stock { IfOk result (λ made. made.stock.value ≡ record { parts = parts.store; floor = length parts.history.entries }) }
-    ensures edits { IfOk result (λ made. made.edits.value ≡ edits_state (running_set parts.manifest (D.moments parts.tables) (D.faults parts.tables)) (running_set parts.manifest (D.moments parts.tables) (D.faults parts.tables)) parts.store.tables None) }
+    ensures edits { IfOk result (λ made. made.edits.value ≡ edits_state (running_set parts.manifest (D.moments parts.tables) (D.faults parts.tables)) (running_set parts.manifest (D.moments parts.tables) (D.faults parts.tables)) parts.wal.segment.base parts.store.tables None) }
     ensures refused { IfErr result (λ disks. devices_of D.moments D.faults disks ≡ devices_behind parts.wal (running_set parts.manifest (D.moments parts.tables) (D.faults parts.tables))) }
 {
     let Parts {
@@ -101,8 +100,14 @@ fn make_guarded<D: Disk + Drop>(
         store,
     } = parts;
     let stock = Box::new(alloc, Stock::new(store, history.published()));
+    let base = history.base();
     let log = Log::new(alloc, wal, history);
-    let edits = Edits::new(TableSet::new(alloc, manifest, tables), versions);
+    let edits = Edits::new(
+        alloc,
+        TableSet::new(alloc, manifest, tables),
+        base,
+        versions,
+    );
     let Ok(stock) = stock else {
         return Err(take_apart(log, edits).1);
     };
@@ -163,7 +168,7 @@ fn disks_of<D: Disk>(parts: Parts<D>) -> Disks<D>
 pub fn guard<D: Disk + Drop>(alloc: Global, parts: Parts<D>) -> Result<Vec<Part<D>>, Disks<D>>
     requires opened { (asked : ℕ) × (log : List Moment) × (manifest : List Moment) × (tables : List Moment)
         × PartsOpened asked log manifest tables parts.wal parts.history.entries parts.manifest (D.moments parts.tables) parts.store }
-    requires base { parts.history.base ≡ 0 }
+    requires base { parts.history.base ≡ parts.wal.segment.base }
     ensures founds { IfOk result (λ slots. (client : List ℕ) (cells flag : ℕ) → 1 ≤ cells → IsFlagOf parts.history.entries flag
         → Founds content (tells slots.items) client parts.history.entries cells flag slots.items) }
     ensures slots { IfOk result (λ slots. AreFilled parts.wal parts.history.entries (running_set parts.manifest (D.moments parts.tables) (D.faults parts.tables)) parts.store slots.items) }
@@ -180,11 +185,10 @@ pub fn guard<D: Disk + Drop>(alloc: Global, parts: Parts<D>) -> Result<Vec<Part<
 
 /// The history and the devices of what lay behind the write turn and the tables turn.
 pub fn take_apart<D: Disk>(log: Log<D>, edits: Edits<D>) -> (History, Disks<D>)
-    ensures base { result.0.base ≡ 0 }
+    ensures base { result.0.base ≡ log.first.segment.base }
     ensures history { result.0.entries ≡ log.table.history }
     ensures disks { devices_of D.moments D.faults result.1 ≡ devices_behind log.wal edits.set }
     ensures log { IsLog log }
-    ensures stored { log.wal.closed ≡ false → IfKnown log.wal.moments (LeavesHistory log.wal.id log.table.log) }
     ensures edits { IsEdits edits }
 {
     let (wal, history) = log.into_parts();

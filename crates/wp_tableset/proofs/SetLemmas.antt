@@ -1,5 +1,5 @@
 -- What the two devices store while a table is written and an edit is installed.
-use Rattle.std.proofs.Common.{◌≡◌, ◌⊎◌, inl, inr, ℕ, ◌≤◌, Bool, true, false, List, [], ◌∷◌, ◌++◌, length, Some, Result, Ok, Err, refl, sym, ap, subst, le_refl, arith}
+use Rattle.std.proofs.Common.{◌≡◌, ◌⊎◌, inl, inr, ℕ, ◌≤◌, Bool, true, false, List, [], ◌∷◌, ◌++◌, length, Some, Result, Ok, Err, refl, sym, ◌∙◌, ap, subst, le_refl, arith}
 use Rattle.wp_model.specs.declared.version.Version.{Version}
 use Rattle.wp_outside.specs.Disk.{Moment, IsImage, IfKnown, Each, Passes, synced, added, after_write, after_sync}
 use Rattle.wp_outside.specs.Faults.{Rose}
@@ -14,7 +14,7 @@ use Rattle.wp_manifest.specs.Spelling.{MAGIC, IsManifestOrNext, last_edit}
 use Rattle.wp_manifest.specs.declared.error.InstallError.TheVariants as install
 use Rattle.wp_table.specs.File.{HasTables}
 use Rattle.wp_table.specs.Table.{SpellsTable, written_bytes}
-use Rattle.wp_tableset.specs.Changes.{placed, NewestIsWritten, NextRefused, Installs, LosesNoTable}
+use Rattle.wp_tableset.specs.Changes.{placed, NextRefused, Installs, LosesNoTable}
 use Rattle.wp_tableset.specs.Device.{BeginsWith, IsEnd, KeepsFronts, GrowsFrom}
 use Rattle.wp_tableset.specs.Install.{IsReady, InstallsEdit, LeavesNext, Remain}
 use Rattle.wp_tableset.specs.Set.{TableSetState, LeavesTables, RestsWith, StoresTables}
@@ -81,9 +81,9 @@ module _ (id : ℕ) (last : Edit) (parts : List (List Version)) where
       }) mid syncs
 
 -- the new table is there too
-module _ (id : ℕ) (last : Edit) (parts : List (List Version)) (versions : List Version) (flushed place : ℕ) (others : List (ℕ × ℕ)) (after : List (List Version) → List (List Version)) (old mid : List Moment) (grows : Grows old mid) (end : IsEnd old place) (syncs : SyncsBehind old mid (written_bytes id versions)) (is : SpellsTable id flushed versions (written_bytes id versions)) (remain : Remain last flushed others after) where
+module _ (id : ℕ) (last : Edit) (parts : List (List Version)) (versions : List Version) (flushed log place : ℕ) (others : List (ℕ × ℕ)) (after : List (List Version) → List (List Version)) (old mid : List Moment) (grows : Grows old mid) (end : IsEnd old place) (syncs : SyncsBehind old mid (written_bytes id versions)) (is : SpellsTable id flushed versions (written_bytes id versions)) (remain : Remain last flushed others after) where
   abbrev next : Edit
-  next = record { flushed = flushed; place = Some 0; tables = placed id versions place ∷ others }
+  next = record { flushed = flushed; place = Some log; tables = placed id versions place ∷ others }
 
   -- behind bytes that have the old ones
   both_there : (m : Moment) → place ≡ length m.reads → HasTables id last.flushed (m.reads ++ written_bytes id versions) last.tables parts → HasTables id flushed (m.reads ++ written_bytes id versions) next.tables (versions ∷ after parts)
@@ -136,7 +136,7 @@ module _ (old new : ManifestState) (moments : List Moment) (faults : ℕ) (halte
     id = same;
     later = later;
     installed = tt;
-    refused = (refl, refused.1, ap (λ (m : ManifestState). m.edit) refused.2, refused.3);
+    refused = (refl, refused.1, ap (λ (m : ManifestState). m.edit) refused.2, refused.3, ap (λ (m : ManifestState). m.log.closed) refused.2);
   }
 
 -- ---- an edit whose tables are there
@@ -145,7 +145,6 @@ module _ (old new : ManifestState) (moments : List Moment) (faults : ℕ) (halte
 -- there for good.
 pub record Ready (old : TableSetState) (mid : List Moment) (next : Edit) (after : List (List Version) → List (List Version)) : Type 0 where
   pub was_running : old.halted ≡ false
-  pub written : NewestIsWritten old.moments mid next.tables
   pub last_rests : (parts : List (List Version)) → IfKnown old.moments (RestsWith old.manifest.log.id old.manifest.edit parts) → IfKnown mid (RestsWith old.manifest.log.id old.manifest.edit parts)
   pub next_rests : (parts : List (List Version)) → IfKnown old.moments (RestsWith old.manifest.log.id old.manifest.edit parts) → IfKnown mid (RestsWith old.manifest.log.id next (after parts))
 
@@ -165,7 +164,6 @@ module _ (old new : TableSetState) (mid : List Moment) (faults : ℕ) (next : Ed
       was_running = ready.was_running;
       running = installs.installed.0;
       last = installs.installed.1;
-      written = rw installs.moments ready.written;
       stores = λ edits parts stores.
           let rests : IfKnown mid (RestsWith id next (after parts)) = ready.next_rests parts (stores.rests ready.was_running) in record {
             manifest = installs.installed.2 edits stores.manifest;
@@ -190,7 +188,6 @@ module _ (old new : TableSetState) (mid : List Moment) (faults : ℕ) (next : Ed
     inr (record {
       rose = installs.refused.1;
       last = installs.refused.2;
-      written = rw installs.moments ready.written;
       stores = λ edits parts stores. record {
         manifest = installs.refused.3 edits stores.manifest;
         rests = λ running. absurd cc;
@@ -206,27 +203,31 @@ module _ (old new : TableSetState) (mid : List Moment) (faults : ℕ) (next : Ed
 
 -- ---- the exits of the calls
 
-pub table_ready : (old : TableSetState) (mid : List Moment) (versions : List Version) (flushed place : ℕ) (others : List (ℕ × ℕ)) → old.halted ≡ false → Grows old.moments mid → IsEnd old.moments place → SyncsBehind old.moments mid (written_bytes old.manifest.log.id versions) → mid ≡ added after_sync (added (after_write place (written_bytes old.manifest.log.id versions)) old.moments)
-    → SpellsTable old.manifest.log.id flushed versions (written_bytes old.manifest.log.id versions) → (after : List (List Version) → List (List Version)) → Remain old.manifest.edit flushed others after → Ready old mid (record { flushed = flushed; place = Some 0; tables = placed old.manifest.log.id versions place ∷ others }) (λ parts. versions ∷ after parts)
-table_ready old mid versions flushed place others running grows end syncs written is after remain = record {
+-- the edit names the table that was written
+pub edit_placed : (made : Edit) (number flushed log place at : ℕ) (versions : List Version) (others : List (ℕ × ℕ)) (spelling : List ℕ) → made ≡ record { flushed = flushed; place = Some at; tables = (place, length spelling) ∷ others } → at ≡ log → spelling ≡ written_bytes number versions
+    → made ≡ record { flushed = flushed; place = Some log; tables = placed number versions place ∷ others }
+edit_placed made number flushed log place at versions others spelling is same spells =
+    is ∙ (λ i. record { flushed = flushed; place = Some (same i); tables = (place, length (spells i)) ∷ others })
+
+pub table_ready : (old : TableSetState) (mid : List Moment) (versions : List Version) (flushed log place : ℕ) (others : List (ℕ × ℕ)) → old.halted ≡ false → Grows old.moments mid → IsEnd old.moments place → SyncsBehind old.moments mid (written_bytes old.manifest.log.id versions) → mid ≡ added after_sync (added (after_write place (written_bytes old.manifest.log.id versions)) old.moments)
+    → SpellsTable old.manifest.log.id flushed versions (written_bytes old.manifest.log.id versions) → (after : List (List Version) → List (List Version)) → Remain old.manifest.edit flushed others after → Ready old mid (record { flushed = flushed; place = Some log; tables = placed old.manifest.log.id versions place ∷ others }) (λ parts. versions ∷ after parts)
+table_ready old mid versions flushed log place others running grows end syncs written is after remain = record {
   was_running = running;
-  written = (end, (written_bytes old.manifest.log.id versions, refl, written));
   last_rests = λ parts rests. rests_grown old.manifest.log.id old.manifest.edit parts (written_bytes old.manifest.log.id versions) old.moments mid grows syncs rests;
-  next_rests = λ parts rests. table_rests old.manifest.log.id old.manifest.edit parts versions flushed place others after old.moments mid grows end syncs is remain rests;
+  next_rests = λ parts rests. table_rests old.manifest.log.id old.manifest.edit parts versions flushed log place others after old.moments mid grows end syncs is remain rests;
 }
 
 -- the tables of that edit are there as it is installed
-pub table_next : (old : TableSetState) (mid : List Moment) (faults : ℕ) (versions : List Version) (flushed place : ℕ) (others : List (ℕ × ℕ)) → Grows old.moments mid → IsEnd old.moments place → SyncsBehind old.moments mid (written_bytes old.manifest.log.id versions) → SpellsTable old.manifest.log.id flushed versions (written_bytes old.manifest.log.id versions)
-    → (after : List (List Version) → List (List Version)) × Remain old.manifest.edit flushed others after → LeavesNext (record old { moments = mid; faults = faults }) (record { flushed = flushed; place = Some 0; tables = placed old.manifest.log.id versions place ∷ others })
-table_next old mid faults versions flushed place others grows end syncs is (after, remain) =
-    λ parts left. (versions ∷ after parts, table_left old.manifest.log.id old.manifest.edit parts versions flushed place others after old.moments mid grows end syncs is remain left)
+pub table_next : (old : TableSetState) (mid : List Moment) (faults : ℕ) (versions : List Version) (flushed log place : ℕ) (others : List (ℕ × ℕ)) → Grows old.moments mid → IsEnd old.moments place → SyncsBehind old.moments mid (written_bytes old.manifest.log.id versions) → SpellsTable old.manifest.log.id flushed versions (written_bytes old.manifest.log.id versions)
+    → (after : List (List Version) → List (List Version)) × Remain old.manifest.edit flushed others after → LeavesNext (record old { moments = mid; faults = faults }) (record { flushed = flushed; place = Some log; tables = placed old.manifest.log.id versions place ∷ others })
+table_next old mid faults versions flushed log place others grows end syncs is (after, remain) =
+    λ parts left. (versions ∷ after parts, table_left old.manifest.log.id old.manifest.edit parts versions flushed log place others after old.moments mid grows end syncs is remain left)
 
-pub none_ready : (old : TableSetState) (flushed : ℕ) → old.halted ≡ false → Ready old old.moments (record { flushed = flushed; place = Some 0; tables = [] }) (λ _. [])
-none_ready old flushed running = record {
+pub none_ready : (old : TableSetState) (flushed log : ℕ) → old.halted ≡ false → Ready old old.moments (record { flushed = flushed; place = Some log; tables = [] }) (λ _. [])
+none_ready old flushed log running = record {
   was_running = running;
-  written = refl;
   last_rests = λ parts rests. rests;
-  next_rests = λ parts rests. known_map (RestsWith old.manifest.log.id old.manifest.edit parts) (RestsWith old.manifest.log.id (record { flushed = flushed; place = Some 0; tables = [] }) []) (λ m r. record { bytes = r.bytes; on_disk = r.on_disk; tables = tt }) old.moments rests;
+  next_rests = λ parts rests. known_map (RestsWith old.manifest.log.id old.manifest.edit parts) (RestsWith old.manifest.log.id (record { flushed = flushed; place = Some log; tables = [] }) []) (λ m r. record { bytes = r.bytes; on_disk = r.on_disk; tables = tt }) old.moments rests;
 }
 
 pub tables_failed : {T : Type 0} (old : TableSetState) (mid : List Moment) (faults : ℕ) (next : Edit) (after : List (List Version) → List (List Version)) → old.halted ≡ false → Grows old.moments mid → Rose old.faults faults

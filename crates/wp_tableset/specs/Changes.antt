@@ -5,7 +5,7 @@ use Rattle.wp_outside.specs.Disk.{Moment, IfKnown, Passes, added, after_write, a
 use Rattle.wp_outside.specs.Faults.{Rose}
 use Rattle.wp_gatelog.specs.Durability.{LosesNoRecord}
 use Rattle.wp_gatelog.specs.Moments.{Leaves}
-use Rattle.wp_manifest.specs.Edit.{Edit, no_edit}
+use Rattle.wp_manifest.specs.Edit.{Edit, no_edit, place_of}
 use Rattle.wp_manifest.specs.Manifest.{StoresEdits}
 use Rattle.wp_manifest.specs.Spelling.{MAGIC, IsManifestOrNext}
 use Rattle.wp_table.specs.Table.{written_bytes}
@@ -23,7 +23,7 @@ placed id versions place = (place, length (written_bytes id versions))
 -- the old edit's tables and one more, the newest; the entries up to `flushed` are in them
 abbrev pub flushed_edit : TableSetState → List Version → ℕ → ℕ → Edit
 flushed_edit old versions flushed place =
-    record { flushed = flushed; place = Some 0; tables = placed old.manifest.log.id versions place ∷ old.manifest.edit.tables }
+    record { flushed = flushed; place = Some (place_of old.manifest.edit); tables = placed old.manifest.log.id versions place ∷ old.manifest.edit.tables }
 
 -- one table in place of all, or none where there is no version
 abbrev pub compacted_places : ℕ → List Version → ℕ → List (ℕ × ℕ)
@@ -33,7 +33,7 @@ compacted_places id (v ∷ versions) place = placed id (v ∷ versions) place �
 -- the flushed number stays
 abbrev pub compacted_edit : TableSetState → List Version → ℕ → Edit
 compacted_edit old versions place =
-    record { flushed = old.manifest.edit.flushed; place = Some 0; tables = compacted_places old.manifest.log.id versions place }
+    record { flushed = old.manifest.edit.flushed; place = Some (place_of old.manifest.edit); tables = compacted_places old.manifest.log.id versions place }
 
 -- the versions as the one table that there is, or none
 abbrev pub one_part : List Version → Option (List Version)
@@ -44,6 +44,14 @@ abbrev pub compacted_parts : List Version → List (List Version)
 compacted_parts [] = []
 compacted_parts (v ∷ versions) = (v ∷ versions) ∷ []
 
+-- ---- an edit that moves the log
+
+-- the old edit's tables and, before them, one of these versions, if there are any; the entries up to `flushed` are in them, and the log
+-- begins at that place of its device
+abbrev pub moved_edit : TableSetState → List Version → ℕ → ℕ → ℕ → Edit
+moved_edit old versions flushed log place =
+    record { flushed = flushed; place = Some log; tables = compacted_places old.manifest.log.id versions place ++ old.manifest.edit.tables }
+
 -- ---- an install
 
 -- The newest of these tables, if there is one, begins where the device's bytes ended. It was written there at once, and
@@ -53,12 +61,15 @@ NewestIsWritten old new [] = new ≡ old
 NewestIsWritten old new (table ∷ tables) =
     IsEnd old table.0 × ((bytes : List ℕ) × (length bytes ≡ table.1) × (new ≡ added after_sync (added (after_write table.0 bytes) old)))
 
+-- Where the manifest was called, the newest of these tables had been written before.
+abbrev pub Wrote : TableSetState → TableSetState → List (ℕ × ℕ) → Type 0
+Wrote old new tables = (new.manifest ≡ old.manifest) ⊎ NewestIsWritten old.moments new.moments tables
+
 -- the next edit is the last one, and the set stores its tables, which `after` makes of the old ones
 pub record NextInstalled (old new : TableSetState) (next : Edit) (after : List (List Version) → List (List Version)) : Type 0 where
   pub was_running : old.halted ≡ false
   pub running : new.halted ≡ false
   pub last : new.manifest.edit ≡ next
-  pub written : NewestIsWritten old.moments new.moments next.tables
   pub stores : (edits : List Edit) (parts : List (List Version)) → StoresTables old edits no_edit parts []
       → StoresTables new (edits ++ next ∷ []) no_edit (after parts) []
 
@@ -73,7 +84,6 @@ pub record TablesFailed (old new : TableSetState) : Type 0 where
 pub record InstallFailed (old new : TableSetState) (next : Edit) (after : List (List Version) → List (List Version)) : Type 0 where
   pub rose : Rose old.manifest.log.faults new.manifest.log.faults
   pub last : new.manifest.edit ≡ old.manifest.edit
-  pub written : NewestIsWritten old.moments new.moments next.tables
   pub stores : (edits : List Edit) (parts : List (List Version)) → StoresTables old edits no_edit parts []
       → StoresTables new edits next parts (after parts)
 

@@ -1,16 +1,19 @@
 -- The parts of a call: a table is written, and then an edit is installed.
-use Rattle.std.specs.Prelude.{◌≡◌, ◌≤◌, ℕ, Bool, true, false, List, [], ◌∷◌, ◌++◌, length, Some, Result, OnOk, IfErr}
+use Rattle.std.specs.Prelude.{◌≡◌, ◌≤◌, ◌<◌, ℕ, Bool, true, false, List, [], ◌∷◌, ◌++◌, length, Option, Some, None, Result, OnOk, IfErr}
+use Rattle.std.specs.List.{list_all}
 use Rattle.wp_model.specs.declared.version.Version.{Version}
 use Rattle.wp_outside.specs.Disk.{IfKnown, Passes}
 use Rattle.wp_outside.specs.Faults.{Rose}
 use Rattle.wp_gatelog.specs.Durability.{LosesNoRecord}
 use Rattle.wp_gatelog.specs.Moments.{Leaves}
-use Rattle.wp_manifest.specs.Edit.{Edit, no_edit}
+use Rattle.wp_manifest.specs.Edit.{Edit, no_edit, place_of}
 use Rattle.wp_manifest.specs.Manifest.{ManifestState, StoresEdits}
 use Rattle.wp_manifest.specs.Spelling.{MAGIC, IsManifestOrNext}
 use Rattle.wp_table.specs.File.{HasTables}
-use Rattle.wp_tableset.specs.Changes.{Installs, placed}
-use Rattle.wp_tableset.specs.Set.{TableSetState, LeavesTables}
+use Rattle.wp_table.specs.Table.{SpellsTable, is_flushed, is_numbered, written_bytes}
+use Rattle.wp_table.specs.Walk.{BuiltTable}
+use Rattle.wp_tableset.specs.Changes.{Installs, NewestIsWritten, Wrote, TablesFailed, placed, compacted_places, compacted_parts, moved_edit}
+use Rattle.wp_tableset.specs.Set.{TableSetState, LeavesTables, RestsWith, StoresTables}
 use Rattle.wp_tableset.specs.declared.error.TableSetError.{TableSetError}
 use Rattle.wp_tableset.specs.declared.error.TableSetError.TheVariants.{Memory, Fault, Halted}
 
@@ -32,6 +35,7 @@ InstallStopped old new edit Memory = new ≡ old
 InstallStopped old new edit Fault =
     (new.halted ≡ true) × Rose old.manifest.log.faults new.manifest.log.faults × (new.manifest.edit ≡ old.manifest.edit)
     × ((edits : List Edit) → StoresEdits old.manifest edits no_edit → StoresEdits new.manifest edits edit)
+    × (new.manifest.log.closed ≡ true)
 InstallStopped old new edit Halted = ⊥
 
 -- the manifest alone is called
@@ -58,4 +62,52 @@ Remain old flushed others after = (id : ℕ) (bytes : List ℕ) (parts : List (L
 -- an edit is to be installed that names a table of the versions, and behind it the others
 abbrev pub Puts : {T : Type 0} → TableSetState → TableSetState → List Version → ℕ → List (ℕ × ℕ) → Result T TableSetError → Type 0
 Puts old new versions flushed others result = (place : ℕ) × ((after : List (List Version) → List (List Version)) → Remain old.manifest.edit flushed others after
-    → Installs old new (record { flushed = flushed; place = Some 0; tables = placed old.manifest.log.id versions place ∷ others }) (λ parts. versions ∷ after parts) result)
+    → Installs old new (record { flushed = flushed; place = Some (place_of old.manifest.edit); tables = placed old.manifest.log.id versions place ∷ others }) (λ parts. versions ∷ after parts) result)
+    × Wrote old new (placed old.manifest.log.id versions place ∷ others)
+
+-- ---- an edit that moves the log
+
+-- an edit with all the memory that its install takes, and the table that is to be written for it, if there is one
+pub record ReadyState : Type 0 where
+  pub edit : Edit
+  pub built : Option BuiltTable
+
+-- these versions as a table that was built, if there are any
+abbrev pub built_of : ℕ → List Version → Option BuiltTable
+built_of id [] = None
+built_of id (v ∷ versions) = Some (record { bytes = written_bytes id (v ∷ versions); versions = v ∷ versions })
+
+-- a table without a place yet, if there is one
+abbrev pub unplaced : Option BuiltTable → List (ℕ × ℕ)
+unplaced None = []
+unplaced (Some built) = (0, length built.bytes) ∷ []
+
+-- these versions may be in one table more, before those that there are, with the entries up to `flushed` in them
+pub record MayMove (set : TableSetState) (versions : List Version) (flushed : ℕ) : Type 0 where
+  pub numbered : list_all is_numbered versions ≡ true
+  pub flushed_all : list_all (is_flushed flushed) versions ≡ true
+  pub later : set.manifest.edit.flushed ≤ flushed
+  pub later_some : 1 ≤ length versions → set.manifest.edit.flushed < flushed
+
+-- an edit that moves the log is ready, and its table, if it has one, spells the versions; its places are not said yet
+pub record IsReadyEdit (set : TableSetState) (versions : List Version) (flushed : ℕ) (r : ReadyState) : Type 0 where
+  pub may : MayMove set versions flushed
+  pub edit : r.edit ≡ moved_edit set versions flushed 0 0
+  pub built : r.built ≡ built_of set.manifest.log.id versions
+  pub spelled : 1 ≤ length versions → SpellsTable set.manifest.log.id flushed versions (written_bytes set.manifest.log.id versions)
+
+-- The edit's table, if it has one, is written, and nothing names it; the tables that there were, and it, are there for good. What was
+-- before is `old`.
+pub record TableWritten (old set : TableSetState) (versions : List Version) (flushed place : ℕ) : Type 0 where
+  pub changed : set ≡ record old { moments = set.moments; faults = set.faults }
+  pub later : old.faults ≤ set.faults
+  pub wrote : NewestIsWritten old.moments set.moments (compacted_places old.manifest.log.id versions place)
+  pub stores : (edits : List Edit) (parts : List (List Version)) → StoresTables old edits no_edit parts [] → StoresTables set edits no_edit parts []
+  pub there : (log : ℕ) (edits : List Edit) (parts : List (List Version)) → StoresTables old edits no_edit parts [] → IfKnown set.moments (RestsWith old.manifest.log.id (moved_edit old versions flushed log place) (compacted_parts versions ++ parts))
+
+-- Its table was not written. For want of memory it may be on the device, and nothing names it; else the device failed.
+abbrev pub NotWritten : TableSetState → TableSetState → TableSetError → Type 0
+NotWritten old new Memory = (new ≡ record old { moments = new.moments; faults = new.faults })
+    × ((edits : List Edit) (parts : List (List Version)) → StoresTables old edits no_edit parts [] → StoresTables new edits no_edit parts [])
+NotWritten old new Fault = (new.halted ≡ true) × TablesFailed old new
+NotWritten old new Halted = ⊥

@@ -1,22 +1,23 @@
-ghost use Rattle.std.specs.Prelude.{◌≡◌, ◌≤◌, ◌<◌, ℕ, true, false, [], ◌∷◌, ◌++◌, List, length, vec_capacity, IfOk, IfErr, OnOk, is_some, Some};
+ghost use Rattle.std.specs.Prelude.{◌≡◌, ◌≤◌, ◌<◌, ℕ, true, false, [], ◌∷◌, ◌++◌, List, length, vec_capacity, IfOk, IfErr, OnOk, is_some, Some, None};
 ghost use Rattle.std.specs.Arc.{arc_value};
 ghost use Rattle.std.specs.List.{list_all};
 ghost use Rattle.std.specs.Option.{option_map};
 ghost use Rattle.wp_model.specs.declared.version.Version.{Version};
 ghost use Rattle.wp_outside.specs.Disk.{IfKnown};
-ghost use Rattle.wp_manifest.specs.Edit.{Edit, no_edit};
+ghost use Rattle.wp_manifest.specs.Edit.{Edit, no_edit, place_of};
 ghost use Rattle.wp_manifest.specs.Manifest.{StoresEdits};
-ghost use Rattle.wp_table.specs.Table.{is_flushed, is_numbered};
-ghost use Rattle.wp_tableset.specs.Changes.{Installs, LosesNoTable, placed, flushed_edit, compacted_edit, compacted_parts, one_part};
-ghost use Rattle.wp_tableset.specs.Install.{InstallsEdit, LeavesNext, Puts, Remain};
-ghost use Rattle.wp_tableset.specs.Set.{RestsWith, StoresTables};
+ghost use Rattle.wp_table.specs.Table.{SpellsTable, is_flushed, is_numbered, written_bytes};
+ghost use Rattle.wp_tableset.specs.Changes.{Installs, LosesNoTable, Wrote, moved_edit, flushed_edit, compacted_edit, compacted_parts, one_part};
+ghost use Rattle.wp_tableset.specs.Install.{InstallsEdit, IsReadyEdit, LeavesNext, MayMove, NotWritten, Puts, Remain, TableWritten, built_of, unplaced};
+ghost use Rattle.wp_tableset.specs.Set.{RestsWith, StoresTables, TableSetState};
+ghost use Rattle.wp_tableset.specs.declared.error.TableSetError.TheVariants.{Fault};
 
 use crate::device::write_behind;
 use crate::error::TableSetError;
 use std::alloc::{AllocError, Global};
 use std::marker::Model;
 use std::sync::Arc;
-use wp_manifest::{Edit, InstallError, Manifest};
+use wp_manifest::{Edit, EditRoom, InstallError, Manifest};
 use wp_model::{Seq, Versions};
 use wp_outside::{Disk, Failed};
 use wp_table::{Built, Table, build};
@@ -28,6 +29,22 @@ pub struct TableSet<D: Disk> {
     manifest: Manifest<D>,
     tables: D,
     halted: bool,
+}
+
+/// An edit that moves the log, with all the memory that its install takes, and the table that is to be written for it, if there is
+/// one. Clauses see both.
+#[derive(Drop)]
+pub struct ReadyEdit {
+    room: EditRoom,
+    built: Option<Built>,
+}
+
+impl Model for ReadyEdit {
+    ghost use Rattle.wp_tableset.specs.Install.{ReadyState};
+
+    ghost Value = { ReadyState };
+
+    ghost view = { λ r. record { edit = r.room; built = r.built } };
 }
 
 /// The two devices of a set.
@@ -49,14 +66,14 @@ impl<D: Disk> Model for TableSet<D> {
 }
 
 /// The edit that names the table and, behind it, the others, in the memory that these have.
-fn edit_of(flushed: Seq, table: (u64, u64), mut others: Vec<(u64, u64)>) -> Edit
+fn edit_of(flushed: Seq, log_place: u64, table: (u64, u64), mut others: Vec<(u64, u64)>) -> Edit
     requires { length others.items < vec_capacity others }
-    ensures { result ≡ record { flushed = flushed; place = Some 0; tables = table ∷ others.items } }
+    ensures { result ≡ record { flushed = flushed; place = Some log_place; tables = table ∷ others.items } }
 {
     others.insert(0, table).unwrap();
     Edit {
         flushed,
-        place: Some(0),
+        place: Some(log_place),
         tables: others,
     }
 }
@@ -66,6 +83,34 @@ fn share(alloc: Global, built: Built) -> Result<Arc<Table>, AllocError>
     ensures { IfOk result (λ table. arc_value table ≡ built.versions) }
 {
     Ok(Arc::new(alloc, built.into_table())?)
+}
+
+/// These versions as a table, if there are any.
+fn build_some(alloc: Global, id: u32, versions: &Versions) -> Result<Option<Built>, AllocError>
+    requires { list_all is_numbered versions.now ≡ true }
+    ensures built { IfOk result (λ built. built ≡ built_of id versions.now) }
+    ensures spelled { OnOk result ((flushed : ℕ) → list_all (is_flushed flushed) versions.now ≡ true → 1 ≤ length versions.now
+        → SpellsTable id flushed versions.now (written_bytes id versions.now)) }
+{
+    if versions.as_slice().is_empty() {
+        return Ok(None);
+    }
+    let built = build(alloc, id, versions)?;
+    Ok(Some(built))
+}
+
+/// What an edit is to name of a table that has no place yet, if there is one.
+fn unplaced(alloc: Global, built: &Option<Built>) -> Result<Vec<(u64, u64)>, AllocError>
+    ensures { IfOk result (λ places. places.items ≡ unplaced built.now) }
+{
+    match built {
+        Some(built) => {
+            let mut places = Vec::new(alloc);
+            places.push((0, built.bytes().len() as u64))?;
+            Ok(places)
+        }
+        None => Ok(Vec::new(alloc)),
+    }
 }
 
 impl<D: Disk> TableSet<D> {
@@ -94,6 +139,13 @@ impl<D: Disk> TableSet<D> {
         self.manifest.edit()
     }
 
+    /// Where on its device the log begins, by the edit that was installed last.
+    pub fn log_place(&self) -> u64
+        ensures { result ≡ place_of self.now.manifest.edit }
+    {
+        self.manifest.edit().place.unwrap_or(0)
+    }
+
     /// Whether a device has failed.
     pub fn is_halted(&self) -> bool
         ensures halted { result ≡ self.now.halted }
@@ -109,7 +161,8 @@ impl<D: Disk> TableSet<D> {
         requires flushed { list_all (is_flushed flushed) versions.now ≡ true }
         requires later { self.old.manifest.edit.flushed < flushed }
         ensures table { IfOk result (λ table. arc_value table ≡ versions.now) }
-        ensures installs { (place : ℕ) × Installs self.old self.new (flushed_edit self.old versions.now flushed place) (λ parts. versions.now ∷ parts) result }
+        ensures installs { (place : ℕ) × Installs self.old self.new (flushed_edit self.old versions.now flushed place) (λ parts. versions.now ∷ parts) result
+            × Wrote self.old self.new (flushed_edit self.old versions.now flushed place).tables }
         ensures keeps { LosesNoTable self.old self.new }
     {
         if self.halted {
@@ -127,7 +180,8 @@ impl<D: Disk> TableSet<D> {
         requires numbered { list_all is_numbered versions.now ≡ true }
         requires flushed { list_all (is_flushed self.old.manifest.edit.flushed) versions.now ≡ true }
         ensures table { IfOk result (λ table. option_map arc_value table ≡ one_part versions.now) }
-        ensures installs { (place : ℕ) × Installs self.old self.new (compacted_edit self.old versions.now place) (λ _. compacted_parts versions.now) result }
+        ensures installs { (place : ℕ) × Installs self.old self.new (compacted_edit self.old versions.now place) (λ _. compacted_parts versions.now) result
+            × Wrote self.old self.new (compacted_edit self.old versions.now place).tables }
         ensures keeps { LosesNoTable self.old self.new }
         ensures uncalled { versions.now ≡ [] → (self.new.moments ≡ self.old.moments) × (self.new.faults ≡ self.old.faults) }
     {
@@ -137,7 +191,7 @@ impl<D: Disk> TableSet<D> {
         let flushed = self.manifest.edit().flushed;
         if versions.as_slice().is_empty() {
             let tables = Vec::new(self.alloc);
-            let place = Some(0);
+            let place = Some(self.log_place());
             self.install(Edit {
                 flushed,
                 place,
@@ -180,8 +234,81 @@ impl<D: Disk> TableSet<D> {
             }
         };
         let table = share(self.alloc, built)?;
-        self.install(edit_of(flushed, (place, size), places))?;
+        self.install(edit_of(flushed, self.log_place(), (place, size), places))?;
         Ok(table)
+    }
+
+    /// Takes the memory of an edit that moves the log: it names the tables that there are and, before them, one of these versions, if
+    /// there are any, and flushes the entries up to this number.
+    pub fn ready(&self, versions: &Versions, flushed: Seq) -> Result<ReadyEdit, AllocError>
+        requires { MayMove self.now versions.now flushed }
+        ensures { IfOk result (IsReadyEdit self.now versions.now flushed) }
+    {
+        let built = build_some(self.alloc, self.manifest.id(), versions)?;
+        let mut tables = unplaced(self.alloc, &built)?;
+        let others = &self.manifest.edit().tables;
+        tables.extend_from_slice(others)?;
+        let room = self.manifest.room(Edit {
+            flushed,
+            place: Some(0),
+            tables,
+        })?;
+        Ok(ReadyEdit { room, built })
+    }
+
+    /// Writes the table of a ready edit, if it has one. The table is for readers.
+    pub fn write_table(
+        &mut self,
+        ready: &mut ReadyEdit,
+    ) -> Result<Option<Arc<Table>>, TableSetError>
+        requires running { self.old.halted ≡ false }
+        requires ready { (versions : List Version) × (flushed : ℕ) × IsReadyEdit self.old versions flushed ready.old }
+        ensures table { IfOk result (λ table. option_map arc_value table ≡ option_map (λ built. built.versions) ready.old.built) }
+        ensures written { OnOk result ((versions : List Version) (flushed : ℕ) → IsReadyEdit self.old versions flushed ready.old
+            → (place : ℕ) × TableWritten self.old self.new versions flushed place × (ready.new.edit ≡ moved_edit self.old versions flushed 0 place)) }
+        ensures uncalled { ready.old.built ≡ None → self.new ≡ self.old }
+        ensures refused { IfErr result (NotWritten self.old self.new) }
+        ensures keeps { LosesNoTable self.old self.new }
+    {
+        let Some(built) = ready.built.take() else {
+            return Ok(None);
+        };
+        let place = match write_behind(&mut self.tables, built.bytes()) {
+            Ok(place) => place,
+            Err(Failed) => {
+                self.halted = true;
+                return Err(TableSetError::Fault);
+            }
+        };
+        ready.room.set_newest_place(place);
+        let table = share(self.alloc, built)?;
+        Ok(Some(table))
+    }
+
+    /// Makes a ready edit the last one, whose table was written, and by which the log begins at this place of its device. It takes no
+    /// memory.
+    pub fn install_ready(
+        &mut self,
+        mut ready: ReadyEdit,
+        log_place: u64,
+    ) -> Result<(), TableSetError>
+        requires running { self.old.halted ≡ false }
+        requires written { (old : TableSetState) × (versions : List Version) × (flushed : ℕ) × (place : ℕ) × MayMove old versions flushed
+            × TableWritten old self.old versions flushed place × (ready.edit ≡ moved_edit old versions flushed 0 place) }
+        ensures installs { InstallsEdit self.old self.new (record ready.edit { place = Some log_place }) result }
+        ensures why { IfErr result (λ why. why ≡ Fault) }
+        ensures keeps { LosesNoTable self.old self.new }
+    {
+        ready.room.set_log_place(log_place);
+        match self.manifest.install_in(ready.room) {
+            Ok(()) => Ok(()),
+            Err(InstallError::Memory) => unreachable!(),
+            Err(InstallError::DiskFault) => {
+                self.halted = true;
+                Err(TableSetError::Fault)
+            }
+            Err(InstallError::Closed(_)) => unreachable!(),
+        }
     }
 
     /// Makes the edit the last one.

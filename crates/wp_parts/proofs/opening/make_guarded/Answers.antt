@@ -1,5 +1,6 @@
 use Rattle.wp_parts.proofs.FlushedVersions.{tables_flushed}
-use Rattle.wp_parts.proofs.OpeningLemmas.{rests}
+use Rattle.wp_open.specs.Parts.{stored_cut}
+use Rattle.wp_parts.proofs.OpeningLemmas.{has_cut, rests}
 use Rattle.wp_parts.proofs.opening.make_guarded.Goals as goal
 
 pub new-edits-requires-clause-stores : goal.new-edits-requires-clause-stores
@@ -15,5 +16,8 @@ new-edits-requires-clause-flushed g c =
     let parts = c.args.parts in
     rw (c.new-2.ensures.set, c.requires.tables) (tables_flushed parts.wal.id parts.manifest.edit.flushed parts.store.tables o.4.are)
 
-pub new-edits-requires-clause-place : goal.new-edits-requires-clause-place
-new-edits-requires-clause-place g c = let o = c.requires.opened in rw c.new-2.ensures.set o.4.store.place
+pub new-log-requires-clause-stores : goal.new-log-requires-clause-stores
+new-log-requires-clause-stores g c =
+    let o = c.requires.opened in
+    let parts = c.args.parts in
+    (stored_cut parts.wal parts.history.entries, o.4.opened.stores, has_cut o.0 o.1 o.2 o.3 parts.wal parts.history.entries parts.manifest _ parts.store o.4)

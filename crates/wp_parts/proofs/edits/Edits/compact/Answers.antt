@@ -12,8 +12,8 @@ invariant_of-self-in-Ok g c =
     let running = rw (← c.self.view_is) at c.requires.running in
     let call = c.in-Ok.ensures.installs in
     let now : c.put_alone.new.tables.items ≡ compacted_parts versions = c.put_alone.ensures ∙ ap (λ (o : Option (List Version)). with_newest o []) c.in-Ok.ensures.table ∙ alone versions in
-    installed_edits inside.set inside.first.value inside.tables.items inside.failed c.self.invariant running c.compact.new.self c.compact.ensures.keeps
-    (compacted_edit inside.set versions call.0) (λ _. compacted_parts versions) call.1.installed (c.shows_running.ensures call.1.installed.running) c.put_alone.new.tables.items now refl
+    installed_edits inside.set inside.first.value inside.base inside.tables.items inside.failed c.self.invariant running c.compact.new.self c.compact.ensures.keeps
+    (compacted_edit inside.set versions call.0) (λ _. compacted_parts versions) call.1.installed (c.shows_running.ensures call.1.installed.running) c.put_alone.new.tables.items now inside.base
     (one_flushed inside.set.manifest.edit.flushed versions c.shows_order.ensures (rw (← c.self.view_is) at c.requires.flushed))
 
 pub returns-in-Ok-clause-installed : goal.returns-in-Ok-clause-installed
@@ -24,9 +24,9 @@ returns-in-Ok-clause-installed g c =
     let call = c.in-Ok.ensures.installs in
     let now : c.put_alone.new.tables.items ≡ compacted_parts versions = c.put_alone.ensures ∙ ap (λ (o : Option (List Version)). with_newest o []) c.in-Ok.ensures.table ∙ alone versions in
     let next = compacted_edit inside.set versions call.0 in
-    rw (← c.self.view_is) (installed_table inside.set inside.first.value inside.tables.items inside.failed c.self.invariant running c.compact.new.self c.compact.ensures.keeps
-    next (λ _. compacted_parts versions) call.1.installed (c.shows_running.ensures call.1.installed.running) c.put_alone.new.tables.items now _
-    (is_in_one_table inside.set.manifest.edit next versions inside.tables.items c.shows_order.ensures refl))
+    rw (← c.self.view_is) (installed_table inside.set inside.first.value inside.base inside.tables.items inside.failed c.self.invariant running c.compact.new.self c.compact.ensures.keeps
+    next (λ _. compacted_parts versions) call.1.installed (c.shows_running.ensures call.1.installed.running) c.put_alone.new.tables.items now inside.base _
+    (is_in_one_table inside.base inside.set.manifest.edit next versions inside.tables.items c.shows_order.ensures refl refl))
 
 pub invariant_of-self-in-Err : goal.invariant_of-self-in-Err
 invariant_of-self-in-Err g c =
@@ -35,8 +35,9 @@ invariant_of-self-in-Err g c =
     let running = rw (← c.self.view_is) at c.requires.running in
     let call = c.in-Err.ensures.installs in
     let same : c.behind-self.inside.flushed ≡ inside.set.manifest.edit.flushed = search rules in
-    rw c.reserve.ensures.items (refused_edits inside.set inside.first.value inside.tables.items inside.failed c.self.invariant running c.compact.new.self c.compact.ensures.keeps
-    (compacted_edit inside.set versions call.0) (λ _. compacted_parts versions) _ (rw (c.of.ensures, same) refl) refl c.in-Err.why call.1.refused)
+    let here = rw (← c.self.view_is) at c.segment-segment.ensures in
+    rw c.reserve.ensures.items (refused_edits inside.set inside.first.value inside.base inside.tables.items inside.failed c.self.invariant running c.compact.new.self c.compact.ensures.keeps
+    (compacted_edit inside.set versions call.0) (λ _. compacted_parts versions) _ inside.base (rw (c.of.ensures, same, here) refl) c.in-Err.why call.1.refused)
 
 pub returns-in-Err-clause-refused : goal.returns-in-Err-clause-refused
 returns-in-Err-clause-refused g c =
@@ -45,9 +46,10 @@ returns-in-Err-clause-refused g c =
     let running = rw (← c.self.view_is) at c.requires.running in
     let call = c.in-Err.ensures.installs in
     let same : c.behind-self.inside.flushed ≡ inside.set.manifest.edit.flushed = search rules in
+    let here = rw (← c.self.view_is) at c.segment-segment.ensures in
     let next = compacted_edit inside.set versions call.0 in
-    rw (← c.self.view_is, c.reserve.ensures.items) (refused_table inside.set inside.first.value inside.tables.items inside.failed c.self.invariant running c.compact.new.self c.compact.ensures.keeps
-    next (λ _. compacted_parts versions) _ (rw (c.of.ensures, same) refl) _ (is_in_one_table inside.set.manifest.edit next versions inside.tables.items c.shows_order.ensures refl) c.in-Err.why call.1.refused)
+    rw (← c.self.view_is, c.reserve.ensures.items) (refused_table inside.set inside.first.value inside.base inside.tables.items inside.failed c.self.invariant running c.compact.new.self c.compact.ensures.keeps
+    next (λ _. compacted_parts versions) _ inside.base (rw (c.of.ensures, same, here) refl) _ (is_in_one_table inside.base inside.set.manifest.edit next versions inside.tables.items c.shows_order.ensures refl refl) c.in-Err.why call.1.refused)
 
 pub returns-in-Ok-clause-parts : goal.returns-in-Ok-clause-parts
 returns-in-Ok-clause-parts g c = c.put_alone.ensures ∙ ap (λ (o : Option (List Version)). with_newest o []) c.in-Ok.ensures.table ∙ alone c.args.versions.now
@@ -73,8 +75,8 @@ returns-in-Ok-clause-survives g c =
     let running = rw (← c.self.view_is) at c.requires.running in
     let call = c.in-Ok.ensures.installs in
     let next = compacted_edit inside.set versions call.0 in
-    rw (← c.self.view_is) (survives inside.set inside.first.value inside.tables.items inside.failed c.self.invariant running c.compact.new.self c.compact.ensures.keeps
-    next (λ _. compacted_parts versions) _ _ (sym (is_in_one_table inside.set.manifest.edit next versions inside.tables.items c.shows_order.ensures refl)) refl refl call.1.passed call.1.there)
+    rw (← c.self.view_is) (survives inside.set inside.first.value inside.base inside.tables.items inside.failed c.self.invariant running c.compact.new.self c.compact.ensures.keeps
+    next (λ _. compacted_parts versions) _ _ (sym (is_in_one_table inside.base inside.set.manifest.edit next versions inside.tables.items c.shows_order.ensures refl refl)) refl call.1.passed call.1.there)
 
 pub returns-in-Err-clause-survives : goal.returns-in-Err-clause-survives
 returns-in-Err-clause-survives g c =
@@ -83,12 +85,12 @@ returns-in-Err-clause-survives g c =
     let running = rw (← c.self.view_is) at c.requires.running in
     let call = c.in-Err.ensures.installs in
     let next = compacted_edit inside.set versions call.0 in
-    rw (← c.self.view_is) (survives inside.set inside.first.value inside.tables.items inside.failed c.self.invariant running c.compact.new.self c.compact.ensures.keeps
-    next (λ _. compacted_parts versions) _ _ (sym (is_in_one_table inside.set.manifest.edit next versions inside.tables.items c.shows_order.ensures refl)) refl refl call.1.passed call.1.there)
+    rw (← c.self.view_is) (survives inside.set inside.first.value inside.base inside.tables.items inside.failed c.self.invariant running c.compact.new.self c.compact.ensures.keeps
+    next (λ _. compacted_parts versions) _ _ (sym (is_in_one_table inside.base inside.set.manifest.edit next versions inside.tables.items c.shows_order.ensures refl refl)) refl call.1.passed call.1.there)
 
 pub returns-in_err-reserve-clause-survives : goal.returns-in_err-reserve-clause-survives
 returns-in_err-reserve-clause-survives g c =
     let inside = c.self.inside in
     let versions = c.args.versions.now in
     let next = compacted_edit inside.set versions 0 in
-    rw (← c.self.view_is) (nothing_called inside.set inside.first.value inside.tables.items inside.failed c.self.invariant (rw (← c.self.view_is) at c.requires.running) next (λ _. compacted_parts versions) _ _ (sym (is_in_one_table inside.set.manifest.edit next versions inside.tables.items c.shows_order.ensures refl)) refl refl)
+    rw (← c.self.view_is) (nothing_called inside.set inside.first.value inside.base inside.tables.items inside.failed c.self.invariant (rw (← c.self.view_is) at c.requires.running) next (λ _. compacted_parts versions) _ _ (sym (is_in_one_table inside.base inside.set.manifest.edit next versions inside.tables.items c.shows_order.ensures refl refl)) refl)

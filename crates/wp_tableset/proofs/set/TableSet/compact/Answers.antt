@@ -9,14 +9,14 @@ returns-in_err-install-clause-installs g c =
     let running : c.args.self.now.halted ≡ false = search rules in
     let none : length c.args.versions.now ≡ 0 = search rules in
     let same : c.behind-self.inside.flushed ≡ c.args.self.now.manifest.edit.flushed = search rules in
-    rw (p.1, p.2) (none_refused _ _ _ _ _ _ running (empty_of _ none) c.new-tables.ensures.items same c.in_err-install.ensures)
+    rw (p.1, p.2) (none_refused _ _ _ _ _ _ running (empty_of _ none) c.new-tables.ensures.items same (rw c.log_place.ensures at c.in_err-install.ensures))
 
 pub returns-then-is_empty-clause-installs : goal.returns-then-is_empty-clause-installs
 returns-then-is_empty-clause-installs g c =
     let running : c.args.self.now.halted ≡ false = search rules in
     let none : length c.args.versions.now ≡ 0 = search rules in
     let same : c.behind-self.inside.flushed ≡ c.args.self.now.manifest.edit.flushed = search rules in
-    none_installed _ _ _ _ _ _ running (empty_of _ none) c.new-tables.ensures.items same c.in_ok-install.ensures
+    none_installed _ _ _ _ _ _ running (empty_of _ none) c.new-tables.ensures.items same (rw c.log_place.ensures at c.in_ok-install.ensures)
 
 pub put-requires-clause-remain : goal.put-requires-clause-remain
 put-requires-clause-remain g c = (λ _. [], none_remain c.args.self.now.manifest.edit _ _ c.in_ok-places.ensures.items)
