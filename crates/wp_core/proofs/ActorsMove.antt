@@ -37,7 +37,7 @@ actors_move row place w actors by a at m k s =
       learned = k.learned;
       owned = owned_moved row place w.writes.history w.actors actors m w.opened s.owned;
       registrations = registered_moved row place w.writes.history w.actors actors m w.snapshots s.registrations;
-      from_opening = s.from_opening;
+      from_base = s.from_base;
       viewed = viewed_moved row place w.writes.history w.actors actors m s.viewed;
     })
     (locked_moved row place w.writes.history w.actors actors m w.opened w.locks s.locks) (record {

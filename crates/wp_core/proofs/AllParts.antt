@@ -22,7 +22,7 @@ use Rattle.wp_core.specs.Notes.{forgets, ends}
 use Rattle.wp_core.specs.Sound.Actors.{seen_of, own_of, AreSeen, AreLearned, AreOwned, AreHeld, HoldersHave, AreLed, IsIdle, AreIdle, participants_of, learned_of, held_of, role_of, Role, EachParticipant}
 use Rattle.wp_core.specs.Sound.History.{IsHistory, IsPendingHeld}
 use Rattle.wp_core.specs.Sound.Prepared.{IsCache, AreDecided, AreUndecided, AreDelayed, AreFlags}
-use Rattle.wp_core.specs.Sound.Snapshots.{registered_of, AreRegistered, AreFromOpening, view_of, HasSeen}
+use Rattle.wp_core.specs.Sound.Snapshots.{registered_of, AreRegistered, AreFromBase, view_of, HasSeen}
 use Rattle.wp_core.specs.Sound.Store.{IsStored, IsSettled}
 use Rattle.wp_core.specs.Sound.Segments.{AreCoupled}
 use Rattle.wp_core.specs.Sound.Locks.{owner_of, AreLocked}
@@ -36,25 +36,25 @@ use Rattle.wp_core.proofs.Changed.{others_hold, holds_changed, have_changed}
 -- ---- the groups
 
 -- the parts that speak of no actor
-pub record TableParts (opened : List Entry) (d : WriteTable) (max delayed_flag old_flag : ℕ) (words : List ℕ) (t : PreparedTables) (m : Snapshots) (st : StoreTable) (e : Installed) (h : Holders) : Type 0 where
+pub record TableParts (opened : List Entry) (d : WriteTable) (max delayed_flag old_flag : ℕ) (words : List ℕ) (t : PreparedTables) (base : ℕ) (m : Snapshots) (st : StoreTable) (e : Installed) (h : Holders) : Type 0 where
   pub history : IsHistory opened d max
   pub cache : IsCache d.history d.pending words
   pub decided : AreDecided d.history words t.delayed_commits max m
   pub undecided : AreUndecided d.history d.pending t max
   pub delayed : AreDelayed d.history d.pending t words
   pub flags : AreFlags delayed_flag old_flag t m h.prepared h.snapshots
-  pub versions : IsStored d.history d.pending m st e
+  pub versions : IsStored d.history d.pending base m st e
   pub settled : IsSettled h.tables st e.last
   pub coupled : AreCoupled d e h.write
   pub pending : IsPendingHeld h.write d.pending
 
 -- what the participants saw, published and registered
-pub record ViewParts (opened history : List Entry) (m : Snapshots) (actors : List Actor) : Type 0 where
+pub record ViewParts (opened history : List Entry) (base : ℕ) (m : Snapshots) (actors : List Actor) : Type 0 where
   pub seen : AreSeen history (map (participants_of seen_of) actors)
   pub learned : AreLearned history (map learned_of actors)
   pub owned : AreOwned opened history (map (participants_of own_of) actors)
   pub registrations : AreRegistered history m (map (participants_of registered_of) actors)
-  pub from_opening : AreFromOpening opened m
+  pub from_base : AreFromBase base m
   pub viewed : EachParticipant HasSeen (map (participants_of view_of) actors)
 
 -- the pasts
@@ -75,10 +75,10 @@ pub record ReaderParts (history : List Entry) (max : ℕ) (words : List ℕ) (co
 
 -- the groups of a world, whoever its actors are
 abbrev pub TablesOf : World → Type 0
-TablesOf w = TableParts w.opened w.writes w.max_evicted w.delayed_flag w.old_flag w.cache w.prepared w.snapshots w.store w.installed w.holders
+TablesOf w = TableParts w.opened w.writes w.max_evicted w.delayed_flag w.old_flag w.cache w.prepared w.first_edit.segment.base w.snapshots w.store w.installed w.holders
 
 abbrev pub ViewsOf : World → List Actor → Type 0
-ViewsOf w actors = ViewParts w.opened w.writes.history w.snapshots actors
+ViewsOf w actors = ViewParts w.opened w.writes.history w.first_edit.segment.base w.snapshots actors
 
 abbrev pub LocksOf : World → List Actor → Type 0
 LocksOf w actors = AreLocked w.opened w.writes.history w.locks (map (participants_of owner_of) actors)
@@ -112,7 +112,7 @@ all_parts w actors tables views locks pasts turns readers notes led idle = recor
   undecided = tables.undecided;
   delayed = tables.delayed;
   registrations = views.registrations;
-  from_opening = views.from_opening;
+  from_base = views.from_base;
   viewed = views.viewed;
   flags = tables.flags;
   versions = tables.versions;
@@ -138,7 +138,7 @@ module _ (w : World) (s : IsSound w) where
   tables_of = record { history = s.history; cache = s.cache; decided = s.decided; undecided = s.undecided; delayed = s.delayed; flags = s.flags; versions = s.versions; settled = s.settled; coupled = s.coupled; pending = s.pending }
 
   pub views_of : ViewsOf w w.actors
-  views_of = record { seen = s.seen; learned = s.learned; owned = s.owned; registrations = s.registrations; from_opening = s.from_opening; viewed = s.viewed }
+  views_of = record { seen = s.seen; learned = s.learned; owned = s.owned; registrations = s.registrations; from_base = s.from_base; viewed = s.viewed }
 
   pub pasts_of : PastsOf w w.actors
   pasts_of = record { holders = s.holders; board = s.board; faults = s.faults; edits = s.edits }
@@ -157,13 +157,13 @@ module _ (w : World) (by : ℕ) (a b : Actor) (at : get_elem? w.actors by ≡ so
   pub kept_part : {X : Type 0} (f : Actor → X) (P : List X → Type 0) → f b ≡ f a → P (map f w.actors) → P (map f (set w.actors by b))
   kept_part f P same k = subst P (sym (kept_map f w.actors by a b at same)) k
 
-  pub views_kept : (opened history : List Entry) (m : Snapshots) → viewer_of b ≡ viewer_of a → ViewParts opened history m w.actors → ViewParts opened history m (set w.actors by b)
-  views_kept opened history m same k = record {
+  pub views_kept : (opened history : List Entry) (base : ℕ) (m : Snapshots) → viewer_of b ≡ viewer_of a → ViewParts opened history base m w.actors → ViewParts opened history base m (set w.actors by b)
+  views_kept opened history base m same k = record {
     seen = kept_part (participants_of seen_of) (AreSeen history) (λ i. (same i).0) k.seen;
     learned = kept_part learned_of (AreLearned history) (λ i. (same i).4) k.learned;
     owned = kept_part (participants_of own_of) (AreOwned opened history) (λ i. (same i).1) k.owned;
     registrations = kept_part (participants_of registered_of) (AreRegistered history m) (λ i. (same i).2) k.registrations;
-    from_opening = k.from_opening;
+    from_base = k.from_base;
     viewed = kept_part (participants_of view_of) (EachParticipant HasSeen) (λ i. (same i).3) k.viewed;
   }
 
@@ -180,7 +180,7 @@ module _ (w : World) (by : ℕ) (a b : Actor) (at : get_elem? w.actors by ≡ so
 
   -- the same of the groups of this world
   pub views_still : viewer_of b ≡ viewer_of a → IsSound w → ViewsOf w (set w.actors by b)
-  views_still same s = views_kept w.opened w.writes.history w.snapshots same (views_of w s)
+  views_still same s = views_kept w.opened w.writes.history w.first_edit.segment.base w.snapshots same (views_of w s)
 
   pub locks_still : participants_of owner_of b ≡ participants_of owner_of a → IsSound w → LocksOf w (set w.actors by b)
   locks_still same s = kept_part (participants_of owner_of) (AreLocked w.opened w.writes.history w.locks) same s.locks
@@ -233,6 +233,6 @@ pub quiet_step : (w v : World) (by : ℕ) (a b : Actor) → get_elem? w.actors b
     → ReadersOf v (set w.actors by b) → NotesOf v (set w.actors by b) → AreIdle (set w.actors by b) → IsSound w → IsSound (record v { actors = set w.actors by b })
 quiet_step w v by a b at same tables views locks pasts turns readers notes idle s =
     all_parts v (set w.actors by b) tables
-    (views_kept w by a b at v.opened v.writes.history v.snapshots (λ i. (people_same seen_of a b same i, people_same own_of a b same i, people_same registered_of a b same i, people_same view_of a b same i, (same i).1)) views)
+    (views_kept w by a b at v.opened v.writes.history v.first_edit.segment.base v.snapshots (λ i. (people_same seen_of a b same i, people_same own_of a b same i, people_same registered_of a b same i, people_same view_of a b same i, (same i).1)) views)
     (kept_part w by a b at (participants_of owner_of) (AreLocked v.opened v.writes.history v.locks) (people_same owner_of a b same) locks)
     (pasts_kept w by a b at v.opened v.writes v.locks v.first_edit v.installed (people_same past_of a b same) pasts) turns readers notes (led_still w by a b at (λ i. (same i).2) s) idle

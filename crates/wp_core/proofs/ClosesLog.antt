@@ -1,5 +1,5 @@
 -- Closing the log, after its device failed or the tables' devices did, keeps a world sound.
-use Rattle.std.proofs.Common.{◌≡◌, ◌≢◌, ◌⊎◌, ⊎_elim, inl, inr, ℕ, true, false, true≢false, List, [], ◌∷◌, ◌++◌, length, map, set, refl, sym, subst, ap, ◌∙◌, arith, Some}
+use Rattle.std.proofs.Common.{◌≡◌, ◌≢◌, ◌⊎◌, ⊎_elim, inl, inr, ℕ, Bool, true, false, true≢false, List, [], ◌∷◌, ◌++◌, length, map, set, refl, sym, subst, ap, ◌∙◌, arith, Some}
 use mathlib.Core.Option.{some}
 use lib.ListN.{get_elem?}
 use Rattle.wp_model.specs.declared.entry.Entry.{Entry}
@@ -29,10 +29,10 @@ use Rattle.wp_core.proofs.Remembers.{FindsNothing, TellsNothing, holders_still, 
 use Rattle.wp_core.proofs.AllParts.{SoIn, all_parts, views_still, readers_still, turns_changed, notes_stay, led_still}
 use Rattle.wp_core.proofs.Gives.{not_free}
 
--- The log is closed by a step: with this event in the actor's past, after which the log may have this record.
-module _ (w : World) (by : ℕ) (a : Actor) (step : Step) (failure : Event) (failed : List Entry) where
+-- The log is closed by a step: with this event in the actor's past, after which the log may have this record, for its own device or not.
+module _ (w : World) (by : ℕ) (a : Actor) (step : Step) (failure : Event) (stops : Bool) (failed : List Entry) where
   abbrev d : WriteTable
-  d = record w.writes { closed = true; failed = failed }
+  d = record w.writes { closed = true; stopped = stops; failed = failed }
 
   abbrev c : Actor
   c = remembers (forgets w.writes.history (length w.cache) step a) failure
@@ -53,6 +53,7 @@ module _ (w : World) (by : ℕ) (a : Actor) (step : Step) (failure : Event) (fai
     pub due : (n : ℕ) → due_after n failure ≡ n
     pub last : (edit : InstalledEdit) → last_after edit failure ≡ edit
     pub record_is : (entries : List Entry) → failure ≡ log_failed entries → failed ≡ entries
+    pub of_log : (entries : List Entry) → failure ≡ log_failed entries → stops ≡ false
     pub behind : failure ≡ log_stopped → w.installed.halted ≡ true
     pub unfailed : failure ≡ log_stopped → failed ≡ []
 
@@ -77,6 +78,7 @@ module _ (w : World) (by : ℕ) (a : Actor) (step : Step) (failure : Event) (fai
       legal_next = h.legal_next;
       legal_failed = k.legal;
       none_failed = λ q. absurd (true≢false q);
+      not_stopped = λ q. absurd (true≢false q);
       undo_closes = h.undo_closes;
     }
 
@@ -87,6 +89,7 @@ module _ (w : World) (by : ℕ) (a : Actor) (step : Step) (failure : Event) (fai
       not_logged = λ q. k.still;
       stopped = λ m h. ⊎_elim (λ f. absurd (true≢false (sym (s.faults.stopped m f).0 ∙ k.running))) (λ (q : failure ≡ stopped m). absurd (subst FindsNothing q k.nothing)) (past_before w.actors by a b failure at refl refl (stopped m) h);
       failed = λ entries h. ⊎_elim (λ f. absurd (true≢false (sym (s.faults.failed entries f).0 ∙ k.running))) (λ (q : failure ≡ log_failed entries). (refl, k.record_is entries q)) (past_before w.actors by a b failure at refl refl (log_failed entries) h);
+      of_log = λ entries h. ⊎_elim (λ f. absurd (true≢false (sym (s.faults.failed entries f).0 ∙ k.running))) (λ (q : failure ≡ log_failed entries). k.of_log entries q) (past_before w.actors by a b failure at refl refl (log_failed entries) h);
       behind = λ h. ⊎_elim (λ f. s.faults.behind f) (λ (q : failure ≡ log_stopped). k.behind q) (past_before w.actors by a b failure at refl refl log_stopped h);
       unfailed = λ h. (refl, ⊎_elim (λ f. absurd (true≢false (sym (s.faults.unfailed f).0 ∙ k.running))) (λ (q : failure ≡ log_stopped). k.unfailed q) (past_before w.actors by a b failure at refl refl log_stopped h));
     }
@@ -115,7 +118,7 @@ module _ (w : World) (by : ℕ) (a : Actor) (step : Step) (failure : Event) (fai
 -- ---- an append failed, or the write of a segment
 
 pub closes_log_by_fault : (w : World) (by : ℕ) (a : Actor) → get_elem? w.actors by ≡ some a → Needs w by a close_log → IsSound w → IsSound (done w by (forgets w.writes.history (length w.cache) close_log a) close_log)
-closes_log_by_fault w by a at n s = log_closes w by a close_log (log_failed w.writes.pending) w.writes.pending at (record {
+closes_log_by_fault w by a at n s = log_closes w by a close_log (log_failed w.writes.pending) w.writes.stopped w.writes.pending at (record {
   holds = n.0;
   running = n.1;
   still = ⊎_elim (λ (k : (w.writes.pending ≢ []) × (w.writes.logged ≡ false)). inr k.1) (λ (k : (w.writes.pending ≡ []) × (w.writes.next ≢ Some w.installed.last.segment)). inl k.0) n.2;
@@ -131,6 +134,7 @@ closes_log_by_fault w by a at n s = log_closes w by a close_log (log_failed w.wr
   due = λ m. refl;
   last = λ m. refl;
   record_is = λ entries q. let same : w.writes.pending ≡ entries = cc in same;
+  of_log = λ entries q. s.history.not_stopped n.1;
   behind = λ q. absurd cc;
   unfailed = λ q. absurd cc;
 }) s
@@ -138,7 +142,7 @@ closes_log_by_fault w by a at n s = log_closes w by a close_log (log_failed w.wr
 -- ---- it is stopped
 
 pub stops_log : (w : World) (by : ℕ) (a : Actor) → get_elem? w.actors by ≡ some a → Needs w by a stop_log → IsSound w → IsSound (done w by (forgets w.writes.history (length w.cache) stop_log a) stop_log)
-stops_log w by a at n s = log_closes w by a stop_log log_stopped w.writes.failed at (record {
+stops_log w by a at n s = log_closes w by a stop_log log_stopped true w.writes.failed at (record {
   holds = n.0;
   running = n.3;
   still = inl n.2;
@@ -151,6 +155,7 @@ stops_log w by a at n s = log_closes w by a stop_log log_stopped w.writes.failed
   due = λ m. refl;
   last = λ m. refl;
   record_is = λ entries q. absurd cc;
+  of_log = λ entries q. absurd cc;
   behind = λ q. n.5;
   unfailed = λ q. s.history.none_failed n.3;
 }) s

@@ -99,13 +99,15 @@ history_dropped w not_logged s = record {
   legal_next = subst IsLegal (sym (append-nil w.writes.history)) s.history.legal;
   legal_failed = s.history.legal_failed;
   none_failed = s.history.none_failed;
+  not_stopped = s.history.not_stopped;
   undo_closes = λ p undone. let k = s.history.undo_closes p undone in absurd (true≢false (sym k.1 ∙ not_logged));
 }
 
-stored_dropped : (w : World) → IsNowhere w.writes w.store → IsSound w → IsStored w.writes.history [] w.snapshots w.store w.installed
+stored_dropped : (w : World) → IsNowhere w.writes w.store → IsSound w → IsStored w.writes.history [] w.first_edit.segment.base w.snapshots w.store w.installed
 stored_dropped w nowhere s =
     let o = s.versions in record {
       covered = o.covered;
+      based = o.based;
       floor = o.floor;
       next = λ key p value lt there. let k = o.next key p value lt there in absurd (none_some (version_at w.store.memory key p) value (ap (version_at w.store.memory key) k.0 ∙ nowhere key) there);
       tables = o.tables;
@@ -117,5 +119,5 @@ stored_dropped w nowhere s =
 pub drops_pending : (w : World) (by : ℕ) (a : Actor) → get_elem? w.actors by ≡ some a → Needs w by a drop_pending → IsSound w → IsSound (done w by (forgets w.writes.history (length w.cache) drop_pending a) drop_pending)
 drops_pending w by a at n s =
     pending_changes w by a drop_pending [] w.writes.logged w.writes.log at n.0 (history_dropped w n.1 s) (cache_dropped w n.2 s) (undecided_dropped w n.5 s) (delayed_dropped w n.3 s) (stored_dropped w n.4 s)
-    (record { log = s.faults.log; tables = s.faults.tables; not_logged = λ closed. inl refl; stopped = s.faults.stopped; failed = s.faults.failed; behind = s.faults.behind; unfailed = s.faults.unfailed }) (λ segment is running. refl)
+    (record { log = s.faults.log; tables = s.faults.tables; not_logged = λ closed. inl refl; stopped = s.faults.stopped; failed = s.faults.failed; of_log = s.faults.of_log; behind = s.faults.behind; unfailed = s.faults.unfailed }) (λ segment is running. refl)
     (notes_by w by drop_pending write_turn _ n.0 (so_pending w drop_pending [] w.writes.log w.writes.logged refl refl refl)) s

@@ -16,11 +16,11 @@ use Rattle.wp_core.specs.Effects.{done, with_failed}
 use Rattle.wp_core.specs.Conditions.{NamesSegment, NamesNext}
 use Rattle.wp_core.specs.Needs.{Needs}
 use Rattle.wp_core.specs.Notes.{forgets}
-use Rattle.wp_core.specs.Sound.Pasts.{IsPast, closes_log, is_tables_fault, AreFaults, raised_to, WasInstalled, WasBased, due_after, tables_due, last_after, last_installed, OtherDid, OtherCompacts, AreEdits}
+use Rattle.wp_core.specs.Sound.Pasts.{IsPast, closes_log, is_tables_fault, AreFaults, raised_to, WasInstalled, WasPlaced, due_after, tables_due, last_after, last_installed, OtherDid, OtherCompacts, AreEdits}
 use Rattle.wp_core.specs.Sound.Segments.{AreCoupled}
 use Rattle.wp_core.specs.IsSound.{IsSound}
 use Rattle.wp_core.proofs.PastsGrow.{done_last, past_last, past_before, times_more}
-use Rattle.wp_core.proofs.Remembers.{installed_still, based_still, faults_more, edits_grown}
+use Rattle.wp_core.proofs.Remembers.{installed_still, placed_still, faults_more, edits_grown}
 use Rattle.wp_core.proofs.TablesChange.{SoInstalled, actor_after, pasts_after, tables_change}
 use Rattle.wp_core.proofs.AllParts.{SoIn}
 use Rattle.wp_core.proofs.Quiet.{Stays, stays_not}
@@ -89,7 +89,7 @@ module _ (w : World) (by : ℕ) (a : Actor) (edit : InstalledEdit) (compacts : B
   edits_installed : AreEdits w.first_edit t after
   edits_installed = edits_grown w.actors by a c e at refl refl w.first_edit w.installed t record {
     last = flushed_at compacts refl;
-    based = subst (λ (x : Segment). WasBased w.first_edit after x.base) (sym n.6) (based_still w.actors by a c e at refl refl w.first_edit w.installed.last.segment.base s.edits.based);
+    placed = subst (λ (x : Segment). WasPlaced w.first_edit after x) (sym n.6) (placed_still w.actors by a c e at refl refl w.first_edit w.installed.last.segment s.edits.placed);
     rises = n.5;
     new = raised compacts;
     found = λ n base tables due halted q. absurd cc;
@@ -168,6 +168,7 @@ module _ (w : World) (by : ℕ) (a : Actor) (edit : Option InstalledEdit) (at : 
         not_logged = s.faults.not_logged;
         stopped = λ n h. ⊎_elim (λ k. s.faults.stopped n k) (λ (q : failure ≡ stopped n). absurd cc) (past_before w.actors by a b failure at refl refl (stopped n) h);
         failed = λ entries h. ⊎_elim (λ k. s.faults.failed entries k) (λ (q : failure ≡ log_failed entries). absurd cc) (past_before w.actors by a b failure at refl refl (log_failed entries) h);
+        of_log = λ entries h. ⊎_elim (λ k. s.faults.of_log entries k) (λ (q : failure ≡ log_failed entries). absurd cc) (past_before w.actors by a b failure at refl refl (log_failed entries) h);
         behind = λ h. is_halted w.installed edit;
         unfailed = λ h. ⊎_elim (λ k. s.faults.unfailed k) (λ (q : failure ≡ log_stopped). absurd cc) (past_before w.actors by a b failure at refl refl log_stopped h);
       }
@@ -187,7 +188,7 @@ module _ (w : World) (by : ℕ) (a : Actor) (edit : Option InstalledEdit) (at : 
         rises = let flushed = ap (λ (z : InstalledEdit). z.flushed) same in omega (arith, flushed);
         new = λ x q. absurd cc;
         last = subst (λ (z : InstalledEdit). WasInstalled w.first_edit then z.flushed) (sym same) (installed_still w.actors by a b failure at refl refl w.first_edit w.installed.last.flushed s.edits.last);
-        based = subst (λ (z : InstalledEdit). WasBased w.first_edit then z.segment.base) (sym same) (based_still w.actors by a b failure at refl refl w.first_edit w.installed.last.segment.base s.edits.based);
+        placed = subst (λ (z : InstalledEdit). WasPlaced w.first_edit then z.segment) (sym same) (placed_still w.actors by a b failure at refl refl w.first_edit w.installed.last.segment s.edits.placed);
         found = λ n base tables due halted q. absurd cc;
         its_edit = λ known. same ∙ known ∙ sym (last_more w.first_edit a.participant.past failure);
         their_edit = λ j i past apart known. inl (same ∙ known);

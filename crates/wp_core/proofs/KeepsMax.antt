@@ -94,7 +94,7 @@ decided_after w m le d = record {
 }
 
 history_after : (w : World) (m : ℕ) → m ≤ length w.writes.history → IsHistory w.opened w.writes w.max_evicted → IsHistory w.opened w.writes m
-history_after w m le h = record { legal = h.legal; grown = h.grown; bounded = le; log = h.log; rest = h.rest; legal_next = h.legal_next; legal_failed = h.legal_failed; none_failed = h.none_failed; undo_closes = h.undo_closes }
+history_after w m le h = record { legal = h.legal; grown = h.grown; bounded = le; log = h.log; rest = h.rest; legal_next = h.legal_next; legal_failed = h.legal_failed; none_failed = h.none_failed; not_stopped = h.not_stopped; undo_closes = h.undo_closes }
 
 none_moves : (h l : Bool) → (h ≡ true → l ≡ false) → (h && l) ≡ false
 none_moves true l e = e refl

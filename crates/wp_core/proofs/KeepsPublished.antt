@@ -81,7 +81,7 @@ module _ (w : World) (by : ℕ) (a : Actor) (entry : Entry) (others : List Entry
         undecided = undecided_part w.writes.history entry others n.legal w.writes.pending w.prepared w.max_evicted n.pending n.number s.undecided;
         delayed = delayed_part w.writes.history entry others n.legal w.writes.pending w.prepared w.cache w.max_evicted n.pending n.pair s.delayed;
         flags = s.flags;
-        versions = stored_part w.writes.history entry n.legal w.writes.pending others w.snapshots w.store w.installed n.pending live_within in_memory s.versions;
+        versions = stored_part w.writes.history entry n.legal w.writes.pending others w.first_edit.segment.base w.snapshots w.store w.installed n.pending live_within in_memory s.versions;
         settled = s.settled;
         coupled = record {
           last = s.coupled.last;
@@ -95,7 +95,7 @@ module _ (w : World) (by : ℕ) (a : Actor) (entry : Entry) (others : List Entry
         learned = each_map_set learned_of (λ j x. StartsWith grown x) w.actors by b (grown, refl) (λ j x ne there. seen_grows w.writes.history entry x (s.learned j x there));
         owned = owned_part w.actors by a b at refl w.writes.history entry refl w.opened opened_within s.owned;
         registrations = kept_part w by a b at (participants_of registered_of) (AreRegistered grown w.snapshots) refl (registered_part w.writes.history entry n.legal w.snapshots (participants registered_of w) s.registrations);
-        from_opening = s.from_opening;
+        from_base = s.from_base;
         viewed = each_person_set view_of HasSeen w.actors by a b at (λ r h. let low = s.viewed by 0 (view_of a.participant) (mine view_of w.actors by a a at refl) r h in let more = shorter w.writes.history a.participant.seen (s.seen by 0 a.participant.seen (mine seen_of w.actors by a a at refl)) in let l = length-append w.writes.history (entry ∷ []) in omega (arith, low, more, l)) refl s.viewed;
       })
       (kept_part w by a b at (participants_of owner_of) (AreLocked w.opened grown w.locks) refl

@@ -29,7 +29,7 @@ use Rattle.wp_core.proofs.AllParticipants.{mine}
 use Rattle.wp_core.proofs.OwnersStay.{past_locked}
 use Rattle.wp_core.proofs.Quiet.{holder_lives}
 use Rattle.wp_core.proofs.Tests.{some_there}
-use Rattle.wp_core.proofs.Remembers.{IsQuiet, holders_more, board_more, faults_more, edits_more}
+use Rattle.wp_core.proofs.Remembers.{based_of, IsQuiet, holders_more, board_more, faults_more, edits_more}
 use Rattle.wp_core.proofs.AllParts.{SoIn, all_parts, tables_of, views_still, readers_still, turns_still, notes_stay, idle_set, led_still}
 
 -- ---- what is noted
@@ -89,7 +89,7 @@ pub finds_edit : (w : World) (by : ℕ) (a : Actor) → get_elem? w.actors by �
     → IsSound (done w by (forgets w.writes.history (length w.cache) find_edit a) find_edit)
 finds_edit w by a at n s =
     let e = w.installed in
-    remembering w by a (found_edit e.last.flushed e.last.segment.base e.last.tables (tables_due w.first_edit a.participant.past) e.halted) find_edit at (holder_lives w by a tables_turn at n s) (s.edits.last, s.edits.based, few_found w by a at s, λ q. (q, refl)) s
+    remembering w by a (found_edit e.last.flushed e.last.segment.base e.last.tables (tables_due w.first_edit a.participant.past) e.halted) find_edit at (holder_lives w by a tables_turn at n s) (s.edits.last, based_of w.first_edit (participants past_of w) e.last.segment s.edits.placed, few_found w by a at s, λ q. (q, refl)) s
 
 pub hears : (w : World) (by : ℕ) (a : Actor) (label : List ℕ) (n : ℕ) → get_elem? w.actors by ≡ some a → Needs w by a (hear label n) → IsSound w
     → IsSound (done w by (forgets w.writes.history (length w.cache) (hear label n) a) (hear label n))

@@ -38,7 +38,7 @@ loads_published w by a at s =
       learned = each_map_set learned_of (λ j entries. StartsWith w.writes.history entries) w.actors by b (w.writes.history, refl) (λ j x ne there. s.learned j x there);
       owned = kept_part w by a b at (participants_of own_of) (AreOwned w.opened w.writes.history) refl s.owned;
       registrations = kept_part w by a b at (participants_of registered_of) (AreRegistered w.writes.history w.snapshots) refl s.registrations;
-      from_opening = s.from_opening;
+      from_base = s.from_base;
       viewed = each_person_set view_of HasSeen w.actors by a b at (λ r h. let low = s.viewed by 0 (view_of a.participant) (mine view_of w.actors by a a at refl) r h in let more = shorter w.writes.history a.participant.seen (s.seen by 0 a.participant.seen (mine seen_of w.actors by a a at refl)) in omega (arith, low, more)) refl s.viewed;
     })
     (locks_still w by a b at refl s) (pasts_still w by a b at refl s) (turns_still w by a b at refl s)

@@ -110,7 +110,7 @@ opened_world opened cache flag logged store locks edit client =
       old_flag = 0;
       cache = cache;
       holders = all_free;
-      writes = record { history = opened; pending = []; logged = logged; log = opened; closed = false; failed = []; segment = edit.segment; next = None };
+      writes = record { history = opened; pending = []; logged = logged; log = opened; closed = false; stopped = false; failed = []; segment = edit.segment; next = None };
       prepared = prepared_of opened;
       snapshots = finite.empty;
       store = store;
@@ -123,7 +123,7 @@ opened_world opened cache flag logged store locks edit client =
 module _ (opened : List Entry) (cache : List ℕ) (flag : ℕ) (logged : Bool) (store : StoreTable) (t : LockTables) (edit : InstalledEdit) (client : List ℕ)
     (legal : IsLegal opened) (no_undo : undone_last opened ≡ None) (words : 1 ≤ length cache) (zeros : All (λ word. word ≡ 0) cache)
     (down : flag ≡ 0 → undecided opened ≡ []) (up : undecided opened ≡ [] → flag ≡ 0)
-    (versions : IsStored opened [] finite.empty store (running edit)) (settled : IsOfEdit store edit) (locks : AreOpened opened t) where
+    (versions : IsStored opened [] edit.segment.base finite.empty store (running edit)) (settled : IsOfEdit store edit) (locks : AreOpened opened t) where
   abbrev world : World
   world = opened_world opened cache flag logged store t edit client
 
@@ -187,6 +187,7 @@ module _ (opened : List Entry) (cache : List ℕ) (flag : ℕ) (logged : Bool) (
       legal_next = subst IsLegal (sym (append-nil opened)) legal;
       legal_failed = subst IsLegal (sym (append-nil opened)) legal;
       none_failed = λ _. refl;
+      not_stopped = λ _. refl;
       undo_closes = λ p e. absurd (none_some (undone_last opened) p no_undo e);
     };
     seen = λ j i seen at. subst (StartsWith opened) (one_participant opened j i seen at) starts;
@@ -212,7 +213,7 @@ module _ (opened : List Entry) (cache : List ℕ) (flag : ℕ) (logged : Bool) (
       live = λ s x e. absurd (no_live s x e);
       smallest = λ j i rs at k r there. let q : get_elem? [] k ≡ some r = ap (λ (z : List Registration). get_elem? z k) (one_participant [] j i rs at) ∙ there in absurd (some-ne-none r (sym q));
     };
-    from_opening = λ t live. absurd (true≢false (sym live ∙ ap is_some (finite.get-empty nat_cmp t)));
+    from_base = λ t live. absurd (true≢false (sym live ∙ ap is_some (finite.get-empty nat_cmp t)));
     flags = record { none_delayed = none_delayed; none_kept = λ _ s p. not_kept s p; delayed_free = λ _ none. delayed_free none; old_free = λ _ _. refl };
     versions = versions;
     settled = λ _. settled;
@@ -249,13 +250,14 @@ module _ (opened : List Entry) (cache : List ℕ) (flag : ℕ) (logged : Bool) (
       not_logged = λ e. inl refl;
       stopped = λ n k. absurd (no_past (stopped n) k);
       failed = λ entries k. absurd (no_past (log_failed entries) k);
+      of_log = λ entries k. absurd (no_past (log_failed entries) k);
       behind = λ k. absurd (no_past log_stopped k);
       unfailed = λ k. absurd (no_past log_stopped k);
     };
     edits = record {
       last = inl refl;
       rises = λ n k. ⊎_elim (λ (q : n ≡ edit.flushed). omega (arith, q)) (λ (h : (x : Event) × (raised_to x ≡ Some n) × IsPast (([] ∷ []) ∷ []) x). absurd (no_past h.0 h.2)) k;
-      based = inl refl;
+      placed = inl refl;
       found = λ n base tables due halted k. absurd (no_past (found_edit n base tables due halted) k);
       found_base = λ n base tables due halted k. absurd (no_past (found_edit n base tables due halted) k);
       few = λ j i n base tables due halted k less. absurd (no_past (found_edit n base tables due halted) (j, i, k));
@@ -287,7 +289,7 @@ same_world w o =
       old_flag = o.old_flag i;
       cache = w.cache;
       holders = o.holders i;
-      writes = record { history = o.history i; pending = o.pending i; logged = w.writes.logged; log = o.log i; closed = o.running_log i; failed = o.none_failed i; segment = o.segment i; next = o.none_next i };
+      writes = record { history = o.history i; pending = o.pending i; logged = w.writes.logged; log = o.log i; closed = o.running_log i; stopped = o.unstopped i; failed = o.none_failed i; segment = o.segment i; next = o.none_next i };
       prepared = record { heap = o.heap i; delayed = o.delayed i; delayed_commits = o.delayed_commits i };
       snapshots = o.snapshots i;
       store = w.store;
@@ -301,6 +303,6 @@ pub opening_is_sound : (w : World) → IsOpening w → IsSound w
 opening_is_sound w o =
     subst IsSound (sym (same_world w o))
     (opened_is_sound w.opened w.cache w.delayed_flag w.writes.logged w.store w.locks w.first_edit o.client o.legal o.closed_undo o.words o.cache o.delayed_flag o.delayed_free
-    (subst (λ (z : World). IsStored z.opened [] z.snapshots z.store z.installed) (same_world w o) o.versions)
+    (subst (λ (z : World). IsStored z.opened [] z.first_edit.segment.base z.snapshots z.store z.installed) (same_world w o) o.versions)
     (subst (λ (z : World). IsOfEdit z.store z.installed.last) (same_world w o) o.settled)
     o.locks)

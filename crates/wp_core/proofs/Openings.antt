@@ -141,9 +141,10 @@ module _ (history : List Entry) (legal : IsLegal history) where
   shown : IsCovered (up_to (length history) (versions ++ [])) history [] 0
   shown = covers_same versions (up_to (length history) (versions ++ [])) history [] 0 within all.covered
 
-  pub all_stored : IsStored history [] finite.empty (all_in_memory history) (record { last = no_table; failed = None; halted = false })
+  pub all_stored : IsStored history [] 0 finite.empty (all_in_memory history) (record { last = no_table; failed = None; halted = false })
   all_stored = record {
-    covered = record { part = shown.part; undecided = shown.undecided; undone = shown.undone; listed = λ key n among. absurd (none_live n among); later = shown.later };
+    covered = zero_covered (up_to (length history) (versions ++ [])) history (live_numbers finite.empty) 0 (record { part = shown.part; undecided = shown.undecided; undone = shown.undone; listed = λ key n among. absurd (none_live n among); later = shown.later });
+    based = omega arith;
     floor = omega arith;
     next = λ key p value lt e. absurd (none_some (version_at versions key p) value (not_past key p lt) e);
     tables = λ key p value e. let q : None ≡ Some value = e in absurd (cc);
@@ -180,7 +181,7 @@ opened_world history cache client =
       old_flag = 0;
       cache = cache;
       holders = all_free;
-      writes = record { history = history; pending = []; logged = false; log = history; closed = false; failed = []; segment = first_segment; next = None };
+      writes = record { history = history; pending = []; logged = false; log = history; closed = false; stopped = false; failed = []; segment = first_segment; next = None };
       prepared = record { heap = finset.empty; delayed = finset.from_list (undecided history); delayed_commits = finite.empty };
       snapshots = finite.empty;
       store = all_in_memory history;
@@ -198,6 +199,7 @@ world_opened history cache client legal closed words zeros = record {
   pending = refl;
   log = refl;
   running_log = refl;
+  unstopped = refl;
   none_failed = refl;
   segment = refl;
   none_next = refl;

@@ -46,7 +46,7 @@ SoPending w d = IsSo w.delayed_flag w.old_flag w.max_evicted w.cache d w.prepare
 
 pub log_changes : (w : World) (by : ℕ) (a : Actor) (step : Step) (pending : List Entry) (logged : Bool) (log : List Entry) (segment : Segment) (next : Option Segment) → get_elem? w.actors by ≡ some a → Holds w.holders write_turn by
     → IsHistory w.opened (with_segments (with_pending w.writes pending logged log) segment next) w.max_evicted → IsCache w.writes.history pending w.cache → AreUndecided w.writes.history pending w.prepared w.max_evicted → AreDelayed w.writes.history pending w.prepared w.cache
-    → IsStored w.writes.history pending w.snapshots w.store w.installed → AreFaults (with_segments (with_pending w.writes pending logged log) segment next) w.installed.halted (participants past_of w)
+    → IsStored w.writes.history pending w.first_edit.segment.base w.snapshots w.store w.installed → AreFaults (with_segments (with_pending w.writes pending logged log) segment next) w.installed.halted (participants past_of w)
     → AreCoupled (with_segments (with_pending w.writes pending logged log) segment next) w.installed w.holders.write
     → NotesStay w by step (SoPending w (with_segments (with_pending w.writes pending logged log) segment next)) → IsSound w
     → IsSound (change w by (forgets w.writes.history (length w.cache) step a) (writes (with_segments (with_pending w.writes pending logged log) segment next)))
@@ -63,7 +63,7 @@ log_changes w by a step pending logged log segment next at holds history cache u
 -- the segments stay; where another one waits, nothing comes to be pending
 pub pending_changes : (w : World) (by : ℕ) (a : Actor) (step : Step) (pending : List Entry) (logged : Bool) (log : List Entry) → get_elem? w.actors by ≡ some a → Holds w.holders write_turn by
     → IsHistory w.opened (with_pending w.writes pending logged log) w.max_evicted → IsCache w.writes.history pending w.cache → AreUndecided w.writes.history pending w.prepared w.max_evicted → AreDelayed w.writes.history pending w.prepared w.cache
-    → IsStored w.writes.history pending w.snapshots w.store w.installed → AreFaults (with_pending w.writes pending logged log) w.installed.halted (participants past_of w)
+    → IsStored w.writes.history pending w.first_edit.segment.base w.snapshots w.store w.installed → AreFaults (with_pending w.writes pending logged log) w.installed.halted (participants past_of w)
     → ((segment : Segment) → w.writes.next ≡ Some segment → w.writes.closed ≡ false → pending ≡ [])
     → NotesStay w by step (SoPending w (with_pending w.writes pending logged log)) → IsSound w
     → IsSound (change w by (forgets w.writes.history (length w.cache) step a) (writes (with_pending w.writes pending logged log)))
@@ -97,6 +97,7 @@ history_made w entries none is legal s = record {
   legal_next = legal;
   legal_failed = s.history.legal_failed;
   none_failed = s.history.none_failed;
+  not_stopped = s.history.not_stopped;
   undo_closes = λ p undone. let k = s.history.undo_closes p undone in absurd (not_empty (Close p) [] (sym none ∙ k.0));
 }
 
@@ -127,10 +128,11 @@ delayed_made w entries none s = record {
   commits = λ p c e. extended_stays w.writes.history entries p c (ap (λ (z : List Entry). decision_of (extended w.writes.history z) p) (sym none) ∙ s.delayed.commits p c e);
 }
 
-stored_made : (w : World) (entries : List Entry) → w.writes.pending ≡ [] → IsSound w → IsStored w.writes.history entries w.snapshots w.store w.installed
+stored_made : (w : World) (entries : List Entry) → w.writes.pending ≡ [] → IsSound w → IsStored w.writes.history entries w.first_edit.segment.base w.snapshots w.store w.installed
 stored_made w entries none s =
     let o = s.versions in record {
       covered = o.covered;
+      based = o.based;
       floor = o.floor;
       next = λ key p value lt there. let k = o.next key p value lt there in
           absurd (none_some (version_in (next_of w.writes.pending) key) value (ap (λ (z : List Entry). version_in (next_of z) key) none) k.1);
@@ -151,7 +153,7 @@ so_pending w step pending log logged memory delayed undelayed p fact stays k = k
 pub makes_pending : (w : World) (by : ℕ) (a : Actor) (entries : List Entry) → get_elem? w.actors by ≡ some a → Needs w by a (make_pending entries) → IsSound w → IsSound (done w by (forgets w.writes.history (length w.cache) (make_pending entries) a) (make_pending entries))
 makes_pending w by a entries at n s =
     pending_changes w by a (make_pending entries) entries false w.writes.log at n.0 (history_made w entries n.1 n.2 n.3 s) (cache_made w entries n.1 s) (undecided_made w entries n.1 s) (delayed_made w entries n.1 s) (stored_made w entries n.1 s)
-    (record { log = s.faults.log; tables = s.faults.tables; not_logged = λ closed. inr refl; stopped = s.faults.stopped; failed = s.faults.failed; behind = s.faults.behind; unfailed = s.faults.unfailed }) (λ segment is running. absurd (none_next w.writes n.4 segment is running))
+    (record { log = s.faults.log; tables = s.faults.tables; not_logged = λ closed. inr refl; stopped = s.faults.stopped; failed = s.faults.failed; of_log = s.faults.of_log; behind = s.faults.behind; unfailed = s.faults.unfailed }) (λ segment is running. absurd (none_next w.writes n.4 segment is running))
     (notes_by w by (make_pending entries) write_turn _ n.0 (so_pending w (make_pending entries) entries w.writes.log false refl refl refl)) s
 
 -- ---- it is logged
@@ -166,6 +168,7 @@ history_logged w not_yet s = record {
   legal_next = s.history.legal_next;
   legal_failed = s.history.legal_failed;
   none_failed = s.history.none_failed;
+  not_stopped = s.history.not_stopped;
   undo_closes = λ p undone. let k = s.history.undo_closes p undone in absurd (true≢false (sym k.1 ∙ not_yet));
 }
 
@@ -175,5 +178,5 @@ so_logged w p fact k = k
 pub logs_pending : (w : World) (by : ℕ) (a : Actor) → get_elem? w.actors by ≡ some a → Needs w by a log_pending → IsSound w → IsSound (done w by (forgets w.writes.history (length w.cache) log_pending a) log_pending)
 logs_pending w by a at n s =
     pending_changes w by a log_pending w.writes.pending true (w.writes.log ++ w.writes.pending) at n.0 (history_logged w n.2 s) s.cache s.undecided s.delayed s.versions
-    (record { log = s.faults.log; tables = s.faults.tables; not_logged = λ closed. absurd (true≢false (sym closed ∙ n.3)); stopped = s.faults.stopped; failed = s.faults.failed; behind = s.faults.behind; unfailed = s.faults.unfailed }) (λ segment is running. ((s.coupled.next segment is).1 running).0)
+    (record { log = s.faults.log; tables = s.faults.tables; not_logged = λ closed. absurd (true≢false (sym closed ∙ n.3)); stopped = s.faults.stopped; failed = s.faults.failed; of_log = s.faults.of_log; behind = s.faults.behind; unfailed = s.faults.unfailed }) (λ segment is running. ((s.coupled.next segment is).1 running).0)
     (notes_all w by log_pending _ (so_logged w)) s

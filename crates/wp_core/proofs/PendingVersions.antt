@@ -107,10 +107,11 @@ module _ (w : World) (memory : List Version) (s : IsSound w) (next : Option Entr
         | inr within ↦ within
       ]
 
-  stored_now : IsStored w.writes.history w.writes.pending w.snapshots (record w.store { memory = memory }) w.installed
+  stored_now : IsStored w.writes.history w.writes.pending w.first_edit.segment.base w.snapshots (record w.store { memory = memory }) w.installed
   stored_now =
       let o = s.versions in record {
         covered = covers_same _ _ w.writes.history _ w.store.floor covered_same o.covered;
+        based = o.based;
         floor = o.floor;
         next = λ key p value lt there.
             dite (ℕ_discrete p (suc (length w.writes.history)))
@@ -132,7 +133,7 @@ module _ (w : World) (memory : List Version) (s : IsSound w) (next : Option Entr
   frozen_now n versions k = (k.0, λ key p low. at_old key p (le_trans low k.0) ∙ k.1 key p low)
 
 -- a step of who holds the store turn
-pub store_changes : (w : World) (by : ℕ) (a : Actor) (step : Step) (t : StoreTable) → get_elem? w.actors by ≡ some a → Holds w.holders store_turn by → IsStored w.writes.history w.writes.pending w.snapshots t w.installed
+pub store_changes : (w : World) (by : ℕ) (a : Actor) (step : Step) (t : StoreTable) → get_elem? w.actors by ≡ some a → Holds w.holders store_turn by → IsStored w.writes.history w.writes.pending w.first_edit.segment.base w.snapshots t w.installed
     → IsSettled w.holders.tables t w.installed.last → NotesStay w by step (SoStored w t) → IsSound w
     → IsSound (change w by (forgets w.writes.history (length w.cache) step a) (store t))
 store_changes w by a step t at holds stored settled notes s =

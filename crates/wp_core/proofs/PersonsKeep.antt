@@ -5,6 +5,7 @@ use mathlib.Core.Logic.{dite}
 use native.Mathlib.Decide.{ℕ_discrete}
 use lib.ListN.{get_elem?}
 use Rattle.std.specs.FinMap as finite
+use Rattle.wp_model.specs.declared.segment.Segment.{Segment}
 use Rattle.wp_model.specs.Batch.{key_cmp}
 use Rattle.wp_model.specs.declared.entry.Entry.{Entry}
 use Rattle.wp_model.specs.declared.holder.Holder.{Holder}
@@ -20,7 +21,7 @@ use Rattle.wp_core.specs.World.{Actor, Participant, Transaction}
 use Rattle.wp_core.specs.Sound.Actors.{participants_of, IsParticipantAt, StartsWith, seen_of, own_of, times, AreSeen, AreOwned, EachParticipant}
 use Rattle.wp_core.specs.Sound.Snapshots.{registered_of, AreBelowCommitted, AreRegistered, view_of, HasSeen}
 use Rattle.wp_core.specs.Sound.Locks.{Owner, owner_of, Has, IsOwner, AreLocked}
-use Rattle.wp_core.specs.Sound.Pasts.{past_of, HasDone, IsPast, HasBegun, MadeHolder, IsAccounted, WasLocked, AreHolders, IsBoard, closes_log, is_tables_fault, AreFaults, is_install, raised_to, WasInstalled, WasBased, due_after, tables_due, last_after, last_installed, OtherDid, OtherInstalls, OtherCompacts, AreEdits}
+use Rattle.wp_core.specs.Sound.Pasts.{past_of, HasDone, IsPast, HasBegun, MadeHolder, IsAccounted, WasLocked, AreHolders, IsBoard, closes_log, is_tables_fault, AreFaults, is_install, raised_to, WasInstalled, WasPlaced, WasBased, due_after, tables_due, last_after, last_installed, OtherDid, OtherInstalls, OtherCompacts, AreEdits}
 use Rattle.wp_core.proofs.PastsGrow.{at_place}
 use Rattle.wp_core.proofs.Persons.{IsNone, Moves, same_there, apart_still, CameWith, IsOfNone, came_from, goes_to, total_same}
 
@@ -254,6 +255,7 @@ module _ (row place : ℕ → ℕ → ℕ) (history : List Entry) (xs ys : List 
     not_logged = k.not_logged;
     stopped = λ n h. k.stopped n (past_was _ h);
     failed = λ entries h. k.failed entries (past_was _ h);
+    of_log = λ entries h. k.of_log entries (past_was _ h);
     behind = λ h. k.behind (past_was _ h);
     unfailed = λ h. k.unfailed (past_was _ h);
   }
@@ -261,6 +263,10 @@ module _ (row place : ℕ → ℕ → ℕ) (history : List Entry) (xs ys : List 
   installed_moved : (first : InstalledEdit) (n : ℕ) → WasInstalled first (pasts xs) n → WasInstalled first (pasts ys) n
   installed_moved first n (inl k) = inl k
   installed_moved first n (inr (e, raised, k)) = inr (e, raised, past_moved e k)
+
+  placed_moved : (first : InstalledEdit) (segment : Segment) → WasPlaced first (pasts xs) segment → WasPlaced first (pasts ys) segment
+  placed_moved first segment (inl k) = inl k
+  placed_moved first segment (inr (edit, is, k)) = inr (edit, is, past_moved (renewed edit) k)
 
   based_moved : (first : InstalledEdit) (base : ℕ) → WasBased first (pasts xs) base → WasBased first (pasts ys) base
   based_moved first base (inl k) = inl k
@@ -324,7 +330,7 @@ module _ (row place : ℕ → ℕ → ℕ) (history : List Entry) (xs ys : List 
   edits_moved by a first t at mine k = record {
     last = installed_moved first t.last.flushed k.last;
     rises = λ n h. k.rises n (⊎_elim (λ q. inl q) (λ (c : (e : Event) × (raised_to e ≡ Some n) × IsPast (pasts ys) e). inr (c.0, c.1, past_was c.0 c.2)) h);
-    based = based_moved first t.last.segment.base k.based;
+    placed = placed_moved first t.last.segment k.placed;
     found = λ n base tables due halted h. installed_moved first n (k.found n base tables due halted (past_was _ h));
     found_base = λ n base tables due halted h. based_moved first base (k.found_base n base tables due halted (past_was _ h));
     few = few_moved first t k;

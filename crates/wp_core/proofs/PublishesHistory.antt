@@ -74,6 +74,7 @@ history_part opened t max entry others is logged open_log legal k =
       legal_next = subst IsLegal (sym whole) k.legal_next;
       legal_failed = subst IsLegal (sym (ap (λ (x : List Entry). (t.history ++ entry ∷ []) ++ x) (k.none_failed open_log) ∙ append-nil (t.history ++ entry ∷ []))) legal;
       none_failed = k.none_failed;
+      not_stopped = k.not_stopped;
       undo_closes = λ p u. (closes entry others p f (sym (undone_next t.history entry) ∙ u), logged);
     }
 

@@ -148,6 +148,7 @@ faults_part t entry others halted pasts open_log k = record {
   not_logged = λ closed. absurd (true≢false (sym closed ∙ open_log));
   stopped = λ n h. absurd (true≢false (sym (k.stopped n h).0 ∙ open_log));
   failed = k.failed;
+  of_log = k.of_log;
   behind = k.behind;
   unfailed = k.unfailed;
 }

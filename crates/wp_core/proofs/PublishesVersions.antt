@@ -1,6 +1,6 @@
 -- The pending entry joins the history: the versions of the store and of the edits.
-use Rattle.std.proofs.Common.{◌≡◌, ◌≢◌, inl, inr, ℕ, zero, suc, ◌+◌, ◌<◌, ◌≤◌, nat_le, ◌==◌, ◌&&◌, eq-eqb, ne_eqb, Bool, true, false, cond, List, [], ◌∷◌, ◌++◌, length, drop, append-nil, append_assoc, refl, sym, subst, ap, ◌∙◌, Option, Some, None, arith}
-use Rattle.std.proofs.lemmas.Bool.{cases_lt}
+use Rattle.std.proofs.Common.{◌≡◌, ◌≢◌, inl, inr, ⊎_elim, ℕ, zero, suc, ◌+◌, ◌<◌, ◌≤◌, nat_le, ◌==◌, ◌&&◌, eq-eqb, ne_eqb, Bool, true, false, cond, List, [], ◌∷◌, ◌++◌, length, drop, append-nil, append_assoc, refl, sym, subst, ap, ◌∙◌, Option, Some, None, arith}
+use Rattle.std.proofs.lemmas.Bool.{cases_lt, eqb-true, or_cases}
 use Rattle.std.proofs.lemmas.Bool.Decides.{nat_tests}
 use Rattle.std.specs.Str.{bytes_eq}
 use Rattle.wp_model.specs.declared.change.Change.{Change}
@@ -106,7 +106,7 @@ module _ (history : List Entry) (entry : Entry) (legal : IsLegal (history ++ ent
 
   -- ---- the store
 
-  module _ (pending others : List Entry) (snapshots : Snapshots) (t : StoreTable) (e : Installed) (is : pending ≡ entry ∷ others) (live : (m : ℕ) → is_among (live_numbers snapshots) m ≡ true → m ≤ length history) (here : (key : List ℕ) (value : Option (List ℕ)) → version_in (Some entry) key ≡ Some value → version_at t.memory key next ≡ Some value) (k : IsStored history pending snapshots t e) where
+  module _ (pending others : List Entry) (base : ℕ) (snapshots : Snapshots) (t : StoreTable) (e : Installed) (is : pending ≡ entry ∷ others) (live : (m : ℕ) → is_among (live_numbers snapshots) m ≡ true → m ≤ length history) (here : (key : List ℕ) (value : Option (List ℕ)) → version_in (Some entry) key ≡ Some value → version_at t.memory key next ≡ Some value) (k : IsStored history pending base snapshots t e) where
     memory_next : (key : List ℕ) (o : Option (Option (List ℕ))) → version_in (Some entry) key ≡ o → version_at t.memory key next ≡ o
     memory_next key (Some v) at = here key v at
     memory_next key None at = none_is (version_at t.memory key next) (λ v there. none_some (version_in (Some entry) key) v at (ap (λ (z : List Entry). version_in (next_of z) key) (sym is) ∙ (k.next key next v (omega arith) there).1))
@@ -114,19 +114,23 @@ module _ (history : List Entry) (entry : Entry) (legal : IsLegal (history ++ ent
     not_in_tables : (key : List ℕ) (p : ℕ) → length history < p → version_at t.tables key p ≡ None
     not_in_tables key p lt = none_is (version_at t.tables key p) (λ v there. none_some (entry_version history p key) v (none_past history key p lt) (k.tables key p v there))
 
-    covered_part : IsCovered (up_to (length grown) (all_in t)) grown (live_numbers snapshots) t.floor
+    low : (m : ℕ) → is_among (base ∷ live_numbers snapshots) m ≡ true → m ≤ length history
+    low m among = ⊎_elim (λ (same : (base == m) ≡ true). let e = eqb-true base m same in let b = k.based in let f = k.last.flushed in omega (arith, e, b, f)) (λ there. live m there) (or_cases (base == m) (is_among (live_numbers snapshots) m) among)
+
+    covered_part : IsCovered (up_to (length grown) (all_in t)) grown (base ∷ live_numbers snapshots) t.floor
     covered_part =
         let l = grown_length history entry legal in
-        covered_grows history entry legal (up_to (length history) (all_in t)) (up_to (length grown) (all_in t)) (live_numbers snapshots) t.floor k.covered k.floor
+        covered_grows history entry legal (up_to (length history) (all_in t)) (up_to (length grown) (all_in t)) (base ∷ live_numbers snapshots) t.floor k.covered k.floor
         (λ key p le. up_to_within (length grown) (all_in t) key p (omega (arith, l, le)) ∙ sym (up_to_within (length history) (all_in t) key p le))
         (λ key. up_to_within (length grown) (all_in t) key next (omega (arith, l)) ∙ (at_front t.memory t.tables key next (not_in_tables key next (omega arith)) ∙ memory_next key (version_in (Some entry) key) refl))
         (λ key p lt. up_to_past (length grown) (all_in t) key p (omega (arith, l, lt)))
-        t.floor (omega arith) live
+        t.floor (omega arith) low
 
-    pub stored_part : IsStored grown others snapshots t e
+    pub stored_part : IsStored grown others base snapshots t e
     stored_part =
         let l = grown_length history entry legal in record {
           covered = covered_part;
+          based = k.based;
           floor = let f = k.floor in omega (arith, l, f);
           next = λ key p value lt there. let o = (k.next key p value (omega (arith, l, lt)) there).0 in absurd (omega (arith, l, lt, o));
           tables = λ key p value there. let v = k.tables key p value there in entry_version_old history (entry ∷ []) p key (version_within history p key value v) ∙ v;

@@ -4,6 +4,7 @@ use Rattle.std.proofs.lemmas.List.Sums.{fold-append}
 use mathlib.Core.Option.{some}
 use lib.ListN.{get_elem?}
 use Rattle.std.specs.FinMap as finite
+use Rattle.wp_model.specs.declared.segment.Segment.{Segment}
 use Rattle.wp_model.specs.declared.entry.Entry.{Entry}
 use Rattle.wp_model.specs.declared.holder.Holder.{Holder}
 use Rattle.wp_model.specs.declared.holder.Holder.TheVariants.{Txn, Client}
@@ -13,7 +14,7 @@ use Rattle.wp_model.specs.Flushed.{InstalledEdit}
 use Rattle.wp_core.specs.Views.{Account, own, another, prepare_at, Event, claimed, took, locked, told, heard, installed, renewed, log_failed, log_stopped, tables_failed, stopped, found_edit, found}
 use Rattle.wp_core.specs.World.{Actor}
 use Rattle.wp_core.specs.Sound.Actors.{participants_of, IsParticipantAt}
-use Rattle.wp_core.specs.Sound.Pasts.{past_of, HasDone, IsPast, HasBegun, MadeHolder, IsAccounted, WasLocked, AreHolders, IsBoard, closes_log, is_tables_fault, AreFaults, raised_to, WasInstalled, WasBased, due_after, tables_due, last_after, last_installed, OtherDid, OtherInstalls, OtherCompacts, AreEdits}
+use Rattle.wp_core.specs.Sound.Pasts.{past_of, HasDone, IsPast, HasBegun, MadeHolder, IsAccounted, WasLocked, AreHolders, IsBoard, closes_log, is_tables_fault, AreFaults, raised_to, WasInstalled, WasPlaced, WasBased, due_after, tables_due, last_after, last_installed, OtherDid, OtherInstalls, OtherCompacts, AreEdits}
 use Rattle.wp_core.proofs.AllParticipants.{mine, was_apart}
 use Rattle.wp_core.proofs.PastsGrow.{at_place, done_still, done_before, past_still, past_last, past_before, times_more}
 
@@ -46,6 +47,11 @@ not_raised (installed new false) edit last n is = one_edit new edit last
 not_raised (renewed new) edit last n is =
     let one : new.tables ≡ edit.tables = ap (λ (x : InstalledEdit). x.tables) (last edit) in let two : new.tables ≡ edit.tables + 1 = ap (λ (x : InstalledEdit). x.tables) (last (record edit { tables = edit.tables + 1 })) in absurd (omega (arith, one, two))
 not_raised other edit last n is = absurd cc
+
+-- the base of such a segment
+pub based_of : (first : InstalledEdit) (pasts : List (List (List Event))) (segment : Segment) → WasPlaced first pasts segment → WasBased first pasts segment.base
+based_of first pasts segment (inl same) = inl (ap (λ (s : Segment). s.base) same)
+based_of first pasts segment (inr (edit, same, there)) = inr (edit, ap (λ (s : Segment). s.base) same, there)
 
 module _ (xs : List Actor) (by : ℕ) (a b : Actor) (e : Event) (at : get_elem? xs by ≡ some a) (same : b.joined ≡ a.joined) (grown : b.participant.past ≡ a.participant.past ++ e ∷ []) where
   abbrev before : List (List (List Event))
@@ -130,6 +136,7 @@ module _ (xs : List Actor) (by : ℕ) (a b : Actor) (e : Event) (at : get_elem? 
     not_logged = k.not_logged;
     stopped = λ n h. ⊎_elim (λ c. k.stopped n c) (λ c. new n c) (past_before xs by a b e at same grown (stopped n) h);
     failed = λ entries h. ⊎_elim (λ c. k.failed entries c) (λ (q : e ≡ log_failed entries). absurd (true≢false (sym (ap closes_log q) ∙ open_))) (past_before xs by a b e at same grown (log_failed entries) h);
+    of_log = λ entries h. ⊎_elim (λ c. k.of_log entries c) (λ (q : e ≡ log_failed entries). absurd (true≢false (sym (ap closes_log q) ∙ open_))) (past_before xs by a b e at same grown (log_failed entries) h);
     behind = λ h. ⊎_elim (λ c. k.behind c) (λ (q : e ≡ log_stopped). absurd (true≢false (sym (ap closes_log q) ∙ open_))) (past_before xs by a b e at same grown log_stopped h);
     unfailed = λ h. ⊎_elim (λ c. k.unfailed c) (λ (q : e ≡ log_stopped). absurd (true≢false (sym (ap closes_log q) ∙ open_))) (past_before xs by a b e at same grown log_stopped h);
   }
@@ -138,7 +145,11 @@ module _ (xs : List Actor) (by : ℕ) (a b : Actor) (e : Event) (at : get_elem? 
   installed_still first n (inl k) = inl k
   installed_still first n (inr (x, raised, k)) = inr (x, raised, past_still xs by a b e at same grown x k)
 
-  pub based_still : (first : InstalledEdit) (base : ℕ) → WasBased first before base → WasBased first after base
+  pub placed_still : (first : InstalledEdit) (segment : Segment) → WasPlaced first before segment → WasPlaced first after segment
+  placed_still first segment (inl k) = inl k
+  placed_still first segment (inr (edit, is, k)) = inr (edit, is, past_still xs by a b e at same grown (renewed edit) k)
+
+  based_still : (first : InstalledEdit) (base : ℕ) → WasBased first before base → WasBased first after base
   based_still first base (inl k) = inl k
   based_still first base (inr (edit, is, k)) = inr (edit, is, past_still xs by a b e at same grown (renewed edit) k)
 
@@ -164,7 +175,7 @@ module _ (xs : List Actor) (by : ℕ) (a b : Actor) (e : Event) (at : get_elem? 
   -- what the edits need, where the last one may be another, and more tables may be due
   pub record EditsGrow (first : InstalledEdit) (t u : Installed) : Type 0 where
     pub last : WasInstalled first after u.last.flushed
-    pub based : WasBased first after u.last.segment.base
+    pub placed : WasPlaced first after u.last.segment
     pub rises : t.last.flushed ≤ u.last.flushed
     pub new : (n : ℕ) → raised_to e ≡ Some n → n ≤ u.last.flushed
     pub found : AreFound first
@@ -194,7 +205,7 @@ module _ (xs : List Actor) (by : ℕ) (a b : Actor) (e : Event) (at : get_elem? 
   edits_grown first t u g k = record {
     last = g.last;
     rises = risen first t u g k;
-    based = g.based;
+    placed = g.placed;
     found = λ n base tables due halted h. installed_still first n (⊎_elim (λ c. k.found n base tables due halted c) (λ c. (g.found n base tables due halted c).0) (past_before xs by a b e at same grown (found_edit n base tables due halted) h));
     found_base = λ n base tables due halted h. based_still first base (⊎_elim (λ c. k.found_base n base tables due halted c) (λ c. (g.found n base tables due halted c).1) (past_before xs by a b e at same grown (found_edit n base tables due halted) h));
     few = few_more first t g.found k;
@@ -235,7 +246,7 @@ module _ (xs : List Actor) (by : ℕ) (a b : Actor) (e : Event) (at : get_elem? 
       → ((n base tables due : ℕ) → e ≡ found_edit n base tables due true → (t.halted ≡ true) × (n ≡ t.last.flushed)) → AreEdits first t before → AreEdits first t after
   edits_still first t due last working is_so halted_so k = edits_grown first t t record {
     last = installed_still first t.last.flushed k.last;
-    based = based_still first t.last.segment.base k.based;
+    placed = placed_still first t.last.segment k.placed;
     rises = omega arith;
     new = λ n q. absurd (not_raised e first last n q);
     found = is_so;

@@ -62,7 +62,7 @@ module _ (w : World) (by : ℕ) (a : Actor) (edit : InstalledEdit) (at : get_ele
   edits_renewed : AreEdits w.first_edit t after
   edits_renewed = edits_grown w.actors by a c e at refl refl w.first_edit w.installed t record {
     last = inr (e, refl, past_last w.actors by a c e at refl refl);
-    based = inr (edit, refl, past_last w.actors by a c e at refl refl);
+    placed = inr (edit, refl, past_last w.actors by a c e at refl refl);
     rises = let low = s.versions.last.flushed in let is = n.3.3 in omega (arith, low, is);
     new = λ m q. let same : edit.flushed ≡ m = same_some edit.flushed m q in omega (arith, same);
     found = λ m base tables due halted q. absurd cc;
@@ -97,9 +97,9 @@ uses_segment w by a at n s =
     let k = s.history in
     let segment : Segment = unwrap_or w.writes.next w.writes.segment in
     log_changes w by a use_segment w.writes.pending w.writes.logged w.writes.log segment None at n.0
-    (record { legal = k.legal; grown = k.grown; bounded = k.bounded; log = k.log; rest = k.rest; legal_next = k.legal_next; legal_failed = k.legal_failed; none_failed = k.none_failed; undo_closes = k.undo_closes })
+    (record { legal = k.legal; grown = k.grown; bounded = k.bounded; log = k.log; rest = k.rest; legal_next = k.legal_next; legal_failed = k.legal_failed; none_failed = k.none_failed; not_stopped = k.not_stopped; undo_closes = k.undo_closes })
     s.cache s.undecided s.delayed s.versions
-    (record { log = s.faults.log; tables = s.faults.tables; not_logged = s.faults.not_logged; stopped = s.faults.stopped; failed = s.faults.failed; behind = s.faults.behind; unfailed = s.faults.unfailed })
+    (record { log = s.faults.log; tables = s.faults.tables; not_logged = s.faults.not_logged; stopped = s.faults.stopped; failed = s.faults.failed; of_log = s.faults.of_log; behind = s.faults.behind; unfailed = s.faults.unfailed })
     (record {
       last = inl is_next;
       failed = λ edit q. inl (⊎_elim (λ (same : edit.segment ≡ w.installed.last.segment). same) (λ (next : w.writes.next ≡ Some edit.segment). same_some edit.segment w.installed.last.segment (sym next ∙ n.2)) (s.coupled.failed edit q));

@@ -6,6 +6,7 @@ use mathlib.Core.Logic.{dite}
 use native.Mathlib.Decide.{ℕ_discrete}
 use lib.ListN.{get_elem?}
 use Rattle.std.specs.Cmp.{unsigned_tied}
+use Rattle.std.proofs.lemmas.Bool.{or_cases, or_left, or_right}
 use Rattle.std.specs.Ordering.{nat_cmp, eq_by_cmp}
 use Rattle.std.specs.List.{list_any}
 use Rattle.std.specs.FinMap as finite
@@ -33,7 +34,6 @@ use Rattle.wp_core.specs.Sound.Store.{IsStored}
 use Rattle.wp_core.specs.Sound.Reader.{IsReader, AnswersFor, IsRight, reader_of}
 use Rattle.wp_core.specs.Sound.Views.{IsSo}
 use Rattle.wp_core.specs.IsSound.{IsSound}
-use Rattle.wp_core.proofs.KeepsSeen.{shorter}
 use Rattle.wp_core.proofs.Frames.{map_set, each_map_set, at_map, set_else, here}
 use Rattle.wp_core.proofs.KeepsRemembered.{from_map}
 use Rattle.wp_core.proofs.Registered.{registered_live}
@@ -76,17 +76,20 @@ module _ (w : World) (m : Snapshots) (s : IsSound w) (k : SnapshotsGrow w.writes
     kept = λ t p there. ⊎_elim (λ (was : is_old_commit w.snapshots t p ≡ true). s.decided.kept t p was) (λ (new : (c : ℕ) × (decision_of w.writes.history p ≡ Some c) × (p ≤ t) × (t < c)). new) (k.came t p there);
   }
 
-  pub stored_grows : IsStored w.writes.history w.writes.pending m w.store w.installed
+  pub stored_grows : IsStored w.writes.history w.writes.pending w.first_edit.segment.base m w.store w.installed
   stored_grows =
       let o = s.versions in let c = o.covered in record {
         covered = record {
           part = c.part;
           undecided = c.undecided;
           undone = c.undone;
-          listed = λ key n among.
-              ⊎_elim (λ (was : IsLive w.snapshots n). c.listed key n (among_live w.snapshots n ∙ was)) (λ (e : n ≡ length w.writes.history). c.later key n (subst (λ (x : ℕ). w.store.floor ≤ x) (sym e) o.floor) (omega (arith, e))) (k.live n (sym (among_live m n) ∙ among));
+          listed = λ key n among. ⊎_elim
+              (λ same. c.listed key n (or_left (w.first_edit.segment.base == n) (is_among (live_numbers w.snapshots) n) same))
+              (λ there. ⊎_elim (λ (was : IsLive w.snapshots n). c.listed key n (or_right (w.first_edit.segment.base == n) (is_among (live_numbers w.snapshots) n) (among_live w.snapshots n ∙ was))) (λ (e : n ≡ length w.writes.history). c.later key n (subst (λ (x : ℕ). w.store.floor ≤ x) (sym e) o.floor) (omega (arith, e))) (k.live n (sym (among_live m n) ∙ there)))
+              (or_cases (w.first_edit.segment.base == n) (is_among (live_numbers m) n) among);
           later = c.later;
         };
+        based = o.based;
         floor = o.floor;
         next = o.next;
         tables = o.tables;
@@ -162,7 +165,7 @@ snapshots_step w by a step m seen learned registered reading at holds grows view
       learned = each_map_set learned_of (λ j entries. StartsWith w.writes.history entries) w.actors by b views.learned_part (λ j x ne there. s.learned j x there);
       owned = kept_part w by a b at (participants_of own_of) (AreOwned w.opened w.writes.history) refl s.owned;
       registrations = subst (AreRegistered w.writes.history m) (map_set (participants_of registered_of) w.actors by (with_view a seen learned registered reading) ∙ sym (map_set (participants_of registered_of) w.actors by b)) counted;
-      from_opening = λ t live. ⊎_elim (λ old. s.from_opening t old) (λ (new : t ≡ length w.writes.history). let low = shorter w.writes.history w.opened s.history.grown in omega (arith, low, new)) (grows.live t live);
+      from_base = λ t live. ⊎_elim (λ old. s.from_base t old) (λ (new : t ≡ length w.writes.history). let based = s.versions.based in let flushed = s.versions.last.flushed in omega (arith, based, flushed, new)) (grows.live t live);
       viewed = each_person_set view_of HasSeen w.actors by a b at views.view_part refl s.viewed;
     })
     (locks_still w by a b at refl s) (pasts_still w by a b at refl s) (turns_changed w by a b at e holds refl s)

@@ -40,7 +40,7 @@ module _ (w : World) (by : ℕ) (a : Actor) (step : Step) (e : Event) (t : Insta
   pub record TablesParts : Type 0 where
     pub nothing : FindsNothing e
     pub tells_nothing : TellsNothing e
-    pub stored : IsStored w.writes.history w.writes.pending w.snapshots w.store t
+    pub stored : IsStored w.writes.history w.writes.pending w.first_edit.segment.base w.snapshots w.store t
     pub coupled : AreCoupled w.writes t w.holders.write
     pub faults : AreFaults w.writes t.halted pasts_after
     pub edits : AreEdits w.first_edit t pasts_after

@@ -159,7 +159,7 @@ MayStop w by =
 
 -- the store and the edits would be as they should be
 abbrev pub KeepsStore : World → StoreTable → Installed → Type 0
-KeepsStore w store installed = IsStored w.writes.history w.writes.pending w.snapshots store installed
+KeepsStore w store installed = IsStored w.writes.history w.writes.pending w.first_edit.segment.base w.snapshots store installed
 
 -- ---- the locks turn
 

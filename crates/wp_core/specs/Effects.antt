@@ -52,7 +52,7 @@ done w by a find_log_closed = with_actor w by (remembers a (stopped (published w
 done w by a drop_pending = change w by a (writes (record w.writes { pending = [] }))
 done w by a (write_segment place) = change w by a (writes (record w.writes { next = Some (record { place = place; base = published w }) }))
 done w by a use_segment = change w by a (writes (record w.writes { segment = unwrap_or w.writes.next w.writes.segment; next = None }))
-done w by a stop_log = change w by (remembers a log_stopped) (writes (record w.writes { closed = true }))
+done w by a stop_log = change w by (remembers a log_stopped) (writes (record w.writes { closed = true; stopped = true }))
 done w by a add_prepared = change w by a (prepared (record w.prepared { heap = set.insert w.prepared.heap (suc (published w)) }))
 done w by a take_pending_prepared = change w by a (prepared (record w.prepared { heap = set.remove w.prepared.heap (suc (published w)) }))
 done w by a (add_delayed_commit pair) = change w by a (prepared (record w.prepared { delayed_commits = finite.insert w.prepared.delayed_commits pair.number pair.decision }))

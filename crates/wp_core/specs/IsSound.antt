@@ -6,7 +6,7 @@ use Rattle.wp_core.specs.World as world
 use Rattle.wp_core.specs.Sound.Actors.{seen_of, own_of, AreSeen, AreLearned, AreOwned, AreHeld, HoldersHave, AreLed, AreIdle, EachParticipant, participants_of, learned_of, held_of, role_of}
 use Rattle.wp_core.specs.Sound.History.{IsHistory, IsPendingHeld}
 use Rattle.wp_core.specs.Sound.Prepared.{IsCache, AreDecided, AreUndecided, AreDelayed, AreFlags}
-use Rattle.wp_core.specs.Sound.Snapshots.{registered_of, AreRegistered, AreFromOpening, view_of, HasSeen}
+use Rattle.wp_core.specs.Sound.Snapshots.{registered_of, AreRegistered, AreFromBase, view_of, HasSeen}
 use Rattle.wp_core.specs.Sound.Store.{IsStored, IsSettled}
 use Rattle.wp_core.specs.Sound.Segments.{AreCoupled}
 use Rattle.wp_core.specs.Sound.Locks.{owner_of, AreLocked}
@@ -30,11 +30,11 @@ pub record IsSound (w : World) : Type 0 where
   pub undecided : AreUndecided w.writes.history w.writes.pending w.prepared w.max_evicted
   pub delayed : AreDelayed w.writes.history w.writes.pending w.prepared w.cache
   pub registrations : AreRegistered w.writes.history w.snapshots (participants registered_of w)
-  pub from_opening : AreFromOpening w.opened w.snapshots
+  pub from_base : AreFromBase w.first_edit.segment.base w.snapshots
   pub viewed : EachParticipant HasSeen (participants view_of w)
   pub flags : AreFlags w.delayed_flag w.old_flag w.prepared w.snapshots w.holders.prepared w.holders.snapshots
   -- versions and edits
-  pub versions : IsStored w.writes.history w.writes.pending w.snapshots w.store w.installed
+  pub versions : IsStored w.writes.history w.writes.pending w.first_edit.segment.base w.snapshots w.store w.installed
   pub settled : IsSettled w.holders.tables w.store w.installed.last
   pub coupled : AreCoupled w.writes w.installed w.holders.write
   -- names and keys, and the pasts

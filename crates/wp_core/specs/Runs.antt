@@ -27,6 +27,7 @@ pub record IsOpening (w : World) : Type 0 where
   pub pending : w.writes.pending ≡ []
   pub log : w.writes.log ≡ w.opened
   pub running_log : w.writes.closed ≡ false
+  pub unstopped : w.writes.stopped ≡ false
   pub none_failed : w.writes.failed ≡ []
   pub segment : w.writes.segment ≡ w.first_edit.segment
   pub none_next : w.writes.next ≡ None
@@ -41,7 +42,7 @@ pub record IsOpening (w : World) : Type 0 where
   pub delayed_free : undecided w.opened ≡ [] → w.delayed_flag ≡ 0
   pub old_flag : w.old_flag ≡ 0
   pub snapshots : w.snapshots ≡ finite.empty
-  pub versions : IsStored w.opened [] w.snapshots w.store w.installed
+  pub versions : IsStored w.opened [] w.first_edit.segment.base w.snapshots w.store w.installed
   pub settled : IsOfEdit w.store w.installed.last
   pub first_edit : w.installed.last ≡ w.first_edit
   pub not_failed : w.installed.failed ≡ None

@@ -16,14 +16,15 @@ use Rattle.wp_core.specs.Turns.{Turn, write_turn, prepared_turn, snapshots_turn,
 
 -- The history and its log. What is pending is what is left of one record, the entry that comes next first: a record is one
 -- entry, or an Undo with its Close. It is logged as a whole before its first entry joins the history. Where nothing is
--- pending, logged says nothing. Once an append failed the log is closed, and its bytes may have that record or not. The log is in a
--- segment of its device; another one that was written beside it is the next one.
+-- pending, logged says nothing. Once an append failed the log is closed, and its bytes may have that record or not. It is
+-- stopped where it was closed for the devices of the tables alone. The log is in a segment of its device; another one that was written beside it is the next one.
 pub record WriteTable : Type 0 where
   pub history : List Entry
   pub pending : List Entry
   pub logged : Bool
   pub log : List Entry
   pub closed : Bool
+  pub stopped : Bool
   pub failed : List Entry
   pub segment : Segment
   pub next : Option Segment

@@ -1,7 +1,7 @@
 -- What a seat knows over the history that it has seen, of what may become of the store and of the edits, is so over all of it.
 use Rattle.std.proofs.Common.{◌≡◌, ◌⊎◌, ⊎_elim, ℕ, suc, ◌<◌, ◌≤◌, Bool, true, false, cond, ◌&&◌, ◌==◌, List, [], ◌∷◌, ◌++◌, length, length-append, append-nil, append_assoc, sym, subst, ap, ◌∙◌, inl, inr, Option, Some, None, arith}
 use Rattle.std.specs.Str.{bytes_eq}
-use Rattle.std.proofs.lemmas.Bool.{cases_lt}
+use Rattle.std.proofs.lemmas.Bool.{cases_lt, eqb-true, or_cases}
 use Rattle.wp_model.specs.declared.entry.Entry.{Entry}
 use Rattle.wp_model.specs.declared.version.Version.{Version}
 use Rattle.wp_model.specs.Covered.{IsCovered, is_among}
@@ -50,7 +50,7 @@ at_start (v ∷ xs) ys key p value e = by (bytes_eq v.key key && (v.number == p)
     by true e' rest = e'
     by false e' rest = rest e'
 
-module _ (history pending : List Entry) (snapshots : Snapshots) (t : StoreTable) (e : Installed) (k : IsStored history pending snapshots t e) where
+module _ (history pending : List Entry) (base : ℕ) (snapshots : Snapshots) (t : StoreTable) (e : Installed) (k : IsStored history pending base snapshots t e) where
   of_history : (key : List ℕ) (p : ℕ) (value : Option (List ℕ)) → p ≤ length history → version_at t.memory key p ≡ Some value → entry_version history p key ≡ Some value
   of_history key p value le there = k.covered.part key p value (up_to_within (length history) (t.memory ++ t.tables) key p le ∙ at_start t.memory t.tables key p value there)
 
@@ -63,9 +63,10 @@ module _ (history pending : List Entry) (snapshots : Snapshots) (t : StoreTable)
       | inl gt ↦ up_to_past (length history) (memory ++ tables) key p gt ∙ sym (up_to_past (length history) (t.memory ++ t.tables) key p gt)
     ]
 
-    pub moved : IsStored history pending snapshots (record t { memory = memory; tables = tables }) e
+    pub moved : IsStored history pending base snapshots (record t { memory = memory; tables = tables }) e
     moved = record {
-      covered = covers_same (up_to (length history) (t.memory ++ t.tables)) (up_to (length history) (memory ++ tables)) history (live_numbers snapshots) t.floor within k.covered;
+      covered = covers_same (up_to (length history) (t.memory ++ t.tables)) (up_to (length history) (memory ++ tables)) history (base ∷ live_numbers snapshots) t.floor within k.covered;
+      based = k.based;
       floor = k.floor;
       next = λ key p value lt there. let f = k.last.flushed in k.next key p value lt (sym (n.above key p (omega (arith, f, lt))) ∙ there);
       tables = λ key p value there. ⊎_elim (λ old. k.tables key p value old) (λ m. let f = k.last.flushed in let low = m.0 in of_history key p value (omega (arith, f, low)) m.1) (n.below key p value there);
@@ -79,7 +80,7 @@ module _ (history pending : List Entry) (snapshots : Snapshots) (t : StoreTable)
 
   -- ---- a compaction
 
-  module _ (a : Actor) (tables : List Version) (floor : ℕ) (n : KnowsReplaced a t e.last.flushed tables floor) (legal : IsLegal history) (starts : StartsWith history a.participant.seen) where
+  module _ (a : Actor) (tables : List Version) (floor : ℕ) (n : KnowsReplaced a t e.last.flushed base tables floor) (legal : IsLegal history) (starts : StartsWith history a.participant.seen) where
     -- what comes after the flushed number is in memory, and so is what comes after all that was seen
     shown : (key : List ℕ) (p : ℕ) (o : Option (Option (List ℕ))) → e.last.flushed < p → p ≤ length history → entry_version history p key ≡ o → version_at (t.memory ++ tables) key p ≡ o
     shown key p (Some value) lt le is = at_start t.memory tables key p value (k.in_memory key p value lt is)
@@ -103,16 +104,20 @@ module _ (history pending : List Entry) (snapshots : Snapshots) (t : StoreTable)
     covered_now : IsCovered (up_to (length history) (t.memory ++ tables)) history n.listed floor
     covered_now = along (λ h. IsCovered (up_to (length h) (t.memory ++ tables)) h n.listed floor) history (length a.participant.seen) legal grown starts.0 a.participant.seen (sym starts.1) (omega arith) n.covered
 
-    pub replaced : ((s : ℕ) → IsLive snapshots s → (is_among n.listed s ≡ true) ⊎ (floor ≤ s)) → ((s : ℕ) → IsLive snapshots s → s ≤ length history) → IsStored history pending snapshots (record t { tables = tables; floor = floor }) e
+    pub replaced : ((s : ℕ) → IsLive snapshots s → (is_among n.listed s ≡ true) ⊎ (floor ≤ s)) → ((s : ℕ) → IsLive snapshots s → s ≤ length history) → IsStored history pending base snapshots (record t { tables = tables; floor = floor }) e
     replaced listed low =
         let c = covered_now in record {
           covered = record {
             part = c.part;
             undecided = c.undecided;
             undone = c.undone;
-            listed = λ key s among. let live : IsLive snapshots s = sym (among_live snapshots s) ∙ among in ⊎_elim (λ there. c.listed key s there) (λ high. c.later key s high (low s live)) (listed s live);
+            listed = λ key s among. ⊎_elim
+                (λ same. c.listed key s (subst (λ (m : ℕ). is_among n.listed m ≡ true) (eqb-true base s same) n.base_listed))
+                (λ there. let live : IsLive snapshots s = sym (among_live snapshots s) ∙ there in ⊎_elim (λ one. c.listed key s one) (λ high. c.later key s high (low s live)) (listed s live))
+                (or_cases (base == s) (is_among (live_numbers snapshots) s) among);
             later = c.later;
           };
+          based = k.based;
           floor = let f = n.seen_floor in let l = length-append a.participant.seen starts.0 in let q = ap length starts.1 in omega (arith, f, l, q);
           next = k.next;
           tables = λ key p value there. k.tables key p value (n.part key p value there);
@@ -123,9 +128,10 @@ module _ (history pending : List Entry) (snapshots : Snapshots) (t : StoreTable)
 
   -- ---- edits
 
-  pub installed_now : (edit : InstalledEdit) → IsEditCovered history edit → e.last.flushed ≤ edit.flushed → IsStored history pending snapshots t (record e { last = edit })
+  pub installed_now : (edit : InstalledEdit) → IsEditCovered history edit → e.last.flushed ≤ edit.flushed → IsStored history pending base snapshots t (record e { last = edit })
   installed_now edit covers rises = record {
     covered = k.covered;
+    based = let b = k.based in omega (arith, rises, b);
     floor = k.floor;
     next = k.next;
     tables = k.tables;
@@ -134,9 +140,10 @@ module _ (history pending : List Entry) (snapshots : Snapshots) (t : StoreTable)
     in_memory = λ key p value lt there. k.in_memory key p value (omega (arith, rises, lt)) there;
   }
 
-  pub halted_now : (edit : InstalledEdit) → IsEditCovered history edit → IsStored history pending snapshots t (record e { failed = Some edit; halted = true })
+  pub halted_now : (edit : InstalledEdit) → IsEditCovered history edit → IsStored history pending base snapshots t (record e { failed = Some edit; halted = true })
   halted_now edit covers = record {
     covered = k.covered;
+    based = k.based;
     floor = k.floor;
     next = k.next;
     tables = k.tables;
@@ -145,5 +152,5 @@ module _ (history pending : List Entry) (snapshots : Snapshots) (t : StoreTable)
     in_memory = k.in_memory;
   }
 
-  pub halted_only : IsStored history pending snapshots t (record e { halted = true })
-  halted_only = record { covered = k.covered; floor = k.floor; next = k.next; tables = k.tables; last = k.last; failed = k.failed; in_memory = k.in_memory }
+  pub halted_only : IsStored history pending base snapshots t (record e { halted = true })
+  halted_only = record { covered = k.covered; based = k.based; floor = k.floor; next = k.next; tables = k.tables; last = k.last; failed = k.failed; in_memory = k.in_memory }

@@ -45,7 +45,7 @@ use Rattle.wp_core.proofs.HistoryLaws.{decision_stays}
 use Rattle.wp_core.proofs.KeepsSeen.{shorter}
 use Rattle.wp_core.proofs.Tests.{none_some, same_some}
 use Rattle.wp_rule.specs.Words.{Place, IsAt}
-use Rattle.wp_rule.specs.Knows.{Holding, Noted, IsUp, KnowsLook, KnowsCleared, KnowsTables, KnowsGive, KnowsPair, IsRise, HasNoVersions, KnowsFact, KnowsHeld, KnowsPublish, NextNamed, Knows, IsRiseForWord, IsRiseForWide, KnowsEntered}
+use Rattle.wp_rule.specs.Knows.{Holding, Noted, IsUp, KnowsLook, KnowsCleared, KnowsTables, KnowsReplaced, KnowsGive, KnowsPair, IsRise, HasNoVersions, KnowsFact, KnowsHeld, KnowsPublish, NextNamed, Knows, IsRiseForWord, IsRiseForWide, KnowsEntered}
 use Rattle.wp_rule.proofs.Bound.{past_reaches, past_published}
 use Rattle.wp_rule.proofs.Knows.{at_sound, held_is, seen_is, noted_is}
 use Rattle.wp_rule.proofs.Maintenance.{edit_later, moved, next_stays, replaced, installed_now, halted_now, halted_only}
@@ -421,20 +421,21 @@ module _ (p : Place) (a : Actor) (w : World) (k : IsAt p a w) where
   needed (note fact) n = let f = facts fact n.1 in (n.0, f.0, f.1)
   needed (move_versions memory tables) n =
       let h = has_store _ n in let g = has_installed _ h.1 in
-      let is = moved w.writes.history w.writes.pending w.snapshots w.store w.installed sound.versions memory tables g.1 in
-      let stays = next_stays w.writes.history w.writes.pending w.snapshots w.store w.installed sound.versions memory tables g.1 in (h.0, g.0, (g.1.same, stays), is)
+      let is = moved w.writes.history w.writes.pending w.first_edit.segment.base w.snapshots w.store w.installed sound.versions memory tables g.1 in
+      let stays = next_stays w.writes.history w.writes.pending w.first_edit.segment.base w.snapshots w.store w.installed sound.versions memory tables g.1 in (h.0, g.0, (g.1.same, stays), is)
   needed (replace_versions tables floor) n =
-      let h = has_store _ n in let g = has_installed _ h.1 in let r = g.1 in
-      (h.0, g.0, r.rises, replaced w.writes.history w.writes.pending w.snapshots w.store w.installed sound.versions a tables floor r sound.history.legal (seen_is p a w k) (is_so (live_listed floor r.listed) r.live).1 live_within)
+      let h = has_store _ n in let g = has_installed _ h.1 in
+      let r = subst (λ (first : InstalledEdit). KnowsReplaced a w.store w.installed.last.flushed first.segment.base tables floor) (same_some g.1.0 w.first_edit (sym g.1.1 ∙ k.first_edit)) g.1.2 in
+      (h.0, g.0, r.rises, replaced w.writes.history w.writes.pending w.first_edit.segment.base w.snapshots w.store w.installed sound.versions a tables floor r sound.history.legal (seen_is p a w k) (is_so (live_listed floor r.listed) r.live).1 live_within)
   needed (install edit compacts) n =
       let h = has_installed _ n in let m = h.1 in
-      (h.0, m.running, installed_now w.writes.history w.writes.pending w.snapshots w.store w.installed sound.versions edit (covers edit m.covered) m.rises, m.one_more, m.keeps, m.rises, m.segment)
+      (h.0, m.running, installed_now w.writes.history w.writes.pending w.first_edit.segment.base w.snapshots w.store w.installed sound.versions edit (covers edit m.covered) m.rises, m.one_more, m.keeps, m.rises, m.segment)
   needed (renew edit) n =
       let h = has_writes _ n in let g = has_installed _ h.1 in let m = g.1 in
       let rises : w.installed.last.flushed ≤ edit.flushed = let low = sound.versions.last.flushed in let whole = m.next.2 in omega (arith, low, whole) in
-      (g.0, m.running, installed_now w.writes.history w.writes.pending w.snapshots w.store w.installed sound.versions edit (covers edit m.covered) rises, (h.0, m.next.0, m.next.1, m.next.2), m.tables)
-  needed (halt None) n = let h = has_installed _ n in (h.0, h.1, halted_only w.writes.history w.writes.pending w.snapshots w.store w.installed sound.versions, λ edit q. absurd (none_some None edit refl q))
-  needed (halt (Some edit)) n = let h = has_installed _ n in (h.0, h.1.0, halted_now w.writes.history w.writes.pending w.snapshots w.store w.installed sound.versions edit (covers edit h.1.1), λ failed q. subst (λ (x : InstalledEdit). NamesSegment w x ⊎ NamesNext w p.by x) (same_some edit failed q) (segment_named edit h.1.2))
+      (g.0, m.running, installed_now w.writes.history w.writes.pending w.first_edit.segment.base w.snapshots w.store w.installed sound.versions edit (covers edit m.covered) rises, (h.0, m.next.0, m.next.1, m.next.2), m.tables)
+  needed (halt None) n = let h = has_installed _ n in (h.0, h.1, halted_only w.writes.history w.writes.pending w.first_edit.segment.base w.snapshots w.store w.installed sound.versions, λ edit q. absurd (none_some None edit refl q))
+  needed (halt (Some edit)) n = let h = has_installed _ n in (h.0, h.1.0, halted_now w.writes.history w.writes.pending w.first_edit.segment.base w.snapshots w.store w.installed sound.versions edit (covers edit h.1.1), λ failed q. subst (λ (x : InstalledEdit). NamesSegment w x ⊎ NamesNext w p.by x) (same_some edit failed q) (segment_named edit h.1.2))
   needed (store_published entry others) n = let h = has_writes _ n in publishes entry others h.0 h.1
   needed (take_turn turn) n = absurd n
   needed make_note n = absurd n

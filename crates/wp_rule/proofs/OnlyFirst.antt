@@ -3,6 +3,7 @@ use Rattle.std.proofs.Common.{◌≡◌, ◌⊎◌, ⊎_elim, inl, inr, ℕ, zer
 use mathlib.Core.Option.{some, some-injective, some-ne-none}
 use lib.ListN.{get_elem?}
 use Rattle.std.specs.FinMap as finite
+use Rattle.wp_model.specs.declared.segment.Segment.{Segment}
 use Rattle.wp_model.specs.Batch.{key_cmp}
 use Rattle.wp_model.specs.declared.entry.Entry.{Entry}
 use Rattle.wp_model.specs.declared.holder.Holder.{Holder}
@@ -14,7 +15,7 @@ use Rattle.wp_core.specs.World.{Actor, Participant, World, new_participant}
 use Rattle.wp_core.specs.World as world
 use Rattle.wp_core.specs.Sound.Actors.{seen_of, own_of, learned_of, held_of, role_of, participants_of, IsParticipantAt, total_participants, times}
 use Rattle.wp_core.specs.Sound.Locks.{Owner, owner_of, IsNameOf, IsDirectOf, AreLocked}
-use Rattle.wp_core.specs.Sound.Pasts.{past_of, HasDone, IsPast, closes_log, is_tables_fault, HasBegun, MadeHolder, IsAccounted, WasLocked, WasInstalled, WasBased, OtherDid, OtherInstalls, OtherCompacts, AreHolders, IsBoard, AreFaults, AreEdits}
+use Rattle.wp_core.specs.Sound.Pasts.{past_of, HasDone, IsPast, closes_log, is_tables_fault, HasBegun, MadeHolder, IsAccounted, WasLocked, WasInstalled, WasPlaced, WasBased, OtherDid, OtherInstalls, OtherCompacts, AreHolders, IsBoard, AreFaults, AreEdits}
 use Rattle.wp_core.specs.Sound.Reader.{reader_of}
 use Rattle.wp_core.specs.Sound.Snapshots.{registered_of, view_of}
 use Rattle.wp_core.specs.Sound.Views.{noter_of}
@@ -160,6 +161,7 @@ module _ (w : World) (a : Actor) (others : List Actor) (is : w.actors ≡ a ∷ 
     not_logged = k.not_logged;
     stopped = λ n q. k.stopped n (past_up _ q);
     failed = λ entries q. k.failed entries (past_up _ q);
+    of_log = λ entries q. k.of_log entries (past_up _ q);
     behind = λ q. k.behind (past_up _ q);
     unfailed = λ q. k.unfailed (past_up _ q);
   }
@@ -169,6 +171,9 @@ module _ (w : World) (a : Actor) (others : List Actor) (is : w.actors ≡ a ∷ 
 
   installed_up : (n : ℕ) → WasInstalled w.first_edit (participants past_of v) n → WasInstalled w.first_edit (participants past_of w) n
   installed_up n k = ⊎_elim (λ e. inl e) (λ q. inr (q.0, q.1, past_up q.0 q.2)) k
+
+  placed_down : (segment : Segment) → WasPlaced w.first_edit (participants past_of w) segment → WasPlaced w.first_edit (participants past_of v) segment
+  placed_down segment k = ⊎_elim (λ e. inl e) (λ q. inr (q.0, q.1, past_down (renewed q.0) q.2)) k
 
   based_down : (base : ℕ) → WasBased w.first_edit (participants past_of w) base → WasBased w.first_edit (participants past_of v) base
   based_down base k = ⊎_elim (λ e. inl e) (λ q. inr (q.0, q.1, past_down (renewed q.0) q.2)) k
@@ -183,7 +188,7 @@ module _ (w : World) (a : Actor) (others : List Actor) (is : w.actors ≡ a ∷ 
   edits_down = let k = s.edits in record {
     last = installed_down w.installed.last.flushed k.last;
     rises = λ n q. k.rises n (installed_up n q);
-    based = based_down w.installed.last.segment.base k.based;
+    placed = placed_down w.installed.last.segment k.placed;
     found = λ n base tables due halted q. installed_down n (k.found n base tables due halted (past_up _ q));
     found_base = λ n base tables due halted q. based_down base (k.found_base n base tables due halted (past_up _ q));
     few = λ j i n base tables due halted d less. compacts_down j i (k.few j i n base tables due halted (done_up j i _ d) less);
@@ -209,7 +214,7 @@ module _ (w : World) (a : Actor) (others : List Actor) (is : w.actors ≡ a ∷ 
       live = k.live;
       smallest = λ j i x there. k.smallest j i x (up registered_of j i x there);
     };
-    from_opening = s.from_opening;
+    from_base = s.from_base;
     viewed = λ j i x there. s.viewed j i x (up view_of j i x there);
     flags = s.flags;
     versions = s.versions;

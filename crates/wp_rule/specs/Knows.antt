@@ -164,13 +164,14 @@ pub record KnowsMoved (t : StoreTable) (flushed : ℕ) (memory tables : List Ver
   pub below : (key : List ℕ) (q : ℕ) (value : Option (List ℕ)) → version_at tables key q ≡ Some value → (version_at t.tables key q ≡ Some value) ⊎ ((q ≤ flushed) × (version_at t.memory key q ≡ Some value))
 
 -- Old versions may go from tables: what is left shows the history that the seat has seen at the listed numbers, and at each
--- from the new floor on; and the live ones are listed or are not below that floor.
-pub record KnowsReplaced (a : Actor) (t : StoreTable) (flushed : ℕ) (tables : List Version) (floor : ℕ) : Type 0 where
+-- from the new floor on; and the live ones are listed or are not below that floor, and so is the base at which the log was opened.
+pub record KnowsReplaced (a : Actor) (t : StoreTable) (flushed base : ℕ) (tables : List Version) (floor : ℕ) : Type 0 where
   pub rises : t.floor ≤ floor
   pub seen_floor : floor ≤ length a.participant.seen
   pub seen_flushed : flushed ≤ length a.participant.seen
   pub listed : List ℕ
   pub live : Noted a (live_listed floor listed)
+  pub base_listed : is_among listed base ≡ true
   pub seen_listed : (n : ℕ) → is_among listed n ≡ true → n ≤ length a.participant.seen
   pub part : (key : List ℕ) (q : ℕ) (value : Option (List ℕ)) → version_at tables key q ≡ Some value → version_at t.tables key q ≡ Some value
   pub covered : IsCovered (up_to (length a.participant.seen) (t.memory ++ tables)) a.participant.seen listed floor
@@ -236,7 +237,7 @@ Knows p a (add_old_commit s q) = Holding a snapshots (λ m. IsLive m s × IsUp a
 Knows p a (add_versions memory) = Holding a writes (λ d. Holding a store (λ t. HasVersionsAt (next_of d.pending) (suc (length d.history)) t.memory memory))
 Knows p a (take_versions memory) = Holding a writes (λ d. Holding a store (λ t. HasVersionsAt None (suc (length d.history)) t.memory memory))
 Knows p a (move_versions memory tables) = Holding a store (λ t. Holding a installed (λ e. KnowsMoved t e.last.flushed memory tables))
-Knows p a (replace_versions tables floor) = Holding a store (λ t. Holding a installed (λ e. KnowsReplaced a t e.last.flushed tables floor))
+Knows p a (replace_versions tables floor) = Holding a store (λ t. Holding a installed (λ e. (first : InstalledEdit) × (p.first_edit ≡ Some first) × KnowsReplaced a t e.last.flushed first.segment.base tables floor))
 Knows p a (install edit compacts) = Holding a installed (λ e. KnowsInstalled a e edit compacts)
 Knows p a (renew edit) = Holding a writes (λ d. Holding a installed (λ e. KnowsRenewed a d e edit))
 Knows p a (halt None) = Holding a installed (λ e. e.halted ≡ false)

@@ -26,6 +26,7 @@ pub record IsHistory (opened : List Entry) (t : WriteTable) (max : ℕ) : Type 0
   -- the log may have the record whose append failed
   pub legal_failed : IsLegal (t.history ++ t.failed)
   pub none_failed : t.closed ≡ false → t.failed ≡ []
+  pub not_stopped : t.closed ≡ false → t.stopped ≡ false
   pub undo_closes : (p : ℕ) → undone_last t.history ≡ Some p → (t.pending ≡ Close p ∷ []) × (t.logged ≡ true)
 
 -- an entry is pending only while somebody holds the write turn

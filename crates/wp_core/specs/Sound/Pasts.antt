@@ -2,6 +2,7 @@
 use Rattle.std.specs.Prelude.{◌≡◌, ◌≢◌, ◌⊎◌, ℕ, ◌+◌, ◌≤◌, ◌<◌, Bool, true, false, List, [], length, fold, Option, Some, None, is_some}
 use Rattle.std.specs.FinMap as finite
 use Rattle.wp_model.specs.declared.entry.Entry.{Entry}
+use Rattle.wp_model.specs.declared.segment.Segment.{Segment}
 use Rattle.wp_model.specs.History.{named, holder_of}
 use Rattle.wp_model.specs.declared.holder.Holder.{Holder}
 use Rattle.wp_model.specs.declared.holder.Holder.TheVariants.{Txn, Client}
@@ -94,6 +95,7 @@ pub record AreFaults (writes : WriteTable) (halted : Bool) (pasts : List (List (
   pub stopped : (n : ℕ) → IsPast pasts (stopped n) → (writes.closed ≡ true) × (n ≡ length writes.history)
   -- the record whose append failed is the one that the log may have
   pub failed : (entries : List Entry) → IsPast pasts (log_failed entries) → (writes.closed ≡ true) × (writes.failed ≡ entries)
+  pub of_log : (entries : List Entry) → IsPast pasts (log_failed entries) → writes.stopped ≡ false
   -- it was stopped only where the devices of the tables had failed, and then no append failed
   pub behind : IsPast pasts log_stopped → halted ≡ true
   pub unfailed : IsPast pasts log_stopped → (writes.closed ≡ true) × (writes.failed ≡ [])
@@ -116,7 +118,11 @@ raised_to other = None
 abbrev pub WasInstalled : InstalledEdit → List (List (List Event)) → ℕ → Type 0
 WasInstalled first pasts n = (n ≡ first.flushed) ⊎ ((e : Event) × (raised_to e ≡ Some n) × IsPast pasts e)
 
--- a base of the log is that of the opening, or one that a renewal installed
+-- a segment of the log is that of the opening, or one that a renewal installed
+abbrev pub WasPlaced : InstalledEdit → List (List (List Event)) → Segment → Type 0
+WasPlaced first pasts segment = (segment ≡ first.segment) ⊎ ((edit : InstalledEdit) × (edit.segment ≡ segment) × IsPast pasts (renewed edit))
+
+-- likewise a base
 abbrev pub WasBased : InstalledEdit → List (List (List Event)) → ℕ → Type 0
 WasBased first pasts base = (base ≡ first.segment.base) ⊎ ((edit : InstalledEdit) × (edit.segment.base ≡ base) × IsPast pasts (renewed edit))
 
@@ -149,14 +155,14 @@ abbrev pub OtherCompacts : List (List (List Event)) → ℕ → ℕ → Type 0
 OtherCompacts pasts j i = (edit : InstalledEdit) × OtherDid pasts j i (installed edit true)
 
 -- The last edit's flushed number is the opening's, a flush's or a renewal's, of which none is greater, and so is each that was found; its
--- base is the opening's or a renewal's, and so is each that was found. It is the edit that a participant installed last, unless
+-- segment is the opening's or a renewal's, and so is each base that was found. It is the edit that a participant installed last, unless
 -- another one installed one, and has at least the tables that this one knows of, unless another one compacted; so has the edit that was
 -- found. Where the devices failed, it is that one still, and so is the one whose install failed; and it has the flushed number that was
 -- found once they had failed.
 pub record AreEdits (first : InstalledEdit) (t : Installed) (pasts : List (List (List Event))) : Type 0 where
   pub last : WasInstalled first pasts t.last.flushed
   pub rises : (n : ℕ) → WasInstalled first pasts n → n ≤ t.last.flushed
-  pub based : WasBased first pasts t.last.segment.base
+  pub placed : WasPlaced first pasts t.last.segment
   pub found : (n base tables due : ℕ) (halted : Bool) → IsPast pasts (found_edit n base tables due halted) → WasInstalled first pasts n
   pub found_base : (n base tables due : ℕ) (halted : Bool) → IsPast pasts (found_edit n base tables due halted) → WasBased first pasts base
   pub few : (j i n base tables due : ℕ) (halted : Bool) → HasDone pasts j i (found_edit n base tables due halted) → tables < due → OtherCompacts pasts j i

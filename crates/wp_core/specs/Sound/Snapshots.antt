@@ -50,9 +50,9 @@ HasSeen view = (r : Registration) → IsIn r view.1 → r.number ≤ length view
 
 -- ---- together
 
--- no live number is below the end of the history that was opened
-abbrev pub AreFromOpening : List Entry → Snapshots → Type 0
-AreFromOpening opened snapshots = (s : ℕ) → IsLive snapshots s → length opened ≤ s
+-- no live number is below the base at which the log was opened
+abbrev pub AreFromBase : ℕ → Snapshots → Type 0
+AreFromBase base snapshots = (s : ℕ) → IsLive snapshots s → base ≤ s
 
 -- the counts are the sums of the actors' registrations, and each live number is at most the published one
 pub record AreRegistered (history : List Entry) (snapshots : Snapshots) (registered : List (List (List Registration))) : Type 0 where

@@ -1,5 +1,5 @@
 -- What is so of the versions, in memory and in tables, and of the edits.
-use Rattle.std.specs.Prelude.{◌≡◌, ℕ, suc, ◌≤◌, ◌<◌, List, length, Option, Some, None}
+use Rattle.std.specs.Prelude.{◌≡◌, ℕ, suc, ◌≤◌, ◌<◌, List, ◌∷◌, length, Option, Some, None}
 use Rattle.wp_model.specs.declared.entry.Entry.{Entry}
 use Rattle.wp_model.specs.Decision as decision
 use Rattle.wp_model.specs.declared.version.Version.{Version}
@@ -12,8 +12,11 @@ use Rattle.wp_core.specs.Entries.{next_of}
 
 -- ---- the store
 
-pub record IsStored (history pending : List Entry) (snapshots : Snapshots) (t : StoreTable) (e : Installed) : Type 0 where
-  pub covered : IsCovered (up_to (length history) (all_in t)) history (live_numbers snapshots) t.floor
+-- The versions cover the history for readers of the live numbers and from the floor on, and for those of the base at which the log was
+-- opened, which is flushed.
+pub record IsStored (history pending : List Entry) (base : ℕ) (snapshots : Snapshots) (t : StoreTable) (e : Installed) : Type 0 where
+  pub covered : IsCovered (up_to (length history) (all_in t)) history (base ∷ live_numbers snapshots) t.floor
+  pub based : base ≤ e.last.flushed
   pub floor : t.floor ≤ length history
   -- what is above the history is the pending entry's, and is in memory
   pub next : (key : List ℕ) (p : ℕ) (value : Option (List ℕ)) → length history < p → version_at t.memory key p ≡ Some value → (p ≡ suc (length history)) × (decision.version_in (next_of pending) key ≡ Some value)
