@@ -1,4 +1,5 @@
 -- What the enums of the code are in the machine.
+use Rattle.std.specs.Prelude.{true, false}
 use Rattle.wp_machine.specs.declared.content.Guarded.{Guarded}
 use Rattle.wp_machine.specs.declared.content.Guarded.TheVariants as table
 use Rattle.wp_machine.specs.declared.views.Account as code_account
@@ -13,12 +14,12 @@ use Rattle.wp_core.specs.Views.{Account, Event, Fact}
 use Rattle.wp_core.specs.Views as view
 
 abbrev pub content_of : Guarded → Content
-content_of (table.Writes t) = content.writes t
-content_of (table.Prepared t) = content.prepared t
-content_of (table.Snapshots t) = content.snapshots t
-content_of (table.Store t) = content.store t
-content_of (table.Locks t) = content.locks t
-content_of (table.Installed t) = content.installed t
+content_of (table.Writes t) = content.writes t.value
+content_of (table.Prepared t) = content.prepared t.value
+content_of (table.Snapshots t) = content.snapshots t.value
+content_of (table.Store t) = content.store t.value
+content_of (table.Locks t) = content.locks t.value
+content_of (table.Installed t) = content.installed t.value
 
 abbrev pub account_of : code_account.Account → Account
 account_of account.Own = view.own
@@ -26,19 +27,20 @@ account_of account.Another = view.another
 account_of (account.PrepareAt n) = view.prepare_at n
 
 abbrev pub event_of : Found → Event
-event_of (found.Claimed name) = view.claimed name
-event_of (found.Took name) = view.took name
-event_of (found.Locked key holder) = view.locked key holder
-event_of (found.Told label n) = view.told label n
-event_of (found.Heard label n) = view.heard label n
-event_of (found.Installed edit compacts) = view.installed edit compacts
-event_of (found.Renewed edit) = view.renewed edit
-event_of (found.LogFailed entries) = view.log_failed entries.items
+event_of (found.Claimed name) = view.claimed name.value
+event_of (found.Took name) = view.took name.value
+event_of (found.Locked key holder) = view.locked key.value holder.value
+event_of (found.Told label n) = view.told label.value n
+event_of (found.Heard label n) = view.heard label.value n
+event_of (found.Flushed edit) = view.installed edit.value false
+event_of (found.Compacted edit tables) = view.installed (record edit.value { tables = tables }) true
+event_of (found.Renewed edit) = view.renewed edit.value
+event_of (found.LogFailed entries) = view.log_failed entries.value.items
 event_of found.LogStopped = view.log_stopped
-event_of (found.TablesFailed last edit) = view.tables_failed last edit
+event_of (found.TablesFailed last edit) = view.tables_failed last.value edit.value
 event_of (found.Stopped n) = view.stopped n
 event_of (found.Edit flushed base tables due halted) = view.found_edit flushed base tables due halted
-event_of (found.Holder key holder seen account) = view.found key holder seen (account_of account)
+event_of (found.Holder key holder seen account) = view.found key.value holder.value seen (account_of account)
 
 abbrev pub fact_of : Noted → Fact
 fact_of (noted.Passed place p c) = view.passed place (record { number = p; decision = c })

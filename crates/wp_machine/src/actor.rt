@@ -7,7 +7,6 @@ ghost use Rattle.std.specs.Option.{option_copied};
 ghost use Rattle.std.specs.FinSet as set;
 ghost use Rattle.std.specs.FinMap as finite;
 ghost use Rattle.wp_model.specs.Batch.{key_cmp};
-ghost use Rattle.wp_machine.specs.Pairs.{newest_under};
 ghost use Rattle.wp_core.specs.Reading.{snapshot_of};
 ghost use Rattle.wp_core.specs.Changes.{reading_left, is_same_registration};
 ghost use Rattle.wp_machine.specs.Effect.{has_published, released_number, has_released};
@@ -21,6 +20,7 @@ ghost use Rattle.wp_machine.specs.HeldTables.{place_from};
 use crate::content::Content;
 use crate::copies::copy_entries;
 use crate::ending::Ending;
+use crate::pairs::newest_under;
 use crate::views::{Event, Fact};
 use std::alloc::{AllocError, Global};
 use std::marker::Model;
@@ -134,26 +134,12 @@ impl Participant {
     }
 }
 
-fn transaction_under<'a>(
-    transactions: &'a [(Name, Transaction)],
-    name: &Name,
-) -> Option<&'a Transaction>
-    ensures { option_copied result ≡ newest_under transactions.now name.now }
-{
-    for pair in transactions {
-        if &pair.0 == name {
-            return Some(&pair.1);
-        }
-    }
-    None
-}
-
 impl Participant {
     #[tactic(auto, using(crate::proofs::Maps::under_is_got))]
     pub fn transaction(&self, name: &Name) -> Option<&Transaction>
         ensures { option_copied result ≡ finite.get self.now.transactions name.now }
     {
-        transaction_under(&self.transactions, name)
+        newest_under(&self.transactions, name)
     }
 
     /// Its client. One that was joined has none, and makes no step that asks for it: that too is answered as want of
@@ -207,11 +193,11 @@ impl Transaction {
     }
 
     /// The same with one key more.
-    pub fn with_key(&self, key: Key, alloc: Global) -> Result<Transaction, AllocError>
-        ensures { IfOk result (λ changed. changed ≡ record self.now { locked = set.insert self.now.locked key }) }
+    pub fn with_key(&self, key: &Key, alloc: Global) -> Result<Transaction, AllocError>
+        ensures { IfOk result (λ changed. changed ≡ record self.now { locked = set.insert self.now.locked key.now }) }
     {
         let mut locked = copy_locked(&self.locked, alloc)?;
-        locked.insert(0, key)?;
+        locked.insert(0, key.copy(alloc)?)?;
         Ok(Transaction {
             batch: self.batch.copy(alloc)?,
             locked,
@@ -355,11 +341,13 @@ impl Actor {
 
     pub fn put_transaction(
         &mut self,
-        name: Name,
+        name: &Name,
         transaction: Transaction,
+        alloc: Global,
     ) -> Result<(), AllocError>
-        ensures { OnOk result (self.new ≡ has_transaction self.old name transaction) }
+        ensures { OnOk result (self.new ≡ has_transaction self.old name.now transaction) }
     {
+        let name = name.copy(alloc)?;
         self.participant
             .transactions
             .insert(0, (name, transaction))?;
@@ -429,10 +417,10 @@ impl Actor {
     }
 
     /// It forgets what the step ends.
-    pub fn forget(&mut self, ending: &Ending)
-        ensures { self.new ≡ record self.old { notes = filter (λ fact. not (ends_fact ending.now fact)) self.old.notes } }
+    pub fn forget(&mut self, ending: Ending)
+        ensures { self.new ≡ record self.old { notes = filter (λ fact. not (ends_fact ending fact)) self.old.notes } }
     {
-        forget(&mut self.notes, ending);
+        forget(&mut self.notes, &ending);
     }
 
     pub fn note(&mut self, fact: Fact) -> Result<(), AllocError>

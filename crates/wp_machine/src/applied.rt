@@ -130,7 +130,7 @@ fn effect(world: &mut World, by: usize, actor: &mut Actor, kind: Kind) -> Result
         Kind::Snapshots(kind) => effects::snapshots(world, actor, kind),
         Kind::Store(kind) => effects::store(world, actor, kind),
         Kind::Tables(kind) => effects::tables(world, actor, kind),
-        Kind::Locks(kind) => effects::locks(world, actor, kind),
+        Kind::Locks(kind) => effects::locks(world, actor, &kind),
         Kind::Own(kind) => effects::own(world, actor, kind),
         Kind::Actors(_) => Ok(()),
     }
@@ -144,7 +144,7 @@ fn act(world: &mut World, by: usize, kind: Kind) -> Result<(), AllocError>
 {
     let ending = ending_of(world, &kind)?;
     let mut actor = take_actor(world, by);
-    actor.forget(&ending);
+    actor.forget(ending);
     effect(world, by, &mut actor, kind)?;
     put_actor(world, by, actor);
     Ok(())

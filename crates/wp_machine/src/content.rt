@@ -1,26 +1,27 @@
 ghost use Rattle.std.specs.Prelude.{◌≡◌};
 ghost use Rattle.wp_core.specs.Tables.{turn_of};
-ghost use Rattle.wp_core.specs.Changes.{turn_index};
-ghost use Rattle.wp_core.specs.Tables as content;
+ghost use Rattle.wp_core.specs.World.{content_of as content_in};
 ghost use Rattle.wp_actor.specs.Turns as turns;
 
 use crate::locks::LockTables;
 use crate::prepared::PreparedTables;
 use crate::snapshots::Snapshots;
 use crate::store::{Installed, StoreTable};
+use crate::world::World;
 use crate::writes::WriteTable;
 use std::marker::Model;
+use std::snapshot::Snapshot;
 use wp_actor::Turn;
 
-/// The table of one turn.
+/// The table of one turn. No step reads it, so it has no bytes.
 #[derive(Drop)]
 pub enum Guarded {
-    Writes(WriteTable),
-    Prepared(PreparedTables),
-    Snapshots(Snapshots),
-    Store(StoreTable),
-    Locks(LockTables),
-    Installed(Installed),
+    Writes(Snapshot<WriteTable>),
+    Prepared(Snapshot<PreparedTables>),
+    Snapshots(Snapshot<Snapshots>),
+    Store(Snapshot<StoreTable>),
+    Locks(Snapshot<LockTables>),
+    Installed(Snapshot<Installed>),
 }
 
 /// The table of one turn, as one that holds it left it.
@@ -58,52 +59,19 @@ impl Content {
         }
     }
 
-    pub fn writes(table: WriteTable) -> Content
-        ensures { result ≡ content.writes table }
+    /// The table of the turn, as the world has it now.
+    pub fn of(world: &World, turn: Turn) -> Content
+        ensures { result ≡ content_in world.now (turns.turn_of turn) }
     {
-        Content {
-            table: Guarded::Writes(table),
-        }
-    }
-
-    pub fn prepared(table: PreparedTables) -> Content
-        ensures { result ≡ content.prepared table }
-    {
-        Content {
-            table: Guarded::Prepared(table),
-        }
-    }
-
-    pub fn snapshots(table: Snapshots) -> Content
-        ensures { result ≡ content.snapshots table }
-    {
-        Content {
-            table: Guarded::Snapshots(table),
-        }
-    }
-
-    pub fn store(table: StoreTable) -> Content
-        ensures { result ≡ content.store table }
-    {
-        Content {
-            table: Guarded::Store(table),
-        }
-    }
-
-    pub fn locks(table: LockTables) -> Content
-        ensures { result ≡ content.locks table }
-    {
-        Content {
-            table: Guarded::Locks(table),
-        }
-    }
-
-    pub fn installed(table: Installed) -> Content
-        ensures { result ≡ content.installed table }
-    {
-        Content {
-            table: Guarded::Installed(table),
-        }
+        let table = match turn {
+            Turn::Write => Guarded::Writes(Snapshot::of(&world.writes)),
+            Turn::Prepared => Guarded::Prepared(Snapshot::of(&world.prepared)),
+            Turn::Snapshots => Guarded::Snapshots(Snapshot::of(&world.snapshots)),
+            Turn::Store => Guarded::Store(Snapshot::of(&world.store)),
+            Turn::Locks => Guarded::Locks(Snapshot::of(&world.locks)),
+            Turn::Tables => Guarded::Installed(Snapshot::of(&world.installed)),
+        };
+        Content { table }
     }
 }
 

@@ -10,8 +10,8 @@ fn due_after(due: u64, event: &Event) -> Result<u64, AllocError>
     ensures { IfOk result (λ more. more ≡ due_after due event.now) }
 {
     match &event.what {
-        Found::Installed(edit, true) => Ok(edit.tables),
-        Found::Installed(_, false) => due.checked_add(1).ok_or(AllocError),
+        Found::Compacted(_, tables) => Ok(*tables),
+        Found::Flushed(_) => due.checked_add(1).ok_or(AllocError),
         Found::Claimed(_)
         | Found::Took(_)
         | Found::Locked(_, _)

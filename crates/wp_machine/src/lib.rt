@@ -10,7 +10,8 @@
 //! `World::opened` is an opening on any legal history that ends in no undo, with all its versions in memory; its undecided
 //! prepares are delayed, their names had by nobody and their keys held.
 //!
-//! Sets and maps are lists whose newest item comes first, so that a table is copied as it is when an actor takes its turn.
+//! Sets and maps are lists whose newest item comes first. What no step reads is there for clauses alone, has no bytes and takes no
+//! memory (`Snapshot`): a table as its holder left it, what an actor did or found, the history that the world was opened on.
 //!
 //! Whether a step may be made is tested by `wp_machine_permits`.
 #![tactic(auto)]
@@ -26,6 +27,7 @@ mod effects;
 mod ending;
 mod left;
 mod locks;
+mod pairs;
 mod prepared;
 mod snapshots;
 mod step;

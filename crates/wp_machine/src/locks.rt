@@ -6,9 +6,9 @@ ghost use Rattle.wp_model.specs.Batch.{key_cmp};
 ghost use Rattle.wp_model.specs.declared.holder.Holder.TheVariants.{Txn};
 ghost use Rattle.wp_core.specs.Changes.{with_name, with_key, without_key, without_transaction, with_label, is_held_by, keys_of_holder};
 ghost use Rattle.wp_history.proofs.Opened.{names_of, keys_of};
-ghost use Rattle.wp_machine.specs.Pairs.{newest_under};
 
 use crate::left::{keys_left, names_left};
+use crate::pairs::newest_under;
 use std::alloc::{AllocError, Global};
 use std::marker::Model;
 use wp_ledger::History;
@@ -40,84 +40,6 @@ pub fn copy_client(client: &Option<Name>, alloc: Global) -> Result<Option<Name>,
         Some(client) => Ok(Some(client.copy(alloc)?)),
         None => Ok(None),
     }
-}
-
-fn copy_names(
-    names: &[(Name, Option<Name>)],
-    alloc: Global,
-) -> Result<Vec<(Name, Option<Name>)>, AllocError>
-    ensures { IfOk result (λ copy. copy.items ≡ names.now) }
-{
-    let mut copy = Vec::with_capacity(alloc, names.len())?;
-    for pair in names {
-        copy.push((pair.0.copy(alloc)?, copy_client(&pair.1, alloc)?))?;
-    }
-    Ok(copy)
-}
-
-fn copy_keys(keys: &[(Key, Holder)], alloc: Global) -> Result<Vec<(Key, Holder)>, AllocError>
-    ensures { IfOk result (λ copy. copy.items ≡ keys.now) }
-{
-    let mut copy = Vec::with_capacity(alloc, keys.len())?;
-    for pair in keys {
-        copy.push((pair.0.copy(alloc)?, pair.1.copy(alloc)?))?;
-    }
-    Ok(copy)
-}
-
-fn copy_labels(labels: &[(Name, Seq)], alloc: Global) -> Result<Vec<(Name, Seq)>, AllocError>
-    ensures { IfOk result (λ copy. copy.items ≡ labels.now) }
-{
-    let mut copy = Vec::with_capacity(alloc, labels.len())?;
-    for pair in labels {
-        copy.push((pair.0.copy(alloc)?, pair.1))?;
-    }
-    Ok(copy)
-}
-
-impl LockTables {
-    pub fn copy(&self, alloc: Global) -> Result<LockTables, AllocError>
-        ensures { IfOk result (λ copy. copy ≡ self.now) }
-    {
-        Ok(LockTables {
-            names: copy_names(&self.names, alloc)?,
-            keys: copy_keys(&self.keys, alloc)?,
-            labels: copy_labels(&self.labels, alloc)?,
-        })
-    }
-}
-
-fn name_under<'a>(names: &'a [(Name, Option<Name>)], name: &Name) -> Option<&'a Option<Name>>
-    ensures { option_copied result ≡ newest_under names.now name.now }
-{
-    for pair in names {
-        if &pair.0 == name {
-            return Some(&pair.1);
-        }
-    }
-    None
-}
-
-fn holder_under<'a>(keys: &'a [(Key, Holder)], key: &Key) -> Option<&'a Holder>
-    ensures { option_copied result ≡ newest_under keys.now key.now }
-{
-    for pair in keys {
-        if &pair.0 == key {
-            return Some(&pair.1);
-        }
-    }
-    None
-}
-
-fn number_under(labels: &[(Name, Seq)], label: &Name) -> Option<Seq>
-    ensures { result ≡ newest_under labels.now label.now }
-{
-    for pair in labels {
-        if &pair.0 == label {
-            return Some(pair.1);
-        }
-    }
-    None
 }
 
 fn take_name(names: &mut Vec<(Name, Option<Name>)>, name: &Name)
@@ -174,7 +96,7 @@ impl LockTables {
     pub fn name(&self, name: &Name) -> Option<&Option<Name>>
         ensures { option_copied result ≡ finite.get self.now.names name.now }
     {
-        name_under(&self.names, name)
+        newest_under(&self.names, name)
     }
 
     /// Whether the name is live, and no client has it.
@@ -191,7 +113,7 @@ impl LockTables {
     pub fn holder(&self, key: &Key) -> Option<&Holder>
         ensures { option_copied result ≡ finite.get self.now.keys key.now }
     {
-        holder_under(&self.keys, key)
+        newest_under(&self.keys, key)
     }
 
     /// The number that was told last under the label.
@@ -199,26 +121,34 @@ impl LockTables {
     pub fn told(&self, label: &Name) -> Option<Seq>
         ensures { result ≡ finite.get self.now.labels label.now }
     {
-        number_under(&self.labels, label)
+        newest_under(&self.labels, label).copied()
     }
 
-    pub fn put_name(&mut self, name: Name, client: Option<Name>) -> Result<(), AllocError>
-        ensures { OnOk result (self.new ≡ with_name self.old name client) }
+    pub fn put_name(
+        &mut self,
+        name: &Name,
+        client: Option<Name>,
+        alloc: Global,
+    ) -> Result<(), AllocError>
+        ensures { OnOk result (self.new ≡ with_name self.old name.now client) }
     {
+        let name = name.copy(alloc)?;
         self.names.insert(0, (name, client))?;
         Ok(())
     }
 
-    pub fn put_key(&mut self, key: Key, holder: Holder) -> Result<(), AllocError>
-        ensures { OnOk result (self.new ≡ with_key self.old key holder) }
+    pub fn put_key(&mut self, key: &Key, holder: Holder, alloc: Global) -> Result<(), AllocError>
+        ensures { OnOk result (self.new ≡ with_key self.old key.now holder) }
     {
+        let key = key.copy(alloc)?;
         self.keys.insert(0, (key, holder))?;
         Ok(())
     }
 
-    pub fn put_label(&mut self, label: Name, n: Seq) -> Result<(), AllocError>
-        ensures { OnOk result (self.new ≡ with_label self.old label n) }
+    pub fn put_label(&mut self, label: &Name, n: Seq, alloc: Global) -> Result<(), AllocError>
+        ensures { OnOk result (self.new ≡ with_label self.old label.now n) }
     {
+        let label = label.copy(alloc)?;
         self.labels.insert(0, (label, n))?;
         Ok(())
     }
@@ -255,11 +185,11 @@ impl LockTables {
     }
 
     /// The name goes, with each key that is held for it.
-    pub fn free_transaction(&mut self, name: Name, alloc: Global) -> Result<(), AllocError>
-        ensures { OnOk result (self.new ≡ without_transaction self.old name) }
+    pub fn free_transaction(&mut self, name: &Name, alloc: Global) -> Result<(), AllocError>
+        ensures { OnOk result (self.new ≡ without_transaction self.old name.now) }
     {
-        take_name(&mut self.names, &name);
-        self.keys = self.keys_but(&Holder::Txn(name), alloc)?;
+        take_name(&mut self.names, name);
+        self.keys = self.keys_but(&Holder::Txn(name.copy(alloc)?), alloc)?;
         Ok(())
     }
 }

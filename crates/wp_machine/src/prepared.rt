@@ -1,14 +1,13 @@
 ghost use Rattle.std.specs.Prelude.{◌≡◌, not, nat_le, IfOk, OnOk};
 ghost use Rattle.std.specs.Ordering.{nat_cmp};
 ghost use Rattle.wp_core.specs.Tables.{without_prepared, with_moved};
-ghost use Rattle.std.specs.Option.{option_copied};
 ghost use Rattle.std.specs.FinSet as set;
 ghost use Rattle.std.specs.FinMap as finite;
 ghost use Rattle.wp_core.specs.Changes.{found_in};
 ghost use Rattle.wp_model.specs.PreparedTables.{is_prepared};
 ghost use Rattle.wp_model.specs.History.{undecided};
-ghost use Rattle.wp_machine.specs.Pairs.{newest_of};
 
+use crate::pairs::newest_of;
 use std::alloc::{AllocError, Global};
 use std::marker::Model;
 use wp_judge::InPrepared;
@@ -36,34 +35,11 @@ impl Model for PreparedTables {
 }
 
 impl PreparedTables {
-    pub fn copy(&self, alloc: Global) -> Result<PreparedTables, AllocError>
-        ensures { IfOk result (λ copy. copy ≡ self.now) }
-    {
-        Ok(PreparedTables {
-            heap: Vec::from_slice(alloc, &self.heap)?,
-            delayed: Vec::from_slice(alloc, &self.delayed)?,
-            delayed_commits: Vec::from_slice(alloc, &self.delayed_commits)?,
-        })
-    }
-}
-
-fn newest_of(pairs: &[(Seq, Seq)], p: Seq) -> Option<Seq>
-    ensures { result ≡ newest_of pairs.now p }
-{
-    for pair in pairs {
-        if pair.0 == p {
-            return Some(pair.1);
-        }
-    }
-    None
-}
-
-impl PreparedTables {
     #[tactic(auto, using(crate::proofs::Maps::newest_is_got))]
     pub fn commit_of(&self, p: Seq) -> Option<Seq>
         ensures { result ≡ finite.get self.now.delayed_commits p }
     {
-        newest_of(&self.delayed_commits, p)
+        newest_of(&self.delayed_commits, p).copied()
     }
 
     #[tactic(auto, using(crate::proofs::Maps::contains_number))]

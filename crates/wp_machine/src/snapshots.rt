@@ -1,13 +1,13 @@
 ghost use Rattle.std.specs.Prelude.{◌≡◌, IfOk, OnOk, Some, ◌<◌};
 ghost use Rattle.std.specs.Option.{option_copied};
 ghost use Rattle.wp_machine.specs.Effect.{with_released_any};
-ghost use Rattle.wp_machine.specs.Pairs.{newest_of};
 ghost use Rattle.std.specs.FinMap as finite;
 ghost use Rattle.wp_model.specs.Snapshots.{is_old_commit, after_register, after_keep, after_release};
 ghost use Rattle.std.specs.FinSet as set;
 ghost use Rattle.wp_core.specs.Changes.{with_registered, with_old_commit, with_released};
 ghost use Rattle.std.specs.Ordering.{nat_cmp};
 
+use crate::pairs::newest_of;
 use std::alloc::{AllocError, Global};
 use std::marker::Model;
 use wp_model::Seq;
@@ -30,7 +30,7 @@ impl Model for Snapshot {
 }
 
 impl Snapshot {
-    pub fn copy(&self, alloc: Global) -> Result<Snapshot, AllocError>
+    fn copy(&self, alloc: Global) -> Result<Snapshot, AllocError>
         ensures { IfOk result (λ copy. copy ≡ self.now) }
     {
         Ok(Snapshot {
@@ -91,43 +91,12 @@ impl Model for Snapshots {
     ghost view = { λ s. map.from_entries s.live.items };
 }
 
-fn copy_pairs(pairs: &[(Seq, Snapshot)], alloc: Global) -> Result<Vec<(Seq, Snapshot)>, AllocError>
-    ensures { IfOk result (λ copy. copy.items ≡ pairs.now) }
-{
-    let mut copy = Vec::with_capacity(alloc, pairs.len())?;
-    for pair in pairs {
-        copy.push((pair.0, pair.1.copy(alloc)?))?;
-    }
-    Ok(copy)
-}
-
-impl Snapshots {
-    pub fn copy(&self, alloc: Global) -> Result<Snapshots, AllocError>
-        ensures { IfOk result (λ copy. copy ≡ self.now) }
-    {
-        Ok(Snapshots {
-            live: copy_pairs(&self.live, alloc)?,
-        })
-    }
-}
-
-fn find(pairs: &[(Seq, Snapshot)], s: Seq) -> Option<&Snapshot>
-    ensures { option_copied result ≡ newest_of pairs.now s }
-{
-    for pair in pairs {
-        if pair.0 == s {
-            return Some(&pair.1);
-        }
-    }
-    None
-}
-
 impl Snapshots {
     #[tactic(auto, using(crate::proofs::Maps::newest_is_got))]
     pub fn at(&self, s: Seq) -> Option<&Snapshot>
         ensures { option_copied result ≡ finite.get self.now s }
     {
-        find(&self.live, s)
+        newest_of(&self.live, s)
     }
 
     pub fn is_old_commit(&self, s: Seq, p: Seq) -> bool

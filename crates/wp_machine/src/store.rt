@@ -3,7 +3,6 @@ ghost use Rattle.wp_core.specs.Effects.{with_failed};
 ghost use Rattle.wp_core.proofs.Openings.{all_in_memory, no_table};
 ghost use Rattle.wp_machine.specs.Machine.{without_number};
 
-use crate::copies::copy_versions;
 use crate::versions::{all_versions, take_number};
 use std::alloc::{AllocError, Global};
 use std::marker::Model;
@@ -53,55 +52,6 @@ impl Model for Installed {
     ghost Value = { Installed };
 
     ghost view = { λ t. record { last = t.last; failed = t.failed; halted = t.halted } };
-}
-
-impl StoreTable {
-    pub fn copy(&self, alloc: Global) -> Result<StoreTable, AllocError>
-        ensures { IfOk result (λ copy. copy ≡ self.now) }
-    {
-        Ok(StoreTable {
-            memory: copy_versions(&self.memory, alloc)?,
-            tables: copy_versions(&self.tables, alloc)?,
-            floor: self.floor,
-        })
-    }
-}
-
-impl InstalledEdit {
-    pub fn copy(&self, alloc: Global) -> Result<InstalledEdit, AllocError>
-        ensures { IfOk result (λ copy. copy ≡ self.now) }
-    {
-        Ok(InstalledEdit {
-            segment: self.segment,
-            flushed: self.flushed,
-            versions: copy_versions(&self.versions, alloc)?,
-            tables: self.tables,
-        })
-    }
-}
-
-pub fn copy_edit(
-    edit: &Option<InstalledEdit>,
-    alloc: Global,
-) -> Result<Option<InstalledEdit>, AllocError>
-    ensures { IfOk result (λ copy. copy ≡ edit.now) }
-{
-    match edit {
-        Some(edit) => Ok(Some(edit.copy(alloc)?)),
-        None => Ok(None),
-    }
-}
-
-impl Installed {
-    pub fn copy(&self, alloc: Global) -> Result<Installed, AllocError>
-        ensures { IfOk result (λ copy. copy ≡ self.now) }
-    {
-        Ok(Installed {
-            last: self.last.copy(alloc)?,
-            failed: copy_edit(&self.failed, alloc)?,
-            halted: self.halted,
-        })
-    }
 }
 
 impl Installed {

@@ -2,6 +2,7 @@ ghost use Rattle.std.specs.Prelude.{◌≡◌};
 
 use crate::store::InstalledEdit;
 use std::marker::Model;
+use std::snapshot::Snapshot;
 use wp_actor::Turn;
 use wp_model::{Batch, Entry, Holder, Key, Name, Seq, Version};
 
@@ -14,31 +15,33 @@ pub enum Account {
     PrepareAt(Seq),
 }
 
-/// What an actor did or found.
+/// What an actor did or found. Of what stays in a past a step reads how many tables an edit has, so the rest has no bytes.
 #[derive(Drop)]
 pub enum Found {
-    Claimed(Name),
-    Took(Name),
-    Locked(Key, Holder),
-    Told(Name, Seq),
-    Heard(Name, Seq),
-    /// This edit; true where a compaction made it.
-    Installed(InstalledEdit, bool),
+    Claimed(Snapshot<Name>),
+    Took(Snapshot<Name>),
+    Locked(Snapshot<Key>, Snapshot<Holder>),
+    Told(Snapshot<Name>, Seq),
+    Heard(Snapshot<Name>, Seq),
+    /// An edit that a flush made.
+    Flushed(Snapshot<InstalledEdit>),
+    /// An edit that a compaction made, with so many tables.
+    Compacted(Snapshot<InstalledEdit>, u64),
     /// This edit, which names another segment of the log.
-    Renewed(InstalledEdit),
+    Renewed(Snapshot<InstalledEdit>),
     /// The append of this record failed, or the write of a segment, which has no record.
-    LogFailed(Vec<Entry>),
+    LogFailed(Snapshot<Vec<Entry>>),
     /// The log was closed behind a failure of the tables' devices.
     LogStopped,
     /// The devices failed, where the first was the last edit, in the install of the second, if of one.
-    TablesFailed(InstalledEdit, Option<InstalledEdit>),
+    TablesFailed(Snapshot<InstalledEdit>, Snapshot<Option<InstalledEdit>>),
     /// The log was found closed at this published number.
     Stopped(Seq),
-    /// The last edit, with this flushed number, this base of the log and so many tables, by one who knew of so many; true where the
-    /// devices had failed.
+    /// The last edit, with this flushed number, this base of the log and so many tables, by one who knew of so many; true
+    /// where the devices had failed.
     Edit(Seq, Seq, u64, u64, bool),
     /// This holder, of a key or else of a live name, by one who had seen so many entries.
-    Holder(Option<Key>, Holder, Seq, Account),
+    Holder(Snapshot<Option<Key>>, Snapshot<Holder>, Seq, Account),
 }
 
 /// What stays in an actor's past.

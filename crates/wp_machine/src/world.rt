@@ -20,13 +20,15 @@ use crate::turn::Holders;
 use crate::writes::WriteTable;
 use std::alloc::{AllocError, Global};
 use std::marker::Model;
+use std::snapshot::Snapshot;
 use wp_ledger::History;
 use wp_model::{Entry, Name, Seq};
 
 /// The words, the turns, the tables that they guard, and the actors.
 pub struct World {
     pub alloc: Global,
-    pub opened: Vec<Entry>,
+    /// The history that the world was opened on. No step reads it.
+    pub opened: Snapshot<Vec<Entry>>,
     pub max_evicted: Seq,
     pub delayed_flag: u64,
     pub old_flag: u64,
@@ -54,21 +56,12 @@ impl Model for World {
 
     ghost coded = { Prim.hlevel (codes, prepared_tables_code, snapshots_code, lock_tables_code, transactions_code) };
 
-    ghost view = { λ w. record { opened = w.opened.items; max_evicted = w.max_evicted; delayed_flag = w.delayed_flag; old_flag = w.old_flag; cache = w.cache; holders = w.holders; writes = w.writes; prepared = w.prepared; snapshots = w.snapshots; store = w.store; locks = w.locks; installed = w.installed; first_edit = w.first_edit; actors = w.actors.items } };
+    ghost view = { λ w. record { opened = w.opened.value.items; max_evicted = w.max_evicted; delayed_flag = w.delayed_flag; old_flag = w.old_flag; cache = w.cache; holders = w.holders; writes = w.writes; prepared = w.prepared; snapshots = w.snapshots; store = w.store; locks = w.locks; installed = w.installed; first_edit = w.first_edit; actors = w.actors.items } };
 }
 
 impl World {
-    /// An opening on the empty history: one client, and a commit cache of one word.
-    pub fn new(alloc: Global, client: Name) -> Result<World, AllocError>
-        ensures opening { IfOk result IsOpening }
-        ensures history { IfOk result (λ world. world.opened ≡ []) }
-        ensures cache { IfOk result (λ world. world.cache ≡ 0 ∷ []) }
-        ensures seat { IfOk result (λ world. world.actors ≡ new_actor true client [] ∷ []) }
-    {
-        World::opened(alloc, client, &History::new(alloc), 0)
-    }
-
-    /// An opening on the history, which has no base: one client, a commit cache of so many bits with empty words, and all versions in memory.
+    /// An opening on the history, which has no base: one client, a commit cache of so many bits with empty words, and all
+    /// versions in memory.
     pub fn opened(
         alloc: Global,
         client: Name,
@@ -94,9 +87,9 @@ impl World {
         ensures legal { IsLegal history.now.entries }
     {
         let entries = history.later();
-        let opened = copy_entries(entries, alloc)?;
         let cache = Cache::empty(bits, alloc)?;
         let (writes, store) = stored(entries, alloc)?;
+        let opened = Snapshot::of(&writes.history);
         let (prepared, locks) = left_undecided(history, alloc)?;
         let actors = first_seat(alloc, client, entries)?;
         Ok(World {
@@ -131,7 +124,7 @@ fn first_seat(alloc: Global, client: Name, entries: &[Entry]) -> Result<Vec<Acto
 
 /// The history as it is logged and published, and its versions, all in memory.
 fn stored(entries: &[Entry], alloc: Global) -> Result<(WriteTable, StoreTable), AllocError>
-    ensures writes { IfOk result (λ t. t.0 ≡ record { history = entries.now; pending = []; logged = false; log = entries.now; closed = false; failed = []; segment = first_segment; next = None }) }
+    ensures writes { IfOk result (λ t. t.0 ≡ record { history = entries.now; pending = []; logged = false; log = entries.now; closed = false; stopped = false; failed = []; segment = first_segment; next = None }) }
     ensures store { IfOk result (λ t. t.1 ≡ all_in_memory entries.now) }
 {
     let writes = WriteTable::of(entries, alloc)?;

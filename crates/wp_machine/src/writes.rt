@@ -10,6 +10,7 @@ ghost use Rattle.wp_machine.specs.Machine.{with_next};
 use crate::copies::copy_entries;
 use std::alloc::{AllocError, Global};
 use std::marker::Model;
+use std::snapshot::Snapshot;
 use wp_model::{Batch, Entry, Segment, Seq};
 
 /// The history and its log, with the segment that this is in, and the one that was written beside it, if one was. What is pending is
@@ -20,7 +21,10 @@ pub struct WriteTable {
     pub logged: bool,
     pub log: Vec<Entry>,
     pub closed: bool,
-    pub failed: Vec<Entry>,
+    /// It was closed for the devices of the tables alone.
+    pub stopped: bool,
+    /// The record whose append failed. No step reads it.
+    pub failed: Snapshot<Vec<Entry>>,
     pub segment: Segment,
     pub next: Option<Segment>,
 }
@@ -30,24 +34,7 @@ impl Model for WriteTable {
 
     ghost Value = { WriteTable };
 
-    ghost view = { λ t. record { history = t.history.items; pending = t.pending.items; logged = t.logged; log = t.log.items; closed = t.closed; failed = t.failed.items; segment = t.segment; next = t.next } };
-}
-
-impl WriteTable {
-    pub fn copy(&self, alloc: Global) -> Result<WriteTable, AllocError>
-        ensures { IfOk result (λ copy. copy ≡ self.now) }
-    {
-        Ok(WriteTable {
-            history: copy_entries(&self.history, alloc)?,
-            pending: copy_entries(&self.pending, alloc)?,
-            logged: self.logged,
-            log: copy_entries(&self.log, alloc)?,
-            closed: self.closed,
-            failed: copy_entries(&self.failed, alloc)?,
-            segment: self.segment,
-            next: self.next,
-        })
-    }
+    ghost view = { λ t. record { history = t.history.items; pending = t.pending.items; logged = t.logged; log = t.log.items; closed = t.closed; stopped = t.stopped; failed = t.failed.value.items; segment = t.segment; next = t.next } };
 }
 
 /// The version that the entry with that number decides, and that number.
@@ -132,12 +119,11 @@ impl WriteTable {
         self.next = None;
     }
 
-    pub fn close_log(&mut self, alloc: Global) -> Result<(), AllocError>
-        ensures { OnOk result (self.new ≡ record self.old { closed = true; failed = self.old.pending }) }
+    pub fn close_log(&mut self)
+        ensures { self.new ≡ record self.old { closed = true; failed = self.old.pending } }
     {
-        self.failed = copy_entries(&self.pending, alloc)?;
+        self.failed = Snapshot::of(&self.pending);
         self.closed = true;
-        Ok(())
     }
 }
 
@@ -170,15 +156,17 @@ impl WriteTable {
 impl WriteTable {
     /// Nothing is pending, and the log spells these entries, in the segment that begins its device.
     pub fn of(entries: &[Entry], alloc: Global) -> Result<WriteTable, AllocError>
-        ensures { IfOk result (λ t. t ≡ record { history = entries.now; pending = []; logged = false; log = entries.now; closed = false; failed = []; segment = first_segment; next = None }) }
+        ensures { IfOk result (λ t. t ≡ record { history = entries.now; pending = []; logged = false; log = entries.now; closed = false; stopped = false; failed = []; segment = first_segment; next = None }) }
     {
+        let none = Vec::new(alloc);
         Ok(WriteTable {
             history: copy_entries(entries, alloc)?,
             pending: Vec::new(alloc),
             logged: false,
             log: copy_entries(entries, alloc)?,
             closed: false,
-            failed: Vec::new(alloc),
+            stopped: false,
+            failed: Snapshot::of(&none),
             segment: Segment { place: 0, base: 0 },
             next: None,
         })
@@ -194,6 +182,7 @@ impl Drop for WriteTable {
             logged: _logged,
             log: _log,
             closed: _closed,
+            stopped: _stopped,
             failed: _failed,
             segment: _segment,
             next: _next,

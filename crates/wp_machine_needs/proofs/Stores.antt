@@ -45,12 +45,12 @@ any_tied : (xs : List ℕ) (n : ℕ) → list_any (eq_by_cmp nat_cmp n) xs ≡ i
 any_tied [] n = refl
 any_tied (x ∷ xs) n = ap (λ b. b || list_any (eq_by_cmp nat_cmp n) xs) (tied_number x n) ∙ ap (λ b. nat_eq x n || b) (any_tied xs n)
 
-pub covered_live : (m : Snapshots) (versions : List Version) (history : List Entry) (numbers : List ℕ) (from : ℕ) → ((n : ℕ) → is_among numbers n ≡ is_some (finite.get m n)) → IsCovered versions history numbers from → IsCovered versions history (live_numbers m) from
-covered_live m versions history numbers from are c = record {
+pub covered_live : (base : ℕ) (m : Snapshots) (versions : List Version) (history : List Entry) (numbers : List ℕ) (from : ℕ) → ((n : ℕ) → is_among numbers n ≡ (nat_eq base n || is_some (finite.get m n))) → IsCovered versions history numbers from → IsCovered versions history (base ∷ live_numbers m) from
+covered_live base m versions history numbers from are c = record {
   part = c.part;
   undecided = c.undecided;
   undone = c.undone;
-  listed = λ key n among. c.listed key n (are n ∙ finite.contains_key-keys m n ∙ any_tied (live_numbers m) n ∙ among);
+  listed = λ key n among. c.listed key n (are n ∙ ap (λ b. nat_eq base n || b) (finite.contains_key-keys m n ∙ any_tied (live_numbers m) n) ∙ among);
   later = c.later;
 }
 

@@ -1,5 +1,5 @@
 //! Whether versions are an edit's, or cover a history.
-ghost use Rattle.std.specs.Prelude.{◌≡◌, ◌↔◌, ◌++◌, Some, true, length, IfOk};
+ghost use Rattle.std.specs.Prelude.{◌≡◌, ◌↔◌, ◌∷◌, ◌++◌, Some, true, length, IfOk};
 ghost use Rattle.std.specs.Option.{option_copied};
 ghost use Rattle.wp_model.specs.Covered.{IsCovered};
 ghost use Rattle.wp_core.specs.Sound.Store.{IsOfEdit};
@@ -106,9 +106,10 @@ pub(crate) fn is_any_covered(
     }
 }
 
-/// Whether the versions in memory and in tables cover the history, at each live number and from the floor on.
+/// Whether the versions in memory and in tables cover the history, at the base, at each live number and from the floor on.
 pub(crate) fn is_store_covered(
     history: &History,
+    base: Seq,
     snapshots: &Snapshots,
     memory: &[Version],
     tables: &[Version],
@@ -117,11 +118,12 @@ pub(crate) fn is_store_covered(
 ) -> Result<bool, AllocError>
     requires { history.now.base ≡ 0 }
     ensures { IfOk result (λ yes. yes ≡ true
-        → IsCovered (up_to (length history.now.entries) (memory.now ++ tables.now)) history.now.entries (live_numbers snapshots.now) floor) }
+        → IsCovered (up_to (length history.now.entries) (memory.now ++ tables.now)) history.now.entries (base ∷ live_numbers snapshots.now) floor) }
 {
     let all = joined(memory, tables, alloc)?;
     let some = up_to(history.published(), &all, alloc)?;
-    let live = numbers(snapshots, alloc)?;
+    let mut live = numbers(snapshots, alloc)?;
+    live.insert(0, base)?;
     let yes = are_covered(history, &some, &live, floor, alloc)?;
     Ok(yes)
 }

@@ -18,6 +18,13 @@ use std::alloc::AllocError;
 use wp_machine::{InstalledEdit, Turn, World};
 use wp_model::{Seq, Version};
 
+/// The base at which the log was opened.
+fn opened_base(world: &World) -> Seq
+    ensures { result ≡ world.now.first_edit.segment.base }
+{
+    world.first_edit.segment.base
+}
+
 /// Whether a store of this memory and these tables, with these edits, would be as it should be.
 fn keeps_store(
     world: &World,
@@ -38,6 +45,7 @@ fn keeps_store(
     let yes = is_stored(
         &history,
         pending,
+        opened_base(world),
         &world.snapshots,
         memory,
         tables,

@@ -156,6 +156,7 @@ fn are_edits(
 pub(crate) fn is_stored(
     history: &History,
     pending: &[Entry],
+    base: Seq,
     snapshots: &Snapshots,
     memory: &[Version],
     tables: &[Version],
@@ -166,9 +167,12 @@ pub(crate) fn is_stored(
 ) -> Result<bool, AllocError>
     requires { history.now.base ≡ 0 }
     ensures { IfOk result (λ yes. (halted : Bool) → yes ≡ true
-        → IsStored history.now.entries pending.now snapshots.now (record { memory = memory.now; tables = tables.now; floor = floor })
+        → IsStored history.now.entries pending.now base snapshots.now (record { memory = memory.now; tables = tables.now; floor = floor })
         (record { last = last.now; failed = option_copied failed.entry; halted = halted })) }
 {
+    if base > last.flushed {
+        return Ok(false);
+    }
     if floor > history.published() {
         return Ok(false);
     }
@@ -178,6 +182,6 @@ pub(crate) fn is_stored(
     if !are_edits(history, last, failed, alloc)? {
         return Ok(false);
     }
-    let yes = is_store_covered(history, snapshots, memory, tables, floor, alloc)?;
+    let yes = is_store_covered(history, base, snapshots, memory, tables, floor, alloc)?;
     Ok(yes)
 }

@@ -271,9 +271,10 @@ none_among n e = true≢false (sym e ∙ (among_live no_snapshots n ∙ ap (λ (
 none_above : {P : Type 0} (key : List ℕ) (p : ℕ) (value : Option (List ℕ)) → 2 < p → entry_version committed p key ≡ Some value → P
 none_above key p value above e = let low = version_within committed p key value e in absurd (omega (arith, low, above))
 
-edit_installed : IsStored committed [] no_snapshots (record { memory = memory; tables = []; floor = 0 }) (record { last = edit; failed = None; halted = false })
+edit_installed : IsStored committed [] 0 no_snapshots (record { memory = memory; tables = []; floor = 0 }) (record { last = edit; failed = None; halted = false })
 edit_installed = record {
-  covered = covered (live_numbers no_snapshots) 0 none_among;
+  covered = zero_covered memory committed (live_numbers no_snapshots) 0 (covered (live_numbers no_snapshots) 0 none_among);
+  based = omega arith;
   floor = omega arith;
   next = λ key p value above e. none_above key p value above (sym (all.at key p) ∙ e);
   tables = λ key p value e. absurd (some_none value (sym e));
@@ -282,9 +283,10 @@ edit_installed = record {
   in_memory = λ key p value above e. none_above key p value above e;
 }
 
-versions_moved : IsStored committed [] no_snapshots (record { memory = []; tables = memory; floor = 0 }) (record { last = edit; failed = None; halted = false })
+versions_moved : IsStored committed [] 0 no_snapshots (record { memory = []; tables = memory; floor = 0 }) (record { last = edit; failed = None; halted = false })
 versions_moved = record {
-  covered = covered (live_numbers no_snapshots) 0 none_among;
+  covered = zero_covered memory committed (live_numbers no_snapshots) 0 (covered (live_numbers no_snapshots) 0 none_among);
+  based = omega arith;
   floor = omega arith;
   next = λ key p value above e. absurd (some_none value (sym e));
   tables = λ key p value e. sym (all.at key p) ∙ e;

@@ -1,66 +1,11 @@
-//! Plays the machine as code, step by step: `wp_machine_permits` has to permit a step, and `wp_machine` makes it. What is played is
-//! text in files, which are named on the command line. Of a case that comes out otherwise the first such line is told on standard
-//! error; what is printed counts the cases.
+//! Plays steps of the machine, as the files say that are named on the command line. The status is 0 where all come out as they say.
 #![tactic(auto)]
 
-mod case;
-mod entry;
-mod group;
-mod line;
-mod play;
-mod so;
-mod step;
-mod trouble;
-
-use line::Player;
-use std::env::{self, Env};
+use std::io;
 use std::process::ExitCode;
-use std::rt::Files;
-use std::{fs, io};
-
-/// Plays the lines of one file.
-fn play_lines<R: AllocGlobal + Eprint>(
-    rt: &R,
-    (file, text): (&str, &str),
-    player: &mut Player,
-) -> io::Result<()> {
-    for (place, line) in text.lines().enumerate() {
-        if let Err(trouble) = player.play(rt.alloc(), line) {
-            player.fail();
-            eprintln!(rt;
-                "{file}, line {}: {}",
-                place.saturating_add(1),
-                trouble.why()
-            )?;
-        }
-    }
-    Ok(())
-}
-
-/// Plays one file.
-fn play_file<R: AllocGlobal + Files + Eprint>(
-    rt: &R,
-    file: &str,
-    player: &mut Player,
-) -> io::Result<()> {
-    let text = fs::read_to_string(rt, file)?;
-    play_lines(rt, (file, &text), player)
-}
-
-/// Plays all files that are named on the command line.
-fn play_files<R: AllocGlobal + Env + Files + Eprint>(
-    rt: &R,
-    player: &mut Player,
-) -> io::Result<()> {
-    for file in env::args(rt)?.skip(1) {
-        play_file(rt, &file, player)?;
-    }
-    Ok(())
-}
+use wp_machine_player::play_files;
 
 fn main(rt: HostRuntime) -> io::Result<ExitCode> {
-    let mut player = Player::new(rt.alloc());
-    play_files(&rt, &mut player)?;
-    println!(rt; "cases {} failed {}", player.cases, player.failed)?;
-    Ok(ExitCode::from(u8::from(player.failed != 0)))
+    let is_right = play_files(&rt)?;
+    Ok(ExitCode::from(u8::from(!is_right)))
 }

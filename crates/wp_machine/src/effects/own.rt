@@ -25,7 +25,7 @@ fn set_batch(
         return Ok(());
     };
     let changed = transaction.with_batch(batch, world.alloc)?;
-    actor.put_transaction(name, changed)
+    actor.put_transaction(&name, changed, world.alloc)
 }
 
 fn note(world: &mut World, actor: &mut Actor, fact: Fact) -> Result<(), AllocError>

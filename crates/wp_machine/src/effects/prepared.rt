@@ -28,5 +28,6 @@ pub(crate) fn prepared(
         }
         PreparedStep::TakeOut(p) => world.prepared.take_out(p),
     }
-    hold(world, actor, Turn::Prepared)
+    hold(world, actor, Turn::Prepared);
+    Ok(())
 }

@@ -30,7 +30,8 @@ fn register(world: &mut World, actor: &mut Actor, smallest: Seq) -> Result<(), A
     actor.see(&world.writes.history, alloc)?;
     actor.register(Registration { number, smallest })?;
     world.snapshots.register(number, alloc)?;
-    hold(world, actor, Turn::Snapshots)
+    hold(world, actor, Turn::Snapshots);
+    Ok(())
 }
 
 fn reading(bits: u32, version: Seq, snapshot: Registration) -> Observed

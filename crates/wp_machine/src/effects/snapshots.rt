@@ -22,7 +22,8 @@ fn register_again(world: &mut World, actor: &mut Actor, number: Seq) -> Result<(
         smallest: 1,
     })?;
     world.snapshots.register(number, alloc)?;
-    hold(world, actor, Turn::Snapshots)
+    hold(world, actor, Turn::Snapshots);
+    Ok(())
 }
 
 fn release(world: &mut World, actor: &mut Actor, place: usize) -> Result<(), AllocError>
@@ -32,7 +33,8 @@ fn release(world: &mut World, actor: &mut Actor, place: usize) -> Result<(), All
     let alloc = world.alloc;
     let number = actor.release(place);
     world.snapshots.release_any(number, alloc)?;
-    hold(world, actor, Turn::Snapshots)
+    hold(world, actor, Turn::Snapshots);
+    Ok(())
 }
 
 fn add_old_commit(world: &mut World, actor: &mut Actor, s: Seq, p: Seq) -> Result<(), AllocError>
@@ -40,7 +42,8 @@ fn add_old_commit(world: &mut World, actor: &mut Actor, s: Seq, p: Seq) -> Resul
 {
     let alloc = world.alloc;
     world.snapshots.keep(s, p, alloc)?;
-    hold(world, actor, Turn::Snapshots)
+    hold(world, actor, Turn::Snapshots);
+    Ok(())
 }
 
 pub(crate) fn snapshots(

@@ -19,7 +19,8 @@ fn add_versions(world: &mut World, actor: &mut Actor) -> Result<(), AllocError>
     let next = world.writes.next_number()?;
     let versions = versions_of_next(next, &world.writes.pending, world.alloc)?;
     world.store.add_next(versions, next)?;
-    hold(world, actor, Turn::Store)
+    hold(world, actor, Turn::Store);
+    Ok(())
 }
 
 fn take_versions(world: &mut World, actor: &mut Actor) -> Result<(), AllocError>
@@ -28,33 +29,24 @@ fn take_versions(world: &mut World, actor: &mut Actor) -> Result<(), AllocError>
 {
     let next = world.writes.next_number()?;
     world.store.take_number(next);
-    hold(world, actor, Turn::Store)
+    hold(world, actor, Turn::Store);
+    Ok(())
 }
 
-fn move_versions(
-    world: &mut World,
-    actor: &mut Actor,
-    memory: Vec<Version>,
-    moved: Vec<Version>,
-) -> Result<(), AllocError>
-    ensures { OnOk result ((by : ℕ) → IsEffect by world.old actor.old (step.move_versions memory.items moved.items) world.new actor.new) }
+fn move_versions(world: &mut World, actor: &mut Actor, memory: Vec<Version>, moved: Vec<Version>)
+    ensures { (by : ℕ) → IsEffect by world.old actor.old (step.move_versions memory.items moved.items) world.new actor.new }
 {
     world.store.memory = memory;
     world.store.tables = moved;
-    hold(world, actor, Turn::Store)
+    hold(world, actor, Turn::Store);
 }
 
-fn replace_versions(
-    world: &mut World,
-    actor: &mut Actor,
-    replaced: Vec<Version>,
-    floor: Seq,
-) -> Result<(), AllocError>
-    ensures { OnOk result ((by : ℕ) → IsEffect by world.old actor.old (step.replace_versions replaced.items floor) world.new actor.new) }
+fn replace_versions(world: &mut World, actor: &mut Actor, replaced: Vec<Version>, floor: Seq)
+    ensures { (by : ℕ) → IsEffect by world.old actor.old (step.replace_versions replaced.items floor) world.new actor.new }
 {
     world.store.tables = replaced;
     world.store.floor = floor;
-    hold(world, actor, Turn::Store)
+    hold(world, actor, Turn::Store);
 }
 
 pub(crate) fn store(world: &mut World, actor: &mut Actor, kind: StoreStep) -> Result<(), AllocError>
@@ -64,9 +56,13 @@ pub(crate) fn store(world: &mut World, actor: &mut Actor, kind: StoreStep) -> Re
     match kind {
         StoreStep::AddVersions => add_versions(world, actor),
         StoreStep::TakeVersions => take_versions(world, actor),
-        StoreStep::MoveVersions(memory, moved) => move_versions(world, actor, memory, moved),
+        StoreStep::MoveVersions(memory, moved) => {
+            move_versions(world, actor, memory, moved);
+            Ok(())
+        }
         StoreStep::ReplaceVersions(replaced, floor) => {
-            replace_versions(world, actor, replaced, floor)
+            replace_versions(world, actor, replaced, floor);
+            Ok(())
         }
     }
 }

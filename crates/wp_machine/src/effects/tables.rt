@@ -1,6 +1,7 @@
 //! What the steps with the tables turn make of a world.
 ghost use Rattle.std.specs.Prelude.{◌≡◌, ℕ, OnOk, Some};
 ghost use Rattle.wp_core.specs.Steps as step;
+ghost use Rattle.wp_core.specs.Views.{installed};
 ghost use Rattle.wp_machine.specs.Machine.{tables_step};
 ghost use Rattle.wp_machine.specs.Effect.{IsEffect};
 
@@ -8,11 +9,22 @@ use crate::actor::Actor;
 use crate::due::tables_due;
 use crate::effects::turn::hold;
 use crate::step::TablesStep;
-use crate::store::{InstalledEdit, copy_edit};
+use crate::store::InstalledEdit;
 use crate::views::{Event, Found};
 use crate::world::World;
 use std::alloc::AllocError;
+use std::snapshot::Snapshot;
 use wp_actor::Turn;
+
+fn installed(edit: &InstalledEdit, compacts: bool) -> Event
+    ensures { result ≡ installed edit.now compacts }
+{
+    let snapshot = Snapshot::of(edit);
+    if compacts {
+        return Event::of(Found::Compacted(snapshot, edit.tables));
+    }
+    Event::of(Found::Flushed(snapshot))
+}
 
 fn install(
     world: &mut World,
@@ -22,30 +34,30 @@ fn install(
 ) -> Result<(), AllocError>
     ensures { OnOk result ((by : ℕ) → IsEffect by world.old actor.old (step.install edit compacts) world.new actor.new) }
 {
-    let installed = edit.copy(world.alloc)?;
-    actor.remember(Event::of(Found::Installed(installed, compacts)))?;
+    actor.remember(installed(&edit, compacts))?;
     world.installed.last = edit;
-    hold(world, actor, Turn::Tables)
+    hold(world, actor, Turn::Tables);
+    Ok(())
 }
 
 fn renew(world: &mut World, actor: &mut Actor, edit: InstalledEdit) -> Result<(), AllocError>
     ensures { OnOk result ((by : ℕ) → IsEffect by world.old actor.old (step.renew edit) world.new actor.new) }
 {
-    let renewed = edit.copy(world.alloc)?;
-    actor.remember(Event::of(Found::Renewed(renewed)))?;
+    actor.remember(Event::of(Found::Renewed(Snapshot::of(&edit))))?;
     world.installed.last = edit;
-    hold(world, actor, Turn::Tables)
+    hold(world, actor, Turn::Tables);
+    Ok(())
 }
 
 fn halt(world: &mut World, actor: &mut Actor, edit: Option<InstalledEdit>) -> Result<(), AllocError>
     ensures { OnOk result ((by : ℕ) → IsEffect by world.old actor.old (step.halt edit) world.new actor.new) }
 {
-    let alloc = world.alloc;
-    let last = world.installed.last.copy(alloc)?;
-    let failed = copy_edit(&edit, alloc)?;
+    let last = Snapshot::of(&world.installed.last);
+    let failed = Snapshot::of(&edit);
     actor.remember(Event::of(Found::TablesFailed(last, failed)))?;
     world.installed.halt(edit);
-    hold(world, actor, Turn::Tables)
+    hold(world, actor, Turn::Tables);
+    Ok(())
 }
 
 fn find_edit(world: &mut World, actor: &mut Actor) -> Result<(), AllocError>

@@ -1,5 +1,5 @@
 //! What it makes of a world to take a turn or to give it.
-ghost use Rattle.std.specs.Prelude.{◌≡◌, IfOk, OnOk, Some};
+ghost use Rattle.std.specs.Prelude.{◌≡◌, OnOk, Some};
 ghost use Rattle.wp_core.specs.World.{content_of};
 ghost use Rattle.wp_core.specs.Changes.{held_with};
 ghost use Rattle.wp_core.specs.Steps as step;
@@ -14,27 +14,11 @@ use crate::world::World;
 use std::alloc::AllocError;
 use wp_actor::Turn;
 
-/// The table that the turn guards.
-fn content_of(world: &World, turn: Turn) -> Result<Content, AllocError>
-    ensures { IfOk result (λ content. content ≡ content_of world.now (turn_of turn)) }
-{
-    let alloc = world.alloc;
-    Ok(match turn {
-        Turn::Write => Content::writes(world.writes.copy(alloc)?),
-        Turn::Prepared => Content::prepared(world.prepared.copy(alloc)?),
-        Turn::Snapshots => Content::snapshots(world.snapshots.copy(alloc)?),
-        Turn::Store => Content::store(world.store.copy(alloc)?),
-        Turn::Locks => Content::locks(world.locks.copy(alloc)?),
-        Turn::Tables => Content::installed(world.installed.copy(alloc)?),
-    })
-}
-
 /// The actor has the table as the world has it now, if it holds that turn.
-pub(super) fn hold(world: &World, actor: &mut Actor, turn: Turn) -> Result<(), AllocError>
-    ensures { OnOk result (actor.new ≡ record actor.old { held = held_with actor.old.held (content_of world.now (turn_of turn)) }) }
+pub(super) fn hold(world: &World, actor: &mut Actor, turn: Turn)
+    ensures { actor.new ≡ record actor.old { held = held_with actor.old.held (content_of world.now (turn_of turn)) } }
 {
-    actor.hold(content_of(world, turn)?);
-    Ok(())
+    actor.hold(Content::of(world, turn));
 }
 
 pub(crate) fn turn(
@@ -48,7 +32,7 @@ pub(crate) fn turn(
 {
     match kind {
         TurnStep::Take(turn) => {
-            actor.take(content_of(world, turn)?)?;
+            actor.take(Content::of(world, turn))?;
             world.holders.set(turn, Some(by));
         }
         TurnStep::Give(turn) => {

@@ -21,7 +21,8 @@ fn store_published(world: &mut World, actor: &mut Actor) -> Result<(), AllocErro
     let alloc = world.alloc;
     world.writes.publish()?;
     actor.publish(&world.writes.history, alloc)?;
-    hold(world, actor, Turn::Write)
+    hold(world, actor, Turn::Write);
+    Ok(())
 }
 
 fn store_max_evicted(world: &mut World, actor: &mut Actor, m: Seq) -> Result<(), AllocError>
@@ -29,7 +30,8 @@ fn store_max_evicted(world: &mut World, actor: &mut Actor, m: Seq) -> Result<(),
 {
     world.max_evicted = m;
     world.prepared.move_up_to(m)?;
-    hold(world, actor, Turn::Prepared)
+    hold(world, actor, Turn::Prepared);
+    Ok(())
 }
 
 fn store_word(world: &mut World) -> Result<(), AllocError>

@@ -14,3 +14,6 @@ returns-in-Prepared c s i e = at_by c.prepared.result _ c.args.by (c.prepared.en
 
 pub returns-in-Snapshots : goal.returns-in-Snapshots
 returns-in-Snapshots c s i e = at_by c.snapshots.result _ c.args.by (c.snapshots.ensures s (ap (λ k. step_of c.args.world.now c.args.actor.now.participant k) (sym c.in-Snapshots.is) ∙ e))
+
+pub returns-in-Locks : goal.returns-in-Locks
+returns-in-Locks c s i e = at_by c.locks.result _ c.args.by (c.locks.ensures s (ap (λ k. step_of c.args.world.now c.args.actor.now.participant k) (sym c.in-Locks.is) ∙ e))

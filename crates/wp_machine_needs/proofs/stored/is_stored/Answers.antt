@@ -9,6 +9,7 @@ returns c =
     let edits = c.in_ok-are_edits.ensures c.if-not-branch.false in
     λ halted e. record {
       covered = c.in_ok-yes.ensures e;
+      based = omega (arith, flushed);
       floor = omega (arith, c.published.ensures.value);
       next = versions.0;
       tables = versions.1;

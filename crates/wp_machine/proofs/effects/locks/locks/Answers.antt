@@ -1,4 +1,4 @@
-use Rattle.std.proofs.Common.{ap, sym, ◌∙◌}
+use Rattle.std.proofs.Common.{ap, sym, ◌∙◌, Ok}
 use Rattle.wp_core.specs.Steps as step
 use Rattle.wp_machine.specs.Parts.{account_of}
 use Rattle.wp_machine.specs.Machine.{locks_step}
@@ -33,7 +33,7 @@ returns-in-LockDirect c s e =
 
 pub returns-in-FreeDirect : goal.returns-in-FreeDirect
 returns-in-FreeDirect c s e =
-    same_effect c.free_direct.result c.args.world.now c.free_direct.new.world c.args.actor.now c.free_direct.new.actor (step.free_direct c.in-FreeDirect.key) s (ap (locks_step c.args.world.now c.args.actor.now.participant) (sym c.in-FreeDirect.is) ∙ e) c.free_direct.ensures
+    same_effect (Ok tt) c.args.world.now c.free_direct.new.world c.args.actor.now c.free_direct.new.actor (step.free_direct c.in-FreeDirect.key) s (ap (locks_step c.args.world.now c.args.actor.now.participant) (sym c.in-FreeDirect.is) ∙ e) c.free_direct.ensures
 
 pub returns-in-FindHolder : goal.returns-in-FindHolder
 returns-in-FindHolder c s e =
