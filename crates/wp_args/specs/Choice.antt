@@ -35,7 +35,7 @@ pub record HasEntries (name : Text) (entries : List Row) (choice : Choice) : Typ
   pub action : name ≡ command_name choice.action
   pub numbers : HasNumbers entries choice.action
   pub bits : HasNumber entries (codes "bits") 0 16 choice.bits
-  pub limit : HasNumber entries (codes "limit") 1 4294967295 choice.limit
+  pub limit : HasNumber entries (codes "limit") 1 70368744177663 choice.limit
   pub id : HasNumber entries (codes "id") 1 4294967295 choice.id
 
 -- a command is named, and it is the choice's

@@ -12,7 +12,7 @@ abbrev pub command : Text → App
 command name =
     with_rule (with_rule (with_rule (new_app name)
     (number_option (codes "bits") (codes "10")))
-    (number_option (codes "limit") (codes "4294967295")))
+    (number_option (codes "limit") (codes "70368744177663")))
     (number_option (codes "id") (codes "1"))
 
 -- a number that has to be given, in its place

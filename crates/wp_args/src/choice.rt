@@ -34,7 +34,7 @@ pub struct Choice {
     pub action: Action,
     /// The commit cache has two to this power places; 0 to 16.
     pub bits: u32,
-    /// The greatest number that an entry may have; 1 to 4294967295.
+    /// The greatest number that an entry may have, where the log's version has it; 1 to 70368744177663.
     pub limit: u64,
     /// The number of the store, which its log and its manifest bear; 1 to 4294967295.
     pub id: u32,
@@ -62,7 +62,7 @@ fn choice_in(matches: &ArgMatches<'_>) -> Option<Choice>
     Some(Choice {
         action: action_of(name, entries)?,
         bits: number_in(entries, "bits", 0, 16)? as u32,
-        limit: number_in(entries, "limit", 1, 4_294_967_295)?,
+        limit: number_in(entries, "limit", 1, 70_368_744_177_663)?,
         id: number_in(entries, "id", 1, 4_294_967_295)? as u32,
     })
 }

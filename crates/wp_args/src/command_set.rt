@@ -43,7 +43,7 @@ fn command<'a>(alloc: Global, name: &'a str) -> Result<Command<'a>, AllocError>
     ensures local { IfOk result (λ made. (fields_of made).has_globals ≡ false) }
 {
     let command = with_option(alloc, Command::new(alloc, name), "bits", "10")?;
-    let command = with_option(alloc, command, "limit", "4294967295")?;
+    let command = with_option(alloc, command, "limit", "70368744177663")?;
     with_option(alloc, command, "id", "1")
 }
 

@@ -9,17 +9,17 @@ use crate::Action;
 /// A command alone is taken, and each option has its default.
 pub fn commands_alone_are_taken()
     ensures run { IsChoice (codes "wp" ∷ codes "run" ∷ [])
-        (record { action = Action.Run; bits = 10; limit = 4294967295; id = 1 }) }
+        (record { action = Action.Run; bits = 10; limit = 70368744177663; id = 1 }) }
     ensures show { IsChoice (codes "wp" ∷ codes "show" ∷ [])
-        (record { action = Action.Show; bits = 10; limit = 4294967295; id = 1 }) }
+        (record { action = Action.Show; bits = 10; limit = 70368744177663; id = 1 }) }
 {}
 
 /// A script is made of the numbers that are given, which may stand beside options.
 pub fn numbers_make_a_script()
     ensures alone { IsChoice (codes "wp" ∷ codes "make" ∷ codes "7" ∷ codes "8" ∷ codes "1000" ∷ [])
-        (record { action = Action.Make 7 8 1000; bits = 10; limit = 4294967295; id = 1 }) }
+        (record { action = Action.Make 7 8 1000; bits = 10; limit = 70368744177663; id = 1 }) }
     ensures beside { IsChoice (codes "wp" ∷ codes "make" ∷ codes "7" ∷ codes "--bits" ∷ codes "0" ∷ codes "8" ∷ codes "1000" ∷ [])
-        (record { action = Action.Make 7 8 1000; bits = 0; limit = 4294967295; id = 1 }) }
+        (record { action = Action.Make 7 8 1000; bits = 0; limit = 70368744177663; id = 1 }) }
 {}
 
 /// Words without a command, a request for help and a number out of its range or missing are refused.
@@ -29,6 +29,7 @@ pub fn other_words_are_refused()
     ensures help { ¬ IsTaken (codes "wp" ∷ codes "--help" ∷ []) }
     ensures many_bits { ¬ IsTaken (codes "wp" ∷ codes "run" ∷ codes "--bits" ∷ codes "17" ∷ []) }
     ensures no_limit { ¬ IsTaken (codes "wp" ∷ codes "run" ∷ codes "--limit" ∷ codes "0" ∷ []) }
+    ensures past_limit { ¬ IsTaken (codes "wp" ∷ codes "run" ∷ codes "--limit" ∷ codes "70368744177664" ∷ []) }
     ensures many_clients { ¬ IsTaken (codes "wp" ∷ codes "make" ∷ codes "7" ∷ codes "17" ∷ codes "1" ∷ []) }
     ensures no_lines { ¬ IsTaken (codes "wp" ∷ codes "make" ∷ codes "7" ∷ codes "8" ∷ []) }
 {}

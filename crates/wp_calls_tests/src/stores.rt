@@ -26,7 +26,7 @@ fn device(alloc: Global) -> Result<MemDisk, Fail> {
 }
 
 fn parts(alloc: Global) -> Result<Parts<MemDisk>, Fail>
-    ensures base { IfOk result (λ parts. parts.history.base ≡ 0) }
+    ensures base { IfOk result (λ parts. parts.history.base ≡ parts.wal.segment.base) }
     ensures opened { IfOk result (λ parts. (asked : ℕ) × (log : List Moment) × (manifest : List Moment) × (tables : List Moment)
         × PartsOpened asked log manifest tables parts.wal parts.history.entries parts.manifest (⟦<MemDisk as Peek>⟧.moments parts.tables) parts.store) }
 {

@@ -1,6 +1,7 @@
 -- The newest versions of a key that lie behind the store turn show its value at a snapshot of the seat's.
-use Rattle.std.proofs.Common.{◌≡◌, ℕ, ◌+◌, ◌<◌, ◌≤◌, true, List, ◌∷◌, ◌++◌, length, take, drop, min, refl, sym, subst, ap, ◌∙◌, Option, Some, None, append_assoc, length-append, arith}
+use Rattle.std.proofs.Common.{◌≡◌, ℕ, ◌+◌, ◌<◌, ◌≤◌, ◌==◌, true, List, ◌∷◌, ◌++◌, length, take, drop, min, refl, sym, subst, ap, ◌∙◌, Option, Some, None, append_assoc, length-append, arith}
 use Rattle.std.specs.Prelude.{Result, Ok, Err, IfOk}
+use Rattle.std.proofs.lemmas.Bool.{or_right}
 use Rattle.std.proofs.lemmas.List.{take-append-drop, take-append-le, take_all, length-take}
 use Rattle.wp_model.specs.declared.entry.Entry.{Entry}
 use Rattle.wp_model.specs.declared.entry.Entry.TheVariants.{Write, Prepare, Commit, Undo, Close}
@@ -71,7 +72,7 @@ module _ {D : Type 0} (z : SharedState D) (s : SeatState) (w : World) (key : Lis
   live = among_live w.snapshots r.number ∙ (registered_live whole w.snapshots w.actors s.by s.knows r k.there mine (at_sound (place_at z s.by) s.knows w k).registrations).0
 
   gives : GivesStore (up_to (length whole) all) whole key r.number
-  gives = (at_sound (place_at z s.by) s.knows w k).versions.covered.listed key r.number live
+  gives = (at_sound (place_at z s.by) s.knows w k).versions.covered.listed key r.number (or_right (w.first_edit.segment.base == r.number) (is_among (live_numbers w.snapshots) r.number) live)
 
   each : (p : ℕ) → version_at of_it key p ≡ version_at all key p
   each p = at_of_key key p (sorted_of all) ∙ at_sorted all key p

@@ -8,6 +8,7 @@ use Rattle.wp_model.specs.PreparedTables.{PreparedTables}
 use Rattle.wp_model.specs.Versions.{version_at}
 use Rattle.wp_model.specs.declared.version.Version.{Version}
 use Rattle.wp_judge.specs.Words.{CommitPair, decision_if, fits}
+use Rattle.wp_core.specs.Conditions.{NoneNext}
 use Rattle.wp_core.specs.Cache.{cache_place, cached, pair_at}
 use Rattle.wp_core.specs.Changes.{held_with}
 use Rattle.wp_core.specs.Effects.{publishes, with_entry}
@@ -79,10 +80,15 @@ begin_ends history words entries pair_not_delayed e = absurd (true≢false e)
 begin_ends history words entries none_waits e = absurd (true≢false e)
 begin_ends history words entries other e = refl
 
-pub may_begin : (p : Place) (a : Actor) (t d : WriteTable) → a.held ≡ writes t ∷ [] → t.pending ≡ [] → d ≡ record t { pending = d.pending; logged = false } → IsOneRecord d.pending → IsLegal (d.history ++ d.pending) → d.next ≡ None
+-- no segment waits, as before
+none_still : (t d : WriteTable) → d ≡ record t { pending = d.pending; logged = false } → NoneNext d → NoneNext t
+none_still t d is (inl none) = inl (sym (ap (λ (x : WriteTable). x.next) is) ∙ none)
+none_still t d is (inr closed) = inr (sym (ap (λ (x : WriteTable). x.closed) is) ∙ closed)
+
+pub may_begin : (p : Place) (a : Actor) (t d : WriteTable) → a.held ≡ writes t ∷ [] → t.pending ≡ [] → d ≡ record t { pending = d.pending; logged = false } → IsOneRecord d.pending → IsLegal (d.history ++ d.pending) → NoneNext d
     → MayMake p a (λ w. make_pending d.pending ∷ note versions_nowhere ∷ note number_not_in_heap ∷ note pair_not_delayed ∷ [])
 may_begin p a t d held none is one legal alone =
-    begins_entries p a d.pending (record { table = t; held = first_held a (writes t) [] held; so_is = (none, one, subst (λ (h : List Entry). IsLegal (h ++ d.pending)) (ap (λ (x : WriteTable). x.history) is) legal, inl (sym (ap (λ (x : WriteTable). x.next) is) ∙ alone)) })
+    begins_entries p a d.pending (record { table = t; held = first_held a (writes t) [] held; so_is = (none, one, subst (λ (h : List Entry). IsLegal (h ++ d.pending)) (ap (λ (x : WriteTable). x.history) is) legal, none_still t d is alone) })
 
 pub began : (p : Place) (so : World → Type 0) (s u : SeatState) → (u.table ≡ s.table) × (u.by ≡ s.by) × (u.turns ≡ s.turns) → (t d : WriteTable) → s.knows.held ≡ writes t ∷ [] → d ≡ record t { pending = d.pending; logged = false }
     → Moved p (λ w. make_pending d.pending ∷ note versions_nowhere ∷ note number_not_in_heap ∷ note pair_not_delayed ∷ []) so s.knows u.knows

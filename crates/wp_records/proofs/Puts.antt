@@ -2,11 +2,8 @@
 use Rattle.std.proofs.Common.{◌≡◌, ℕ, suc, Bool, true, false, ◌||◌, List, [], ◌∷◌, ◌++◌, length, length-append, append_assoc, append-nil, refl, sym, subst, ap, ◌∙◌, None, arith}
 use Rattle.std.specs.Prelude.{Result, Ok, Err}
 use Rattle.wp_model.specs.declared.entry.Entry.{Entry}
-use Rattle.wp_outside.specs.Disk.{Passes}
 use Rattle.wp_outside.specs.Faults.{Rose}
-use Rattle.wp_gatelog.specs.Moments.{Leaves}
-use Rattle.wp_wal.specs.Spelling.{IsLogOrNext}
-use Rattle.wp_wal.specs.Wal.{WalState, LosesNothing}
+use Rattle.wp_wal.specs.Wal.{WalState, LosesNothingAt}
 use Rattle.wp_core.specs.Entries.{pair_by, transaction_of}
 use Rattle.wp_core.specs.Lists.{IsIn}
 use Rattle.wp_core.specs.Sound.Views.{guarded_by}
@@ -26,7 +23,7 @@ use Rattle.wp_commits.proofs.Ways.{bound_for_more}
 use Rattle.wp_records.specs.declared.error.WriteError.{WriteError}
 use Rattle.wp_records.specs.declared.error.WriteError.TheVariants.{Memory, LogFault}
 use Rattle.wp_records.specs.Writing.{HoldsWrite}
-use Rattle.wp_records.specs.Records.{numbers_behind, putting, is_about, IsAboutNone, HasCleared, IsPutWith, IsPut, IsNotPut, IsUncalled, failing, FailsAppend, Puts}
+use Rattle.wp_records.specs.Records.{numbers_behind, putting, is_about, IsAboutNone, HasCleared, IsPutWith, IsPut, IsNotPut, IsUncalled, LeavesAll, failing, FailsAppend, Puts}
 use Rattle.wp_records.specs.Stages.{is_of_stage, is_guarded, may_end, holding, as_failed, HoldsPending, IsLogged, Logs, HasJoined}
 use Rattle.wp_records.proofs.Facts.{not_stage, unguarded}
 use Rattle.wp_records.proofs.Holding.{as_write}
@@ -58,13 +55,13 @@ module _ {D : Type 0} (z : SharedState D) (s new : SeatState) (log left : LogSta
 
 -- the log call failed, and the record was taken back
 pub fails : (log mid left : LogState) → log.table.logged ≡ false → mid.table ≡ record log.table { closed = true; failed = log.table.pending } → left ≡ record mid { table = record mid.table { pending = [] } }
-    → Rose log.wal.faults mid.wal.faults → Passes (Leaves (IsLogOrNext log.wal.id log.table.history log.table.pending)) log.wal.moments mid.wal.moments → LosesNothing log.wal.moments mid.wal.moments → FailsAppend log log.table.pending left
+    → Rose log.wal.faults mid.wal.faults → LeavesAll log.wal log.table log.table.pending mid.wal.moments → LosesNothingAt log.table.segment.place log.wal.moments mid.wal.moments → FailsAppend log log.table.pending left
 fails log mid left unlogged closed back rose passed durable =
     let wal : left.wal ≡ mid.wal = ap (λ (x : LogState). x.wal) back in record {
       table = ap (λ (x : LogState). x.table) back ∙ ap (λ (t : WriteTable). record t { pending = [] }) closed ∙ ap (λ (b : Bool). record log.table { pending = []; logged = b; closed = true; failed = log.table.pending }) unlogged;
       rose = subst (λ (w : WalState). Rose log.wal.faults w.faults) (sym wal) rose;
-      passed = subst (λ (w : WalState). Passes (Leaves (IsLogOrNext log.wal.id log.table.history log.table.pending)) log.wal.moments w.moments) (sym wal) passed;
-      durable = subst (λ (w : WalState). LosesNothing log.wal.moments w.moments) (sym wal) durable;
+      passed = subst (λ (w : WalState). LeavesAll log.wal log.table log.table.pending w.moments) (sym wal) passed;
+      durable = subst (λ (w : WalState). LosesNothingAt log.table.segment.place log.wal.moments w.moments) (sym wal) durable;
     }
 
 -- ---- a stage before
@@ -120,8 +117,8 @@ module _ {D : Type 0} (z : SharedState D) (s t new : SeatState) (log mid left : 
     fails_before entries f = record {
       table = f.table ∙ ap (λ (x : WriteTable). record x { closed = true; failed = entries }) table;
       rose = subst (λ (w : WalState). Rose w.faults left.wal.faults) wal f.rose;
-      passed = subst (λ (x : WalState × List Entry). Passes (Leaves (IsLogOrNext x.0.id x.1 entries)) x.0.moments left.wal.moments) (λ i. (wal i, same_history i)) f.passed;
-      durable = subst (λ (w : WalState). LosesNothing w.moments left.wal.moments) wal f.durable;
+      passed = subst (λ (x : WalState × WriteTable). LeavesAll x.0 x.1 entries left.wal.moments) (λ i. (wal i, table i)) f.passed;
+      durable = subst (λ (x : WalState × WriteTable). LosesNothingAt x.1.segment.place x.0.moments left.wal.moments) (λ i. (wal i, table i)) f.durable;
     }
 
     ways_are : (entries : List Entry) → ways_of z.cells (suc (length mid.table.history)) entries ≡ ways_of z.cells (suc n) entries

@@ -4,11 +4,11 @@ use Rattle.std.specs.FinSet as set
 use Rattle.wp_model.specs.declared.entry.Entry.{Entry}
 use Rattle.wp_model.specs.History.{is_changed}
 use Rattle.wp_model.specs.Legal.{IsLegal}
-use Rattle.wp_outside.specs.Disk.{Passes}
+use Rattle.wp_outside.specs.Disk.{Moment, Passes}
 use Rattle.wp_outside.specs.Faults.{Rose}
 use Rattle.wp_gatelog.specs.Moments.{Leaves}
-use Rattle.wp_wal.specs.Spelling.{IsLogOrNext}
-use Rattle.wp_wal.specs.Wal.{LosesNothing}
+use Rattle.wp_wal.specs.Spelling.{IsLogOrNextAt}
+use Rattle.wp_wal.specs.Wal.{WalState, LosesNothingAt}
 use Rattle.wp_core.specs.Conditions.{HasTransaction}
 use Rattle.wp_core.specs.Entries.{transaction_of, changes_under}
 use Rattle.wp_core.specs.Lists.{IsIn}
@@ -18,6 +18,7 @@ use Rattle.wp_core.specs.Tables.{WriteTable, writes}
 use Rattle.wp_core.specs.Views.{Fact, words_stay, none_waits, log_failed, undecided_at, prior_values, unprepared}
 use Rattle.wp_core.specs.World.{Transaction, Actor, Participant, World}
 use Rattle.wp_rule.specs.Knows.{KnowsHeld, Noted}
+use Rattle.wp_shared.specs.Cut.{Cut, IsCut}
 use Rattle.wp_shared.specs.Log.{LogState}
 use Rattle.wp_shared.specs.Seats.{SharedState, SeatState, Stands}
 use Rattle.wp_commits.specs.declared.way.Way.{Way}
@@ -122,13 +123,18 @@ failing entries p = record p { past = p.past ++ log_failed entries ∷ [] }
 abbrev pub IsUncalled : LogState → LogState → Type 0
 IsUncalled log left = left.wal ≡ record log.wal { reserved = left.wal.reserved }
 
+-- since then a crash left the history in the log's segment, or it and these entries, whole
+abbrev pub LeavesAll : WalState → WriteTable → List Entry → List Moment → Type 0
+LeavesAll wal table entries moments =
+    (c : Cut) → IsCut table.history c → c.base ≡ table.segment.base → Passes (Leaves (IsLogOrNextAt wal.id table.segment.place c entries)) wal.moments moments
+
 -- The append of these entries failed: the count of the log's device rose, and the log is closed for good. A crash at any moment of it
 -- left the history, or it and the entries, whole, and lost nothing that was acknowledged.
 pub record FailsAppend (log : LogState) (entries : List Entry) (left : LogState) : Type 0 where
   pub table : left.table ≡ record log.table { pending = []; logged = false; closed = true; failed = entries }
   pub rose : Rose log.wal.faults left.wal.faults
-  pub passed : Passes (Leaves (IsLogOrNext log.wal.id log.table.history entries)) log.wal.moments left.wal.moments
-  pub durable : LosesNothing log.wal.moments left.wal.moments
+  pub passed : LeavesAll log.wal log.table entries left.wal.moments
+  pub durable : LosesNothingAt log.table.segment.place log.wal.moments left.wal.moments
 
 -- What a call answers that puts these entries behind the history, and what it leaves. Where memory is wanting the bound rose for some
 -- of the first of its ways, for none, or for all; and the log's device was not called.

@@ -1,5 +1,5 @@
 -- The write turn, as a call holds it.
-use Rattle.std.specs.Prelude.{◌≡◌, ℕ, Bool, List, [], length, Some}
+use Rattle.std.specs.Prelude.{◌≡◌, Bool, List, [], length, Some}
 use Rattle.wp_model.specs.declared.entry.Entry.{Entry}
 use Rattle.wp_core.specs.Lists.{IsIn}
 use Rattle.wp_core.specs.Tables.{writes}
@@ -20,12 +20,14 @@ pub record HoldsWrite {D : Type 0} (z : SharedState D) (s : SeatState) (log : Lo
   pub words : KnowsWords s.knows (length log.table.history)
 
 -- In a reached world the seat held the write turn, and had seen the whole history, which is this one. It was this participant
--- then, but for what it had seen; and an append had failed, or none had.
-pub record FoundLog {D : Type 0} (z : SharedState D) (by : ℕ) (before : Participant) (history : List Entry) (closed : Bool) : Type 0 where
+-- then, but for what it had seen, and had made and taken in no other since; and the log was closed, or it was not.
+pub record FoundLog {D : Type 0} (z : SharedState D) (old : SeatState) (before : Participant) (history : List Entry) (closed : Bool) : Type 0 where
   pub world : World
   pub actor : Actor
-  pub there : IsAt (place_at z by) actor world
+  pub there : IsAt (place_at z old.by) actor world
   pub held : IsIn (writes world.writes) actor.held
   pub participant : actor.participant ≡ record before { seen = history }
+  pub made : actor.made ≡ old.knows.made
+  pub joined : actor.joined ≡ old.knows.joined
   pub history_is : world.writes.history ≡ history
   pub closed_is : world.writes.closed ≡ closed

@@ -1,19 +1,26 @@
 -- What is left of a store once all its seats were handed in.
 use Rattle.std.specs.declared.alloc.Global.{Global}
-use Rattle.std.proofs.Common.{Box, ◌≡◌, inl, ℕ, ◌+◌, Bool, true, false, List, [], ◌∷◌, ◌++◌, length, map, Option, Some, None, unwrap_or, refl, sym, ap, subst, ◌∙◌, append-nil}
+use Rattle.std.proofs.Common.{Box, ◌≡◌, ◌⊎◌, inl, inr, ℕ, ◌+◌, ◌≤◌, Bool, true, false, List, [], ◌∷◌, ◌++◌, length, map, Option, Some, None, unwrap_or, refl, sym, ap, subst, ◌∙◌, append-nil, arith}
 use Rattle.wp_model.specs.declared.entry.Entry.{Entry}
-use Rattle.wp_model.specs.Flushed.{IsEditCovered}
-use Rattle.wp_outside.specs.Disk.{Moment, images, IfKnown}
+use Rattle.wp_model.specs.declared.segment.Segment.{Segment}
+use Rattle.wp_model.specs.Flushed.{InstalledEdit, IsEditCovered}
+use Rattle.wp_model.specs.Legal.{IsLegal}
+use Rattle.wp_outside.specs.Disk.{images, IfKnown}
 use Rattle.wp_fields.specs.declared.format.Format.{Format}
 use Rattle.wp_entry.specs.Record.{IsRecord}
+use Rattle.wp_outside.specs.Faults.{Rose}
 use Rattle.wp_gatelog.specs.Spelling.{IsUpTo}
-use Rattle.wp_wal.specs.Spelling.{NEWEST, IsLogOf}
-use Rattle.wp_wal.specs.Wal.{WalState, LeavesHistory, LeavesHistoryOrNext}
+use Rattle.wp_wal.specs.Spelling.{NEWEST, IsLogAt, IsLogOrNextAt, HasAcknowledgedCut}
+use Rattle.wp_wal.specs.Wal.{WalState, LeavesCutOrNext, StoresCut}
+use Rattle.wp_wal.proofs.AppendLemmas.{known_other, running_cut}
 use Rattle.wp_manifest.specs.Spelling.{IsManifestOf, last_edit}
-use Rattle.wp_parts.specs.Merge.{joined, sorted_of}
-use Rattle.wp_parts.proofs.Sorted.{merged_sorted}
+use Rattle.wp_parts.specs.Cut.{Cut, IsCut, full_of}
+use Rattle.wp_parts.specs.Merge.{joined}
+use Rattle.wp_parts.proofs.Reopens.{ReopensEdit, reopens_edit}
+use Rattle.wp_parts.proofs.Sorted.{in_order_sorted}
 use Rattle.wp_parts.specs.File.{HasTables}
 use Rattle.wp_parts.specs.Set.{TableSetState}
+use Rattle.wp_core.specs.Conditions.{NoneNext}
 use Rattle.wp_core.specs.Images.{MaySpell, MayName}
 use Rattle.wp_core.specs.IsSound.{participants}
 use Rattle.wp_core.specs.Tables.{WriteTable, Installed, Content, writes, installed}
@@ -23,19 +30,22 @@ use Rattle.wp_core.specs.World.{Participant, World}
 use Rattle.wp_core.specs.Sound.Actors.{StartsWith, AreSeen, AreOwned, seen_of, own_of}
 use Rattle.wp_core.specs.Sound.History.{logged_part}
 use Rattle.wp_core.specs.Sound.Pasts.{AreHolders, IsBoard, AreFaults, AreEdits, past_of}
-use Rattle.wp_core.proofs.CrashImages.{left_by_crash, edit_by_crash}
+use Rattle.wp_core.proofs.CrashImages.{left_by_crash, edit_by_crash, segment_by_crash}
 use Rattle.wp_core.proofs.PendingSteps.{none_logged}
-use Rattle.wp_rule.specs.Shows.{IsPart, Leaves}
+use Rattle.wp_core.proofs.Tests.{same_some}
+use Rattle.wp_rule.specs.Shows.{IsPart, Leaves, WasLast}
 use Rattle.wp_parts.specs.Log.{LogState, IsLog}
 use Rattle.wp_parts.specs.Edits.{EditsState, IsEdits}
+use Rattle.wp_open.specs.Opens.{installed_of}
 use Rattle.wp_parts.specs.Parts.{content, tells, IsGuardedBy}
 use Rattle.wp_parts.specs.declared.part.Part.{Part}
 use Rattle.wp_parts.specs.declared.part.Part.TheVariants as part
 use Rattle.wp_parts.specs.Devices.{DevicesLeft, devices_behind}
+use Rattle.wp_shared.proofs.Tables.{in_place}
 use Rattle.wp_shared.specs.Opening.{IsOneStore}
 use Rattle.wp_shared.specs.Seats.{SharedState, SeatState, place_at}
 use Rattle.wp_shared.specs.Ending.{AreAll, participant_of, all_joined, Remains}
-use Rattle.wp_shared.specs.Ended.{of_seats, OpensAsLeft, IsSince, IsEnded}
+use Rattle.wp_shared.specs.Ended.{of_seats, IsFrom, OpensAsLeft, IsSince, IsEnded}
 
 abbrev writes_in : Option Content → WriteTable → WriteTable
 writes_in (Some (writes t)) d = t
@@ -46,13 +56,32 @@ installed_in (Some (installed t)) d = t
 installed_in other d = d
 
 -- a log at rest, or one whose append has failed
-stored_as : (id : ℕ) (history failed : List Entry) (was closed : Bool) → was ≡ closed → (moments : List Moment) → (was ≡ true → IfKnown moments (LeavesHistoryOrNext id history failed)) → (was ≡ false → IfKnown moments (LeavesHistory id history))
-    → IfKnown moments (LeavesHistoryOrNext id history failed)
-stored_as id history failed was true is moments left rests = left is
-stored_as id history failed was false is [] left rests = tt
-stored_as id history failed was false is (m ∷ past) left rests = λ image at. let k = rests is image at in (inl k.0, k.1)
+stored_as : (wal : WalState) (c : Cut) (failed : List Entry) → StoresCut wal c failed → IfKnown wal.moments (LeavesCutOrNext wal.id wal.segment.place c failed)
+stored_as wal c failed stores = by wal.closed refl
+  where
+    by : (closed : Bool) → wal.closed ≡ closed → IfKnown wal.moments (LeavesCutOrNext wal.id wal.segment.place c failed)
+    by true is = stores.left is
+    by false is =
+        known_other (λ image. IsLogAt wal.id wal.segment.place c image × HasAcknowledgedCut wal.id wal.segment.place c image) (λ image. IsLogOrNextAt wal.id wal.segment.place c failed image × HasAcknowledgedCut wal.id wal.segment.place c image) wal.moments
+        (λ image h. (inl h.0, h.1)) (running_cut wal c failed stores is)
 
-module _ {D : Type 0} (z : SharedState D) (first : SeatState) (others : List SeatState) (parts : Turn → Part D) (log_box : Box LogState Global) (edits_box : Box EditsState Global) (o : IsOneStore z.first) (none_joined : first.knows.joined ≡ []) (l : Leaves content (tells z.first) z.first (place_at z 0) (all_joined first.knows others) parts) (is_log : parts write_turn ≡ part.Write log_box) (is_edits : parts tables_turn ≡ part.Tables edits_box) (k : IsLog log_box.value) (e : IsEdits edits_box.value) (stored : log_box.value.wal.closed ≡ false → IfKnown log_box.value.wal.moments (LeavesHistory log_box.value.wal.id log_box.value.table.log)) where
+-- the log's base was that of the last edit when the store was opened
+abbrev IsBasedAsOpened : {D : Type 0} → SharedState D → LogState → Type 0
+IsBasedAsOpened z log = (edit : InstalledEdit) → WasLast content z.first edit → log.first.segment.base ≡ edit.segment.base
+
+-- the bytes have, under this id and in this segment, the log of these entries, cut at its base
+abbrev HasCutAt : ℕ → Segment → List ℕ → List Entry → Type 0
+HasCutAt id segment image entries = (c : Cut) × IsLogAt id segment.place c image × IsCut entries c × (c.base ≡ segment.base)
+
+-- from the base of the cut on the list that opens is the one that is left
+pub opens_from : (left : List Entry) (c : Cut) (edit : InstalledEdit) (base : ℕ) → c.base ≤ length left → c.base ≡ base → ReopensEdit left c edit → IsFrom base left (full_of c edit.versions)
+opens_from left c edit base within at r = subst (λ (n : ℕ). IsFrom n left (full_of c edit.versions)) at (record {
+  within = within;
+  cut = sym (r.agree.cuts c.base (omega arith) within);
+  values = λ key. sym (r.agree.values key c.base (omega arith) within);
+})
+
+module _ {D : Type 0} (z : SharedState D) (first : SeatState) (others : List SeatState) (parts : Turn → Part D) (log_box : Box LogState Global) (edits_box : Box EditsState Global) (o : IsOneStore z.opened z.first) (none_joined : first.knows.joined ≡ []) (l : Leaves content (tells z.first) z.first (place_at z 0) (all_joined first.knows others) parts) (is_log : parts write_turn ≡ part.Write log_box) (is_edits : parts tables_turn ≡ part.Tables edits_box) (k : IsLog log_box.value) (e : IsEdits edits_box.value) where
   abbrev log : LogState
   log = log_box.value
 
@@ -97,60 +126,115 @@ module _ {D : Type 0} (z : SharedState D) (first : SeatState) (others : List Sea
   log_is : w.writes.log ≡ w.writes.history
   log_is = l.alone.history.log ∙ (ap (λ (xs : List Entry). w.writes.history ++ xs) (ap (logged_part w.writes.logged) (l.alone.pending (l.free write_turn)) ∙ none_logged w.writes.logged) ∙ append-nil w.writes.history)
 
-  whole_failed : w.writes.closed ≡ true → (format : Format) × IsUpTo NEWEST format × IsRecord format (length w.writes.history + 1) w.writes.failed
-  whole_failed closed = (
-    log.wal.format,
-    k.stores.readable,
-    subst (λ (xs : List Entry). IsRecord log.wal.format (length xs + 1) w.writes.failed) log_is
-        (subst (λ (t : WriteTable). t.closed ≡ true → IsRecord log.wal.format (length t.log + 1) t.failed) same_writes k.whole closed),
-  )
+  log_was : log.table.log ≡ w.writes.history
+  log_was = ap (λ (t : WriteTable). t.log) same_writes ∙ log_is
+
+  segment_is : log.wal.segment ≡ w.writes.segment
+  segment_is = sym k.segment ∙ ap (λ (t : WriteTable). t.segment) same_writes
+
+  failed_is : log.table.failed ≡ w.writes.failed
+  failed_is = ap (λ (t : WriteTable). t.failed) same_writes
+
+  cut_left : IsCut w.writes.history k.cut
+  cut_left = subst (λ (xs : List Entry). IsCut xs k.cut) log_was k.is_cut
+
+  cut_based : k.cut.base ≡ w.writes.segment.base
+  cut_based = k.stores.based ∙ ap (λ (g : Segment). g.base) segment_is
+
+  whole_failed : (w.writes.failed ≡ []) ⊎ ((format : Format) × IsUpTo NEWEST format × IsRecord format (length w.writes.history + 1) w.writes.failed)
+  whole_failed = elim k.whole [
+    | inl none ↦ inl (sym failed_is ∙ none)
+    | inr failed ↦ inr (log.wal.format, k.stores.readable, subst (λ (x : List Entry × List Entry). IsRecord log.wal.format (length x.0 + 1) x.1) (λ i. (log_was i, failed_is i)) failed.1)
+  ]
 
   none_asked : w.installed.halted ≡ false → w.installed.failed ≡ None
   none_asked = subst (λ (t : Installed). t.halted ≡ false → t.failed ≡ None) same_installed (λ running. e.none_failed (e.running running))
 
   -- ---- what a crash leaves
 
-  stored_left : IfKnown log.wal.moments (LeavesHistoryOrNext o.wal.id w.writes.history w.writes.failed)
-  stored_left = subst (λ (x : ℕ × List Entry × List Entry). IfKnown log.wal.moments (LeavesHistoryOrNext x.0 x.1 x.2)) (λ i. (log_id i, (ap (λ (t : WriteTable). t.log) same_writes ∙ log_is) i, ap (λ (t : WriteTable). t.failed) same_writes i))
-      (stored_as log.wal.id log.table.log log.table.failed log.wal.closed log.wal.closed refl log.wal.moments (k.stores.left) stored)
+  stored_left : IfKnown log.wal.moments (LeavesCutOrNext o.wal.id w.writes.segment.place k.cut w.writes.failed)
+  stored_left =
+      subst (λ (x : ℕ × Segment × List Entry). IfKnown log.wal.moments (LeavesCutOrNext x.0 x.1.place k.cut x.2)) (λ i. (log_id i, segment_is i, failed_is i)) (stored_as log.wal k.cut log.table.failed k.stores)
+
+  -- an image spells, in the segment of an edit that may be named, a list that the log may spell
+  spelled_at : (image : List ℕ) → images log.wal.moments image → (edit : InstalledEdit) → MayName w.installed edit → (left : List Entry) × MaySpell w.writes left × HasCutAt o.wal.id edit.segment image left
+  spelled_at image at edit named =
+      let told = log_part.1.0.0 image at in
+      elim (segment_by_crash w l.alone edit named) [
+        | inl same ↦ (
+          told.0.0,
+          subst (λ (t : WriteTable). MaySpell t told.0.0) same_writes told.0.2,
+          subst (λ (x : ℕ × Segment). HasCutAt x.0 x.1 image told.0.0) (λ i. (log_id i, (ap (λ (t : WriteTable). t.segment) same_writes ∙ sym same) i)) told.0.1,
+        )
+        | inr next ↦ (
+          w.writes.history,
+          next.2,
+          subst (λ (x : ℕ × List Entry). HasCutAt x.0 edit.segment image x.1) (λ i. (log_id i, ap (λ (t : WriteTable). t.history) same_writes i)) (told.1 edit.segment (ap (λ (t : WriteTable). t.next) same_writes ∙ next.0)),
+        )
+      ]
 
   opens_left : (log_image manifest_image tables_image : List ℕ) → images log.wal.moments log_image → images edits.set.manifest.log.moments manifest_image → images edits.set.moments tables_image
       → OpensAsLeft o.wal.id w.writes w.installed log_image manifest_image tables_image
   opens_left log_image manifest_image tables_image at_log at_manifest at_tables =
-      let told = (log_part.1.0.0 log_image at_log).0 in let named = edits_part.1.0.0 manifest_image at_manifest in let it = named.1 in
-      let spelled : MaySpell w.writes told.0 = subst (λ (t : WriteTable). MaySpell t told.0) same_writes told.2 in
-      let last : MayName w.installed named.0 = subst (λ (t : Installed). MayName t named.0) same_installed named.2 in record {
-        history = told.0;
-        edit = named.0;
-        spelled = spelled;
+      let named = edits_part.1.0.0 manifest_image at_manifest in
+      let it = named.1 in
+      let edit : InstalledEdit = installed_of it.base (last_edit it.edits) it.parts in
+      let last : MayName w.installed edit = subst (MayName w.installed) it.is (subst (λ (t : Installed). MayName t named.0) same_installed named.2) in
+      let found = spelled_at log_image at_log edit last in
+      let left : List Entry = found.0 in
+      let c : Cut = found.2.0 in
+      let legal : IsLegal left = (left_by_crash w l.alone left found.1).1 in
+      let r : ReopensEdit left c edit = reopens_edit left c edit legal found.2.2 found.2.3 (in_order_sorted (joined it.parts)) (edit_by_crash w l.alone left edit found.1 last) in
+      record {
+        left = left;
+        history = full_of c edit.versions;
+        edit = edit;
+        spelled = found.1;
+        same = opens_from left c edit it.base found.2.2.within found.2.3 r;
         named = last;
         opens = (
           record {
             id_fits = o.id_fits;
-            spelled = subst (λ (n : ℕ). IsLogOf n told.0 log_image) log_id told.1.1;
-            legal = (left_by_crash w l.alone told.0 spelled).1;
             edits = it.edits;
             installed = subst (λ (n : ℕ). IsManifestOf n it.edits manifest_image) edits_id it.spelled;
-            place = it.place;
+            cut = c;
+            spelled = found.2.1;
+            judged = record { orderly = r.orderly; legal = r.entries };
             parts = it.parts;
             there = subst (λ (n : ℕ). HasTables n (last_edit it.edits).flushed tables_image (last_edit it.edits).tables it.parts) edits_id (it.there tables_image at_tables);
-            covering = record { all = sorted_of (joined it.parts); merged = merged_sorted it.parts; covered = subst (IsEditCovered told.0) it.is (edit_by_crash w l.alone told.0 named.0 spelled last) };
+            full = refl;
+            legal = r.legal;
+            covering = record { below = r.below; covered = subst (λ (n : ℕ). IsEditCovered (full_of c edit.versions) (installed_of n (last_edit it.edits) it.parts)) (sym found.2.3) r.covered };
           },
-          it.is,
+          ap (λ (n : ℕ). installed_of n (last_edit it.edits) it.parts) (sym found.2.3),
         );
       }
+
+  log_caused : w.writes.closed ≡ true → w.writes.stopped ≡ false → Rose log.first.faults log.wal.faults
+  log_caused closed not = subst (λ (t : WriteTable). t.closed ≡ true → t.stopped ≡ false → Rose log.first.faults log.wal.faults) same_writes (λ c n. k.cause (k.by_fault c n)) closed not
 
   since_opened : IsSince o.wal o.set w.writes w.installed (devices_behind log.wal edits.set)
   since_opened = subst (λ (x : WalState × TableSetState). IsSince x.0 x.1 w.writes w.installed (devices_behind log.wal edits.set)) (λ i. (wal_is i, set_is i)) (record {
     log_later = k.later;
     manifest_later = e.manifest_later;
     tables_later = e.later;
-    log_cause = λ closed. k.cause (ap (λ (t : WriteTable). t.closed) same_writes ∙ closed);
+    log_cause = log_caused;
+    log_risen = subst (λ (g : Segment). log.first.segment.base ≤ g.base) segment_is k.risen;
     tables_cause = λ halted. e.cause (ap (λ (t : Installed). t.halted) same_installed ∙ halted);
-    log_durable = k.durable;
+    log_durable = λ same. k.durable (segment_is ∙ same);
     manifest_durable = e.durable;
     tables_durable = e.fronts;
   })
+
+  -- the log was opened in the segment that the last edit named then
+  based_left : IsBasedAsOpened z log
+  based_left edit last =
+      let same : edit ≡ o.edit = same_some edit o.edit (sym last ∙ o.last) in
+      ap (λ (s : WalState). s.segment.base) wal_is ∙ sym (ap (λ (g : Segment). g.base) o.segment) ∙ sym (ap (λ (x : InstalledEdit). x.segment.base) same)
+
+  -- ... and is now in the one that it names now
+  still_in_place : w.installed.last.segment ≡ w.writes.segment
+  still_in_place = in_place w.writes w.installed.last.segment l.alone.coupled.last (subst NoneNext same_writes log_part.1.0.1)
 
   -- ---- all of it
 
@@ -175,14 +259,20 @@ module _ {D : Type 0} (z : SharedState D) (first : SeatState) (others : List Sea
     whole = whole_failed;
     none_asked = none_asked;
     opened = o;
+    cut = k.cut;
+    is_cut = cut_left;
+    based = cut_based;
+    in_place = still_in_place;
     stored = stored_left;
     opens = opens_left;
     since = since_opened;
   }
 
-  ended_as : (history : List Entry) (left : DevicesLeft) → history ≡ log.table.history → left ≡ devices_behind log.wal edits.set → IsEnded z (first ∷ others) history left
-  ended_as history left same devices =
-      subst (λ (x : List Entry × DevicesLeft). IsEnded z (first ∷ others) x.0 x.1) (λ i. (sym (same ∙ ap (λ (t : WriteTable). t.history) same_writes) i, sym devices i)) ended_first
+  ended_as : (history : List Entry) (left : DevicesLeft) → history ≡ log.table.history → left ≡ devices_behind log.wal edits.set → IsEnded z (first ∷ others) history left × IsBasedAsOpened z log
+  ended_as history left same devices = (
+    subst (λ (x : List Entry × DevicesLeft). IsEnded z (first ∷ others) x.0 x.1) (λ i. (sym (same ∙ ap (λ (t : WriteTable). t.history) same_writes) i, sym devices i)) ended_first,
+    based_left,
+  )
 
 -- the values behind the write turn and the tables turn are theirs
 pub writes_left : {D : Type 0} (z : SharedState D) (seats : List SeatState) (parts : Turn → Part D) → AreAll seats → Remains z seats parts → IsGuardedBy write_turn (parts write_turn)
@@ -194,10 +284,10 @@ edits_left z [] parts all l = absurd all
 edits_left z (first ∷ others) parts all l = (installed l.world.installed, (l.are_parts tables_turn).0, refl)
 
 pub ended : {D : Type 0} (z : SharedState D) (seats : List SeatState) (parts : Turn → Part D) (log_box : Box LogState Global) (edits_box : Box EditsState Global) (log : LogState) (edits : EditsState) (history : List Entry) (left : DevicesLeft)
-    → log ≡ log_box.value → edits ≡ edits_box.value → IsOneStore z.first → AreAll seats → Remains z seats parts → parts write_turn ≡ part.Write log_box → parts tables_turn ≡ part.Tables edits_box → IsLog log → IsEdits edits
-    → (log.wal.closed ≡ false → IfKnown log.wal.moments (LeavesHistory log.wal.id log.table.log)) → history ≡ log.table.history → left ≡ devices_behind log.wal edits.set → IsEnded z seats history left
-ended z [] parts log_box edits_box log edits history left inside edits_inside o all l is_log is_edits k e stored same devices = absurd all
-ended z (first ∷ others) parts log_box edits_box log edits history left inside edits_inside o all l is_log is_edits k e stored same devices =
-    ended_as z first others parts log_box edits_box o all.1 l is_log is_edits (subst IsLog inside k) (subst IsEdits edits_inside e)
-    (subst (λ (x : LogState). x.wal.closed ≡ false → IfKnown x.wal.moments (LeavesHistory x.wal.id x.table.log)) inside stored) history left (same ∙ ap (λ (x : LogState). x.table.history) inside)
-    (devices ∙ (λ i. devices_behind (inside i).wal (edits_inside i).set))
+    → log ≡ log_box.value → edits ≡ edits_box.value → IsOneStore z.opened z.first → AreAll seats → Remains z seats parts → parts write_turn ≡ part.Write log_box → parts tables_turn ≡ part.Tables edits_box → IsLog log → IsEdits edits
+    → history ≡ log.table.history → left ≡ devices_behind log.wal edits.set → IsEnded z seats history left × IsBasedAsOpened z log
+ended z [] parts log_box edits_box log edits history left inside edits_inside o all l is_log is_edits k e same devices = absurd all
+ended z (first ∷ others) parts log_box edits_box log edits history left inside edits_inside o all l is_log is_edits k e same devices =
+    let it = ended_as z first others parts log_box edits_box o all.1 l is_log is_edits (subst IsLog inside k) (subst IsEdits edits_inside e) history left (same ∙ ap (λ (x : LogState). x.table.history) inside)
+    (devices ∙ (λ i. devices_behind (inside i).wal (edits_inside i).set)) in
+    (it.0, λ edit last. ap (λ (x : LogState). x.first.segment.base) inside ∙ it.1 edit last)

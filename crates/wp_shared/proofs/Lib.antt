@@ -1,5 +1,6 @@
 pub mod Places
 pub mod HeldTurns
+pub mod Limits
 pub mod Goes
 pub mod Onward
 pub mod Tables
@@ -13,3 +14,4 @@ pub mod Ended
 pub mod Sent
 pub use Rattle.wp_parts.proofs.LaterVersions
 pub use Rattle.wp_parts.proofs.LogLemmas
+pub use Rattle.wp_parts.proofs.Reopens

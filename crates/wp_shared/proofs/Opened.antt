@@ -1,24 +1,26 @@
 -- What a store was opened from, and what a refused opening hands back.
 use Rattle.std.specs.declared.alloc.Global.{Global}
-use Rattle.std.proofs.Common.{Box, ◌≡◌, ℕ, ◌<◌, ◌≤◌, ◌^◌, List, [], ◌∷◌, length, Some, refl, sym, ap, subst, ◌∙◌}
+use Rattle.std.proofs.Common.{Box, ◌≡◌, ℕ, ◌<◌, ◌^◌, List, [], ◌∷◌, Some, refl, sym, ap, subst, ◌∙◌}
 use Rattle.std.specs.Prelude.{slice_index_or}
 use Rattle.std.specs.List.{remove}
 use Rattle.wp_model.specs.declared.entry.Entry.{Entry}
+use Rattle.wp_model.specs.Flushed.{InstalledEdit}
 use Rattle.wp_outside.specs.Disk.{Moment}
-use Rattle.wp_gatelog.specs.Opening.{SurvivesThrough}
+use Rattle.wp_parts.proofs.OpeningLemmas.{has_cut, is_within}
+use Rattle.wp_parts.specs.Cut.{Cut, IsCut, cut_at}
 use Rattle.wp_parts.specs.Store.{StoreParts}
 use Rattle.wp_parts.specs.Set.{TableSetState}
-use Rattle.wp_wal.specs.declared.error.WalError.TheVariants as wal_error
+use Rattle.wp_wal.specs.Opening.{KeepsWal}
 use Rattle.wp_wal.specs.Wal.{WalState}
-use Rattle.wp_wal.proofs.AppendLemmas.{running_history}
-use Rattle.wp_manifest.specs.Edit.{Edit}
+use Rattle.wp_wal.proofs.AppendLemmas.{running_cut}
+use Rattle.wp_manifest.specs.declared.error.ManifestError.TheVariants as manifest_error
 use Rattle.wp_manifest.specs.Manifest.{ManifestState}
-use Rattle.wp_manifest.specs.Spelling.{MAGIC, head_stamp}
+use Rattle.wp_open.specs.Damage.{IsWithin}
 use Rattle.wp_open.specs.Opens.{AllKnown, installed_of}
-use Rattle.wp_open.specs.Parts.{PartsOpened, ArePartsOf}
-use Rattle.wp_open.specs.Refused.{of_log, IsLeft, at_tables, IsRefusedFrom}
+use Rattle.wp_open.specs.Parts.{PartsOpened, ArePartsOf, LogsOpened, stored_cut}
+use Rattle.wp_open.specs.Refused.{of_manifest, IsLeft, at_tables, IsRefusedFrom}
 use Rattle.wp_open.specs.declared.opening.OpenError.TheVariants as open_error
-use Rattle.wp_open.proofs.Stages.{manifest_rests}
+use Rattle.wp_open.proofs.BothOpen.{logs_left}
 use Rattle.wp_core.specs.Tables.{writes, installed}
 use Rattle.wp_core.specs.Turns.{write_turn, tables_turn}
 use Rattle.wp_rule.specs.Shows.{WasLast}
@@ -32,8 +34,16 @@ use Rattle.wp_parts.specs.declared.part.Part.TheVariants as part
 use Rattle.wp_parts.specs.Devices.{DevicesLeft, devices_behind}
 use Rattle.wp_shared.specs.Opening.{IsOneStore}
 
-pub one_store : {D : Type 0} (first slots : List (Part D)) (wal : WalState) (set : TableSetState) → first ≡ slots → log_first slots ≡ Some wal → set_first slots ≡ Some set → set.manifest.log.id ≡ wal.id → wal.id < 2 ^ 32 → IsOneStore first
-one_store {D} first slots wal set same log tables id fits = subst (λ (xs : List (Part D)). IsOneStore xs) (sym same) (record { wal = wal; set = set; log = log; tables = tables; id = id; id_fits = fits })
+pub one_store : {D : Type 0} (opened history : List Entry) (first slots : List (Part D)) (wal : WalState) (set : TableSetState) (edit : InstalledEdit) → opened ≡ history → first ≡ slots → log_first slots ≡ Some wal → set_first slots ≡ Some set
+    → WasLast content slots edit → set.manifest.log.id ≡ wal.id → wal.id < 2 ^ 32 → edit.segment ≡ wal.segment → IsCut history (cut_at history edit.segment.base) → IsOneStore opened first
+one_store {D} opened history first slots wal set edit same_history same log tables last id fits segment cut =
+    subst (λ (x : List Entry × List (Part D)). IsOneStore x.0 x.1) (λ i. (sym same_history i, sym same i))
+    (record { wal = wal; set = set; log = log; tables = tables; id = id; id_fits = fits; edit = edit; last = last; segment = segment; based = cut.within; whole = cut.whole })
+
+-- the last edit of an opened manifest names the segment of the log that was opened
+pub segment_named : (asked : ℕ) (log manifest tables : List Moment) (wal : WalState) (history : List Entry) (edits : ManifestState) (tables_now : List Moment) (versions : StoreParts) → PartsOpened asked log manifest tables wal history edits tables_now versions
+    → (installed_of wal.segment.base edits.edit versions.tables).segment ≡ wal.segment
+segment_named asked log manifest tables wal history edits tables_now versions p = λ i. record { place = sym p.opened.placed i; base = wal.segment.base }
 
 abbrev log_in : {D : Type 0} → Part D → LogState → LogState
 log_in (part.Write log) d = log.value
@@ -52,7 +62,7 @@ module _ {D : Type 0} (slots : List (Part D)) (wal : WalState) (history : List E
   pub set_there : set_first slots ≡ Some set
   set_there = ap set_first f.are ∙ ap (λ (edits : EditsState). Some edits.first) f.edits_are
 
-  pub last_edit_is : (first : List (Part D)) → first ≡ slots → WasLast content first (installed_of set.manifest.edit store.tables)
+  pub last_edit_is : (first : List (Part D)) → first ≡ slots → WasLast content first (installed_of wal.segment.base set.manifest.edit store.tables)
   last_edit_is first same = ap (first_edit_of content) (same ∙ f.are) ∙ ap (λ (edits : EditsState). Some edits.table.last) f.edits_are
 
   -- the slots came back: the last one is taken out, and then the first
@@ -87,16 +97,26 @@ module _ {D : Type 0} (slots : List (Part D)) (wal : WalState) (history : List E
 -- ---- all is read, and memory is wanting
 
 -- what the devices are then left as
-left_behind : (same_manifest same_tables : Type 0) (asked : ℕ) (log manifest tables : List Moment) (wal : WalState) (history : List Entry) (edits : ManifestState) (tables_now : List Moment) (versions : StoreParts)
-    → PartsOpened asked log manifest tables wal history edits tables_now versions → SurvivesThrough MAGIC (head_stamp wal.id) manifest edits.log.moments
-    → IsLeft same_manifest same_tables log wal.moments manifest edits.log.moments tables tables_now open_error.Memory
-left_behind same_manifest same_tables asked log manifest tables wal history edits tables_now versions p survives =
-    at_tables wal.id history p.installed.edits
-    (record { found = p.found; left = running_history wal history [] p.stores p.running })
-    (record { found = p.installed.found; rests = manifest_rests wal.id manifest edits p.installed; survives = survives })
-    (subst (λ (e : Edit). e.flushed ≤ length history) p.installed.stores.last p.store.covering.covered.flushed)
-    tt
-    p.synced
+module _ (same_log same_tables : Type 0) (asked : ℕ) (old : DevicesLeft) (wal : WalState) (history : List Entry) (edits : ManifestState) (tables_now : List Moment) (faults : ℕ) (versions : StoreParts)
+    (p : PartsOpened asked old.log old.manifest old.tables wal history edits tables_now versions) (found : ArePartsOf asked old wal history edits faults versions) where
+  abbrev left : DevicesLeft
+  left = devices_behind wal (running_set edits tables_now faults)
+
+  abbrev cut : Cut
+  cut = stored_cut wal history
+
+  abbrev logs_opened : LogsOpened asked old wal cut edits
+  logs_opened = record {
+    log = p.opened;
+    manifest = p.installed;
+    log_kept = subst (λ (n : ℕ). KeepsWal n asked old.log wal.moments old.log_faults wal.faults) p.opened.placed found.log;
+    manifest_kept = found.manifest;
+  }
+
+  left_behind : IsLeft asked same_log same_tables old left open_error.Memory
+  left_behind =
+      at_tables wal.id cut p.installed.edits (logs_left asked old left wal cut edits logs_opened refl refl refl (running_cut wal cut [] p.opened.stores p.opened.running))
+      (subst (IsWithin cut) p.installed.stores.last (is_within asked old.log old.manifest old.tables wal history edits tables_now versions p)) tt p.synced
 
 -- nothing of the bytes is the cause
 none_known : (P : List ℕ → List ℕ → List ℕ → Type 0) (log manifest tables : List Moment) → ((l m t : List ℕ) → P l m t) → AllKnown log manifest tables P
@@ -106,16 +126,14 @@ none_known P (l ∷ ls) (m ∷ ms) [] all = tt
 none_known P (l ∷ ls) (m ∷ ms) (t ∷ ts) all = all l.reads m.reads t.reads
 
 -- it is a refusal, with no other cause
-pub refused_late : (same_manifest same_tables : Type 0) (asked : ℕ) (old left : DevicesLeft) (wal : WalState) (history : List Entry) (edits : ManifestState) (tables_now : List Moment) (faults : ℕ) (versions : StoreParts)
+pub refused_late : (same_log same_tables : Type 0) (asked : ℕ) (old left : DevicesLeft) (wal : WalState) (history : List Entry) (edits : ManifestState) (tables_now : List Moment) (faults : ℕ) (versions : StoreParts)
     → left ≡ devices_behind wal (running_set edits tables_now faults) → PartsOpened asked old.log old.manifest old.tables wal history edits tables_now versions
-    → ArePartsOf asked old wal history edits faults versions → IsRefusedFrom asked same_manifest same_tables old left open_error.Memory
-refused_late same_manifest same_tables asked old left wal history edits tables_now faults versions is p found =
-    subst (λ (x : DevicesLeft). IsRefusedFrom asked same_manifest same_tables old x open_error.Memory) (sym is) (record {
-      cause = of_log wal_error.Memory refl tt;
-      only = none_known _ old.log old.manifest old.tables (λ l m t found entries opens unmade. tt);
-      left = left_behind same_manifest same_tables asked old.log old.manifest old.tables wal history edits tables_now versions p found.manifest.survives;
-      log_survives = found.log.survives;
-      log_durable = found.log.durable;
+    → ArePartsOf asked old wal history edits faults versions → IsRefusedFrom asked same_log same_tables old left open_error.Memory
+refused_late same_log same_tables asked old left wal history edits tables_now faults versions is p found =
+    subst (λ (x : DevicesLeft). IsRefusedFrom asked same_log same_tables old x open_error.Memory) (sym is) (record {
+      cause = of_manifest manifest_error.Memory refl tt;
+      only = none_known _ old.log old.manifest old.tables (λ l m t its entries opens asked_too. tt);
+      left = left_behind same_log same_tables asked old wal history edits tables_now faults versions p found;
       manifest_durable = found.manifest.durable;
       log_later = found.log.later;
       manifest_later = found.manifest.later;

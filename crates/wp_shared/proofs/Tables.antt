@@ -1,5 +1,5 @@
 -- The table of a turn in a world, and what a seat knows of it.
-use Rattle.std.proofs.Common.{◌≡◌, inl, inr, ℕ, ◌≤◌, List, [], length, slice_index, refl, sym, subst, ap, ◌∙◌, Some, None, Bool, true, false, ◌/◌, ◌%◌, ◌*◌, ◌+◌, arith}
+use Rattle.std.proofs.Common.{◌≡◌, ◌⊎◌, inl, inr, ℕ, ◌≤◌, List, [], length, slice_index, refl, sym, subst, ap, ◌∙◌, Some, None, Bool, true, false, true≢false, ◌/◌, ◌%◌, ◌*◌, ◌+◌, arith}
 use Rattle.std.proofs.lemmas.Bool.{cases_lt}
 use Rattle.std.proofs.Math.Nat.{mod-le}
 use Rattle.std.proofs.lemmas.List.{get_or_past}
@@ -9,8 +9,9 @@ use Rattle.wp_model.specs.LockTables.{LockTables}
 use Rattle.wp_model.specs.PreparedTables.{PreparedTables, NoneDelayed}
 use Rattle.wp_model.specs.Snapshots.{Snapshots, NoOldCommits}
 use Rattle.wp_model.specs.declared.entry.Entry.{Entry}
+use Rattle.wp_model.specs.declared.segment.Segment.{Segment}
 use Rattle.wp_model.specs.declared.version.Version.{Version}
-use Rattle.wp_core.specs.Conditions.{MayGive}
+use Rattle.wp_core.specs.Conditions.{MayGive, NoneNext}
 use Rattle.wp_core.specs.Entries.{extended}
 use Rattle.wp_core.specs.IsSound.{IsSound}
 use Rattle.wp_core.specs.Lists.{IsIn}
@@ -19,7 +20,7 @@ use Rattle.wp_core.specs.Tables.{Content, WriteTable, StoreTable, Installed, wri
 use Rattle.wp_core.specs.Views.{Fact, words_stay, tables_stay, nothing_flushed, delayed_flag_stays, old_flag_stays}
 use Rattle.wp_core.specs.World.{Actor, World, content_of}
 use Rattle.wp_core.proofs.HistoryLaws.{decision_within}
-use Rattle.wp_core.proofs.Tests.{some_none, same_some}
+use Rattle.wp_core.proofs.Tests.{none_some, some_none, same_some}
 use Rattle.wp_rule.specs.Knows.{Noted}
 use Rattle.wp_rule.specs.Moves.{MayStep}
 use Rattle.wp_rule.specs.Plays.{facts_at}
@@ -33,6 +34,14 @@ use Rattle.wp_parts.specs.declared.part.Part.TheVariants as part
 use Rattle.wp_shared.specs.Notes.{ArePublished}
 use Rattle.wp_shared.specs.Turns.{KnowsTaken, KnowsToGive, IsTableOf}
 use Rattle.wp_judge.proofs.Packing.{pair_parts, with_test}
+
+-- ---- where the log is
+
+-- it is in the segment that the last edit names, where none waits beside it
+pub in_place : (t : WriteTable) (last : Segment) → (last ≡ t.segment) ⊎ ((t.next ≡ Some last) × (t.closed ≡ false)) → NoneNext t → last ≡ t.segment
+in_place t last (inl same) free = same
+in_place t last (inr waits) (inl none) = absurd (none_some t.next last none waits.0)
+in_place t last (inr waits) (inr closed) = absurd (true≢false (sym closed ∙ waits.1))
 
 -- ---- which table it is
 
@@ -93,9 +102,9 @@ world_published w s none place found at =
 
 -- ---- what the values say
 
--- a log has no segment beside the one in use
+-- no segment waits beside the log in use
 abbrev pub NoneWaits : Content → Type 0
-NoneWaits (writes t) = t.next ≡ None
+NoneWaits (writes t) = NoneNext t
 NoneWaits other = Unit {0}
 
 pub none_in : {D : Type 0} (x : Part D) (c : Content) → content x ≡ Some c → Tells x → NoneWaits c
@@ -150,7 +159,7 @@ knows_to_give a (installed d) k = k
 
 -- the turn may be given then, where no segment of the log waits
 pub may_give : (p : Place) (a : Actor) (table : Content) → IsIn table a.held → NoneWaits table → KnowsToGive a table → MayStep p a (give_turn (turn_of table))
-may_give p a (writes t) held none known w k = needed p a w k (give_turn (turn_of (writes t))) (record { table = t; held = held; so_is = (known, inl none) })
+may_give p a (writes t) held none known w k = needed p a w k (give_turn (turn_of (writes t))) (record { table = t; held = held; so_is = (known, none) })
 may_give p a (prepared t) held none known w k = needed p a w k (give_turn (turn_of (prepared t))) (record { table = t; held = held; so_is = known })
 may_give p a (snapshots m) held none known w k = needed p a w k (give_turn (turn_of (snapshots m))) (record { table = m; held = held; so_is = known })
 may_give p a (store t) held none known w k = needed p a w k (give_turn (turn_of (store t))) (record { table = t; held = held; so_is = tt })

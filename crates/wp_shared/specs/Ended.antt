@@ -11,8 +11,10 @@ use Rattle.wp_entry.specs.Record.{IsRecord}
 use Rattle.wp_gatelog.specs.Durability.{LosesNoRecord}
 use Rattle.wp_gatelog.specs.Spelling.{IsUpTo}
 use Rattle.wp_wal.specs.Spelling.{NEWEST}
-use Rattle.wp_wal.specs.Wal.{WalState, LosesNothing, LeavesHistoryOrNext}
+use Rattle.wp_wal.specs.Wal.{WalState, LosesNothingAt, LeavesCutOrNext}
 use Rattle.wp_manifest.specs.Spelling.{MAGIC}
+use Rattle.wp_parts.specs.Agree.{HaveSameValues}
+use Rattle.wp_parts.specs.Cut.{Cut, IsCut, cut_at}
 use Rattle.wp_parts.specs.Device.{KeepsFronts}
 use Rattle.wp_parts.specs.Set.{TableSetState}
 use Rattle.wp_open.specs.Opens.{OpensTo}
@@ -32,22 +34,33 @@ use Rattle.wp_shared.specs.Ending.{participant_of}
 abbrev pub of_seats : {X : Type 0} → (Participant → X) → List SeatState → List (List X)
 of_seats f seats = map f (map participant_of seats) ∷ []
 
--- the bytes of the three devices open to a history that the log may spell, and to an edit that the manifest may name
+-- From the base on the list is this one: both have one cut there, and the same values. What is below a base the devices do not tell.
+pub record IsFrom (base : ℕ) (left history : List Entry) : Type 0 where
+  pub within : base ≤ length left
+  pub cut : cut_at history base ≡ cut_at left base
+  pub values : HaveSameValues history left base
+
+-- The bytes of the three devices open to a list that is, from the edit's base on, one that the log may spell, and to an edit that the
+-- manifest may name.
 pub record OpensAsLeft (id : ℕ) (writes : WriteTable) (edits : Installed) (log manifest tables : List ℕ) : Type 0 where
+  pub left : List Entry
   pub history : List Entry
   pub edit : InstalledEdit
-  pub spelled : MaySpell writes history
+  pub spelled : MaySpell writes left
+  pub same : IsFrom edit.segment.base left history
   pub named : MayName edits edit
   pub opens : OpensTo id history edit log manifest tables
 
--- Since the devices were opened no fault was forgotten, and none was made up; and what was for good then is so still.
+-- Since the devices were opened no fault was forgotten, and none was made up: a log that was closed and not stopped had a fault. What was
+-- for good then is so still; of the log, as long as it is in the segment of then. Its base never falls.
 pub record IsSince (wal : WalState) (set : TableSetState) (writes : WriteTable) (edits : Installed) (left : DevicesLeft) : Type 0 where
   pub log_later : wal.faults ≤ left.log_faults
   pub manifest_later : set.manifest.log.faults ≤ left.manifest_faults
   pub tables_later : set.faults ≤ left.tables_faults
-  pub log_cause : writes.closed ≡ true → Rose wal.faults left.log_faults
+  pub log_cause : writes.closed ≡ true → writes.stopped ≡ false → Rose wal.faults left.log_faults
   pub tables_cause : edits.halted ≡ true → Rose set.manifest.log.faults left.manifest_faults ⊎ Rose set.faults left.tables_faults
-  pub log_durable : LosesNothing wal.moments left.log
+  pub log_risen : wal.segment.base ≤ writes.segment.base
+  pub log_durable : writes.segment ≡ wal.segment → LosesNothingAt wal.segment.place wal.moments left.log
   pub manifest_durable : LosesNoRecord MAGIC set.manifest.log.moments left.manifest
   pub tables_durable : KeepsFronts set.moments left.tables
 
@@ -70,15 +83,19 @@ pub record IsEnded {D : Type 0} (z : SharedState D) (seats : List SeatState) (hi
   pub board : IsBoard (length history) locks (of_seats past_of seats)
   pub faults : AreFaults writes edits.halted (of_seats past_of seats)
   pub installed : AreEdits first_edit edits (of_seats past_of seats)
-  -- The log spells the history. Once an append has failed, it spells that, or that and the failed record, whole, of a version
-  -- that is read. Until a device of the tables has failed, the manifest names the last edit.
+  -- The log spells the history, cut at the base of its segment. Once an append has failed, it spells that, or that and the failed record,
+  -- whole, of a version that is read. Until a device of the tables has failed, the manifest names the last edit.
   pub log : writes.log ≡ history
   pub none_failed : writes.closed ≡ false → writes.failed ≡ []
-  pub whole : writes.closed ≡ true → (format : Format) × IsUpTo NEWEST format × IsRecord format (length history + 1) writes.failed
+  pub whole : (writes.failed ≡ []) ⊎ ((format : Format) × IsUpTo NEWEST format × IsRecord format (length history + 1) writes.failed)
   pub none_asked : edits.halted ≡ false → edits.failed ≡ None
   -- so a crash leaves the log with the history acknowledged, and perhaps with the failed record behind it, under the store's id;
   -- and what it leaves of the three devices opens
-  pub opened : IsOneStore z.first
-  pub stored : IfKnown left.log (LeavesHistoryOrNext opened.wal.id history writes.failed)
+  pub opened : IsOneStore z.opened z.first
+  pub cut : Cut
+  pub is_cut : IsCut history cut
+  pub based : cut.base ≡ writes.segment.base
+  pub in_place : edits.last.segment ≡ writes.segment
+  pub stored : IfKnown left.log (LeavesCutOrNext opened.wal.id writes.segment.place cut writes.failed)
   pub opens : (log manifest tables : List ℕ) → images left.log log → images left.manifest manifest → images left.tables tables → OpensAsLeft opened.wal.id writes edits log manifest tables
   pub since : IsSince opened.wal opened.set writes edits left

@@ -1,5 +1,6 @@
 pub mod Opening
 pub mod Seats
+pub mod Limits
 pub mod OpenedFrom
 pub mod Notes
 pub mod Turns
@@ -7,9 +8,11 @@ pub mod Clients
 pub mod Calls
 pub mod Ending
 pub mod Ended
+pub use Rattle.wp_parts.specs.Cut
 pub use Rattle.wp_parts.specs.Log
 pub use Rattle.wp_parts.specs.Stock
 pub use Rattle.wp_parts.specs.Edits
 pub use Rattle.wp_parts.specs.Installs
+pub use Rattle.wp_parts.specs.Renewal
 pub use Rattle.wp_parts.specs.Parts
 pub use Rattle.wp_parts.specs.Devices

@@ -1,9 +1,12 @@
 //! The end of a store.
 ghost use Rattle.std.specs.Prelude.{◌≡◌};
+ghost use Rattle.wp_model.specs.Flushed.{InstalledEdit};
 ghost use Rattle.wp_core.specs.Changes.{joins};
 ghost use Rattle.wp_rule.specs.Ends.{part_of};
+ghost use Rattle.wp_rule.specs.Shows.{WasLast};
 ghost use Rattle.wp_shared.specs.Seats.{IsFree};
 ghost use Rattle.wp_parts.specs.Devices.{devices_of};
+ghost use Rattle.wp_parts.specs.Parts.{content};
 ghost use Rattle.wp_shared.specs.Ending.{AllFree, AreAll, Remains};
 ghost use Rattle.wp_shared.specs.Ended.{IsEnded};
 
@@ -52,7 +55,7 @@ impl<D: Disk + Drop> Shared<D> {
     pub fn finish(self, seats: Vec<Seat<D>>) -> Finished<D>
         requires free { AllFree self.table seats.items }
         requires all { AreAll seats.items }
-        ensures base { result.history.base ≡ 0 }
+        ensures base { (edit : InstalledEdit) → WasLast content self.first edit → result.history.base ≡ edit.segment.base }
         ensures ended { IsEnded self seats.items result.history.entries (devices_of D.moments D.faults result.disks) }
     {
         self.shows_one_store();

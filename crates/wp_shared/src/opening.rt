@@ -1,6 +1,6 @@
 //! A store that was opened, for clients to share.
 ghost use Rattle.std.specs.Prelude.{◌≡◌, ◌≤◌, ◌^◌, [], ℕ, List, Some, true, length, IfOk, IfErr};
-ghost use Rattle.wp_fields.specs.declared.format.Format.TheVariants.{One};
+ghost use Rattle.wp_fields.specs.declared.format.Format.TheVariants.{Two};
 ghost use Rattle.wp_entry.specs.Record.{last_number};
 ghost use Rattle.wp_outside.specs.Disk.{Moment};
 ghost use Rattle.wp_open.specs.Opens.{installed_of};
@@ -38,13 +38,13 @@ impl<D: Disk + Drop> Shared<D> {
     ) -> Result<(Shared<D>, Seat<D>), Disks<D>>
         requires opened { (asked : ℕ) × (log : List Moment) × (manifest : List Moment) × (tables : List Moment)
             × PartsOpened asked log manifest tables parts.wal parts.history.entries parts.manifest (D.moments parts.tables) parts.store }
-        requires base { parts.history.base ≡ 0 }
+        requires base { parts.history.base ≡ parts.wal.segment.base }
         requires bits { bits ≤ 16 }
-        requires limit { (1 ≤ limit) × (limit ≤ last_number One) }
+        requires limit { (1 ≤ limit) × (limit ≤ last_number Two) }
         ensures store { IfOk result (λ r. (r.0.opened ≡ parts.history.entries) × (r.0.cells ≡ 2 ^ bits) × (r.0.limit ≡ limit)) }
         ensures log { IfOk result (λ r. log_first r.0.first ≡ Some parts.wal) }
         ensures set { IfOk result (λ r. set_first r.0.first ≡ Some (running_set parts.manifest (D.moments parts.tables) (D.faults parts.tables))) }
-        ensures last_edit { IfOk result (λ r. WasLast content r.0.first (installed_of parts.manifest.edit parts.store.tables)) }
+        ensures last_edit { IfOk result (λ r. WasLast content r.0.first (installed_of parts.wal.segment.base parts.manifest.edit parts.store.tables)) }
         ensures seat { IfOk result (λ r. r.1 ≡ record { table = r.0.table; by = 0; knows = new_actor true client parts.history.entries; turns = [] }) }
         ensures stands { IfOk result (λ r. SawAll (place_at r.0 0) r.1.knows (length parts.history.entries)) }
         ensures refused { IfErr result (λ disks. devices_of D.moments D.faults disks ≡ devices_behind parts.wal (running_set parts.manifest (D.moments parts.tables) (D.faults parts.tables))) }
@@ -80,12 +80,12 @@ impl<D: Disk + Drop> Shared<D> {
         id: u32,
     ) -> Result<(Shared<D>, Seat<D>), OpenRefused<D>>
         requires bits { bits ≤ 16 }
-        requires limit { (1 ≤ limit) × (limit ≤ last_number One) }
+        requires limit { (1 ≤ limit) × (limit ≤ last_number Two) }
         ensures store { IfOk result (λ r. (r.0.cells ≡ 2 ^ bits) × (r.0.limit ≡ limit)) }
         ensures opened { IfOk result (λ r. IsOpenedFrom id (devices_of D.moments D.faults disks) r.0) }
         ensures seat { IfOk result (λ r. r.1 ≡ record { table = r.0.table; by = 0; knows = new_actor true client r.0.opened; turns = [] }) }
         ensures stands { IfOk result (λ r. SawAll (place_at r.0 0) r.1.knows (length r.0.opened)) }
-        ensures refused { IfErr result (λ refused. IsRefusedFrom id (refused.disks.manifest ≡ disks.manifest) (refused.disks.tables ≡ disks.tables)
+        ensures refused { IfErr result (λ refused. IsRefusedFrom id (refused.disks.log ≡ disks.log) (refused.disks.tables ≡ disks.tables)
             (devices_of D.moments D.faults disks) (devices_of D.moments D.faults refused.disks) refused.why) }
     {
         let parts = match open_parts(alloc, disks, id) {

@@ -1,7 +1,7 @@
 //! The shared store.
 ghost use Rattle.std.specs.Prelude.{◌≡◌, ◌<◌, ◌≤◌, ◌^◌, ◌∷◌, [], List, true, length, slice_index};
 ghost use Rattle.wp_model.specs.Legal.{IsLegal};
-ghost use Rattle.wp_fields.specs.declared.format.Format.TheVariants.{One};
+ghost use Rattle.wp_fields.specs.declared.format.Format.TheVariants.{Two};
 ghost use Rattle.wp_entry.specs.Record.{last_number};
 ghost use Rattle.wp_core.specs.Cache.{cache_place};
 ghost use Rattle.wp_core.specs.Sound.Actors.{StartsWith};
@@ -31,7 +31,7 @@ pub struct Shared<D: Disk + Drop> {
 impl<D: Disk + Drop> Model for Shared<D> {
     ghost use Rattle.std.specs.Prelude.{◌≡◌, ◌<◌, ◌≤◌, ◌^◌};
     ghost use Rattle.std.specs.Coded.{codes};
-    ghost use Rattle.wp_fields.specs.declared.format.Format.TheVariants.{One};
+    ghost use Rattle.wp_fields.specs.declared.format.Format.TheVariants.{Two};
     ghost use Rattle.wp_entry.specs.Record.{last_number};
     ghost use Rattle.wp_model.specs.PreparedTables.{prepared_tables_code};
     ghost use Rattle.wp_model.specs.Snapshots.{snapshots_code};
@@ -45,7 +45,7 @@ impl<D: Disk + Drop> Model for Shared<D> {
 
     ghost view = { λ s. record { table = s.words.table; opened = s.words.opened; cells = s.words.cells; first = s.words.first; limit = s.limit } };
 
-    ghost invariant = { λ s. IsOneStore s.words.first × (1 ≤ s.words.cells) × (1 ≤ s.limit) × (s.limit ≤ last_number One) × (s.words.cells ≡ 2 ^ s.bits) × (s.bits ≤ 16) };
+    ghost invariant = { λ s. IsOneStore s.words.opened s.words.first × (1 ≤ s.words.cells) × (1 ≤ s.limit) × (s.limit ≤ last_number Two) × (s.words.cells ≡ 2 ^ s.bits) × (s.bits ≤ 16) };
 }
 
 /// Says whose the seat is, which did nothing yet.
@@ -65,8 +65,8 @@ fn name_seat<D: Disk + Drop, J: Moves>(
 
 impl<D: Disk + Drop> Shared<D> {
     /// For the proof alone: its devices are one store's.
-    pub(crate) fn shows_one_store(&self)
-        ensures { IsOneStore self.now.first }
+    pub fn shows_one_store(&self)
+        ensures { IsOneStore self.now.opened self.now.first }
     {
         let _ = &self.words;
     }
@@ -104,9 +104,9 @@ impl<D: Disk + Drop> Shared<D> {
         (p % self.cells() as u64) as usize
     }
 
-    /// The greatest number that an entry may get: 1 to 4294967295, which each version of the log has.
+    /// The greatest number that an entry may get, where the log's version has it: 1 to 2^56 - 1.
     pub fn limit(&self) -> Seq
-        ensures { (result ≡ self.now.limit) × (1 ≤ result) × (result ≤ last_number One) }
+        ensures { (result ≡ self.now.limit) × (1 ≤ result) × (result ≤ last_number Two) }
     {
         self.limit
     }

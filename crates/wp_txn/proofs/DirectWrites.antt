@@ -206,7 +206,7 @@ module _ {D : Type 0} (z : SharedState D) (old mid left new : SeatState) (change
         r.0 ∙ ap (λ (es : List Entry). length es) (sym same_seen),
         (
           history,
-          put_within _ IsLoose z old mid left new (writing_direct key was) (wrote_direct key was) history (Write (change ∷ []) ∷ []) held.goes_on.same_by held.goes_on.seen held.goes_on.participant put same_seen
+          put_within IsLoose _ IsLoose z old mid left new (writing_direct key was) (wrote_direct key was) history (Write (change ∷ []) ∷ []) held.goes_on put same_seen
               (given _ (λ x. record x { own = x.own ++ numbers_behind (length history) (Write (change ∷ []) ∷ []) }) (λ fact turnless. (turnless, (none_about fact, tt))) (λ x seen. refl) put.goes_on),
         ),
         (held.found, ended.freed),
@@ -214,7 +214,7 @@ module _ {D : Type 0} (z : SharedState D) (old mid left new : SeatState) (change
 
   refused : (reason : TxnError) → Refuses z mid left 1 (λ asked. asked ≡ Write (change ∷ []) ∷ []) mid.knows.participant mid.knows.participant reason → Refuses z old new 1 (λ asked. asked ≡ Write (change ∷ []) ∷ []) (writing_direct key was) (wrote_direct key was) reason
   refused reason c =
-      refused_within z old mid left new 1 (writing_direct key was) (wrote_direct key was) held.goes_on.same_by held.goes_on.participant same_seen
+      refused_within IsLoose z old mid left new 1 (writing_direct key was) (wrote_direct key was) held.goes_on same_seen
       (λ goes. given IsLoose (λ x. x) (λ fact loose. loose) (λ x seen. refl) goes)
       (λ events goes. given IsLoose (remembering events) (λ fact loose. loose) (λ x seen. refl) goes) (λ asked. asked ≡ Write (change ∷ []) ∷ []) (λ asked. asked ≡ Write (change ∷ []) ∷ []) (λ asked is legal. is) reason c
 
@@ -230,7 +230,7 @@ module _ {D : Type 0} (z : SharedState D) (old mid left new : SeatState) (change
   written (Err reason) r = not_written reason r.0
 
   leaves : LeavesDevice z mid.knows.participant mid left → LeavesDevice z (writing_direct key was) old new
-  leaves d = left_within z old mid left new (writing_direct key was) held.goes_on.same_by held.goes_on.participant same_seen held.saw d
+  leaves d = left_within IsLoose z old mid left new (writing_direct key was) held.goes_on same_seen held.saw d
 
   left_for : (reason : TxnError) → MayLeaveDevice z mid.knows.participant mid reason left → MayLeaveDevice z (writing_direct key was) old reason new
   left_for why.LogFault d = tt

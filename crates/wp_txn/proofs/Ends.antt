@@ -66,7 +66,7 @@ module _ {D : Type 0} (z : SharedState D) (old start mid new : SeatState) (name 
   -- what was put is put still, and the transaction is gone
   pub put_and_freed : Frees z mid new name → HasPut (IsApartFrom name) z old new it (without_transaction name it) r.1.0 entries
   put_and_freed frees =
-      put_within Part (IsApartFrom name) z old start mid new it (without_transaction name it) r.1.0 entries begins.same_by begins.seen begins.participant r.1.1.put (same_seen frees)
+      put_within IsLoose Part (IsApartFrom name) z old start mid new it (without_transaction name it) r.1.0 entries begins r.1.1.put (same_seen frees)
       (chain (IsApartFrom name) (IsApartFrom name) (IsApartFrom name) z old mid new (owning it) (without_transaction name mid.knows.participant) (owning (without_transaction name it)) (λ fact apart. apart) (λ fact apart. apart)
       until_then frees.gives_up (ap (λ (p : Participant). record (without_transaction name p) { seen = new.knows.participant.seen }) until_then.participant))
 
@@ -86,7 +86,7 @@ pub refused_from : {D : Type 0} (z : SharedState D) (old start new : SeatState) 
     → Refuses z start new needed Asks start.knows.participant start.knows.participant why → Refuses z old new needed More old.knows.participant old.knows.participant why
 refused_from z old start new needed Asks More wider begins why c =
     let it = old.knows.participant in
-    refused_within z old start new new needed it it begins.same_by begins.participant refl
+    refused_within IsLoose z old start new new needed it it begins refl
     (λ goes. chain IsLoose IsLoose IsLoose z old start new it start.knows.participant it (λ fact stays. stays) (λ fact stays. stays) begins goes (ap (λ (p : Participant). record p { seen = new.knows.participant.seen }) begins.participant))
     (λ events goes.
     chain IsLoose IsLoose IsLoose z old start new it (remembering events start.knows.participant) (remembering events it) (λ fact stays. stays) (λ fact stays. stays) begins goes

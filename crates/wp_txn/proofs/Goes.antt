@@ -16,6 +16,7 @@ use Rattle.wp_rule.specs.Words.{IsAt}
 use Rattle.wp_records.specs.Writing.{FoundLog}
 use Rattle.wp_records.specs.Records.{numbers_behind, failing, IsUncalled}
 use Rattle.wp_shared.specs.Calls.{ContinuesWith, Continues, remembering}
+use Rattle.wp_shared.specs.Limits.{limit_at}
 use Rattle.wp_shared.specs.Seats.{SharedState, SeatState, IsFree, place_at}
 use Rattle.wp_shared.proofs.Onward.{starts_on}
 use Rattle.wp_txn.specs.declared.error.TxnError.{TxnError}
@@ -37,45 +38,47 @@ chain Stays First Second z a b c P Q R one two first second same = record {
 }
 
 -- the log was found by whoever the participant was then but for what it had seen
-abbrev found_from : {D : Type 0} (z : SharedState D) (by at : ℕ) (p q : Participant) (seen history now : List Entry) (b : Bool) → at ≡ by → q ≡ record p { seen = seen } → now ≡ history → FoundLog z at q history b → FoundLog z by p now b
-found_from z by at p q seen history now b same is is_now found = record {
+abbrev found_from : {D : Type 0} (First : Fact → Type 0) (z : SharedState D) (old mid : SeatState) (p : Participant) (history now : List Entry) (b : Bool) → ContinuesWith First z old mid p → now ≡ history → FoundLog z mid mid.knows.participant history b
+    → FoundLog z old p now b
+found_from First z old mid p history now b to is_now found = record {
   world = found.world;
   actor = found.actor;
-  there = subst (λ (n : ℕ). IsAt (place_at z n) found.actor found.world) same found.there;
+  there = subst (λ (n : ℕ). IsAt (place_at z n) found.actor found.world) to.same_by found.there;
   held = found.held;
-  participant = found.participant ∙ ap (λ (x : Participant). record x { seen = history }) is ∙ ap (λ (h : List Entry). record p { seen = h }) (sym is_now);
+  participant = found.participant ∙ ap (λ (x : Participant). record x { seen = history }) to.participant ∙ ap (λ (h : List Entry). record p { seen = h }) (sym is_now);
+  made = found.made ∙ to.made;
+  joined = found.joined ∙ to.joined;
   history_is = found.history_is ∙ sym is_now;
   closed_is = found.closed_is;
 }
 
 -- what was put by a part of a call, which goes on from this participant, was put by the call
-pub put_within : {D : Type 0} (Part Stays : Fact → Type 0) (z : SharedState D) (old mid left new : SeatState) (found after : Participant) (history entries : List Entry)
-    → mid.by ≡ old.by → StartsWith mid.knows.participant.seen old.knows.participant.seen → mid.knows.participant ≡ record found { seen = mid.knows.participant.seen }
+pub put_within : {D : Type 0} (First Part Stays : Fact → Type 0) (z : SharedState D) (old mid left new : SeatState) (found after : Participant) (history entries : List Entry) → ContinuesWith First z old mid found
     → HasPut Part z mid left mid.knows.participant mid.knows.participant history entries → new.knows.participant.seen ≡ left.knows.participant.seen
     → ContinuesWith Stays z old new (record after { own = after.own ++ numbers_behind (length history) entries }) → HasPut Stays z old new found after history entries
-put_within Part Stays z old mid left new found after history entries by starts is put same goes = record {
-  grown = starts_on old.knows.participant.seen mid.knows.participant.seen history starts put.grown;
-  found_log = found_from z old.by mid.by found mid.knows.participant mid.knows.participant.seen history history false by is refl put.found_log;
+put_within First Part Stays z old mid left new found after history entries to put same goes = record {
+  grown = starts_on old.knows.participant.seen mid.knows.participant.seen history to.seen put.grown;
+  found_log = found_from First z old mid found history history false to refl put.found_log;
   seen = same ∙ put.seen;
   within = put.within;
   goes_on = goes;
 }
 
 -- the log's device was left alone by a part of a call, before which the seat saw no more, and so by the call
-pub left_within : {D : Type 0} (z : SharedState D) (old mid left new : SeatState) (found : Participant) → mid.by ≡ old.by → mid.knows.participant ≡ record found { seen = mid.knows.participant.seen } → new.knows.participant.seen ≡ left.knows.participant.seen → SawNoMore old mid
+pub left_within : {D : Type 0} (First : Fact → Type 0) (z : SharedState D) (old mid left new : SeatState) (found : Participant) → ContinuesWith First z old mid found → new.knows.participant.seen ≡ left.knows.participant.seen → SawNoMore old mid
     → LeavesDevice z mid.knows.participant mid left → LeavesDevice z found old new
-left_within z old mid left new found by is same saw d = ⊎_elim
+left_within First z old mid left new found to same saw d = ⊎_elim
     (λ (e : SawNoMore mid left). inl (same ∙ e ∙ saw))
-    (λ (k : (closed : Bool) × (found_log : FoundLog z mid.by mid.knows.participant left.knows.participant.seen closed) × HadLog z found_log.world.writes IsUncalled).
-    inr (k.0, found_from z old.by mid.by found mid.knows.participant mid.knows.participant.seen left.knows.participant.seen new.knows.participant.seen k.0 by is same k.1, k.2))
+    (λ (k : (closed : Bool) × (found_log : FoundLog z mid mid.knows.participant left.knows.participant.seen closed) × HadLog z found_log.world.writes IsUncalled).
+    inr (k.0, found_from First z old mid found left.knows.participant.seen new.knows.participant.seen k.0 to same k.1, k.2))
     d
 
 -- ... and what it was refused for, the call was
-module _ {D : Type 0} (z : SharedState D) (old mid left new : SeatState) (needed : ℕ) (found after : Participant) (by : mid.by ≡ old.by) (is : mid.knows.participant ≡ record found { seen = mid.knows.participant.seen })
+module _ {D : Type 0} (First : Fact → Type 0) (z : SharedState D) (old mid left new : SeatState) (needed : ℕ) (found after : Participant) (to : ContinuesWith First z old mid found)
     (same : new.knows.participant.seen ≡ left.knows.participant.seen) (plain : Continues z mid left mid.knows.participant → Continues z old new after)
     (more : (events : List Event) → Continues z mid left (remembering events mid.knows.participant) → Continues z old new (remembering events after)) where
-  abbrev found_in : (b : Bool) → FoundLog z mid.by mid.knows.participant left.knows.participant.seen b → FoundLog z old.by found new.knows.participant.seen b
-  found_in b k = found_from z old.by mid.by found mid.knows.participant mid.knows.participant.seen left.knows.participant.seen new.knows.participant.seen b by is same k
+  abbrev found_in : (b : Bool) → FoundLog z mid mid.knows.participant left.knows.participant.seen b → FoundLog z old found new.knows.participant.seen b
+  found_in b k = found_from First z old mid found left.knows.participant.seen new.knows.participant.seen b to same k
 
   same_length : length left.knows.participant.seen ≡ length new.knows.participant.seen
   same_length = ap (λ (h : List Entry). length h) (sym same)
@@ -83,11 +86,11 @@ module _ {D : Type 0} (z : SharedState D) (old mid left new : SeatState) (needed
   pub refused_within : (Asks More : List Entry → Type 0) → ((entries : List Entry) → Asks entries → IsLegal (new.knows.participant.seen ++ entries) → More entries) → (why : TxnError) → Refuses z mid left needed Asks mid.knows.participant mid.knows.participant why → Refuses z old new needed More found after why
   refused_within Asks More wider Memory c = plain c
   refused_within Asks More wider (Stopped n) c = (c.0 ∙ same_length, found_in true c.1, more (stopped n ∷ []) c.2)
-  refused_within Asks More wider (NumbersFull published limit) c = (c.0 ∙ same_length, c.1, c.2, found_in false c.3, plain c.4)
+  refused_within Asks More wider (NumbersFull published limit) c = (c.0 ∙ same_length, c.1, found_in false c.2, c.3, plain c.4)
   refused_within Asks More wider LogFault c =
       let legal = subst (λ (h : List Entry). IsLegal (h ++ c.2.0)) (sym same) c.2.3 in (
-        subst (λ (n : ℕ). n + needed ≤ z.limit) same_length c.0,
-        found_in false c.1,
+        found_in false c.0,
+        subst (λ (n : ℕ). n + needed ≤ limit_at z c.0.world.installed.last.segment.base) same_length c.1,
         (c.2.0, wider c.2.0 c.2.1 legal, more (log_failed c.2.0 ∷ []) c.2.2, legal, c.2.4),
       )
   refused_within Asks More wider (Taken name) c = c

@@ -1,12 +1,12 @@
 -- An entry of a seat's own transaction or direct write may come next, behind the log that the seat holds.
-use Rattle.std.proofs.Common.{◌≡◌, ⊎_elim, inl, inr, ℕ, ◌≤◌, ◌||◌, Bool, true, false, true≢false, List, [], ◌∷◌, ◌++◌, refl, sym, subst, ap, ◌∙◌, Option, Some, None, is_some, append_assoc, arith}
+use Rattle.std.proofs.Common.{◌≡◌, ⊎_elim, inl, inr, ℕ, ◌<◌, ◌≤◌, ◌||◌, Bool, true, false, true≢false, List, [], ◌∷◌, ◌++◌, refl, sym, subst, ap, ◌∙◌, Option, Some, None, is_some, append_assoc, arith}
 use Rattle.std.specs.Prelude.{option_map}
 use Rattle.std.specs.FinMap as finite
 use Rattle.std.specs.Str.{bytes_eq}
 use Rattle.std.proofs.lemmas.Slice.Eq.{bytes_eq-Decides}
 use Rattle.wp_model.specs.Batch.{key_of, change_to, is_batch}
 use Rattle.wp_model.specs.History.{entry_at, prepared_name, prepared_batch, name_at, batch_at, is_changed, is_undecided, named, holder_of, newest}
-use Rattle.wp_model.specs.Legal.{IsLegal, IsLegalNext, AreFree, undone_last, prior}
+use Rattle.wp_model.specs.Legal.{IsLegal, IsLegalNext, AreFree, log_end, undone_last, prior}
 use Rattle.wp_model.specs.declared.change.Change.{Change}
 use Rattle.wp_model.specs.declared.entry.Entry.{Entry}
 use Rattle.wp_model.specs.declared.entry.Entry.TheVariants.{Write, Prepare, Commit, Undo, Close}
@@ -16,6 +16,9 @@ use Rattle.wp_model.proofs.Found.{found_named}
 use Rattle.wp_history.proofs.Growth.{legal_next, length_next}
 use Rattle.wp_history.proofs.Held.{prior_to}
 use Rattle.wp_history.proofs.Undecided.{close_follows}
+use Rattle.wp_fields.specs.declared.format.Format.{Format}
+use Rattle.wp_fields.specs.declared.format.Format.TheVariants.{One, Two}
+use Rattle.wp_entry.specs.Record.{last_number}
 use Rattle.wp_core.specs.Conditions.{HasTransaction}
 use Rattle.wp_core.specs.Entries.{transaction_of, changes_under}
 use Rattle.wp_core.specs.Lists.{IsIn}
@@ -31,6 +34,12 @@ use Rattle.wp_shared.specs.Seats.{SharedState, SeatState, place_at}
 use Rattle.wp_txn.specs.Recording.{OpensLog}
 use Rattle.wp_txn.specs.Txn.{HasOpen, HasPrepared}
 use Rattle.wp_txn.proofs.Adding.{changed_one}
+
+-- ---- numbers
+
+numbers_end : (format : Format) → last_number format < log_end
+numbers_end One = omega arith
+numbers_end Two = omega arith
 
 -- ---- batches
 
@@ -80,7 +89,7 @@ module _ {D : Type 0} (z : SharedState D) (old new : SeatState) (log : LogState)
   legal_now = subst (λ (d : WriteTable). IsLegal d.history) o.took.is (at_sound (place_at z new.by) new.knows o.took.world o.took.stands).history.legal
 
   grows_by : (entry : Entry) → 1 ≤ needed → IsLegalNext history entry → IsLegal (history ++ entry ∷ [])
-  grows_by entry one next = let a = o.within in let b = o.few in legal_next history entry legal_now next (omega (arith, a, b, one))
+  grows_by entry one next = let a = o.numbers in let b = numbers_end log.wal.format in legal_next history entry legal_now next (omega (arith, a, b, one))
 
   writes_next : (batch : List Change) → is_batch batch ≡ true → ((key : List ℕ) → is_changed batch key ≡ true → holder_of history key ≡ None) → IsLegalNext history (Write batch)
   writes_next batch whole free = record { orderly = record { ascending = batch_ascends batch whole; names_undecided = tt; undo_is_closed = nothing_undone; keys_are_free = all_free history batch free }; restores_prior = tt }
@@ -176,7 +185,7 @@ module _ {D : Type 0} (z : SharedState D) (old new : SeatState) (log : LogState)
         let grown : List Entry = history ++ Undo number restored ∷ [] in
         let first : IsLegal grown = grows_by (Undo number restored) (omega (arith, two)) undo in
         let there : entry_at grown number ≡ Some (Prepare name batch) = entry_at_old history (Undo number restored ∷ []) number (undecided_within history number undecided_still).1 ∙ stands_still in
-        let a = o.within in let b = o.few in
+        let a = o.numbers in let b = numbers_end log.wal.format in
         record {
           legal = subst IsLegal (append_assoc history (Undo number restored ∷ []) (Close number ∷ []))
               (legal_next grown (Close number) first (close_follows history number restored undo) (omega (arith, a, b, two, length_next history (Undo number restored))));

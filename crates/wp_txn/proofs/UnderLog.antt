@@ -1,5 +1,5 @@
 -- A seat that took the write turn, put a record into the history or could not, and gave the turn.
-use Rattle.std.proofs.Common.{◌≡◌, ◌⊎◌, ⊎_elim, inl, inr, ℕ, suc, ◌+◌, ◌≤◌, ◌<◌, Bool, cond, true, false, List, [], ◌∷◌, ◌++◌, length, refl, sym, subst, ap, ◌∙◌, Some, None, is_some, length-append, eq-eqb, arith}
+use Rattle.std.proofs.Common.{◌≡◌, ◌⊎◌, ⊎_elim, inl, inr, ℕ, suc, ◌+◌, ◌≤◌, ◌<◌, Bool, cond, true, false, List, [], ◌∷◌, ◌++◌, length, min, refl, sym, subst, ap, ◌∙◌, Some, None, is_some, length-append, eq-eqb, arith}
 use Rattle.std.specs.Prelude.{Result, Ok, Err}
 use Rattle.std.specs.FinMap as finite
 use Rattle.std.proofs.lemmas.Slice.Eq.{bytes_eq-Decides}
@@ -7,15 +7,16 @@ use Rattle.wp_model.specs.History.{prepared_name, name_at, named}
 use Rattle.wp_model.specs.Legal.{IsLegal}
 use Rattle.wp_model.specs.declared.change.Change.{Change}
 use Rattle.wp_model.specs.declared.entry.Entry.{Entry}
+use Rattle.wp_model.specs.declared.segment.Segment.{Segment}
 use Rattle.wp_model.specs.declared.entry.Entry.TheVariants.{Prepare, Commit, Undo, Close}
 use Rattle.wp_model.proofs.Found.{found_named}
 use Rattle.wp_fields.specs.declared.format.Format.{Format}
-use Rattle.wp_fields.specs.declared.format.Format.TheVariants.{One, Two}
 use Rattle.wp_entry.specs.Record.{last_number}
 use Rattle.wp_records.specs.Ways.{way_of, ways_of, MayPrecede, AreApart}
 use Rattle.wp_records.specs.Way.{Way}
 use Rattle.wp_records.specs.Way.TheVariants.{Undecided, InWord, Delayed}
 use Rattle.wp_judge.specs.Words.{fits}
+use Rattle.wp_core.specs.Conditions.{NoneNext}
 use Rattle.wp_core.specs.Entries.{transaction_of, pair_by}
 use Rattle.wp_core.specs.Lists.{IsIn}
 use Rattle.wp_core.specs.Steps.{find_log_closed}
@@ -32,8 +33,11 @@ use Rattle.wp_rule.specs.Moves.{MayMake, Moved}
 use Rattle.wp_rule.specs.Words.{Place, IsAt}
 use Rattle.wp_rule.proofs.Forgets.{EndsNothing}
 use Rattle.wp_rule.proofs.MayBeMade.{known_made}
-use Rattle.wp_shared.proofs.Tables.{held_table}
-use Rattle.wp_shared.specs.Log.{LogState, IsLog}
+use Rattle.wp_rule.proofs.Knows.{at_sound}
+use Rattle.wp_shared.proofs.Tables.{held_table, in_place}
+use Rattle.wp_shared.specs.Limits.{limit_at}
+use Rattle.wp_shared.proofs.Limits.{limit_is}
+use Rattle.wp_shared.specs.Log.{LogState, IsLog, format_at}
 use Rattle.wp_shared.specs.Parts.{log_first}
 use Rattle.wp_records.specs.declared.error.WriteError.{WriteError}
 use Rattle.wp_records.specs.declared.error.WriteError.TheVariants as write_error
@@ -85,11 +89,6 @@ given_back Stays z old s new after gives by starts is loose notes made joined =
 
 -- ---- the turn is taken
 
--- each version of the log has the numbers that the first one has
-last_least : (format : Format) → last_number One ≤ last_number format
-last_least One = omega arith
-last_least Two = omega arith
-
 module _ {D : Type 0} (z : SharedState D) (old s : SeatState) (log : LogState) (took : TookLog z old s log) where
   abbrev history : List Entry
   history = log.table.history
@@ -118,13 +117,15 @@ module _ {D : Type 0} (z : SharedState D) (old s : SeatState) (log : LogState) (
   joined_then : s.knows.joined ≡ old.knows.joined
   joined_then = ap (λ (x : SeatState). x.knows.joined) took.seat
 
-  abbrev found_then : (seen : List Entry) (b : Bool) → seen ≡ history → log.table.closed ≡ b → FoundLog z old.by was seen b
+  abbrev found_then : (seen : List Entry) (b : Bool) → seen ≡ history → log.table.closed ≡ b → FoundLog z old was seen b
   found_then seen b is closed = record {
     world = took.world;
     actor = s.knows;
     there = subst (λ (n : ℕ). IsAt (place_at z n) s.knows took.world) same_by took.stands;
     held = subst (λ (d : WriteTable). IsIn (writes d) s.knows.held) (sym took.is) (subst (IsIn (writes log.table)) (sym took.holds.held) (inl refl));
     participant = participant_then ∙ ap (λ (h : List Entry). record was { seen = h }) (sym is);
+    made = made_then;
+    joined = joined_then;
     history_is = ap (λ (d : WriteTable). d.history) took.is ∙ sym is;
     closed_is = ap (λ (d : WriteTable). d.closed) took.is ∙ closed;
   }
@@ -141,14 +142,25 @@ module _ {D : Type 0} (z : SharedState D) (old s : SeatState) (log : LogState) (
   pub alone : IsFree z.table old → HoldsTurn z s (writes log.table) [] []
   alone free = subst (λ (x : List Content × List ℕ). HoldsTurn z s (writes log.table) x.0 x.1) (λ i. (free.held i, free.turns i)) took.holds
 
-  pub opened : IsFree z.table old → (needed published : ℕ) → log.table.closed ≡ false → published ≡ length history → published + needed ≤ z.limit → z.limit ≤ last_number One → IsLog log → OpensLog z old s log needed
-  opened free needed published running number within few is_log = record {
+  -- the last edit names the segment that the log is in
+  in_place_then : IsLog log → took.world.installed.last.segment ≡ log.wal.segment
+  in_place_then k =
+      in_place took.world.writes took.world.installed.last.segment (at_sound (place_at z s.by) s.knows took.world took.stands).coupled.last (subst NoneNext (sym took.is) k.none_waits)
+      ∙ ap (λ (d : WriteTable). d.segment) took.is ∙ k.segment
+
+  -- so the limit is that of its version
+  limit_then : IsLog log → min z.limit (last_number log.wal.format) ≡ limit_at z took.world.installed.last.segment.base
+  limit_then k =
+      ap (λ (f : Format). min z.limit (last_number f)) (k.form ∙ ap (λ (g : Segment). format_at log.first g.base) (sym (in_place_then k)))
+      ∙ sym (limit_is z log.first took.world.installed.last.segment.base took.of_store)
+
+  pub opened : IsFree z.table old → (needed published limit : ℕ) → log.table.closed ≡ false → published ≡ length history → limit ≡ min z.limit (last_number log.wal.format) → published + needed ≤ limit → IsLog log → OpensLog z old s log needed
+  opened free needed published limit running number is within is_log = record {
     took = took;
     holds = record { turn = alone free; pending = took.knows.0; seen = took.seen; of_store = took.of_store; words = took.knows.1 };
     running = running;
-    within = subst (λ (n : ℕ). n + needed ≤ z.limit) number within;
-    few = few;
-    numbers = (let fits = last_least log.wal.format in omega (arith, fits, few, within, number));
+    within = subst (λ (x : ℕ × ℕ). x.0 + needed ≤ x.1) (λ i. (number i, (is ∙ limit_then is_log) i)) within;
+    numbers = omega (arith, is, within, number);
     is_log = is_log;
   }
 
@@ -177,15 +189,15 @@ module _ {D : Type 0} (z : SharedState D) (old s : SeatState) (log : LogState) (
           left_alone log new true seen closed is_log took.of_store is_log refl,
         )
 
-  pub full_back : (new : SeatState) (needed published limit : ℕ) (Asks : List Entry → Type 0) → log.table.closed ≡ false → IsLog log → published ≡ length history → limit ≡ z.limit → limit < published + needed → Given z write_turn s new [] []
+  pub full_back : (new : SeatState) (needed published limit : ℕ) (Asks : List Entry → Type 0) → log.table.closed ≡ false → IsLog log → published ≡ length history → limit ≡ min z.limit (last_number log.wal.format) → limit < published + needed → Given z write_turn s new [] []
       → Refuses z old new needed Asks was was (NumbersFull published limit) × LeavesDevice z was old new
   full_back new needed published limit Asks running is_log number is over gives =
       let seen : new.knows.participant.seen ≡ history = ap (λ (x : SeatState). x.knows.participant.seen) gives.goes.same ∙ took.seen in (
         (
           number ∙ ap (λ (es : List Entry). length es) (sym seen),
-          is,
           over,
           found_then new.knows.participant.seen false seen running,
+          is ∙ limit_then is_log,
           given_back IsLoose z old s new was gives same_by starts_then is_then (λ fact loose. loose) (λ fact loose there. noted_then fact there) made_then joined_then,
         ),
         left_alone log new false seen running is_log took.of_store is_log refl,
@@ -207,7 +219,7 @@ module _ {D : Type 0} (z : SharedState D) (old s t new : SeatState) (log left : 
         grown = o.took.grown;
         found_log = found_then z old s log o.took before_it false refl o.running;
         seen = ap (λ (x : SeatState). x.knows.participant.seen) gives.goes.same ∙ seen_there;
-        within = subst (λ (n : ℕ). n ≤ z.limit) (sym (length-append before_it entries)) o.within;
+        within = subst (λ (n : ℕ). n ≤ limit_at z o.took.world.installed.last.segment.base) (sym (length-append before_it entries)) o.within;
         goes_on = given_back _ z old t new (record it { own = it.own ++ numbers_behind (length before_it) entries }) gives (put.same_by ∙ same_by z old s log o.took)
             (starts_on it.seen before_it t.knows.participant.seen o.took.grown (entries, seen_there))
             (ap (λ (a : Actor). a.participant) put.knows ∙ ap (putting before_it entries) (participant_then z old s log o.took)
@@ -242,8 +254,8 @@ module _ {D : Type 0} (z : SharedState D) (old s t new : SeatState) (log left : 
   recorded (Err write_error.LogFault) p =
       let back = not_put_back _ true (failing entries) (λ es x. refl) p.0 in (
         (
-          subst (λ (es : List Entry). length es + length entries ≤ z.limit) (sym back.0) o.within,
           found_then z old s log o.took new.knows.participant.seen false back.0 o.running,
+          subst (λ (es : List Entry). length es + length entries ≤ limit_at z o.took.world.installed.last.segment.base) (sym back.0) o.within,
           (
             entries,
             refl,

@@ -6,7 +6,6 @@ use Rattle.wp_model.specs.declared.entry.Entry.TheVariants.{Prepare, Commit, Und
 use Rattle.wp_model.specs.History.{named}
 use Rattle.wp_model.specs.Legal.{IsLegal, prior}
 use Rattle.wp_model.specs.declared.change.Change.{Change}
-use Rattle.wp_fields.specs.declared.format.Format.TheVariants.{One}
 use Rattle.wp_entry.specs.Record.{last_number}
 use Rattle.wp_core.specs.Lists.{IsIn}
 use Rattle.wp_core.specs.Sound.Views.{guarded_by}
@@ -18,6 +17,7 @@ use Rattle.wp_records.specs.declared.error.WriteError.TheVariants as write_error
 use Rattle.wp_records.specs.Records.{IsAboutNone, IsPut, Puts}
 use Rattle.wp_records.specs.Writing.{HoldsWrite}
 use Rattle.wp_shared.specs.Calls.{ContinuesWith, Continues}
+use Rattle.wp_shared.specs.Limits.{limit_at}
 use Rattle.wp_shared.specs.Seats.{SharedState, SeatState}
 use Rattle.wp_shared.specs.Turns.{TookLog}
 use Rattle.wp_txn.specs.declared.error.TxnError.{TxnError}
@@ -45,13 +45,12 @@ MayNote (noting.Undecided name) history entries = (batch : List Change) × (entr
 MayNote (noting.Unprepared name) history entries = IsEndOf name.now history entries
 
 -- The seat took the write turn with this log, which is running, and holds no other. So many entries more have their numbers within
--- the limit, and the log's version has them. The device has what the log's table says.
+-- the limit of its segment, and the log's version has them. The device has what the log's table says.
 pub record OpensLog {D : Type 0} (z : SharedState D) (old new : SeatState) (log : LogState) (needed : ℕ) : Type 0 where
   pub took : TookLog z old new log
   pub holds : HoldsWrite z new log
   pub running : log.table.closed ≡ false
-  pub within : length log.table.history + needed ≤ z.limit
-  pub few : z.limit ≤ last_number One
+  pub within : length log.table.history + needed ≤ limit_at z took.world.installed.last.segment.base
   pub numbers : length log.table.history + needed ≤ last_number log.wal.format
   pub is_log : IsLog log
 

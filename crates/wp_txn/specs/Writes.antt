@@ -20,6 +20,7 @@ use Rattle.wp_shared.specs.Parts.{log_first}
 use Rattle.wp_records.specs.Writing.{FoundLog}
 use Rattle.wp_records.specs.Records.{numbers_behind, failing, FailsAppend, IsUncalled}
 use Rattle.wp_shared.specs.Calls.{ContinuesWith, Continues, remembering}
+use Rattle.wp_shared.specs.Limits.{limit_at}
 use Rattle.wp_shared.specs.Seats.{SharedState, SeatState}
 use Rattle.wp_txn.specs.declared.error.TxnError.{TxnError}
 use Rattle.wp_txn.specs.declared.error.TxnError.TheVariants.{Memory, Busy, NumbersFull, LogFault, Stopped}
@@ -30,13 +31,13 @@ use Rattle.wp_txn.specs.Txn.{OpenState, PreparedState, HasOpen, HasPrepared}
 -- ---- any entries
 
 -- The seat put the entries behind this history, in which it found the log running; they end what it has seen, and their numbers
--- are its own. It was the first participant as it found the log, and is the second one but for what it put; it has these facts
+-- are its own, within the limit that the store has while the log is in the segment that the last edit named then. It was the first participant as it found the log, and is the second one but for what it put; it has these facts
 -- still.
 pub record HasPut {D : Type 0} (Stays : Fact → Type 0) (z : SharedState D) (old new : SeatState) (found after : Participant) (history entries : List Entry) : Type 0 where
   pub grown : StartsWith history old.knows.participant.seen
-  pub found_log : FoundLog z old.by found history false
+  pub found_log : FoundLog z old found history false
   pub seen : new.knows.participant.seen ≡ history ++ entries
-  pub within : length (history ++ entries) ≤ z.limit
+  pub within : length (history ++ entries) ≤ limit_at z found_log.world.installed.last.segment.base
   pub goes_on : ContinuesWith Stays z old new (record after { own = after.own ++ numbers_behind (length history) entries })
 
 -- ... behind some history
@@ -66,12 +67,12 @@ HadFault z found entries = HadLog z found (λ before left. FailsAppend before en
 abbrev pub Refuses : {D : Type 0} → SharedState D → SeatState → SeatState → ℕ → (List Entry → Type 0) → Participant → Participant → TxnError → Type 0
 Refuses z old new needed Asks found after Memory = Continues z old new after
 Refuses z old new needed Asks found after (Stopped n) =
-    (n ≡ length new.knows.participant.seen) × FoundLog z old.by found new.knows.participant.seen true × Continues z old new (remembering (stopped n ∷ []) after)
+    (n ≡ length new.knows.participant.seen) × FoundLog z old found new.knows.participant.seen true × Continues z old new (remembering (stopped n ∷ []) after)
 Refuses z old new needed Asks found after (NumbersFull published limit) =
-    (published ≡ length new.knows.participant.seen) × (limit ≡ z.limit) × (limit < published + needed)
-    × FoundLog z old.by found new.knows.participant.seen false × Continues z old new after
+    (published ≡ length new.knows.participant.seen) × (limit < published + needed)
+    × (found_log : FoundLog z old found new.knows.participant.seen false) × (limit ≡ limit_at z found_log.world.installed.last.segment.base) × Continues z old new after
 Refuses z old new needed Asks found after LogFault =
-    (length new.knows.participant.seen + needed ≤ z.limit) × (found_log : FoundLog z old.by found new.knows.participant.seen false)
+    (found_log : FoundLog z old found new.knows.participant.seen false) × (length new.knows.participant.seen + needed ≤ limit_at z found_log.world.installed.last.segment.base)
     × ((entries : List Entry) × Asks entries × Continues z old new (failing entries after) × IsLegal (new.knows.participant.seen ++ entries) × HadFault z found_log.world.writes entries)
 Refuses z old new needed Asks found after other = ⊥
 
@@ -102,7 +103,7 @@ SawNoMore old new = new.knows.participant.seen ≡ old.knows.participant.seen
 -- of the history; or it had the turn, as this participant, and gave the log back with its device uncalled.
 abbrev pub LeavesDevice : {D : Type 0} → SharedState D → Participant → SeatState → SeatState → Type 0
 LeavesDevice z found old new =
-    SawNoMore old new ⊎ ((closed : Bool) × (found_log : FoundLog z old.by found new.knows.participant.seen closed) × HadLog z found_log.world.writes IsUncalled)
+    SawNoMore old new ⊎ ((closed : Bool) × (found_log : FoundLog z old found new.knows.participant.seen closed) × HadLog z found_log.world.writes IsUncalled)
 
 -- unless the answer is that the device failed
 abbrev pub MayLeaveDevice : {D : Type 0} → SharedState D → Participant → SeatState → TxnError → SeatState → Type 0

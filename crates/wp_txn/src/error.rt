@@ -27,7 +27,7 @@ pub enum TxnError {
     /// A client has the transaction.
     #[error("inuse")]
     InUse(Name),
-    /// The next numbers would be above the limit.
+    /// The next numbers would be above the limit, the lesser of the store's and the last number of the log's version.
     #[error("full {published} {limit}")]
     NumbersFull { published: Seq, limit: Seq },
     /// The log's device failed.

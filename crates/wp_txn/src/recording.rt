@@ -1,7 +1,8 @@
 //! A record of entries, from the taking of the write turn to its giving.
-ghost use Rattle.std.specs.Prelude.{◌≡◌, ◌+◌, ◌≤◌, ℕ, true, false, List, [], ◌∷◌, length, IfOk, IfErr};
+ghost use Rattle.std.specs.Prelude.{◌≡◌, ◌+◌, ◌≤◌, ℕ, min, true, false, List, [], ◌∷◌, length, IfOk, IfErr};
 ghost use Rattle.wp_model.specs.Batch.{is_batch};
 ghost use Rattle.wp_model.specs.declared.entry.Entry.TheVariants.{Write, Prepare, Commit, Undo, Close};
+ghost use Rattle.wp_fields.specs.declared.format.Format.TheVariants.{Two};
 ghost use Rattle.wp_entry.specs.Record.{last_number};
 ghost use Rattle.wp_core.specs.Turns.{write_turn};
 ghost use Rattle.wp_core.specs.Views.{undecided_at, unprepared};
@@ -20,6 +21,7 @@ use crate::steps::{find_log_closed, note_undecided, note_unprepared};
 use crate::txn::{OpenTxn, PreparedTxn};
 use std::alloc::Global;
 use std::sync::Wait;
+use wp_fields::Format;
 use wp_model::{Batch, Name, Seq};
 use wp_outside::Disk;
 use wp_read::laws::held_keys_keep_their_values;
@@ -36,7 +38,19 @@ pub(crate) enum Noting<'a> {
     Unprepared(&'a Name),
 }
 
-/// Takes the write turn with the log, if that is running and so many entries more have their numbers within the limit.
+/// The greatest number that an entry of a log in this version may get, where this is the limit.
+fn least_limit(limit: Seq, format: Format) -> Seq
+    requires { limit ≤ last_number Two }
+    ensures { result ≡ min limit (last_number format) }
+{
+    match format {
+        Format::One => limit.min(u64::from(u32::MAX)),
+        Format::Two => limit,
+    }
+}
+
+/// Takes the write turn with the log, if that is running and so many entries more have their numbers within the limit, of which those
+/// of its version are the last.
 fn open_log<D: Disk + Drop, R: Wait>(
     store: &Shared<D>,
     rt: &R,
@@ -56,7 +70,7 @@ fn open_log<D: Disk + Drop, R: Wait>(
         store.give_turn(seat, log);
         return Err(TxnError::Stopped(published));
     }
-    let limit = store.limit();
+    let limit = least_limit(store.limit(), log.format());
     if published + needed > limit {
         store.give_turn(seat, log);
         return Err(TxnError::NumbersFull { published, limit });

@@ -1,4 +1,4 @@
-use Rattle.std.proofs.Common.{◌≡◌, ◌≢◌, suc, List, [], length, refl, sym, subst, ap, ◌∙◌}
+use Rattle.std.proofs.Common.{◌≢◌, suc, List, [], length, refl, sym, subst, ap, ◌∙◌}
 use Rattle.std.specs.Prelude.{Result, Err}
 use Rattle.std.proofs.lemmas.Result.{err_from_is_err_and}
 use Rattle.wp_model.specs.declared.entry.Entry.{Entry}

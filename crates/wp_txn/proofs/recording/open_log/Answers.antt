@@ -1,5 +1,4 @@
-use Rattle.std.proofs.Common.{ℕ, ◌+◌, ◌≤◌, ◌<◌, [], length, sym, subst, ap, ◌∙◌}
-use Rattle.wp_fields.specs.declared.format.Format.TheVariants.{One}
+use Rattle.std.proofs.Common.{[], length, min, sym, subst, ap, ◌∙◌}
 use Rattle.wp_entry.specs.Record.{last_number}
 use Rattle.wp_shared.specs.Log.{LogState, IsLog}
 use Rattle.wp_shared.specs.Notes.{seat_of}
@@ -30,7 +29,7 @@ returns-then-published-needed-clause-refused g c =
     let p = c.published-published in
     let number = p.ensures.value ∙ ap (λ (x : LogState). length x.table.history) c.deref-2.ensures in
     let running = ap (λ (x : LogState). x.table.closed) (sym c.deref-3.ensures) ∙ sym c.is_closed.ensures ∙ c.if-is_closed.false in
-    full_back _ _ _ _ c.take_log-log.ensures c.give_turn-then-published-needed.new.seat c.args.needed p.result c.limit-limit.result (λ asked. ⊥) running (subst IsLog c.deref.ensures c.shows_told.ensures.log) number c.limit-limit.ensures.0 c.if-published-needed.true
+    full_back _ _ _ _ c.take_log-log.ensures c.give_turn-then-published-needed.new.seat c.args.needed p.result c.least_limit-limit.result (λ asked. ⊥) running (subst IsLog c.deref.ensures c.shows_told.ensures.log) number (c.least_limit-limit.ensures ∙ (λ i. min (c.limit.ensures.0 i) (last_number ((c.format.ensures ∙ ap (λ (x : LogState). x.wal.format) c.deref-4.ensures) i)))) c.if-published-needed.true
     (c.give_turn-then-published-needed.ensures [] [] (alone _ _ _ _ c.take_log-log.ensures c.requires.free))
 
 pub returns-clause-ok : goal.returns-clause-ok
@@ -38,5 +37,4 @@ returns-clause-ok g c =
     let p = c.published-published in
     let number = p.ensures.value ∙ ap (λ (x : LogState). length x.table.history) c.deref-2.ensures in
     let running = ap (λ (x : LogState). x.table.closed) (sym c.deref-3.ensures) ∙ sym c.is_closed.ensures ∙ c.if-is_closed.false in
-    opened _ _ _ _ c.take_log-log.ensures c.requires.free c.args.needed p.result running number (subst (λ (n : ℕ). p.result + c.args.needed ≤ n) c.limit-limit.ensures.0 c.if-published-needed.false)
-    (subst (λ (n : ℕ). n ≤ last_number One) c.limit-limit.ensures.0 c.limit-limit.ensures.2) (subst IsLog c.deref.ensures c.shows_told.ensures.log)
+    opened _ _ _ _ c.take_log-log.ensures c.requires.free c.args.needed p.result c.least_limit-limit.result running number (c.least_limit-limit.ensures ∙ (λ i. min (c.limit.ensures.0 i) (last_number ((c.format.ensures ∙ ap (λ (x : LogState). x.wal.format) c.deref-4.ensures) i)))) c.if-published-needed.false (subst IsLog c.deref.ensures c.shows_told.ensures.log)

@@ -1,5 +1,7 @@
-use Rattle.std.proofs.Common.{ℕ, ◌≤◌, subst, sym, ◌∙◌}
-use Rattle.wp_shared.proofs.Opened.{one_store, log_there, set_there, last_edit_is, last_guarded, first_guarded, devices_back}
+use Rattle.std.proofs.Common.{ℕ, ◌≤◌, refl, subst, sym, ap, ◌∙◌}
+use Rattle.wp_ledger.specs.History.{RoomyHistory}
+use Rattle.wp_parts.proofs.OpeningLemmas.{has_cut}
+use Rattle.wp_shared.proofs.Opened.{one_store, segment_named, log_there, set_there, last_edit_is, last_guarded, first_guarded, devices_back}
 use Rattle.wp_shared.proofs.shared.Shared.new.Goals as goal
 
 pub new-requires-clause-parts : goal.new-requires-clause-parts
@@ -7,7 +9,7 @@ new-requires-clause-parts g c = rw c.of-entries.ensures (c.in-Ok.ensures.founds 
 
 pub invariant_of-result : goal.invariant_of-result
 invariant_of-result g c = let o = c.requires.opened in let f = c.in-Ok.ensures.slots in
-    (one_store _ c.in-Ok.slots.items _ _ c.in-Ok-new.ensures.words.2 (log_there _ _ _ _ _ f) (set_there _ _ _ _ _ f) o.4.installed.id_is o.4.id_fits, subst (λ (n : ℕ). 1 ≤ n) (sym c.in-Ok-new.ensures.words.1) c.count_words-cells.ensures.range.0, c.requires.limit.0, c.requires.limit.1, c.in-Ok-new.ensures.words.1 ∙ c.count_words-cells.ensures.count, c.requires.bits)
+    (one_store _ _ _ c.in-Ok.slots.items _ _ _ (c.in-Ok-new.ensures.words.0 ∙ ap (λ (h : RoomyHistory). h.entries) c.of-entries.ensures) c.in-Ok-new.ensures.words.2 (log_there _ _ _ _ _ f) (set_there _ _ _ _ _ f) (last_edit_is _ _ _ _ _ f _ refl) o.4.one_id o.4.id_fits (segment_named _ _ _ _ _ _ _ _ _ o.4) (has_cut _ _ _ _ _ _ _ _ _ o.4), subst (λ (n : ℕ). 1 ≤ n) (sym c.in-Ok-new.ensures.words.1) c.count_words-cells.ensures.range.0, c.requires.limit.0, c.requires.limit.1, c.in-Ok-new.ensures.words.1 ∙ c.count_words-cells.ensures.count, c.requires.bits)
 
 pub out_of-requires : goal.out_of-requires
 out_of-requires g c = last_guarded _ _ _ _ _ c.in-Ok.ensures.slots c.in-Err-new.slots.items c.in-Err-new.ensures.refused c.remove.result c.remove.ensures.value

@@ -1,7 +1,6 @@
 use Rattle.std.proofs.Common.{List, sym, subst}
 use Rattle.wp_model.specs.declared.entry.Entry.{Entry}
-use Rattle.wp_open.specs.Opens.{OpensTo, AllKnown, installed_of}
-use Rattle.wp_open.specs.Parts.{PartsOpened}
+use Rattle.wp_open.specs.Parts.{PartsOpened, ArePartsOf}
 use Rattle.wp_parts.specs.Devices.{DevicesLeft, devices_of}
 use Rattle.wp_shared.proofs.Opened.{refused_late}
 use Rattle.wp_shared.proofs.shared.Shared.open.Goals as goal
@@ -24,14 +23,7 @@ returns-in-Ok-new-clause-opened g c =
       set_is = c.in-Ok-new.ensures.set;
       last_is = c.in-Ok-new.ensures.last_edit;
       parts = subst (λ (h : List Entry). PartsOpened c.args.id old.log old.manifest old.tables parts.wal h parts.manifest tables parts.store) same e.opened;
-      opens = subst (λ (h : List Entry). AllKnown old.log old.manifest old.tables (OpensTo parts.wal.id h (installed_of parts.manifest.edit parts.store.tables))) same e.found.opens;
-      log_survives = e.found.log.survives;
-      manifest_survives = e.found.manifest.survives;
-      log_durable = e.found.log.durable;
-      manifest_durable = e.found.manifest.durable;
-      log_later = e.found.log.later;
-      manifest_later = e.found.manifest.later;
-      tables_later = e.found.tables_later;
+      found = subst (λ (h : List Entry). ArePartsOf c.args.id old parts.wal h parts.manifest (g.D.Peek.faults parts.tables) parts.store) same e.found;
     }
 
 pub returns-in-Err-new-clause-refused : goal.returns-in-Err-new-clause-refused
