@@ -7,7 +7,7 @@ use Rattle.wp_model.specs.Flushed.{InstalledEdit}
 use Rattle.wp_core.specs.Lists.{IsIn}
 use Rattle.wp_core.specs.Sound.Actors.{StartsWith}
 use Rattle.wp_core.specs.Tables.{Installed, installed}
-use Rattle.wp_core.specs.Views.{Event, tables_failed}
+use Rattle.wp_core.specs.Views.{Event, log_failed, log_stopped, stopped, tables_failed}
 use Rattle.wp_core.specs.Views as event
 use Rattle.wp_core.specs.World.{Participant, World}
 use Rattle.wp_rule.specs.Words.{IsAt}
@@ -19,9 +19,13 @@ use Rattle.wp_shared.proofs.Onward.{starts_equal}
 use Rattle.wp_maint.specs.declared.done.Done.{Done}
 use Rattle.wp_maint.specs.declared.error.MaintError.{MaintError}
 use Rattle.wp_maint.specs.declared.error.MaintError.TheVariants.{Memory, Nothing, TableFault, TablesStopped}
+use Rattle.wp_maint.specs.declared.renewed.Renewed.{Renewed}
+use Rattle.wp_maint.specs.declared.renewed.RenewError.{RenewError}
+use Rattle.wp_maint.specs.declared.renewed.RenewError.TheVariants as renewal
 use Rattle.wp_maint.specs.Calls.{Finds, Flushes, Compacts, is_of_install, installs_of, LeavesManifest, LeavesOnce, LeavesEach, MadeNoInstall, FailedOnce, UnlessFault, RefusesBeforeInstall, found_by}
 use Rattle.wp_maint.specs.Compaction.{InRound}
 use Rattle.wp_maint.specs.Installs.{AreLeft, HasBroken, NotInstalled}
+use Rattle.wp_maint.specs.Renewal.{IsRefusedBefore, Renews, UnlessDeviceFault}
 use Rattle.wp_maint.proofs.Onward.{IsSeat, held_between}
 
 -- ---- unless a device failed
@@ -35,6 +39,16 @@ unless_more f (TablesStopped flushed) k = f k
 pub err_more : {A B : Type 0} → (A → B) → (result : Result Done MaintError) → IfErr result (UnlessFault A) → IfErr result (UnlessFault B)
 err_more f (Ok done) k = tt
 err_more f (Err why) k = unless_more f why k
+
+-- ... of a renewal
+pub renewal_more : {A B : Type 0} → (A → B) → (result : Result Renewed RenewError) → IfErr result (UnlessDeviceFault A) → IfErr result (UnlessDeviceFault B)
+renewal_more f (Ok done) k = tt
+renewal_more f (Err renewal.TableFault) k = tt
+renewal_more f (Err renewal.Memory) k = f k
+renewal_more f (Err (renewal.TablesStopped flushed)) k = f k
+renewal_more f (Err (renewal.Stopped n)) k = f k
+renewal_more f (Err renewal.Nothing) k = f k
+renewal_more f (Err renewal.LogFault) k = f k
 
 pub round_more : {A B : Type 0} → (A → B) → (result : Option (Result Done MaintError)) → InRound A result → InRound B result
 round_more f (Some result) k = err_more f result k
@@ -121,7 +135,25 @@ module _ {D : Type 0} (z : SharedState D) (old new : SeatState) where
   flushed_grown (Err TableFault) k = k.1.1.goes_on.seen
   flushed_grown (Err (TablesStopped flushed)) k = k.1.goes_on.seen
 
+  pub renewed_grown : (result : Result Renewed RenewError) → Renews z old result new → StartsWith new.knows.participant.seen p.seen
+  renewed_grown (Ok done) k = k.1.goes_on.seen
+  renewed_grown (Err renewal.Memory) k = k.1.seen
+  renewed_grown (Err (renewal.TablesStopped flushed)) k = k.1.goes_on.seen
+  renewed_grown (Err (renewal.Stopped n)) k = k.1.goes_on.seen
+  renewed_grown (Err renewal.Nothing) k = k.1.goes_on.seen
+  renewed_grown (Err renewal.TableFault) k = k.1.goes_on.seen
+  renewed_grown (Err renewal.LogFault) k = k.1.goes_on.seen
+
   module _ (Leaves : Type 0) where
+    pub renewed_before : (result : Result Renewed RenewError) → Renews z old result new → IfErr result (UnlessDeviceFault Leaves) → IfErr result (λ why. IsRefusedBefore Leaves old why new)
+    renewed_before (Ok done) k left = tt
+    renewed_before (Err renewal.Memory) k left = (ap installs_of k.1.participant, left)
+    renewed_before (Err (renewal.TablesStopped flushed)) k left = (none_remembered (found_by z old new k.0 k.1.found ∷ []) refl k.1.goes_on, left)
+    renewed_before (Err (renewal.Stopped n)) k left = (none_remembered (found_by z old new k.0 k.1.found ∷ stopped n ∷ []) refl k.1.goes_on, left)
+    renewed_before (Err renewal.Nothing) k left = (none_remembered (found_by z old new k.0 k.1.found ∷ []) refl k.1.goes_on, left)
+    renewed_before (Err renewal.TableFault) k left = (k.0.last, k.1.asked, remembered (found_by z old new k.0 k.1.found ∷ tables_failed k.0.last k.1.asked ∷ log_stopped ∷ []) k.1.goes_on)
+    renewed_before (Err renewal.LogFault) k left = (none_remembered (found_by z old new k.0 k.1.found ∷ log_failed [] ∷ []) refl k.1.goes_on, left)
+
     pub flushed_before : (result : Result Done MaintError) → Flushes z old result new → IfErr result (UnlessFault Leaves) → IfErr result (λ why. RefusesBeforeInstall Leaves old why new)
     flushed_before (Ok done) k left = tt
     flushed_before (Err Memory) k left = (ap installs_of k.1.participant, left)

@@ -10,9 +10,11 @@ use Rattle.wp_model.specs.Decision as decision
 use Rattle.wp_model.specs.Decision.{IsCommittedAt}
 use Rattle.wp_keep.specs.declared.pair.Pair.{Pair}
 use Rattle.wp_keep.specs.Keep.{is_committed}
+use Rattle.wp_model.specs.Legal.{IsLegal}
 use Rattle.wp_core.specs.Lists.{IsIn}
+use Rattle.wp_core.specs.Sound.Actors.{StartsWith}
 use Rattle.wp_maint.specs.Decided.{Decides, version_numbers}
-use Rattle.wp_maint.proofs.Covering.{committed_true, committed_only}
+use Rattle.wp_maint.proofs.Covering.{committed_true, committed_only, committed_whole, committed_front}
 
 or_either : (a b : Bool) → (a || b) ≡ true → (a ≡ true) ⊎ (b ≡ true)
 or_either true b is = inl refl
@@ -68,10 +70,19 @@ module _ (history : List Entry) (p n : ℕ) (pairs : List Pair) where
 
 -- ---- one after another
 
-in_either : {X : Type 0} (x : X) (xs ys : List X) → IsIn x (xs ++ ys) → IsIn x xs ⊎ IsIn x ys
+pub in_either : {X : Type 0} (x : X) (xs ys : List X) → IsIn x (xs ++ ys) → IsIn x xs ⊎ IsIn x ys
 in_either x [] ys k = inr k
 in_either x (y ∷ xs) ys (inl same) = inl (inl same)
 in_either x (y ∷ xs) ys (inr rest) = ⊎_elim (λ (a : IsIn x xs). inl (inr a)) (λ (b : IsIn x ys). inr b) (in_either x xs ys rest)
+
+pub in_front : {X : Type 0} (x : X) (xs ys : List X) → IsIn x xs → IsIn x (xs ++ ys)
+in_front x [] ys none = absurd none
+in_front x (y ∷ xs) ys (inl same) = inl same
+in_front x (y ∷ xs) ys (inr rest) = inr (in_front x xs ys rest)
+
+pub in_back : {X : Type 0} (x : X) (xs ys : List X) → IsIn x ys → IsIn x (xs ++ ys)
+in_back x [] ys there = there
+in_back x (y ∷ xs) ys there = inr (in_back x xs ys there)
 
 pub decided_none : (history : List Entry) (ps : List ℕ) (pairs : List Pair) → Decides history ps [] pairs pairs
 decided_none history ps pairs = record { still = λ p n there. there; only = λ p n there. inl there; all = λ p n mine none at. absurd none }
@@ -100,6 +111,14 @@ module _ (history : List Entry) (before mid after : List Pair) where
     all = λ p n mine here at. ⊎_elim (λ (k : IsIn p ps). second.still p n (first.all p n k here at)) (λ (k : IsIn p qs). second.all p n k here at) (in_either p ps qs mine);
   }
 
+-- what was decided over the first entries is decided over all of them, at numbers that those have
+pub decides_grown : (whole front : List Entry) → StartsWith whole front → IsLegal whole → (ps ns : List ℕ) (before after : List Pair) → ((n : ℕ) → IsIn n ns → n ≤ length front) → Decides front ps ns before after → Decides whole ps ns before after
+decides_grown whole front starts legal ps ns before after low k = record {
+  still = k.still;
+  only = λ p n there. ⊎_elim (λ old. inl old) (λ at. inr (committed_whole whole front starts p n at)) (k.only p n there);
+  all = λ p n mine here at. k.all p n mine here (committed_front whole front starts legal p n (low n here) at);
+}
+
 -- ---- in a list
 
 pub in_place : {X : Type 0} (xs : List X) (i : ℕ) (x : X) → i < length xs → x ≡ get_or xs i x → IsIn x xs
@@ -116,7 +135,7 @@ mapped_next f xs i x lt is = ap (map f) (take_more xs i x lt ∙ ap (λ y. take 
 
 -- ---- the pairs tell what the history tells
 
-same_bool : (a b : Bool) → (a ≡ true → b ≡ true) → (b ≡ true → a ≡ true) → a ≡ b
+pub same_bool : (a b : Bool) → (a ≡ true → b ≡ true) → (b ≡ true → a ≡ true) → a ≡ b
 same_bool true b there back = sym (there refl)
 same_bool false true there back = back refl
 same_bool false false there back = refl

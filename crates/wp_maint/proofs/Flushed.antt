@@ -78,7 +78,7 @@ module _ {D : Type 0} (z : SharedState D) (s u : SeatState) (e left : EditsState
             so = parts ∙ ap (λ (l : List Version). l ∷ e.parts) (frozen.versions ∙ ap (λ (h : List Entry). sorted_of (unflushed h e.table.last)) (sym seen));
           };
           survives = subst (λ (h : List Entry). SurvivesInstall e left (after_flush h e.table.last)) (sym seen) k.survives;
-          throughout = opens_throughout s.knows.participant.seen v.knows.participant.seen e left next (after_flush v.knows.participant.seen e.table.last) k.edits running k.survives frozen.covered seen (ap (λ (h : List Entry). after_flush h e.table.last) (sym seen));
+          throughout = opens_throughout s.knows.participant.seen v.knows.participant.seen e left next (after_flush v.knows.participant.seen e.table.last) k.edits running k.survives frozen.covered refl seen (ap (λ (h : List Entry). after_flush h e.table.last) (sym seen));
           goes_on = subst (λ (h : List Entry). GoesOnAs s v (after (after_flush h e.table.last))) (sym seen) (goes_still s u v (after next) first second);
         }
 
@@ -97,7 +97,7 @@ module _ {D : Type 0} (z : SharedState D) (s u : SeatState) (e left : EditsState
       left = held_left z s u u (with_failed e.table left.table.failed) k.stands (changed_seat z s u e.table left.table k.changes) seen refl
           (subst (λ (t : Installed). IsIn (installed t) u.knows.held) k.table (subst (IsIn (installed left.table)) (sym k.holds.turn.held) (inl refl)));
       fault = record { before = e; after = left; of_store = holds.of_store; still_of_store = k.holds.of_store; before_is = refl; after_is = k.table; edits = k.edits; still_edits = k.still_edits; so = k.fault };
-      survives = (next, ap (λ (h : List Entry). after_flush h e.table.last) (sym seen), k.survives, opens_throughout s.knows.participant.seen u.knows.participant.seen e left next next k.edits running k.survives frozen.covered seen refl);
+      survives = (next, ap (λ (h : List Entry). after_flush h e.table.last) (sym seen), k.survives, opens_throughout s.knows.participant.seen u.knows.participant.seen e left next next k.edits running k.survives frozen.covered refl seen refl);
       goes_on = goes_remembering s u (found_by z s u e.table k.changes.found ∷ tables_failed e.table.last left.table.failed ∷ []) no_fact (installed left.table ∷ []) s.turns k.changes.goes loose_none;
     },
   )

@@ -1,5 +1,5 @@
 -- What is frozen, and what the seat then knows of it.
-use Rattle.std.proofs.Common.{◌≡◌, inl, inr, ℕ, ◌≤◌, Bool, List, [], ◌∷◌, length, Option, Some, None, refl, sym, subst, ap, ◌∙◌, arith}
+use Rattle.std.proofs.Common.{◌≡◌, ◌<◌, inl, inr, ℕ, ◌≤◌, Bool, List, [], ◌∷◌, length, Option, Some, None, refl, sym, subst, ap, ◌∙◌, arith}
 use Rattle.std.specs.Prelude.{Result, Ok, Err, IfOk}
 use Rattle.wp_model.specs.declared.entry.Entry.{Entry}
 use Rattle.wp_model.specs.declared.version.Version.{Version}
@@ -8,7 +8,7 @@ use Rattle.wp_model.specs.Legal.{IsLegal}
 use Rattle.wp_model.specs.Versions.{version_at}
 use Rattle.wp_merge.specs.Merge.{joined, sorted_of}
 use Rattle.wp_merge.proofs.Sorted.{in_order_sorted}
-use Rattle.wp_replies.specs.Tables.{unflushed, after_flush}
+use Rattle.wp_replies.specs.Tables.{unflushed, after_flush, after_renewal}
 use Rattle.wp_core.specs.IsSound.{IsSound}
 use Rattle.wp_core.specs.Lists.{IsIn}
 use Rattle.wp_core.specs.Sound.Actors.{StartsWith}
@@ -16,7 +16,7 @@ use Rattle.wp_core.specs.Tables.{Content, WriteTable, StoreTable, Installed, wri
 use Rattle.wp_core.specs.Turns.{write_turn, store_turn}
 use Rattle.wp_core.specs.Views.{Fact, tables_stay, nothing_flushed, frozen_stay}
 use Rattle.wp_core.specs.World.{Actor, World}
-use Rattle.wp_rule.specs.Knows.{KnowsTables}
+use Rattle.wp_rule.specs.Knows.{KnowsTables, Noted}
 use Rattle.wp_rule.proofs.Knows.{at_sound, noted_is}
 use Rattle.wp_rule.specs.Words.{IsAt}
 use Rattle.wp_shared.specs.Edits.{EditsState}
@@ -32,7 +32,9 @@ use Rattle.wp_maint.specs.declared.frozen.Frozen.{Frozen}
 use Rattle.wp_maint.specs.Flush.{versions_of, HasCopied, HasFrozen, Freezes}
 use Rattle.wp_maint.specs.Calls.{NoneInMemory, SawWhole}
 use Rattle.wp_maint.specs.Holding.{HoldsEdits}
-use Rattle.wp_maint.proofs.Memory.{memory_is, all_numbered, all_flushed, count_is, rises, flush_covered, none_in_memory, sorted_none}
+use Rattle.wp_maint.specs.Renewal.{HasFrozenAll}
+use Rattle.wp_maint.specs.Renewing.{HasCopiedAll}
+use Rattle.wp_maint.proofs.Memory.{memory_is, all_numbered, all_flushed, count_is, rises, flush_covered, renewal_covered, none_in_memory, sorted_none}
 use Rattle.wp_maint.proofs.Onward.{settled_on}
 
 module _ {D : Type 0} (z : SharedState D) (s : SeatState) (d : WriteTable) (stock : StockState) (e : Installed) (held : s.knows.held ≡ store (store_table stock) ∷ writes d ∷ installed e ∷ [])
@@ -104,6 +106,52 @@ module _ {D : Type 0} (z : SharedState D) (s : SeatState) (d : WriteTable) (stoc
       covered = flush_covered s.knows.participant.seen seen_legal e.last seen_covered;
       noted = inl refl;
     })
+
+  -- ... for a renewal, which freezes where nothing is in memory too
+  module _ (at : ℕ) (at_is : at ≡ length d.history) (f : Frozen) (k : HasCopiedAll t at f) where
+    all_at : f.at ≡ length s.knows.participant.seen
+    all_at = k.at_is ∙ at_is ∙ ap (λ (h : List Entry). length h) (sym seen)
+
+    pub all_within : f.at ≤ length s.knows.participant.seen
+    all_within = omega (arith, all_at)
+
+    pub all_same : (key : List ℕ) (q : ℕ) → q ≤ f.at → version_at t.memory key q ≡ version_at (versions_of f) key q
+    all_same key q low = ap (λ (m : List Version). version_at m key q) (sym k.versions)
+
+    all_versions : (versions_of f) ≡ sorted_of (unflushed s.knows.participant.seen e.last)
+    all_versions = k.versions ∙ frozen_is
+
+    all_later : 1 ≤ length (versions_of f) → e.last.flushed < f.at
+    all_later some =
+        let q = ap (λ (l : List Version). length l) all_versions in
+        let r = rises s.knows.participant.seen seen_legal e.last seen_covered (omega (arith, some, q)) in omega (arith, r, all_at)
+
+    pub has_all : (u : SeatState) → u ≡ noting (frozen_stay f.at (versions_of f)) s → HasFrozenAll u.knows e f
+    has_all u is = subst (λ (a : Actor). HasFrozenAll a e f) (sym (ap (λ (x : SeatState). x.knows) is)) (record {
+      at = all_at;
+      versions = all_versions;
+      numbered = rw all_versions (all_numbered s.knows.participant.seen seen_legal e.last seen_covered);
+      flushed = rw (all_versions, all_at) (all_flushed s.knows.participant.seen seen_legal e.last seen_covered);
+      later = ((let fits = seen_covered.flushed in omega (arith, fits, all_at)), all_later);
+      tables = k.tables ∙ tables_are;
+      room = k.room;
+      covered = renewal_covered s.knows.participant.seen seen_legal e.last seen_covered;
+      noted = inl refl;
+    })
+
+-- what is frozen is so still where the notes are there still
+pub all_still : (a b : Actor) (e : Installed) (f : Frozen) → b.participant.seen ≡ a.participant.seen → (Noted a (frozen_stay f.at (versions_of f)) → Noted b (frozen_stay f.at (versions_of f))) → HasFrozenAll a e f → HasFrozenAll b e f
+all_still a b e f same still k = record {
+  at = k.at ∙ ap (λ (h : List Entry). length h) (sym same);
+  versions = k.versions ∙ ap (λ (h : List Entry). sorted_of (unflushed h e.last)) (sym same);
+  numbered = k.numbered;
+  flushed = k.flushed;
+  later = k.later;
+  tables = k.tables;
+  room = k.room;
+  covered = λ place. subst (λ (h : List Entry). IsEditCovered h (after_renewal h place e.last)) (sym same) (k.covered place);
+  noted = still k.noted;
+}
 
 -- ---- the turns are taken and given
 

@@ -12,7 +12,7 @@ use Rattle.wp_open.proofs.Later.{at_append}
 use Rattle.wp_replies.specs.Tables.{unflushed, after_flush}
 use Rattle.wp_core.specs.Lists.{IsIn}
 use Rattle.wp_core.specs.Sound.Store.{NoneFlushed}
-use Rattle.wp_core.specs.Tables.{StoreTable, Installed, store, installed}
+use Rattle.wp_core.specs.Tables.{Content, StoreTable, Installed, store, installed}
 use Rattle.wp_core.specs.Views.{Fact, tables_stay, frozen_stay}
 use Rattle.wp_core.specs.World.{Participant, Actor, World}
 use Rattle.wp_core.proofs.Tests.{none_some}
@@ -72,7 +72,7 @@ or_same : (a b : Found) → a ≡ None → option_or a b ≡ b
 or_same a b none = ap (λ (o : Found). option_or o b) none
 
 module _ {D : Type 0} (z : SharedState D) (s : SeatState) (e : Installed) (f : Frozen) (versions : List Version) (may : MayPut s.knows e f versions) (u : SeatState) (w : World) (stands : Stands z u w)
-    (notes : (fact : Fact) → Noted s.knows fact → Noted u.knows fact) (t : StoreTable) (held : u.knows.held ≡ store t ∷ installed e ∷ [])
+    (notes : (fact : Fact) → Noted s.knows fact → Noted u.knows fact) (t : StoreTable) (others : List Content) (held : u.knows.held ≡ store t ∷ others)
     (now : StoreTable) (memory : (key : List ℕ) (p : ℕ) → version_at now.memory key p ≡ cond (nat_le p f.at) None (version_at t.memory key p)) (tables : List Version) (tables_is : now.tables ≡ sorted_of (versions ++ tables)) (before : sorted_of tables ≡ may.before) where
   here : w.store ≡ t
   here = held_table (place_at z u.by) u.knows w (store t) stands (subst (IsIn (store t)) (sym held) (inl refl))

@@ -6,8 +6,10 @@ pub mod Retained
 pub mod Memory
 pub mod Onward
 pub mod BeforeInstall
+pub mod Renewing
 pub mod Freezes
 pub mod Covering
+pub mod Based
 pub mod Decisions
 pub mod Installed
 pub mod Puts

@@ -45,7 +45,7 @@ module _ (p : Place) (so : World → Type 0) (s u : SeatState) (same : (u.table 
   after = actor_after (steps m.world) m.world p.by s.knows
 
   -- it goes on from this actor, of which it has other tables and notes
-  goes_from : (from : Actor) (test : Fact → Bool) (held : List Content) → from.notes ≡ s.knows.notes → after ≡ record from { held = after.held; notes = after.notes } → after.held ≡ held → ((fact : Fact) → test fact ≡ false → Outlasts fact (steps m.world) m.world p.by s.knows)
+  pub goes_from : (from : Actor) (test : Fact → Bool) (held : List Content) → from.notes ≡ s.knows.notes → after ≡ record from { held = after.held; notes = after.notes } → after.held ≡ held → ((fact : Fact) → test fact ≡ false → Outlasts fact (steps m.world) m.world p.by s.knows)
       → GoesOn test held s.turns (record s { knows = from }) u
   goes_from from test held notes form left stays = record {
     same = goes_with (record s { knows = from }) u held s.turns after.notes same.0 same.1 same.2 (m.actor ∙ form ∙ ap (λ (c : List Content). record from { held = c; notes = after.notes }) left);
@@ -99,10 +99,10 @@ install_ends : (history : List Entry) (words : ℕ) (edit : InstalledEdit) (comp
 install_ends history words edit compacts nothing_flushed e = absurd (true≢false e)
 install_ends history words edit compacts other e = refl
 
-first_held : (a : Actor) (c : Content) (others : List Content) → a.held ≡ c ∷ others → IsIn c a.held
+pub first_held : (a : Actor) (c : Content) (others : List Content) → a.held ≡ c ∷ others → IsIn c a.held
 first_held a c others held = subst (IsIn c) (sym held) (inl refl)
 
-second_held : (a : Actor) (b c : Content) → a.held ≡ b ∷ c ∷ [] → IsIn c a.held
+pub second_held : (a : Actor) (b c : Content) → a.held ≡ b ∷ c ∷ [] → IsIn c a.held
 second_held a b c held = subst (IsIn c) (sym held) (inr (inl refl))
 
 pub may_install : (p : Place) (a : Actor) (t : Installed) (edit : InstalledEdit) (compacts : Bool) → a.held ≡ installed t ∷ [] → KnowsInstalled a t edit compacts → MayMake p a (λ w. install edit compacts ∷ [])
@@ -174,35 +174,49 @@ move_ends history words memory tables other e = refl
 abbrev pub moving : StoreTable → World → List Step
 moving t w = move_versions t.memory t.tables ∷ note nothing_flushed ∷ note (tables_stay t.tables t.floor) ∷ []
 
-module _ (p : Place) (a : Actor) (t now : StoreTable) (e : Installed) (held : a.held ≡ store t ∷ installed e ∷ []) (floor : now.floor ≡ t.floor) where
+module _ (p : Place) (a : Actor) (t now : StoreTable) (e : Installed) (others : List Content) (at : IsIn (installed e) others) (held : a.held ≡ store t ∷ others) (floor : now.floor ≡ t.floor) where
+  store_there : IsIn (store t) a.held
+  store_there = first_held a (store t) others held
+
+  tables_there : IsIn (installed e) a.held
+  tables_there = subst (IsIn (installed e)) (sym held) (inr at)
+
   both_are : (w : World) → IsAt p a w → (w.installed ≡ e) × (w.store ≡ t)
-  both_are w k = (held_table p a w (installed e) k (second_held a (store t) (installed e) held), held_table p a w (store t) k (first_held a (store t) (installed e ∷ []) held))
+  both_are w k = (held_table p a w (installed e) k tables_there, held_table p a w (store t) k store_there)
 
   pub may_move : KnowsMoved t e.last.flushed now.memory now.tables → NoneFlushed now.memory e.last.flushed → MayMake p a (moving now)
   may_move known gone w k =
-      let n = needed p a w k (move_versions now.memory now.tables) (record { table = t; held = first_held a (store t) (installed e ∷ []) held; so_is = record { table = e; held = second_held a (store t) (installed e) held; so_is = known } }) in
+      let n = needed p a w k (move_versions now.memory now.tables) (record { table = t; held = store_there; so_is = record { table = e; held = tables_there; so_is = known } }) in
       let are = both_are w k in
       let holds = n.1 in
       let live = holder_is_live p a w tables_turn k holds in
       let guard = guarded p a w k tables_turn holds in
       ((tt, (tt, (tt, tt))), (n, ((live, guard, subst (λ (x : Installed). NoneFlushed now.memory x.last.flushed) (sym are.0) gone), ((live, guard, (refl, ap (λ (x : StoreTable). x.floor) are.1 ∙ sym floor)), tt))))
 
-module _ (p : Place) (so : World → Type 0) (s u : SeatState) (same : (u.table ≡ s.table) × (u.by ≡ s.by) × (u.turns ≡ s.turns)) (t now : StoreTable) (e : Installed) (held : s.knows.held ≡ store t ∷ installed e ∷ []) (floor : now.floor ≡ t.floor)
+module _ (p : Place) (so : World → Type 0) (s u : SeatState) (same : (u.table ≡ s.table) × (u.by ≡ s.by) × (u.turns ≡ s.turns)) (t now : StoreTable) (others : List Content) (held : s.knows.held ≡ store t ∷ others) (floor : now.floor ≡ t.floor)
     (m : Moved p (moving now) so s.knows u.knows) where
   abbrev v : World
   v = m.world
 
-  left_held : held_with s.knows.held (store (record v.store { memory = now.memory; tables = now.tables })) ≡ store now ∷ installed e ∷ []
+  left_held : held_with s.knows.held (store (record v.store { memory = now.memory; tables = now.tables })) ≡ store now ∷ others
   left_held =
-      let table : v.store ≡ t = (both_are p s.knows t now e held floor v m.before).1 in
-      (λ i. held_with (held i) (store (record (table i) { memory = now.memory; tables = now.tables }))) ∙ ap (λ (f : ℕ). store (record { memory = now.memory; tables = now.tables; floor = f }) ∷ installed e ∷ []) (sym floor)
+      let table : v.store ≡ t = held_table p s.knows v (store t) m.before (first_held s.knows (store t) others held) in
+      (λ i. held_with (held i) (store (record (table i) { memory = now.memory; tables = now.tables }))) ∙ ap (λ (f : ℕ). store (record { memory = now.memory; tables = now.tables; floor = f }) ∷ others) (sym floor)
 
-  pub was_moved : GoesOn is_of_tables (store now ∷ installed e ∷ []) s.turns s u
-  was_moved = goes_from p so s u same (moving now) m s.knows is_of_tables (store now ∷ installed e ∷ []) refl refl left_held (λ fact other.
+  pub was_moved : GoesOn is_of_tables (store now ∷ others) s.turns s u
+  was_moved = goes_from p so s u same (moving now) m s.knows is_of_tables (store now ∷ others) refl refl left_held (λ fact other.
       ((λ x. x), move_ends v.writes.history (length v.cache) now.memory now.tables fact other, ((λ x. x), note_ends_none v.writes.history (length v.cache) nothing_flushed fact, ((λ x. x), note_ends_none v.writes.history (length v.cache) (tables_stay now.tables now.floor) fact, tt))))
 
   pub noted_moved : Noted u.knows nothing_flushed × Noted u.knows (tables_stay now.tables now.floor)
   noted_moved = (noted_by p so s u same (moving now) m nothing_flushed (inr (inl refl)), noted_by p so s u same (moving now) m (tables_stay now.tables now.floor) (inl refl))
+
+-- what is held beneath is one list
+pub same_others : (a : Actor) (one other : StoreTable) (ones others : List Content) → a.held ≡ store one ∷ ones → a.held ≡ store other ∷ others → ones ≡ others
+same_others a one other ones others is also = ap rest (sym is ∙ also)
+  where
+    rest : List Content → List Content
+    rest [] = []
+    rest (c ∷ cs) = cs
 
 -- ---- versions go
 

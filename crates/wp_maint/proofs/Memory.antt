@@ -1,11 +1,12 @@
 -- What stands in memory, where no flushed version does and nothing is pending: the history's versions above the flushed number.
-use Rattle.std.proofs.Common.{◌≡◌, ◌⊎◌, inl, inr, ℕ, ◌<◌, ◌≤◌, true, List, [], ◌∷◌, ◌++◌, length, take, drop, Option, Some, None, refl, sym, subst, ap, ◌∙◌, arith}
-use Rattle.std.proofs.lemmas.Bool.{cases_lt}
+use Rattle.std.proofs.Common.{◌≡◌, ◌⊎◌, inl, inr, ℕ, ◌<◌, ◌≤◌, ◌==◌, true, false, List, [], ◌∷◌, ◌++◌, length, take, drop, Option, Some, None, refl, sym, subst, ap, ◌∙◌, arith}
+use Rattle.std.proofs.lemmas.Bool.{cases_lt, eqb-true, or_cases}
 use Rattle.std.proofs.lemmas.List.{take-append-drop}
 use Rattle.std.specs.List.{list_all}
 use Rattle.std.specs.Option.{option_or}
 use Rattle.wp_model.specs.declared.entry.Entry.{Entry}
 use Rattle.wp_model.specs.declared.version.Version.{Version}
+use Rattle.wp_model.specs.Covered.{IsCovered, is_among}
 use Rattle.wp_model.specs.Decision.{entry_version, version_in}
 use Rattle.wp_model.specs.Flushed.{InstalledEdit, IsEditCovered, later_versions}
 use Rattle.wp_model.specs.Legal.{IsLegal}
@@ -17,7 +18,7 @@ use Rattle.wp_merge.specs.Merge.{sorted_of}
 use Rattle.wp_merge.proofs.Merged.{or_none}
 use Rattle.wp_merge.proofs.Sorted.{in_order_sorted, at_sorted, in_order_same, own_value}
 use Rattle.wp_open.proofs.Later.{at_append}
-use Rattle.wp_replies.specs.Tables.{unflushed, after_flush}
+use Rattle.wp_replies.specs.Tables.{unflushed, after_flush, after_renewal, with_table}
 use Rattle.wp_table.specs.Table as table
 use Rattle.wp_core.specs.Entries.{next_of}
 use Rattle.wp_core.specs.IsSound.{IsSound}
@@ -72,6 +73,17 @@ module _ (w : World) (sound : IsSound w) where
         (λ key p. ap (λ (m : List Version). version_at m key p) (sym is) ∙ memory_at key p ∙ sym (at_sorted (later_versions history flushed) key p))
 
 -- ---- what is written of it
+
+-- the versions of one table more, where it has some
+with_at : (vs : List Version) (e : InstalledEdit) (key : List ℕ) (p : ℕ) → version_at (with_table vs e).versions key p ≡ version_at (vs ++ e.versions) key p
+with_at [] e key p = refl
+with_at (v ∷ vs) e key p = at_sorted (v ∷ vs ++ e.versions) key p
+
+only : (n m : ℕ) → is_among (n ∷ []) m ≡ true → n ≡ m
+only n m h = elim (or_cases (n == m) false h) [
+  | inl here ↦ eqb-true n m here
+  | inr never ↦ absurd cc
+]
 
 module _ (seen : List Entry) (legal : IsLegal seen) (e : InstalledEdit) (covered : IsEditCovered seen e) where
   abbrev later : List Version
@@ -148,6 +160,35 @@ module _ (seen : List Entry) (legal : IsLegal seen) (e : InstalledEdit) (covered
     base = let based = covered.base in let within = covered.flushed in omega (arith, based, within);
     flushed = omega arith;
     covered = covers_same (e.versions ++ later) ((after_flush seen e).versions ++ later_versions seen (length seen)) seen (e.segment.base ∷ []) (length seen) as_before covered.covered;
+  }
+
+  -- ---- the edit of a renewal
+
+  renewed_before : (place : ℕ) (key : List ℕ) (p : ℕ) → version_at ((after_renewal seen place e).versions ++ later_versions seen (length seen)) key p ≡ version_at (e.versions ++ later) key p
+  renewed_before place key p =
+      at_append (after_renewal seen place e).versions (later_versions seen (length seen)) key p
+      ∙ ap (option_or (version_at (after_renewal seen place e).versions key p)) (nothing_left key p)
+      ∙ or_none key p (version_at (after_renewal seen place e).versions key p)
+      ∙ with_at later e key p
+      ∙ at_append later e.versions key p
+      ∙ sym (same_or (version_at e.versions key p) (version_at later key p) (agree key p))
+      ∙ sym (at_append e.versions later key p)
+
+  -- readers at its base are those at the end of the history
+  at_end : IsCovered (e.versions ++ later) seen (length seen ∷ []) (length seen)
+  at_end = record {
+    part = covered.covered.part;
+    undecided = covered.covered.undecided;
+    undone = covered.covered.undone;
+    listed = λ key n among. let same = only (length seen) n among in covered.covered.later key n (omega (arith, same)) (omega (arith, same));
+    later = covered.covered.later;
+  }
+
+  pub renewal_covered : (place : ℕ) → IsEditCovered seen (after_renewal seen place e)
+  renewal_covered place = record {
+    base = omega arith;
+    flushed = omega arith;
+    covered = covers_same (e.versions ++ later) ((after_renewal seen place e).versions ++ later_versions seen (length seen)) seen (length seen ∷ []) (length seen) (renewed_before place) at_end;
   }
 
   -- ---- nothing to write

@@ -1,16 +1,19 @@
 -- A seat that goes on, from one stage to the next.
-use Rattle.std.proofs.Common.{◌≡◌, inl, inr, ℕ, ◌≤◌, Bool, false, true, List, [], ◌∷◌, length, take, refl, sym, subst, ap, ◌∙◌, Option, Some, None}
+use Rattle.std.proofs.Common.{◌≡◌, inl, inr, ℕ, ◌<◌, ◌≤◌, Bool, false, true, List, [], ◌∷◌, ◌++◌, length, take, refl, sym, subst, ap, ◌∙◌, Option, Some, None}
 use Rattle.std.specs.Prelude.{Result, Ok, Err, IfSome}
 use Rattle.wp_model.specs.declared.entry.Entry.{Entry}
 use Rattle.wp_model.specs.declared.version.Version.{Version}
-use Rattle.wp_model.specs.Flushed.{InstalledEdit, later_versions}
+use Rattle.wp_model.specs.Flushed.{InstalledEdit}
+use Rattle.wp_model.specs.History.{undecided}
 use Rattle.wp_merge.specs.Merge.{sorted_of}
-use Rattle.wp_replies.specs.Tables.{unflushed, retained, after_flush, after_compaction}
+use Rattle.wp_replies.specs.Replies.{IsCompactionCount}
+use Rattle.wp_replies.specs.Tables.{unflushed, listed, retained, after_flush, after_compaction, after_renewal}
+use Rattle.wp_core.specs.Effects.{with_failed}
 use Rattle.wp_core.specs.Lists.{IsIn}
 use Rattle.wp_core.specs.Sound.Actors.{StartsWith}
-use Rattle.wp_core.specs.Tables.{Content, Installed, store, installed}
+use Rattle.wp_core.specs.Tables.{Content, Installed, store, installed, writes}
 use Rattle.wp_core.specs.Sound.Pasts.{tables_due}
-use Rattle.wp_core.specs.Views.{Fact, Event, tables_failed, found_edit, tables_stay, nothing_flushed, frozen_stay}
+use Rattle.wp_core.specs.Views.{Fact, Event, tables_failed, log_failed, log_stopped, stopped, found_edit, tables_stay, nothing_flushed, frozen_stay}
 use Rattle.wp_core.specs.Views as event
 use Rattle.wp_core.specs.World.{Participant, World}
 use Rattle.wp_rule.specs.Knows.{KnowsTables}
@@ -25,8 +28,13 @@ use Rattle.wp_shared.proofs.Onward.{starts_on, starts_equal, starts_same, goes_s
 use Rattle.wp_maint.specs.declared.done.Done.{Done}
 use Rattle.wp_maint.specs.declared.error.MaintError.{MaintError}
 use Rattle.wp_maint.specs.declared.error.MaintError.TheVariants.{Memory, Nothing, TableFault, TablesStopped}
+use Rattle.wp_maint.specs.declared.renewed.Renewed.{Renewed}
+use Rattle.wp_maint.specs.declared.renewed.RenewError.{RenewError}
+use Rattle.wp_maint.specs.declared.renewed.RenewError.TheVariants as renewal
+use Rattle.wp_maint.specs.Renewal.{IsBusy, HasRenewed, HasBrokenOff, RenewsFrom, LogBecame, SurvivesBeside, NamesItsSegment}
 use Rattle.wp_maint.specs.Calls.{HeldContent, HeldTables, SawWhole, Finds, HasNothing, FlushesFrom, NoneInMemory, FewTables, CompactsFrom, IsCompactionOf, found_by}
-use Rattle.wp_maint.specs.Compaction.{HadVersions, IsPassed, IsOvertaken, BeginsAgain, EndsRoundFrom}
+use Rattle.wp_maint.specs.declared.decided.Bases.{Bases}
+use Rattle.wp_maint.specs.Compaction.{AreBases, HadDecision, HadVersions, IsPassed, IsOvertaken, BeginsAgain, EndsRoundFrom}
 use Rattle.wp_maint.specs.Finding.{Remembers, Changes}
 use Rattle.wp_maint.specs.Holding.{is_of_flushed, is_of_tables, HoldsEdits}
 use Rattle.wp_maint.specs.Moments.{OpensThroughout}
@@ -137,9 +145,15 @@ module _ {D : Type 0} (z : SharedState D) (s t u v : SeatState) (same : IsSeat s
   passed_between floor e (inl flushed) = inl flushed
   passed_between floor e (inr k) = inr (k.0, had_between (store k.0) k.1, k.2)
 
-  pub overtaken_between : (floor : ℕ) (versions : List Version) (e : Installed) → IsOvertaken z t u floor versions e → IsOvertaken z s v floor versions e
-  overtaken_between floor versions e (inl passed) = inl (passed_between floor e passed)
-  overtaken_between floor versions e (inr others) = inr others
+  pub overtaken_between : (floor base : ℕ) (versions : List Version) (e : Installed) → IsOvertaken z t u floor base versions e → IsOvertaken z s v floor base versions e
+  overtaken_between floor base versions e (inl passed) = inl (passed_between floor e passed)
+  overtaken_between floor base versions e (inr others) = inr others
+
+  pub bases_between : (floor : ℕ) (bases : Bases) → AreBases z t u floor bases → AreBases z s v floor bases
+  bases_between floor bases k = record { opened = k.opened; table = k.table; held = had_between (writes k.table) k.held; installed_is = k.installed_is }
+
+  pub decision_between : (floor : ℕ) (bases : Bases) (versions : List Version) → HadDecision z t u floor bases versions → HadDecision z s v floor bases versions
+  decision_between floor bases versions k = (versions_between versions k.0, bases_between floor bases k.1)
 
 -- the seat before it saw the whole history too
 pub saw_so : {D : Type 0} (z : SharedState D) (s t : SeatState) (history seen : List Entry) → IsSeat s t → t.knows.participant.past ≡ s.knows.participant.past → history ≡ seen → SawWhole z t history → SawWhole z s seen
@@ -222,12 +236,96 @@ module _ {D : Type 0} (First Last : Participant → Type 0) (z : SharedState D) 
   )
   flushes_so seen (Err (TablesStopped flushed)) k = record { found = found_so k.found; halted = k.halted; flushed_is = k.flushed_is; goes_on = remembers_so k.found [] k.goes_on }
 
+  -- ... and of a renewal
+  busy_so : u.knows.participant.seen ≡ v.knows.participant.seen → IsBusy z t u e → IsBusy z s v e
+  busy_so seen k = record {
+    running = k.running;
+    whole = saw_whole seen k.whole;
+    unclosed = (k.unclosed.0, had_between z s t u v same same_past starts grown (writes k.unclosed.0) k.unclosed.1, k.unclosed.2);
+    below = subst (λ (h : List Entry). e.last.segment.base < length h) seen k.below;
+  }
+
+  renewed_so : (seen : u.knows.participant.seen ≡ v.knows.participant.seen) (done : Renewed) → HasRenewed First z t u e done → HasRenewed Last z s v e done
+  renewed_so seen done k = record {
+    found = found_so k.found;
+    busy = busy_so seen k.busy;
+    at = k.at ∙ ap (λ (h : List Entry). length h) seen;
+    carried = k.carried ∙ ap (λ (h : List Entry). length (undecided h)) seen;
+    place = k.place;
+    left = subst (λ (h : List Entry). HeldTables z s v v.knows.participant.past (record e { last = after_renewal h k.place e.last })) seen (holds_so (record e { last = after_renewal u.knows.participant.seen k.place e.last }) k.left);
+    table = record {
+      before = k.table.before;
+      after = k.table.after;
+      of_store = k.table.of_store;
+      still_of_store = k.table.still_of_store;
+      before_is = k.table.before_is;
+      after_is = k.table.after_is ∙ ap (λ (h : List Entry). record e { last = after_renewal h k.place e.last }) seen;
+      edits = k.table.edits;
+      still_edits = k.table.still_edits;
+      so = k.table.so ∙ ap (λ (h : List Entry). compacted_parts (sorted_of (unflushed h e.last)) ++ k.table.before.parts) seen;
+    };
+    survives = subst (λ (h : List Entry). SurvivesInstall k.table.before k.table.after (after_renewal h k.place e.last)) seen k.survives;
+    log = (
+      k.log.0,
+      k.log.1,
+      k.log.2 ∙ seen,
+      subst (λ (h : List Entry). LogBecame z k.log.0 (record k.log.0 { segment = record { place = k.place; base = length h }; next = None })
+          (λ before after. SurvivesBeside before after (Some after.table.segment) × NamesItsSegment k.table.before k.table.after before after (after_renewal h k.place e.last))) seen k.log.3,
+    );
+    goes_on = remembers_so k.found (event.renewed (after_renewal v.knows.participant.seen k.place e.last) ∷ [])
+        (subst (λ (h : List Entry). First (remembering (found_by z t u e k.found ∷ event.renewed (after_renewal h k.place e.last) ∷ []) t.knows.participant)) seen k.goes_on);
+  }
+
+  broken_so : (seen : u.knows.participant.seen ≡ v.knows.participant.seen) → HasBrokenOff First z t u e → HasBrokenOff Last z s v e
+  broken_so seen k = record {
+    found = found_so k.found;
+    busy = busy_so seen k.busy;
+    asked = k.asked;
+    next = subst (λ (h : List Entry). IfSome k.asked (λ edit. (place : ℕ) × (edit ≡ after_renewal h place e.last))) seen k.next;
+    left = holds_so (with_failed e k.asked) k.left;
+    fault = k.fault;
+    survives = (k.survives.0, subst (λ (h : List Entry). (place : ℕ) × (k.survives.0 ≡ after_renewal h place e.last)) seen k.survives.1, k.survives.2, k.survives.3);
+    log = (k.log.0, k.log.1, k.log.2 ∙ seen, k.log.3);
+    goes_on = remembers_so k.found (tables_failed e.last k.asked ∷ log_stopped ∷ []) k.goes_on;
+  }
+
+  pub renews_so : u.knows.participant.seen ≡ v.knows.participant.seen → (result : Result Renewed RenewError) → RenewsFrom First z t e result u → RenewsFrom Last z s e result v
+  renews_so seen (Ok done) k = renewed_so seen done k
+  renews_so seen (Err renewal.Memory) k = still k
+  renews_so seen (Err (renewal.TablesStopped flushed)) k = record { found = found_so k.found; halted = k.halted; flushed_is = k.flushed_is; goes_on = remembers_so k.found [] k.goes_on }
+  renews_so seen (Err (renewal.Stopped n)) k = record {
+    found = found_so k.found;
+    running = k.running;
+    whole = saw_whole seen k.whole;
+    closed = (k.closed.0, had_between z s t u v same same_past starts grown (writes k.closed.0) k.closed.1, k.closed.2);
+    number = k.number ∙ ap (λ (h : List Entry). length h) seen;
+    goes_on = remembers_so k.found (stopped n ∷ []) k.goes_on;
+  }
+  renews_so seen (Err renewal.Nothing) k = record {
+    found = found_so k.found;
+    running = k.running;
+    whole = saw_whole seen k.whole;
+    unclosed = (k.unclosed.0, had_between z s t u v same same_past starts grown (writes k.unclosed.0) k.unclosed.1, k.unclosed.2);
+    based = k.based ∙ ap (λ (h : List Entry). length h) seen;
+    goes_on = remembers_so k.found [] k.goes_on;
+  }
+  renews_so seen (Err renewal.TableFault) k = broken_so seen k
+  renews_so seen (Err renewal.LogFault) k = record {
+    found = found_so k.found;
+    busy = busy_so seen k.busy;
+    left = holds_so e k.left;
+    tables = k.tables;
+    log = (k.log.0, k.log.1, k.log.2 ∙ seen, k.log.3);
+    goes_on = remembers_so k.found (log_failed [] ∷ []) k.goes_on;
+  }
+
   -- the same of a compaction, where what it pinned is pinned still, and begins what was seen
   module _ (First_pinned Last_pinned : ℕ → List ℕ → Type 0) (pins : (floor : ℕ) (live : List ℕ) → First_pinned floor live → Last_pinned floor live × (take floor u.knows.participant.seen ≡ take floor v.knows.participant.seen)) where
-    edit_so : (edit : InstalledEdit) → IsCompactionOf First_pinned u e.last edit → IsCompactionOf Last_pinned v e.last edit
-    edit_so edit k = let p = pins k.floor k.live k.pinned in record { floor = k.floor; live = k.live; pinned = p.0; edit_is = k.edit_is ∙ ap (λ (h : List Entry). after_compaction h k.live e.last) p.1 }
+    edit_so : (edit : InstalledEdit) → IsCompactionOf First_pinned z u e.last edit → IsCompactionOf Last_pinned z v e.last edit
+    edit_so edit k = let p = pins k.floor k.live k.pinned in
+        record { floor = k.floor; live = k.live; pinned = p.0; first = k.first; is_first = k.is_first; from_base = k.from_base; edit_is = k.edit_is ∙ ap (λ (h : List Entry). after_compaction h (listed k.live k.first.segment.base e.last) e.last) p.1 }
 
-    next_so : (asked : Option InstalledEdit) → IfSome asked (IsCompactionOf First_pinned u e.last) → IfSome asked (IsCompactionOf Last_pinned v e.last)
+    next_so : (asked : Option InstalledEdit) → IfSome asked (IsCompactionOf First_pinned z u e.last) → IfSome asked (IsCompactionOf Last_pinned z v e.last)
     next_so None k = tt
     next_so (Some edit) k = edit_so edit k
 
@@ -238,24 +336,28 @@ module _ {D : Type 0} (First Last : Participant → Type 0) (z : SharedState D) 
       several = k.several;
       live = k.live;
       pinned = p.0;
-      versions = k.versions ∙ ap (λ (h : List Entry). length (retained h k.live e.last)) p.1;
-      few = subst (λ (h : List Entry). done.versions ≤ length (later_versions h 0)) p.1 k.few;
-      left = subst (λ (h : List Entry). HeldTables z s v v.knows.participant.past (record e { last = after_compaction h k.live e.last })) p.1 (holds_so (record e { last = after_compaction (take done.at u.knows.participant.seen) k.live e.last }) k.left);
+      first = k.first;
+      is_first = k.is_first;
+      low = k.low;
+      from_base = k.from_base;
+      versions = k.versions ∙ ap (λ (h : List Entry). length (retained h (listed k.live k.first.segment.base e.last) e.last)) p.1;
+      few = subst (λ (h : List Entry). IsCompactionCount h k.first.segment.base done.at done.versions) p.1 k.few;
+      left = subst (λ (h : List Entry). HeldTables z s v v.knows.participant.past (record e { last = after_compaction h (listed k.live k.first.segment.base e.last) e.last })) p.1 (holds_so (record e { last = after_compaction (take done.at u.knows.participant.seen) (listed k.live k.first.segment.base e.last) e.last }) k.left);
       table = record {
         before = k.table.before;
         after = k.table.after;
         of_store = k.table.of_store;
         still_of_store = k.table.still_of_store;
         before_is = k.table.before_is;
-        after_is = k.table.after_is ∙ ap (λ (h : List Entry). record e { last = after_compaction h k.live e.last }) p.1;
+        after_is = k.table.after_is ∙ ap (λ (h : List Entry). record e { last = after_compaction h (listed k.live k.first.segment.base e.last) e.last }) p.1;
         edits = k.table.edits;
         still_edits = k.table.still_edits;
-        so = k.table.so ∙ ap (λ (h : List Entry). compacted_parts (retained h k.live e.last)) p.1;
+        so = k.table.so ∙ ap (λ (h : List Entry). compacted_parts (retained h (listed k.live k.first.segment.base e.last) e.last)) p.1;
       };
-      survives = subst (λ (h : List Entry). SurvivesInstall k.table.before k.table.after (after_compaction h k.live e.last)) p.1 k.survives;
-      throughout = throughout_so k.table.before k.table.after (after_compaction (take done.at u.knows.participant.seen) k.live e.last) (after_compaction (take done.at v.knows.participant.seen) k.live e.last) (ap (λ (h : List Entry). after_compaction h k.live e.last) p.1) k.throughout;
-      goes_on = remembers_so k.found (event.installed (after_compaction (take done.at v.knows.participant.seen) k.live e.last) true ∷ [])
-          (subst (λ (h : List Entry). First (remembering (found_by z t u e k.found ∷ event.installed (after_compaction h k.live e.last) true ∷ []) t.knows.participant)) p.1 k.goes_on);
+      survives = subst (λ (h : List Entry). SurvivesInstall k.table.before k.table.after (after_compaction h (listed k.live k.first.segment.base e.last) e.last)) p.1 k.survives;
+      throughout = throughout_so k.table.before k.table.after (after_compaction (take done.at u.knows.participant.seen) (listed k.live k.first.segment.base e.last) e.last) (after_compaction (take done.at v.knows.participant.seen) (listed k.live k.first.segment.base e.last) e.last) (ap (λ (h : List Entry). after_compaction h (listed k.live k.first.segment.base e.last) e.last) p.1) k.throughout;
+      goes_on = remembers_so k.found (event.installed (after_compaction (take done.at v.knows.participant.seen) (listed k.live k.first.segment.base e.last) e.last) true ∷ [])
+          (subst (λ (h : List Entry). First (remembering (found_by z t u e k.found ∷ event.installed (after_compaction h (listed k.live k.first.segment.base e.last) e.last) true ∷ []) t.knows.participant)) p.1 k.goes_on);
     }
     compacts_so (Err Memory) k = still k
     compacts_so (Err Nothing) k = nothing_so FewTables k
@@ -272,23 +374,25 @@ module _ {D : Type 0} (First Last : Participant → Type 0) (z : SharedState D) 
     }
     compacts_so (Err (TablesStopped flushed)) k = record { found = found_so k.found; halted = k.halted; flushed_is = k.flushed_is; goes_on = remembers_so k.found [] k.goes_on }
 
-    again_so : BeginsAgain First First_pinned z t u e → BeginsAgain Last Last_pinned z s v e
-    again_so k = record {
-      found = found_so k.found;
-      running = k.running;
-      several = k.several;
-      floor = k.floor;
-      live = k.live;
-      pinned = (pins k.floor k.live k.pinned).0;
-      versions = k.versions;
-      decided = versions_between z s t u v same same_past starts grown k.versions k.decided;
-      overtaken = overtaken_between z s t u v same same_past starts grown k.floor k.versions e k.overtaken;
-      goes_on = still k.goes_on;
-    }
+    module _ (First_decided Last_decided : ℕ → Bases → List Version → Type 0) (decides : (floor : ℕ) (bases : Bases) (versions : List Version) → First_decided floor bases versions → Last_decided floor bases versions) where
+      again_so : BeginsAgain First First_pinned First_decided z t u e → BeginsAgain Last Last_pinned Last_decided z s v e
+      again_so k = record {
+        found = found_so k.found;
+        running = k.running;
+        several = k.several;
+        floor = k.floor;
+        live = k.live;
+        pinned = (pins k.floor k.live k.pinned).0;
+        versions = k.versions;
+        bases = k.bases;
+        decided = decides k.floor k.bases k.versions k.decided;
+        overtaken = overtaken_between z s t u v same same_past starts grown k.floor k.bases.installed k.versions e k.overtaken;
+        goes_on = still k.goes_on;
+      }
 
-    pub ends_so : (result : Option (Result Done MaintError)) → EndsRoundFrom First First_pinned z t e result u → EndsRoundFrom Last Last_pinned z s e result v
-    ends_so (Some result) k = compacts_so result k
-    ends_so None k = again_so k
+      pub ends_so : (result : Option (Result Done MaintError)) → EndsRoundFrom First First_pinned First_decided z t e result u → EndsRoundFrom Last Last_pinned Last_decided z s e result v
+      ends_so (Some result) k = compacts_so result k
+      ends_so None k = again_so k
 
 -- ---- there is nothing to do
 

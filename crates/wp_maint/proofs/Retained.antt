@@ -1,5 +1,5 @@
 -- What stays of versions hangs on where their numbers are committed, of the floor and the snapshots, and on nothing else.
-use Rattle.std.proofs.Common.{◌≡◌, inl, inr, ℕ, suc, ◌<◌, ◌≤◌, Bool, true, false, nat_le, nat_lt, ◌==◌, ◌&&◌, ◌||◌, not, cond, ne_eqb, List, [], ◌∷◌, length, filter, Some, None, is_none, refl, ap, ◌∙◌, arith}
+use Rattle.std.proofs.Common.{◌≡◌, inl, inr, ℕ, ◌<◌, Bool, true, false, nat_le, nat_lt, ◌==◌, ◌&&◌, ◌||◌, not, cond, ne_eqb, List, [], ◌∷◌, filter, Some, None, is_none, refl, ap, ◌∙◌, arith}
 use Rattle.std.proofs.lemmas.Bool.{and_parts, leb-true}
 use Rattle.std.specs.List.{list_all, list_any}
 use Rattle.std.specs.Str.{bytes_eq}
@@ -57,23 +57,12 @@ all_filtered P keeps (x ∷ xs) all =
     by true here rest = rw (here, rest) refl
     by false here rest = rest
 
-fewer : {X : Type 0} (keeps : X → Bool) (xs : List X) → length (filter keeps xs) ≤ length xs
-fewer keeps [] = let le : 0 ≤ 0 = omega arith in le
-fewer keeps (x ∷ xs) = by (keeps x) (fewer keeps xs)
-  where
-    by : (b : Bool) → length (filter keeps xs) ≤ length xs → length (cond b (x ∷ filter keeps xs) (filter keeps xs)) ≤ suc (length xs)
-    by true rest = let le : suc (length (filter keeps xs)) ≤ suc (length xs) = omega (arith, rest) in le
-    by false rest = let le : length (filter keeps xs) ≤ suc (length xs) = omega (arith, rest) in le
-
 module _ (committed : ℕ → ℕ → Bool) (versions : List Version) (snapshots : List ℕ) (floor : ℕ) where
   abbrev kept_first : List Version
   kept_first = staying committed versions snapshots floor
 
   pub all_retained : (P : Version → Bool) → list_all P versions ≡ true → list_all P (retained_of committed versions snapshots floor) ≡ true
   all_retained P all = all_filtered P (remains committed kept_first floor) kept_first (all_filtered P (stays committed versions snapshots floor) versions all)
-
-  pub fewer_retained : length (retained_of committed versions snapshots floor) ≤ length versions
-  fewer_retained = let one = fewer (remains committed kept_first floor) kept_first in let two = fewer (stays committed versions snapshots floor) versions in omega (arith, one, two)
 
 -- ---- versions up to a number
 

@@ -1,13 +1,16 @@
 -- What one round of a compaction leaves of its seat, and what rounds one after another leave.
-use Rattle.std.proofs.Common.{◌≡◌, inl, inr, ℕ, ◌≤◌, true, false, List, [], ◌∷◌, ◌++◌, append-nil, length, take, refl, sym, subst, ap, ◌∙◌, Option, Some, None, arith}
+use Rattle.std.proofs.Common.{◌≡◌, ◌⊎◌, inl, inr, ℕ, ◌≤◌, true, false, List, [], ◌∷◌, ◌++◌, append-nil, length, take, drop, refl, sym, subst, ap, ◌∙◌, Option, Some, None, arith}
 use Rattle.std.specs.Prelude.{Result, Ok, Err}
+use Rattle.std.proofs.lemmas.List.{take-append-drop}
 use Rattle.wp_model.specs.declared.entry.Entry.{Entry}
 use Rattle.wp_model.specs.declared.version.Version.{Version}
 use Rattle.wp_model.specs.Decision as decision
-use Rattle.wp_model.specs.Flushed.{InstalledEdit, first_segment}
+use Rattle.wp_model.specs.Flushed.{first_segment}
 use Rattle.wp_keep.specs.declared.pair.Pair.{Pair}
 use Rattle.wp_keep.specs.Keep.{is_committed, retained_of}
-use Rattle.wp_replies.specs.Tables.{retained, after_compaction}
+use Rattle.wp_model.specs.Legal.{IsLegal}
+use Rattle.wp_history.proofs.Growth.{legal_before}
+use Rattle.wp_replies.specs.Tables.{listed, retained, after_compaction}
 use Rattle.wp_core.specs.Lists.{IsIn}
 use Rattle.wp_core.specs.Reading.{Registration}
 use Rattle.wp_core.specs.Sound.Actors.{StartsWith}
@@ -21,22 +24,24 @@ use Rattle.wp_shared.specs.Calls.{GoesOnAs, Continues, remembering}
 use Rattle.wp_shared.specs.Notes.{no_fact, is_under, seeing}
 use Rattle.wp_shared.specs.Seats.{SharedState, SeatState, IsFree, place_at}
 use Rattle.wp_shared.specs.Turns.{Taken, Given}
-use Rattle.wp_shared.proofs.Onward.{starts_on, starts_equal, starts_same, loose_none, loose_under, goes_same, goes_still, goes_free, goes_of, continues_then, continues_still}
+use Rattle.wp_shared.proofs.Onward.{starts_on, starts_same, loose_none, loose_under, goes_same, goes_still, goes_free, goes_of, continues_then, continues_still}
 use Rattle.wp_read.specs.Registers.{IsPinned, numbers_of}
 use Rattle.wp_maint.specs.declared.done.Done.{Done}
 use Rattle.wp_maint.specs.declared.error.MaintError.{MaintError}
 use Rattle.wp_maint.specs.declared.error.MaintError.TheVariants.{Memory, Nothing, TableFault, TablesStopped}
 use Rattle.wp_maint.specs.Calls.{CompactsFrom, Compacts, FewTables, HasPinned, LeavesEach, found_by}
-use Rattle.wp_maint.specs.Compaction.{HadVersions, HasDecided, IsPin, KnowsLive, EndsRoundFrom, EndsRound}
-use Rattle.wp_maint.specs.Decided.{ArePinned, Decides, version_numbers}
+use Rattle.wp_maint.specs.declared.decided.Bases.{Bases}
+use Rattle.wp_maint.specs.Compaction.{AreLow, HadDecision, HasDecided, IsDecision, IsPin, KnowsLive, MayMerge, EndsRoundFrom, EndsRound}
+use Rattle.wp_maint.specs.Decided.{ArePinned, Decides, both_bases, version_numbers}
 use Rattle.wp_maint.specs.Finding.{Remembers}
 use Rattle.wp_maint.proofs.BeforeInstall.{each_between, each_then}
-use Rattle.wp_maint.proofs.Decisions.{decided_same}
-use Rattle.wp_maint.proofs.Onward.{goes_more, goes_is, IsSeat, seat_still, versions_between, compacts_so, ends_so}
-use Rattle.wp_maint.proofs.Pinning.{in_middle, pinned_low, take_seen, grown_length}
-use Rattle.wp_maint.proofs.Replaces.{length_front}
+use Rattle.wp_maint.proofs.Covering.{committed_true, committed_only, committed_whole, committed_front}
+use Rattle.wp_maint.proofs.Decisions.{decided_same, in_either, in_front, in_back, same_bool}
+use Rattle.wp_maint.proofs.Onward.{goes_more, goes_is, IsSeat, seat_still, decision_between, compacts_so, ends_so}
+use Rattle.wp_maint.proofs.Pinning.{in_middle, pinned_low, take_seen, take_grown, grown_length}
+use Rattle.wp_maint.proofs.Replaces.{length_front, number_in}
 use Rattle.wp_maint.proofs.Retained.{retained_same}
-use Rattle.wp_maint.proofs.StillTabled.{decided_still}
+use Rattle.wp_maint.proofs.StillTabled.{decided_still, live_later}
 
 -- the tables that are told of where none were found
 pub no_tables : Installed
@@ -65,22 +70,70 @@ pub are_pinned : (a : Actor) (floor : Registration) (live : List Registration) �
 are_pinned a floor live there number k r (inl same) = subst (λ (x : Registration). IsIn x a.participant.registered × (x.number ≤ length a.participant.seen)) same (there, omega (arith, number))
 are_pinned a floor live there number k r (inr rest) = let l = (k.registered r rest).1 in ((k.registered r rest).0, omega (arith, l, number))
 
-pub has_decided : (a : Actor) (floor : Registration) (live : List Registration) (versions : List Version) (pairs : List Pair) → floor.number ≡ length a.participant.seen → KnowsLive a floor.number live → Decides a.participant.seen (version_numbers versions) (numbers_of (floor ∷ live)) [] pairs
-    → HasDecided a floor live versions pairs
-has_decided a floor live versions pairs number k decided = record {
-  live_is = k;
-  decided = subst (λ (h : List Entry). Decides h (version_numbers versions) (numbers_of (floor ∷ live)) [] pairs) (sym (take_seen floor.number a.participant.seen a.participant.seen number (starts_same a.participant.seen))) decided;
+-- each pinned number was seen
+pub numbers_low : (p : Participant) (pinned : List Registration) → ArePinned p pinned → (n : ℕ) → IsIn n (numbers_of pinned) → n ≤ length p.seen
+numbers_low p [] are n none = absurd none
+numbers_low p (r ∷ pinned) are n (inl same) = subst (λ (m : ℕ). m ≤ length p.seen) same (are r (inl refl)).1
+numbers_low p (r ∷ pinned) are n (inr rest) = numbers_low p pinned (λ x there. are x (inr there)) n rest
+
+pub has_decided : {D : Type 0} (z : SharedState D) (s d : SeatState) (floor : Registration) (live : List Registration) (bases : Bases) (versions : List Version) (pairs : List Pair) → Continues z s d s.knows.participant → KnowsLive s.knows floor.number live → AreLow d.knows.participant.seen floor.number live bases
+    → Decides d.knows.participant.seen (version_numbers versions) (numbers_of (floor ∷ live) ++ both_bases bases) [] pairs → HasDecided d.knows floor live bases versions pairs
+has_decided z s d floor live bases versions pairs first k low decided = record {
+  live_is = live_later s.knows d.knows floor.number live k first.participant first.seen (first.notes (live_listed floor.number (numbers_of live)) refl k.listed);
+  low = low;
+  history = d.knows.participant.seen;
+  grown = starts_same d.knows.participant.seen;
+  within = let w = k.within in let l = grown_length s.knows.participant.seen d.knows.participant.seen first.seen in omega (arith, w, l);
+  decided = decided;
 }
 
 -- what is kept by what was decided is what the history retains
-pub kept_retained : (a : Actor) (floor : Registration) (live : List Registration) (versions : List Version) (pairs : List Pair) (last : InstalledEdit) → HasDecided a floor live versions pairs → versions ≡ last.versions → (kept : List Version)
-    → kept ≡ retained_of (is_committed pairs) versions (numbers_of live) floor.number → kept ≡ retained (take floor.number a.participant.seen) (numbers_of live) last
-kept_retained a floor live versions pairs last k same kept is =
-    let front = take floor.number a.participant.seen in
+pub kept_retained : (a : Actor) (e : Installed) (floor : Registration) (live : List Registration) (bases : Bases) (versions : List Version) (pairs : List Pair) → HasDecided a floor live bases versions pairs → MayMerge a e floor.number live bases → versions ≡ e.last.versions → (kept : List Version)
+    → kept ≡ retained_of (is_committed pairs) versions (listed (numbers_of live) bases.opened e.last) floor.number → kept ≡ retained (take floor.number a.participant.seen) (listed (numbers_of live) bases.opened e.last) e.last
+kept_retained a e floor live bases versions pairs k may same kept is =
     let long : floor.number ≡ length front = sym (length_front floor.number a.participant.seen k.live_is.within) in
     is
-    ∙ retained_same (is_committed pairs) (decision.is_committed front) versions (numbers_of live) floor.number (λ v there n among. decided_same front versions (numbers_of (floor ∷ live)) pairs k.decided v there n among)
-    ∙ (λ i. retained_of (decision.is_committed front) (same i) (numbers_of live) (long i))
+    ∙ retained_same (is_committed pairs) (decision.is_committed front) versions numbers floor.number (λ v there n among. committed_same v there n (decided_at n among))
+    ∙ (λ i. retained_of (decision.is_committed front) (same i) numbers (long i))
+  where
+    front : List Entry
+    front = take floor.number a.participant.seen
+
+    numbers : List ℕ
+    numbers = listed (numbers_of live) bases.opened e.last
+
+    all : List ℕ
+    all = numbers_of (floor ∷ live) ++ both_bases bases
+
+    legal : IsLegal k.history
+    legal = legal_before k.history k.grown.0 (subst IsLegal k.grown.1 may.legal)
+
+    starts : StartsWith k.history front
+    starts = subst (StartsWith k.history) (sym (take_grown floor.number k.history a.participant.seen k.within k.grown)) (drop floor.number k.history, sym (take-append-drop floor.number k.history))
+
+    front_long : length front ≡ floor.number
+    front_long = length_front floor.number a.participant.seen k.live_is.within
+
+    -- each listed number is one at which it was decided, and none is above the floor
+    decided_at : (n : ℕ) → IsIn n (floor.number ∷ numbers) → IsIn n all × (n ≤ floor.number)
+    decided_at n (inl at) = subst (λ (m : ℕ). IsIn m all × (m ≤ floor.number)) at (inl refl, omega arith)
+    decided_at n (inr there) = elim (in_either n (numbers_of live) (bases.opened ∷ e.last.segment.base ∷ []) there) [
+      | inl one ↦ (inr (in_front n (numbers_of live) (both_bases bases) one), let r = number_in live n one in subst (λ (m : ℕ). m ≤ floor.number) r.is (k.live_is.registered r.r r.there).1)
+      | inr (inl one) ↦ (in_back n (numbers_of (floor ∷ live)) (both_bases bases) (inl one), subst (λ (m : ℕ). m ≤ floor.number) one may.low.0)
+      | inr (inr (inl one)) ↦ subst (λ (m : ℕ). IsIn m all × (m ≤ floor.number)) one (of_base may.based, may.low.1)
+      | inr (inr (inr none)) ↦ absurd none
+    ]
+      where
+        of_base : (e.last.segment.base ≡ bases.installed) ⊎ (e.last.segment.base ≡ floor.number) → IsIn e.last.segment.base all
+        of_base (inl same) = in_back e.last.segment.base (numbers_of (floor ∷ live)) (both_bases bases) (inr (inl (sym same)))
+        of_base (inr same) = inl (sym same)
+
+    committed_same : (v : Version) → IsIn v versions → (n : ℕ) → IsIn n all × (n ≤ floor.number) → is_committed pairs v.number n ≡ decision.is_committed front v.number n
+    committed_same v there n (among, low) =
+        decided_same k.history versions all pairs k.decided v there n among
+        ∙ same_bool (decision.is_committed k.history v.number n) (decision.is_committed front v.number n)
+        (λ is. committed_true front v.number n (committed_front k.history front starts legal v.number n (let l = front_long in omega (arith, l, low)) (committed_only k.history v.number n is)))
+        (λ is. committed_true k.history v.number n (committed_whole k.history front starts v.number n (committed_only front v.number n is)))
 
 -- ---- there is nothing to do
 
@@ -90,38 +143,46 @@ found_few z s v e Pinned k running few = record { found = k.found; running = run
 -- ---- under the tables turn
 
 -- what was done behind a seat that had seen no less is done behind the one before it
-pub ends_then : {D : Type 0} (z : SharedState D) (s u v : SeatState) (e : Installed) (Pinned : ℕ → List ℕ → Type 0) → GoesOnAs s u s.knows.participant → (result : Option (Result Done MaintError)) → EndsRoundFrom (GoesOnAs u v) Pinned z u e result v → EndsRoundFrom (GoesOnAs s v) Pinned z s e result v
-ends_then z s u v e Pinned first result k =
+pub ends_then : {D : Type 0} (z : SharedState D) (s u v : SeatState) (e : Installed) (Pinned : ℕ → List ℕ → Type 0) (Decided : ℕ → Bases → List Version → Type 0) → GoesOnAs s u s.knows.participant → (result : Option (Result Done MaintError)) → EndsRoundFrom (GoesOnAs u v) Pinned Decided z u e result v → EndsRoundFrom (GoesOnAs s v) Pinned Decided z s e result v
+ends_then z s u v e Pinned Decided first result k =
     ends_so (GoesOnAs u v) (GoesOnAs s v) z s u v v e (seat_still s u s.knows.participant first) (ap (λ (p : Participant). p.past) first.participant) first.seen refl (starts_same v.knows.participant.seen) (goes_more s u v s.knows.participant first) (goes_still s u v s.knows.participant first)
-    Pinned Pinned (λ floor live pinned. (pinned, refl)) result k
+    Pinned Pinned (λ floor live pinned. (pinned, refl)) Decided Decided (λ floor bases versions decided. decided) result k
 
 module _ {D : Type 0} {z : SharedState D} {s d t : SeatState} {e : Installed} (free : IsFree z.table s) (first : Continues z s d s.knows.participant) (taken : Taken z d t (installed e)) where
+  on_taken : GoesOnAs d t d.knows.participant
+  on_taken = goes_same d t no_fact (installed e ∷ d.knows.held) (5 ∷ d.turns) loose_none taken.goes
+
   pub goes_taken : GoesOnAs s t s.knows.participant
-  goes_taken = goes_still s d t s.knows.participant (goes_of z s d s.knows.participant free first) (goes_same d t no_fact (installed e ∷ d.knows.held) (5 ∷ d.turns) loose_none taken.goes)
+  goes_taken = goes_still s d t s.knows.participant (goes_of z s d s.knows.participant free first) on_taken
 
-  pub decided_taken : d.knows.participant ≡ s.knows.participant → (floor : Registration) (live : List Registration) (versions : List Version) (pairs : List Pair) → HasDecided s.knows floor live versions pairs → HasDecided t.knows floor live versions pairs
-  decided_taken same floor live versions pairs k = decided_still s.knows t.knows floor live versions pairs (ap (λ (x : SeatState). x.knows.participant) taken.goes.same ∙ same) goes_taken.notes k
-
-  pub versions_taken : d.knows.participant ≡ s.knows.participant → (versions : List Version) → HadVersions z s d versions → HadVersions z t t versions
-  versions_taken same versions k =
-      let then : t.knows.participant ≡ d.knows.participant = ap (λ (x : SeatState). x.knows.participant) taken.goes.same in
-      let back : s.knows.participant ≡ t.knows.participant = sym (then ∙ same) in
-      let seat = seat_still s t s.knows.participant goes_taken in
-      versions_between z t s d t (sym seat.0, sym seat.1, sym seat.2) (ap (λ (p : Participant). p.past) back) (starts_equal t.knows.participant.seen s.knows.participant.seen (ap (λ (p : Participant). p.seen) back)) (starts_equal d.knows.participant.seen t.knows.participant.seen (ap (λ (p : Participant). p.seen) then)) versions k
+  pub decided_taken : (floor : Registration) (live : List Registration) (bases : Bases) (versions : List Version) (pairs : List Pair) → HasDecided d.knows floor live bases versions pairs → HasDecided t.knows floor live bases versions pairs
+  decided_taken floor live bases versions pairs k = decided_still d.knows t.knows floor live bases versions pairs (ap (λ (x : SeatState). x.knows.participant) taken.goes.same) on_taken.notes k
 
   -- the turn is given, with what was told of these tables
-  pub ends_given : (told : Installed) (u v : SeatState) → Given z tables_turn u v [] [] → (floor : ℕ) (live : List ℕ) (result : Option (Result Done MaintError)) → EndsRoundFrom (GoesOnAs t u) (IsPin floor live) z t told result u → EndsRound (Continues z s v) (IsPin floor live) z s result v
-  ends_given told u v given floor live result k =
-      let p : Participant = s.knows.participant in
-      let last : GoesOnAs u v u.knows.participant = goes_same u v (is_under tables_turn) [] [] (loose_under tables_turn) given.goes in
-      let freed = given.free refl refl in
-      let same : v.knows.participant ≡ u.knows.participant = ap (λ (x : SeatState). x.knows.participant) given.goes.same in (
-        told,
-        ends_so (GoesOnAs t u) (Continues z s v) z s t u v told (seat_still s t s.knows.participant goes_taken) (ap (λ (x : Participant). x.past) goes_taken.participant) goes_taken.seen (sym (ap (λ (x : Participant). x.past) same)) last.seen
-            (λ events w. goes_free z s v (remembering events p) freed (goes_still s u v (remembering events p) (goes_more s t u p goes_taken events w) last))
-            (λ w. goes_free z s v p freed (goes_still s u v p (goes_still s t u p goes_taken w) last))
-            (IsPin floor live) (IsPin floor live) (λ f l pinned. (pinned, ap (λ (x : Participant). take f x.seen) (sym same))) result k,
-      )
+  module _ (u v : SeatState) (given : Given z tables_turn u v [] []) (floor : ℕ) (live : List ℕ) (bases : Bases) (versions : List Version) (decision : HadDecision z s d floor bases versions) where
+    on_given : GoesOnAs u v u.knows.participant
+    on_given = goes_same u v (is_under tables_turn) [] [] (loose_under tables_turn) given.goes
+
+    same_given : v.knows.participant ≡ u.knows.participant
+    same_given = ap (λ (x : SeatState). x.knows.participant) given.goes.same
+
+    decided_given : StartsWith u.knows.participant.seen t.knows.participant.seen → (f : ℕ) (b : Bases) (vs : List Version) → IsDecision floor bases versions f b vs → HadDecision z s v f b vs
+    decided_given grown f b vs (of_floor, of_bases, of_versions) =
+        subst (λ (x : ℕ × (Bases × List Version)). HadDecision z s v x.0 x.1.0 x.1.1) (λ i. (sym of_floor i, (sym of_bases i, sym of_versions i)))
+        (decision_between z s s d v (refl, refl, refl) refl (starts_same s.knows.participant.seen)
+        (starts_on d.knows.participant.seen t.knows.participant.seen v.knows.participant.seen on_taken.seen (starts_on t.knows.participant.seen u.knows.participant.seen v.knows.participant.seen grown on_given.seen)) floor bases versions decision)
+
+    pub ends_given : (told : Installed) → StartsWith u.knows.participant.seen t.knows.participant.seen → (result : Option (Result Done MaintError)) → EndsRoundFrom (GoesOnAs t u) (IsPin floor live) (IsDecision floor bases versions) z t told result u → EndsRound (Continues z s v) (IsPin floor live) (HadDecision z s v) z s result v
+    ends_given told grown result k =
+        let p : Participant = s.knows.participant in
+        let freed = given.free refl refl in (
+          told,
+          ends_so (GoesOnAs t u) (Continues z s v) z s t u v told (seat_still s t s.knows.participant goes_taken) (ap (λ (x : Participant). x.past) goes_taken.participant) goes_taken.seen (sym (ap (λ (x : Participant). x.past) same_given)) on_given.seen
+              (λ events w. goes_free z s v (remembering events p) freed (goes_still s u v (remembering events p) (goes_more s t u p goes_taken events w) on_given))
+              (λ w. goes_free z s v p freed (goes_still s u v p (goes_still s t u p goes_taken w) on_given))
+              (IsPin floor live) (IsPin floor live) (λ f l pinned. (pinned, ap (λ (x : Participant). take f x.seen) (sym same_given)))
+              (IsDecision floor bases versions) (HadDecision z s v) (decided_given grown) result k,
+        )
 
 -- ---- what a round leaves, whatever it answers
 
@@ -133,15 +194,15 @@ module _ {D : Type 0} (Goes : Participant → Type 0) (Pinned : ℕ → List ℕ
   without k = ([], subst (λ (past : List Event). Goes (record s.knows.participant { past = past })) (sym (append-nil s.knows.participant.past)) k)
 
   compacts_somehow : (result : Result Done MaintError) → CompactsFrom Goes Pinned z s e result u → Somehow Goes s.knows.participant
-  compacts_somehow (Ok done) k = (found_by z s u e k.found ∷ event.installed (after_compaction (take done.at u.knows.participant.seen) k.live e.last) true ∷ [], k.goes_on)
+  compacts_somehow (Ok done) k = (found_by z s u e k.found ∷ event.installed (after_compaction (take done.at u.knows.participant.seen) (listed k.live k.first.segment.base e.last) e.last) true ∷ [], k.goes_on)
   compacts_somehow (Err Memory) k = without k
   compacts_somehow (Err Nothing) k = (found_by z s u e k.found ∷ [], k.goes_on)
   compacts_somehow (Err TableFault) k = (found_by z s u e k.found ∷ tables_failed e.last k.asked ∷ [], k.goes_on)
   compacts_somehow (Err (TablesStopped flushed)) k = (found_by z s u e k.found ∷ [], k.goes_on)
 
-  pub ends_somehow : (result : Option (Result Done MaintError)) → EndsRoundFrom Goes Pinned z s e result u → Somehow Goes s.knows.participant
-  ends_somehow (Some result) k = compacts_somehow result k
-  ends_somehow None k = without k.goes_on
+  pub ends_somehow : (Decided : ℕ → Bases → List Version → Type 0) (result : Option (Result Done MaintError)) → EndsRoundFrom Goes Pinned Decided z s e result u → Somehow Goes s.knows.participant
+  ends_somehow Decided (Some result) k = compacts_somehow result k
+  ends_somehow Decided None k = without k.goes_on
 
 -- what was pinned by one seat was by another in its place
 pinned_by : {D : Type 0} (z : SharedState D) (a b : SeatState) (history : List Entry) (floor : Registration) (live : List Registration) → IsSeat a b → b.knows.participant ≡ a.knows.participant → IsPinned z a history floor live → IsPinned z b history floor live
@@ -165,12 +226,12 @@ pinned_by z a b history floor live seat same k = let t = k.taken in record {
 }
 
 module _ {D : Type 0} (z : SharedState D) (s t u v : SeatState) (floor : Registration) (live : List Registration) (first : Continues z s t (record s.knows.participant { registered = s.knows.participant.registered ++ floor ∷ live })) (number : floor.number ≡ length t.knows.participant.seen)
-    (pinned : IsPinned z s t.knows.participant.seen floor live) (result : Option (Result Done MaintError)) (k : EndsRound (Continues z t u) (IsPin floor.number (numbers_of live)) z t result u) where
+    (pinned : IsPinned z s t.knows.participant.seen floor live) (result : Option (Result Done MaintError)) (k : EndsRound (Continues z t u) (IsPin floor.number (numbers_of live)) (HadDecision z t u) z t result u) where
   abbrev pins : Participant
   pins = record s.knows.participant { registered = s.knows.participant.registered ++ floor ∷ live }
 
   went : Somehow (Continues z t u) t.knows.participant
-  went = ends_somehow (Continues z t u) (IsPin floor.number (numbers_of live)) z t u k.0 result k.1
+  went = ends_somehow (Continues z t u) (IsPin floor.number (numbers_of live)) z t u k.0 (HadDecision z t u) result k.1
 
   pub free_round : IsFree z.table u
   free_round = went.1.free
@@ -210,11 +271,12 @@ module _ {D : Type 0} (z : SharedState D) (s t u v : SeatState) (floor : Registr
     pins_so : (f : ℕ) (l : List ℕ) → IsPin floor.number (numbers_of live) f l → HasPinned z s v f l × (take f u.knows.participant.seen ≡ take f v.knows.participant.seen)
     pins_so f l is = subst (λ (x : ℕ × List ℕ). HasPinned z s v x.0 x.1 × (take x.0 u.knows.participant.seen ≡ take x.0 v.knows.participant.seen)) (λ i. (sym is.0 i, sym is.1 i)) (has_pinned, front_then ∙ sym front_last)
 
-    pub round_so : EndsRound (Continues z s v) (HasPinned z s v) z s result v
+    pub round_so : EndsRound (Continues z s v) (HasPinned z s v) (HadDecision z s v) z s result v
     round_so = (
       k.0,
       ends_so (Continues z t u) (Continues z s v) z s t u v k.0 (first.same_by, first.made, first.joined) (ap (λ (p : Participant). p.past) first.participant) first.seen (sym (ap (λ (p : Participant). p.past) last.participant)) last.seen unpinned unpinned_still
-          (IsPin floor.number (numbers_of live)) (HasPinned z s v) pins_so result k.1,
+          (IsPin floor.number (numbers_of live)) (HasPinned z s v) pins_so (HadDecision z t u) (HadDecision z s v)
+          (decision_between z s t u v (first.same_by, first.made, first.joined) (ap (λ (p : Participant). p.past) first.participant) first.seen last.seen) result k.1,
     )
 
 -- ---- rounds one after another
@@ -235,15 +297,15 @@ module _ {D : Type 0} (z : SharedState D) (s t v : SeatState) (first : Continues
     refl,
   )
 
-  pub compacts_since : (result : Result Done MaintError) → EndsRound (Continues z t v) (HasPinned z t v) z t (Some result) v → Compacts z s result v
+  pub compacts_since : (result : Result Done MaintError) → EndsRound (Continues z t v) (HasPinned z t v) (HadDecision z t v) z t (Some result) v → Compacts z s result v
   compacts_since result k = (
     k.0,
     compacts_so (Continues z t v) (Continues z s v) z s t v v k.0 (first.same_by, first.made, first.joined) (ap (λ (p : Participant). p.past) first.participant) first.seen refl (starts_same v.knows.participant.seen) (λ events second. continues_then z s t v s.knows.participant (remembering events) (λ q h k. refl) first second) (continues_still z s t v s.knows.participant first)
         (HasPinned z t v) (HasPinned z s v) pinned_since result k.1,
   )
 
-  pub grown_since : (result : Result Done MaintError) → EndsRound (Continues z t v) (HasPinned z t v) z t (Some result) v → StartsWith v.knows.participant.seen t.knows.participant.seen
-  grown_since result k = (ends_somehow (Continues z t v) (HasPinned z t v) z t v k.0 (Some result) k.1).1.seen
+  pub grown_since : (result : Result Done MaintError) → EndsRound (Continues z t v) (HasPinned z t v) (HadDecision z t v) z t (Some result) v → StartsWith v.knows.participant.seen t.knows.participant.seen
+  grown_since result k = (ends_somehow (Continues z t v) (HasPinned z t v) z t v k.0 (HadDecision z t v) (Some result) k.1).1.seen
 
   -- what the rounds before left, and what the last one did
   pub each_since : StartsWith v.knows.participant.seen t.knows.participant.seen → LeavesEach z s t → LeavesEach z t v → LeavesEach z s v

@@ -1,15 +1,18 @@
 -- The tables are still those that were decided, so what is kept of them may be installed.
-use Rattle.std.proofs.Common.{◌≡◌, inl, inr, ℕ, ◌≤◌, Bool, true, List, [], ◌∷◌, append-nil, length, length-append, take, refl, sym, subst, ap, ◌∙◌, Option, Some, None, IfSome, arith}
+use Rattle.std.proofs.Common.{◌≡◌, ◌≢◌, ◌⊎◌, ⊎_elim, inl, inr, ℕ, ◌≤◌, Bool, true, false, true≢false, List, [], ◌∷◌, append-nil, length, length-append, take, refl, sym, subst, ap, ◌∙◌, Option, Some, None, IfSome, arith}
 use Rattle.std.specs.Prelude.{MatchOption}
 use Rattle.std.specs.List.{list_all}
+use Rattle.std.proofs.lemmas.List.{take-take}
 use Rattle.wp_model.specs.declared.entry.Entry.{Entry}
 use Rattle.wp_model.specs.declared.version.Version.{Version}
 use Rattle.wp_model.specs.Covered.{is_among}
-use Rattle.wp_model.specs.Flushed.{IsEditCovered, later_versions, first_segment}
+use Rattle.wp_model.specs.Flushed.{IsEditCovered}
+use Rattle.wp_model.specs.Legal.{IsLegal, undone_last}
 use Rattle.wp_model.specs.Versions.{AreInOrder}
 use Rattle.wp_merge.specs.Merge.{joined}
 use Rattle.wp_merge.proofs.Sorted.{in_order_sorted}
-use Rattle.wp_replies.specs.Tables.{retained, after_compaction}
+use Rattle.wp_replies.specs.Replies.{IsCompactionCount}
+use Rattle.wp_replies.specs.Tables.{listed, retained, after_compaction}
 use Rattle.wp_table.specs.Table.{is_flushed}
 use Rattle.wp_core.specs.IsSound.{IsSound}
 use Rattle.wp_core.specs.Lists.{IsIn}
@@ -29,19 +32,28 @@ use Rattle.wp_shared.specs.Notes.{no_fact, is_under, noting_only, seeing, GoesOn
 use Rattle.wp_shared.specs.Seats.{SharedState, SeatState, place_at}
 use Rattle.wp_shared.specs.Turns.{HoldsTurn, Taken, Given}
 use Rattle.wp_shared.proofs.Goes.{then, wider, none_under_store}
-use Rattle.wp_shared.proofs.Onward.{starts_equal}
+use Rattle.wp_shared.proofs.Onward.{starts_equal, starts_on}
 use Rattle.wp_shared.proofs.Tables.{held_table}
 use Rattle.wp_read.specs.Registers.{numbers_of}
 use Rattle.wp_keep.specs.declared.pair.Pair.{Pair}
 use Rattle.wp_maint.specs.Calls.{HeldContent, HeldTables, Finds}
-use Rattle.wp_maint.specs.Compaction.{HasDecided, IsPassed, KnowsLive, MayMerge, MayReplace}
-use Rattle.wp_maint.specs.Decided.{Decides, version_numbers}
+use Rattle.wp_maint.specs.declared.decided.Bases.{Bases}
+use Rattle.wp_maint.specs.Compaction.{AreLow, HasDecided, IsOpenedBase, IsPassedOr, KnowsLive, MayMerge, MayReplace}
 use Rattle.wp_maint.specs.Holding.{HoldsEdits}
 use Rattle.wp_maint.proofs.Covering.{kept_is_covered, kept_few, versions_numbered}
 use Rattle.wp_maint.proofs.Onward.{held_then, passed_between}
 use Rattle.wp_maint.proofs.Pinning.{take_grown}
 use Rattle.wp_maint.proofs.Puts.{holds_taken}
-use Rattle.wp_maint.proofs.Replaces.{length_front, front_starts, number_of}
+use Rattle.wp_maint.proofs.Replaces.{length_front, front_starts, each_listed, listed_low, opened_among, base_among, opened_is}
+
+-- what is known of the bases is known when more was seen
+pub low_later : (seen later : List Entry) (floor : ℕ) (live : List Registration) (bases : Bases) → floor ≤ length seen → StartsWith later seen → AreLow seen floor live bases → AreLow later floor live bases
+low_later seen later floor live bases within grown k = record {
+  opened = k.opened;
+  installed = k.installed;
+  live_from = k.live_from;
+  whole = ap undone_last (take_grown bases.opened seen later (let o = k.opened in let i = k.installed in omega (arith, o, i, within)) grown) ∙ k.whole;
+}
 
 -- the seat has seen this history, and is as it was but for that
 pub saw_more : {D : Type 0} {z : SharedState D} {s u : SeatState} → SawHistory z s u → GoesOn no_fact s.knows.held s.turns (seeing u.knows.participant.seen s) u
@@ -68,8 +80,16 @@ live_later s u floor live k same grown listed = record {
   listed = listed;
 }
 
-module _ {D : Type 0} {z : SharedState D} {s u : SeatState} {e : Installed} {beneath : List ℕ} (stock : StockState) (floor : ℕ) (live : List Registration) (saw : SawHistory z s u) (holds : HoldsTurn z s (store (store_table stock)) (installed e ∷ []) beneath) (settled_then : KnowsTables s.knows e.last) (known : KnowsLive s.knows floor live)
-    (low_tables : list_all (is_flushed e.last.flushed) e.last.versions ≡ true) (first : e.last.segment ≡ first_segment) (flushed_low : e.last.flushed ≤ floor) (given_up : stock.floor ≤ floor) where
+-- the base and the floor as they were read
+pub based_here : {base installed floor here there : ℕ} → (base ≡ installed) ⊎ (base ≡ floor) → base ≡ here → floor ≡ there → (here ≡ installed) ⊎ (here ≡ there)
+based_here (inl same) is floor = inl (sym is ∙ same)
+based_here (inr same) is floor = inr (sym is ∙ same ∙ floor)
+
+pub not_based : {base installed floor here there : ℕ} {b : Bool} → ((base ≡ installed) ⊎ (base ≡ floor) → b ≡ true) → b ≡ false → base ≡ here → floor ≡ there → (here ≢ installed) × (here ≢ there)
+not_based says not is same = ((λ one. true≢false (sym (says (inl (is ∙ one))) ∙ not)), (λ one. true≢false (sym (says (inr (is ∙ one ∙ sym same))) ∙ not)))
+
+module _ {D : Type 0} {z : SharedState D} {s u : SeatState} {e : Installed} {beneath : List ℕ} (stock : StockState) (floor : ℕ) (live : List Registration) (bases : Bases) (saw : SawHistory z s u) (holds : HoldsTurn z s (store (store_table stock)) (installed e ∷ []) beneath) (settled_then : KnowsTables s.knows e.last) (known : KnowsLive s.knows floor live)
+    (known_low : AreLow s.knows.participant.seen floor live bases) (opened : IsOpenedBase z bases.opened) (low_tables : list_all (is_flushed e.last.flushed) e.last.versions ≡ true) (based : (e.last.segment.base ≡ bases.installed) ⊎ (e.last.segment.base ≡ floor)) (flushed_low : e.last.flushed ≤ floor) (given_up : stock.floor ≤ floor) where
   abbrev w : World
   w = saw.world
 
@@ -135,28 +155,59 @@ module _ {D : Type 0} {z : SharedState D} {s u : SeatState} {e : Installed} {ben
   starts : StartsWith w.writes.history front
   starts = front_starts floor u.knows.participant.seen w.writes.history (subst (λ (h : List Entry). StartsWith h u.knows.participant.seen) (sym all_seen) ([], sym (append-nil u.knows.participant.seen)))
 
-  low : (m : ℕ) → is_among (numbers_of live) m ≡ true → m ≤ length front
-  low m among = let x = number_of live m among in let l = (k.registered x.r x.there).1 in let i = x.is in let f = front_is in omega (arith, l, i, f)
+  low_now : AreLow u.knows.participant.seen floor live bases
+  low_now = low_later s.knows.participant.seen u.knows.participant.seen floor live bases known.within (saw_grown saw) known_low
+
+  opened_low : bases.opened ≤ floor
+  opened_low = let o = low_now.opened in let i = low_now.installed in omega (arith, o, i)
+
+  base_between : (bases.opened ≤ e.last.segment.base) × (e.last.segment.base ≤ floor)
+  base_between = ⊎_elim
+      (λ (same : e.last.segment.base ≡ bases.installed). let o = low_now.opened in let i = low_now.installed in (omega (arith, same, o), omega (arith, same, i)))
+      (λ (same : e.last.segment.base ≡ floor). let o = opened_low in (omega (arith, same, o), omega (arith, same)))
+      based
+
+  abbrev numbers : List ℕ
+  numbers = listed (numbers_of live) bases.opened e.last
+
+  low : (m : ℕ) → is_among numbers m ≡ true → m ≤ length front
+  low m among = let l = listed_low live bases.opened floor e.last (λ r there. (k.registered r there).1) (opened_low, base_between.1) m among in let f = front_is in omega (arith, l, f)
 
   low_here : list_all (is_flushed w.installed.last.flushed) e.last.versions ≡ true
   low_here = subst (λ (x : Installed). list_all (is_flushed x.last.flushed) e.last.versions ≡ true) (sym edit_here) low_tables
 
-  first_here : w.installed.last.segment ≡ first_segment
-  first_here = ap (λ (x : Installed). x.last.segment) edit_here ∙ first
-
   given_up_here : w.store.floor ≤ length front
   given_up_here = let f = floor_here in let g = front_is in omega (arith, f, g)
 
-  length_here : length front ≤ length w.writes.history
-  length_here = let l = length-append front starts.0 in let q = ap (λ (h : List Entry). length h) starts.1 in omega (arith, l, q)
+  -- ---- the bases
 
-  pub may_merge : MayMerge u.knows e floor live
+  opened_here : bases.opened ≡ w.first_edit.segment.base
+  opened_here = opened_is z u.by u.knows w saw.stands bases.opened opened
+
+  opened_listed : is_among numbers w.first_edit.segment.base ≡ true
+  opened_listed = opened_among live bases.opened e.last w.first_edit.segment.base opened_here
+
+  base_listed : is_among numbers w.installed.last.segment.base ≡ true
+  base_listed = base_among live bases.opened e.last w.installed.last.segment.base (ap (λ (x : Installed). x.last.segment.base) (sym edit_here))
+
+  from_opened : (n : ℕ) → is_among numbers n ≡ true → w.first_edit.segment.base ≤ n
+  from_opened = subst (λ (b : ℕ). (n : ℕ) → is_among numbers n ≡ true → b ≤ n) opened_here (each_listed (λ n. bases.opened ≤ n) live bases.opened e.last low_now.live_from (omega arith) base_between.0)
+
+  whole_front : undone_last (take w.first_edit.segment.base front) ≡ None
+  whole_front = subst (λ (b : ℕ). undone_last (take b front) ≡ None) opened_here (ap undone_last (take-take bases.opened floor u.knows.participant.seen opened_low) ∙ low_now.whole)
+
+  pub may_merge : MayMerge u.knows e floor live bases
   may_merge = record {
     replace = replace_here;
-    numbered = versions_numbered w sound front starts (numbers_of live) low e.last.versions named.0 in_order low_here gone given_up_here;
-    covered = subst (λ (x : Installed × List Entry). IsEditCovered x.1 (after_compaction front (numbers_of live) x.0.last)) (λ i. (edit_here i, all_seen i))
-        (kept_is_covered w sound front starts (numbers_of live) low e.last.versions named.0 in_order low_here gone given_up_here first_here length_here (ap (λ (x : Installed). x.last.versions) (sym edit_here)));
-    few = kept_few w sound front starts (numbers_of live) low e.last.versions named.0 in_order low_here gone given_up_here (let f = front_is in let q = ap (λ (x : Installed). x.last.flushed) edit_here in omega (arith, f, q, flushed_low));
+    numbered = versions_numbered w sound front starts numbers low e.last.versions named.0 in_order low_here gone given_up_here;
+    based = based;
+    low = (opened_low, base_between.1);
+    live_from = low_now.live_from;
+    legal = subst IsLegal all_seen sound.history.legal;
+    covered = subst (λ (x : Installed × List Entry). IsEditCovered x.1 (after_compaction front numbers x.0.last)) (λ i. (edit_here i, all_seen i))
+        (kept_is_covered w sound front starts numbers low e.last.versions named.0 in_order low_here gone given_up_here base_listed (ap (λ (x : Installed). x.last.versions) (sym edit_here)));
+    few = subst (λ (x : ℕ × ℕ). IsCompactionCount front x.0 x.1 (length (retained front numbers e.last))) (λ i. (sym opened_here i, front_is i))
+        (kept_few w sound front starts numbers low e.last.versions named.0 in_order low_here gone given_up_here (let f = front_is in let q = ap (λ (x : Installed). x.last.flushed) edit_here in omega (arith, f, q, flushed_low)) opened_listed from_opened whole_front);
   }
 
 -- ---- the seat goes on
@@ -174,6 +225,11 @@ matched_none o P Q is k = subst (λ y. MatchOption y P Q) is k
 pub some_of : {X : Type 0} (o : Option X) (x : X) (Q : X → Type 0) → o ≡ Some x → IfSome o Q → Q x
 some_of o x Q is k = subst (λ y. IfSome y Q) is k
 
+-- where it is passed, or has another base, it is overtaken
+pub or_other : {A B C : Type 0} → A ⊎ C → A ⊎ (B ⊎ C)
+or_other (inl passed) = inl passed
+or_other (inr other) = inr (inr other)
+
 pub match_weaker : {X : Type 0} (o : Option X) (A B : Type 0) (P : X → Type 0) → (A → B) → MatchOption o A P → MatchOption o B P
 match_weaker None A B P gives k = gives k
 match_weaker (Some x) A B P gives k = k
@@ -187,16 +243,20 @@ live_still s t floor live same notes k = record {
 }
 
 -- what was decided is known still
-pub decided_still : (s t : Actor) (floor : Registration) (live : List Registration) (versions : List Version) (pairs : List Pair) → t.participant ≡ s.participant → ((fact : Fact) → guarded_by fact ≡ None → Noted s fact → Noted t fact)
-    → HasDecided s floor live versions pairs → HasDecided t floor live versions pairs
-decided_still s t floor live versions pairs same notes k = record {
+pub decided_still : (s t : Actor) (floor : Registration) (live : List Registration) (bases : Bases) (versions : List Version) (pairs : List Pair) → t.participant ≡ s.participant → ((fact : Fact) → guarded_by fact ≡ None → Noted s fact → Noted t fact)
+    → HasDecided s floor live bases versions pairs → HasDecided t floor live bases versions pairs
+decided_still s t floor live bases versions pairs same notes k = record {
   live_is = live_still s t floor.number live same notes k.live_is;
-  decided = subst (λ (p : Participant). Decides (take floor.number p.seen) (version_numbers versions) (numbers_of (floor ∷ live)) [] pairs) (sym same) k.decided;
+  low = subst (λ (p : Participant). AreLow p.seen floor.number live bases) (sym same) k.low;
+  history = k.history;
+  grown = subst (λ (p : Participant). StartsWith p.seen k.history) (sym same) k.grown;
+  within = k.within;
+  decided = k.decided;
 }
 
 -- the edit may be installed still
-pub may_merge_still : (s t : Actor) (e : Installed) (floor : ℕ) (live : List Registration) → t.participant ≡ s.participant → ((fact : Fact) → Noted s fact → Noted t fact) → MayMerge s e floor live → MayMerge t e floor live
-may_merge_still s t e floor live same notes k = let r = k.replace in record {
+pub may_merge_still : (s t : Actor) (e : Installed) (floor : ℕ) (live : List Registration) (bases : Bases) → t.participant ≡ s.participant → ((fact : Fact) → Noted s fact → Noted t fact) → MayMerge s e floor live bases → MayMerge t e floor live bases
+may_merge_still s t e floor live bases same notes k = let r = k.replace in record {
   replace = record {
     live_is = record {
       within = subst (λ (p : Participant). floor ≤ length p.seen) (sym same) r.live_is.within;
@@ -211,8 +271,12 @@ may_merge_still s t e floor live same notes k = let r = k.replace in record {
     low = r.low;
   };
   numbered = k.numbered;
-  covered = subst (λ (p : Participant). IsEditCovered p.seen (after_compaction (take floor p.seen) (numbers_of live) e.last)) (sym same) k.covered;
-  few = subst (λ (p : Participant). length (retained (take floor p.seen) (numbers_of live) e.last) ≤ length (later_versions (take floor p.seen) 0)) (sym same) k.few;
+  based = k.based;
+  low = k.low;
+  live_from = k.live_from;
+  legal = subst (λ (p : Participant). IsLegal p.seen) (sym same) k.legal;
+  covered = subst (λ (p : Participant). IsEditCovered p.seen (after_compaction (take floor p.seen) (listed (numbers_of live) bases.opened e.last) e.last)) (sym same) k.covered;
+  few = subst (λ (p : Participant). IsCompactionCount (take floor p.seen) bases.opened floor (length (retained (take floor p.seen) (listed (numbers_of live) bases.opened e.last) e.last))) (sym same) k.few;
 }
 
 -- ---- a look at the store
@@ -249,11 +313,12 @@ module _ {D : Type 0} {z : SharedState D} {s t u : SeatState} {e : EditsState} {
         (held_then z s v v (installed e.table) third.stands (ap (λ (x : SeatState). x.by) same, ap (λ (x : SeatState). x.knows.made) same, ap (λ (x : SeatState). x.knows.joined) same) (grown_looked grown) refl
         (subst (IsIn (installed e.table)) (sym (ap (λ (x : SeatState). x.knows.held) same)) (inl refl)))
 
-    pub passed_looked : (floor : ℕ) → IsPassed z t u floor e.table → IsPassed z s v floor e.table
-    passed_looked floor k =
+    pub passed_looked : (floor base : ℕ) → IsPassedOr z t u floor base e.table → IsPassedOr z s v floor base e.table
+    passed_looked floor base (inl k) =
         let same = first.goes.same in
-        passed_between z s t u v (ap (λ (x : SeatState). x.by) same, ap (λ (x : SeatState). x.knows.made) same, ap (λ (x : SeatState). x.knows.joined) same) (ap (λ (x : SeatState). x.knows.participant.past) same)
-        (starts_equal s.knows.participant.seen t.knows.participant.seen (ap (λ (x : SeatState). x.knows.participant.seen) same)) (starts_equal u.knows.participant.seen v.knows.participant.seen (ap (λ (p : Participant). p.seen) same_looked)) floor e.table k
+        inl (passed_between z s t u v (ap (λ (x : SeatState). x.by) same, ap (λ (x : SeatState). x.knows.made) same, ap (λ (x : SeatState). x.knows.joined) same) (ap (λ (x : SeatState). x.knows.participant.past) same)
+        (starts_equal s.knows.participant.seen t.knows.participant.seen (ap (λ (x : SeatState). x.knows.participant.seen) same)) (starts_equal u.knows.participant.seen v.knows.participant.seen (ap (λ (p : Participant). p.seen) same_looked)) floor e.table k)
+    passed_looked floor base (inr other) = inr other
 
 -- a seat that goes on with the tables turn alone holds the same tables still
 pub still_edits : {D : Type 0} {z : SharedState D} {s u : SeatState} {test : Fact → Bool} {e : EditsState} {h : List Entry} → HoldsEdits z s e → GoesOn test (installed e.table ∷ []) s.turns (seeing h s) u → HoldsEdits z u e
@@ -269,8 +334,12 @@ still_edits holds k = record {
 
 -- what was decided is known still by a seat that has seen more
 pub decided_looked : (s u : SeatState) (held : List Content) (turns : List ℕ) → GoesOn no_fact held turns (seeing u.knows.participant.seen s) u → StartsWith u.knows.participant.seen s.knows.participant.seen
-    → (floor : Registration) (live : List Registration) (versions : List Version) (pairs : List Pair) → HasDecided s.knows floor live versions pairs → HasDecided u.knows floor live versions pairs
-decided_looked s u held turns goes grown floor live versions pairs k = record {
+    → (floor : Registration) (live : List Registration) (bases : Bases) (versions : List Version) (pairs : List Pair) → HasDecided s.knows floor live bases versions pairs → HasDecided u.knows floor live bases versions pairs
+decided_looked s u held turns goes grown floor live bases versions pairs k = record {
   live_is = live_later s.knows u.knows floor.number live k.live_is (ap (λ (x : SeatState). x.knows.participant) goes.same) grown (goes.noted (live_listed floor.number (numbers_of live)) refl k.live_is.listed);
-  decided = subst (λ (h : List Entry). Decides h (version_numbers versions) (numbers_of (floor ∷ live)) [] pairs) (sym (take_grown floor.number s.knows.participant.seen u.knows.participant.seen k.live_is.within grown)) k.decided;
+  low = low_later s.knows.participant.seen u.knows.participant.seen floor.number live bases k.live_is.within grown k.low;
+  history = k.history;
+  grown = starts_on k.history s.knows.participant.seen u.knows.participant.seen k.grown grown;
+  within = k.within;
+  decided = k.decided;
 }

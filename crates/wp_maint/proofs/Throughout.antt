@@ -1,20 +1,25 @@
--- What a crash leaves in the midst of an install opens to the history that the log spells.
-use Rattle.std.proofs.Common.{◌≡◌, ◌⊎◌, inl, inr, ℕ, ◌<◌, ◌^◌, false, List, [], ◌∷◌, ◌++◌, length, take, append_assoc, length-append, refl, sym, subst, ap, ◌∙◌, arith}
+-- What a crash leaves in the midst of an install opens to the history that the log spells; and in the midst of a renewal each edit has its
+-- segment.
+use Rattle.std.proofs.Common.{◌≡◌, ◌⊎◌, inl, inr, ℕ, ◌<◌, ◌^◌, Bool, true, false, true≢false, List, [], ◌∷◌, ◌++◌, length, take, Some, append_assoc, length-append, refl, sym, subst, ap, ◌∙◌, arith}
 use Rattle.std.proofs.Math.Seq.{take-append_seam}
 use Rattle.wp_model.specs.declared.entry.Entry.{Entry}
-use Rattle.wp_model.specs.declared.version.Version.{Version}
+use Rattle.wp_model.specs.declared.segment.Segment.{Segment}
 use Rattle.wp_model.specs.Flushed.{InstalledEdit, IsEditCovered}
 use Rattle.wp_model.specs.Legal.{IsLegal}
+use Rattle.wp_model.specs.Versions.{AreInOrder}
+use Rattle.wp_cuts.specs.Cut.{Cut, IsCut, cut_at, full_of}
+use Rattle.wp_cuts.specs.LegalCut.{AreBelow}
 use Rattle.wp_outside.specs.Disk.{Moment, Each, Passes, images}
 use Rattle.wp_gatelog.specs.Moments.{Leaves}
 use Rattle.wp_gatelog.proofs.SurvivalLemmas.{rest_spells}
-use Rattle.wp_wal.specs.Spelling.{IsLogOf}
-use Rattle.wp_manifest.specs.Edit.{Edit, place_of}
+use Rattle.wp_wal.specs.Spelling.{IsLogAt, HasAcknowledgedCut}
+use Rattle.wp_wal.proofs.AppendLemmas.{running_cut}
+use Rattle.wp_manifest.specs.Edit.{Edit}
 use Rattle.wp_manifest.specs.Spelling.{MAGIC, IsManifestOf, IsManifestOrNext, last_edit, head_stamp}
 use Rattle.wp_manifest.proofs.EditLemmas.{last-push}
-use Rattle.wp_merge.specs.Merge.{joined, sorted_of}
-use Rattle.wp_merge.proofs.Sorted.{merged_sorted}
-use Rattle.wp_open.specs.Opens.{OpensTo, installed_of}
+use Rattle.wp_merge.specs.Merge.{joined}
+use Rattle.wp_merge.proofs.Sorted.{in_order_sorted}
+use Rattle.wp_open.specs.Opens.{installed_of}
 use Rattle.wp_table.specs.File.{HasTables}
 use Rattle.wp_core.specs.Sound.Actors.{StartsWith}
 use Rattle.wp_core.specs.IsSound.{IsSound}
@@ -23,11 +28,15 @@ use Rattle.wp_core.specs.World.{World, history}
 use Rattle.wp_core.proofs.CrashImages.{left_by_crash}
 use Rattle.wp_core.proofs.EachStep.{reached_is_sound}
 use Rattle.wp_rule.proofs.Maintenance.{edit_later}
-use Rattle.wp_shared.specs.Edits.{EditsState, IsEdits}
+use Rattle.wp_shared.specs.Edits.{EditsState, IsEdits, installed_at}
 use Rattle.wp_shared.specs.Installs.{SurvivesInstall}
+use Rattle.wp_shared.specs.Log.{LogState, IsLog}
+use Rattle.wp_shared.proofs.Ended as ended
 use Rattle.wp_shared.proofs.LogLemmas.{known_image}
 use Rattle.wp_shared.proofs.Onward.{starts_on, starts_equal, starts_same}
-use Rattle.wp_maint.specs.Moments.{LeftSince, LeftInInstall, MaySpellAmid, OpensFrom, OpensThroughout}
+use Rattle.wp_shared.proofs.Reopens.{ReopensEdit, reopens_edit}
+use Rattle.wp_maint.specs.Moments.{LeftSince, LeftInInstall, MaySpellAmid, OpensFrom, OpensFromBase, OpensThroughout, SpellsCut}
+use Rattle.wp_maint.specs.Renewal.{SurvivesBeside, NamesEdit, NamesItsSegment}
 
 -- ---- what is so at each moment
 
@@ -57,18 +66,66 @@ log_amid : (w : World) → IsSound w → (entries : List Entry) → MaySpellAmid
 log_amid w sound entries (inl may) = left_by_crash w sound entries may
 log_amid w sound entries (inr is) = ((w.writes.pending, is), subst IsLegal (sym is) sound.history.legal_next)
 
--- ---- the install
+-- the log is cut at the base of its segment
+pub log_based : (log : LogState) (g : IsLog log) → g.cut.base ≡ log.table.segment.base
+log_based log g = g.stores.based ∙ ap (λ (x : Segment). x.base) (sym g.segment)
 
-module _ (seen : List Entry) (old new : EditsState) (next : InstalledEdit) (k : IsEdits old) (running : old.table.halted ≡ false) (s : SurvivesInstall old new next) (covers : IsEditCovered seen next) where
+-- what is so at the end of what passed
+ends_since : (P : Moment → Type 0) (old new : List Moment) (image : List ℕ) → Passes P old new → images new image → LeftSince old new image
+ends_since P old new image passes at = ([], passes.0, passes.1, subst (λ (ms : List Moment). images ms image) passes.1 at)
+
+-- ---- what opens
+
+-- where the manifest's last edit is this one, with its tables, and the log spells the entries from its base on
+pub opens_as : (old : EditsState) → old.set.manifest.log.id < 2 ^ 32 → (entries : List Entry) → IsLegal entries → (c : Cut) → IsCut entries c → (edit : InstalledEdit) → c.base ≡ edit.segment.base → IsEditCovered entries edit
+    → (log manifest tables : List ℕ) → IsLogAt old.set.manifest.log.id edit.segment.place c log → NamesEdit old manifest tables edit → OpensFromBase old.set.manifest.log.id entries edit log manifest tables
+opens_as old fits entries legal c cut edit based covered log manifest tables spelled named =
+    let segment : edit.segment ≡ (installed_at edit.segment.base (last_edit named.edits) named.parts).segment = ap (λ (x : InstalledEdit). x.segment) named.is in
+    let order : AreInOrder edit.versions = subst AreInOrder (ap (λ (x : InstalledEdit). x.versions) (sym named.is)) (in_order_sorted (joined named.parts)) in
+    let r : ReopensEdit entries c edit = reopens_edit entries c edit legal cut based order covered in
+    let full : full_of c edit.versions ≡ full_of c (installed_at edit.segment.base (last_edit named.edits) named.parts).versions = ap (λ (x : InstalledEdit). full_of c x.versions) named.is in
+    let named_is : edit ≡ installed_of c.base (last_edit named.edits) named.parts = named.is ∙ ap (λ (n : ℕ). installed_of n (last_edit named.edits) named.parts) (sym based) in (
+      full_of c edit.versions,
+      ended.opens_from entries c edit edit.segment.base cut.within based r,
+      (
+        record {
+          id_fits = fits;
+          edits = named.edits;
+          installed = named.spelled;
+          cut = c;
+          spelled = subst (λ (x : Segment). IsLogAt old.set.manifest.log.id x.place c log) segment spelled;
+          judged = record { orderly = r.orderly; legal = r.entries };
+          parts = named.parts;
+          there = named.there;
+          full = full;
+          legal = r.legal;
+          covering = record {
+            below = subst (λ (x : InstalledEdit). AreBelow c x.versions) named.is r.below;
+            covered = subst (λ (x : List Entry × InstalledEdit). IsEditCovered x.0 x.1) (λ i. (full i, named_is i)) r.covered;
+          };
+        },
+        named_is,
+      ),
+    )
+
+-- ---- the tables' two devices
+
+module _ (old new : EditsState) (next : InstalledEdit) (k : IsEdits old) (running : old.table.halted ≡ false) (s : SurvivesInstall old new next) where
   abbrev id : ℕ
   id = old.set.manifest.log.id
 
   abbrev Last : List ℕ → Type 0
   Last image = HasTables id (last_edit s.edits).flushed image (last_edit s.edits).tables old.parts
 
+  abbrev Next : List ℕ → Type 0
+  Next image = HasTables id s.next.flushed image s.next.tables s.next_parts
+
   manifest_rests : (image : List ℕ) → images old.set.manifest.log.moments image → IsManifestOf id s.edits image
   manifest_rests image at =
       (s.stores.manifest.records, rest_spells MAGIC (head_stamp id) old.set.manifest.log.end [] [] s.stores.manifest.records old.set.manifest.log.moments (s.stores.manifest.rests (k.running running)) image at, s.stores.manifest.spelled)
+
+  manifest_since : (image : List ℕ) → LeftSince old.set.manifest.log.moments new.set.manifest.log.moments image → IsManifestOrNext id s.edits s.next image
+  manifest_since = holds_since (IsManifestOrNext id s.edits s.next) old.set.manifest.log.moments new.set.manifest.log.moments (λ image rests. inl (manifest_rests image rests)) s.manifest
 
   tables_rest : (image : List ℕ) → images old.set.moments image → Last image
   tables_rest image at =
@@ -79,9 +136,38 @@ module _ (seen : List Entry) (old new : EditsState) (next : InstalledEdit) (k : 
   tables_since = holds_since Last old.set.moments new.set.moments tables_rest s.tables
 
   tables_done : (image : List ℕ) → images new.set.moments image → Last image
-  tables_done image at = tables_since image ([], s.tables.0, s.tables.1, subst (λ (ms : List Moment). images ms image) s.tables.1 at)
+  tables_done image at = tables_since image (ends_since (Leaves Last) old.set.moments new.set.moments image s.tables at)
 
-  module _ (fits : id < 2 ^ 32) (w : World) (sound : IsSound w) (here : w.installed ≡ old.table) (starts : StartsWith (history w) seen) (entries : List Entry) (may : MaySpellAmid w.writes entries) (log manifest tables : List ℕ) (spelled : IsLogOf id entries log) where
+  last_of_more : s.next ≡ last_edit (s.edits ++ s.next ∷ [])
+  last_of_more = sym (last-push s.edits s.next)
+
+  -- the next edit is the last one of those and itself
+  next_named : next ≡ installed_at next.segment.base (last_edit (s.edits ++ s.next ∷ [])) s.next_parts
+  next_named = s.next_is ∙ ap (λ (e : Edit). installed_at next.segment.base e s.next_parts) last_of_more
+
+  next_there : (image : List ℕ) → Next image → HasTables id (last_edit (s.edits ++ s.next ∷ [])).flushed image (last_edit (s.edits ++ s.next ∷ [])).tables s.next_parts
+  next_there image there = subst (λ (e : Edit). HasTables id e.flushed image e.tables s.next_parts) last_of_more there
+
+  names_last : (m t : List ℕ) → IsManifestOf id s.edits m → Last t → NamesEdit old m t old.table.last
+  names_last m t named there = record { edits = s.edits; parts = old.parts; spelled = named; is = s.last_is; there = there }
+
+  names_next : (m t : List ℕ) → IsManifestOf id (s.edits ++ s.next ∷ []) m → Next t → NamesEdit old m t next
+  names_next m t named there = record { edits = s.edits ++ s.next ∷ []; parts = s.next_parts; spelled = named; is = next_named; there = next_there t there }
+
+  -- Once the tables' device is called, the manifest names the last edit, and its tables are there; or the next one, with its.
+  done_since : (manifest tables : List ℕ) → LeftSince old.set.manifest.log.moments new.set.manifest.log.moments manifest → images new.set.moments tables
+      → (IsManifestOf id s.edits manifest × Last tables) ⊎ (IsManifestOf id (s.edits ++ s.next ∷ []) manifest × Next tables)
+  done_since manifest tables since at = elim s.next_tables [
+    | inl uncalled ↦ inl (holds_since (IsManifestOf id s.edits) old.set.manifest.log.moments new.set.manifest.log.moments manifest_rests ([], uncalled, tt) manifest since, tables_done tables at)
+    | inr there ↦ elim (manifest_since manifest since) [
+      | inl named ↦ inl (named, tables_done tables at)
+      | inr named ↦ inr (named, known_image Next new.set.moments tables at there)
+    ]
+  ]
+
+  -- ---- an install
+
+  module _ (seen : List Entry) (covers : IsEditCovered seen next) (same : next.segment ≡ old.table.last.segment) (fits : id < 2 ^ 32) (w : World) (sound : IsSound w) (here : w.installed ≡ old.table) (starts : StartsWith (history w) seen) (entries : List Entry) (may : MaySpellAmid w.writes entries) (log manifest tables : List ℕ) (spelled : SpellsCut id old.table.last.segment entries log) where
     left : StartsWith entries (history w) × IsLegal entries
     left = log_amid w sound entries may
 
@@ -91,49 +177,79 @@ module _ (seen : List Entry) (old new : EditsState) (next : InstalledEdit) (k : 
     covered_next : IsEditCovered entries next
     covered_next = edit_later entries (history w) next left.0 left.1 (edit_later (history w) seen next starts sound.history.legal covers)
 
-    opens_as : (edits : List Edit) (parts : List (List Version)) (edit : InstalledEdit) → place_of (last_edit edits) ≡ 0 → edit ≡ installed_of (last_edit edits) parts → IsEditCovered entries edit → IsManifestOf id edits manifest → HasTables id (last_edit edits).flushed tables (last_edit edits).tables parts → OpensTo id entries edit log manifest tables
-    opens_as edits parts edit here is covered named there = (
-      record {
-        id_fits = fits;
-        spelled = spelled;
-        legal = left.1;
-        edits = edits;
-        installed = named;
-        place = here;
-        parts = parts;
-        there = there;
-        covering = record { all = sorted_of (joined parts); merged = merged_sorted parts; covered = subst (IsEditCovered entries) is covered };
-      },
-      is,
-    )
+    abbrev opens_last : IsManifestOf id s.edits manifest → Last tables → (edit : InstalledEdit) × ((edit ≡ old.table.last) ⊎ (edit ≡ next)) × OpensFromBase id entries edit log manifest tables
+    opens_last named there = (old.table.last, inl refl, opens_as old fits entries left.1 spelled.0 spelled.2 old.table.last spelled.3 covered_last log manifest tables spelled.1 (names_last manifest tables named there))
 
-    abbrev opens_last : IsManifestOf id s.edits manifest → Last tables → (edit : InstalledEdit) × ((edit ≡ old.table.last) ⊎ (edit ≡ next)) × OpensTo id entries edit log manifest tables
-    opens_last named there = (old.table.last, inl refl, opens_as s.edits old.parts old.table.last s.last_place s.last_is covered_last named there)
-
-    abbrev opens_next : IsManifestOf id (s.edits ++ s.next ∷ []) manifest → HasTables id s.next.flushed tables s.next.tables s.next_parts → (edit : InstalledEdit) × ((edit ≡ old.table.last) ⊎ (edit ≡ next)) × OpensTo id entries edit log manifest tables
+    abbrev opens_next : IsManifestOf id (s.edits ++ s.next ∷ []) manifest → Next tables → (edit : InstalledEdit) × ((edit ≡ old.table.last) ⊎ (edit ≡ next)) × OpensFromBase id entries edit log manifest tables
     opens_next named there =
-        let last : s.next ≡ last_edit (s.edits ++ s.next ∷ []) = sym (last-push s.edits s.next) in
-        (next, inr refl, opens_as (s.edits ++ s.next ∷ []) s.next_parts next (rw (← last) s.next_place) (s.next_is ∙ ap (λ (e : Edit). installed_of e s.next_parts) last) covered_next named (subst (λ (e : Edit). HasTables id e.flushed tables e.tables s.next_parts) last there))
+        let at : IsLogAt id next.segment.place spelled.0 log = subst (λ (x : Segment). IsLogAt id x.place spelled.0 log) (sym same) spelled.1 in
+        let based : spelled.0.base ≡ next.segment.base = spelled.3 ∙ ap (λ (x : Segment). x.base) (sym same) in
+        (next, inr refl, opens_as old fits entries left.1 spelled.0 spelled.2 next based covered_next log manifest tables at (names_next manifest tables named there))
 
-    pub opens_amid : LeftInInstall old new manifest tables → (edit : InstalledEdit) × ((edit ≡ old.table.last) ⊎ (edit ≡ next)) × OpensTo id entries edit log manifest tables
+    pub opens_amid : LeftInInstall old new manifest tables → (edit : InstalledEdit) × ((edit ≡ old.table.last) ⊎ (edit ≡ next)) × OpensFromBase id entries edit log manifest tables
     opens_amid (inl (at, since)) = opens_last (manifest_rests manifest at) (tables_since tables since)
-    opens_amid (inr (since, at)) = elim s.next_tables [
-      | inl uncalled ↦ opens_last (holds_since (IsManifestOf id s.edits) old.set.manifest.log.moments new.set.manifest.log.moments manifest_rests ([], uncalled, tt) manifest since) (tables_done tables at)
-      | inr there ↦ elim (holds_since (IsManifestOrNext id s.edits s.next) old.set.manifest.log.moments new.set.manifest.log.moments (λ image rests. inl (manifest_rests image rests)) s.manifest manifest since) [
-        | inl named ↦ opens_last named (tables_done tables at)
-        | inr named ↦ opens_next named (known_image (λ bytes. HasTables id s.next.flushed bytes s.next.tables s.next_parts) new.set.moments tables at there)
-      ]
+    opens_amid (inr (since, at)) = elim (done_since manifest tables since at) [
+      | inl last ↦ opens_last last.0 last.1
+      | inr more ↦ opens_next more.0 more.1
     ]
 
-  pub opens_from : OpensFrom seen old new next
-  opens_from fits w reached here starts entries may log manifest tables spelled left = opens_amid fits w (reached_is_sound w reached) here starts entries may log manifest tables spelled left
+  -- ---- a renewal
 
-pub opens_throughout : (seen after : List Entry) (old new : EditsState) (next edit : InstalledEdit) → IsEdits old → old.table.halted ≡ false → SurvivesInstall old new next → IsEditCovered seen next → after ≡ seen → next ≡ edit → OpensThroughout seen after old new edit
-opens_throughout seen after old new next edit k running s covers same is = record {
+  module _ (log moved : LogState) (g : IsLog log) (open_ : log.table.closed ≡ false) (whole : log.table.log ≡ log.table.history) (coupled : log.table.segment ≡ old.table.last.segment) (b : SurvivesBeside log moved (Some next.segment)) where
+    cut_now : g.cut ≡ cut_at log.table.history log.table.segment.base
+    cut_now = g.is_cut.is ∙ (λ i. cut_at (whole i) (log_based log g i))
+
+    device_open : log.wal.closed ≡ false
+    device_open = by log.wal.closed refl
+      where
+        by : (closed : Bool) → log.wal.closed ≡ closed → log.wal.closed ≡ false
+        by false is = is
+        by true is = absurd (true≢false (sym (g.shut is) ∙ open_))
+
+    abbrev At : List ℕ → Type 0
+    At image = IsLogAt log.wal.id log.table.segment.place g.cut image
+
+    log_rests : (image : List ℕ) → images log.wal.moments image → At image
+    log_rests image at =
+        subst (λ (x : Segment). IsLogAt log.wal.id x.place g.cut image) (sym g.segment)
+        (known_image (λ bytes. IsLogAt log.wal.id log.wal.segment.place g.cut bytes × HasAcknowledgedCut log.wal.id log.wal.segment.place g.cut bytes) log.wal.moments image at (running_cut log.wal g.cut log.table.failed g.stores device_open)).0
+
+    log_passes : Passes (Leaves At) log.wal.moments moved.wal.moments
+    log_passes = b.still g.cut (subst (λ (h : List Entry). IsCut h g.cut) whole g.is_cut) (log_based log g)
+
+    log_since : (image : List ℕ) → LeftSince log.wal.moments moved.wal.moments image → At image
+    log_since = holds_since At log.wal.moments moved.wal.moments log_rests log_passes
+
+    -- at the place that the edit names the log spells the history, cut at its base
+    abbrev HasItsSegment : List ℕ → InstalledEdit → Type 0
+    HasItsSegment image edit = IsLogAt log.wal.id edit.segment.place (cut_at log.table.history edit.segment.base) image
+
+    has_last : (image : List ℕ) → At image → HasItsSegment image old.table.last
+    has_last image at = subst (λ (x : Segment). IsLogAt log.wal.id x.place (cut_at log.table.history x.base) image) coupled (subst (λ (d : Cut). IsLogAt log.wal.id log.table.segment.place d image) cut_now at)
+
+    has_next : (image : List ℕ) → images moved.wal.moments image → HasItsSegment image next
+    has_next image at =
+        (known_image (λ bytes. IsLogAt log.wal.id next.segment.place (cut_at log.table.history next.segment.base) bytes × HasAcknowledgedCut log.wal.id next.segment.place (cut_at log.table.history next.segment.base) bytes) moved.wal.moments image at b.beside.2).0
+
+    pub names_its_segment : NamesItsSegment old new log moved next
+    names_its_segment l m t (inl (at_l, at_m, since)) = (old.table.last, inl refl, names_last m t (manifest_rests m at_m) (tables_since t since), has_last l (log_rests l at_l))
+    names_its_segment l m t (inr (inl (since, at_m, at_t))) = (old.table.last, inl refl, names_last m t (manifest_rests m at_m) (tables_done t at_t), has_last l (log_since l since))
+    names_its_segment l m t (inr (inr (at_l, since, at_t))) = elim (done_since m t since at_t) [
+      | inl last ↦ (old.table.last, inl refl, names_last m t last.0 last.1, has_last l (log_since l (ends_since (Leaves At) log.wal.moments moved.wal.moments l log_passes at_l)))
+      | inr more ↦ (next, inr refl, names_next m t more.0 more.1, has_next l at_l)
+    ]
+
+-- ---- as callers see it
+
+pub opens_from : (seen : List Entry) (old new : EditsState) (next : InstalledEdit) → IsEdits old → old.table.halted ≡ false → SurvivesInstall old new next → IsEditCovered seen next → next.segment ≡ old.table.last.segment → OpensFrom seen old new next
+opens_from seen old new next k running s covers same fits w reached here starts entries may log manifest tables spelled left = opens_amid old new next k running s seen covers same fits w (reached_is_sound w reached) here starts entries may log manifest tables spelled left
+
+pub opens_throughout : (seen after : List Entry) (old new : EditsState) (next edit : InstalledEdit) → IsEdits old → old.table.halted ≡ false → SurvivesInstall old new next → IsEditCovered seen next → next.segment ≡ old.table.last.segment → after ≡ seen → next ≡ edit → OpensThroughout seen after old new edit
+opens_throughout seen after old new next edit k running s covers there same is = record {
   seen = seen;
   later = starts_same seen;
   within = starts_equal seen after same;
-  opens = subst (OpensFrom seen old new) is (opens_from seen old new next k running s covers);
+  opens = subst (OpensFrom seen old new) is (opens_from seen old new next k running s covers there);
 }
 
 -- of a call between two others, and so between two that are further apart

@@ -95,38 +95,6 @@ length_sorted [] distinct = refl
 length_sorted (v ∷ versions) distinct =
     length_with v (sorted_of versions) (at_sorted versions v.key v.number ∙ distinct.0) ∙ ap (λ (n : ℕ). suc n) (length_sorted versions distinct.1)
 
--- ---- versions that are all in another list
-
-longer_with : (v : Version) (versions : List Version) → length versions ≤ length (merge_of (v ∷ []) versions)
-longer_with v [] = omega arith
-longer_with v (w ∷ versions) = by (version_cmp v w) (longer_with v versions)
-  where
-    by : (o : Ordering) → length versions ≤ length (merge_of (v ∷ []) versions) → suc (length versions) ≤ length (choose_by_order o (v ∷ w ∷ versions) (v ∷ versions) (w ∷ weave v (merge_of []) versions))
-    by Less rest = let le : suc (length versions) ≤ suc (suc (length versions)) = omega arith in le
-    by Equal rest = let le : suc (length versions) ≤ suc (length versions) = omega arith in le
-    by Greater rest = let le : suc (length versions) ≤ suc (length (merge_of (v ∷ []) versions)) = omega (arith, rest) in le
-
-longer_sorted : (ys xs : List Version) → length (sorted_of xs) ≤ length (sorted_of (ys ++ xs))
-longer_sorted [] xs = let le : length (sorted_of xs) ≤ length (sorted_of xs) = omega arith in le
-longer_sorted (y ∷ ys) xs =
-    let rest = longer_sorted ys xs in let more = longer_with y (sorted_of (ys ++ xs)) in
-    let le : length (sorted_of xs) ≤ length (merge_of (y ∷ []) (sorted_of (ys ++ xs))) = omega (arith, rest, more) in le
-
-first_of : (a b : Found) → ((value : Option (List ℕ)) → b ≡ Some value → a ≡ Some value) → option_or a b ≡ a
-first_of None None within = refl
-first_of None (Some value) within = let none = within value refl in absurd cc
-first_of (Some value) b within = refl
-
--- a list in order is no longer than one that has each of its versions
-pub no_more : (xs ys : List Version) → AreInOrder xs → Distinct ys → ((key : List ℕ) (p : ℕ) (value : Option (List ℕ)) → version_at xs key p ≡ Some value → version_at ys key p ≡ Some value) → length xs ≤ length ys
-no_more xs ys ordered distinct within =
-    let both = same_sorted (ys ++ xs) ys (λ key p. at_append ys xs key p ∙ first_of (version_at ys key p) (version_at xs key p) (λ value there. within key p value there)) in
-    let more = longer_sorted ys xs in
-    let one = ap (λ (l : List Version). length l) (sorted_same xs ordered) in
-    let two = ap (λ (l : List Version). length l) both in
-    let three = length_sorted ys distinct in
-    omega (arith, more, one, two, three)
-
 -- ---- the versions of entries stand once each
 
 -- of entries after n, none has a version up to n

@@ -2,9 +2,10 @@
 use Rattle.std.specs.Prelude.{◌≡◌, ℕ, ◌≤◌, ◌<◌, Bool, true, false, List, [], ◌∷◌, ◌++◌, filter, length, take, Option, Some, IfSome, Result, Ok, Err}
 use Rattle.wp_model.specs.declared.entry.Entry.{Entry}
 use Rattle.wp_model.specs.declared.version.Version.{Version}
-use Rattle.wp_model.specs.Flushed.{InstalledEdit, later_versions}
+use Rattle.wp_model.specs.Flushed.{InstalledEdit}
 use Rattle.wp_merge.specs.Merge.{sorted_of}
-use Rattle.wp_replies.specs.Tables.{unflushed, retained, after_flush, after_compaction}
+use Rattle.wp_replies.specs.Replies.{IsCompactionCount}
+use Rattle.wp_replies.specs.Tables.{unflushed, listed, retained, after_flush, after_compaction}
 use Rattle.wp_tableset.specs.Changes.{compacted_parts}
 use Rattle.wp_tableset.specs.declared.error.TableSetError.TheVariants.{Fault}
 use Rattle.wp_core.specs.Effects.{with_failed}
@@ -16,10 +17,11 @@ use Rattle.wp_core.specs.Tables.{Content, Installed, writes, installed}
 use Rattle.wp_core.specs.Views.{Event, tables_failed, found_edit}
 use Rattle.wp_core.specs.Views as event
 use Rattle.wp_core.specs.World.{Actor, Participant, World}
+use Rattle.wp_rule.specs.Shows.{WasLast}
 use Rattle.wp_rule.specs.Words.{IsAt}
 use Rattle.wp_shared.specs.Edits.{EditsState, IsEdits}
 use Rattle.wp_shared.specs.Installs.{HadCause, SurvivesInstall}
-use Rattle.wp_shared.specs.Parts.{set_first}
+use Rattle.wp_shared.specs.Parts.{content, set_first}
 use Rattle.wp_shared.specs.Calls.{Continues, remembering}
 use Rattle.wp_shared.specs.Notes.{seeing}
 use Rattle.wp_shared.specs.Seats.{SharedState, SeatState, place_at}
@@ -188,8 +190,9 @@ pub record HasPinned {D : Type 0} (z : SharedState D) (old new : SeatState) (flo
   pub within : floor ≤ length new.knows.participant.seen
   pub later : StartsWith (take floor new.knows.participant.seen) old.knows.participant.seen
 
--- Which floor and which live numbers it was, `Pinned` says. Of the tables' versions those stay that a reader at the floor needs,
--- or at a number that was live; they are no more than the history had up to the floor. The last edit names their table alone. As
+-- Which floor and which live numbers it was, `Pinned` says; none is below the base at which the log was opened. Of the tables' versions
+-- those stay that a reader at the floor needs, or at a number that was live, or at that base or the log's; they are no more than the keys
+-- that the store had at the first base, the changes that were carried there, and what the history has from there up to the floor. The last edit names their table alone. As
 -- `TablesBecame` says, of two states: a table with just these versions took the place of all, and at each moment between them a
 -- crash left the edits before that one, or those and it, and their tables; and what a crash left of all three devices opened to the
 -- history that the log spelled.
@@ -199,26 +202,33 @@ pub record HasCompacted {D : Type 0} (Goes : Participant → Type 0) (Pinned : �
   pub several : SeveralTables e.last
   pub live : List ℕ
   pub pinned : Pinned done.at live
-  pub versions : done.versions ≡ length (retained (take done.at new.knows.participant.seen) live e.last)
-  pub few : done.versions ≤ length (later_versions (take done.at new.knows.participant.seen) 0)
-  pub left : HeldTables z old new new.knows.participant.past (record e { last = after_compaction (take done.at new.knows.participant.seen) live e.last })
-  pub table : TablesBecame z e (record e { last = after_compaction (take done.at new.knows.participant.seen) live e.last }) (HasAlone (retained (take done.at new.knows.participant.seen) live e.last))
-  pub survives : SurvivesInstall table.before table.after (after_compaction (take done.at new.knows.participant.seen) live e.last)
-  pub throughout : OpensThroughout old.knows.participant.seen new.knows.participant.seen table.before table.after (after_compaction (take done.at new.knows.participant.seen) live e.last)
-  pub goes_on : Goes (remembering (found_by z old new e found ∷ event.installed (after_compaction (take done.at new.knows.participant.seen) live e.last) true ∷ []) old.knows.participant)
+  pub first : InstalledEdit
+  pub is_first : WasLast content z.first first
+  pub low : first.segment.base ≤ done.at
+  pub from_base : (n : ℕ) → IsIn n live → first.segment.base ≤ n
+  pub versions : done.versions ≡ length (retained (take done.at new.knows.participant.seen) (listed live first.segment.base e.last) e.last)
+  pub few : IsCompactionCount (take done.at new.knows.participant.seen) first.segment.base done.at done.versions
+  pub left : HeldTables z old new new.knows.participant.past (record e { last = after_compaction (take done.at new.knows.participant.seen) (listed live first.segment.base e.last) e.last })
+  pub table : TablesBecame z e (record e { last = after_compaction (take done.at new.knows.participant.seen) (listed live first.segment.base e.last) e.last }) (HasAlone (retained (take done.at new.knows.participant.seen) (listed live first.segment.base e.last) e.last))
+  pub survives : SurvivesInstall table.before table.after (after_compaction (take done.at new.knows.participant.seen) (listed live first.segment.base e.last) e.last)
+  pub throughout : OpensThroughout old.knows.participant.seen new.knows.participant.seen table.before table.after (after_compaction (take done.at new.knows.participant.seen) (listed live first.segment.base e.last) e.last)
+  pub goes_on : Goes (remembering (found_by z old new e found ∷ event.installed (after_compaction (take done.at new.knows.participant.seen) (listed live first.segment.base e.last) e.last) true ∷ []) old.knows.participant)
 
 -- the edit is that of a compaction of these tables at a floor with these live numbers
-pub record IsCompactionOf (Pinned : ℕ → List ℕ → Type 0) (new : SeatState) (last edit : InstalledEdit) : Type 0 where
+pub record IsCompactionOf {D : Type 0} (Pinned : ℕ → List ℕ → Type 0) (z : SharedState D) (new : SeatState) (last edit : InstalledEdit) : Type 0 where
   pub floor : ℕ
   pub live : List ℕ
   pub pinned : Pinned floor live
-  pub edit_is : edit ≡ after_compaction (take floor new.knows.participant.seen) live last
+  pub first : InstalledEdit
+  pub is_first : WasLast content z.first first
+  pub from_base : (n : ℕ) → IsIn n live → first.segment.base ≤ n
+  pub edit_is : edit ≡ after_compaction (take floor new.knows.participant.seen) (listed live first.segment.base last) last
 
 abbrev pub CompactsFrom : {D : Type 0} → (Participant → Type 0) → (ℕ → List ℕ → Type 0) → SharedState D → SeatState → Installed → Result Done MaintError → SeatState → Type 0
 CompactsFrom Goes Pinned z old e (Ok done) new = HasCompacted Goes Pinned z old new e done
 CompactsFrom Goes Pinned z old e (Err Memory) new = Goes old.knows.participant
 CompactsFrom Goes Pinned z old e (Err Nothing) new = HasNothing Goes z old new e FewTables
-CompactsFrom Goes Pinned z old e (Err TableFault) new = HasFailed Goes z old new e (SeveralTables e.last) (IsCompactionOf Pinned new e.last)
+CompactsFrom Goes Pinned z old e (Err TableFault) new = HasFailed Goes z old new e (SeveralTables e.last) (IsCompactionOf Pinned z new e.last)
 CompactsFrom Goes Pinned z old e (Err (TablesStopped flushed)) new = IsStopped Goes z old new e flushed
 
 -- what a compaction answers and leaves, where the tables were so as it found them
@@ -230,6 +240,7 @@ Compacts z old result new = (e : Installed) × CompactsFrom (Continues z old new
 -- an edit was installed, or a device failed
 abbrev pub is_of_install : Event → Bool
 is_of_install (event.installed edit compacts) = true
+is_of_install (event.renewed edit) = true
 is_of_install (tables_failed last asked) = true
 is_of_install other = false
 

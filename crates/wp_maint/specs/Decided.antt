@@ -1,5 +1,5 @@
 -- What a compaction decides of versions, at the numbers that it pinned.
-use Rattle.std.specs.Prelude.{◌≡◌, ◌⊎◌, ℕ, ◌≤◌, true, List, length, map}
+use Rattle.std.specs.Prelude.{◌≡◌, ◌⊎◌, ℕ, ◌≤◌, true, List, [], ◌∷◌, length, map}
 use Rattle.wp_model.specs.declared.entry.Entry.{Entry}
 use Rattle.wp_model.specs.declared.version.Version.{Version}
 use Rattle.wp_model.specs.Decision.{IsCommittedAt}
@@ -9,6 +9,7 @@ use Rattle.wp_core.specs.Lists.{IsIn}
 use Rattle.wp_core.specs.Reading.{Registration}
 use Rattle.wp_core.specs.Sound.Snapshots.{has_versions_at}
 use Rattle.wp_core.specs.World.{Participant}
+use Rattle.wp_maint.specs.declared.decided.Bases.{Bases}
 
 -- the participant registered these, and has seen each number
 abbrev pub ArePinned : Participant → List Registration → Type 0
@@ -20,6 +21,10 @@ AreSeen seen versions = (v : Version) → IsIn v versions → v.number ≤ lengt
 
 abbrev pub version_numbers : List Version → List ℕ
 version_numbers versions = map (λ v. v.number) versions
+
+-- the base at which the log was opened, and the one that it has
+abbrev pub both_bases : Bases → List ℕ
+both_bases bases = bases.opened ∷ bases.installed ∷ []
 
 -- The pairs tell what the others told, and of each of these versions' numbers at which of these numbers the history has it
 -- committed; and nothing else.

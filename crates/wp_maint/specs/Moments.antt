@@ -1,9 +1,11 @@
 -- What a crash leaves of the three devices at each moment of an install, while others go on.
 use Rattle.std.specs.Prelude.{◌≡◌, ◌⊎◌, ℕ, ◌<◌, ◌^◌, List, ◌++◌}
 use Rattle.wp_model.specs.declared.entry.Entry.{Entry}
+use Rattle.wp_model.specs.declared.segment.Segment.{Segment}
 use Rattle.wp_model.specs.Flushed.{InstalledEdit}
+use Rattle.wp_cuts.specs.Cut.{Cut, IsCut}
 use Rattle.wp_outside.specs.Disk.{Moment, images}
-use Rattle.wp_wal.specs.Spelling.{IsLogOf}
+use Rattle.wp_wal.specs.Spelling.{IsLogAt}
 use Rattle.wp_open.specs.Opens.{OpensTo}
 use Rattle.wp_core.specs.Images.{MaySpell}
 use Rattle.wp_core.specs.Runs.{Reaches}
@@ -11,6 +13,7 @@ use Rattle.wp_core.specs.Sound.Actors.{StartsWith}
 use Rattle.wp_core.specs.Tables.{WriteTable}
 use Rattle.wp_core.specs.World.{World, history}
 use Rattle.wp_shared.specs.Edits.{EditsState}
+use Rattle.wp_shared.specs.Ended.{IsFrom}
 
 -- ---- the devices
 
@@ -30,17 +33,25 @@ LeftInInstall old new manifest tables =
 abbrev pub MaySpellAmid : WriteTable → List Entry → Type 0
 MaySpellAmid t entries = MaySpell t entries ⊎ (entries ≡ t.history ++ t.pending)
 
+-- In this segment the bytes have the log of these entries under the id, cut at its base.
+abbrev pub SpellsCut : ℕ → Segment → List Entry → List ℕ → Type 0
+SpellsCut id segment entries bytes = (c : Cut) × IsLogAt id segment.place c bytes × IsCut entries c × (c.base ≡ segment.base)
+
 -- ---- all three
 
+-- the bytes of the three devices open to a list that is these entries from the edit's base on
+abbrev pub OpensFromBase : ℕ → List Entry → InstalledEdit → (log manifest tables : List ℕ) → Type 0
+OpensFromBase id entries edit log manifest tables = (history : List Entry) × IsFrom edit.segment.base entries history × OpensTo id history edit log manifest tables
+
 -- In each reached world with the old tables, whose history begins with these entries: whatever a crash in the install leaves, the three
--- devices open to just the entries that the log spells, and to the last edit or the next one.
+-- devices open to just the entries that the log spells in its segment, from the segment's base on, and to the last edit or the next one.
 abbrev pub OpensFrom : List Entry → EditsState → EditsState → InstalledEdit → Type 0
 OpensFrom seen old new next =
     old.set.manifest.log.id < 2 ^ 32
     → (w : World) → Reaches w → w.installed ≡ old.table → StartsWith (history w) seen
     → (entries : List Entry) → MaySpellAmid w.writes entries
-    → (log manifest tables : List ℕ) → IsLogOf old.set.manifest.log.id entries log → LeftInInstall old new manifest tables
-    → (edit : InstalledEdit) × ((edit ≡ old.table.last) ⊎ (edit ≡ next)) × OpensTo old.set.manifest.log.id entries edit log manifest tables
+    → (log manifest tables : List ℕ) → SpellsCut old.set.manifest.log.id old.table.last.segment entries log → LeftInInstall old new manifest tables
+    → (edit : InstalledEdit) × ((edit ≡ old.table.last) ⊎ (edit ≡ next)) × OpensFromBase old.set.manifest.log.id entries edit log manifest tables
 
 -- ... of what a seat had seen as the install began, between what it had seen before the call and after it. So that is so of each world
 -- in which the seat was in the midst of the install.

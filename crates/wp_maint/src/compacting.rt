@@ -6,7 +6,7 @@ ghost use Rattle.wp_shared.specs.Calls.{Continues, GoesOnAs};
 ghost use Rattle.wp_shared.specs.Seats.{IsFree};
 ghost use Rattle.wp_read.specs.Registers.{numbers_of};
 ghost use Rattle.wp_maint.specs.Calls.{Compacts, HasPinned, LeavesEach, RefusesBeforeInstall, SeveralTables};
-ghost use Rattle.wp_maint.specs.Compaction.{HadVersions, HasDecided, IsPin, KnowsLive, EndsRoundFrom, EndsRound, InRound};
+ghost use Rattle.wp_maint.specs.Compaction.{HadDecision, HasDecided, IsDecision, IsOpenedBase, IsPin, KnowsLive, EndsRoundFrom, EndsRound, InRound};
 ghost use Rattle.wp_maint.specs.Holding.{HoldsEdits};
 ghost use Rattle.wp_maint.specs.Installs.{AreLeft};
 
@@ -37,11 +37,11 @@ fn compact_several<D: Disk + Drop, R: Wait>(
     requires settled { KnowsTables seat.old.knows edits.old.table.last }
     requires running { edits.old.table.halted ≡ false }
     requires several { SeveralTables edits.old.table.last }
-    requires decided { HasDecided seat.old.knows pinned.now.floor pinned.now.live.items decided.versions decided.committed.items }
-    requires tabled { HadVersions store.now seat.old seat.old decided.versions }
+    requires decided { HasDecided seat.old.knows pinned.now.floor pinned.now.live.items decided.bases decided.versions decided.committed.items }
+    requires opened { IsOpenedBase store.now decided.bases.opened }
     ensures holds { HoldsEdits store.now seat.new edits.new }
     ensures settled { KnowsTables seat.new.knows edits.new.table.last }
-    ensures says { EndsRoundFrom (GoesOnAs seat.old seat.new) (IsPin pinned.now.floor.number (numbers_of pinned.now.live.items)) store.now seat.old edits.old.table result seat.new }
+    ensures says { EndsRoundFrom (GoesOnAs seat.old seat.new) (IsPin pinned.now.floor.number (numbers_of pinned.now.live.items)) (IsDecision pinned.now.floor.number decided.bases decided.versions) store.now seat.old edits.old.table result seat.new }
     ensures manifest { InRound (AreLeft edits.old edits.new) result }
 {
     match are_unchanged(store, rt, alloc, seat, edits, pinned, &decided) {
@@ -64,11 +64,11 @@ fn compact_running<D: Disk + Drop, R: Wait>(
     requires holds { HoldsEdits store.now seat.old edits.old }
     requires settled { KnowsTables seat.old.knows edits.old.table.last }
     requires running { edits.old.table.halted ≡ false }
-    requires decided { HasDecided seat.old.knows pinned.now.floor pinned.now.live.items decided.versions decided.committed.items }
-    requires tabled { HadVersions store.now seat.old seat.old decided.versions }
+    requires decided { HasDecided seat.old.knows pinned.now.floor pinned.now.live.items decided.bases decided.versions decided.committed.items }
+    requires opened { IsOpenedBase store.now decided.bases.opened }
     ensures holds { HoldsEdits store.now seat.new edits.new }
     ensures settled { KnowsTables seat.new.knows edits.new.table.last }
-    ensures says { EndsRoundFrom (GoesOnAs seat.old seat.new) (IsPin pinned.now.floor.number (numbers_of pinned.now.live.items)) store.now seat.old edits.old.table result seat.new }
+    ensures says { EndsRoundFrom (GoesOnAs seat.old seat.new) (IsPin pinned.now.floor.number (numbers_of pinned.now.live.items)) (IsDecision pinned.now.floor.number decided.bases decided.versions) store.now seat.old edits.old.table result seat.new }
     ensures manifest { InRound (AreLeft edits.old edits.new) result }
 {
     if edits.table_count() < 2 {
@@ -90,11 +90,11 @@ fn compact_in<D: Disk + Drop, R: Wait>(
 ) -> Option<Result<Done, MaintError>>
     requires holds { HoldsEdits store.now seat.old edits.old }
     requires settled { KnowsTables seat.old.knows edits.old.table.last }
-    requires decided { HasDecided seat.old.knows pinned.now.floor pinned.now.live.items decided.versions decided.committed.items }
-    requires tabled { HadVersions store.now seat.old seat.old decided.versions }
+    requires decided { HasDecided seat.old.knows pinned.now.floor pinned.now.live.items decided.bases decided.versions decided.committed.items }
+    requires opened { IsOpenedBase store.now decided.bases.opened }
     ensures holds { HoldsEdits store.now seat.new edits.new }
     ensures settled { KnowsTables seat.new.knows edits.new.table.last }
-    ensures says { EndsRoundFrom (GoesOnAs seat.old seat.new) (IsPin pinned.now.floor.number (numbers_of pinned.now.live.items)) store.now seat.old edits.old.table result seat.new }
+    ensures says { EndsRoundFrom (GoesOnAs seat.old seat.new) (IsPin pinned.now.floor.number (numbers_of pinned.now.live.items)) (IsDecision pinned.now.floor.number decided.bases decided.versions) store.now seat.old edits.old.table result seat.new }
     ensures manifest { InRound (AreLeft edits.old edits.new) result }
 {
     if edits.is_halted() {
@@ -115,7 +115,7 @@ fn compact_pinned<D: Disk + Drop, R: Wait>(
     requires free { IsFree store.now.table seat.old }
     requires floor { IsIn pinned.now.floor seat.old.knows.participant.registered × (pinned.now.floor.number ≡ length seat.old.knows.participant.seen) }
     requires live { KnowsLive seat.old.knows pinned.now.floor.number pinned.now.live.items }
-    ensures says { EndsRound (Continues store.now seat.old seat.new) (IsPin pinned.now.floor.number (numbers_of pinned.now.live.items)) store.now seat.old result seat.new }
+    ensures says { EndsRound (Continues store.now seat.old seat.new) (IsPin pinned.now.floor.number (numbers_of pinned.now.live.items)) (HadDecision store.now seat.old seat.new) store.now seat.old result seat.new }
     ensures manifest { InRound (LeavesEach store.now seat.old seat.new) result }
 {
     let Ok(decided) = decide_tables(store, rt, alloc, seat, pinned) else {
@@ -137,7 +137,7 @@ fn try_compact<D: Disk + Drop, R: Wait>(
     seat: &mut Seat<D>,
 ) -> Option<Result<Done, MaintError>>
     requires { IsFree store.now.table seat.old }
-    ensures says { EndsRound (Continues store.now seat.old seat.new) (HasPinned store.now seat.old seat.new) store.now seat.old result seat.new }
+    ensures says { EndsRound (Continues store.now seat.old seat.new) (HasPinned store.now seat.old seat.new) (HadDecision store.now seat.old seat.new) store.now seat.old result seat.new }
     ensures manifest { InRound (LeavesEach store.now seat.old seat.new) result }
 {
     match pin_all(store, rt, alloc, seat) {
@@ -151,7 +151,7 @@ fn try_compact<D: Disk + Drop, R: Wait>(
 }
 
 /// Writes one table in place of all, or none where no version is left: without the versions that no reader of the published
-/// number needs, nor one of a live snapshot. Nothing is answered where there are fewer than two tables.
+/// number needs, nor one of a live snapshot, nor one at the log's base now or as the store was opened. Nothing is answered where there are fewer than two tables.
 pub fn compact<D: Disk + Drop, R: Wait>(
     store: &Shared<D>,
     rt: &R,

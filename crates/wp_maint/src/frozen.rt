@@ -25,7 +25,7 @@ use wp_table::Table;
 
 /// What a flush writes. What was frozen is freed with it, once the store has let it go.
 #[derive(Drop)]
-pub(crate) struct Frozen {
+pub struct Frozen {
     /// The published number.
     pub at: Seq,
     /// All that stood in memory.

@@ -1,4 +1,5 @@
-//! Maintenance of the shared store: what stands in memory goes to tables, and tables are merged.
+//! Maintenance of the shared store: what stands in memory goes to tables, and tables are merged. `wp_renew` renews the log, by steps of
+//! here.
 //!
 //! A flush takes the tables turn. Under the write turn and the store turn it freezes what stands in memory, which is all
 //! that the history has above the flushed number, up to the published one: it shares it with the store, and copies none of it.
@@ -26,6 +27,7 @@ mod frozen;
 pub mod laws;
 mod merging;
 mod pins;
+mod renewed;
 mod steps;
 mod unchanged;
 
@@ -33,3 +35,6 @@ pub use compacting::compact;
 pub use done::Done;
 pub use error::MaintError;
 pub use flushing::flush;
+pub use frozen::Frozen;
+pub use renewed::{RenewError, Renewed};
+pub use steps::{find_edits, move_versions, note_frozen};

@@ -1,12 +1,12 @@
 //! What is kept of the tables is merged to one.
-ghost use Rattle.std.specs.Prelude.{◌≡◌, ◌≤◌, true, false, List, [], ◌∷◌, map, take, vec_capacity, IfOk, IfErr, OnOk};
+ghost use Rattle.std.specs.Prelude.{◌≡◌, ◌≤◌, true, false, [], ◌∷◌, ◌++◌, map, take, vec_capacity, IfOk, IfErr, OnOk};
 ghost use Rattle.std.specs.Arc.{arc_value};
 ghost use Rattle.std.specs.List.{list_all};
 ghost use Rattle.std.specs.Option.{option_map};
 ghost use Rattle.wp_model.specs.declared.version.Version.{Version};
 ghost use Rattle.wp_model.specs.Flushed.{IsEditCovered};
 ghost use Rattle.wp_merge.specs.Merge.{joined, sorted_of};
-ghost use Rattle.wp_replies.specs.Tables.{retained};
+ghost use Rattle.wp_replies.specs.Tables.{listed, retained};
 ghost use Rattle.wp_table.specs.Table.{is_numbered, is_flushed};
 ghost use Rattle.wp_tableset.specs.Changes.{one_part};
 ghost use Rattle.wp_store.specs.Store.{with_newest};
@@ -19,12 +19,14 @@ ghost use Rattle.wp_shared.specs.Calls.{GoesOnAs};
 ghost use Rattle.wp_shared.specs.Notes.{GoesOn};
 ghost use Rattle.wp_read.specs.Registers.{numbers_of};
 ghost use Rattle.wp_maint.specs.Calls.{CompactsFrom, HasAlone, SeveralTables, UnlessFault};
-ghost use Rattle.wp_maint.specs.Compaction.{HasDecided, IsPin, MayMerge, MayReplace};
+ghost use Rattle.wp_maint.specs.declared.decided.Bases.{Bases};
+ghost use Rattle.wp_maint.specs.Compaction.{HasDecided, IsOpenedBase, IsPin, MayMerge, MayPutKept};
 ghost use Rattle.wp_shared.specs.Installs.{in_one_table};
+ghost use Rattle.wp_maint.specs.Decided.{both_bases};
 ghost use Rattle.wp_maint.specs.Holding.{is_of_tables, HoldsEdits};
 ghost use Rattle.wp_maint.specs.Installs.{AreLeft, HasInstalled, NotInstalled};
 
-use crate::decided::Decided;
+use crate::decided::{Bases, Decided};
 use crate::done::Done;
 use crate::error::MaintError;
 use crate::pins::numbers_of;
@@ -43,13 +45,16 @@ use wp_tableset::TableSetError;
 fn kept_of(
     alloc: Global,
     pinned: &Pinned,
+    bases: Bases,
     versions: Versions,
     committed: &[Pair],
 ) -> Result<Versions, AllocError>
-    ensures { IfOk result (λ kept. kept ≡ retained_of (is_committed committed.now) versions (numbers_of pinned.now.live.items) pinned.now.floor.number) }
+    ensures { IfOk result (λ kept. kept ≡ retained_of (is_committed committed.now) versions (numbers_of pinned.now.live.items ++ both_bases bases) pinned.now.floor.number) }
 {
-    let live = numbers_of(alloc, &pinned.live)?;
-    keep(alloc, versions, committed, &live, pinned.floor.number())
+    let mut numbers = numbers_of(alloc, &pinned.live)?;
+    numbers.push(bases.opened)?;
+    numbers.push(bases.installed)?;
+    keep(alloc, versions, committed, &numbers, pinned.floor.number())
 }
 
 /// Writes these versions to a table, if there are any, and installs the edit that names it alone.
@@ -110,8 +115,7 @@ fn put_tables<D: Disk + Drop, R: Wait>(
     floor: Seq,
 )
     requires holds { HoldsEdits store.now seat.old edits.now }
-    requires may { (live : List Registration) × (versions : List Version) × MayReplace seat.old.knows edits.now.table floor live versions
-        × (edits.now.table.last.versions ≡ retained (take floor seat.old.knows.participant.seen) (numbers_of live) (record edits.now.table.last { versions = versions })) }
+    requires may { MayPutKept store.now seat.old.knows edits.now.table floor }
     requires tables { sorted_of (joined (map arc_value tables.items)) ≡ edits.now.table.last.versions }
     ensures goes { GoesOn is_of_tables (installed edits.now.table ∷ []) seat.old.turns seat.old seat.new }
     ensures settled { KnowsTables seat.new.knows edits.now.table.last }
@@ -135,8 +139,8 @@ fn merge_kept<D: Disk + Drop, R: Wait>(
     requires holds { HoldsEdits store.now seat.old edits.old }
     requires running { edits.old.table.halted ≡ false }
     requires several { SeveralTables edits.old.table.last }
-    requires may { MayMerge seat.old.knows edits.old.table pinned.now.floor.number pinned.now.live.items }
-    requires kept { kept ≡ retained (take pinned.now.floor.number seat.old.knows.participant.seen) (numbers_of pinned.now.live.items) edits.old.table.last }
+    requires may { (bases : Bases) × IsOpenedBase store.now bases.opened × MayMerge seat.old.knows edits.old.table pinned.now.floor.number pinned.now.live.items bases
+        × (kept ≡ retained (take pinned.now.floor.number seat.old.knows.participant.seen) (listed (numbers_of pinned.now.live.items) bases.opened edits.old.table.last) edits.old.table.last) }
     requires room { (tables.items ≡ []) × (1 ≤ vec_capacity tables) }
     ensures holds { HoldsEdits store.now seat.new edits.new }
     ensures settled { KnowsTables seat.new.knows edits.new.table.last }
@@ -169,9 +173,10 @@ pub(crate) fn merge<D: Disk + Drop, R: Wait>(
     requires holds { HoldsEdits store.now seat.old edits.old }
     requires running { edits.old.table.halted ≡ false }
     requires several { SeveralTables edits.old.table.last }
-    requires may { MayMerge seat.old.knows edits.old.table pinned.now.floor.number pinned.now.live.items }
-    requires decided { HasDecided seat.old.knows pinned.now.floor pinned.now.live.items decided.versions decided.committed.items }
+    requires may { MayMerge seat.old.knows edits.old.table pinned.now.floor.number pinned.now.live.items decided.bases }
+    requires decided { HasDecided seat.old.knows pinned.now.floor pinned.now.live.items decided.bases decided.versions decided.committed.items }
     requires same { decided.versions ≡ edits.old.table.last.versions }
+    requires opened { IsOpenedBase store.now decided.bases.opened }
     ensures holds { HoldsEdits store.now seat.new edits.new }
     ensures settled { KnowsTables seat.new.knows edits.new.table.last }
     ensures says { CompactsFrom (GoesOnAs seat.old seat.new) (IsPin pinned.now.floor.number (numbers_of pinned.now.live.items)) store.now seat.old edits.old.table result seat.new }
@@ -180,9 +185,14 @@ pub(crate) fn merge<D: Disk + Drop, R: Wait>(
     let Decided {
         tables: _old,
         versions,
+        bases,
         committed,
     } = decided;
-    let Ok(kept) = kept_of(alloc, pinned, versions, &committed) else {
+    let bases = Bases {
+        opened: bases.opened,
+        installed: edits.segment().base,
+    };
+    let Ok(kept) = kept_of(alloc, pinned, bases, versions, &committed) else {
         return Err(MaintError::Memory);
     };
     let Ok(tables) = Vec::with_capacity(alloc, 1) else {

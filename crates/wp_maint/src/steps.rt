@@ -6,7 +6,7 @@ ghost use Rattle.wp_core.specs.Conditions.{KeepsStore};
 ghost use Rattle.wp_core.specs.Effects.{with_failed};
 ghost use Rattle.wp_core.specs.Lists.{IsIn};
 ghost use Rattle.wp_core.specs.Sound.Store.{NoneFlushed};
-ghost use Rattle.wp_core.specs.Tables.{StoreTable, Installed, installed};
+ghost use Rattle.wp_core.specs.Tables.{Content, StoreTable, Installed, installed};
 ghost use Rattle.wp_core.specs.Tables as table;
 ghost use Rattle.wp_core.specs.Views.{tables_failed, tables_stay, nothing_flushed, frozen_stay};
 ghost use Rattle.wp_core.specs.Views as event;
@@ -26,7 +26,7 @@ use wp_outside::Disk;
 use wp_shared::{Edits, Seat, Shared, Stock};
 
 /// The seat remembers how it found the tables.
-pub(crate) fn find_edits<D: Disk + Drop>(store: &Shared<D>, seat: &mut Seat<D>)
+pub fn find_edits<D: Disk + Drop>(store: &Shared<D>, seat: &mut Seat<D>)
     requires seat { seat.old.table ≡ store.now.table }
     requires held { (t : Installed) × IsIn (installed t) seat.old.knows.held }
     ensures { (t : Installed) → IsIn (installed t) seat.old.knows.held → Remembers store.now seat.old t seat.new }
@@ -110,7 +110,7 @@ pub(crate) fn halt<D: Disk + Drop>(store: &Shared<D>, seat: &mut Seat<D>, edits:
 }
 
 /// Notes that what is frozen stays in memory.
-pub(crate) fn note_frozen<D: Disk + Drop>(
+pub fn note_frozen<D: Disk + Drop>(
     store: &Shared<D>,
     seat: &mut Seat<D>,
     edits: &Edits<D>,
@@ -127,17 +127,18 @@ pub(crate) fn note_frozen<D: Disk + Drop>(
 }
 
 /// The versions in memory and in tables became these.
-pub(crate) fn move_versions<D: Disk + Drop>(
+pub fn move_versions<D: Disk + Drop>(
     store: &Shared<D>,
     seat: &mut Seat<D>,
     edits: &Edits<D>,
     stock: &Stock,
 )
     requires seat { seat.old.table ≡ store.now.table }
-    requires held { (t : StoreTable) × (seat.old.knows.held ≡ table.store t ∷ installed edits.now.table ∷ []) × ((store_table stock.now).floor ≡ t.floor)
+    requires held { (t : StoreTable) × (others : List Content) × (seat.old.knows.held ≡ table.store t ∷ others) × IsIn (installed edits.now.table) others × ((store_table stock.now).floor ≡ t.floor)
         × KnowsMoved t edits.now.table.last.flushed (store_table stock.now).memory (store_table stock.now).tables }
     requires gone { NoneFlushed (store_table stock.now).memory edits.now.table.last.flushed }
-    ensures goes { GoesOn is_of_tables (table.store (store_table stock.now) ∷ installed edits.now.table ∷ []) seat.old.turns seat.old seat.new }
+    ensures goes { (t : StoreTable) (others : List Content) → seat.old.knows.held ≡ table.store t ∷ others
+        → GoesOn is_of_tables (table.store (store_table stock.now) ∷ others) seat.old.turns seat.old seat.new }
     ensures flushed { Noted seat.new.knows nothing_flushed }
     ensures named { Noted seat.new.knows (tables_stay (store_table stock.now).tables (store_table stock.now).floor) }
 {

@@ -1,5 +1,5 @@
 //! Whether the tables are still those that were decided.
-ghost use Rattle.std.specs.Prelude.{◌≡◌, ◌↔◌, true, false, [], ◌∷◌, map, IfOk, IfSome, MatchOption};
+ghost use Rattle.std.specs.Prelude.{◌≡◌, ◌⊎◌, ◌↔◌, true, false, [], ◌∷◌, map, IfOk, IfSome, MatchOption};
 ghost use Rattle.std.specs.Arc.{arc_value};
 ghost use Rattle.wp_merge.specs.Merge.{joined, sorted_of};
 ghost use Rattle.wp_core.specs.Sound.Actors.{StartsWith};
@@ -10,14 +10,14 @@ ghost use Rattle.wp_rule.specs.Knows.{KnowsTables};
 ghost use Rattle.wp_shared.specs.Notes.{no_fact, seeing, GoesOn};
 ghost use Rattle.wp_shared.specs.Turns.{HoldsTurn};
 ghost use Rattle.wp_maint.specs.Calls.{Finds};
-ghost use Rattle.wp_maint.specs.Compaction.{HasDecided, IsOvertaken, IsPassed, KnowsLive, MayMerge};
+ghost use Rattle.wp_maint.specs.Compaction.{AreLow, HasDecided, IsOpenedBase, IsOvertaken, IsPassedOr, KnowsLive, MayMerge};
 ghost use Rattle.wp_maint.specs.Holding.{HoldsEdits};
 
-use crate::decided::Decided;
+use crate::decided::{Bases, Decided};
 use std::alloc::{AllocError, Global};
 use std::collections::VecDeque;
 use std::sync::{Arc, Wait};
-use wp_model::{Version, Versions};
+use wp_model::{Seq, Version, Versions};
 use wp_outside::Disk;
 use wp_read::Pinned;
 use wp_shared::{Edits, Seat, Shared, Stock};
@@ -45,22 +45,31 @@ fn are_equal(versions: &[Version], others: &[Version]) -> bool
     true
 }
 
-/// The tables, the newest first, where none has a version above the floor, and the store gave up nothing above it, under the store
-/// turn.
+/// Whether the log's base is the one that was decided at, or the floor.
+fn is_based(base: Seq, bases: Bases, floor: Seq) -> bool
+    ensures { (result ≡ true) ↔ ((base ≡ bases.installed) ⊎ (base ≡ floor)) }
+{
+    base == bases.installed || base == floor
+}
+
+/// The tables, the newest first, where none has a version above the floor, the store gave up nothing above it, and the log's base is the
+/// one that was decided at, or the floor, under the store turn.
 fn tables_in<D: Disk + Drop>(
     store: &Shared<D>,
     seat: &mut Seat<D>,
     edits: &Edits<D>,
     stock: &Stock,
     pinned: &Pinned,
+    bases: Bases,
 ) -> Result<Option<Vec<Arc<Table>>>, AllocError>
     requires holds { HoldsTurn store.now seat.old (table.store (store_table stock.now)) (installed edits.now.table ∷ []) (5 ∷ []) }
     requires settled { KnowsTables seat.old.knows edits.now.table.last }
     requires live { KnowsLive seat.old.knows pinned.now.floor.number pinned.now.live.items }
+    requires bases { AreLow seat.old.knows.participant.seen pinned.now.floor.number pinned.now.live.items bases × IsOpenedBase store.now bases.opened }
     ensures goes { GoesOn no_fact seat.old.knows.held seat.old.turns (seeing seat.new.knows.participant.seen seat.old) seat.new }
     ensures grown { StartsWith seat.new.knows.participant.seen seat.old.knows.participant.seen }
-    ensures tables { IfOk result (λ found. MatchOption found (IsPassed store.now seat.old seat.new pinned.now.floor.number edits.now.table) (λ tables. sorted_of (joined (map arc_value tables.items)) ≡ edits.now.table.last.versions)) }
-    ensures may { IfOk result (λ found. IfSome found (λ _. MayMerge seat.new.knows edits.now.table pinned.now.floor.number pinned.now.live.items)) }
+    ensures tables { IfOk result (λ found. MatchOption found (IsPassedOr store.now seat.old seat.new pinned.now.floor.number bases.installed edits.now.table) (λ tables. sorted_of (joined (map arc_value tables.items)) ≡ edits.now.table.last.versions)) }
+    ensures may { IfOk result (λ found. IfSome found (λ _. MayMerge seat.new.knows edits.now.table pinned.now.floor.number pinned.now.live.items bases)) }
 {
     let floor = pinned.floor.number();
     store.shows_history(seat);
@@ -68,6 +77,9 @@ fn tables_in<D: Disk + Drop>(
         return Ok(None);
     }
     if stock.floor() > floor {
+        return Ok(None);
+    }
+    if !is_based(edits.segment().base, bases, floor) {
         return Ok(None);
     }
     Ok(Some(stock.copy_tables()?))
@@ -80,18 +92,20 @@ fn find_tables<D: Disk + Drop, R: Wait>(
     seat: &mut Seat<D>,
     edits: &Edits<D>,
     pinned: &Pinned,
+    bases: Bases,
 ) -> Result<Option<Vec<Arc<Table>>>, AllocError>
     requires holds { HoldsEdits store.now seat.old edits.now }
     requires settled { KnowsTables seat.old.knows edits.now.table.last }
     requires live { KnowsLive seat.old.knows pinned.now.floor.number pinned.now.live.items }
+    requires bases { AreLow seat.old.knows.participant.seen pinned.now.floor.number pinned.now.live.items bases × IsOpenedBase store.now bases.opened }
     ensures goes { GoesOn no_fact (installed edits.now.table ∷ []) seat.old.turns (seeing seat.new.knows.participant.seen seat.old) seat.new }
     ensures grown { StartsWith seat.new.knows.participant.seen seat.old.knows.participant.seen }
     ensures found { Finds store.now seat.old seat.new edits.now.table }
-    ensures tables { IfOk result (λ found. MatchOption found (IsPassed store.now seat.old seat.new pinned.now.floor.number edits.now.table) (λ tables. sorted_of (joined (map arc_value tables.items)) ≡ edits.now.table.last.versions)) }
-    ensures may { IfOk result (λ found. IfSome found (λ _. MayMerge seat.new.knows edits.now.table pinned.now.floor.number pinned.now.live.items)) }
+    ensures tables { IfOk result (λ found. MatchOption found (IsPassedOr store.now seat.old seat.new pinned.now.floor.number bases.installed edits.now.table) (λ tables. sorted_of (joined (map arc_value tables.items)) ≡ edits.now.table.last.versions)) }
+    ensures may { IfOk result (λ found. IfSome found (λ _. MayMerge seat.new.knows edits.now.table pinned.now.floor.number pinned.now.live.items bases)) }
 {
     let stock = store.take_turn::<Stock, R>(rt, seat);
-    let tables = tables_in(store, seat, edits, &stock, pinned);
+    let tables = tables_in(store, seat, edits, &stock, pinned, bases);
     store.give_turn::<Stock>(seat, stock);
     tables
 }
@@ -120,15 +134,16 @@ pub(crate) fn are_unchanged<D: Disk + Drop, R: Wait>(
 ) -> Result<bool, AllocError>
     requires holds { HoldsEdits store.now seat.old edits.now }
     requires settled { KnowsTables seat.old.knows edits.now.table.last }
-    requires decided { HasDecided seat.old.knows pinned.now.floor pinned.now.live.items decided.now.versions decided.now.committed.items }
+    requires decided { HasDecided seat.old.knows pinned.now.floor pinned.now.live.items decided.now.bases decided.now.versions decided.now.committed.items }
+    requires opened { IsOpenedBase store.now decided.now.bases.opened }
     ensures goes { GoesOn no_fact (installed edits.now.table ∷ []) seat.old.turns (seeing seat.new.knows.participant.seen seat.old) seat.new }
     ensures grown { StartsWith seat.new.knows.participant.seen seat.old.knows.participant.seen }
     ensures found { Finds store.now seat.old seat.new edits.now.table }
     ensures same { IfOk result (λ same. same ≡ true → decided.now.versions ≡ edits.now.table.last.versions) }
-    ensures may { IfOk result (λ same. same ≡ true → MayMerge seat.new.knows edits.now.table pinned.now.floor.number pinned.now.live.items) }
-    ensures overtaken { IfOk result (λ same. same ≡ false → IsOvertaken store.now seat.old seat.new pinned.now.floor.number decided.now.versions edits.now.table) }
+    ensures may { IfOk result (λ same. same ≡ true → MayMerge seat.new.knows edits.now.table pinned.now.floor.number pinned.now.live.items decided.now.bases) }
+    ensures overtaken { IfOk result (λ same. same ≡ false → IsOvertaken store.now seat.old seat.new pinned.now.floor.number decided.now.bases.installed decided.now.versions edits.now.table) }
 {
-    match find_tables(store, rt, seat, edits, pinned)? {
+    match find_tables(store, rt, seat, edits, pinned, decided.bases)? {
         Some(tables) => have_versions(alloc, tables, &decided.versions),
         None => Ok(false),
     }

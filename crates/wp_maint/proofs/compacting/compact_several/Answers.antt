@@ -1,10 +1,10 @@
 use Rattle.std.proofs.Common.{[], ◌∷◌, Some, refl}
 use Rattle.wp_core.specs.Tables.{installed}
 use Rattle.wp_shared.specs.Notes.{no_fact, seeing}
-use Rattle.wp_shared.proofs.Onward.{starts_same, loose_none}
+use Rattle.wp_shared.proofs.Onward.{loose_none}
 use Rattle.wp_read.specs.Registers.{numbers_of}
-use Rattle.wp_maint.specs.Compaction.{IsPin}
-use Rattle.wp_maint.proofs.Onward.{goes_saw, settled_on, versions_between}
+use Rattle.wp_maint.specs.Compaction.{IsDecision, IsPin}
+use Rattle.wp_maint.proofs.Onward.{goes_saw, settled_on}
 use Rattle.wp_maint.proofs.Rounds.{ends_then}
 use Rattle.wp_maint.proofs.StillTabled.{still_edits, decided_looked}
 use Rattle.wp_maint.proofs.compacting.compact_several.Goals as goal
@@ -14,13 +14,13 @@ merge-requires-clause-holds g c = still_edits c.requires.holds c.are_unchanged.e
 
 pub merge-requires-clause-decided : goal.merge-requires-clause-decided
 merge-requires-clause-decided g c =
-    decided_looked c.args.seat.now c.are_unchanged.new.seat (installed c.args.edits.now.table ∷ []) c.args.seat.now.turns c.are_unchanged.ensures.goes c.are_unchanged.ensures.grown c.args.pinned.now.floor c.args.pinned.now.live.items c.args.decided.versions c.args.decided.committed.items c.requires.decided
+    decided_looked c.args.seat.now c.are_unchanged.new.seat (installed c.args.edits.now.table ∷ []) c.args.seat.now.turns c.are_unchanged.ensures.goes c.are_unchanged.ensures.grown c.args.pinned.now.floor c.args.pinned.now.live.items c.args.decided.bases c.args.decided.versions c.args.decided.committed.items c.requires.decided
 
 pub returns-in-Ok-true-clause-says : goal.returns-in-Ok-true-clause-says
 returns-in-Ok-true-clause-says g c =
-    let s = c.args.seat.now in let u = c.are_unchanged.new.seat in let e = c.args.edits.now.table in let pins = IsPin c.args.pinned.now.floor.number (numbers_of c.args.pinned.now.live.items) in
+    let s = c.args.seat.now in let u = c.are_unchanged.new.seat in let e = c.args.edits.now.table in let p = c.args.pinned.now in let pins = IsPin p.floor.number (numbers_of p.live.items) in
     let first = goes_saw s u no_fact (installed e ∷ []) s.turns c.are_unchanged.ensures.goes c.are_unchanged.ensures.grown loose_none in
-    ends_then c.args.store.now s u c.merge.new.seat e pins first (Some c.merge.result) c.merge.ensures.says
+    ends_then c.args.store.now s u c.merge.new.seat e pins (IsDecision p.floor.number c.args.decided.bases c.args.decided.versions) first (Some c.merge.result) c.merge.ensures.says
 
 pub returns-in-Ok-false-clause-holds : goal.returns-in-Ok-false-clause-holds
 returns-in-Ok-false-clause-holds g c = still_edits c.requires.holds c.are_unchanged.ensures.goes
@@ -32,15 +32,16 @@ returns-in-Ok-false-clause-settled g c =
 
 pub returns-in-Ok-false-clause-says : goal.returns-in-Ok-false-clause-says
 returns-in-Ok-false-clause-says g c =
-    let s = c.args.seat.now in let u = c.are_unchanged.new.seat in let p = c.args.pinned.now in let versions = c.args.decided.versions in record {
+    let s = c.args.seat.now in let u = c.are_unchanged.new.seat in let p = c.args.pinned.now in record {
       found = c.are_unchanged.ensures.found;
       running = c.requires.running;
       several = c.requires.several;
       floor = p.floor.number;
       live = numbers_of p.live.items;
       pinned = (refl, refl);
-      versions = versions;
-      decided = versions_between c.args.store.now s s s u (refl, refl, refl) refl (starts_same s.knows.participant.seen) c.are_unchanged.ensures.grown versions c.requires.tabled;
+      versions = c.args.decided.versions;
+      bases = c.args.decided.bases;
+      decided = (refl, refl, refl);
       overtaken = c.in-Ok-false.ensures.overtaken c.in-Ok-false.field-0-test;
       goes_on = goes_saw s u no_fact (installed c.args.edits.now.table ∷ []) s.turns c.are_unchanged.ensures.goes c.are_unchanged.ensures.grown loose_none;
     }

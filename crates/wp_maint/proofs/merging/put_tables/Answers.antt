@@ -18,9 +18,9 @@ replace_versions-requires-clause-held g c = (store_table c.take_turn-stock.resul
 
 pub replace_versions-requires-clause-may : goal.replace_versions-requires-clause-may
 replace_versions-requires-clause-may g c w stands =
-    let t = store_table c.take_turn-stock.result.value in let k = c.take_turn-stock.ensures.taken in let m = c.requires.may in
+    let t = store_table c.take_turn-stock.result.value in let k = c.take_turn-stock.ensures.taken in
     let shown = ap store_table c.deref.ensures ∙ c.replace.ensures in let tables = ap (λ (x : StoreTable). x.tables) shown ∙ c.requires.tables in let floor = ap (λ (x : StoreTable). x.floor) shown in
-    let p = may_put c.args.store.now c.args.seat.now c.args.edits.now.table c.args.floor m.0 m.1 m.2 m.3 c.take_turn-stock.new.seat t (ap (λ (x : SeatState). x.knows.participant) k.goes.same) (λ fact there. k.goes.noted fact refl there) (holds_taken c.requires.holds k).held w stands in
+    let p = may_put c.args.store.now c.args.seat.now c.args.edits.now.table c.args.floor c.requires.may c.take_turn-stock.new.seat t (ap (λ (x : SeatState). x.knows.participant) k.goes.same) (λ fact there. k.goes.noted fact refl there) (holds_taken c.requires.holds k).held w stands in
     subst (λ (x : StoreTable). (w.store.floor ≤ x.floor) × KeepsStore w (record w.store { tables = x.tables; floor = x.floor }) w.installed) (λ i. record { memory = t.memory; tables = sym tables i; floor = sym floor i }) p
 
 pub give_turn-requires-clause-holds : goal.give_turn-requires-clause-holds
@@ -35,5 +35,5 @@ returns-clause-goes g c =
 pub returns-clause-settled : goal.returns-clause-settled
 returns-clause-settled g c =
     let h = c.requires.holds in let k = c.take_turn-stock.ensures.taken in let same = ap store_table c.deref.ensures in let two = c.replace_versions.ensures.goes in
-    put_settled h k same two (c.give_turn.ensures (installed c.args.edits.now.table ∷ []) (5 ∷ []) (holds_changed h k same two)) (c.replace_versions.ensures.gone (k.goes.noted nothing_flushed refl c.requires.may.2.gone)) c.replace_versions.ensures.named
+    put_settled h k same two (c.give_turn.ensures (installed c.args.edits.now.table ∷ []) (5 ∷ []) (holds_changed h k same two)) (c.replace_versions.ensures.gone (k.goes.noted nothing_flushed refl c.requires.may.replace.gone)) c.replace_versions.ensures.named
     (ap (λ (x : StoreTable). x.tables) (same ∙ c.replace.ensures) ∙ c.requires.tables)

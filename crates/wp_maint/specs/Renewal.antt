@@ -1,0 +1,222 @@
+-- What a renewal of the log answers, and what it leaves of the seat and of the three devices.
+use Rattle.std.specs.Prelude.{◌≡◌, ◌≢◌, ◌⊎◌, ℕ, ◌<◌, ◌≤◌, ◌^◌, true, false, List, [], ◌∷◌, ◌++◌, length, map, option_map, Option, Some, None, IfSome, Result, Ok, Err}
+use Rattle.std.specs.Arc.{arc_value}
+use Rattle.std.specs.List.{list_all}
+use Rattle.std.specs.Vec.{vec_capacity}
+use Rattle.wp_model.specs.declared.segment.Segment.{Segment}
+use Rattle.wp_model.specs.declared.version.Version.{Version}
+use Rattle.wp_model.specs.Flushed.{InstalledEdit, IsEditCovered}
+use Rattle.wp_model.specs.History.{undecided}
+use Rattle.wp_cuts.specs.Cut.{Cut, IsCut, cut_at}
+use Rattle.wp_outside.specs.Disk.{IfKnown, Passes, images}
+use Rattle.wp_outside.specs.Faults.{Rose}
+use Rattle.wp_gatelog.specs.Moments.{Leaves}
+use Rattle.wp_manifest.specs.Edit.{Edit}
+use Rattle.wp_manifest.specs.Spelling.{IsManifestOf, last_edit}
+use Rattle.wp_merge.specs.Merge.{joined, sorted_of}
+use Rattle.wp_replies.specs.Tables.{unflushed, after_renewal}
+use Rattle.wp_table.specs.File.{HasTables}
+use Rattle.wp_table.specs.Table.{is_numbered, is_flushed}
+use Rattle.wp_tableset.specs.Changes.{compacted_parts}
+use Rattle.wp_wal.specs.Spelling.{IsLogAt}
+use Rattle.wp_wal.specs.Wal.{LeavesCut, LosesNothingAt}
+use Rattle.wp_core.specs.Effects.{with_failed}
+use Rattle.wp_core.specs.Runs.{Reaches}
+use Rattle.wp_core.specs.Tables.{WriteTable, Installed, writes, installed}
+use Rattle.wp_core.specs.Views.{frozen_stay, tables_failed, log_failed, log_stopped, stopped}
+use Rattle.wp_core.specs.Views as event
+use Rattle.wp_core.specs.World.{Actor, Participant, World}
+use Rattle.wp_rule.specs.Knows.{Noted}
+use Rattle.wp_shared.specs.Edits.{EditsState, installed_at}
+use Rattle.wp_shared.specs.Installs.{SurvivesInstall}
+use Rattle.wp_shared.specs.Log.{LogState, IsLog}
+use Rattle.wp_shared.specs.Parts.{log_first, set_first}
+use Rattle.wp_shared.specs.Calls.{Continues, remembering}
+use Rattle.wp_shared.specs.Seats.{SharedState, SeatState}
+use Rattle.wp_shared.specs.Turns.{HoldsTurn}
+use Rattle.wp_maint.specs.declared.frozen.Frozen.{Frozen}
+use Rattle.wp_maint.specs.declared.renewed.Renewed.{Renewed}
+use Rattle.wp_maint.specs.declared.renewed.RenewError.{RenewError}
+use Rattle.wp_maint.specs.declared.renewed.RenewError.TheVariants.{Memory, TablesStopped, Stopped, Nothing, TableFault, LogFault}
+use Rattle.wp_maint.specs.Calls.{FailedOnce, Finds, found_by, HasFault, HeldContent, HeldTables, IsStopped, MadeNoInstall, SawWhole, TablesBecame}
+use Rattle.wp_maint.specs.Flush.{versions_of}
+use Rattle.wp_maint.specs.Moments.{LeftSince, OpensFromBase}
+
+-- ---- what the seat holds
+
+-- The seat holds the write turn with this table of the log, taken last, and beneath it the tables turn with these tables; both are the
+-- store's.
+pub record HoldsBoth {D : Type 0} (z : SharedState D) (s : SeatState) (e : EditsState) (log : LogState) (table : WriteTable) : Type 0 where
+  pub turn : HoldsTurn z s (writes table) (installed e.table ∷ []) (5 ∷ [])
+  pub edits_of_store : set_first z.first ≡ Some e.first
+  pub log_of_store : log_first z.first ≡ Some log.first
+
+-- All that the seen history has above the flushed number is frozen, none of it too. An edit may be installed with it and with any place
+-- of the log, and there is room for one table more beside those of the last edit.
+pub record HasFrozenAll (a : Actor) (e : Installed) (f : Frozen) : Type 0 where
+  pub at : f.at ≡ length a.participant.seen
+  pub versions : versions_of f ≡ sorted_of (unflushed a.participant.seen e.last)
+  pub numbered : list_all is_numbered (versions_of f) ≡ true
+  pub flushed : list_all (is_flushed f.at) (versions_of f) ≡ true
+  pub later : (e.last.flushed ≤ f.at) × (1 ≤ length (versions_of f) → e.last.flushed < f.at)
+  pub tables : sorted_of (joined (map arc_value f.tables.items)) ≡ e.last.versions
+  pub room : length f.tables.items < vec_capacity f.tables
+  pub covered : (place : ℕ) → IsEditCovered a.participant.seen (after_renewal a.participant.seen place e.last)
+  pub noted : Noted a (frozen_stay f.at (versions_of f))
+
+-- ---- the devices
+
+-- The store's log on its device, with the one table and then with the other: as `TablesBecame` says it of the tables.
+pub record LogBecame {D : Type 0} (z : SharedState D) (t next : WriteTable) (So : LogState → LogState → Type 0) : Type 0 where
+  pub before : LogState
+  pub after : LogState
+  pub of_store : log_first z.first ≡ Some before.first
+  pub still_of_store : log_first z.first ≡ Some after.first
+  pub before_is : before.table ≡ t
+  pub after_is : after.table ≡ next
+  pub log : IsLog before
+  pub still_log : IsLog after
+  pub so : So before after
+
+-- What a crash leaves of the log while a segment is written beside it, and from then on: the history at the old place throughout, and what
+-- was acknowledged there. Once the segment is on the device for good, the history is at its place too, cut at its base.
+pub record SurvivesBeside (old new : LogState) (segment : Option Segment) : Type 0 where
+  pub still : (c : Cut) → IsCut old.table.history c → c.base ≡ old.table.segment.base
+      → Passes (Leaves (IsLogAt old.wal.id old.table.segment.place c)) old.wal.moments new.wal.moments
+  pub durable : LosesNothingAt old.table.segment.place old.wal.moments new.wal.moments
+  pub beside : IfSome segment (λ s. (s.base ≡ length old.table.history) × (s.place ≢ old.table.segment.place)
+      × IfKnown new.wal.moments (LeavesCut old.wal.id s.place (cut_at old.table.history s.base)))
+
+-- First the tables' device is called, then the log's, and then the manifest's, each while the others are as they are then. That the code
+-- calls them so, no clause tells: each device shows its own moments.
+abbrev pub LeftInRenewal : EditsState → EditsState → LogState → LogState → (log manifest tables : List ℕ) → Type 0
+LeftInRenewal old new log moved l m t =
+    (images log.wal.moments l × images old.set.manifest.log.moments m × LeftSince old.set.moments new.set.moments t)
+    ⊎ (LeftSince log.wal.moments moved.wal.moments l × images old.set.manifest.log.moments m × images new.set.moments t)
+    ⊎ (images moved.wal.moments l × LeftSince old.set.manifest.log.moments new.set.manifest.log.moments m × images new.set.moments t)
+
+-- the segment that an edit names, if there is one
+abbrev pub segment_of : Option InstalledEdit → Option Segment
+segment_of asked = option_map (λ (edit : InstalledEdit). edit.segment) asked
+
+-- The manifest's bytes spell edits of which this is the last one, as these bytes of the other device have its tables.
+pub record NamesEdit (s : EditsState) (manifest tables : List ℕ) (edit : InstalledEdit) : Type 0 where
+  pub edits : List Edit
+  pub parts : List (List Version)
+  pub spelled : IsManifestOf s.set.manifest.log.id edits manifest
+  pub is : edit ≡ installed_at edit.segment.base (last_edit edits) parts
+  pub there : HasTables s.set.manifest.log.id (last_edit edits).flushed tables (last_edit edits).tables parts
+
+-- Whatever a crash in the renewal leaves, the manifest's last edit is the old one or the next one, and is so with its tables; and at the
+-- place that this edit names the log spells the history, cut at the edit's base.
+abbrev pub NamesItsSegment : EditsState → EditsState → LogState → LogState → InstalledEdit → Type 0
+NamesItsSegment old new log moved next = (l m t : List ℕ) → LeftInRenewal old new log moved l m t
+    → (edit : InstalledEdit) × ((edit ≡ old.table.last) ⊎ (edit ≡ next)) × NamesEdit old m t edit × IsLogAt log.wal.id edit.segment.place (cut_at log.table.history edit.segment.base) l
+
+-- In each reached world with the old tables and the log as it was: whatever a crash in the renewal leaves, the three devices open to a list
+-- that is the history from the edit's base on, and to the last edit or the next one.
+abbrev pub OpensInRenewal : EditsState → EditsState → LogState → LogState → InstalledEdit → Type 0
+OpensInRenewal old new log moved next =
+    old.set.manifest.log.id < 2 ^ 32 → log.wal.id ≡ old.set.manifest.log.id
+    → (w : World) → Reaches w → w.installed ≡ old.table → w.writes ≡ log.table
+    → (l m t : List ℕ) → LeftInRenewal old new log moved l m t
+    → (edit : InstalledEdit) × ((edit ≡ old.table.last) ⊎ (edit ≡ next)) × OpensFromBase old.set.manifest.log.id log.table.history edit l m t
+
+-- ---- refusals
+
+-- the log was closed before, at this published number; no device of the tables had failed
+pub record IsClosed {D : Type 0} (Goes : Participant → Type 0) (z : SharedState D) (old new : SeatState) (e : Installed) (n : ℕ) : Type 0 where
+  pub found : Finds z old new e
+  pub running : e.halted ≡ false
+  pub whole : SawWhole z old new.knows.participant.seen
+  pub closed : (t : WriteTable) × HeldContent z old new old.knows.participant.past (writes t) × (t.closed ≡ true)
+  pub number : n ≡ length new.knows.participant.seen
+  pub goes_on : Goes (remembering (found_by z old new e found ∷ stopped n ∷ []) old.knows.participant)
+
+-- the log was not closed, and has the base already at which it would be renewed
+pub record IsRenewed {D : Type 0} (Goes : Participant → Type 0) (z : SharedState D) (old new : SeatState) (e : Installed) : Type 0 where
+  pub found : Finds z old new e
+  pub running : e.halted ≡ false
+  pub whole : SawWhole z old new.knows.participant.seen
+  pub unclosed : (t : WriteTable) × HeldContent z old new old.knows.participant.past (writes t) × (t.closed ≡ false)
+  pub based : e.last.segment.base ≡ length new.knows.participant.seen
+  pub goes_on : Goes (remembering (found_by z old new e found ∷ []) old.knows.participant)
+
+-- where there was something to renew, and the log was not closed
+pub record IsBusy {D : Type 0} (z : SharedState D) (old new : SeatState) (e : Installed) : Type 0 where
+  pub running : e.halted ≡ false
+  pub whole : SawWhole z old new.knows.participant.seen
+  pub unclosed : (t : WriteTable) × HeldContent z old new old.knows.participant.past (writes t) × (t.closed ≡ false)
+  pub below : e.last.segment.base < length new.knows.participant.seen
+
+-- A device of the tables failed: before the segment was written, or in the install of the edit that names it, which a later opening may
+-- find then; its segment is beside the one in use in either case that it finds. The log takes no entry any more.
+pub record HasBrokenOff {D : Type 0} (Goes : Participant → Type 0) (z : SharedState D) (old new : SeatState) (e : Installed) : Type 0 where
+  pub found : Finds z old new e
+  pub busy : IsBusy z old new e
+  pub asked : Option InstalledEdit
+  pub next : IfSome asked (λ edit. (place : ℕ) × (edit ≡ after_renewal new.knows.participant.seen place e.last))
+  pub left : HeldTables z old new new.knows.participant.past (with_failed e asked)
+  pub fault : TablesBecame z e (with_failed e asked) HasFault
+  pub survives : (edit : InstalledEdit) × ((place : ℕ) × (edit ≡ after_renewal new.knows.participant.seen place e.last)) × IfSome asked (λ next. next ≡ edit) × SurvivesInstall fault.before fault.after edit
+  pub log : (t : WriteTable) × (t.closed ≡ false) × (t.history ≡ new.knows.participant.seen)
+      × LogBecame z t (record t { next = segment_of asked; closed = true; stopped = true }) (λ before after. SurvivesBeside before after (segment_of asked)
+      × ((next : InstalledEdit) → asked ≡ Some next → NamesItsSegment fault.before fault.after before after next))
+  pub goes_on : Goes (remembering (found_by z old new e found ∷ tables_failed e.last asked ∷ log_stopped ∷ []) old.knows.participant)
+
+-- The log's device failed. Tables and manifest are as they were, but that the tables' device may have bytes that nothing names.
+pub record HasLogFault {D : Type 0} (Goes : Participant → Type 0) (z : SharedState D) (old new : SeatState) (e : Installed) : Type 0 where
+  pub found : Finds z old new e
+  pub busy : IsBusy z old new e
+  pub left : HeldTables z old new new.knows.participant.past e
+  pub tables : TablesBecame z e e (λ before after. after.set.manifest ≡ before.set.manifest)
+  pub log : (t : WriteTable) × (t.closed ≡ false) × (t.history ≡ new.knows.participant.seen)
+      × LogBecame z t (record t { closed = true }) (λ before after. Rose before.wal.faults after.wal.faults × SurvivesBeside before after None)
+  pub goes_on : Goes (remembering (found_by z old new e found ∷ log_failed [] ∷ []) old.knows.participant)
+
+-- ---- the renewal
+
+-- The log is in a segment that begins where the history ended, in a world that the seat was in, and carries what was undecided there; and
+-- all that stood in memory is in one table more, if something did. The last edit names both. As `TablesBecame` and `LogBecame` say, of two
+-- states of each: at each moment between them a crash left the edits before that one, or those and it; and at the place that the one left
+-- names the log spelled the history, cut at its base.
+pub record HasRenewed {D : Type 0} (Goes : Participant → Type 0) (z : SharedState D) (old new : SeatState) (e : Installed) (done : Renewed) : Type 0 where
+  pub found : Finds z old new e
+  pub busy : IsBusy z old new e
+  pub at : done.at ≡ length new.knows.participant.seen
+  pub carried : done.carried ≡ length (undecided new.knows.participant.seen)
+  pub place : ℕ
+  pub left : HeldTables z old new new.knows.participant.past (record e { last = after_renewal new.knows.participant.seen place e.last })
+  pub table : TablesBecame z e (record e { last = after_renewal new.knows.participant.seen place e.last })
+      (λ before after. after.parts ≡ compacted_parts (sorted_of (unflushed new.knows.participant.seen e.last)) ++ before.parts)
+  pub survives : SurvivesInstall table.before table.after (after_renewal new.knows.participant.seen place e.last)
+  pub log : (t : WriteTable) × (t.closed ≡ false) × (t.history ≡ new.knows.participant.seen)
+      × LogBecame z t (record t { segment = record { place = place; base = length new.knows.participant.seen }; next = None })
+      (λ before after. SurvivesBeside before after (Some after.table.segment) × NamesItsSegment table.before table.after before after (after_renewal new.knows.participant.seen place e.last))
+  pub goes_on : Goes (remembering (found_by z old new e found ∷ event.renewed (after_renewal new.knows.participant.seen place e.last) ∷ []) old.knows.participant)
+
+-- what it answers and leaves where it finds these tables
+abbrev pub RenewsFrom : {D : Type 0} → (Participant → Type 0) → SharedState D → SeatState → Installed → Result Renewed RenewError → SeatState → Type 0
+RenewsFrom Goes z old e (Ok done) new = HasRenewed Goes z old new e done
+RenewsFrom Goes z old e (Err Memory) new = Goes old.knows.participant
+RenewsFrom Goes z old e (Err (TablesStopped flushed)) new = IsStopped Goes z old new e flushed
+RenewsFrom Goes z old e (Err (Stopped n)) new = IsClosed Goes z old new e n
+RenewsFrom Goes z old e (Err Nothing) new = IsRenewed Goes z old new e
+RenewsFrom Goes z old e (Err TableFault) new = HasBrokenOff Goes z old new e
+RenewsFrom Goes z old e (Err LogFault) new = HasLogFault Goes z old new e
+
+-- what a renewal answers and leaves, where the tables were so as it found them
+abbrev pub Renews : {D : Type 0} → SharedState D → SeatState → Result Renewed RenewError → SeatState → Type 0
+Renews z old result new = (e : Installed) × RenewsFrom (Continues z old new) z old e result new
+
+-- ---- the manifest's device
+
+-- this is so, unless the answer is that a device of the tables failed
+abbrev pub UnlessDeviceFault : Type 0 → RenewError → Type 0
+UnlessDeviceFault So TableFault = Unit {0}
+UnlessDeviceFault So other = So
+
+-- What a refused renewal did with the manifest's device: as a refused flush, also where the log's device failed.
+abbrev pub IsRefusedBefore : (Leaves : Type 0) → SeatState → RenewError → SeatState → Type 0
+IsRefusedBefore Leaves old TableFault new = FailedOnce old.knows.participant new.knows.participant
+IsRefusedBefore Leaves old other new = MadeNoInstall old.knows.participant new.knows.participant × Leaves
