@@ -1,0 +1,4 @@
+pub mod Renews
+pub mod Stages
+pub mod Renewed
+pub mod Whole

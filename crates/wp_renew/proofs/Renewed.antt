@@ -1,0 +1,487 @@
+-- What a renewal says of its seat, once its segment is in use, or the renewal broke off.
+use Rattle.std.proofs.Common.{◌≡◌, ◌≢◌, ℕ, ◌<◌, true, false, List, [], ◌∷◌, ◌++◌, append_assoc, length, Option, Some, None, refl, sym, subst, ap, ◌∙◌}
+use Rattle.std.specs.Prelude.{Ok, Err, IfSome}
+use Rattle.std.specs.Option.{option_or}
+use Rattle.wp_model.specs.declared.entry.Entry.{Entry}
+use Rattle.wp_model.specs.declared.segment.Segment.{Segment}
+use Rattle.wp_model.specs.declared.version.Version.{Version}
+use Rattle.wp_model.specs.Flushed.{InstalledEdit, IsEditCovered}
+use Rattle.wp_model.specs.History.{undecided}
+use Rattle.wp_model.specs.Versions.{version_at}
+use Rattle.wp_cuts.specs.Cut.{cut_at}
+use Rattle.wp_merge.specs.Merge.{sorted_of}
+use Rattle.wp_merge.proofs.Sorted.{at_sorted}
+use Rattle.wp_open.proofs.Later.{at_append}
+use Rattle.wp_outside.specs.Disk.{IfKnown, Moment, Passes}
+use Rattle.wp_outside.specs.Faults.{Rose}
+use Rattle.wp_gatelog.specs.Moments.{Leaves}
+use Rattle.wp_wal.specs.Segment.{WrittenState}
+use Rattle.wp_wal.specs.Spelling.{IsLogAt}
+use Rattle.wp_wal.specs.Wal.{LeavesCut, LosesNothingAt}
+use Rattle.wp_replies.specs.Tables.{unflushed, after_renewal}
+use Rattle.wp_replies.specs.Tables as replies
+use Rattle.wp_tableset.specs.Changes.{compacted_parts, one_part}
+use Rattle.wp_core.specs.Effects.{with_failed}
+use Rattle.wp_core.specs.Lists.{IsIn}
+use Rattle.wp_core.specs.Sound.Actors.{StartsWith}
+use Rattle.wp_core.specs.Sound.Pasts.{tables_due}
+use Rattle.wp_core.specs.Tables.{WriteTable, Installed, writes, installed}
+use Rattle.wp_core.specs.Views.{Event, found_edit, frozen_stay, log_failed, log_stopped, stopped, tables_failed, tables_stay}
+use Rattle.wp_core.specs.Views as event
+use Rattle.wp_core.specs.World.{Participant, World}
+use Rattle.wp_rule.specs.Knows.{KnowsTables, Noted}
+use Rattle.wp_rule.specs.Words.{IsAt}
+use Rattle.wp_shared.specs.Edits.{EditsState, IsEdits}
+use Rattle.wp_shared.specs.Installs.{SurvivesInstall, in_segment}
+use Rattle.wp_shared.specs.Installs as parts
+use Rattle.wp_shared.specs.Log.{LogState, IsLog}
+use Rattle.wp_shared.specs.Renewal.{SegmentState, IsBehind}
+use Rattle.wp_shared.specs.Calls.{GoesOnAs, remembering}
+use Rattle.wp_shared.specs.Notes.{being, no_fact, GoesOn}
+use Rattle.wp_shared.specs.Seats.{SharedState, SeatState, Stands, place_at}
+use Rattle.wp_shared.proofs.Onward.{starts_equal, starts_on, starts_same, goes_same, goes_still, holds_as, loose_none}
+use Rattle.wp_shared.proofs.Tables.{held_table}
+use Rattle.wp_maint.specs.declared.frozen.Frozen.{Frozen}
+use Rattle.wp_maint.specs.declared.renewed.Renewed.{Renewed}
+use Rattle.wp_maint.specs.declared.renewed.RenewError.TheVariants.{Stopped, Nothing, TableFault, LogFault}
+use Rattle.wp_maint.specs.Calls.{Finds, found_by, HasFault, HeldContent, SawWhole}
+use Rattle.wp_maint.specs.Finding.{Remembers}
+use Rattle.wp_maint.specs.Flush.{versions_of}
+use Rattle.wp_maint.specs.Holding.{is_of_flushed, is_of_tables}
+use Rattle.wp_maint.specs.Renewal.{HasFrozenAll, HoldsBoth, IsBusy, HasBrokenOff, HasLogFault, HasRenewed, NamesItsSegment, SurvivesBeside, segment_of}
+use Rattle.wp_maint.specs.Renewing.{HasClosed, HasMoved, HasStopped, MayPutAll, RenewsHolding}
+use Rattle.wp_maint.proofs.Found.{failed_last}
+use Rattle.wp_maint.proofs.Made.{first_held, second_held}
+use Rattle.wp_maint.proofs.Memory.{sorted_none}
+use Rattle.wp_maint.proofs.Onward.{IsSeat, flushed_free, tables_free, found_later, goes_is, goes_more, goes_remembering, held_left, seat_still, settled_being, settled_on}
+use Rattle.wp_maint.proofs.Throughout.{names_its_segment}
+use Rattle.wp_maint.proofs.Versions.{Found, same_sorted}
+
+-- ---- the edit
+
+same_list : (versions later more : List Version) → versions ≡ sorted_of later → sorted_of (versions ++ more) ≡ sorted_of (later ++ more)
+same_list versions later more is =
+    same_sorted (versions ++ more) (later ++ more) (λ key p.
+    at_append versions more key p
+    ∙ ap (λ (o : Found). option_or o (version_at more key p)) (ap (λ (l : List Version). version_at l key p) is ∙ at_sorted later key p)
+    ∙ sym (at_append later more key p))
+
+-- one table more, where there is something to have in it
+same_with : (versions later : List Version) (last : InstalledEdit) → versions ≡ sorted_of later → parts.with_some versions last ≡ replies.with_table later last
+same_with versions [] last is = ap (λ (l : List Version). parts.with_some l last) is
+same_with [] (v ∷ later) last is = let none = sorted_none (v ∷ later) (sym is) in absurd cc
+same_with (w ∷ versions) (v ∷ later) last is = ap (λ (l : List Version). record (parts.with_some (w ∷ versions) last) { versions = l }) (same_list (w ∷ versions) (v ∷ later) last.versions is)
+
+pub same_renewal : (seen : List Entry) (last : InstalledEdit) (versions : List Version) (segment : Segment) → versions ≡ sorted_of (unflushed seen last) → segment.base ≡ length seen → in_segment versions segment.base segment last ≡ after_renewal seen segment.place last
+same_renewal seen last versions segment is based = λ i. record (same_with versions (unflushed seen last) last is i) { segment = record { place = segment.place; base = based i }; flushed = based i }
+
+-- the edit that was asked for, if one was, is of a renewal
+asked_as : (seen : List Entry) (last edit : InstalledEdit) (asked : Option InstalledEdit) → IfSome asked (λ next. next ≡ edit) → (place : ℕ) × (edit ≡ after_renewal seen place last) → IfSome asked (λ next. (place : ℕ) × (next ≡ after_renewal seen place last))
+asked_as seen last edit None is made = tt
+asked_as seen last edit (Some next) is made = (made.0, is ∙ made.1)
+
+-- ---- the devices
+
+-- the same moments, the same images
+pub beside_still : (old new later : LogState) (segment : Option Segment) → later.wal.moments ≡ new.wal.moments → SurvivesBeside old new segment → SurvivesBeside old later segment
+beside_still old new later segment same k = record {
+  still = λ c cut at. subst (λ (ms : List Moment). Passes (Leaves (IsLogAt old.wal.id old.table.segment.place c)) old.wal.moments ms) (sym same) (k.still c cut at);
+  durable = subst (λ (ms : List Moment). LosesNothingAt old.table.segment.place old.wal.moments ms) (sym same) k.durable;
+  beside = waits segment k.beside;
+}
+  where
+    waits : (o : Option Segment) → IfSome o (λ s. (s.base ≡ length old.table.history) × (s.place ≢ old.table.segment.place) × IfKnown new.wal.moments (LeavesCut old.wal.id s.place (cut_at old.table.history s.base)))
+        → IfSome o (λ s. (s.base ≡ length old.table.history) × (s.place ≢ old.table.segment.place) × IfKnown later.wal.moments (LeavesCut old.wal.id s.place (cut_at old.table.history s.base)))
+    waits None is = tt
+    waits (Some s) is = (is.0, is.1, subst (λ (ms : List Moment). IfKnown ms (LeavesCut old.wal.id s.place (cut_at old.table.history s.base))) (sym same) is.2)
+
+-- ---- from the beginning on
+
+-- The seat began with both turns, s0. A stage later it is s1, with what it was then but for tables and notes; the log has the table that it
+-- had, and so have the edits.
+module _ {D : Type 0} (z : SharedState D) (s0 s1 : SeatState) (e0 e1 : EditsState) (log0 log1 : LogState) (holds : HoldsBoth z s0 e0 log0 log0.table) (running : e0.table.halted ≡ false) (open_ : log0.table.closed ≡ false) (nothing : log0.table.pending ≡ []) (coupled : log0.table.segment ≡ e0.table.last.segment) (below : log0.table.segment.base < length log0.table.history)
+    (seen : s0.knows.participant.seen ≡ log0.table.history) (whole : log0.table.log ≡ log0.table.history) (w0 : (w : World) × Stands z s0 w) (is_edits : IsEdits e0) (is_log : IsLog log0) (first : GoesOnAs s0 s1 s0.knows.participant) (still : s1.knows.participant ≡ s0.knows.participant) (same_table : e1.table ≡ e0.table) (same_log : log1.table ≡ log0.table) where
+  log_held : IsIn (writes log0.table) s0.knows.held
+  log_held = first_held s0.knows (writes log0.table) (installed e0.table ∷ []) holds.turn.held
+
+  here : w0.0.writes ≡ log0.table
+  here = held_table (place_at z s0.by) s0.knows w0.0 (writes log0.table) w0.1 log_held
+
+  seat : IsSeat s0 s1
+  seat = seat_still s0 s1 s0.knows.participant first
+
+  past_still : s1.knows.participant.past ≡ s0.knows.participant.past
+  past_still = ap (λ (p : Participant). p.past) still
+
+  seen_still : s1.knows.participant.seen ≡ s0.knows.participant.seen
+  seen_still = ap (λ (p : Participant). p.seen) still
+
+  saw : SawWhole z s0 s0.knows.participant.seen
+  saw = record {
+    world = w0.0;
+    actor = s0.knows;
+    there = w0.1;
+    held = subst (λ (d : WriteTable). IsIn (writes d) s0.knows.held) (sym here) log_held;
+    history_is = ap (λ (d : WriteTable). d.history) here ∙ sym seen;
+    seen_is = refl;
+    past_is = refl;
+    made = refl;
+    joined = refl;
+  }
+
+  module _ (v : SeatState) (same : v.knows.participant.seen ≡ s0.knows.participant.seen) where
+    history_seen : log0.table.history ≡ v.knows.participant.seen
+    history_seen = sym seen ∙ sym same
+
+    busy : IsBusy z s0 v e0.table
+    busy = record {
+      running = running;
+      whole = subst (SawWhole z s0) (sym same) saw;
+      unclosed = (
+        log0.table,
+        record {
+          world = w0.0;
+          actor = s0.knows;
+          there = w0.1;
+          held = log_held;
+          past_is = refl;
+          seen_is = starts_same s0.knows.participant.seen;
+          within = starts_equal s0.knows.participant.seen v.knows.participant.seen same;
+          made = refl;
+          joined = refl;
+        },
+        open_,
+      );
+      below = subst (λ (x : Segment × List Entry). x.0.base < length x.1) (λ i. (coupled i, history_seen i)) below;
+    }
+
+  -- the tables as they were found
+  found_of : (u v : SeatState) → StartsWith v.knows.participant.seen u.knows.participant.seen → Finds z s1 u e1.table → Finds z s0 v e0.table
+  found_of u v grown k = record {
+    world = k.world;
+    actor = k.actor;
+    there = subst (λ (b : ℕ). IsAt (place_at z b) k.actor k.world) seat.0 k.there;
+    held = subst (λ (t : Installed). IsIn (installed t) k.actor.held) same_table k.held;
+    past_is = k.past_is ∙ past_still;
+    seen_is = starts_on s0.knows.participant.seen s1.knows.participant.seen k.actor.participant.seen (starts_equal s0.knows.participant.seen s1.knows.participant.seen seen_still) k.seen_is;
+    within = starts_on k.actor.participant.seen u.knows.participant.seen v.knows.participant.seen k.within grown;
+    made = k.made ∙ seat.1;
+    joined = k.joined ∙ seat.2;
+  }
+
+  same_found : (u v : SeatState) (grown : StartsWith v.knows.participant.seen u.knows.participant.seen) (k : Finds z s1 u e1.table) → found_by z s1 u e1.table k ≡ found_by z s0 v e0.table (found_of u v grown k)
+  unfolding found_of
+  same_found u v grown k = λ i. found_edit (same_table i).last.flushed (same_table i).last.segment.base (same_table i).last.tables (tables_due k.world.first_edit (past_still i)) (same_table i).halted
+
+  goes_of : (u v : SeatState) (grown : StartsWith v.knows.participant.seen u.knows.participant.seen) (k : Finds z s1 u e1.table) (events : List Event) → GoesOnAs s1 u (remembering (found_by z s1 u e1.table k ∷ events) s1.knows.participant) → GoesOnAs s0 u (remembering (found_by z s0 v e0.table (found_of u v grown k) ∷ events) s0.knows.participant)
+  goes_of u v grown k events second =
+      subst (λ (x : Event). GoesOnAs s0 u (remembering (x ∷ events) s0.knows.participant)) (same_found u v grown k)
+      (goes_more s0 s1 u s0.knows.participant first (found_by z s1 u e1.table k ∷ events) second)
+
+  -- ---- a device of the tables failed
+
+  module _ (Survives : EditsState → EditsState → Type 0) (asked : Option InstalledEdit) (u : SeatState) (left : EditsState) (now : LogState) (k : HasStopped z Survives s1 e1 log1 asked u left now)
+      (edit : InstalledEdit) (made : (place : ℕ) × (edit ≡ after_renewal s0.knows.participant.seen place e0.table.last)) (is_asked : IfSome asked (λ next. next ≡ edit)) (survived : SurvivesInstall e0 left edit) (beside : SurvivesBeside log0 now (segment_of asked)) (fault : HasFault e0 left) where
+    broken_seen : u.knows.participant.seen ≡ s0.knows.participant.seen
+    broken_seen = ap (λ (x : SeatState). x.knows.participant.seen) k.goes.same ∙ seen_still
+
+    broken_goes : GoesOnAs s0 u (remembering (found_by z s0 u e0.table (found_of u u (starts_same u.knows.participant.seen) k.found) ∷ tables_failed e1.table.last asked ∷ log_stopped ∷ []) s0.knows.participant)
+    broken_goes =
+        goes_of u u (starts_same u.knows.participant.seen) k.found (tables_failed e1.table.last asked ∷ log_stopped ∷ [])
+        (goes_remembering s1 u (found_by z s1 u e1.table k.found ∷ tables_failed e1.table.last asked ∷ log_stopped ∷ []) no_fact (writes now.table ∷ installed left.table ∷ []) s1.turns k.goes loose_none)
+
+    broken_table : left.table ≡ with_failed e0.table asked
+    broken_table = k.table ∙ ap (λ (t : Installed). with_failed t asked) same_table
+
+    made_now : (place : ℕ) × (edit ≡ after_renewal u.knows.participant.seen place e0.table.last)
+    made_now = (made.0, made.1 ∙ ap (λ (h : List Entry). after_renewal h made.0 e0.table.last) (sym broken_seen))
+
+    names : (next : InstalledEdit) → asked ≡ Some next → NamesItsSegment e0 left log0 now next
+    names next is =
+        names_its_segment e0 left next is_edits running (subst (SurvivesInstall e0 left) (sym (subst (λ (o : Option InstalledEdit). IfSome o (λ x. x ≡ edit)) is is_asked)) survived) log0 now is_log open_ whole coupled
+        (subst (λ (o : Option InstalledEdit). SurvivesBeside log0 now (segment_of o)) is beside)
+
+    broken_off : HasBrokenOff (GoesOnAs s0 u) z s0 u e0.table
+    broken_off = record {
+      found = found_of u u (starts_same u.knows.participant.seen) k.found;
+      busy = busy u broken_seen;
+      asked = asked;
+      next = asked_as u.knows.participant.seen e0.table.last edit asked is_asked made_now;
+      left = held_left z s0 u u (with_failed e0.table asked) k.stands (seat_still s0 u _ broken_goes) broken_seen refl (subst (λ (t : Installed). IsIn (installed t) u.knows.held) broken_table (second_held u.knows (writes now.table) (installed left.table) k.holds.turn.held));
+      fault = record { before = e0; after = left; of_store = holds.edits_of_store; still_of_store = k.holds.edits_of_store; before_is = refl; after_is = broken_table; edits = is_edits; still_edits = k.still_edits; so = fault };
+      survives = (edit, made_now, is_asked, survived);
+      log = (
+        log0.table,
+        open_,
+        history_seen u broken_seen,
+        record {
+          before = log0;
+          after = now;
+          of_store = holds.log_of_store;
+          still_of_store = k.holds.log_of_store;
+          before_is = refl;
+          after_is = ap (λ (l : LogState). l.table) k.stopped ∙ ap (λ (t : WriteTable). record t { next = segment_of asked; closed = true; stopped = true }) same_log;
+          log = is_log;
+          still_log = k.still_log;
+          so = (beside, names);
+        },
+      );
+      goes_on = subst (λ (t : Installed). GoesOnAs s0 u (remembering (found_by z s0 u e0.table (found_of u u (starts_same u.knows.participant.seen) k.found) ∷ tables_failed t.last asked ∷ log_stopped ∷ []) s0.knows.participant)) same_table broken_goes;
+    }
+
+    pub broken_holding : KnowsTables s1.knows e1.table.last → RenewsHolding (GoesOnAs s0 u) z s0 e0 log0 (Err TableFault) u left now
+    broken_holding settled = record {
+      holds = k.holds;
+      nothing = ap (λ (l : LogState). l.table.pending) k.stopped ∙ ap (λ (t : WriteTable). t.pending) same_log ∙ nothing;
+      settled = subst (KnowsTables u.knows) (sym (ap (λ (x : Installed). x.last) k.table ∙ failed_last e1.table asked))
+          (settled_on (being (remembering (found_by z s1 u e1.table k.found ∷ tables_failed e1.table.last asked ∷ log_stopped ∷ []) s1.knows.participant) s1) u no_fact (writes now.table ∷ installed left.table ∷ []) s1.turns refl (λ versions floor. refl) k.goes e1.table.last settled);
+      says = broken_off;
+      manifest = tt;
+    }
+
+  -- ---- the edit is installed
+
+  module _ (written : WrittenState) (ready : SegmentState) (f : Frozen) (versions : List Version) (versions_are : versions ≡ versions_of f) (frozen : HasFrozenAll s0.knows e0.table f) (based : written.segment.base ≡ length log0.table.history) where
+    abbrev next : InstalledEdit
+    next = after_renewal s0.knows.participant.seen written.segment.place e0.table.last
+
+    -- the edit that is asked for is the renewal's
+    pub is_next : in_segment versions written.segment.base written.segment e1.table.last ≡ next
+    is_next =
+        ap (λ (t : Installed). in_segment versions written.segment.base written.segment t.last) same_table
+        ∙ same_renewal s0.knows.participant.seen e0.table.last versions written.segment (versions_are ∙ frozen.versions) (based ∙ ap (λ (h : List Entry). length h) (sym seen))
+
+    pub covered_next : IsEditCovered s1.knows.participant.seen (in_segment versions written.segment.base written.segment e1.table.last)
+    covered_next = subst (λ (x : List Entry × InstalledEdit). IsEditCovered x.0 x.1) (λ i. (sym seen_still i, sym is_next i)) (frozen.covered written.segment.place)
+
+    module _ (u : SeatState) (left : EditsState) (now : LogState) (k : HasMoved z s1 e1 log1 written ready versions u left now) (behind : IsBehind e0 e1 versions written.segment.base ready) (beside : SurvivesBeside log0 log1 (Some written.segment)) where
+      moved_table : left.table ≡ record e0.table { last = next }
+      moved_table = k.table ∙ (λ i. record (same_table i) { last = is_next i })
+
+      moved_beside : SurvivesBeside log0 now (Some written.segment)
+      moved_beside = beside_still log0 log1 now (Some written.segment) k.device.0 beside
+
+      moved_survived : SurvivesInstall e0 left next
+      moved_survived = subst (SurvivesInstall e0 left) is_next (k.survives e0 behind)
+
+      -- what is frozen may be let go
+      pub may_put_all : (table : Option (List Version)) → table ≡ one_part versions → KnowsTables s1.knows e1.table.last → (Noted s0.knows (frozen_stay f.at (versions_of f)) → Noted s1.knows (frozen_stay f.at (versions_of f))) → MayPutAll u.knows left.table f table
+      may_put_all table table_is settled noted = record {
+        flushed = ap (λ (x : Installed). x.last.flushed) moved_table ∙ sym frozen.at;
+        table_is = table_is ∙ ap one_part versions_are;
+        low = frozen.flushed;
+        frozen = k.goes.noted (frozen_stay f.at (versions_of f)) refl (noted frozen.noted);
+        before = e1.table.last;
+        floor = settled.1.0;
+        named = k.goes.noted (tables_stay e1.table.last.versions settled.1.0) refl settled.1.1;
+        tables = frozen.tables ∙ ap (λ (x : Installed). x.last.versions) (sym same_table);
+        room = frozen.room;
+        last = ap (λ (x : Installed). x.last.versions) k.table ∙ ap (λ (vs : List Version). (parts.with_some vs e1.table.last).versions) versions_are;
+      }
+
+      module _ (v : SeatState) (put : GoesOn is_of_tables (writes now.table ∷ installed left.table ∷ []) u.turns u v) (done : Renewed) (at_is : done.at ≡ f.at) (counted : done.carried ≡ length (undecided log0.table.history)) where
+        put_still : v.knows.participant ≡ u.knows.participant
+        put_still = ap (λ (x : SeatState). x.knows.participant) put.same
+
+        moved_seen : u.knows.participant.seen ≡ s0.knows.participant.seen
+        moved_seen = ap (λ (x : SeatState). x.knows.participant.seen) k.goes.same ∙ seen_still
+
+        last_seen : v.knows.participant.seen ≡ s0.knows.participant.seen
+        last_seen = ap (λ (p : Participant). p.seen) put_still ∙ moved_seen
+
+        grown : StartsWith v.knows.participant.seen u.knows.participant.seen
+        grown = starts_equal u.knows.participant.seen v.knows.participant.seen (ap (λ (p : Participant). p.seen) put_still)
+
+        found : Finds z s0 v e0.table
+        found = found_of u v grown k.found
+
+        -- the edit, by what the seat has seen in the end
+        abbrev last_edit : InstalledEdit
+        last_edit = after_renewal v.knows.participant.seen written.segment.place e0.table.last
+
+        is_last : next ≡ last_edit
+        is_last = ap (λ (h : List Entry). after_renewal h written.segment.place e0.table.last) (sym last_seen)
+
+        last_table : left.table ≡ record e0.table { last = last_edit }
+        last_table = moved_table ∙ ap (λ (x : InstalledEdit). record e0.table { last = x }) is_last
+
+        moved_goes : GoesOnAs s0 u (remembering (found_by z s0 v e0.table found ∷ event.renewed left.table.last ∷ []) s0.knows.participant)
+        unfolding found found_of
+        moved_goes =
+            goes_of u v grown k.found (event.renewed left.table.last ∷ [])
+            (goes_remembering s1 u (found_by z s1 u e1.table k.found ∷ event.renewed left.table.last ∷ []) is_of_flushed (writes now.table ∷ installed left.table ∷ []) s1.turns k.goes flushed_free)
+
+        put_goes : GoesOnAs u v u.knows.participant
+        put_goes = goes_same u v is_of_tables (writes now.table ∷ installed left.table ∷ []) u.turns tables_free put
+
+        base_is : ◌≡◌ {A = Segment} (record { place = written.segment.place; base = written.segment.base }) (record { place = written.segment.place; base = length v.knows.participant.seen })
+        base_is = ap (λ (n : ℕ). let x : Segment = record { place = written.segment.place; base = n } in x) (based ∙ ap (λ (h : List Entry). length h) (history_seen v last_seen))
+
+        renewed : HasRenewed (GoesOnAs s0 v) z s0 v e0.table done
+        renewed = record {
+          found = found;
+          busy = busy v last_seen;
+          at = at_is ∙ frozen.at ∙ ap (λ (h : List Entry). length h) (sym last_seen);
+          carried = counted ∙ ap (λ (h : List Entry). length (undecided h)) (history_seen v last_seen);
+          place = written.segment.place;
+          left = held_left z s0 u v (record e0.table { last = last_edit }) k.stands (seat_still s0 u _ moved_goes) moved_seen put_still (subst (λ (t : Installed). IsIn (installed t) u.knows.held) last_table (second_held u.knows (writes now.table) (installed left.table) k.holds.turn.held));
+          table = record {
+            before = e0;
+            after = left;
+            of_store = holds.edits_of_store;
+            still_of_store = k.holds.edits_of_store;
+            before_is = refl;
+            after_is = last_table;
+            edits = is_edits;
+            still_edits = k.still_edits;
+            so = k.parts ∙ (λ i. compacted_parts ((versions_are ∙ frozen.versions ∙ ap (λ (h : List Entry). sorted_of (unflushed h e0.table.last)) (sym last_seen)) i) ++ behind.parts i);
+          };
+          survives = subst (SurvivesInstall e0 left) is_last moved_survived;
+          log = (
+            log0.table,
+            open_,
+            history_seen v last_seen,
+            record {
+              before = log0;
+              after = now;
+              of_store = holds.log_of_store;
+              still_of_store = k.holds.log_of_store;
+              before_is = refl;
+              after_is = k.log_table ∙ (λ i. record (same_log i) { segment = base_is i; next = None });
+              log = is_log;
+              still_log = k.still_log;
+              so = (
+                subst (λ (x : Segment). SurvivesBeside log0 now (Some x)) (sym (ap (λ (t : WriteTable). t.segment) k.log_table)) moved_beside,
+                names_its_segment e0 left last_edit is_edits running (subst (SurvivesInstall e0 left) is_last moved_survived) log0 now is_log open_ whole coupled (subst (λ (x : Segment). SurvivesBeside log0 now (Some x)) base_is moved_beside),
+              );
+            },
+          );
+          goes_on = subst (λ (x : InstalledEdit). GoesOnAs s0 v (remembering (found_by z s0 v e0.table found ∷ event.renewed x ∷ []) s0.knows.participant)) (ap (λ (t : Installed). t.last) last_table) (goes_still s0 u v (remembering (found_by z s0 v e0.table found ∷ event.renewed left.table.last ∷ []) s0.knows.participant) moved_goes put_goes);
+        }
+
+        pub renewed_holding : KnowsTables v.knows left.table.last → RenewsHolding (GoesOnAs s0 v) z s0 e0 log0 (Ok done) v left now
+        renewed_holding settled = record {
+          holds = record { turn = holds_as k.holds.turn put refl; edits_of_store = k.holds.edits_of_store; log_of_store = k.holds.log_of_store };
+          nothing = ap (λ (t : WriteTable). t.pending) k.log_table ∙ ap (λ (t : WriteTable). t.pending) same_log ∙ nothing;
+          settled = settled;
+          says = renewed;
+          manifest = tt;
+        }
+
+  -- ---- the log's device failed
+
+  module _ (u : SeatState) (now : LogState) (k : HasClosed z s1 e1 log1 u now) (manifest : e1.set.manifest ≡ e0.set.manifest) (left_first : e1.first ≡ e0.first) (is_left : IsEdits e1) (rose : Rose log0.wal.faults now.wal.faults) (beside : SurvivesBeside log0 now None) where
+    closed_seen : u.knows.participant.seen ≡ s0.knows.participant.seen
+    closed_seen = ap (λ (x : SeatState). x.knows.participant.seen) k.goes.same ∙ seen_still
+
+    closed_goes : GoesOnAs s0 u (remembering (found_by z s0 u e0.table (found_of u u (starts_same u.knows.participant.seen) k.found) ∷ log_failed [] ∷ []) s0.knows.participant)
+    closed_goes =
+        goes_of u u (starts_same u.knows.participant.seen) k.found (log_failed [] ∷ [])
+        (goes_remembering s1 u (found_by z s1 u e1.table k.found ∷ log_failed [] ∷ []) no_fact (writes now.table ∷ installed e1.table ∷ []) s1.turns k.goes loose_none)
+
+    log_fault : HasLogFault (GoesOnAs s0 u) z s0 u e0.table
+    log_fault = record {
+      found = found_of u u (starts_same u.knows.participant.seen) k.found;
+      busy = busy u closed_seen;
+      left = held_left z s0 u u e0.table k.stands (seat_still s0 u _ closed_goes) closed_seen refl (subst (λ (t : Installed). IsIn (installed t) u.knows.held) same_table (second_held u.knows (writes now.table) (installed e1.table) k.holds.turn.held));
+      tables = record { before = e0; after = e1; of_store = holds.edits_of_store; still_of_store = holds.edits_of_store ∙ ap Some (sym left_first); before_is = refl; after_is = same_table; edits = is_edits; still_edits = is_left; so = manifest };
+      log = (
+        log0.table,
+        open_,
+        history_seen u closed_seen,
+        record { before = log0; after = now; of_store = holds.log_of_store; still_of_store = k.holds.log_of_store; before_is = refl; after_is = k.table ∙ ap (λ (t : WriteTable). record t { closed = true }) same_log; log = is_log; still_log = k.still_log; so = (rose, beside) },
+      );
+      goes_on = closed_goes;
+    }
+
+    pub closed_holding : KnowsTables s1.knows e1.table.last → RenewsHolding (GoesOnAs s0 u) z s0 e0 log0 (Err LogFault) u e1 now
+    closed_holding settled = record {
+      holds = k.holds;
+      nothing = ap (λ (t : WriteTable). t.pending) k.table ∙ ap (λ (t : WriteTable). t.pending) same_log ∙ nothing;
+      settled = settled_on (being (remembering (found_by z s1 u e1.table k.found ∷ log_failed [] ∷ []) s1.knows.participant) s1) u no_fact (writes now.table ∷ installed e1.table ∷ []) s1.turns refl (λ versions floor. refl) k.goes e1.table.last settled;
+      says = log_fault;
+      manifest = (same_table, manifest);
+    }
+
+-- ---- there was nothing to renew, or the log was closed before
+
+module _ {D : Type 0} (z : SharedState D) (s : SeatState) (e : EditsState) (log : LogState) (holds : HoldsBoth z s e log log.table) (running : e.table.halted ≡ false) (seen : s.knows.participant.seen ≡ log.table.history) (nothing : log.table.pending ≡ []) (settled : KnowsTables s.knows e.table.last) (w0 : (w : World) × Stands z s w) where
+  log_there : IsIn (writes log.table) s.knows.held
+  log_there = first_held s.knows (writes log.table) (installed e.table ∷ []) holds.turn.held
+
+  saw_all : SawWhole z s s.knows.participant.seen
+  saw_all =
+      let log_is : w0.0.writes ≡ log.table = held_table (place_at z s.by) s.knows w0.0 (writes log.table) w0.1 log_there in record {
+        world = w0.0;
+        actor = s.knows;
+        there = w0.1;
+        held = subst (λ (d : WriteTable). IsIn (writes d) s.knows.held) (sym log_is) log_there;
+        history_is = ap (λ (d : WriteTable). d.history) log_is ∙ sym seen;
+        seen_is = refl;
+        past_is = refl;
+        made = refl;
+        joined = refl;
+      }
+
+  module _ (u : SeatState) (events : List Event) (is : u ≡ being (remembering events s.knows.participant) s) where
+    seen_now : u.knows.participant.seen ≡ s.knows.participant.seen
+    seen_now = ap (λ (x : SeatState). x.knows.participant.seen) is
+
+    held_now : HeldContent z s u s.knows.participant.past (writes log.table)
+    held_now = record {
+      world = w0.0;
+      actor = s.knows;
+      there = w0.1;
+      held = log_there;
+      past_is = refl;
+      seen_is = starts_same s.knows.participant.seen;
+      within = starts_equal s.knows.participant.seen u.knows.participant.seen seen_now;
+      made = refl;
+      joined = refl;
+    }
+
+    holds_now : HoldsBoth z u e log log.table
+    holds_now = subst (λ (x : SeatState). HoldsBoth z x e log log.table) (sym is) (record {
+      turn = record { same_table = holds.turn.same_table; live = holds.turn.live; held = holds.turn.held; turns = holds.turn.turns };
+      edits_of_store = holds.edits_of_store;
+      log_of_store = holds.log_of_store;
+    })
+
+  pub nothing_to_renew : (u : SeatState) → Remembers z s e.table u → log.table.closed ≡ false → e.table.last.segment.base ≡ length log.table.history → RenewsHolding (GoesOnAs s u) z s e log (Err Nothing) u e log
+  nothing_to_renew u k open_ based =
+      let events : List Event = found_by z s u e.table k.found ∷ [] in record {
+        holds = holds_now u events k.is;
+        nothing = nothing;
+        settled = settled_being z s u events k.is e.table.last settled;
+        says = record {
+          found = k.found;
+          running = running;
+          whole = subst (SawWhole z s) (sym (seen_now u events k.is)) saw_all;
+          unclosed = (log.table, held_now u events k.is, open_);
+          based = based ∙ ap (λ (h : List Entry). length h) (sym seen ∙ sym (seen_now u events k.is));
+          goes_on = goes_is z s u events k.is;
+        };
+        manifest = (refl, refl);
+      }
+
+  pub closed_before : (t u : SeatState) (n : ℕ) → Remembers z s e.table t → n ≡ length log.table.history → u ≡ being (remembering (stopped n ∷ []) t.knows.participant) t → log.table.closed ≡ true → RenewsHolding (GoesOnAs s u) z s e log (Err (Stopped n)) u e log
+  closed_before t u n k counted is closed =
+      let found : Finds z s u e.table = found_later z s t u e.table (starts_equal t.knows.participant.seen u.knows.participant.seen (ap (λ (x : SeatState). x.knows.participant.seen) is)) k.found in
+      let events : List Event = found_by z s u e.table found ∷ stopped n ∷ [] in
+      let both : u ≡ being (remembering events s.knows.participant) s =
+      is
+      ∙ ap (λ (x : SeatState). being (remembering (stopped n ∷ []) x.knows.participant) x) k.is
+      ∙ ap (λ (past : List Event). being (record s.knows.participant { past = past }) s) (append_assoc s.knows.participant.past (found_by z s u e.table found ∷ []) (stopped n ∷ [])) in record {
+        holds = holds_now u events both;
+        nothing = nothing;
+        settled = settled_being z s u events both e.table.last settled;
+        says = record {
+          found = found;
+          running = running;
+          whole = subst (SawWhole z s) (sym (seen_now u events both)) saw_all;
+          closed = (log.table, held_now u events both, closed);
+          number = counted ∙ ap (λ (h : List Entry). length h) (sym seen ∙ sym (seen_now u events both));
+          goes_on = goes_is z s u events both;
+        };
+        manifest = (refl, refl);
+      }

@@ -1,0 +1,227 @@
+-- A renewal as a whole, from the stage that broke it off, or from all of them.
+use Rattle.std.proofs.Common.{◌≡◌, ◌≢◌, ◌⊎◌, inl, inr, ℕ, ◌<◌, ◌≤◌, true, false, List, [], ◌∷◌, length, Option, Some, None, refl, sym, subst, ap, ◌∙◌, arith}
+use Rattle.std.specs.Prelude.{Ok, Err, IfSome, Result}
+use Rattle.wp_model.specs.declared.entry.Entry.{Entry}
+use Rattle.wp_model.specs.declared.segment.Segment.{Segment}
+use Rattle.wp_model.specs.declared.version.Version.{Version}
+use Rattle.wp_model.specs.Flushed.{InstalledEdit}
+use Rattle.wp_model.specs.History.{undecided}
+use Rattle.wp_outside.specs.Faults.{Rose}
+use Rattle.wp_wal.specs.Segment.{WrittenState}
+use Rattle.wp_replies.specs.Tables.{after_renewal}
+use Rattle.wp_tableset.specs.Changes.{one_part}
+use Rattle.std.specs.Option.{option_map}
+use Rattle.wp_table.specs.Walk.{BuiltTable}
+use Rattle.wp_tableset.specs.Install.{IsReadyEdit, built_of}
+use Rattle.wp_tableset.specs.Set.{TableSetState}
+use Rattle.wp_tableset.specs.declared.error.TableSetError.TheVariants.{Fault}
+use Rattle.wp_core.specs.Tables.{WriteTable, Installed, writes, installed}
+use Rattle.wp_core.specs.Views.{frozen_stay}
+use Rattle.wp_core.specs.World.{Participant, World}
+use Rattle.wp_rule.specs.Knows.{KnowsTables, Noted}
+use Rattle.wp_shared.specs.Edits.{EditsState, IsEdits}
+use Rattle.wp_shared.specs.Installs.{HadCause, SurvivesInstall, in_segment}
+use Rattle.wp_shared.specs.Log.{LogState, IsLog, with_next}
+use Rattle.wp_shared.specs.Renewal.{SegmentState, IsBehind, IsWritten, SurvivesWrite}
+use Rattle.wp_shared.specs.Calls.{GoesOnAs}
+use Rattle.wp_shared.specs.Notes.{GoesOn, no_fact}
+use Rattle.wp_shared.specs.Seats.{SharedState, SeatState, Stands}
+use Rattle.wp_shared.specs.Turns.{HoldsTurn}
+use Rattle.wp_shared.proofs.Onward.{goes_none, goes_same, goes_still, loose_none, starts_same}
+use Rattle.wp_maint.specs.declared.frozen.Frozen.{Frozen}
+use Rattle.wp_maint.specs.declared.renewed.Renewed.{Renewed}
+use Rattle.wp_maint.specs.declared.renewed.RenewError.{RenewError}
+use Rattle.wp_maint.specs.declared.renewed.RenewError.TheVariants.{Memory, TablesStopped, Stopped, Nothing, TableFault, LogFault}
+use Rattle.wp_maint.specs.Calls.{HasFault}
+use Rattle.wp_maint.specs.Flush.{versions_of}
+use Rattle.wp_maint.specs.Holding.{is_of_tables}
+use Rattle.wp_maint.specs.Renewal.{HasFrozenAll, HoldsBoth}
+use Rattle.wp_maint.specs.Renewing.{HasMoved, HasPlace, HasSegment, IsTold, LeavesSegment, MayPutAll, RenewsHolding, SurvivesEdit, WritesTable}
+use Rattle.wp_maint.proofs.Onward.{goes_more, renews_so, settled_on}
+use Rattle.wp_renew.proofs.Renewed.{beside_still, broken_holding, closed_holding, covered_next, is_next, may_put_all, renewed_holding, same_renewal}
+use Rattle.wp_renew.proofs.Stages.{beside_same}
+
+-- the table that is built has the versions, if there are any
+pub built_part : (id : ℕ) (versions : List Version) (table : Option (List Version)) (built : Option BuiltTable) → built ≡ built_of id versions → table ≡ option_map (λ (b : BuiltTable). b.versions) built → table ≡ one_part versions
+built_part id versions table built is table_is = table_is ∙ ap (λ (o : Option BuiltTable). option_map (λ (b : BuiltTable). b.versions) o) is ∙ by versions
+  where
+    by : (vs : List Version) → option_map (λ (b : BuiltTable). b.versions) (built_of id vs) ≡ one_part vs
+    by [] = refl
+    by (v ∷ vs) = refl
+
+-- a fault behind another call is one since before it
+fault_since : (old mid new : TableSetState) → mid.manifest.log.faults ≡ old.manifest.log.faults → old.faults ≤ mid.faults → HadCause mid new Fault → HadCause old new Fault
+fault_since old mid new same later (inl rose) = inl (subst (λ (n : ℕ). Rose n new.manifest.log.faults) same rose)
+fault_since old mid new same later (inr rose) = inr (omega (arith, rose, later))
+
+-- the seat and the log are as they were
+pub at_start : {D : Type 0} (z : SharedState D) (s u : SeatState) (e : EditsState) (log now : LogState) → u ≡ s → now ≡ log → HoldsBoth z u e now now.table → HoldsBoth z s e log log.table
+at_start z s u e log now same same_log holds = subst (λ (x : SeatState × LogState). HoldsBoth z x.0 e x.1 x.1.table) (λ i. (same i, same_log i)) holds
+
+module _ {D : Type 0} (z : SharedState D) (s0 : SeatState) (e0 : EditsState) (log0 : LogState) (holds : HoldsBoth z s0 e0 log0 log0.table) (running : e0.table.halted ≡ false) (open_ : log0.table.closed ≡ false) (nothing : log0.table.pending ≡ []) (coupled : e0.table.last.segment ≡ log0.table.segment) (below : log0.table.segment.base < length log0.table.history)
+    (seen : s0.knows.participant.seen ≡ log0.table.history) (whole : log0.table.log ≡ log0.table.history) (w0 : (w : World) × Stands z s0 w) (settled : KnowsTables s0.knows e0.table.last) (is_edits : IsEdits e0) (is_log : IsLog log0)
+    (f : Frozen) (versions : List Version) (versions_are : versions ≡ versions_of f) (frozen : HasFrozenAll s0.knows e0.table f) (ready : SegmentState) (is_ready : IsReadyEdit e0.set versions f.at ready.edit) where
+  begun : GoesOnAs s0 s0 s0.knows.participant
+  begun = goes_none s0
+
+  -- ---- the table was not written
+
+  unwritten : (u : SeatState) (left : EditsState) (now : LogState) → u ≡ s0 → now ≡ log0 → left.table ≡ e0.table → left.first ≡ e0.first → HoldsBoth z u left now now.table
+  unwritten u left now same same_log same_table first = record {
+    turn = subst (λ (x : SeatState × LogState × Installed). HoldsTurn z x.0 (writes x.1.table) (installed x.2 ∷ []) (5 ∷ [])) (λ i. (sym same i, sym same_log i, sym same_table i)) holds.turn;
+    edits_of_store = holds.edits_of_store ∙ ap Some (sym first);
+    log_of_store = holds.log_of_store ∙ ap (λ (l : LogState). Some l.first) (sym same_log);
+  }
+
+  pub not_written : (T : Type 0) (why : RenewError) (u : SeatState) (left : EditsState) (now : LogState) (behind : SegmentState) → WritesTable {T = T} z s0 e0 log0 ready (Err why) u left now behind → RenewsHolding (GoesOnAs s0 u) z s0 e0 log0 (Err why) u left now
+  not_written T Memory u left now behind (same, same_log, are_left, first) = record {
+    holds = unwritten u left now same same_log are_left.0 first;
+    nothing = ap (λ (l : LogState). l.table.pending) same_log ∙ nothing;
+    settled = subst (λ (x : SeatState × Installed). KnowsTables x.0.knows x.1.last) (λ i. (sym same i, sym are_left.0 i)) settled;
+    says = subst (λ (x : SeatState). GoesOnAs s0 x s0.knows.participant) (sym same) begun;
+    manifest = are_left;
+  }
+  not_written T (TablesStopped n) u left now behind wrong = absurd wrong
+  not_written T (Stopped n) u left now behind wrong = absurd wrong
+  not_written T Nothing u left now behind wrong = absurd wrong
+  not_written T LogFault u left now behind wrong = absurd wrong
+  not_written T TableFault u left now behind k =
+      let segment : Segment = record { place = 0; base = f.at } in
+      broken_holding z s0 s0 e0 e0 log0 log0 holds running open_ nothing (sym coupled) below seen whole w0 is_edits is_log begun refl refl refl (λ before after. SurvivesWrite before after ready) None u left now k
+      (after_renewal s0.knows.participant.seen 0 e0.table.last) (0, refl) tt
+      (subst (SurvivesInstall e0 left) (same_renewal s0.knows.participant.seen e0.table.last versions segment (versions_are ∙ frozen.versions) frozen.at) (k.survives versions f.at is_ready segment))
+      (beside_same log0 now (ap (λ (l : LogState). l.wal.moments) k.stopped)) k.fault settled
+
+  -- ---- the table is written, if there is one
+
+  module _ (e1 : EditsState) (behind : SegmentState) (same_table : e1.table ≡ e0.table) (wrote : IsWritten e0 e1 ready behind) (holds1 : HoldsBoth z s0 e1 log0 log0.table) where
+    its : IsBehind e0 e1 versions f.at behind
+    its = wrote versions f.at is_ready
+
+    same_manifest : e1.set.manifest ≡ e0.set.manifest
+    same_manifest = ap (λ (s : TableSetState). s.manifest) its.written.changed
+
+    settled1 : KnowsTables s0.knows e1.table.last
+    settled1 = subst (λ (t : Installed). KnowsTables s0.knows t.last) (sym same_table) settled
+
+    -- the segment was not
+    pub not_placed : (why : RenewError) (u : SeatState) (now : LogState) → IsEdits e1 → HasPlace z s0 e1 log0 (Err why) u now → RenewsHolding (GoesOnAs s0 u) z s0 e0 log0 (Err why) u e1 now
+    not_placed Memory u now is_left wrong = absurd wrong
+    not_placed (TablesStopped n) u now is_left wrong = absurd wrong
+    not_placed (Stopped n) u now is_left wrong = absurd wrong
+    not_placed Nothing u now is_left wrong = absurd wrong
+    not_placed TableFault u now is_left wrong = absurd wrong
+    not_placed LogFault u now is_left k =
+        closed_holding z s0 s0 e0 e1 log0 log0 holds running open_ nothing (sym coupled) below seen whole w0 is_edits is_log begun refl same_table refl u now k same_manifest its.first is_left k.rose k.survives settled1
+
+    -- ---- and so is the segment
+
+    module _ (written : WrittenState) (u : SeatState) (log1 : LogState) (p : HasSegment z s0 e1 log0 written u log1) where
+      based : written.segment.base ≡ length log0.table.history
+      based = p.waits.based ∙ ap (λ (t : WriteTable). length t.history) p.table
+
+      at_base : written.segment.base ≡ f.at
+      at_base = based ∙ ap (λ (h : List Entry). length h) (sym seen) ∙ sym frozen.at
+
+      first : GoesOnAs s0 u s0.knows.participant
+      first = goes_same s0 u no_fact (writes (with_next log1.table written.segment) ∷ installed e1.table ∷ []) s0.turns loose_none p.goes
+
+      still : u.knows.participant ≡ s0.knows.participant
+      still = ap (λ (x : SeatState). x.knows.participant) p.goes.same
+
+      its_now : IsBehind e0 e1 versions written.segment.base behind
+      its_now = subst (λ (n : ℕ). IsBehind e0 e1 versions n behind) (sym at_base) its
+
+      settled2 : KnowsTables u.knows e1.table.last
+      settled2 = settled_on s0 u no_fact (writes (with_next log1.table written.segment) ∷ installed e1.table ∷ []) s0.turns refl (λ vs floor. refl) p.goes e1.table.last settled1
+
+      pub told : log0.table.next ≡ None → IsTold z u e1 log1 written behind versions
+      told none_next = record {
+        holds = p.holds;
+        running = ap (λ (t : Installed). t.halted) same_table ∙ running;
+        unclosed = ap (λ (t : WriteTable). t.closed) p.table ∙ open_;
+        nothing = ap (λ (t : WriteTable). t.pending) p.table ∙ nothing;
+        none_next = ap (λ (t : WriteTable). t.next) p.table ∙ none_next;
+        seen = ap (λ (x : SeatState). x.knows.participant.seen) p.goes.same ∙ seen ∙ ap (λ (t : WriteTable). t.history) (sym p.table);
+        waits = p.waits;
+        apart = λ is. p.survives.beside.1 (is ∙ ap (λ (t : WriteTable). t.segment.place) p.table);
+        coupled = ap (λ (t : Installed). t.last.segment) same_table ∙ coupled ∙ ap (λ (t : WriteTable). t.segment) (sym p.table);
+        before = e0;
+        behind = its_now;
+        covered = covered_next z s0 u e0 e1 log0 log1 holds running open_ nothing (sym coupled) below seen whole w0 is_edits is_log first still same_table p.table written behind f versions versions_are frozen based;
+        stands = p.stands;
+      }
+
+      -- the edit was not installed
+      pub not_installed : (T : Type 0) (why : RenewError) (v : SeatState) (left : EditsState) (now : LogState) → LeavesSegment {T = T} z u e1 log1 written behind versions (Err why) v left now → RenewsHolding (GoesOnAs s0 v) z s0 e0 log0 (Err why) v left now
+      not_installed T Memory v left now wrong = absurd wrong
+      not_installed T (TablesStopped n) v left now wrong = absurd wrong
+      not_installed T (Stopped n) v left now wrong = absurd wrong
+      not_installed T Nothing v left now wrong = absurd wrong
+      not_installed T LogFault v left now wrong = absurd wrong
+      not_installed T TableFault v left now k =
+          let its_edit = is_next z s0 u e0 e1 log0 log1 holds running open_ nothing (sym coupled) below seen whole w0 is_edits is_log first still same_table p.table written behind f versions versions_are frozen based in
+          broken_holding z s0 u e0 e1 log0 log1 holds running open_ nothing (sym coupled) below seen whole w0 is_edits is_log first still same_table p.table (SurvivesEdit written behind versions)
+          (Some (in_segment versions written.segment.base written.segment e1.table.last)) v left now k
+          (after_renewal s0.knows.participant.seen written.segment.place e0.table.last) (written.segment.place, refl) its_edit
+          (subst (SurvivesInstall e0 left) its_edit (k.survives e0 its_now))
+          (beside_still log0 log1 now (Some written.segment) (ap (λ (l : LogState). l.wal.moments) k.stopped) p.survives)
+          (fault_since e0.set e1.set left.set (ap (λ (s : TableSetState). s.manifest.log.faults) its.written.changed) its.written.later k.fault) settled2
+
+      -- it was
+      module _ (v : SeatState) (left : EditsState) (now : LogState) (k : HasMoved z u e1 log1 written behind versions v left now) where
+        pub may_put : (table : Option (List Version)) → table ≡ one_part versions → MayPutAll v.knows left.table f table
+        may_put table is =
+            may_put_all z s0 u e0 e1 log0 log1 holds running open_ nothing (sym coupled) below seen whole w0 is_edits is_log first still same_table p.table written behind f versions versions_are frozen based v left now k its_now p.survives table is settled2
+            (p.goes.noted (frozen_stay f.at (versions_of f)) refl)
+
+        pub went_through : (x : SeatState) → GoesOn is_of_tables (writes now.table ∷ installed left.table ∷ []) v.turns v x → (done : Renewed) → done.at ≡ f.at → done.carried ≡ length (undecided log0.table.history) → KnowsTables x.knows left.table.last → RenewsHolding (GoesOnAs s0 x) z s0 e0 log0 (Ok done) x left now
+        went_through x put done at_is counted last =
+            renewed_holding z s0 u e0 e1 log0 log1 holds running open_ nothing (sym coupled) below seen whole w0 is_edits is_log first still same_table p.table written behind f versions versions_are frozen based v left now k its_now p.survives x put done at_is counted last
+
+-- ---- before the memory is there, and the stages behind it
+
+strictly : (a b : ℕ) → a ≤ b → (a ≡ b → ⊥) → a < b
+strictly a b le apart = omega (arith, le, apart)
+
+-- the base of the segment in use is in the history; where it is not its end, it is below
+pub base_below : (log : LogState) → IsLog log → log.table.log ≡ log.table.history → (log.table.segment.base ≡ length log.table.history → ⊥) → log.table.segment.base < length log.table.history
+base_below log is whole apart =
+    let cut_base : is.cut.base ≤ length log.table.log = is.is_cut.within in
+    let based : is.cut.base ≡ log.table.segment.base = is.stores.based ∙ ap (λ (g : Segment). g.base) (sym is.segment) in
+    strictly log.table.segment.base (length log.table.history) (subst (λ (x : ℕ × List Entry). x.0 ≤ length x.1) (λ i. (based i, whole i)) cut_base) apart
+
+module _ {D : Type 0} (z : SharedState D) (s t u : SeatState) (e : EditsState) (log : LogState) (goes : GoesOn no_fact s.knows.held s.turns s t) where
+  so_far : GoesOnAs s t s.knows.participant
+  so_far = goes_same s t no_fact s.knows.held s.turns loose_none goes
+
+  -- what the stages behind it leave, since the beginning
+  pub held_later : (left : EditsState) (now : LogState) (result : Result Renewed RenewError) → RenewsHolding (GoesOnAs t u) z t e log result u left now → RenewsHolding (GoesOnAs s u) z s e log result u left now
+  held_later left now result k = record {
+    holds = k.holds;
+    nothing = k.nothing;
+    settled = k.settled;
+    says = renews_so (GoesOnAs t u) (GoesOnAs s u) z s t u u e.table (so_far.same_by, so_far.made, so_far.joined) (ap (λ (p : Participant). p.past) so_far.participant) so_far.seen refl (starts_same u.knows.participant.seen)
+        (λ events h. goes_more s t u s.knows.participant so_far events h) (λ h. goes_still s t u s.knows.participant so_far h) refl result k.says;
+    manifest = k.manifest;
+  }
+
+  -- both turns are held as before
+  pub holds_both_still : HoldsBoth z s e log log.table → HoldsBoth z t e log log.table
+  holds_both_still holds = record {
+    turn = record {
+      same_table = ap (λ (x : SeatState). x.table) goes.same ∙ holds.turn.same_table;
+      live = ap (λ (x : SeatState). x.knows.live) goes.same ∙ holds.turn.live;
+      held = ap (λ (x : SeatState). x.knows.held) goes.same ∙ holds.turn.held;
+      turns = ap (λ (x : SeatState). x.turns) goes.same ∙ holds.turn.turns;
+    };
+    edits_of_store = holds.edits_of_store;
+    log_of_store = holds.log_of_store;
+  }
+
+  pub settled_still : KnowsTables s.knows e.table.last → KnowsTables t.knows e.table.last
+  settled_still settled = settled_on s t no_fact s.knows.held s.turns refl (λ vs floor. refl) goes e.table.last settled
+
+  -- there is no memory for it
+  pub no_room : HoldsBoth z s e log log.table → log.table.pending ≡ [] → KnowsTables s.knows e.table.last → RenewsHolding (GoesOnAs s t) z s e log (Err Memory) t e log
+  no_room holds nothing settled = record { holds = holds_both_still holds; nothing = nothing; settled = settled_still settled; says = so_far; manifest = (refl, refl) }

@@ -1,0 +1,195 @@
+use Rattle.std.proofs.Common.{◌≡◌, ◌≤◌, ℕ, List, [], ◌∷◌, Option, Some, refl, sym, subst, ap, ◌∙◌}
+use Rattle.std.specs.Prelude.{IfSome}
+use Rattle.wp_model.specs.declared.segment.Segment.{Segment}
+use Rattle.wp_model.specs.Flushed.{InstalledEdit, IsEditCovered}
+use Rattle.wp_core.specs.Effects.{with_failed}
+use Rattle.wp_core.specs.Tables.{Installed, writes, installed}
+use Rattle.wp_core.specs.Views.{log_stopped, renewed, tables_failed}
+use Rattle.wp_core.proofs.Tests.{same_some}
+use Rattle.wp_rule.specs.Knows.{NextNamed}
+use Rattle.wp_shared.specs.Calls.{remembering}
+use Rattle.wp_shared.specs.Edits.{EditsState}
+use Rattle.wp_shared.specs.Installs.{HadCause, SurvivesInstall, in_segment}
+use Rattle.wp_shared.specs.Renewal.{IsBehind}
+use Rattle.wp_shared.specs.Log.{LogState, with_next, with_segment}
+use Rattle.wp_shared.specs.Notes.{being, no_fact, GoesOn}
+use Rattle.wp_shared.specs.Seats.{SeatState}
+use Rattle.wp_shared.proofs.Goes.{none_too, then, wider}
+use Rattle.wp_maint.specs.Holding.{is_of_flushed}
+use Rattle.wp_maint.proofs.Made.{second_held}
+use Rattle.wp_renew.proofs.Stages.{found_then, goes_then_more, goes_two, next_named, more_tables}
+use Rattle.wp_renew.proofs.renewing.install.Goals as goal
+
+pub find_edits-requires-clause-seat : goal.find_edits-requires-clause-seat
+find_edits-requires-clause-seat g c = c.requires.told.holds.turn.same_table
+
+pub find_edits-requires-clause-held : goal.find_edits-requires-clause-held
+find_edits-requires-clause-held g c = let k = c.requires.told in let e = c.args.edits.now.table in (e, second_held c.args.seat.now.knows (writes (with_next c.args.log.now.table c.args.written.segment)) (installed e) k.holds.turn.held)
+
+pub install_segment-requires-clause-running : goal.install_segment-requires-clause-running
+install_segment-requires-clause-running g c = c.requires.told.running
+
+pub install_segment-requires-clause-written : goal.install_segment-requires-clause-written
+install_segment-requires-clause-written g c = (c.requires.told.before, subst (λ (x : Segment). IsBehind c.requires.told.before c.args.edits.now c.args.versions.now x.base c.args.edit) (sym c.segment.ensures) c.requires.told.behind)
+
+pub remember_renewal-requires-clause-held : goal.remember_renewal-requires-clause-held
+remember_renewal-requires-clause-held g c =
+    let k = c.requires.told in let e = c.args.edits.now.table in let d = c.args.log.now.table in let segment : Segment = c.args.written.segment in let next = in_segment c.args.versions.now segment.base segment e.last in
+    let left = c.install_segment.new.self.table in let is = subst (λ (x : Segment). c.install_segment.new.self.table ≡ record c.args.edits.now.table { last = in_segment c.args.versions.now x.base x c.args.edits.now.table.last }) c.segment.ensures c.in-Ok.ensures.installed in let last = ap (λ (x : Installed). x.last) is in
+    let found = c.find_edits.ensures e (second_held c.args.seat.now.knows (writes (with_next d segment)) (installed e) k.holds.turn.held) in (
+      e,
+      with_next d segment,
+      ap (λ (x : SeatState). x.knows.held) found.is ∙ k.holds.turn.held,
+      is ∙ ap (λ (l : InstalledEdit). record e { last = l }) (sym last),
+      refl,
+      record {
+        running = k.running;
+        covered = subst (λ (x : SeatState × InstalledEdit). IsEditCovered x.0.knows.participant.seen x.1) (λ i. (sym found.is i, sym last i)) k.covered;
+        next = subst (NextNamed (with_next d segment)) (sym last) (next_named d segment c.args.versions.now e.last k.unclosed k.waits.based);
+        tables = subst (λ (l : InstalledEdit). e.last.tables ≤ l.tables) (sym last) (more_tables c.args.versions.now segment.base segment e.last);
+      },
+    )
+
+pub use_segment-requires-clause-running : goal.use_segment-requires-clause-running
+use_segment-requires-clause-running g c = c.requires.told.unclosed
+
+pub use_segment-requires-clause-nothing : goal.use_segment-requires-clause-nothing
+use_segment-requires-clause-nothing g c = c.requires.told.nothing
+
+pub use_segment-requires-clause-waits : goal.use_segment-requires-clause-waits
+use_segment-requires-clause-waits g c = c.requires.told.waits
+
+pub use_segment-requires-in-Ok-clause-held : goal.use_segment-requires-in-Ok-clause-held
+use_segment-requires-in-Ok-clause-held g c =
+    let k = c.requires.told in let e = c.args.edits.now.table in let log = c.args.log.now.table in let segment : Segment = c.args.written.segment in let d = with_next log segment in
+    let found = c.find_edits.ensures e (second_held c.args.seat.now.knows (writes d) (installed e) k.holds.turn.held) in
+    let goes = c.remember_renewal.ensures.goes d e (ap (λ (x : SeatState). x.knows.held) found.is ∙ k.holds.turn.held) in
+    let at : c.install_segment.new.self.table.last.segment ≡ segment = ap (λ (x : Installed). x.last.segment) (subst (λ (x : Segment). c.install_segment.new.self.table ≡ record c.args.edits.now.table { last = in_segment c.args.versions.now x.base x c.args.edits.now.table.last }) c.segment.ensures c.in-Ok.ensures.installed) in (
+      d,
+      ap (λ (x : SeatState). x.knows.held) goes.same,
+      k.unclosed,
+      ap Some (sym at),
+      c.use_segment.ensures.table ∙ ap (λ (x : Segment). with_segment log x) (sym at),
+    )
+
+pub returns-in-Ok : goal.returns-in-Ok
+returns-in-Ok g c =
+    let z = c.args.store.now in let k = c.requires.told in let s = c.args.seat.now in let t = c.find_edits.new.seat in let u = c.remember_renewal.new.seat in let v = c.use_segment-in-Ok.new.seat in
+    let e = c.args.edits.now in let left = c.install_segment.new.self in let log = c.args.log.now in let now = c.use_segment.new.self in let d = with_next log.table c.args.written.segment in
+    let found = c.find_edits.ensures e.table (second_held s.knows (writes d) (installed e.table) k.holds.turn.held) in
+    let first = c.remember_renewal.ensures.goes d e.table (ap (λ (x : SeatState). x.knows.held) found.is ∙ k.holds.turn.held) in
+    let held = writes now.table ∷ installed left.table ∷ [] in let events = renewed left.table.last ∷ [] in
+    let base = being (remembering events t.knows.participant) t in
+    let both = then is_of_flushed base u v (writes d ∷ installed left.table ∷ []) held t.turns u.turns first (wider no_fact u v v is_of_flushed held u.turns (none_too is_of_flushed) c.use_segment-in-Ok.ensures.goes) in
+    let turns : u.turns ≡ t.turns = ap (λ (x : SeatState). x.turns) first.same in
+    let all = subst (λ (m : List ℕ). GoesOn is_of_flushed held m base v) turns both in
+    let more = goes_then_more z s t v e.table found held is_of_flushed events all in record {
+      table = subst (λ (x : Segment). c.install_segment.new.self.table ≡ record c.args.edits.now.table { last = in_segment c.args.versions.now x.base x c.args.edits.now.table.last }) c.segment.ensures c.in-Ok.ensures.installed;
+      log_table = c.use_segment.ensures.table;
+      device = c.use_segment.ensures.device;
+      holds = record {
+        turn = record {
+          same_table = ap (λ (x : SeatState). x.table) more.same ∙ k.holds.turn.same_table;
+          live = ap (λ (x : SeatState). x.knows.live) more.same ∙ k.holds.turn.live;
+          held = ap (λ (x : SeatState). x.knows.held) more.same;
+          turns = ap (λ (x : SeatState). x.turns) more.same ∙ k.holds.turn.turns;
+        };
+        edits_of_store = k.holds.edits_of_store ∙ ap Some (sym c.in-Ok.ensures.first);
+        log_of_store = k.holds.log_of_store ∙ ap Some (sym c.use_segment.ensures.first);
+      };
+      found = found_then z s t v e.table found held is_of_flushed events all;
+      goes = more;
+      parts = c.in-Ok.ensures.parts;
+      survives = subst (λ (x : Segment). (before : EditsState) → IsBehind before c.args.edits.now c.args.versions.now x.base c.args.edit → SurvivesInstall before c.install_segment.new.self (in_segment c.args.versions.now x.base x c.args.edits.now.table.last)) c.segment.ensures c.in-Ok.ensures.survives;
+      still_edits = c.shows_told-in-Ok.ensures.edits;
+      still_log = c.shows_told-in-Ok-2.ensures.log;
+      stands = c.use_segment-in-Ok.ensures.stands;
+    }
+
+pub remember_tables_fault-requires-clause-held : goal.remember_tables_fault-requires-clause-held
+remember_tables_fault-requires-clause-held g c =
+    let k = c.requires.told in let e = c.args.edits.now.table in let left = c.install_segment.new.self.table in let segment : Segment = c.args.written.segment in let d = with_next c.args.log.now.table segment in
+    let next = in_segment c.args.versions.now segment.base segment e.last in
+    let found = c.find_edits.ensures e (second_held c.args.seat.now.knows (writes d) (installed e) k.holds.turn.held) in
+    let halted = subst (λ (x : Segment). c.install_segment.new.self.table ≡ with_failed c.args.edits.now.table (Some (in_segment c.args.versions.now x.base x c.args.edits.now.table.last))) c.segment.ensures c.in-Err.ensures.refused.1 in let asked : left.failed ≡ Some next = ap (λ (x : Installed). x.failed) halted in
+    let t = c.find_edits.new.seat in (
+      e,
+      d,
+      ap (λ (x : SeatState). x.knows.held) found.is ∙ k.holds.turn.held,
+      halted ∙ ap (with_failed e) (sym asked),
+      k.running,
+      subst (λ (o : Option InstalledEdit). IfSome o (λ edit. IsEditCovered t.knows.participant.seen edit × NextNamed d edit)) (sym asked)
+          (subst (λ (x : SeatState). IsEditCovered x.knows.participant.seen next) (sym found.is) k.covered, next_named c.args.log.now.table segment c.args.versions.now e.last k.unclosed k.waits.based),
+    )
+
+pub remember_stop-requires-clause-held : goal.remember_stop-requires-clause-held
+remember_stop-requires-clause-held g c =
+    let k = c.requires.told in let e = c.args.edits.now.table in let left = c.install_segment.new.self.table in let segment : Segment = c.args.written.segment in let d = with_next c.args.log.now.table segment in
+    let found = c.find_edits.ensures e (second_held c.args.seat.now.knows (writes d) (installed e) k.holds.turn.held) in
+    let goes = c.remember_tables_fault.ensures.goes d e (ap (λ (x : SeatState). x.knows.held) found.is ∙ k.holds.turn.held) in
+    let halted = subst (λ (x : Segment). c.install_segment.new.self.table ≡ with_failed c.args.edits.now.table (Some (in_segment c.args.versions.now x.base x c.args.edits.now.table.last))) c.segment.ensures c.in-Err.ensures.refused.1 in (
+      d,
+      ap (λ (x : SeatState). x.knows.held) goes.same,
+      ap (λ (l : LogState). l.table) c.stop_with.ensures,
+      k.unclosed,
+      k.nothing,
+      (λ is. k.apart (ap (λ (x : Segment). x.place) (same_some segment left.last.segment is ∙ ap (λ (x : Installed). x.last.segment) halted ∙ k.coupled))),
+      ap (λ (x : Installed). x.halted) halted,
+    )
+
+pub returns-in-Err : goal.returns-in-Err
+returns-in-Err g c =
+    let z = c.args.store.now in let k = c.requires.told in let s = c.args.seat.now in let t = c.find_edits.new.seat in let u = c.remember_tables_fault.new.seat in let v = c.remember_stop.new.seat in
+    let e = c.args.edits.now in let left = c.install_segment.new.self in let log = c.args.log.now in let now = c.stop_with.new.self in let segment : Segment = c.args.written.segment in
+    let d = with_next log.table segment in let asked : Option InstalledEdit = Some (in_segment c.args.versions.now segment.base segment e.table.last) in
+    let found = c.find_edits.ensures e.table (second_held s.knows (writes d) (installed e.table) k.holds.turn.held) in
+    let halted = subst (λ (x : Segment). c.install_segment.new.self.table ≡ with_failed c.args.edits.now.table (Some (in_segment c.args.versions.now x.base x c.args.edits.now.table.last))) c.segment.ensures c.in-Err.ensures.refused.1 in
+    let first = c.remember_tables_fault.ensures.goes d e.table (ap (λ (x : SeatState). x.knows.held) found.is ∙ k.holds.turn.held) in
+    let held = writes now.table ∷ installed left.table ∷ [] in
+    let first_is = subst (λ (x : Installed). GoesOn no_fact (writes d ∷ installed left.table ∷ []) t.turns (being (remembering (tables_failed x.last x.failed ∷ []) t.knows.participant) t) u) halted first in
+    let both = goes_two t u v no_fact (writes d ∷ installed left.table ∷ []) held t.turns u.turns (tables_failed e.table.last asked ∷ []) (log_stopped ∷ []) first_is c.remember_stop.ensures.goes in
+    let turns : u.turns ≡ t.turns = ap (λ (x : SeatState). x.turns) first.same in
+    let all = subst (λ (m : List ℕ). GoesOn no_fact held m (being (remembering (tables_failed e.table.last asked ∷ log_stopped ∷ []) t.knows.participant) t) v) turns both in
+    let more = goes_then_more z s t v e.table found held no_fact (tables_failed e.table.last asked ∷ log_stopped ∷ []) all in record {
+      table = halted;
+      stopped = c.stop_with.ensures;
+      holds = record {
+        turn = record {
+          same_table = ap (λ (x : SeatState). x.table) more.same ∙ k.holds.turn.same_table;
+          live = ap (λ (x : SeatState). x.knows.live) more.same ∙ k.holds.turn.live;
+          held = ap (λ (x : SeatState). x.knows.held) more.same;
+          turns = ap (λ (x : SeatState). x.turns) more.same ∙ k.holds.turn.turns;
+        };
+        edits_of_store = k.holds.edits_of_store ∙ ap Some (sym c.in-Err.ensures.first);
+        log_of_store = k.holds.log_of_store ∙ ap (λ (l : LogState). Some l.first) (sym c.stop_with.ensures);
+      };
+      found = found_then z s t v e.table found held no_fact (tables_failed e.table.last asked ∷ log_stopped ∷ []) all;
+      goes = more;
+      fault = subst (HadCause e.set left.set) c.in-Err.ensures.refused.0 c.in-Err.ensures.cause;
+      survives = subst (λ (x : Segment). (before : EditsState) → IsBehind before c.args.edits.now c.args.versions.now x.base c.args.edit → SurvivesInstall before c.install_segment.new.self (in_segment c.args.versions.now x.base x c.args.edits.now.table.last)) c.segment.ensures c.in-Err.ensures.survives;
+      edits = c.shows_told.ensures.edits;
+      still_edits = c.shows_told-in-Err.ensures.edits;
+      log_is = c.shows_told-2.ensures.log;
+      still_log = c.shows_told-in-Err-2.ensures.log;
+      stands = c.remember_stop.ensures.stands;
+    }
+
+pub remember_renewal-requires-clause-seat : goal.remember_renewal-requires-clause-seat
+remember_renewal-requires-clause-seat g c = let k = c.requires.told in let e = c.args.edits.now.table in
+    ap (λ (x : SeatState). x.table) (c.find_edits.ensures e (second_held c.args.seat.now.knows (writes (with_next c.args.log.now.table c.args.written.segment)) (installed e) k.holds.turn.held)).is ∙ k.holds.turn.same_table
+
+pub remember_tables_fault-requires-clause-seat : goal.remember_tables_fault-requires-clause-seat
+remember_tables_fault-requires-clause-seat g c = let k = c.requires.told in let e = c.args.edits.now.table in
+    ap (λ (x : SeatState). x.table) (c.find_edits.ensures e (second_held c.args.seat.now.knows (writes (with_next c.args.log.now.table c.args.written.segment)) (installed e) k.holds.turn.held)).is ∙ k.holds.turn.same_table
+
+pub use_segment-requires-in-Ok-clause-seat : goal.use_segment-requires-in-Ok-clause-seat
+use_segment-requires-in-Ok-clause-seat g c = let k = c.requires.told in let e = c.args.edits.now.table in let d = with_next c.args.log.now.table c.args.written.segment in
+    let found = c.find_edits.ensures e (second_held c.args.seat.now.knows (writes d) (installed e) k.holds.turn.held) in
+    let goes = c.remember_renewal.ensures.goes d e (ap (λ (x : SeatState). x.knows.held) found.is ∙ k.holds.turn.held) in
+    ap (λ (x : SeatState). x.table) goes.same ∙ ap (λ (x : SeatState). x.table) found.is ∙ k.holds.turn.same_table
+
+pub remember_stop-requires-clause-seat : goal.remember_stop-requires-clause-seat
+remember_stop-requires-clause-seat g c = let k = c.requires.told in let e = c.args.edits.now.table in let d = with_next c.args.log.now.table c.args.written.segment in
+    let found = c.find_edits.ensures e (second_held c.args.seat.now.knows (writes d) (installed e) k.holds.turn.held) in
+    let goes = c.remember_tables_fault.ensures.goes d e (ap (λ (x : SeatState). x.knows.held) found.is ∙ k.holds.turn.held) in
+    ap (λ (x : SeatState). x.table) goes.same ∙ ap (λ (x : SeatState). x.table) found.is ∙ k.holds.turn.same_table

@@ -1,0 +1,411 @@
+//! A renewal of the log: it goes on in a segment that begins where the history ends.
+ghost use Rattle.std.specs.Prelude.{◌≡◌, ◌<◌, ℕ, true, false, List, [], ◌∷◌, ◌++◌, length, map, vec_capacity, Some, None, IfOk, IfErr, IfSome, OnOk};
+ghost use Rattle.std.specs.Arc.{arc_value};
+ghost use Rattle.std.specs.Option.{option_map};
+ghost use Rattle.wp_model.specs.declared.version.Version.{Version};
+ghost use Rattle.wp_model.specs.Legal.{undone_last};
+ghost use Rattle.wp_store.specs.Store.{with_newest};
+ghost use Rattle.wp_tableset.specs.Changes.{one_part};
+ghost use Rattle.wp_tableset.specs.Install.{IsReadyEdit};
+ghost use Rattle.wp_core.specs.Tables.{installed, writes};
+ghost use Rattle.wp_core.specs.Tables as table;
+ghost use Rattle.wp_core.specs.World.{World};
+ghost use Rattle.wp_rule.specs.Knows.{KnowsTables};
+ghost use Rattle.wp_shared.specs.Log.{IsSegmentOf};
+ghost use Rattle.wp_shared.specs.Stock.{store_table};
+ghost use Rattle.wp_shared.specs.Calls.{GoesOnAs};
+ghost use Rattle.wp_shared.specs.Notes.{no_fact, GoesOn};
+ghost use Rattle.wp_shared.specs.Seats.{IsFree, Stands};
+ghost use Rattle.wp_shared.specs.Turns.{HoldsTurn};
+ghost use Rattle.wp_maint.specs.Calls.{LeavesOnce};
+ghost use Rattle.wp_maint.specs.Flush.{versions_of};
+ghost use Rattle.wp_maint.specs.Holding.{is_of_tables, HoldsEdits};
+ghost use Rattle.wp_maint.specs.Installs.{AreLeft};
+ghost use Rattle.wp_maint.specs.Renewal.{HasFrozenAll, HoldsBoth, IsRefusedBefore, Renews, RenewsFrom, UnlessDeviceFault};
+ghost use Rattle.wp_maint.specs.Renewing.{HasCopiedAll, HasPlace, HasRoom, IsTold, LeavesSegment, MayPutAll, RenewsHolding, WritesTable};
+
+use crate::steps::{
+    find_closed, remember_log_fault, remember_renewal, remember_segment, remember_stop,
+    remember_tables_fault, use_segment,
+};
+use std::alloc::AllocError;
+use std::sync::{Arc, Wait};
+use wp_maint::{Frozen, RenewError, Renewed, find_edits, move_versions, note_frozen};
+use wp_model::{Seq, Versions};
+use wp_outside::Disk;
+use wp_shared::{Edits, Log, ReadySegment, Seat, Shared, Stock};
+use wp_table::Table;
+use wp_tableset::TableSetError;
+use wp_wal::{NewSegment, Written};
+
+/// All the memory that a renewal takes, before a device is called for it.
+#[derive(Drop)]
+struct Room {
+    frozen: Frozen,
+    /// What is frozen, as one list.
+    versions: Versions,
+    edit: ReadySegment,
+    segment: NewSegment,
+}
+
+/// Freezes what stands in memory, also where nothing does.
+fn freeze(stock: &mut Stock, at: Seq) -> Result<Frozen, AllocError>
+    ensures copied { IfOk result (HasCopiedAll (store_table stock.old) at) }
+    ensures same { store_table stock.new ≡ store_table stock.old }
+{
+    let parts = stock.freeze()?;
+    let tables = stock.copy_tables()?;
+    Ok(Frozen { at, parts, tables })
+}
+
+/// Freezes what stands in memory, under the store turn.
+fn freeze_in<D: Disk + Drop>(
+    store: &Shared<D>,
+    seat: &mut Seat<D>,
+    edits: &Edits<D>,
+    log: &Log<D>,
+    stock: &mut Stock,
+) -> Result<Frozen, AllocError>
+    requires holds { HoldsTurn store.now seat.old (table.store (store_table stock.old)) (writes log.now.table ∷ installed edits.now.table ∷ []) (0 ∷ 5 ∷ []) }
+    requires pending { log.now.table.pending ≡ [] }
+    requires seen { seat.old.knows.participant.seen ≡ log.now.table.history }
+    requires settled { KnowsTables seat.old.knows edits.now.table.last }
+    requires stands { (w : World) × Stands store.now seat.old w }
+    ensures goes { GoesOn no_fact seat.old.knows.held seat.old.turns seat.old seat.new }
+    ensures same { store_table stock.new ≡ store_table stock.old }
+    ensures frozen { IfOk result (HasFrozenAll seat.new.knows edits.now.table) }
+{
+    let frozen = freeze(stock, log.published())?;
+    note_frozen(store, seat, edits, stock, &frozen);
+    Ok(frozen)
+}
+
+/// Freezes what stands in memory, under the store turn, which is taken for it.
+fn freeze_held<D: Disk + Drop, R: Wait>(
+    store: &Shared<D>,
+    rt: &R,
+    seat: &mut Seat<D>,
+    edits: &Edits<D>,
+    log: &Log<D>,
+) -> Result<Frozen, AllocError>
+    requires holds { HoldsBoth store.now seat.old edits.now log.now log.now.table }
+    requires settled { KnowsTables seat.old.knows edits.now.table.last }
+    requires seen { (seat.old.knows.participant.seen ≡ log.now.table.history) × (log.now.table.pending ≡ []) }
+    ensures goes { GoesOn no_fact seat.old.knows.held seat.old.turns seat.old seat.new }
+    ensures frozen { IfOk result (HasFrozenAll seat.new.knows edits.now.table) }
+    ensures stands { (w : World) × Stands store.now seat.new w }
+{
+    let mut stock = store.take_turn::<Stock, R>(rt, seat);
+    let frozen = freeze_in(store, seat, edits, log, &mut stock);
+    store.give_turn::<Stock>(seat, stock);
+    frozen
+}
+
+/// Takes all the memory that the renewal needs.
+fn take_room<D: Disk + Drop, R: Wait>(
+    store: &Shared<D>,
+    rt: &R,
+    seat: &mut Seat<D>,
+    edits: &Edits<D>,
+    log: &Log<D>,
+) -> Result<Room, AllocError>
+    requires holds { HoldsBoth store.now seat.old edits.now log.now log.now.table }
+    requires settled { KnowsTables seat.old.knows edits.now.table.last }
+    requires seen { (seat.old.knows.participant.seen ≡ log.now.table.history) × (log.now.table.pending ≡ []) }
+    requires whole { undone_last log.now.table.history ≡ None }
+    ensures goes { GoesOn no_fact seat.old.knows.held seat.old.turns seat.old seat.new }
+    ensures room { IfOk result (λ room. HasRoom seat.new.knows edits.now log.now room.frozen room.versions room.edit room.segment) }
+    ensures stands { (w : World) × Stands store.now seat.new w }
+{
+    let frozen = freeze_held(store, rt, seat, edits, log)?;
+    let versions = frozen.parts.merged()?;
+    let edit = edits.ready(&versions, frozen.at)?;
+    let segment = log.segment()?;
+    Ok(Room {
+        frozen,
+        versions,
+        edit,
+        segment,
+    })
+}
+
+/// The tables with this one before them, if there is one.
+fn with_some(mut tables: Vec<Arc<Table>>, table: Option<Arc<Table>>) -> Vec<Arc<Table>>
+    requires { length tables.items < vec_capacity tables }
+    ensures { map arc_value result.items ≡ with_newest (option_map arc_value table) (map arc_value tables.items) }
+{
+    if let Some(table) = table {
+        tables.insert(0, table).unwrap();
+    }
+    tables
+}
+
+/// Puts the table in place of what is frozen, where readers look.
+fn put_table<D: Disk + Drop, R: Wait>(
+    store: &Shared<D>,
+    rt: &R,
+    seat: &mut Seat<D>,
+    edits: &Edits<D>,
+    log: &Log<D>,
+    frozen: Frozen,
+    table: Option<Arc<Table>>,
+)
+    requires holds { HoldsBoth store.now seat.old edits.now log.now log.now.table }
+    requires may { MayPutAll seat.old.knows edits.now.table frozen (option_map arc_value table) }
+    ensures goes { GoesOn is_of_tables (writes log.now.table ∷ installed edits.now.table ∷ []) seat.old.turns seat.old seat.new }
+    ensures settled { KnowsTables seat.new.knows edits.now.table.last }
+{
+    let Frozen {
+        at,
+        parts: _parts,
+        tables,
+    } = frozen;
+    let tables = with_some(tables, table);
+    let mut stock = store.take_turn::<Stock, R>(rt, seat);
+    stock.install_flushed(at, tables);
+    move_versions(store, seat, edits, &stock);
+    store.give_turn::<Stock>(seat, stock);
+}
+
+/// Writes the table, if there is one. Where the device failed the log is stopped.
+fn write_table<D: Disk + Drop>(
+    store: &Shared<D>,
+    seat: &mut Seat<D>,
+    edits: &mut Edits<D>,
+    log: &mut Log<D>,
+    edit: &mut ReadySegment,
+) -> Result<Option<Arc<Table>>, RenewError>
+    requires holds { HoldsBoth store.now seat.old edits.old log.old log.old.table }
+    requires running { (edits.old.table.halted ≡ false) × (log.old.table.closed ≡ false) × (log.old.table.pending ≡ []) }
+    requires ready { (versions : List Version) × (flushed : ℕ) × IsReadyEdit edits.old.set versions flushed edit.old.edit }
+    requires room { length edits.old.parts < edit.old.room }
+    ensures writes { WritesTable store.now seat.old edits.old log.old edit.old result seat.new edits.new log.new edit.new }
+    ensures table { IfOk result (λ table. option_map arc_value table ≡ option_map (λ built. built.versions) edit.old.edit.built) }
+{
+    edits.shows_told();
+    log.shows_told();
+    match edits.write_table(edit) {
+        Ok(table) => Ok(table),
+        Err(TableSetError::Memory) => Err(RenewError::Memory),
+        Err(TableSetError::Fault) => {
+            edits.shows_told();
+            find_edits(store, seat);
+            remember_tables_fault(store, seat, edits);
+            log.stop();
+            log.shows_told();
+            remember_stop(store, seat, edits, log);
+            Err(RenewError::TableFault)
+        }
+        Err(TableSetError::Halted) => unreachable!(),
+    }
+}
+
+/// Installs the edit that names the segment, and moves the log there. Where the device failed the log is stopped.
+fn install<D: Disk + Drop>(
+    store: &Shared<D>,
+    seat: &mut Seat<D>,
+    edits: &mut Edits<D>,
+    log: &mut Log<D>,
+    written: Written,
+    edit: ReadySegment,
+    versions: &Versions,
+    table: &Option<Arc<Table>>,
+) -> Result<(), RenewError>
+    requires told { IsTold store.now seat.old edits.old log.old written edit versions.now }
+    requires table { option_map arc_value table.now ≡ one_part versions.now }
+    ensures { LeavesSegment store.now seat.old edits.old log.old written edit versions.now result seat.new edits.new log.new }
+{
+    edits.shows_told();
+    log.shows_told();
+    find_edits(store, seat);
+    match edits.install_segment(edit, versions, table, written.segment()) {
+        Ok(()) => {
+            edits.shows_told();
+            remember_renewal(store, seat, edits, &written);
+            log.use_segment(written);
+            log.shows_told();
+            use_segment(store, seat, edits, log);
+            Ok(())
+        }
+        Err(_) => {
+            edits.shows_told();
+            remember_tables_fault(store, seat, edits);
+            log.stop_with(written);
+            log.shows_told();
+            remember_stop(store, seat, edits, log);
+            Err(RenewError::TableFault)
+        }
+    }
+}
+
+/// Writes the segment beside the log.
+fn write_segment<D: Disk + Drop>(
+    store: &Shared<D>,
+    seat: &mut Seat<D>,
+    edits: &Edits<D>,
+    log: &mut Log<D>,
+    segment: &NewSegment,
+) -> Result<Written, RenewError>
+    requires holds { HoldsBoth store.now seat.old edits.now log.old log.old.table }
+    requires running { (log.old.table.closed ≡ false) × (log.old.table.pending ≡ []) }
+    requires below { log.old.table.segment.base < length log.old.table.history }
+    requires whole { undone_last log.old.table.history ≡ None }
+    requires segment { IsSegmentOf log.old segment.now }
+    requires stands { (w : World) × Stands store.now seat.old w }
+    ensures { HasPlace store.now seat.old edits.now log.old result seat.new log.new }
+{
+    log.shows_told();
+    match log.write_segment(segment) {
+        Ok(written) => {
+            log.shows_told();
+            remember_segment(store, seat, edits, log, &written);
+            Ok(written)
+        }
+        Err(_) => {
+            log.shows_told();
+            find_edits(store, seat);
+            remember_log_fault(store, seat, edits, log);
+            Err(RenewError::LogFault)
+        }
+    }
+}
+
+/// Renews the log with the memory that was taken.
+fn renew_in<D: Disk + Drop, R: Wait>(
+    store: &Shared<D>,
+    rt: &R,
+    seat: &mut Seat<D>,
+    edits: &mut Edits<D>,
+    log: &mut Log<D>,
+    room: Room,
+) -> Result<Renewed, RenewError>
+    requires holds { HoldsBoth store.now seat.old edits.old log.old log.old.table }
+    requires running { (edits.old.table.halted ≡ false) × (log.old.table.closed ≡ false) × (log.old.table.pending ≡ []) }
+    requires coupled { edits.old.table.last.segment ≡ log.old.table.segment }
+    requires below { log.old.table.segment.base < length log.old.table.history }
+    requires whole { undone_last log.old.table.history ≡ None }
+    requires settled { KnowsTables seat.old.knows edits.old.table.last }
+    requires seen { (seat.old.knows.participant.seen ≡ log.old.table.history) × (log.old.table.log ≡ log.old.table.history) }
+    requires room { HasRoom seat.old.knows edits.old log.old room.frozen room.versions room.edit room.segment }
+    requires stands { (w : World) × Stands store.now seat.old w }
+    ensures { RenewsHolding (GoesOnAs seat.old seat.new) store.now seat.old edits.old log.old result seat.new edits.new log.new }
+{
+    let Room {
+        frozen,
+        versions,
+        mut edit,
+        segment,
+    } = room;
+    let done = Renewed {
+        at: frozen.at,
+        carried: log.undecided_count() as u64,
+    };
+    edits.shows_told();
+    log.shows_told();
+    let table = write_table(store, seat, edits, log, &mut edit)?;
+    edits.shows_told();
+    let written = write_segment(store, seat, edits, log, &segment)?;
+    log.shows_waiting(&written);
+    install(store, seat, edits, log, written, edit, &versions, &table)?;
+    put_table(store, rt, seat, edits, log, frozen, table);
+    Ok(done)
+}
+
+/// For the proof alone: the last edit names the segment in use; and with nothing pending the history ends with no undo, and the log spells it.
+fn shows_segment<D: Disk + Drop>(
+    store: &Shared<D>,
+    seat: &mut Seat<D>,
+    edits: &Edits<D>,
+    log: &Log<D>,
+)
+    requires { HoldsBoth store.now seat.old edits.now log.now log.now.table }
+    ensures same { seat.new ≡ seat.old }
+    ensures segment { edits.now.table.last.segment ≡ log.now.table.segment }
+    ensures whole { log.now.table.pending ≡ [] → (undone_last log.now.table.history ≡ None) × (log.now.table.log ≡ log.now.table.history) }
+{
+    let _ = edits;
+    log.shows_told();
+    store.shows_world(seat);
+}
+
+/// Renews the log, under both turns, where no device of the tables has failed.
+fn renew_held<D: Disk + Drop, R: Wait>(
+    store: &Shared<D>,
+    rt: &R,
+    seat: &mut Seat<D>,
+    edits: &mut Edits<D>,
+    log: &mut Log<D>,
+) -> Result<Renewed, RenewError>
+    requires holds { HoldsBoth store.now seat.old edits.old log.old log.old.table }
+    requires running { edits.old.table.halted ≡ false }
+    requires seen { (seat.old.knows.participant.seen ≡ log.old.table.history) × (log.old.table.pending ≡ []) }
+    requires settled { KnowsTables seat.old.knows edits.old.table.last }
+    requires stands { (w : World) × Stands store.now seat.old w }
+    ensures { RenewsHolding (GoesOnAs seat.old seat.new) store.now seat.old edits.old log.old result seat.new edits.new log.new }
+{
+    if log.is_closed() {
+        find_edits(store, seat);
+        find_closed(store, seat, log);
+        return Err(RenewError::Stopped(log.published()));
+    }
+    log.shows_told();
+    shows_segment(store, seat, edits, log);
+    if log.base() == log.published() {
+        find_edits(store, seat);
+        return Err(RenewError::Nothing);
+    }
+    let room = take_room(store, rt, seat, edits, log)?;
+    renew_in(store, rt, seat, edits, log, room)
+}
+
+/// Renews the log, under the tables turn.
+fn renew_tables<D: Disk + Drop, R: Wait>(
+    store: &Shared<D>,
+    rt: &R,
+    seat: &mut Seat<D>,
+    edits: &mut Edits<D>,
+) -> Result<Renewed, RenewError>
+    requires holds { HoldsEdits store.now seat.old edits.old }
+    requires settled { KnowsTables seat.old.knows edits.old.table.last }
+    ensures holds { HoldsEdits store.now seat.new edits.new }
+    ensures settled { KnowsTables seat.new.knows edits.new.table.last }
+    ensures says { RenewsFrom (GoesOnAs seat.old seat.new) store.now seat.old edits.old.table result seat.new }
+    ensures manifest { IfErr result (UnlessDeviceFault (AreLeft edits.old edits.new)) }
+{
+    if edits.is_halted() {
+        find_edits(store, seat);
+        return Err(RenewError::TablesStopped(edits.flushed()));
+    }
+    let mut log = store.take_log(rt, seat);
+    let result = renew_held(store, rt, seat, edits, &mut log);
+    log.shows_told();
+    store.give_turn::<Log<D>>(seat, log);
+    result
+}
+
+/// Makes the published number the base of the log: writes what stands in memory to one table more, and a segment that carries the
+/// undecided prepares, beside the log or over what is dead of it; and installs an edit that names both. Writers wait meanwhile, readers
+/// do not. What is in the log before is dead from then on, and opening reads no entry up to the base.
+///
+/// All memory is taken before the first call of a device, but what readers share of the table. With versions in memory the tables'
+/// device is asked for its length, written and synced. Unless the segment goes to the beginning of the log's device, that is asked for
+/// its length; it is written once and synced. Last the manifest's is called as for any edit.
+///
+/// After a fault of a device of the tables the store is halted, and the log is stopped. After one of the log's device that is stopped
+/// alone: a flush and a compaction go on with the segment in use.
+pub fn renew<D: Disk + Drop, R: Wait>(
+    store: &Shared<D>,
+    rt: &R,
+    seat: &mut Seat<D>,
+) -> Result<Renewed, RenewError>
+    requires { IsFree store.now.table seat.old }
+    ensures answers { Renews store.now seat.old result seat.new }
+    ensures before_install { IfErr result (λ why. IsRefusedBefore (LeavesOnce store.now seat.old seat.new) seat.old why seat.new) }
+{
+    let mut edits = store.take_turn::<Edits<D>, R>(rt, seat);
+    edits.shows_told();
+    let result = renew_tables(store, rt, seat, &mut edits);
+    edits.shows_told();
+    store.give_turn::<Edits<D>>(seat, edits);
+    result
+}
