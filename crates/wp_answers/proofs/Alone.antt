@@ -17,4 +17,5 @@ pub mod TablesFound
 pub mod Flushing
 pub mod Retained
 pub mod Compacting
+pub mod Renewing
 pub mod Stores

@@ -61,7 +61,7 @@ module _ {D : Type 0} (z : SharedState D) (old new : SeatState) (name : List ℕ
   pub begun_answers : (txn : OpenState) → Begins z old name (Ok txn) new → IsAnswered z old new me (having (Open txn.name txn.batch) snapshots) (command.Begin name) reply.Begun
   begun_answers txn k = (
     else_answers z old new _ (remembering (claimed name ∷ []) (with_transaction name no_changes it)) (claimed name ∷ []) me (having (Open txn.name txn.batch) snapshots) (command.Begin name) reply.Begun 0 k.2 refl refl refl
-        (record { acknowledges = refl; tables = λ before. refl; labels = λ before. refl; log_failed = refl; tables_failed = refl; once = omega arith; remembered = tt; explained = of_one (IsExplained it.client Idle (command.Begin name) (Some reply.Begun)) (claimed name) (itself name) })
+        (record { acknowledges = refl; tables = λ before. refl; labels = λ before. refl; log_failed = refl; log_stopped = refl; tables_failed = refl; once = omega arith; remembered = tt; explained = of_one (IsExplained it.client Idle (command.Begin name) (Some reply.Begun)) (claimed name) (itself name) })
         (ap (λ (x : OpenState). having (Open x.name x.batch) snapshots) k.0) (λ before low. low) (λ first is_first before p e agrees. tt),
     λ world stands only first is_first store so. begun_alone z first old new only store so (world, stands) snapshots name txn k,
   )
@@ -71,7 +71,7 @@ module _ {D : Type 0} (z : SharedState D) (old new : SeatState) (name : List ℕ
   taken_answers has other same f =
       let account : Account = account_of it f.world.locks f.published None (holder.Txn name) in let event : Event = found None (holder.Txn name) (length it.seen) account in
       else_answers z old new _ (remembering (event ∷ []) it) (event ∷ []) me me (command.Begin name) (reply.Taken other) 0 f.goes_on refl refl refl
-      (record { acknowledges = refl; tables = λ before. refl; labels = λ before. refl; log_failed = refl; tables_failed = refl; once = omega arith; remembered = tt; explained = of_one (IsExplained it.client Idle (command.Begin name) (Some (reply.Taken other))) event tt })
+      (record { acknowledges = refl; tables = λ before. refl; labels = λ before. refl; log_failed = refl; log_stopped = refl; tables_failed = refl; once = omega arith; remembered = tt; explained = of_one (IsExplained it.client Idle (command.Begin name) (Some (reply.Taken other))) event tt })
       refl (λ before low. low)
       (λ first is_first before p e agrees. (same, found_taken e before.last name it f.world.locks f.published p.last has.direct (has.only name refl) (agrees.past event (in_past event f.goes_on))))
 
@@ -108,7 +108,7 @@ module _ {D : Type 0} (z : SharedState D) (old new : SeatState) (name : List ℕ
   took_beside : (txn : PreparedState) → Takes z old name txn new → Answers z old new me (having (Prepared txn.number) snapshots) (command.Take name) reply.Took
   took_beside txn k =
       else_answers z old new _ (remembering (took name ∷ []) (with_transaction name k.has.transaction it)) (took name ∷ []) me (having (Prepared txn.number) snapshots) (command.Take name) reply.Took txn.number k.goes_on refl refl refl
-      (record { acknowledges = refl; tables = λ before. refl; labels = λ before. refl; log_failed = refl; tables_failed = refl; once = omega arith; remembered = tt; explained = of_one (IsExplained it.client Idle (command.Take name) (Some reply.Took)) (took name) (itself name) })
+      (record { acknowledges = refl; tables = λ before. refl; labels = λ before. refl; log_failed = refl; log_stopped = refl; tables_failed = refl; once = omega arith; remembered = tt; explained = of_one (IsExplained it.client Idle (command.Take name) (Some reply.Took)) (took name) (itself name) })
       refl (λ before low. low)
       (λ first is_first before p e agrees. was_undecided first before e p agrees)
     where
@@ -138,7 +138,7 @@ module _ {D : Type 0} (z : SharedState D) (old new : SeatState) (name : List ℕ
       let account : Account = account_of it f.world.locks f.published None (holder.Txn name) in let event : Event = found None (holder.Txn name) (length it.seen) account in
       let of_other : account ≡ another = account_is it f.world.locks f.published None (holder.Txn name) (ap (λ (x : Option Transaction). is_some x) (has.only name refl)) ∙ ap (account_by f.published) k.2.1 in
       else_answers z old new _ (remembering (event ∷ []) it) (event ∷ []) me me (command.Take name) (reply.InUse other) 0 f.goes_on refl refl refl
-      (record { acknowledges = refl; tables = λ before. refl; labels = λ before. refl; log_failed = refl; tables_failed = refl; once = omega arith; remembered = tt; explained = of_one (IsExplained it.client Idle (command.Take name) (Some (reply.InUse other))) event tt })
+      (record { acknowledges = refl; tables = λ before. refl; labels = λ before. refl; log_failed = refl; log_stopped = refl; tables_failed = refl; once = omega arith; remembered = tt; explained = of_one (IsExplained it.client Idle (command.Take name) (Some (reply.InUse other))) event tt })
       refl (λ before low. low)
       (λ first is_first before p e agrees. (k.0, subst (KnowsHolder e None (holder.Txn name) (length it.seen)) of_other (agrees.past event (in_past event f.goes_on))))
 

@@ -1,13 +1,13 @@
 -- What a client is answered that compacts.
-use Rattle.std.proofs.Common.{◌≡◌, inl, inr, ℕ, ◌≤◌, ◌<◌, true, List, [], ◌∷◌, ◌++◌, length, map, take, Option, Some, None, refl, sym, subst, ap, ◌∙◌, arith, ◌==◌, eq-eqb}
+use Rattle.std.proofs.Common.{◌≡◌, inl, inr, ℕ, ◌≤◌, ◌<◌, true, List, [], ◌∷◌, ◌++◌, length, map, take, drop, Option, Some, None, refl, sym, subst, ap, ◌∙◌, arith, ◌==◌, eq-eqb}
 use Rattle.std.specs.Prelude.{slice_index_or, Result, Ok, Err, IfSome, min, nat_lt}
 use Rattle.std.specs.List.{Contains, list_any}
 use Rattle.std.proofs.lemmas.Bool.{cases_Bool, eqb-true}
 use Rattle.std.proofs.lemmas.Bool.Decides.{nat_tests}
-use Rattle.std.proofs.lemmas.List.{length-take-le}
+use Rattle.std.proofs.lemmas.List.{take-append-drop, length-take-le}
 use Rattle.std.proofs.lemmas.List.Folds.{list_any_at}
 use Rattle.wp_model.specs.declared.entry.Entry.{Entry}
-use Rattle.wp_model.specs.Flushed.{InstalledEdit, later_versions}
+use Rattle.wp_model.specs.Flushed.{InstalledEdit}
 use Rattle.wp_model.specs.Snapshots.{Snapshots, IsLive}
 use Rattle.wp_text.specs.declared.script.Command.TheVariants as command
 use Rattle.wp_text.specs.declared.reply.Reply.{Reply}
@@ -32,8 +32,9 @@ use Rattle.wp_maint.specs.declared.error.MaintError.TheVariants.{Memory, Nothing
 use Rattle.wp_maint.specs.Calls.{found_by, FewTables, SeveralTables, HasPinned, IsCompactionOf, Compacts}
 use Rattle.wp_replies.specs.Client.{Client, numbers_of}
 use Rattle.wp_replies.specs.Progress.{Progress}
-use Rattle.wp_replies.specs.Replies.{Evidence, OtherCompacted, IsKnown, HasNothingToMerge, FailsCompaction}
-use Rattle.wp_replies.specs.Tables.{after_compaction}
+use Rattle.wp_replies.specs.Replies.{Evidence, OtherCompacted, IsKnown, IsCompactionCount, HasNothingToMerge, FailsCompaction}
+use Rattle.wp_replies.specs.Tables.{listed, after_compaction}
+use Rattle.wp_replies.proofs.Rows.{compaction_count_more}
 use Rattle.wp_answers.proofs.Alone.Retained.{numbers_in}
 use Rattle.wp_answers.proofs.Alone.Compacting.{compacted_alone, nothing_compacted_alone, compact_failed_alone, compact_halted_alone}
 use Rattle.wp_answers.specs.Agrees.{Agrees}
@@ -51,6 +52,15 @@ use Rattle.wp_answers.proofs.Staying.{holds_still, keeps_holds, broke_off}
 among_contains : (xs : List ℕ) (n : ℕ) → Contains xs n → list_any (λ m. m == n) xs ≡ true
 among_contains xs n k = list_any_at (λ m. m == n) xs k.0 n k.1 (eq-eqb (slice_index_or xs k.0 n) n k.2)
 
+-- a number that passes is in the list
+any_in : (xs : List ℕ) (n : ℕ) → list_any (λ m. m == n) xs ≡ true → IsIn n xs
+any_in [] n there = absurd cc
+any_in (x ∷ xs) n there =
+    elim (cases_Bool (x == n)) [
+      | inl same ↦ inl (eqb-true x n same)
+      | inr differs ↦ inr (any_in xs n (rw differs at there))
+    ]
+
 -- a number is that of one of them
 number_there : (xs : List HeldSnapshot) (n : ℕ) → list_any (λ m. m == n) (numbers_of (map labelled xs)) ≡ true → (front : List HeldSnapshot) × (s : HeldSnapshot) × (back : List HeldSnapshot) × (xs ≡ front ++ s ∷ back) × (s.snapshot.number ≡ n)
 number_there [] n there = absurd cc
@@ -64,6 +74,14 @@ number_there (x ∷ xs) n there =
 numbers_held : (xs : List HeldSnapshot) → numbers_in (map snapshot_of xs) ≡ numbers_of (map labelled xs)
 numbers_held [] = refl
 numbers_held (x ∷ xs) = ap (λ (ns : List ℕ). x.snapshot.number ∷ ns) (numbers_held xs)
+
+-- what is counted of the first entries that were seen is counted of the history
+count_seen : (history seen : List Entry) (base at versions : ℕ) → StartsWith history seen → at ≤ length seen → base ≤ at → IsCompactionCount (take at seen) base at versions → IsCompactionCount history base at versions
+count_seen history seen base at versions starts within low few =
+    let size : length (take at seen) ≡ at = length-take-le at seen within in
+    let front : take at history ++ drop at history ≡ history = take-append-drop at history in
+    subst (λ (h : List Entry). IsCompactionCount h base at versions) (ap (λ (h : List Entry). h ++ drop at history) (sym (taken_old history seen at starts within)) ∙ front)
+    (compaction_count_more (take at seen) (drop at history) base at versions (omega (arith, size, low)) (omega (arith, size)) few)
 
 module _ {D : Type 0} (z : SharedState D) (old new : SeatState) where
   abbrev it : Participant
@@ -81,13 +99,14 @@ module _ {D : Type 0} (z : SharedState D) (old new : SeatState) where
   module _ (client : Client) where
     compacted_beside : (done : Done) → Compacts z old (Ok done) new → Answers z old new client client command.Compact (reply.Compacted done.at done.versions)
     compacted_beside done (t, k) =
-        let edit = after_compaction (take done.at seen) k.live t.last in let event : Event = found_by z old new t k.found in let made : Event = installed edit true in let bounds = floor_within done.at k.live k.pinned in
+        let edit = after_compaction (take done.at seen) (listed k.live k.first.segment.base t.last) t.last in let event : Event = found_by z old new t k.found in let made : Event = installed edit true in let bounds = floor_within done.at k.live k.pinned in
         tables_answers z old new command.Compact compaction_is client (reply.Compacted done.at done.versions) (event ∷ made ∷ []) k.goes_on
         (record {
           acknowledges = refl;
           tables = λ before. ap (λ (v : ℕ). min v 1) k.versions;
           labels = λ before. refl;
           log_failed = refl;
+          log_stopped = refl;
           tables_failed = refl;
           once = omega arith;
           remembered = tt;
@@ -96,7 +115,8 @@ module _ {D : Type 0} (z : SharedState D) (old new : SeatState) where
         refl (λ before low. bounds.1)
         (λ first is_first before p e agrees. let low = p.last in let from = bounds.0 in let to = bounds.1 in let high = shorter e.history seen agrees.seen in (
           (omega (arith, low, from), omega (arith, to, high)),
-          subst (λ (h : List Entry). done.versions ≤ length (later_versions h 0)) (sym (taken_old e.history seen done.at agrees.seen bounds.1)) k.few,
+          subst (λ (base : ℕ). IsCompactionCount e.history base done.at done.versions) (sym (agrees.base k.first k.is_first))
+              (count_seen e.history seen k.first.segment.base done.at done.versions agrees.seen bounds.1 k.low k.few),
         ))
 
     nothing_row : (t : Installed) (due : ℕ) → t.last.tables < 2 → (before : Progress) → before.tables ≡ due → (e : Evidence) → (t.last.tables < due → IsKnown e OtherCompacted) → HasNothingToMerge e before.tables
@@ -124,35 +144,36 @@ module _ {D : Type 0} (z : SharedState D) (old new : SeatState) where
         let before : IsLive k.pinned.before n = subst (IsLive k.pinned.before) place.4 (subst (λ (m : Snapshots). IsLive m s.number) taken.live was_live) in
         subst (λ (ns : List ℕ). list_any (λ m. m == n) ns ≡ true) (sym k.live_is) (among_contains (pins.numbers_of k.others) n ((k.pinned.are_live.each n).1 before))
 
-    fails_row : (t : Installed) (asked : Option InstalledEdit) → SeveralTables t.last → IfSome asked (IsCompactionOf (HasPinned z old new) new t.last) → StartsWith seen it.seen → (before : Progress) → before.last ≤ length it.seen → (e : Evidence) → Agrees e z new.knows.participant
-        → e.installed ≡ t.last → e.failed.edit ≡ asked → FailsCompaction e before.last (client_of h)
-    fails_row t None several next grown before low e agrees last failed = let more = shorter seen it.seen grown in record {
-      at = length seen;
-      fresh = (omega (arith, low, more), shorter e.history seen agrees.seen);
-      two = subst (λ (x : InstalledEdit). 2 ≤ x.tables) (sym last) several;
-      snapshots = numbers_of (client_of h).snapshots;
-      own = λ n there. there;
-      edit = subst (λ (o : Option InstalledEdit). IfSome o (λ edit. edit ≡ after_compaction (take (length seen) e.history) (numbers_of (client_of h).snapshots) e.installed)) (sym failed) tt;
-    }
-    fails_row t (Some edit) several next grown before low e agrees last failed = let bounds = floor_within next.floor next.live next.pinned in let from = bounds.0 in let to = bounds.1 in let high = shorter e.history seen agrees.seen in record {
-      at = next.floor;
-      fresh = (omega (arith, low, from), omega (arith, to, high));
-      two = subst (λ (x : InstalledEdit). 2 ≤ x.tables) (sym last) several;
-      snapshots = next.live;
-      own = own_live next.floor next.live next.pinned;
-      edit = subst (λ (o : Option InstalledEdit). IfSome o (λ edit. edit ≡ after_compaction (take next.floor e.history) next.live e.installed)) (sym failed)
-          (subst (λ (x : InstalledEdit). edit ≡ after_compaction (take next.floor e.history) next.live x) (sym last)
-          (subst (λ (hs : List Entry). edit ≡ after_compaction hs next.live t.last) (sym (taken_old e.history seen next.floor agrees.seen bounds.1)) next.edit_is));
-    }
+    fails_with : (t : Installed) (asked : Option InstalledEdit) (made : InstalledEdit) → SeveralTables t.last → (next : IsCompactionOf (HasPinned z old new) z new t.last made) → IfSome asked (λ edit. edit ≡ after_compaction (take next.floor seen) (listed next.live next.first.segment.base t.last) t.last)
+        → (before : Progress) → before.last ≤ length it.seen → (e : Evidence) → Agrees e z new.knows.participant → e.installed ≡ t.last → e.failed.edit ≡ asked → FailsCompaction e before.last (client_of h)
+    fails_with t asked made several next is before low e agrees last failed =
+        let bounds = floor_within next.floor next.live next.pinned in let from = bounds.0 in let to = bounds.1 in let high = shorter e.history seen agrees.seen in let base = agrees.base next.first next.is_first in record {
+          at = next.floor;
+          fresh = (omega (arith, low, from), omega (arith, to, high));
+          two = subst (λ (x : InstalledEdit). 2 ≤ x.tables) (sym last) several;
+          snapshots = next.live;
+          own = own_live next.floor next.live next.pinned;
+          from_base = λ n there. let least = next.from_base n (any_in next.live n there) in omega (arith, least, base);
+          edit = subst (λ (o : Option InstalledEdit). IfSome o (λ edit. edit ≡ after_compaction (take next.floor e.history) (listed next.live e.base e.installed) e.installed)) (sym failed)
+              (subst (λ (b : ℕ). IfSome asked (λ edit. edit ≡ after_compaction (take next.floor e.history) (listed next.live b e.installed) e.installed)) (sym base)
+              (subst (λ (x : InstalledEdit). IfSome asked (λ edit. edit ≡ after_compaction (take next.floor e.history) (listed next.live next.first.segment.base x) x)) (sym last)
+              (subst (λ (hs : List Entry). IfSome asked (λ edit. edit ≡ after_compaction hs (listed next.live next.first.segment.base t.last) t.last)) (sym (taken_old e.history seen next.floor agrees.seen bounds.1)) is)));
+        }
+
+    -- the edit that was asked for, or, where the device failed before, the one that was to be
+    fails_row : (t : Installed) (asked : Option InstalledEdit) (made : InstalledEdit) → SeveralTables t.last → IfSome asked (IsCompactionOf (HasPinned z old new) z new t.last) → IsCompactionOf (HasPinned z old new) z new t.last made
+        → (before : Progress) → before.last ≤ length it.seen → (e : Evidence) → Agrees e z new.knows.participant → e.installed ≡ t.last → e.failed.edit ≡ asked → FailsCompaction e before.last (client_of h)
+    fails_row t None made several next due = fails_with t None made several due tt
+    fails_row t (Some edit) made several next due = fails_with t (Some edit) edit several next next.edit_is
 
     not_compacted_beside : (why : MaintError) (r : Reply) → tables_refusal why ≡ Some r → Compacts z old (Err why) new → Answers z old new (client_of h) (client_of h) command.Compact r
     not_compacted_beside Memory r is f = absurd cc
     not_compacted_beside Nothing r is (t, k) = subst (Answers z old new (client_of h) (client_of h) command.Compact) (same_some reply.Nothing r is)
         (nothing_answers z old new command.Compact compaction_is (client_of h) t FewTables k
         (λ first is_first before p e agrees known. nothing_row (client_of h) t (tables_due k.found.world.first_edit it.past) k.idle before
-        (p.tables ∙ ap (λ (edit : InstalledEdit). tables_due edit it.past) (one_was_first content z.first first k.found.world.first_edit is_first k.found.there.first_edit)) e known.2))
+        (p.tables ∙ ap (λ (edit : InstalledEdit). tables_due edit it.past) (one_was_first content z.first first k.found.world.first_edit is_first k.found.there.first_edit)) e known.3))
     not_compacted_beside TableFault r is (t, k) = subst (Answers z old new (client_of h) (client_of h) command.Compact) (same_some reply.FaultTables r is)
-        (failed_answers z old new command.Compact compaction_is (client_of h) t (SeveralTables t.last) (IsCompactionOf (HasPinned z old new) new t.last) k (fails_row t k.asked k.busy k.next k.goes_on.seen))
+        (failed_answers z old new command.Compact compaction_is (client_of h) refl t (SeveralTables t.last) (IsCompactionOf (HasPinned z old new) z new t.last) k (fails_row t k.asked k.survives.0 k.busy k.next k.survives.1))
     not_compacted_beside (TablesStopped flushed) r is (t, k) = subst (Answers z old new (client_of h) (client_of h) command.Compact) (same_some (reply.Halted flushed) r is)
         (halted_answers z old new command.Compact compaction_is (client_of h) t flushed k)
 

@@ -66,7 +66,7 @@ module _ {D : Type 0} (z : SharedState D) (old new : SeatState) (snapshots : Lis
   pub prepared_answers : (txn : OpenState) (prepared : PreparedState) (n : ℕ) → Prepares z old txn prepared n new → IsAnswered z old new (having (Open txn.name txn.batch) snapshots) (having (Prepared prepared.number) snapshots) command.Prepare (reply.Prepared n)
   prepared_answers txn prepared n k = (
     one_answers z old new _ it it k.3.0 (entry.Prepare txn.name txn.batch) [] (having (Open txn.name txn.batch) snapshots) (having (Prepared prepared.number) snapshots) command.Prepare (reply.Prepared n) n k.3.1 k.0 refl refl (sym (append-nil it.past))
-        (record { acknowledges = refl; tables = λ before. refl; labels = λ before. refl; log_failed = refl; tables_failed = refl; once = omega arith; remembered = tt; explained = λ event there. absurd there })
+        (record { acknowledges = refl; tables = λ before. refl; labels = λ before. refl; log_failed = refl; log_stopped = refl; tables_failed = refl; once = omega arith; remembered = tt; explained = λ event there. absurd there })
         (ap (λ (x : PreparedState). having (Prepared x.number) snapshots) k.1) (λ before. refl) (λ before e logged. logged),
     λ world stands only first is_first store so. prepared_alone z first old new only store so (world, stands) snapshots txn prepared n k,
   )
@@ -77,7 +77,7 @@ module _ {D : Type 0} (z : SharedState D) (old new : SeatState) (snapshots : Lis
         → ((before : Progress) (e : Evidence) → IsLoggedAt e.history before.last n made → Allows e before (having t snapshots) 0 command.Commit (reply.Committed n)) → Answers z old new (having t snapshots) (having Idle snapshots) command.Commit (reply.Committed n)
     ended_answers t made k free row =
         one_answers z old new _ it (without_transaction name it) k.1.0 made [] (having t snapshots) (having Idle snapshots) command.Commit (reply.Committed n) n k.1.1 k.0 refl refl (sym (append-nil it.past))
-        (record { acknowledges = refl; tables = λ before. refl; labels = λ before. refl; log_failed = refl; tables_failed = refl; once = omega arith; remembered = tt; explained = λ event there. absurd there })
+        (record { acknowledges = refl; tables = λ before. refl; labels = λ before. refl; log_failed = refl; log_stopped = refl; tables_failed = refl; once = omega arith; remembered = tt; explained = λ event there. absurd there })
         refl (λ before. refl) row
 
   pub committed_now_answers : (txn : OpenState) (n : ℕ) → CommitsNow z old txn n new → IsAnswered z old new (having (Open txn.name txn.batch) snapshots) (having Idle snapshots) command.Commit (reply.Committed n)
@@ -103,7 +103,7 @@ module _ {D : Type 0} (z : SharedState D) (old new : SeatState) (snapshots : Lis
   pub dropped_answers : (txn : OpenState) → GivesUp z old new txn.name → IsAnswered z old new (having (Open txn.name txn.batch) snapshots) (having Idle snapshots) command.Rollback reply.Dropped
   dropped_answers txn goes = (
     given_up_answers txn.name (Open txn.name txn.batch) command.Rollback reply.Dropped goes
-        (record { acknowledges = refl; tables = λ before. refl; labels = λ before. refl; log_failed = refl; tables_failed = refl; once = omega arith; remembered = tt; explained = λ event there. absurd there })
+        (record { acknowledges = refl; tables = λ before. refl; labels = λ before. refl; log_failed = refl; log_stopped = refl; tables_failed = refl; once = omega arith; remembered = tt; explained = λ event there. absurd there })
         refl (λ before. refl) (λ e before. tt),
     λ world stands only first is_first store so. dropped_alone z first old new only store so (world, stands) snapshots txn goes,
   )
@@ -111,7 +111,7 @@ module _ {D : Type 0} (z : SharedState D) (old new : SeatState) (snapshots : Lis
   pub left_answers : (txn : PreparedState) → GivesUp z old new txn.name → IsAnswered z old new (having (Prepared txn.number) snapshots) (having Idle snapshots) command.Leave reply.Left
   left_answers txn goes = (
     given_up_answers txn.name (Prepared txn.number) command.Leave reply.Left goes
-        (record { acknowledges = refl; tables = λ before. refl; labels = λ before. refl; log_failed = refl; tables_failed = refl; once = omega arith; remembered = tt; explained = λ event there. absurd there })
+        (record { acknowledges = refl; tables = λ before. refl; labels = λ before. refl; log_failed = refl; log_stopped = refl; tables_failed = refl; once = omega arith; remembered = tt; explained = λ event there. absurd there })
         refl (λ before. refl) (λ e before. tt),
     λ world stands only first is_first store so. left_alone z first old new only store so (world, stands) snapshots txn goes,
   )
@@ -164,6 +164,7 @@ module _ {D : Type 0} (z : SharedState D) (old new : SeatState) (txn : PreparedS
         past = grown;
         explained = λ event there. absurd there;
         log_failed = refl;
+        log_stopped = refl;
         tables_failed = refl;
         once = omega arith;
         remembered = tt;

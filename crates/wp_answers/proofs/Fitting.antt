@@ -18,16 +18,17 @@ use Rattle.wp_txn.specs.Records.{numbers_behind}
 use Rattle.wp_rule.specs.Shows.{WasLast}
 use Rattle.wp_shared.specs.Parts.{content}
 use Rattle.wp_shared.specs.Calls.{ContinuesWith}
+use Rattle.wp_shared.proofs.Limits.{limit_within}
 use Rattle.wp_shared.specs.Seats.{SharedState, SeatState}
 use Rattle.wp_txn.specs.Writes.{HasPut}
 use Rattle.wp_replies.specs.declared.client.Txn.{Txn}
 use Rattle.wp_replies.specs.Client.{Client}
 use Rattle.wp_replies.specs.After.{after_reply}
-use Rattle.wp_replies.specs.Kind.{acknowledged, is_fault, is_tables_fault, last_after, tables_after}
+use Rattle.wp_replies.specs.Kind.{acknowledged, is_fault, is_tables_fault, is_renewal, stops_log, last_after, tables_after}
 use Rattle.wp_replies.specs.Progress.{Progress, heard_after, knows_label}
 use Rattle.wp_replies.specs.Replies.{Evidence, IsLoggedAt, Allows}
 use Rattle.wp_answers.specs.Agrees.{Agrees}
-use Rattle.wp_answers.specs.Alone.{log_faults, tables_faults}
+use Rattle.wp_answers.specs.Alone.{log_faults, device_faults, tables_faults}
 use Rattle.wp_answers.specs.Answers.{IsProgress, IsExplained, findings, IsRemembered, Answers}
 use Rattle.wp_answers.proofs.Staying.{in_place}
 use Rattle.wp_answers.proofs.Growing.{of_one, progress_by, last_still}
@@ -38,9 +39,10 @@ pub record Fits (c : Command) (r : Reply) (numbers : List ℕ) (events : List Ev
   pub acknowledges : acknowledged r ≡ numbers
   pub tables : (before : ℕ) → tables_after before r ≡ fold due_after before events
   pub labels : (before : List (List ℕ)) → heard_after before c r ≡ before
-  pub log_failed : log_faults events ≡ one_if (is_fault r)
+  pub log_failed : device_faults events ≡ one_if (is_fault r)
+  pub log_stopped : log_faults events ≡ one_if (stops_log c r)
   pub tables_failed : tables_faults events ≡ one_if (is_tables_fault r)
-  pub once : findings events ≤ 1
+  pub once : findings events ≤ 1 + one_if (is_renewal c)
   pub remembered : IsRemembered events r
   pub explained : (event : Event) → IsIn event events → IsExplained client txn c (Some r) event
 
@@ -66,7 +68,8 @@ own_number front seen entry n ends is =
 
 -- what was put ends within the limit
 pub last_within : {D : Type 0} (z : SharedState D) (old new : SeatState) {Kept : Fact → Type 0} {found after : Participant} {history entries : List Entry} → HasPut Kept z old new found after history entries → (n : ℕ) → n ≡ length new.knows.participant.seen → n ≤ z.limit
-last_within z old new put n is = let size = ap (λ (l : List Entry). length l) put.seen in let within = put.within in omega (arith, is, size, within)
+last_within z old new put n is =
+    let size = ap (λ (l : List Entry). length l) put.seen in let within = put.within in let most = limit_within z put.found_log.world.installed.last.segment.base in omega (arith, is, size, within, most)
 
 -- ---- replies
 
@@ -88,6 +91,7 @@ module _ {D : Type 0} (z : SharedState D) (old new : SeatState) where
     past = grown;
     explained = k.explained;
     log_failed = k.log_failed;
+    log_stopped = k.log_stopped;
     tables_failed = k.tables_failed;
     once = k.once;
     remembered = k.remembered;
@@ -114,6 +118,7 @@ module _ {D : Type 0} (z : SharedState D) (old new : SeatState) where
         past = grown;
         explained = k.explained;
         log_failed = k.log_failed;
+        log_stopped = k.log_stopped;
         tables_failed = k.tables_failed;
         once = k.once;
         remembered = k.remembered;

@@ -8,9 +8,11 @@ use Rattle.wp_core.proofs.Tests.{same_some}
 use Rattle.wp_shared.specs.Seats.{SharedState, SeatState}
 use Rattle.wp_maint.specs.declared.error.MaintError.{MaintError}
 use Rattle.wp_maint.specs.declared.error.MaintError.TheVariants.{Memory, Nothing, TableFault, TablesStopped}
+use Rattle.wp_maint.specs.declared.renewed.RenewError.{RenewError}
+use Rattle.wp_maint.specs.declared.renewed.RenewError.TheVariants as renewal
 use Rattle.wp_replies.specs.Plan.{read_reply}
 use Rattle.wp_answers.specs.Fresh.{WasPublished, NamesPublished}
-use Rattle.wp_answers.specs.Replies.{own_reply, tables_refusal}
+use Rattle.wp_answers.specs.Replies.{own_reply, renewal_refusal, tables_refusal}
 
 module _ {D : Type 0} (z : SharedState D) (old new : SeatState) where
   -- the client's own transaction answers
@@ -36,3 +38,12 @@ tables_refused P nothing failed halted Memory r is = absurd cc
 tables_refused P nothing failed halted Nothing r is = subst P (same_some reply.Nothing r is) nothing
 tables_refused P nothing failed halted TableFault r is = subst P (same_some reply.FaultTables r is) failed
 tables_refused P nothing failed halted (TablesStopped flushed) r is = subst P (same_some (reply.Halted flushed) r is) (halted flushed)
+
+-- ... and those of a renewal
+pub renewal_refused : (P : Reply → Type 0) → P reply.Nothing → P reply.FaultTables → P reply.FaultLog → ((n : ℕ) → P (reply.Stopped n)) → ((flushed : ℕ) → P (reply.Halted flushed)) → (why : RenewError) (r : Reply) → renewal_refusal why ≡ Some r → P r
+renewal_refused P nothing failed failed_log stopped halted renewal.Memory r is = absurd cc
+renewal_refused P nothing failed failed_log stopped halted renewal.Nothing r is = subst P (same_some reply.Nothing r is) nothing
+renewal_refused P nothing failed failed_log stopped halted renewal.TableFault r is = subst P (same_some reply.FaultTables r is) failed
+renewal_refused P nothing failed failed_log stopped halted renewal.LogFault r is = subst P (same_some reply.FaultLog r is) failed_log
+renewal_refused P nothing failed failed_log stopped halted (renewal.Stopped n) r is = subst P (same_some (reply.Stopped n) r is) (stopped n)
+renewal_refused P nothing failed failed_log stopped halted (renewal.TablesStopped flushed) r is = subst P (same_some (reply.Halted flushed) r is) (halted flushed)

@@ -32,6 +32,11 @@ pub of_two : {X : Type 0} (P : X → Type 0) (x y : X) → P x → P y → (z : 
 of_two P x y first second z (inl same) = subst P same first
 of_two P x y first second z (inr there) = of_one P y second z there
 
+-- what is so of the only three
+pub of_three : {X : Type 0} (P : X → Type 0) (x y w : X) → P x → P y → P w → (z : X) → IsIn z (x ∷ y ∷ w ∷ []) → P z
+of_three P x y w first second third z (inl same) = subst P same first
+of_three P x y w first second third z (inr there) = of_two P y w second third z there
+
 -- so many entries of the history are the first ones of what was seen, where that has so many
 pub taken_old : (history seen : List Entry) (n : ℕ) → StartsWith history seen → n ≤ length seen → take n history ≡ take n seen
 taken_old history seen n starts low = ap (take n) starts.1 ∙ take-append-le n seen starts.0 low
@@ -44,7 +49,8 @@ seen_taken history seen starts = ap (take (length seen)) starts.1 ∙ take-appen
 pub agrees_before : {D : Type 0} (z : SharedState D) (e : Evidence) (p q : Participant) (events : List Event) → StartsWith q.seen p.seen → q.past ≡ p.past ++ events → Agrees e z q → Agrees e z p
 agrees_before z e p q events grown more a = record {
   seen = starts_on p.seen q.seen e.history grown a.seen;
-  limit = a.limit;
+  limits = a.limits;
+  base = a.base;
   past = λ event there. a.past event (subst (IsIn event) (sym more) (in_front event p.past events there));
 }
 

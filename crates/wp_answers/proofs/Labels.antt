@@ -62,6 +62,7 @@ module _ {D : Type 0} (z : SharedState D) (old new : SeatState) (label : List â„
     past = ap (Î» (p : Participant). p.past) goes.participant;
     explained = of_one (IsExplained it.client client.txn (command.Tell label) (Some (reply.Told n))) (told label n) (tells_itself label n);
     log_failed = refl;
+    log_stopped = refl;
     tables_failed = refl;
     once = omega arith;
     remembered = tt;
@@ -81,6 +82,7 @@ module _ {D : Type 0} (z : SharedState D) (old new : SeatState) (label : List â„
     past = ap (Î» (p : Participant). p.past) goes.participant;
     explained = of_one (IsExplained it.client client.txn (command.Hear label) (Some (reply.Heard n))) (heard label m) tt;
     log_failed = refl;
+    log_stopped = refl;
     tables_failed = refl;
     once = omega arith;
     remembered = tt;
@@ -108,6 +110,7 @@ module _ {D : Type 0} (z : SharedState D) (old new : SeatState) (label : List â„
     past = ap (Î» (p : Participant). p.past) goes.participant âˆ™ sym (append-nil it.past);
     explained = Î» event there. absurd there;
     log_failed = refl;
+    log_stopped = refl;
     tables_failed = refl;
     once = omega arith;
     remembered = tt;

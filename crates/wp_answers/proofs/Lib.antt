@@ -23,3 +23,4 @@ pub mod Places
 pub mod WholeClients
 pub mod Maintaining
 pub mod Compacting
+pub mod Renewing

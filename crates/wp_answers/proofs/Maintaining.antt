@@ -8,7 +8,7 @@ use Rattle.wp_text.specs.declared.script.Command.{Command}
 use Rattle.wp_text.specs.declared.script.Command.TheVariants as command
 use Rattle.wp_text.specs.declared.reply.Reply.{Reply}
 use Rattle.wp_text.specs.declared.reply.Reply.TheVariants as reply
-use Rattle.wp_core.specs.Lists.{IsIn}
+use Rattle.wp_core.specs.Lists.{IsIn, one_if}
 use Rattle.wp_core.specs.Sound.Actors.{StartsWith}
 use Rattle.wp_core.specs.Sound.Pasts.{tables_due}
 use Rattle.wp_core.specs.Tables.{Installed}
@@ -25,7 +25,7 @@ use Rattle.wp_maint.specs.declared.error.MaintError.{MaintError}
 use Rattle.wp_maint.specs.declared.error.MaintError.TheVariants.{Memory, Nothing, TableFault, TablesStopped}
 use Rattle.wp_maint.specs.Calls.{found_by, IsStopped, HasNothing, HasFailed, HasFlushed, NoneInMemory, Flushes}
 use Rattle.wp_replies.specs.Client.{Client}
-use Rattle.wp_replies.specs.Kind.{number_in, last_after}
+use Rattle.wp_replies.specs.Kind.{number_in, is_renewal, last_after}
 use Rattle.wp_replies.specs.Progress.{Progress, heard_after}
 use Rattle.wp_replies.specs.Replies.{Evidence, WasFlushed, IsKnown, IsHaltedAt, HasNothingToFlush, FailsFlush, refusal_of, Row, UnlessRefused}
 use Rattle.wp_replies.specs.After.{after_reply}
@@ -39,7 +39,7 @@ use Rattle.wp_answers.proofs.Fitting.{Fits, else_answers}
 use Rattle.wp_answers.proofs.Growing.{in_back, of_one, of_two, taken_old, seen_taken, last_still}
 use Rattle.wp_answers.proofs.Staying.{holds_still, keeps_holds, broke_off}
 
--- the command is no other than a flush or a compaction, as far as the client is concerned
+-- the command is no other than a flush, a compaction or a renewal, as far as the client is concerned
 pub record IsOfTables (c : Command) : Type 0 where
   pub free : (client : Client) → refusal_of client c ≡ None
   pub last : (before : ℕ) (r : Reply) → last_after before c r ≡ unwrap_or (number_in r) before
@@ -51,6 +51,9 @@ flush_is = record { free = λ client. refl; last = λ before r. refl; labels = �
 
 pub compaction_is : IsOfTables command.Compact
 compaction_is = record { free = λ client. refl; last = λ before r. refl; labels = λ before r. refl; halted = λ e before client flushed k. k }
+
+pub renewal_is : IsOfTables command.Renew
+renewal_is = record { free = λ client. refl; last = λ before r. refl; labels = λ before r. refl; halted = λ e before client flushed k. k }
 
 module _ {D : Type 0} (z : SharedState D) (old new : SeatState) where
   abbrev it : Participant
@@ -80,10 +83,10 @@ module _ {D : Type 0} (z : SharedState D) (old new : SeatState) where
         let event : Event = found_by z old new t k.found in
         let same : event ≡ found_edit flushed t.last.segment.base t.last.tables (tables_due k.found.world.first_edit it.past) true = λ i. found_edit (sym k.flushed_is i) t.last.segment.base t.last.tables (tables_due k.found.world.first_edit it.past) (k.halted i) in
         tables_answers (reply.Halted flushed) (event ∷ []) k.goes_on
-        (record { acknowledges = refl; tables = λ before. refl; labels = λ before. of.labels before (reply.Halted flushed); log_failed = refl; tables_failed = refl; once = omega arith; remembered = (t.last.segment.base, t.last.tables, tables_due k.found.world.first_edit it.past, inl same); explained = of_one (IsExplained it.client client.txn c (Some (reply.Halted flushed))) event tt })
+        (record { acknowledges = refl; tables = λ before. refl; labels = λ before. of.labels before (reply.Halted flushed); log_failed = refl; log_stopped = refl; tables_failed = refl; once = omega arith; remembered = (t.last.segment.base, t.last.tables, tables_due k.found.world.first_edit it.past, inl same); explained = of_one (IsExplained it.client client.txn c (Some (reply.Halted flushed))) event tt })
         refl (λ before low. low)
         (λ first is_first before p e agrees. let known = known_of (event ∷ []) k.goes_on e agrees event (inl refl) in
-        of.halted e before client flushed (subst (IsHaltedAt e) (sym k.flushed_is) (known.1 k.halted)))
+        of.halted e before client flushed (subst (IsHaltedAt e) (sym k.flushed_is) (known.2 k.halted)))
 
     -- there was nothing to do
     pub nothing_answers : (t : Installed) (Idle : InstalledEdit → Type 0) (k : HasNothing (Continues z old new) z old new t Idle)
@@ -91,18 +94,18 @@ module _ {D : Type 0} (z : SharedState D) (old new : SeatState) where
         → Answers z old new client client c reply.Nothing
     nothing_answers t Idle k row = let event : Event = found_by z old new t k.found in
         tables_answers reply.Nothing (event ∷ []) k.goes_on
-        (record { acknowledges = refl; tables = λ before. refl; labels = λ before. of.labels before reply.Nothing; log_failed = refl; tables_failed = refl; once = omega arith; remembered = tt; explained = of_one (IsExplained it.client client.txn c (Some reply.Nothing)) event tt })
+        (record { acknowledges = refl; tables = λ before. refl; labels = λ before. of.labels before reply.Nothing; log_failed = refl; log_stopped = refl; tables_failed = refl; once = omega arith; remembered = tt; explained = of_one (IsExplained it.client client.txn c (Some reply.Nothing)) event tt })
         refl (λ before low. low)
         (λ first is_first before p e agrees. row first is_first before p e agrees (known_of (event ∷ []) k.goes_on e agrees event (inl refl)))
 
-    -- a device failed
-    pub failed_answers : (t : Installed) (Busy : Type 0) (IsNext : InstalledEdit → Type 0) (k : HasFailed (Continues z old new) z old new t Busy IsNext)
+    -- a device failed, and the log takes entries on
+    pub failed_answers : is_renewal c ≡ false → (t : Installed) (Busy : Type 0) (IsNext : InstalledEdit → Type 0) (k : HasFailed (Continues z old new) z old new t Busy IsNext)
         → ((before : Progress) → before.last ≤ length it.seen → (e : Evidence) → Agrees e z new.knows.participant → e.installed ≡ t.last → e.failed.edit ≡ k.asked → Row e before client 0 c reply.FaultTables)
         → Answers z old new client client c reply.FaultTables
-    failed_answers t Busy IsNext k row =
+    failed_answers other t Busy IsNext k row =
         let event : Event = found_by z old new t k.found in let fault : Event = tables_failed t.last k.asked in
         tables_answers reply.FaultTables (event ∷ fault ∷ []) k.goes_on
-        (record { acknowledges = refl; tables = λ before. refl; labels = λ before. of.labels before reply.FaultTables; log_failed = refl; tables_failed = refl; once = omega arith; remembered = tt; explained = of_two (IsExplained it.client client.txn c (Some reply.FaultTables)) event fault tt tt })
+        (record { acknowledges = refl; tables = λ before. refl; labels = λ before. of.labels before reply.FaultTables; log_failed = refl; log_stopped = ap one_if (sym other); tables_failed = refl; once = omega arith; remembered = tt; explained = of_two (IsExplained it.client client.txn c (Some reply.FaultTables)) event fault tt tt })
         refl (λ before low. low)
         (λ first is_first before p e agrees. let known = known_of (event ∷ fault ∷ []) k.goes_on e agrees fault (inr (inl refl)) in
         row before p.last e agrees known.0 known.1)
@@ -132,6 +135,7 @@ module _ {D : Type 0} (z : SharedState D) (old new : SeatState) where
           tables = λ before. omega arith;
           labels = λ before. refl;
           log_failed = refl;
+          log_stopped = refl;
           tables_failed = refl;
           once = omega arith;
           remembered = (edit, sym k.at, inr (inl refl));
@@ -164,7 +168,7 @@ module _ {D : Type 0} (z : SharedState D) (old new : SeatState) where
         (nothing_answers command.Flush flush_is client t (NoneInMemory seen) k
         (λ first is_first before p e agrees known. nothing_row t k.idle before (last_still first it new.knows.participant before k.goes_on.seen p) e agrees known.0))
     not_flushed_beside TableFault r is (t, (whole, k)) = subst (Answers z old new client client command.Flush) (same_some reply.FaultTables r is)
-        (failed_answers command.Flush flush_is client t (1 ≤ length (unflushed seen t.last)) (λ edit. edit ≡ after_flush seen t.last) k (fails_row t k.asked k.busy k.next k.goes_on.seen))
+        (failed_answers command.Flush flush_is client refl t (1 ≤ length (unflushed seen t.last)) (λ edit. edit ≡ after_flush seen t.last) k (fails_row t k.asked k.busy k.next k.goes_on.seen))
     not_flushed_beside (TablesStopped flushed) r is (t, k) = subst (Answers z old new client client command.Flush) (same_some (reply.Halted flushed) r is)
         (halted_answers command.Flush flush_is client t flushed k)
 

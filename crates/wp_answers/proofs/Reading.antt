@@ -23,12 +23,13 @@ use Rattle.wp_txn.specs.Calls.{Keeps}
 use Rattle.wp_replies.specs.declared.client.LabelledSnapshot.{LabelledSnapshot}
 use Rattle.wp_replies.specs.Client.{Client, own_batch, number_of}
 use Rattle.wp_replies.specs.After.{after_reply}
-use Rattle.wp_replies.specs.Kind.{acknowledged, is_fault, is_tables_fault, last_after, tables_after}
+use Rattle.wp_replies.specs.Kind.{acknowledged, kind, is_fault, is_tables_fault, is_renewal, last_after, tables_after}
 use Rattle.wp_replies.specs.Plan.{read_reply}
 use Rattle.wp_replies.specs.Progress.{Progress, heard_after}
 use Rattle.wp_replies.specs.Replies.{Evidence, TxnIsWithin, OwnSays, IsFresh, Row, Allows, UnlessRefused, unless_labelled}
 use Rattle.wp_replies.specs.Due.{Store}
 use Rattle.wp_answers.specs.Alone.{IsOnly, IsStoreOf}
+use Rattle.wp_answers.proofs.Alone.Quiet.{never_stops}
 use Rattle.wp_answers.proofs.Alone.ReadKeys.{prepared_changes, got_own_alone, missing_own_alone, read_alone, read_at_alone, unknown_snapshot_alone}
 use Rattle.wp_answers.specs.declared.holdings.HeldTxn.{HeldTxn}
 use Rattle.wp_answers.specs.declared.holdings.HeldTxn.TheVariants as held
@@ -61,7 +62,7 @@ pub keeps_answers : {D : Type 0} (z : SharedState D) (old new : SeatState) (was 
     → Answers z old new was now c r
 keeps_answers z old new was now c r goes quiet is low allowed =
     else_answers z old new _ old.knows.participant [] was now c r 0 goes refl refl (sym (append-nil old.knows.participant.past))
-    (record { acknowledges = quiet.acknowledges; tables = quiet.tables; labels = quiet.labels; log_failed = ap one_if (sym quiet.log_failed); tables_failed = ap one_if (sym quiet.tables_failed); once = omega arith; remembered = quiet.remembered; explained = λ event there. absurd there })
+    (record { acknowledges = quiet.acknowledges; tables = quiet.tables; labels = quiet.labels; log_failed = ap one_if (sym quiet.log_failed); log_stopped = ap one_if (sym (never_stops (is_renewal c) (kind r) quiet.log_failed quiet.tables_failed)); tables_failed = ap one_if (sym quiet.tables_failed); once = omega arith; remembered = quiet.remembered; explained = λ event there. absurd there })
     is low allowed
 
 -- ---- what the history has

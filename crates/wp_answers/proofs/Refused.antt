@@ -1,5 +1,5 @@
 -- What a client is answered whose command the log does not take.
-use Rattle.std.proofs.Common.{◌≡◌, ⊎_elim, ℕ, ◌+◌, ◌≤◌, List, [], ◌∷◌, ◌++◌, length, Option, Some, None, refl, sym, subst, ap, ◌∙◌, append_assoc, arith}
+use Rattle.std.proofs.Common.{◌≡◌, ⊎_elim, inl, inr, ℕ, ◌+◌, ◌≤◌, List, [], ◌∷◌, ◌++◌, length, Option, Some, None, refl, sym, subst, ap, ◌∙◌, append_assoc, arith}
 use Rattle.std.specs.Prelude.{unwrap_or}
 use Rattle.wp_model.specs.declared.entry.Entry.{Entry}
 use Rattle.wp_model.specs.Flushed.{InstalledEdit}
@@ -15,6 +15,7 @@ use Rattle.wp_core.proofs.KeepsSeen.{shorter}
 use Rattle.wp_core.proofs.PastsGrow.{in_last, in_either, total_more}
 use Rattle.wp_core.proofs.Tests.{same_some}
 use Rattle.wp_shared.specs.Calls.{Continues, remembering}
+use Rattle.wp_shared.proofs.Limits.{limit_either}
 use Rattle.wp_shared.specs.Seats.{SharedState, SeatState}
 use Rattle.wp_txn.specs.declared.error.TxnError.{TxnError}
 use Rattle.wp_txn.specs.declared.error.TxnError.TheVariants.{Memory, Taken, Busy, TooMany, Silent, Unknown, InUse, NumbersFull, LogFault, Stopped}
@@ -22,12 +23,13 @@ use Rattle.wp_txn.specs.Writes.{Refuses}
 use Rattle.wp_replies.specs.Client.{Client}
 use Rattle.wp_replies.specs.Kind.{number_in, fresh_in, last_after}
 use Rattle.wp_replies.specs.Progress.{Progress, heard_after}
-use Rattle.wp_replies.specs.Replies.{Evidence, refusal_of, needed, AsksFor, IsFresh, Row, UnlessRefused, Allows}
+use Rattle.wp_replies.specs.Replies.{Limits, IsLimit, Evidence, refusal_of, needed, AsksFor, IsFresh, Row, UnlessRefused, Allows}
 use Rattle.wp_answers.specs.Agrees.{Agrees}
-use Rattle.wp_answers.specs.Alone.{log_faults, tables_faults}
+use Rattle.wp_answers.specs.Alone.{log_faults, device_faults, tables_faults}
 use Rattle.wp_answers.specs.Answers.{IsProgress, IsExplained, is_finding, findings, Answers}
 use Rattle.wp_answers.specs.Holdings.{HoldingsState, Holds}
 use Rattle.wp_answers.specs.Replies.{refusal}
+use Rattle.wp_answers.proofs.Alone.Published.{no_device_fault}
 use Rattle.wp_answers.proofs.Fitting.{else_answers}
 use Rattle.wp_answers.proofs.Growing.{InstallNothing, due_still, last_still}
 use Rattle.wp_answers.proofs.Staying.{holds_still}
@@ -84,6 +86,9 @@ module _ (front : List Event) (last : Event) where
   log_more : log_faults (front ++ last ∷ []) ≡ log_faults front + one_if (closes_log last)
   log_more = total_more (λ (e : Event). one_if (closes_log e)) front last
 
+  device_more : device_faults (front ++ last ∷ []) ≡ device_faults front + one_if (pasts.is_log_fault last)
+  device_more = total_more (λ (e : Event). one_if (pasts.is_log_fault e)) front last
+
   tables_more : tables_faults (front ++ last ∷ []) ≡ tables_faults front + one_if (pasts.is_tables_fault last)
   tables_more = total_more (λ (e : Event). one_if (pasts.is_tables_fault e)) front last
 
@@ -115,16 +120,22 @@ module _ {D : Type 0} (z : SharedState D) (old new : SeatState) (client : Client
     past_more : (last : Event) → after.past ++ last ∷ [] ≡ it.past ++ (front ++ last ∷ [])
     past_more last = ap (λ (es : List Event). es ++ last ∷ []) past ∙ append_assoc it.past front (last ∷ [])
 
+    is_limit : (e : Evidence) (published limit : ℕ) → Refuses z old new needs Asks found after (NumbersFull published limit) → Agrees e z new.knows.participant → IsLimit e limit
+    is_limit e published limit f agrees = elim (limit_either z f.2.world.installed.last.segment.base) [
+      | inl opened ↦ inl (f.3 ∙ (opened ∙ ap (λ (l : Limits). l.opened) (sym agrees.limits)))
+      | inr renewed ↦ inr (f.3 ∙ (renewed ∙ ap (λ (l : Limits). l.renewed) (sym agrees.limits)))
+    ]
+
     full_answers : (published limit : ℕ) → Refuses z old new needs Asks found after (NumbersFull published limit) → Answers z old new client client c (reply.Full published limit)
     full_answers published limit f =
         else_answers z old new _ after front client client c (reply.Full published limit) 0 f.4 same_client own past
-        (record { acknowledges = refl; tables = λ before. sym (k.quiet before); labels = λ before. logged.labels before (reply.Full published limit); log_failed = k.log_failed; tables_failed = k.tables_failed; once = (let none = k.none_found in omega (arith, none)); remembered = tt; explained = k.explained (reply.Full published limit) tt })
+        (record { acknowledges = refl; tables = λ before. sym (k.quiet before); labels = λ before. logged.labels before (reply.Full published limit); log_failed = no_device_fault front k.log_failed; log_stopped = k.log_failed; tables_failed = k.tables_failed; once = (let none = k.none_found in omega (arith, none)); remembered = tt; explained = k.explained (reply.Full published limit) tt })
         refl (same_last (reply.Full published limit) refl)
         (λ first is_first before p e agrees. by_row e before (reply.Full published limit) (
           (let n = logged.needs_is in let some = logged.some in omega (arith, n, some)),
           fresh_number first before e published after f.4 f.0 p agrees,
-          f.1 ∙ sym agrees.limit,
-          (let n = logged.needs_is in let low = f.2 in let is = f.1 in let same = agrees.limit in omega (arith, n, low, is, same)),
+          is_limit e published limit f agrees,
+          (let n = logged.needs_is in let low = f.1 in omega (arith, n, low)),
         ))
 
     stopped_answers : (n : ℕ) → Refuses z old new needs Asks found after (Stopped n) → Answers z old new client client c (reply.Stopped n)
@@ -134,7 +145,8 @@ module _ {D : Type 0} (z : SharedState D) (old new : SeatState) (client : Client
           acknowledges = refl;
           tables = λ before. sym (quiet_more front (stopped n) k.quiet (λ due. refl) before);
           labels = λ before. logged.labels before (reply.Stopped n);
-          log_failed = (let m = log_more front (stopped n) in let none = k.log_failed in omega (arith, m, none));
+          log_failed = (let m = device_more front (stopped n) in let none = no_device_fault front k.log_failed in omega (arith, m, none));
+          log_stopped = (let m = log_more front (stopped n) in let none = k.log_failed in omega (arith, m, none));
           tables_failed = (let m = tables_more front (stopped n) in let none = k.tables_failed in omega (arith, m, none));
           once = (let m = found_more front (stopped n) in let none = k.none_found in omega (arith, m, none));
           remembered = in_last (stopped n) front;
@@ -143,7 +155,7 @@ module _ {D : Type 0} (z : SharedState D) (old new : SeatState) (client : Client
         })
         refl (same_last (reply.Stopped n) refl)
         (λ first is_first before p e agrees. by_row e before (reply.Stopped n) (
-          (let m = logged.needs_is in let some = logged.some in omega (arith, m, some)),
+          inl (let m = logged.needs_is in let some = logged.some in omega (arith, m, some)),
           fresh_number first before e n (remembering (stopped n ∷ []) after) f.2 f.0 p agrees,
           agrees.past (stopped n) (subst (IsIn (stopped n)) (sym (ap (λ (q : Participant). q.past) f.2.participant)) (in_last (stopped n) after.past)),
         ))
@@ -155,7 +167,8 @@ module _ {D : Type 0} (z : SharedState D) (old new : SeatState) (client : Client
           acknowledges = refl;
           tables = λ before. sym (quiet_more front (log_failed entries) k.quiet (λ due. refl) before);
           labels = λ before. logged.labels before reply.FaultLog;
-          log_failed = (let m = log_more front (log_failed entries) in let none = k.log_failed in omega (arith, m, none));
+          log_failed = (let m = device_more front (log_failed entries) in let none = no_device_fault front k.log_failed in omega (arith, m, none));
+          log_stopped = (let m = log_more front (log_failed entries) in let none = k.log_failed in omega (arith, m, none));
           tables_failed = (let m = tables_more front (log_failed entries) in let none = k.tables_failed in omega (arith, m, none));
           once = (let m = found_more front (log_failed entries) in let none = k.none_found in omega (arith, m, none));
           remembered = tt;

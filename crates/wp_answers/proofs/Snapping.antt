@@ -143,7 +143,7 @@ module _ {D : Type 0} (z : SharedState D) (old new : SeatState) (h : HoldingsSta
       → Answers z old new (client_of h) (client_of with_it) (command.Snap s.label) (reply.Snapped s.snapshot.number)
   snapped_beside free goes is =
       else_answers z old new _ registering [] (client_of h) (client_of with_it) (command.Snap s.label) (reply.Snapped s.snapshot.number) 0 goes refl refl (sym (append-nil it.past))
-      (record { acknowledges = refl; tables = λ before. refl; labels = λ before. refl; log_failed = refl; tables_failed = refl; once = omega arith; remembered = tt; explained = λ event there. absurd there })
+      (record { acknowledges = refl; tables = λ before. refl; labels = λ before. refl; log_failed = refl; log_stopped = refl; tables_failed = refl; once = omega arith; remembered = tt; explained = λ event there. absurd there })
       (ap (λ (xs : List LabelledSnapshot). record { txn = txn_of h.txn; snapshots = xs }) (mapped_more labelled h.snapshots s))
       (λ before low. omega (arith, is))
       (λ first is_first before p e agrees. let low = last_still first it new.knows.participant before goes.seen p in let high = shorter e.history new.knows.participant.seen agrees.seen in
@@ -198,7 +198,7 @@ module _ {D : Type 0} (z : SharedState D) (old new : SeatState) (h : HoldingsSta
   freed_beside : Answers z old new (client_of h) (client_of without_one) (command.Free label) reply.Freed
   freed_beside =
       else_answers z old new _ (record old.knows.participant { registered = out.front ++ out.back }) [] (client_of h) (client_of without_one) (command.Free label) reply.Freed 0 out.goes_on refl refl (sym (append-nil old.knows.participant.past))
-      (record { acknowledges = refl; tables = λ before. refl; labels = λ before. refl; log_failed = refl; tables_failed = refl; once = omega arith; remembered = tt; explained = λ event there. absurd there })
+      (record { acknowledges = refl; tables = λ before. refl; labels = λ before. refl; log_failed = refl; log_stopped = refl; tables_failed = refl; once = omega arith; remembered = tt; explained = λ event there. absurd there })
       (ap (λ (xs : List LabelledSnapshot). record { txn = txn_of h.txn; snapshots = xs }) left_labels)
       (λ before low. low)
       (λ first is_first before p e agrees. subst (λ (o : Option ℕ). UnlessRefused (unless_labelled o label) reply.Freed (Row e before (client_of h) 0 (command.Free label) reply.Freed)) (sym (place_number h.snapshots label i at)) tt)

@@ -122,8 +122,8 @@ module _ (name : List ℕ) (batch : List Change) (snapshots : List LabelledSnaps
   held_explained (change.Del key) client = rw (itself name, itself key) refl
 
   held_fits : (b : Bool) (c : Change) (client : List ℕ) → Fits (asking c) reply.Held [] (locked_of b name (key_of c)) client (Open name batch)
-  held_fits true c client = record { acknowledges = refl; tables = λ before. refl; labels = λ before. labels_same c before reply.Held; log_failed = refl; tables_failed = refl; once = omega arith; remembered = tt; explained = λ event there. absurd there }
-  held_fits false c client = record { acknowledges = refl; tables = λ before. refl; labels = λ before. labels_same c before reply.Held; log_failed = refl; tables_failed = refl; once = omega arith; remembered = tt; explained = of_one (IsExplained client (Open name batch) (asking c) (Some reply.Held)) (locked (key_of c) (holder.Txn name)) (held_explained c client) }
+  held_fits true c client = record { acknowledges = refl; tables = λ before. refl; labels = λ before. labels_same c before reply.Held; log_failed = refl; log_stopped = refl; tables_failed = refl; once = omega arith; remembered = tt; explained = λ event there. absurd there }
+  held_fits false c client = record { acknowledges = refl; tables = λ before. refl; labels = λ before. labels_same c before reply.Held; log_failed = refl; log_stopped = refl; tables_failed = refl; once = omega arith; remembered = tt; explained = of_one (IsExplained client (Open name batch) (asking c) (Some reply.Held)) (locked (key_of c) (holder.Txn name)) (held_explained c client) }
 
 -- the holder is no transaction of its own
 not_own : (own : List ℕ) (by : Holder) → (by ≡ holder.Txn own → ⊥) → (name : List ℕ) → by ≡ holder.Txn name → bytes_eq own name ≡ false
@@ -167,7 +167,7 @@ module _ {D : Type 0} (z : SharedState D) (old new : SeatState) (txn left : Open
   full_answers : Changes z old txn c (Err TooMany) new left → Answers z old new before_it after_it (asking c) reply.TooMany
   full_answers k =
       else_answers z old new _ it [] before_it after_it (asking c) reply.TooMany 0 k.3 refl refl (sym (append-nil it.past))
-      (record { acknowledges = refl; tables = λ before. refl; labels = λ before. labels_same c before reply.TooMany; log_failed = refl; tables_failed = refl; once = omega arith; remembered = tt; explained = λ event there. absurd there })
+      (record { acknowledges = refl; tables = λ before. refl; labels = λ before. labels_same c before reply.TooMany; log_failed = refl; log_stopped = refl; tables_failed = refl; once = omega arith; remembered = tt; explained = λ event there. absurd there })
       (same_left k.1) (last_same c reply.TooMany (length new.knows.participant.seen) refl)
       (λ first is_first before p e agrees. full_row txn.name txn.batch snapshots c e before (is_full txn.batch (key_of c) k.0))
 
@@ -175,7 +175,7 @@ module _ {D : Type 0} (z : SharedState D) (old new : SeatState) (txn left : Open
   busy_answers has by k = let f = k.5 in
       let account : Account = account_of it f.world.locks f.published (Some (key_of c)) by in let event : Event = found (Some (key_of c)) by (length it.seen) account in
       else_answers z old new _ (remembering (event ∷ []) it) (event ∷ []) before_it after_it (asking c) (reply.Busy by) 0 f.goes_on refl refl refl
-      (record { acknowledges = refl; tables = λ before. refl; labels = λ before. labels_same c before (reply.Busy by); log_failed = refl; tables_failed = refl; once = omega arith; remembered = tt; explained = of_one (IsExplained it.client (Open txn.name txn.batch) (asking c) (Some (reply.Busy by))) event tt })
+      (record { acknowledges = refl; tables = λ before. refl; labels = λ before. labels_same c before (reply.Busy by); log_failed = refl; log_stopped = refl; tables_failed = refl; once = omega arith; remembered = tt; explained = of_one (IsExplained it.client (Open txn.name txn.batch) (asking c) (Some (reply.Busy by))) event tt })
       (same_left k.1) (last_same c (reply.Busy by) (length new.knows.participant.seen) refl)
       (λ first is_first before p e agrees. with_room txn.name txn.batch snapshots c e before (reply.Busy by) (not_full txn.batch (key_of c) small k.0) (busy_row txn.name txn.batch snapshots c e before by
       (found_busy e before.last (key_of c) by it f.world.locks f.published p.last has.direct (λ name same. has.only name (not_own txn.name by k.4 name same))

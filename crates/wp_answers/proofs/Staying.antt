@@ -20,6 +20,7 @@ use Rattle.wp_replies.proofs.Within.{within_more}
 use Rattle.wp_answers.specs.declared.holdings.HeldTxn.{HeldTxn}
 use Rattle.wp_answers.specs.declared.holdings.HeldTxn.TheVariants as held
 use Rattle.wp_answers.specs.Alone.{log_faults, tables_faults}
+use Rattle.wp_answers.proofs.Alone.Published.{no_device_fault}
 use Rattle.wp_answers.specs.Answers.{IsExplained, findings, Stays, BreaksOff}
 use Rattle.wp_answers.specs.Holdings.{HoldingsState, labelled, HasTxn, is_named, times_registered, HoldsTxn, Holds, HoldsFrom}
 
@@ -106,7 +107,8 @@ module _ {D : Type 0} (Kept : Fact → Type 0) (z : SharedState D) (old new : Se
     events = events;
     past = ap (λ (p : Participant). p.past) goes.participant ∙ past;
     explained = explained;
-    log_failed = log;
+    log_failed = no_device_fault events log;
+    log_stopped = log;
     tables_failed = tables;
     none_found = none;
   }

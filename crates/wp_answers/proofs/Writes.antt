@@ -87,8 +87,8 @@ locked_alone (change.Del key) client = rw (itself client, itself key) refl
 
 -- the reply that has the number
 fits_made : (c : Change) (n : ℕ) (client : List ℕ) → Fits (asking c) (acknowledging c n) (n ∷ []) (locked (key_of c) (holder.Client client) ∷ []) client Idle
-fits_made (change.Put key value) n client = record { acknowledges = refl; tables = λ before. refl; labels = λ before. refl; log_failed = refl; tables_failed = refl; once = omega arith; remembered = tt; explained = of_one (IsExplained client Idle (command.Put key value) (Some (reply.Put n))) (locked key (holder.Client client)) (locked_made (change.Put key value) n client) }
-fits_made (change.Del key) n client = record { acknowledges = refl; tables = λ before. refl; labels = λ before. refl; log_failed = refl; tables_failed = refl; once = omega arith; remembered = tt; explained = of_one (IsExplained client Idle (command.Del key) (Some (reply.Del n))) (locked key (holder.Client client)) (locked_made (change.Del key) n client) }
+fits_made (change.Put key value) n client = record { acknowledges = refl; tables = λ before. refl; labels = λ before. refl; log_failed = refl; log_stopped = refl; tables_failed = refl; once = omega arith; remembered = tt; explained = of_one (IsExplained client Idle (command.Put key value) (Some (reply.Put n))) (locked key (holder.Client client)) (locked_made (change.Put key value) n client) }
+fits_made (change.Del key) n client = record { acknowledges = refl; tables = λ before. refl; labels = λ before. refl; log_failed = refl; log_stopped = refl; tables_failed = refl; once = omega arith; remembered = tt; explained = of_one (IsExplained client Idle (command.Del key) (Some (reply.Del n))) (locked key (holder.Client client)) (locked_made (change.Del key) n client) }
 
 last_made : (c : Change) (n before : ℕ) → last_after before (asking c) (acknowledging c n) ≡ n
 last_made (change.Put key value) n before = refl
@@ -132,7 +132,7 @@ module _ {D : Type 0} (z : SharedState D) (old new : SeatState) (c : Change) (sn
   busy_answers has by f =
       let account : Account = account_of it f.world.locks f.published (Some (key_of c)) by in let event : Event = found (Some (key_of c)) by (length it.seen) account in
       else_answers z old new _ (remembering (event ∷ []) it) (event ∷ []) me me (asking c) (reply.Busy by) 0 f.goes_on refl refl refl
-      (record { acknowledges = refl; tables = λ before. refl; labels = λ before. labels_same c before (reply.Busy by); log_failed = refl; tables_failed = refl; once = omega arith; remembered = tt; explained = of_one (IsExplained it.client Idle (asking c) (Some (reply.Busy by))) event tt })
+      (record { acknowledges = refl; tables = λ before. refl; labels = λ before. labels_same c before (reply.Busy by); log_failed = refl; log_stopped = refl; tables_failed = refl; once = omega arith; remembered = tt; explained = of_one (IsExplained it.client Idle (asking c) (Some (reply.Busy by))) event tt })
       refl (last_same c (reply.Busy by) (length new.knows.participant.seen) refl)
       (λ first is_first before p e agrees. busy_row c snapshots e before by
       (found_busy e before.last (key_of c) by it f.world.locks f.published p.last has.direct (λ name same. has.only name refl)

@@ -7,8 +7,12 @@ use Rattle.wp_core.specs.Sound.Actors.{StartsWith}
 use Rattle.wp_core.specs.Sound.Locks.{HasKeyAt}
 use Rattle.wp_core.specs.Views.{Account, own, another, prepare_at, Event, heard, log_failed, tables_failed, stopped, found_edit, found}
 use Rattle.wp_core.specs.World.{Participant}
+use Rattle.wp_model.specs.Flushed.{InstalledEdit}
+use Rattle.wp_rule.specs.Shows.{WasLast}
+use Rattle.wp_shared.specs.Parts.{content}
 use Rattle.wp_shared.specs.Seats.{SharedState}
-use Rattle.wp_replies.specs.Replies.{HasName, HasTaken, HasKey, WritesKey, WasTold, LogFailed, WasFlushed, OtherCompacted, Evidence, IsKnown, WasUndecided, HadKey, IsHaltedAt}
+use Rattle.wp_answers.specs.Alone.{limits_of}
+use Rattle.wp_replies.specs.Replies.{HasName, HasTaken, HasKey, WritesKey, WasTold, LogStopped, WasFlushed, WasBase, OtherCompacted, Evidence, IsKnown, WasUndecided, HadKey, IsHaltedAt}
 
 -- another client has the transaction of this name, and the key in it, where one is given; or it writes the key at once
 abbrev pub IsAnother : Evidence → Option (List ℕ) → Holder → Type 0
@@ -32,15 +36,16 @@ KnowsHolder e key holder seen (prepare_at n) = IsPrepares e key holder seen
 abbrev pub Knows : Evidence → Event → Type 0
 Knows e (found key holder seen account) = KnowsHolder e key holder seen account
 Knows e (heard label n) = (m : ℕ) → n ≤ m → IsKnown e (WasTold label m)
-Knows e (stopped n) = IsKnown e (LogFailed n)
+Knows e (stopped n) = IsKnown e (LogStopped n)
 Knows e (log_failed entries) = e.failed.entries ≡ entries
 Knows e (tables_failed last edit) = (e.installed ≡ last) × (e.failed.edit ≡ edit)
-Knows e (found_edit flushed base tables due halted) = IsKnown e (WasFlushed flushed) × (halted ≡ true → IsHaltedAt e flushed) × (tables < due → IsKnown e OtherCompacted)
+Knows e (found_edit flushed base tables due halted) = IsKnown e (WasFlushed flushed) × IsKnown e (WasBase base) × (halted ≡ true → IsHaltedAt e flushed) × (tables < due → IsKnown e OtherCompacted)
 Knows e other = Unit {0}
 
--- The history begins with what the seat has seen, the limit is the store's, and what the seat's past tells is known. Less of it
+-- The history begins with what the seat has seen, the limits and the base at opening are the store's, and what the seat's past tells is known. Less of it
 -- is told by an earlier seat, so what agrees with a seat agrees with the same seat earlier.
 pub record Agrees {D : Type 0} (e : Evidence) (z : SharedState D) (p : Participant) : Type 0 where
   pub seen : StartsWith e.history p.seen
-  pub limit : e.limit ≡ z.limit
+  pub limits : e.limits ≡ limits_of z
+  pub base : (first : InstalledEdit) → WasLast content z.first first → e.base ≡ first.segment.base
   pub past : (event : Event) → IsIn event p.past → Knows e event

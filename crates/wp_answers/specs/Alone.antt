@@ -9,20 +9,32 @@ use Rattle.wp_core.specs.Lists.{IsIn, one_if, total}
 use Rattle.wp_core.specs.Sound.Actors.{StartsWith}
 use Rattle.wp_core.specs.Sound.Pasts.{closes_log, last_installed}
 use Rattle.wp_core.specs.Sound.Pasts as pasts
-use Rattle.wp_core.specs.Views.{Event, told, log_failed, tables_failed}
+use Rattle.wp_core.specs.Views.{Event, told, log_failed, log_stopped, tables_failed}
 use Rattle.wp_core.specs.World.{Participant, World}
+use Rattle.wp_rule.specs.Shows.{WasLast}
+use Rattle.wp_shared.specs.Parts.{content}
+use Rattle.wp_shared.specs.Limits.{WasOpenedAt, limit_at, opened_limit, renewed_limit}
 use Rattle.wp_shared.specs.Seats.{SharedState, SeatState}
 use Rattle.wp_replies.specs.Asked.{AsksLog, AsksTables}
 use Rattle.wp_replies.specs.Client.{Client}
 use Rattle.wp_replies.specs.Due.{Store, IsReply, store_after, client_after}
-use Rattle.wp_replies.specs.Kind.{is_fault, is_tables_fault}
+use Rattle.wp_replies.specs.Kind.{is_tables_fault, stops_log}
+use Rattle.wp_replies.specs.Replies.{Limits}
 
 -- how often the log was closed in this past, and the devices of the tables failed
 abbrev pub log_faults : List Event → ℕ
 log_faults past = total (λ e. one_if (closes_log e)) past
 
+-- how often its device failed
+abbrev pub device_faults : List Event → ℕ
+device_faults past = total (λ e. one_if (pasts.is_log_fault e)) past
+
 abbrev pub tables_faults : List Event → ℕ
 tables_faults past = total (λ e. one_if (pasts.is_tables_fault e)) past
+
+-- the limits of a store
+abbrev pub limits_of : {D : Type 0} → SharedState D → Limits
+limits_of z = record { opened = opened_limit z; renewed = renewed_limit z }
 
 -- it is the first seat, which made and took in no other
 pub record IsOnly (s : SeatState) : Type 0 where
@@ -31,14 +43,20 @@ pub record IsOnly (s : SeatState) : Type 0 where
   pub joined : s.knows.joined ≡ []
 
 -- The store is as the participant's doings tell, where it was opened with this edit: the history is what it has seen, which begins
--- with what was opened; the devices failed where it met that; the last edit is the last one that it installed; and on the board is
--- what it told.
+-- with what was opened, behind the base of that edit, which the log was opened at and fell below never; the log takes no more where it
+-- closed it, and its limit is that of its base; the devices of the tables failed where it met that; the last edit is the last one that it
+-- installed; and on the board is what it told.
 pub record IsStoreOf {D : Type 0} (z : SharedState D) (first : InstalledEdit) (p : Participant) (store : Store) : Type 0 where
+  pub first_is : WasLast content z.first first
+  pub at : WasOpenedAt z first.segment.base
+  pub base : store.base ≡ first.segment.base
+  pub risen : first.segment.base ≤ store.installed.segment.base
   pub history : store.history ≡ p.seen
   pub opened : StartsWith p.seen z.opened
   pub own : (n : ℕ) → IsIn n p.own → n ≤ length p.seen
   pub stopped : one_if store.stopped ≡ log_faults p.past
-  pub limit : store.limit ≡ z.limit
+  pub limit : store.limit ≡ limit_at z store.installed.segment.base
+  pub renewed_limit : store.renewed_limit ≡ renewed_limit z
   pub installed : store.installed ≡ last_installed first p.past
   pub halted : one_if store.halted ≡ tables_faults p.past
   pub board : (label : List ℕ) → (is_some (finite.get store.board label) ≡ true) ↔ ((n : ℕ) × IsIn (told label n) p.past)
@@ -50,13 +68,15 @@ pub record IsAsStored (store : Store) (w : World) : Type 0 where
   pub halted : w.installed.halted ≡ store.halted
   pub edit : w.installed.last ≡ store.installed
 
--- The store was so, the command's reply is one that is due, or a fault, and the store and the client are so now. What a device
--- failed to take is what the command asked for.
+-- The store was so, the command's reply is one that is due, or a fault, and the store and the client are so now, where a renewal put the
+-- log's segment at the place. What a device failed to take is what the command asked for; the log is stopped by no other command.
 pub record AnswersAlone {D : Type 0} (z : SharedState D) (first : InstalledEdit) (old new : SeatState) (was now : Client) (command : Command) (answer : Reply) (store : Store) : Type 0 where
   pub replied : IsReply store was command answer
-  pub store_is : IsStoreOf z first new.knows.participant (store_after store was command answer)
+  pub place : ℕ
+  pub store_is : IsStoreOf z first new.knows.participant (store_after place store was command answer)
   pub client : now ≡ client_after store.history was command answer
   pub events : List Event
   pub past : new.knows.participant.past ≡ old.knows.participant.past ++ events
-  pub asked : (entries : List Entry) → IsIn (log_failed entries) events → (is_fault answer ≡ true) × AsksLog entries store was command
+  pub asked : (entries : List Entry) → IsIn (log_failed entries) events → (stops_log command answer ≡ true) × AsksLog entries store was command
+  pub asked_none : IsIn log_stopped events → (stops_log command answer ≡ true) × AsksLog [] store was command
   pub asked_edit : (last edit : InstalledEdit) → IsIn (tables_failed last (Some edit)) events → (is_tables_fault answer ≡ true) × AsksTables edit store was command

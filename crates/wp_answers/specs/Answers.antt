@@ -1,5 +1,5 @@
 -- What the reply to a command says, and what the command leaves of the client's seat.
-use Rattle.std.specs.Prelude.{◌≡◌, ◌⊎◌, ℕ, ◌≤◌, ◌&&◌, Bool, true, false, List, ◌++◌, length, Option, Some, None, IfSome}
+use Rattle.std.specs.Prelude.{◌≡◌, ◌⊎◌, ℕ, ◌+◌, ◌≤◌, ◌&&◌, Bool, true, false, List, ◌++◌, length, Option, Some, None, IfSome}
 use Rattle.std.specs.Str.{bytes_eq}
 use Rattle.wp_model.specs.Flushed.{InstalledEdit}
 use Rattle.wp_model.specs.declared.holder.Holder.TheVariants as holder
@@ -18,11 +18,11 @@ use Rattle.wp_replies.specs.declared.client.Txn.{Txn}
 use Rattle.wp_replies.specs.Client.{Client}
 use Rattle.wp_replies.specs.Due.{Store}
 use Rattle.wp_replies.specs.After.{after_reply}
-use Rattle.wp_replies.specs.Kind.{acknowledged, is_fault, is_flushed, is_compacted, is_tables_fault}
+use Rattle.wp_replies.specs.Kind.{acknowledged, is_fault, is_flushed, is_based, is_compacted, is_tables_fault, is_renewal, stops_log}
 use Rattle.wp_replies.specs.Known.{gets_name, takes_name, stages_key, writes_key, tells}
 use Rattle.wp_replies.specs.Progress.{Progress, knows_label, progress_after}
 use Rattle.wp_replies.specs.Replies.{Evidence, Allows}
-use Rattle.wp_answers.specs.Alone.{log_faults, tables_faults, IsOnly, IsStoreOf, AnswersAlone}
+use Rattle.wp_answers.specs.Alone.{log_faults, device_faults, tables_faults, IsOnly, IsStoreOf, AnswersAlone}
 use Rattle.wp_answers.specs.declared.holdings.HeldTxn.{HeldTxn}
 use Rattle.wp_answers.specs.Agrees.{Agrees}
 use Rattle.wp_answers.specs.Holdings.{txn_of}
@@ -53,9 +53,8 @@ explaining client (locked key (holder.Client name)) = Some (λ txn command answe
 explaining client (told label n) = Some (tells label n)
 explaining client (installed edit false) = Some (λ txn command answer. is_answer (is_flushed edit.flushed) answer)
 explaining client (installed edit true) = Some (λ txn command answer. is_answer is_compacted answer)
--- no command makes another segment of the log the one in use
-explaining client (renewed edit) = Some (λ txn command answer. false)
-explaining client log_stopped = Some (λ txn command answer. false)
+explaining client (renewed edit) = Some (λ txn command answer. is_answer (λ r. is_based edit.segment.base r && is_flushed edit.flushed r) answer)
+explaining client log_stopped = Some (λ txn command answer. is_answer (stops_log command) answer)
 explaining client other = None
 
 -- the client came to it by the command, with this reply or with none
@@ -78,6 +77,7 @@ abbrev pub IsRemembered : List Event → Reply → Type 0
 IsRemembered past (reply.Stopped n) = IsIn (stopped n) past
 IsRemembered past (reply.Flushed n versions) = (edit : InstalledEdit) × (edit.flushed ≡ n) × IsIn (installed edit false) past
 IsRemembered past (reply.Halted flushed) = (base tables due : ℕ) × IsIn (found_edit flushed base tables due true) past
+IsRemembered past (reply.Renewed n carried) = (edit : InstalledEdit) × (edit.segment.base ≡ n) × (edit.flushed ≡ n) × IsIn (renewed edit) past
 IsRemembered past other = Unit {0}
 
 -- ---- one command
@@ -91,8 +91,9 @@ pub record Stays (old new : SeatState) : Type 0 where
   pub seen : StartsWith new.knows.participant.seen old.knows.participant.seen
 
 -- The client that was so is answered this, and is so now. Its seat published just what the reply acknowledges, within the limit,
--- and what its past has more is explained by the reply; it found at most once what a reply may speak of. Whatever agrees with
--- what the seat then knows allows the reply, where the client knows of the tables by the last edit of the store as it was opened.
+-- and what its past has more is explained by the reply; it found at most once what a reply may speak of, or in a renewal twice: the
+-- tables, and then the log. Whatever agrees with what the seat then knows allows the reply, where the client knows of the tables by
+-- the last edit of the store as it was opened.
 pub record Answers {D : Type 0} (z : SharedState D) (old new : SeatState) (was now : Client) (command : Command) (answer : Reply) : Type 0 where
   pub stays : Stays old new
   pub own : new.knows.participant.own ≡ old.knows.participant.own ++ acknowledged answer
@@ -100,9 +101,10 @@ pub record Answers {D : Type 0} (z : SharedState D) (old new : SeatState) (was n
   pub events : List Event
   pub past : new.knows.participant.past ≡ old.knows.participant.past ++ events
   pub explained : (event : Event) → IsIn event events → IsExplained old.knows.participant.client was.txn command (Some answer) event
-  pub log_failed : log_faults events ≡ one_if (is_fault answer)
+  pub log_failed : device_faults events ≡ one_if (is_fault answer)
+  pub log_stopped : log_faults events ≡ one_if (stops_log command answer)
   pub tables_failed : tables_faults events ≡ one_if (is_tables_fault answer)
-  pub once : findings events ≤ 1
+  pub once : findings events ≤ 1 + one_if (is_renewal command)
   pub remembered : IsRemembered events answer
   pub number : ℕ  -- of the prepare that `took` gives
   pub after : now ≡ after_reply number was command answer
@@ -117,7 +119,8 @@ pub record BreaksOff (old new : SeatState) (was : Client) (command : Command) : 
   pub events : List Event
   pub past : new.knows.participant.past ≡ old.knows.participant.past ++ events
   pub explained : (event : Event) → IsIn event events → IsExplained old.knows.participant.client was.txn command None event
-  pub log_failed : log_faults events ≡ 0
+  pub log_failed : device_faults events ≡ 0
+  pub log_stopped : log_faults events ≡ 0
   pub tables_failed : tables_faults events ≡ 0
   pub none_found : findings events ≡ 0
 

@@ -12,6 +12,7 @@ use Rattle.wp_read.specs.Registers.{IsTaken}
 use Rattle.wp_shared.specs.Seats.{SharedState, SeatState}
 use Rattle.wp_txn.specs.Calls.{WasHistory}
 use Rattle.wp_maint.specs.Calls.{Flushes, Compacts}
+use Rattle.wp_maint.specs.Renewal.{Renews}
 
 -- The number was published in a world of the store in which the seat took a snapshot with it, and had done no more than before.
 -- What was published then it has seen now.
@@ -37,4 +38,5 @@ NamesPublished z old new (command.Tell label) (reply.Told n) = CountsPublished z
 NamesPublished z old new (command.Hear label) (reply.Heard n) = CountsPublished z old new n
 NamesPublished z old new command.Flush (reply.Flushed n versions) = Flushes z old (Ok (record { at = n; versions = versions })) new
 NamesPublished z old new command.Compact (reply.Compacted n versions) = Compacts z old (Ok (record { at = n; versions = versions })) new
+NamesPublished z old new command.Renew (reply.Renewed n carried) = Renews z old (Ok (record { at = n; carried = carried })) new
 NamesPublished z old new command answer = Unit {0}

@@ -11,6 +11,8 @@ use Rattle.wp_txn.specs.Calls.{Keeps}
 use Rattle.wp_txn.specs.declared.error.TxnError.{TxnError}
 use Rattle.wp_txn.specs.declared.error.TxnError.TheVariants as why
 use Rattle.wp_replies.specs.Client.{number_of}
+use Rattle.wp_maint.specs.declared.renewed.RenewError.{RenewError}
+use Rattle.wp_maint.specs.declared.renewed.RenewError.TheVariants as renewal
 use Rattle.wp_maint.specs.declared.error.MaintError.{MaintError}
 use Rattle.wp_maint.specs.declared.error.MaintError.TheVariants as maint
 use Rattle.wp_answers.specs.declared.holdings.HeldTxn.{HeldTxn}
@@ -38,6 +40,15 @@ tables_refusal maint.Memory = None
 tables_refusal maint.Nothing = Some reply.Nothing
 tables_refusal maint.TableFault = Some reply.FaultTables
 tables_refusal (maint.TablesStopped flushed) = Some (reply.Halted flushed)
+
+-- likewise of a renewal
+abbrev pub renewal_refusal : RenewError → Option Reply
+renewal_refusal renewal.Memory = None
+renewal_refusal (renewal.TablesStopped flushed) = Some (reply.Halted flushed)
+renewal_refusal (renewal.Stopped n) = Some (reply.Stopped n)
+renewal_refusal renewal.Nothing = Some reply.Nothing
+renewal_refusal renewal.TableFault = Some reply.FaultTables
+renewal_refusal renewal.LogFault = Some reply.FaultLog
 
 -- ---- reads
 

@@ -15,7 +15,7 @@ use crate::board::{hear, tell};
 use crate::changes::{del, put};
 use crate::decisions::{commit, leave, prepare, rollback};
 use crate::holdings::{HeldTxn, Holdings};
-use crate::maintenance::{compact, flush};
+use crate::maintenance::{compact, flush, renew};
 use crate::naming::{begin, take};
 use crate::reads::{get, get_at};
 use crate::snapshots::{free, snap};
@@ -128,6 +128,7 @@ fn obey<D: Disk + Drop, R: Wait>(
         | Command::Leave => change_txn(store, rt, alloc, seat, &mut held.txn, command),
         Command::Flush => flush(store, rt, seat),
         Command::Compact => compact(store, rt, alloc, seat),
+        Command::Renew => renew(store, rt, seat),
     }
 }
 

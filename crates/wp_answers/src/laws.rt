@@ -8,13 +8,14 @@ ghost use Rattle.wp_rule.specs.Shows.{WasLast};
 ghost use Rattle.wp_replies.specs.Current.{opened_store};
 ghost use Rattle.wp_replies.specs.Due.{Store};
 ghost use Rattle.wp_replies.specs.Known.{StoredState};
+ghost use Rattle.wp_shared.specs.Limits.{WasOpenedAt};
 ghost use Rattle.wp_shared.specs.Seats.{SharedState, SeatState, Stands};
-ghost use Rattle.wp_answers.specs.Alone.{IsOnly, IsStoreOf, IsAsStored};
+ghost use Rattle.wp_answers.specs.Alone.{limits_of, IsOnly, IsStoreOf, IsAsStored};
 
 /// As it was opened, the store is what a seat tells of it at which nothing was done.
 pub fn an_opened_store_is_told<D>()
-    ensures { (z : SharedState D) (found : StoredState) (client : List ℕ) → found.history ≡ z.opened
-        → IsStoreOf z found.edit (new_participant client z.opened) (opened_store z.limit found) }
+    ensures { (z : SharedState D) (found : StoredState) (client : List ℕ) → found.history ≡ z.opened → WasLast content z.first found.edit
+        → WasOpenedAt z found.edit.segment.base → IsStoreOf z found.edit (new_participant client z.opened) (opened_store (limits_of z) found) }
 {}
 
 /// In each world in which the only seat stands, the store is as the seat's doings tell.

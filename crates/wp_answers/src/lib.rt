@@ -4,9 +4,9 @@
 //! seen of the one history, and what it did and found. `specs/Agrees.antt` says when what a client is judged by agrees with that;
 //! `specs/Answers.antt` what is so of one command: whatever agrees with the seat allows the reply, the seat published just what
 //! the reply acknowledges, and what is new in its past is there by the command and its reply. A fresh read and a snapshot are at
-//! a number that was published as the seat took a snapshot, what is told and heard was published too, and a flush and a
-//! compaction are answered with what the call made (`specs/Fresh.antt`). Where the seat is the only one, the reply is also the
-//! very one that is due, and the store is left so.
+//! a number that was published as the seat took a snapshot, what is told and heard was published too, and a flush, a compaction
+//! and a renewal are answered with what the call made (`specs/Fresh.antt`). Where the seat is the only one, the reply is also
+//! the very one that is due, and the store is left so.
 //!
 //! Where no other seat did anything, the world in which a seat stands is told by the seat's own doings: its history is what the
 //! seat has seen, for each entry since the opening is the seat's own; the log is closed, and the tables are halted, where the

@@ -1,14 +1,15 @@
 //! How much the last state of a history holds.
 ghost use Rattle.std.specs.Prelude.{◌≡◌, count_by, map, fold, is_some, IfOk, OnOk};
 ghost use Rattle.std.specs.Option.{option_copied};
-ghost use Rattle.std.specs.List.{sum_by};
+ghost use Rattle.std.specs.List.{flat_map, sum_by};
 ghost use Rattle.wp_model.specs.Batch.{key_of};
 ghost use Rattle.wp_model.specs.History.{newest};
-ghost use Rattle.wp_make.specs.Totals.{keys_in, has_key, with_key, keys_of, size_of, store_of};
+ghost use Rattle.wp_make.specs.Totals.{keys_in, has_key, with_key, with_keys, keys_of, size_of, store_of};
 
 use std::alloc::{AllocError, Global};
+use std::collections::BTreeMap;
 use wp_ledger::History;
-use wp_model::{Change, Entry, Key, Value};
+use wp_model::{Carried, Change, Entry, Key, Value};
 
 /// How many keys have a value, and how many bytes they and their values have together.
 #[derive(Clone, Copy)]
@@ -50,14 +51,49 @@ fn add_keys_in(alloc: Global, keys: &mut Vec<Key>, entry: &Entry) -> Result<(), 
     }
 }
 
-/// The keys of the entries, each once.
-fn keys_of(alloc: Global, entries: &[Entry]) -> Result<Vec<Key>, AllocError>
-    ensures { IfOk result (λ keys. keys.items ≡ keys_of entries.now) }
+fn add_stored(
+    alloc: Global,
+    keys: &mut Vec<Key>,
+    store: &BTreeMap<Key, Value>,
+) -> Result<(), AllocError>
+    ensures { OnOk result (keys.new.items ≡ with_keys keys.old.items (map (λ pair. pair.0) store.now.entries)) }
+{
+    for key in store.keys() {
+        add_key(alloc, keys, key)?;
+    }
+    Ok(())
+}
+
+fn add_carried(alloc: Global, keys: &mut Vec<Key>, carried: &[Carried]) -> Result<(), AllocError>
+    ensures { OnOk result (keys.new.items ≡ with_keys keys.old.items (flat_map (λ x. map key_of x.batch) carried.now)) }
+{
+    for prepare in carried {
+        add_keys(alloc, keys, prepare.batch.changes())?;
+    }
+    Ok(())
+}
+
+fn add_later(alloc: Global, keys: &mut Vec<Key>, entries: &[Entry]) -> Result<(), AllocError>
+    ensures { OnOk result (keys.new.items ≡ with_keys keys.old.items (flat_map keys_in entries.now)) }
+{
+    for entry in entries {
+        add_keys_in(alloc, keys, entry)?;
+    }
+    Ok(())
+}
+
+/// The keys that may have a value at the end, each once.
+fn keys_of(
+    alloc: Global,
+    history: &History,
+    store: &BTreeMap<Key, Value>,
+) -> Result<Vec<Key>, AllocError>
+    ensures { IfOk result (λ keys. keys.items ≡ keys_of history.now.base store.now.entries history.now.entries) }
 {
     let mut keys = Vec::new(alloc);
-    for entry in entries {
-        add_keys_in(alloc, &mut keys, entry)?;
-    }
+    add_stored(alloc, &mut keys, store)?;
+    add_carried(alloc, &mut keys, history.carried())?;
+    add_later(alloc, &mut keys, history.later())?;
     Ok(keys)
 }
 
@@ -95,12 +131,15 @@ fn bytes_of(history: &History, keys: &[Key]) -> Result<u64, AllocError>
     Ok(bytes)
 }
 
-/// How much the history leaves, which has all of its entries in memory.
-pub fn store_of(alloc: Global, history: &History) -> Result<Sizes, AllocError>
-    requires { history.now.base ≡ 0 }
-    ensures { IfOk result (λ sizes. sizes ≡ store_of history.now.entries) }
+/// How much the history leaves, where the store is what there was at its base.
+pub fn store_of(
+    alloc: Global,
+    history: &History,
+    store: &BTreeMap<Key, Value>,
+) -> Result<Sizes, AllocError>
+    ensures { IfOk result (λ sizes. sizes ≡ store_of history.now.base store.now.entries history.now.entries) }
 {
-    let keys = keys_of(alloc, history.later())?;
+    let keys = keys_of(alloc, history, store)?;
     Ok(Sizes {
         keys: held_of(history, &keys),
         bytes: bytes_of(history, &keys)?,

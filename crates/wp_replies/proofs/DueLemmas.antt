@@ -23,6 +23,7 @@ use Rattle.wp_replies.specs.declared.client.Txn.{Txn}
 use Rattle.wp_replies.specs.declared.client.Txn.TheVariants.{Idle, Open, Prepared}
 use Rattle.wp_replies.specs.declared.plan.Plan.{Plan}
 use Rattle.wp_replies.specs.declared.plan.Plan.TheVariants.{Say, Log, RollBack}
+use Rattle.wp_replies.specs.Alike.{AreFrom}
 use Rattle.wp_replies.specs.Client.{Client, AreWithin, number_of, own_batch, has_no_room}
 use Rattle.wp_replies.specs.After.{with_staged, labels_after}
 use Rattle.wp_replies.specs.Kind.{is_logged, fresh_in}
@@ -37,7 +38,8 @@ use Rattle.wp_model.proofs.Entries.{undecided_within, batch_at_old}
 use Rattle.wp_replies.proofs.Within.{within_same, within_filter, within_more, number_within}
 use Rattle.wp_replies.proofs.Rows.{snapshots_after}
 use Rattle.wp_replies.proofs.Scenes.{entry_in_front, next_entry, value_in_front, Scene, front, store_in, RowOf, IsAllowed, front_size, front_fresh, say_refused, say_allowed, board_allowed, log_allowed, entries_in, one_allowed}
-use Rattle.wp_replies.proofs.DueTables.{flush_allowed, compact_allowed}
+use Rattle.wp_replies.proofs.BelowAll.{from_same, from_filter}
+use Rattle.wp_replies.proofs.DueTables.{flush_allowed, compact_allowed, renew_allowed}
 
 -- ---- put, del
 
@@ -256,6 +258,7 @@ due_allowed client command.Leave answer s = leave_allowed s
 due_allowed client (command.Take name) answer s = take_allowed name s
 due_allowed client command.Flush answer s = flush_allowed s
 due_allowed client command.Compact answer s = compact_allowed s
+due_allowed client command.Renew answer s = renew_allowed s
 due_allowed client (command.Tell label) answer s = board_allowed s (reply.Told (length (front s))) refl refl refl (front_fresh s)
 due_allowed client (command.Hear label) answer s = hear_allowed label s
 
@@ -304,22 +307,33 @@ labels_within client (command.Snap label) (reply.Snapped n) s within = within_sa
 labels_within client (command.Free label) reply.Freed s within = within_filter s.given.after _ client.snapshots within
 labels_within client c answer s within = within
 
+labels_low : (client : Client) (c : Command) (answer : Reply) (s : Scene client c answer) → AreFrom s.evidence.base (labels_after client.snapshots c answer)
+labels_low client (command.Snap label) (reply.Snapped n) s = from_same s.evidence.base client.snapshots _ s.labels (omega (arith, s.based, s.low, s.given.earlier, s.given.fresh.0), tt)
+labels_low client (command.Free label) reply.Freed s = from_filter s.evidence.base _ client.snapshots s.labels
+labels_low client c answer s = s.labels
+
+last_low : (base last before after : ℕ) (number : Option ℕ) → base ≤ last → last ≤ before → IfSome number (λ n. (before ≤ n) × (n ≤ after)) → base ≤ unwrap_or number last
+last_low base last before after (Some n) low earlier fresh = omega (arith, low, earlier, fresh.0)
+last_low base last before after None low earlier fresh = low
+
 last_within : (last before after : ℕ) (number : Option ℕ) → last ≤ before → before ≤ after → IfSome number (λ n. (before ≤ n) × (n ≤ after)) → unwrap_or number last ≤ after
 last_within last before after (Some n) low grows fresh = fresh.1
 last_within last before after None low grows fresh = omega (arith, low, grows)
 
-pub due_session : (e : Evidence) (from : ℕ) (progress : Progress) (client : Client) (cs : List Command) (rs : List Reply) → progress.last ≤ from → TxnIsWithin from client.txn → AreWithin from client.snapshots → AreDueFrom e from progress client cs rs → IsSession e progress client cs rs
-due_session e from progress client [] [] low txn snapshots due = tt
-due_session e from progress client [] (r ∷ rs) low txn snapshots due = absurd due
-due_session e from progress client (c ∷ cs) [] low txn snapshots due = absurd due
-due_session e from progress client (c ∷ cs) (r ∷ rs) low txn snapshots (given, rest) =
-    let s : Scene client c r = record { evidence = e; from = from; progress = progress; low = low; txn = txn; snapshots = snapshots; given = given } in
+pub due_session : (e : Evidence) (from : ℕ) (progress : Progress) (client : Client) (cs : List Command) (rs : List Reply) → e.base ≤ progress.last → progress.last ≤ from → AreFrom e.base client.snapshots → TxnIsWithin from client.txn → AreWithin from client.snapshots → AreDueFrom e from progress client cs rs → IsSession e progress client cs rs
+due_session e from progress client [] [] based low labels txn snapshots due = tt
+due_session e from progress client [] (r ∷ rs) based low labels txn snapshots due = absurd due
+due_session e from progress client (c ∷ cs) [] based low labels txn snapshots due = absurd due
+due_session e from progress client (c ∷ cs) (r ∷ rs) based low labels txn snapshots (given, rest) =
+    let s : Scene client c r = record { evidence = e; from = from; progress = progress; based = based; low = low; labels = labels; txn = txn; snapshots = snapshots; given = given } in
     let later : from ≤ given.after = omega (arith, given.earlier, given.grows) in
     let allowed = due_allowed client c r s in (
       taken (take given.before e.history) c,
       allowed,
       due_session e given.after (progress_after progress c r) (client_after (take given.before e.history) client c r) cs rs
+          (last_low e.base progress.last given.before given.after (fresh_in c r) based (omega (arith, low, given.earlier)) given.fresh)
           (last_within progress.last given.before given.after (fresh_in c r) (omega (arith, low, given.earlier)) given.grows given.fresh)
+          (subst (AreFrom e.base) (sym (snapshots_after (taken (take given.before e.history) c) client c r)) (labels_low client c r s))
           (txn_within client c r s allowed (txn_more from given.after client.txn later txn))
           (subst (AreWithin given.after) (sym (snapshots_after (taken (take given.before e.history) c) client c r)) (labels_within client c r s (within_more from given.after client.snapshots later snapshots)))
           rest,

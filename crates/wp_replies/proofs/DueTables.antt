@@ -1,25 +1,33 @@
--- A reply to a flush or a compaction that is due at a moment of a history is one that the table allows.
-use Rattle.std.proofs.Common.{◌≡◌, ℕ, zero, suc, ◌≤◌, ◌⊎◌, Bool, true, false, List, [], ◌∷◌, ◌++◌, length, take, drop, None, refl, sym, ap, ◌∙◌, subst, arith, inl, inr}
-use Rattle.std.specs.List.{filter}
+-- A reply to a flush, a compaction or a renewal that is due at a moment of a history is one that the table allows.
+use Rattle.std.proofs.Common.{◌≡◌, ℕ, zero, suc, ◌≤◌, ◌⊎◌, true, false, true≢false, ◌==◌, eq-eqb, List, [], ◌∷◌, ◌++◌, length, take, drop, None, refl, sym, ap, ◌∙◌, subst, arith, inl, inr}
+use Rattle.std.specs.List.{AllByRecursion}
 use Rattle.std.specs.Prelude.{nat_lt}
-use Rattle.std.proofs.lemmas.Bool.{cases_Bool, ltb-true, ltb-false}
+use Rattle.std.proofs.lemmas.Bool.{cases_Bool, or_cases, or_left, or_right, eqb-true, ltb-true, ltb-false}
 use Rattle.std.proofs.lemmas.List.{take-append-drop}
 use Rattle.wp_model.specs.declared.entry.Entry.{Entry}
 use Rattle.wp_model.specs.Legal.{changes_in}
 use Rattle.wp_model.specs.declared.version.Version.{Version}
-use Rattle.wp_model.specs.Decision.{is_committed}
+use Rattle.wp_model.specs.Covered.{is_among}
 use Rattle.wp_model.specs.Flushed.{versions_under, versions_after, later_versions}
-use Rattle.wp_keep.specs.Keep.{stays, staying, remains}
+use Rattle.wp_model.specs.History.{undecided}
+use Rattle.wp_cuts.specs.Cut.{carried_of, cut_at}
+use Rattle.wp_cuts.specs.Kept.{carried_versions, HasKeysAt}
+use Rattle.wp_cuts.proofs.Own.{own_few}
 use Rattle.wp_text.specs.declared.script.Command.{Command}
 use Rattle.wp_text.specs.declared.script.Command.TheVariants as command
 use Rattle.wp_text.specs.declared.reply.Reply.{Reply}
 use Rattle.wp_text.specs.declared.reply.Reply.TheVariants as reply
+use Rattle.wp_replies.specs.declared.client.LabelledSnapshot.{LabelledSnapshot}
+use Rattle.wp_replies.specs.declared.client.Txn.{Txn}
+use Rattle.wp_replies.specs.declared.client.Txn.TheVariants.{Idle, Open, Prepared}
+use Rattle.wp_replies.specs.Alike.{AreFrom}
 use Rattle.wp_replies.specs.Client.{Client, numbers_of}
-use Rattle.wp_replies.specs.Kind.{is_logged, is_installed, is_tables_fault}
-use Rattle.wp_replies.specs.Replies.{OtherCompacted, IsKnown, refusal_of, FailsFlush, FailsCompaction, IsCompactionCount, HasNothingToMerge, IsHaltedAt}
+use Rattle.wp_replies.specs.Kind.{calls_log, is_fault, is_installed, is_tables_fault}
+use Rattle.wp_replies.specs.Replies.{LogStopped, OtherCompacted, IsKnown, refusal_of, AsksFor, FailsFlush, FailsCompaction, FailsRenewal, IsCompactionCount, HasNothingToMerge, IsHaltedAt}
 use Rattle.wp_replies.specs.Due.{unless_halted, flushed, due, IsReply}
-use Rattle.wp_replies.specs.Tables.{unflushed, retained}
-use Rattle.wp_replies.proofs.Scenes.{front_take, Scene, front, store_in, RowOf, IsAllowed, front_size, front_fresh, none_of, by_row}
+use Rattle.wp_replies.specs.Tables.{unflushed, listed, retained}
+use Rattle.wp_replies.proofs.Below.{joined_from}
+use Rattle.wp_replies.proofs.Scenes.{front_take, value_in_front, Scene, front, store_in, RowOf, IsAllowed, front_size, front_fresh, none_of, by_row}
 
 append_empty : {A : Type 0} (xs ys : List A) → xs ++ ys ≡ [] → (xs ≡ []) × (ys ≡ [])
 append_empty [] ys is = (refl, is)
@@ -41,7 +49,7 @@ none_above (e ∷ front) more k (suc n) none = none_above front more k n none
 
 -- the row of a flush or a compaction where the tables take an edit, or fail
 on_tables : {client : Client} {c : Command} {answer : Reply} (s : Scene client c answer) (made : Reply) → refusal_of client c ≡ None → due (store_in s) client c ≡ unless_halted (store_in s) made
-    → is_logged made ≡ false → RowOf s made → (is_tables_fault answer ≡ true → is_installed made ≡ true → RowOf s reply.FaultTables) → (IsHaltedAt s.evidence s.given.devices.installed.flushed → RowOf s (reply.Halted s.given.devices.installed.flushed)) → IsAllowed s
+    → calls_log made ≡ false → RowOf s made → (is_tables_fault answer ≡ true → is_installed made ≡ true → RowOf s reply.FaultTables) → (IsHaltedAt s.evidence s.given.devices.installed.flushed → RowOf s (reply.Halted s.given.devices.installed.flushed)) → IsAllowed s
 on_tables {client = client} {c = c} {answer = answer} s made free due_is unlogged row fault halted = by_row s free (by s.given.replied)
   where
     by_halted : (r : Reply) → r ≡ unless_halted (store_in s) made → RowOf s r
@@ -50,10 +58,10 @@ on_tables {client = client} {c = c} {answer = answer} s made free due_is unlogge
       | inr runs ↦ let answered : r ≡ made = rw runs at is in subst (RowOf s) (sym answered) row
     ]
 
-    none_logged : is_logged (unless_halted (store_in s) made) ≡ true → ⊥
-    none_logged logs = elim (cases_Bool s.given.devices.halted) [
-      | inl failed ↦ let none : is_logged (reply.Halted s.given.devices.installed.flushed) ≡ true = rw failed at logs in absurd cc
-      | inr runs ↦ let some : is_logged made ≡ true = rw runs at logs in none_of (is_logged made) false (rw unlogged refl) some
+    uncalled_log : calls_log (unless_halted (store_in s) made) ≡ true → ⊥
+    uncalled_log calls = elim (cases_Bool s.given.devices.halted) [
+      | inl failed ↦ let none : calls_log (reply.Halted s.given.devices.installed.flushed) ≡ true = rw failed at calls in absurd cc
+      | inr runs ↦ let some : calls_log made ≡ true = rw runs at calls in none_of (calls_log made) false (rw unlogged refl) some
     ]
 
     installs : is_installed (unless_halted (store_in s) made) ≡ true → is_installed made ≡ true
@@ -64,7 +72,7 @@ on_tables {client = client} {c = c} {answer = answer} s made free due_is unlogge
 
     by : IsReply (store_in s) client c answer → RowOf s answer
     by (inl is) = by_halted answer (is ∙ due_is)
-    by (inr (inl failed)) = absurd (none_logged (subst (λ (r : Reply). is_logged r ≡ true) due_is failed.1))
+    by (inr (inl failed)) = absurd (uncalled_log (subst (λ (r : Reply). calls_log r ≡ true) due_is failed.1))
     by (inr (inr failed)) = subst (RowOf s) (sym failed.0) (fault (ap is_tables_fault failed.0) (installs (subst (λ (r : Reply). is_installed r ≡ true) due_is failed.1)))
 
 -- the history at the moment of the scene
@@ -80,6 +88,23 @@ flush_fails s some f =
       edit = rw (at_front s, ← asked.1) asked.0;
     }
 
+-- ---- numbers from the base on
+
+numbers_from : (base : ℕ) (snapshots : List LabelledSnapshot) → AreFrom base snapshots → AllByRecursion (λ n. base ≤ n) (numbers_of snapshots)
+numbers_from base [] from = tt
+numbers_from base (s ∷ snapshots) from = (from.0, numbers_from base snapshots from.1)
+
+among_from : (base : ℕ) (numbers : List ℕ) → AllByRecursion (λ n. base ≤ n) numbers → (n : ℕ) → is_among numbers n ≡ true → base ≤ n
+among_from base [] all n is = absurd cc
+among_from base (m ∷ numbers) all n is = elim (or_cases (m == n) (is_among numbers n) is) [
+  | inl here ↦ subst (λ (x : ℕ). base ≤ x) (eqb-true m n here) all.0
+  | inr there ↦ among_from base numbers all.1 n there
+]
+
+among_back : (front back : List ℕ) (n : ℕ) → is_among back n ≡ true → is_among (front ++ back) n ≡ true
+among_back [] back n is = is
+among_back (m ∷ front) back n is = or_right (m == n) (is_among (front ++ back) n) (among_back front back n is)
+
 compaction_fails : {client : Client} {answer : Reply} (s : Scene client command.Compact answer) → nat_lt s.given.devices.installed.tables 2 ≡ false → is_tables_fault answer ≡ true → FailsCompaction s.evidence s.progress.last client
 compaction_fails {client = client} s enough f =
     let asked = s.given.asked_edit f in record {
@@ -88,6 +113,7 @@ compaction_fails {client = client} s enough f =
       two = rw (← asked.1) (ltb-false _ _ enough);
       snapshots = numbers_of client.snapshots;
       own = λ n is. is;
+      from_base = among_from s.evidence.base (numbers_of client.snapshots) (numbers_from s.evidence.base client.snapshots s.labels);
       edit = rw (at_front s, ← asked.1) asked.0;
     }
 
@@ -109,12 +135,6 @@ flush_allowed {client = client} s = by (unflushed (front s) s.given.devices.inst
         on_tables s (reply.Flushed (length (front s)) (length (v ∷ versions))) refl (ap (λ (vs : List Version). unless_halted (store_in s) (flushed (length (front s)) vs)) is) refl
         (front_fresh s, omega arith, (s.given.devices.installed.flushed, s.given.known.flushed, ap (λ (xs : List Entry). length (later_versions xs s.given.devices.installed.flushed)) (at_front s) ∙ ap (λ (vs : List Version). length vs) is)) (λ f installs. flush_fails s (rw is (omega arith)) f) (λ halted. halted)
 
-fewer : (keeps : Version → Bool) (versions : List Version) → length (filter keeps versions) ≤ length versions
-fewer keeps [] = omega arith
-fewer keeps (v ∷ versions) =
-    let rest = fewer keeps versions in
-    elim (cases_Bool (keeps v)) [ inl kept ↦ rw kept (omega (arith, rest)) | inr dropped ↦ rw dropped (omega (arith, rest)) ]
-
 pub compact_allowed : {client : Client} {answer : Reply} (s : Scene client command.Compact answer) → IsAllowed s
 compact_allowed {client = client} s =
     elim (cases_Bool (nat_lt s.given.devices.installed.tables 2)) [
@@ -122,19 +142,91 @@ compact_allowed {client = client} s =
       | inr enough ↦ on_tables s (reply.Compacted (length (front s)) (length kept)) refl (ap (unless_halted (store_in s)) (rw enough refl)) refl (front_fresh s, counted) (λ f installs. compaction_fails s enough f) (λ halted. halted)
     ]
   where
+    numbers : List ℕ
+    numbers = listed (numbers_of client.snapshots) s.evidence.base s.given.devices.installed
+
     kept : List Version
-    kept = retained (front s) (numbers_of client.snapshots) s.given.devices.installed
+    kept = retained (front s) numbers s.given.devices.installed
 
     few_known : nat_lt s.given.devices.installed.tables 2 ≡ true → (s.progress.tables ≤ s.given.devices.installed.tables) ⊎ IsKnown s.evidence OtherCompacted → HasNothingToMerge s.evidence s.progress.tables
     few_known few (inl counted) = inl (omega (arith, counted, ltb-true _ _ few))
     few_known few (inr known) = inr known
 
-    counted : IsCompactionCount s.evidence.history (length (front s)) (length kept)
-    counted =
-        let committed = is_committed (front s) in
-        let numbers = numbers_of client.snapshots in
-        let at = length (front s) in
-        let versions = s.given.devices.installed.versions in
-        let staying_fewer = fewer (stays committed versions numbers at) versions in
-        let remaining_fewer = fewer (remains committed (staying committed versions numbers at) at) (staying committed versions numbers at) in
-        rw (at_front s) (omega (arith, staying_fewer, remaining_fewer, s.given.known.few))
+    counted : IsCompactionCount s.evidence.history s.evidence.base (length (front s)) (length kept)
+    counted = λ keys has.
+        let base = s.evidence.base in
+        let stored = s.given.known.stored in
+        let low : base ≤ s.given.before = omega (arith, s.based, s.low, s.given.earlier) in
+        let there : HasKeysAt (front s) base keys = λ key value is. has key value (sym (value_in_front s.evidence.history key base s.given.before low) ∙ is) in
+        let all = joined_from base (numbers_of client.snapshots) (base ∷ s.given.devices.installed.segment.base ∷ []) (numbers_from base client.snapshots s.labels) (omega arith, (stored.from_base, tt)) in
+        let bound = own_few (front s) (cut_at (front s) base) s.given.devices.installed.versions numbers keys stored.legal (record { within = stored.within; whole = stored.whole; is = refl }) stored.order
+        (record {
+          above = stored.within;
+          listed = among_back (numbers_of client.snapshots) (base ∷ s.given.devices.installed.segment.base ∷ []) base (or_left (base == base) (is_among (s.given.devices.installed.segment.base ∷ []) base) (eq-eqb base base refl));
+          from_base = among_from base numbers all;
+          part = λ key p value there. (stored.part key p value there).0;
+          within = λ key p value there. (stored.part key p value there).1;
+          gives = stored.gives;
+        })
+        there in
+        let carried = ap (λ (f : List Entry). length (carried_versions (carried_of f))) (front_take s.evidence.history base s.given.before low) in
+        let later = ap (λ (f : List Entry). length (later_versions f base)) (at_front s) in
+        omega (arith, bound, carried, later)
+
+-- ---- a renewal
+
+-- it asks the log for no entry
+pub asks_none : (txn : Txn) (entries : List Entry) → entries ≡ [] → AsksFor txn command.Renew entries
+asks_none Idle entries none = none
+asks_none (Open name batch) entries none = none
+asks_none (Prepared p) entries none = none
+
+renewal_fails : {client : Client} {answer : Reply} (s : Scene client command.Renew answer) → (s.given.devices.installed.segment.base == length (front s)) ≡ false → is_tables_fault answer ≡ true → FailsRenewal s.evidence s.progress.last
+renewal_fails s differs f =
+    let asked = s.given.asked_edit f in record {
+      at = length (front s);
+      fresh = front_fresh s;
+      behind = λ same. true≢false (sym (eq-eqb s.given.devices.installed.segment.base (length (front s)) (ap (λ x. x.segment.base) asked.1 ∙ same)) ∙ differs);
+      place = s.given.place;
+      edit = rw (at_front s, ← asked.1) asked.0;
+    }
+
+pub renew_allowed : {client : Client} {answer : Reply} (s : Scene client command.Renew answer) → IsAllowed s
+renew_allowed {client = client} {answer = answer} s = by_row s refl (by s.given.replied)
+  where
+    by_due : (r : Reply) → r ≡ due (store_in s) client command.Renew → RowOf s r
+    by_due r is = elim (cases_Bool s.given.devices.halted) [
+      | inl failed ↦ let answered : r ≡ reply.Halted s.given.devices.installed.flushed = rw failed at is in subst (RowOf s) (sym answered) (s.given.known.halted failed)
+      | inr runs ↦ elim (cases_Bool s.given.devices.stopped) [
+        | inl closed ↦
+            let answered : r ≡ reply.Stopped (length (front s)) = rw (runs, closed) at is in
+            subst (RowOf s) (sym answered) (inr refl, front_fresh s, subst (λ (n : ℕ). IsKnown s.evidence (LogStopped n)) (sym (front_size s)) (s.given.known.stopped closed))
+        | inr open_ ↦ elim (cases_Bool (s.given.devices.installed.segment.base == length (front s))) [
+          | inl same ↦
+              let answered : r ≡ reply.Nothing = rw (runs, open_, same) at is in
+              let at = eqb-true s.given.devices.installed.segment.base (length (front s)) same in
+              subst (RowOf s) (sym answered) (s.given.devices.installed.segment.base, s.given.known.based, omega (arith, at, (front_fresh s).0))
+          | inr differs ↦
+              let answered : r ≡ reply.Renewed (length (front s)) (length (undecided (front s))) = rw (runs, open_, differs) at is in
+              subst (RowOf s) (sym answered) (front_fresh s, ap (λ (f : List Entry). length (undecided f)) (sym (at_front s)))
+        ]
+      ]
+    ]
+
+    -- what installs an edit found another base
+    differs : is_installed (due (store_in s) client command.Renew) ≡ true → (s.given.devices.installed.segment.base == length (front s)) ≡ false
+    differs installs = elim (cases_Bool s.given.devices.halted) [
+      | inl failed ↦ let none : is_installed (reply.Halted s.given.devices.installed.flushed) ≡ true = rw failed at installs in absurd cc
+      | inr runs ↦ elim (cases_Bool s.given.devices.stopped) [
+        | inl closed ↦ let none : is_installed (reply.Stopped (length (front s))) ≡ true = rw (runs, closed) at installs in absurd cc
+        | inr open_ ↦ elim (cases_Bool (s.given.devices.installed.segment.base == length (front s))) [
+          | inl same ↦ let none : is_installed reply.Nothing ≡ true = rw (runs, open_, same) at installs in absurd cc
+          | inr other ↦ other
+        ]
+      ]
+    ]
+
+    by : IsReply (store_in s) client command.Renew answer → RowOf s answer
+    by (inl is) = by_due answer is
+    by (inr (inl failed)) = subst (RowOf s) (sym failed.0) (asks_none client.txn s.evidence.failed.entries (s.given.asked (ap is_fault failed.0)))
+    by (inr (inr failed)) = subst (RowOf s) (sym failed.0) (renewal_fails s (differs failed.1) (ap is_tables_fault failed.0))

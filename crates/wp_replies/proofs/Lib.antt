@@ -4,3 +4,5 @@ pub mod Scenes
 pub mod DueTables
 pub mod DueLemmas
 pub mod SessionLemmas
+pub mod Below
+pub mod BelowAll

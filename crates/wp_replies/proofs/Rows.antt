@@ -7,7 +7,9 @@ use Rattle.wp_model.specs.declared.holder.Holder.{Holder}
 use Rattle.wp_model.specs.declared.holder.Holder.TheVariants as holder
 use Rattle.wp_model.specs.Batch.{change_to}
 use Rattle.wp_model.specs.Flushed.{later_versions}
-use Rattle.wp_model.specs.History.{entry_at, name_at, batch_at, is_undecided, is_changed, named, newest}
+use Rattle.wp_cuts.specs.Cut.{carried_of}
+use Rattle.wp_cuts.specs.Kept.{carried_versions, HasKeysAt}
+use Rattle.wp_model.specs.History.{entry_at, name_at, batch_at, is_undecided, undecided, is_changed, named, newest}
 use Rattle.wp_model.proofs.Entries.{batch_at_old}
 use Rattle.wp_text.specs.declared.script.Command.{Command}
 use Rattle.wp_text.specs.declared.script.Command.TheVariants as command
@@ -18,9 +20,9 @@ use Rattle.wp_replies.specs.declared.client.Txn.TheVariants.{Idle, Open, Prepare
 use Rattle.wp_replies.specs.Client.{Client}
 use Rattle.wp_replies.specs.After.{labels_after, after_reply}
 use Rattle.wp_replies.specs.Progress.{Progress, progress_after}
-use Rattle.wp_replies.specs.Replies.{Claim, Evidence, IsKnown, HasName, HasTaken, HasKey, WritesKey, WasTold, LogFailed, WasFlushed, TablesFailed, OtherCompacted, refusal_of, IsFresh, IsLoggedAt, WasUndecided, HadKey, IsBusy, IsNameTaken, OwnSays, PreparesAt, CommitsAt, RollsBackAt, IsFlushCount, HasNothingToFlush, HasNothingToMerge, FailsFlush, FailsCompaction, IsHaltedAt, Row, UnlessRefused}
+use Rattle.wp_replies.specs.Replies.{Claim, Evidence, IsKnown, HasName, HasTaken, HasKey, WritesKey, WasTold, LogStopped, WasFlushed, WasBase, TablesFailed, OtherCompacted, refusal_of, IsFresh, IsLoggedAt, WasUndecided, HadKey, IsBusy, IsNameTaken, OwnSays, PreparesAt, CommitsAt, RollsBackAt, IsFlushCount, IsCompactionCount, HasNothingToRenew, HasNothingToFlush, HasNothingToMerge, FailsFlush, FailsCompaction, FailsRenewal, IsHaltedAt, Row, UnlessRefused}
 use Rattle.wp_replies.specs.Session.{IsSession}
-use Rattle.wp_replies.specs.Tables.{unflushed, after_flush, after_compaction}
+use Rattle.wp_replies.specs.Tables.{unflushed, after_flush, listed, after_compaction, after_renewal}
 
 -- ---- entries
 
@@ -128,8 +130,30 @@ compaction_fails_more e more later last client f = record {
   two = f.two;
   snapshots = f.snapshots;
   own = f.own;
-  edit = front_more (λ h. IfSome e.failed.edit (λ edit. edit ≡ after_compaction h f.snapshots e.installed)) e.history more f.at f.fresh.1 f.edit;
+  from_base = f.from_base;
+  edit = front_more (λ h. IfSome e.failed.edit (λ edit. edit ≡ after_compaction h (listed f.snapshots e.base e.installed) e.installed)) e.history more f.at f.fresh.1 f.edit;
 }
+
+renewal_fails_more : (e : Evidence) (more : List Entry) (later : Claim → Bool) (last : ℕ) → FailsRenewal e last → FailsRenewal (grown e more later) last
+renewal_fails_more e more later last f = record {
+  at = f.at;
+  fresh = fresh_more e.history more last f.at f.fresh;
+  behind = f.behind;
+  place = f.place;
+  edit = front_more (λ h. IfSome e.failed.edit (λ edit. edit ≡ after_renewal h f.place e.installed)) e.history more f.at f.fresh.1 f.edit;
+}
+
+-- the base is within the history
+pub compaction_count_more : (h more : List Entry) (base n versions : ℕ) → base ≤ length h → n ≤ length h → IsCompactionCount h base n versions → IsCompactionCount (h ++ more) base n versions
+compaction_count_more h more base n versions low le count = λ keys has.
+    let there : HasKeysAt h base keys = λ key value is. has key value (front_more (λ f. newest f key ≡ Some value) h more base low is) in
+    let bound = count keys there in
+    let front = ap (λ (f : List Entry). length (carried_versions (carried_of f))) (take-append-le base h more low) in
+    let later = ap (λ (f : List Entry). length (later_versions f base)) (take-append-le n h more le) in
+    omega (arith, bound, front, later)
+
+nothing_to_renew_more : (e : Evidence) (more : List Entry) (later : Claim → Bool) → KnowsMore e later → (last : ℕ) → HasNothingToRenew e last → HasNothingToRenew (grown e more later) last
+nothing_to_renew_more e more later f last (base, was, low) = (base, f (WasBase base) was, low)
 
 -- ---- the client
 
@@ -146,55 +170,59 @@ snapshots_after p client c r = refl
 
 -- ---- the rows
 
-row_more : (e : Evidence) (more : List Entry) (later : Claim → Bool) → KnowsMore e later → (progress : Progress) (client : Client) (p : ℕ) (c : Command) (r : Reply) → Row e progress client p c r → Row (grown e more later) progress client p c r
-row_more e more later f progress client p c (reply.Full published most) k = (k.0, fresh_more e.history more progress.last published k.1, k.2, k.3)
-row_more e more later f progress client p c reply.FaultLog k = k
-row_more e more later f progress client p c (reply.Stopped n) k = (k.0, fresh_more e.history more progress.last n k.1, f (LogFailed n) k.2)
-row_more e more later f progress client p (command.Put key value) (reply.Put n) k = (k.0, logged_more e.history more progress.last n _ k.1)
-row_more e more later f progress client p (command.Put key value) reply.Held k = k
-row_more e more later f progress client p (command.Put key value) (reply.Busy holder) k = busy_more e more later f progress.last key holder k
-row_more e more later f progress client p (command.Del key) (reply.Del n) k = (k.0, logged_more e.history more progress.last n _ k.1)
-row_more e more later f progress client p (command.Del key) reply.Held k = k
-row_more e more later f progress client p (command.Del key) (reply.Busy holder) k = busy_more e more later f progress.last key holder k
-row_more e more later f progress client p (command.Get key) (reply.Got value n) k = (own_more e.history more client.txn key _ k.0, fresh_more e.history more progress.last n k.1, value_more e.history more key n _ k.1.1 k.2)
-row_more e more later f progress client p (command.Get key) (reply.Missing n) k = (own_more e.history more client.txn key _ k.0, fresh_more e.history more progress.last n k.1, value_more e.history more key n _ k.1.1 k.2)
-row_more e more later f progress client p (command.Get key) (reply.GotOwn value) k = own_more e.history more client.txn key _ k
-row_more e more later f progress client p (command.Get key) reply.MissingOwn k = own_more e.history more client.txn key _ k
-row_more e more later f progress client p (command.GetAt key label) (reply.Got value n) k = ((k.0.0, longer e.history more n k.0.1), value_more e.history more key n _ k.0.1 k.1)
-row_more e more later f progress client p (command.GetAt key label) (reply.Missing n) k = ((k.0.0, longer e.history more n k.0.1), value_more e.history more key n _ k.0.1 k.1)
-row_more e more later f progress client p (command.Snap label) (reply.Snapped n) k = fresh_more e.history more progress.last n k
-row_more e more later f progress client p (command.Free label) reply.Freed k = k
-row_more e more later f progress client p (command.Begin name) reply.Begun k = k
-row_more e more later f progress client p (command.Begin name) (reply.Taken other) k = (k.0, taken_more e more later f progress.last name k.1)
-row_more e more later f progress client p command.Prepare (reply.Prepared n) k = prepares_more e.history more progress.last client.txn n k
-row_more e more later f progress client p command.Commit (reply.Committed n) k = commits_more e.history more progress.last client.txn n k
-row_more e more later f progress client p command.Rollback reply.Dropped k = k
-row_more e more later f progress client p command.Rollback (reply.RolledBack n) k = rolls_more e.history more progress.last client.txn n k
-row_more e more later f progress client p command.Leave reply.Left k = k
-row_more e more later f progress client p (command.Take name) reply.Took k = was_more e.history more progress.last name p k
-row_more e more later f progress client p (command.Take name) (reply.Unknown other n) k = (k.0, fresh_more e.history more progress.last n k.1, front_more (λ f. named f name ≡ None) e.history more n k.1.1 k.2)
-row_more e more later f progress client p (command.Take name) (reply.InUse other) k = (k.0, f (HasName name) k.1)
-row_more e more later f progress client p command.Flush (reply.Flushed n versions) k = (fresh_more e.history more progress.last n k.0, k.1, flush_count_more e more later f n versions k.0.1 k.2)
-row_more e more later f progress client p command.Flush reply.Nothing k = nothing_to_flush_more e more later f progress.last k
-row_more e more later f progress client p command.Flush (reply.Halted flushed) k = halted_more e more later f flushed k
-row_more e more later f progress client p command.Flush reply.FaultTables k = flush_fails_more e more later progress.last k
-row_more e more later f progress client p command.Compact (reply.Compacted n versions) k = (fresh_more e.history more progress.last n k.0, front_more (λ h. versions ≤ length (later_versions h 0)) e.history more n k.0.1 k.1)
-row_more e more later f progress client p command.Compact reply.Nothing k = nothing_to_merge_more e more later f progress.tables k
-row_more e more later f progress client p command.Compact (reply.Halted flushed) k = halted_more e more later f flushed k
-row_more e more later f progress client p command.Compact reply.FaultTables k = compaction_fails_more e more later progress.last client k
-row_more e more later f progress client p (command.Tell label) (reply.Told n) k = fresh_more e.history more progress.last n k
-row_more e more later f progress client p (command.Hear label) (reply.Heard n) k = (fresh_more e.history more progress.last n k.0, f (WasTold label n) k.1)
-row_more e more later f progress client p (command.Hear label) (reply.Silent other) k = k
-row_more e more later f progress client p c r k = absurd k
+row_more : (e : Evidence) (more : List Entry) (later : Claim → Bool) → e.base ≤ length e.history → KnowsMore e later → (progress : Progress) (client : Client) (p : ℕ) (c : Command) (r : Reply) → Row e progress client p c r → Row (grown e more later) progress client p c r
+row_more e more later within f progress client p c (reply.Full published most) k = (k.0, fresh_more e.history more progress.last published k.1, k.2, k.3)
+row_more e more later within f progress client p c reply.FaultLog k = k
+row_more e more later within f progress client p c (reply.Stopped n) k = (k.0, fresh_more e.history more progress.last n k.1, f (LogStopped n) k.2)
+row_more e more later within f progress client p (command.Put key value) (reply.Put n) k = (k.0, logged_more e.history more progress.last n _ k.1)
+row_more e more later within f progress client p (command.Put key value) reply.Held k = k
+row_more e more later within f progress client p (command.Put key value) (reply.Busy holder) k = busy_more e more later f progress.last key holder k
+row_more e more later within f progress client p (command.Del key) (reply.Del n) k = (k.0, logged_more e.history more progress.last n _ k.1)
+row_more e more later within f progress client p (command.Del key) reply.Held k = k
+row_more e more later within f progress client p (command.Del key) (reply.Busy holder) k = busy_more e more later f progress.last key holder k
+row_more e more later within f progress client p (command.Get key) (reply.Got value n) k = (own_more e.history more client.txn key _ k.0, fresh_more e.history more progress.last n k.1, value_more e.history more key n _ k.1.1 k.2)
+row_more e more later within f progress client p (command.Get key) (reply.Missing n) k = (own_more e.history more client.txn key _ k.0, fresh_more e.history more progress.last n k.1, value_more e.history more key n _ k.1.1 k.2)
+row_more e more later within f progress client p (command.Get key) (reply.GotOwn value) k = own_more e.history more client.txn key _ k
+row_more e more later within f progress client p (command.Get key) reply.MissingOwn k = own_more e.history more client.txn key _ k
+row_more e more later within f progress client p (command.GetAt key label) (reply.Got value n) k = ((k.0.0, longer e.history more n k.0.1), value_more e.history more key n _ k.0.1 k.1)
+row_more e more later within f progress client p (command.GetAt key label) (reply.Missing n) k = ((k.0.0, longer e.history more n k.0.1), value_more e.history more key n _ k.0.1 k.1)
+row_more e more later within f progress client p (command.Snap label) (reply.Snapped n) k = fresh_more e.history more progress.last n k
+row_more e more later within f progress client p (command.Free label) reply.Freed k = k
+row_more e more later within f progress client p (command.Begin name) reply.Begun k = k
+row_more e more later within f progress client p (command.Begin name) (reply.Taken other) k = (k.0, taken_more e more later f progress.last name k.1)
+row_more e more later within f progress client p command.Prepare (reply.Prepared n) k = prepares_more e.history more progress.last client.txn n k
+row_more e more later within f progress client p command.Commit (reply.Committed n) k = commits_more e.history more progress.last client.txn n k
+row_more e more later within f progress client p command.Rollback reply.Dropped k = k
+row_more e more later within f progress client p command.Rollback (reply.RolledBack n) k = rolls_more e.history more progress.last client.txn n k
+row_more e more later within f progress client p command.Leave reply.Left k = k
+row_more e more later within f progress client p (command.Take name) reply.Took k = was_more e.history more progress.last name p k
+row_more e more later within f progress client p (command.Take name) (reply.Unknown other n) k = (k.0, fresh_more e.history more progress.last n k.1, front_more (λ f. named f name ≡ None) e.history more n k.1.1 k.2)
+row_more e more later within f progress client p (command.Take name) (reply.InUse other) k = (k.0, f (HasName name) k.1)
+row_more e more later within f progress client p command.Flush (reply.Flushed n versions) k = (fresh_more e.history more progress.last n k.0, k.1, flush_count_more e more later f n versions k.0.1 k.2)
+row_more e more later within f progress client p command.Flush reply.Nothing k = nothing_to_flush_more e more later f progress.last k
+row_more e more later within f progress client p command.Flush (reply.Halted flushed) k = halted_more e more later f flushed k
+row_more e more later within f progress client p command.Flush reply.FaultTables k = flush_fails_more e more later progress.last k
+row_more e more later within f progress client p command.Compact (reply.Compacted n versions) k = (fresh_more e.history more progress.last n k.0, compaction_count_more e.history more e.base n versions within k.0.1 k.1)
+row_more e more later within f progress client p command.Compact reply.Nothing k = nothing_to_merge_more e more later f progress.tables k
+row_more e more later within f progress client p command.Compact (reply.Halted flushed) k = halted_more e more later f flushed k
+row_more e more later within f progress client p command.Compact reply.FaultTables k = compaction_fails_more e more later progress.last client k
+row_more e more later within f progress client p command.Renew (reply.Renewed n carried) k = (fresh_more e.history more progress.last n k.0, front_more (λ h. carried ≡ length (undecided h)) e.history more n k.0.1 k.1)
+row_more e more later within f progress client p command.Renew reply.Nothing k = nothing_to_renew_more e more later f progress.last k
+row_more e more later within f progress client p command.Renew (reply.Halted flushed) k = halted_more e more later f flushed k
+row_more e more later within f progress client p command.Renew reply.FaultTables k = renewal_fails_more e more later progress.last k
+row_more e more later within f progress client p (command.Tell label) (reply.Told n) k = fresh_more e.history more progress.last n k
+row_more e more later within f progress client p (command.Hear label) (reply.Heard n) k = (fresh_more e.history more progress.last n k.0, f (WasTold label n) k.1)
+row_more e more later within f progress client p (command.Hear label) (reply.Silent other) k = k
+row_more e more later within f progress client p c r k = absurd k
 
-unless_refused_more : (refusal : Option Reply) (r : Reply) (A B : Type 0) → (A → B) → UnlessRefused refusal r A → UnlessRefused refusal r B
+pub unless_refused_more : (refusal : Option Reply) (r : Reply) (A B : Type 0) → (A → B) → UnlessRefused refusal r A → UnlessRefused refusal r B
 unless_refused_more None r A B f a = f a
 unless_refused_more (Some refusal) r A B f is = is
 
 -- a session over a history that grows, with more known of the others
-pub session_more : (e : Evidence) (more : List Entry) (later : Claim → Bool) → KnowsMore e later → (progress : Progress) (client : Client) (cs : List Command) (rs : List Reply) → IsSession e progress client cs rs → IsSession (grown e more later) progress client cs rs
-session_more e more later f progress client [] [] s = tt
-session_more e more later f progress client [] (r ∷ rs) s = absurd s
-session_more e more later f progress client (c ∷ cs) [] s = absurd s
-session_more e more later f progress client (c ∷ cs) (r ∷ rs) (p, allowed, rest) =
-    (p, unless_refused_more (refusal_of client c) r _ _ (row_more e more later f progress client p c r) allowed, session_more e more later f (progress_after progress c r) (after_reply p client c r) cs rs rest)
+pub session_more : (e : Evidence) (more : List Entry) (later : Claim → Bool) → e.base ≤ length e.history → KnowsMore e later → (progress : Progress) (client : Client) (cs : List Command) (rs : List Reply) → IsSession e progress client cs rs → IsSession (grown e more later) progress client cs rs
+session_more e more later within f progress client [] [] s = tt
+session_more e more later within f progress client [] (r ∷ rs) s = absurd s
+session_more e more later within f progress client (c ∷ cs) [] s = absurd s
+session_more e more later within f progress client (c ∷ cs) (r ∷ rs) (p, allowed, rest) =
+    (p, unless_refused_more (refusal_of client c) r _ _ (row_more e more later within f progress client p c r) allowed, session_more e more later within f (progress_after progress c r) (after_reply p client c r) cs rs rest)

@@ -10,10 +10,11 @@ use Rattle.wp_text.specs.declared.reply.Reply.{Reply}
 use Rattle.wp_text.specs.declared.reply.Reply.TheVariants as reply
 use Rattle.wp_replies.specs.declared.plan.Plan.{Plan}
 use Rattle.wp_replies.specs.declared.plan.Plan.TheVariants.{Say, Log}
+use Rattle.wp_replies.specs.Alike.{AreFrom}
 use Rattle.wp_replies.specs.Client.{Client, AreWithin}
-use Rattle.wp_replies.specs.Kind.{Kind, Logged, RolledBack, kind, is_logged, says_logged, is_fault, is_installed, says_installed}
+use Rattle.wp_replies.specs.Kind.{Kind, Logged, RolledBack, kind, is_logged, says_logged, is_fault, is_installed, says_installed, calls_log}
 use Rattle.wp_replies.specs.Progress.{Progress}
-use Rattle.wp_replies.specs.Replies.{LogFailed, Evidence, IsKnown, refusal_of, IsFresh, IsLoggedAt, TxnIsWithin, needed, AsksFor, Row, UnlessRefused, Allows}
+use Rattle.wp_replies.specs.Replies.{LogStopped, Evidence, IsKnown, refusal_of, IsFresh, IsLoggedAt, TxnIsWithin, needed, AsksFor, Row, UnlessRefused, Allows}
 use Rattle.wp_replies.specs.Plan.{plan, asked_of, next}
 use Rattle.wp_replies.specs.Due.{Store, logged, reply_to, due, IsReply, logged_entries, taken}
 use Rattle.wp_replies.specs.Moments.{store_at, IsDueFrom}
@@ -58,7 +59,9 @@ pub record Scene (client : Client) (c : Command) (answer : Reply) : Type 0 where
   pub evidence : Evidence
   pub from : ℕ
   pub progress : Progress
+  pub based : evidence.base ≤ progress.last
   pub low : progress.last ≤ from
+  pub labels : AreFrom evidence.base client.snapshots
   pub txn : TxnIsWithin from client.txn
   pub snapshots : AreWithin from client.snapshots
   pub given : IsDueFrom evidence from progress client c answer
@@ -85,7 +88,7 @@ front_fresh s = (omega (arith, front_size s, s.low, s.given.earlier), omega (ari
 
 -- a device may fail in place of the reply
 abbrev pub may_fail : Reply → Bool
-may_fail r = is_logged r || is_installed r
+may_fail r = calls_log r || is_installed r
 
 pub none_of : (a b : Bool) → (a || b) ≡ false → a ≡ true → ⊥
 none_of true b none is = absurd cc
@@ -102,8 +105,8 @@ answered {client = client} {c = c} {answer = answer} s made is plain = by s.give
   where
     by : IsReply (store_in s) client c answer → answer ≡ made
     by (inl said) = said ∙ is
-    by (inr (inl fault)) = let logs : is_logged made ≡ true = subst (λ (r : Reply). is_logged r ≡ true) is fault.1 in absurd (none_of (is_logged made) (is_installed made) plain logs)
-    by (inr (inr fault)) = let installs : is_installed made ≡ true = subst (λ (r : Reply). is_installed r ≡ true) is fault.1 in absurd (nor_of (is_logged made) (is_installed made) plain installs)
+    by (inr (inl fault)) = let calls : calls_log made ≡ true = subst (λ (r : Reply). calls_log r ≡ true) is fault.1 in absurd (none_of (calls_log made) (is_installed made) plain calls)
+    by (inr (inr fault)) = let installs : is_installed made ≡ true = subst (λ (r : Reply). is_installed r ≡ true) is fault.1 in absurd (nor_of (calls_log made) (is_installed made) plain installs)
 
 -- likewise where the plan says it
 said : {client : Client} {c : Command} {answer : Reply} (s : Scene client c answer) (made : Reply) → plan (front s) client c ≡ Say made → may_fail made ≡ false → answer ≡ made
@@ -150,12 +153,12 @@ log_allowed {client = client} {c = c} {answer = answer} s count made free needs 
         elim (cases_Bool s.given.devices.stopped) [
           | inl failed ↦
               let answered : answer ≡ reply.Stopped (length (front s)) = rw failed at is in
-              subst (RowOf s) (sym answered) (needs_some, front_fresh s, subst (λ (n : ℕ). IsKnown s.evidence (LogFailed n)) (sym (front_size s)) (s.given.known.stopped failed))
-          | inr runs ↦ elim (cases_Bool (nat_lt s.evidence.limit (length (front s) + count))) [
+              subst (RowOf s) (sym answered) (inl needs_some, front_fresh s, subst (λ (n : ℕ). IsKnown s.evidence (LogStopped n)) (sym (front_size s)) (s.given.known.stopped failed))
+          | inr runs ↦ elim (cases_Bool (nat_lt s.given.devices.limit (length (front s) + count))) [
             | inl over ↦
-                let answered : answer ≡ reply.Full (length (front s)) s.evidence.limit = rw (runs, over) at is in
-                let past : s.evidence.limit < length (front s) + needed client.txn c = omega (arith, needs, ltb-true _ _ over) in
-                subst (RowOf s) (sym answered) (needs_some, front_fresh s, refl, past)
+                let answered : answer ≡ reply.Full (length (front s)) s.given.devices.limit = rw (runs, over) at is in
+                let past : s.given.devices.limit < length (front s) + needed client.txn c = omega (arith, needs, ltb-true _ _ over) in
+                subst (RowOf s) (sym answered) (needs_some, front_fresh s, s.given.known.limit, past)
             | inr room ↦
                 let answered : answer ≡ made = rw (runs, room) at is in
                 subst (RowOf s) (sym answered) (row answered)

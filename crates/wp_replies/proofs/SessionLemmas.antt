@@ -50,7 +50,7 @@ idle_plain Idle = (tt, refl, refl, refl)
 idle_plain (Open name batch) = (refl, tt, refl, tt)
 idle_plain (Prepared p) = (refl, refl, tt, tt)
 
-refusal_plain : (client : Client) (c : Command) → IsPlainIfSome (refusal_of client c)
+pub refusal_plain : (client : Client) (c : Command) → IsPlainIfSome (refusal_of client c)
 refusal_plain client (command.Put key value) = change_plain client.txn key
 refusal_plain client (command.Del key) = change_plain client.txn key
 refusal_plain client (command.Get key) = tt
@@ -65,11 +65,12 @@ refusal_plain client command.Leave = (idle_plain client.txn).2
 refusal_plain client (command.Take name) = (idle_plain client.txn).0
 refusal_plain client command.Flush = tt
 refusal_plain client command.Compact = tt
+refusal_plain client command.Renew = tt
 refusal_plain client (command.Tell label) = tt
 refusal_plain client (command.Hear label) = tt
 
 -- what is true by the row, and where the reply speaks of no entry
-allowed_gives : (Q : Type 0) (refusal : Option Reply) (r : Reply) (row : Type 0) → IsPlainIfSome refusal → (row → Q) → (kind r ≡ Plain → Q) → UnlessRefused refusal r row → Q
+pub allowed_gives : (Q : Type 0) (refusal : Option Reply) (r : Reply) (row : Type 0) → IsPlainIfSome refusal → (row → Q) → (kind r ≡ Plain → Q) → UnlessRefused refusal r row → Q
 allowed_gives Q None r row plain by_row by_kind allowed = by_row allowed
 allowed_gives Q (Some refusal) r row plain by_row by_kind allowed = by_kind (ap kind allowed ∙ plain)
 
@@ -113,7 +114,7 @@ rolls_fresh : (h : List Entry) (last : ℕ) (txn : Txn) (n : ℕ) → RollsBackA
 rolls_fresh h last (Prepared p) n l = logged_fresh h last n _ l.0
 rolls_fresh h last _ n l = absurd l
 
-row_fresh : (e : Evidence) (progress : Progress) (client : Client) (p : ℕ) (c : Command) (r : Reply) → Row e progress client p c r → IfSome (fresh_in c r) (IsFresh e.history progress.last)
+pub row_fresh : (e : Evidence) (progress : Progress) (client : Client) (p : ℕ) (c : Command) (r : Reply) → Row e progress client p c r → IfSome (fresh_in c r) (IsFresh e.history progress.last)
 row_fresh e progress client p (command.Put key value) (reply.Put n) k = logged_fresh e.history progress.last n _ k.1
 row_fresh e progress client p (command.Del key) (reply.Del n) k = logged_fresh e.history progress.last n _ k.1
 row_fresh e progress client p (command.Get key) (reply.Got value n) k = k.1
@@ -126,12 +127,13 @@ row_fresh e progress client p command.Rollback (reply.RolledBack n) k = rolls_fr
 row_fresh e progress client p (command.Take name) (reply.Unknown other n) k = k.1
 row_fresh e progress client p command.Flush (reply.Flushed n versions) k = k.0
 row_fresh e progress client p command.Compact (reply.Compacted n versions) k = k.0
+row_fresh e progress client p command.Renew (reply.Renewed n carried) k = k.0
 row_fresh e progress client p (command.Tell label) (reply.Told n) k = k
 row_fresh e progress client p (command.Hear label) (reply.Heard n) k = k.0
 row_fresh e progress client p c reply.Held k = tt
 row_fresh e progress client p c r k = first_of (search rules, cc)
 
-fresh_none : (h : List Entry) (last : ℕ) (c : Command) (r : Reply) → kind r ≡ Plain → IfSome (fresh_in c r) (IsFresh h last)
+pub fresh_none : (h : List Entry) (last : ℕ) (c : Command) (r : Reply) → kind r ≡ Plain → IfSome (fresh_in c r) (IsFresh h last)
 fresh_none h last (command.GetAt key label) r plain = tt
 fresh_none h last c r plain = subst (λ (o : Option ℕ). IfSome o (IsFresh h last)) (sym (ap number_of_kind plain)) tt
 
@@ -172,7 +174,7 @@ asked_none : (h : List Entry) (last : ℕ) (txn : Txn) (c : Command) (r : Reply)
 asked_none h last txn c r plain = subst (AreAsked h last txn c) (sym (ap numbers_logged plain)) tt
 
 -- only an idle client is answered `took`
-took_by_row : (txn : Txn) (row : Type 0) → UnlessRefused (unless_idle txn) reply.Took row → row
+pub took_by_row : (txn : Txn) (row : Type 0) → UnlessRefused (unless_idle txn) reply.Took row → row
 took_by_row Idle row a = a
 took_by_row (Open name batch) row a = absurd cc
 took_by_row (Prepared p) row a = absurd cc

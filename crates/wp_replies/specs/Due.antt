@@ -1,28 +1,30 @@
 -- What a command is answered over a store, and what it leaves of the store and of the client.
-use Rattle.std.specs.Prelude.{◌≡◌, ◌⊎◌, ℕ, ◌+◌, Bool, true, nat_lt, List, [], ◌∷◌, ◌++◌, length, Option, Some, None, unwrap_or, if◌then◌else◌}
+use Rattle.std.specs.Prelude.{◌≡◌, ◌⊎◌, ℕ, ◌+◌, ◌==◌, Bool, true, nat_lt, List, [], ◌∷◌, ◌++◌, length, Option, Some, None, unwrap_or, if◌then◌else◌}
 use Rattle.std.specs.FinMap as map
 use Rattle.wp_model.specs.declared.entry.Entry.{Entry}
 use Rattle.wp_model.specs.declared.version.Version.{Version}
 use Rattle.wp_model.specs.Flushed.{InstalledEdit}
-use Rattle.wp_model.specs.History.{named}
+use Rattle.wp_model.specs.History.{named, undecided}
 use Rattle.wp_model.specs.LockTables.{Labels}
 use Rattle.wp_text.specs.declared.script.Command.{Command}
 use Rattle.wp_text.specs.declared.script.Command.TheVariants as command
 use Rattle.wp_text.specs.declared.reply.Reply.{Reply}
 use Rattle.wp_text.specs.declared.reply.Reply.TheVariants as reply
 use Rattle.wp_replies.specs.declared.plan.Plan.{Plan}
-use Rattle.wp_replies.specs.declared.plan.Plan.TheVariants.{Say, Log, RollBack, Flush, Compact, Tell, Hear}
+use Rattle.wp_replies.specs.declared.plan.Plan.TheVariants.{Say, Log, RollBack, Flush, Compact, Renew, Tell, Hear}
 use Rattle.wp_replies.specs.Client.{Client, numbers_of}
 use Rattle.wp_replies.specs.After.{after_reply}
-use Rattle.wp_replies.specs.Kind.{is_logged, is_fault, is_installed, is_tables_fault}
+use Rattle.wp_replies.specs.Kind.{is_logged, is_installed, is_renewed, is_tables_fault, calls_log, stops_log}
 use Rattle.wp_replies.specs.Plan.{plan, asked_of}
-use Rattle.wp_replies.specs.Tables.{unflushed, after_flush, retained, after_compaction}
+use Rattle.wp_replies.specs.Tables.{unflushed, after_flush, listed, retained, after_compaction, after_renewal}
 
 -- the store between two commands
 pub record Store : Type 0 where
+  pub base : ℕ  -- the base of the log that it was opened from
   pub history : List Entry
-  pub stopped : Bool  -- the log has failed
+  pub stopped : Bool  -- the log takes no more
   pub limit : ℕ  -- the greatest number of an entry
+  pub renewed_limit : ℕ  -- the same, once the log has been renewed
   pub installed : InstalledEdit  -- the last edit of the tables
   pub halted : Bool  -- the manifest's device or the tables' has failed
   pub board : Labels  -- what was told last under each label
@@ -44,11 +46,21 @@ abbrev pub flushed : ℕ → List Version → Reply
 flushed published [] = reply.Nothing
 flushed published (first ∷ others) = reply.Flushed published (length (first ∷ others))
 
+-- the numbers that a compaction lists, where snapshots with these are live
+abbrev pub listed_in : Store → List ℕ → List ℕ
+listed_in store snapshots = listed snapshots store.base store.installed
+
 -- a compaction, where snapshots with these numbers are live; it takes two tables at least
 abbrev pub compacted : Store → List ℕ → Reply
 compacted store snapshots =
     if nat_lt store.installed.tables 2 then reply.Nothing
-    else reply.Compacted (length store.history) (length (retained store.history snapshots store.installed))
+    else reply.Compacted (length store.history) (length (retained store.history (listed_in store snapshots) store.installed))
+
+-- a renewal, where the log does not begin behind the number published
+abbrev pub renewed : Store → Reply
+renewed store =
+    if store.stopped then reply.Stopped (length store.history)
+    else (if store.installed.segment.base == length store.history then reply.Nothing else reply.Renewed (length store.history) (length (undecided store.history)))
 
 -- what is heard of a label with this number, or with none
 abbrev pub heard : ℕ → Option ℕ → List ℕ → Reply
@@ -61,6 +73,7 @@ reply_to store client (Log entry answer) = logged store (length (asked_of (Log e
 reply_to store client (RollBack p batch answer) = logged store (length (asked_of (RollBack p batch answer))) answer
 reply_to store client Flush = unless_halted store (flushed (length store.history) (unflushed store.history store.installed))
 reply_to store client Compact = unless_halted store (compacted store (numbers_of client.snapshots))
+reply_to store client Renew = unless_halted store (renewed store)
 reply_to store client (Tell label) = reply.Told (length store.history)
 reply_to store client (Hear label) = heard (length store.history) (map.get store.board label) label
 
@@ -68,12 +81,12 @@ reply_to store client (Hear label) = heard (length store.history) (map.get store
 abbrev pub due : Store → Client → Command → Reply
 due store client command = reply_to store client (plan store.history client command)
 
--- The reply is the one that is due; or the log failed as it took the command's entries, or the manifest's device or the
--- tables' as they took the command's edit.
+-- The reply is the one that is due; or the log's device failed as it took the command's entries or was renewed, or the manifest's
+-- device or the tables' as they took the command's edit.
 abbrev pub IsReply : Store → Client → Command → Reply → Type 0
 IsReply store client command answer =
     (answer ≡ due store client command)
-    ⊎ ((answer ≡ reply.FaultLog) × (is_logged (due store client command) ≡ true))
+    ⊎ ((answer ≡ reply.FaultLog) × (calls_log (due store client command) ≡ true))
     ⊎ ((answer ≡ reply.FaultTables) × (is_installed (due store client command) ≡ true))
 
 -- ---- what it leaves
@@ -82,26 +95,29 @@ IsReply store client command answer =
 abbrev pub logged_entries : Store → Client → Command → Reply → List Entry
 logged_entries store client command answer = if is_logged answer then asked_of (plan store.history client command) else []
 
--- the edit that a plan has the tables take
-abbrev pub edit_of : Store → Client → Plan → InstalledEdit
-edit_of store client Flush = after_flush store.history store.installed
-edit_of store client Compact = after_compaction store.history (numbers_of client.snapshots) store.installed
-edit_of store client other = store.installed
+-- The edit that a plan has the tables take. A renewal puts the log's segment at a place that the history does not tell.
+abbrev pub edit_of : (place : ℕ) → Store → Client → Plan → InstalledEdit
+edit_of place store client Flush = after_flush store.history store.installed
+edit_of place store client Compact = after_compaction store.history (listed_in store (numbers_of client.snapshots)) store.installed
+edit_of place store client Renew = after_renewal store.history place store.installed
+edit_of place store client other = store.installed
 
 -- the last edit once the reply is given
-abbrev pub installed_edit : Store → Client → Command → Reply → InstalledEdit
-installed_edit store client command answer = if is_installed answer then edit_of store client (plan store.history client command) else store.installed
+abbrev pub installed_edit : (place : ℕ) → Store → Client → Command → Reply → InstalledEdit
+installed_edit place store client command answer = if is_installed answer then edit_of place store client (plan store.history client command) else store.installed
 
 -- the board once the reply is given: what was told takes the place of what the label had
 abbrev pub board_after : Labels → Command → Reply → Labels
 board_after board (command.Tell label) (reply.Told n) = map.insert board label n
 board_after board command answer = board
 
-abbrev pub store_after : Store → Client → Command → Reply → Store
-store_after store client command answer = record store {
+-- the store once the reply is given, where a renewal puts the log's segment at this place
+abbrev pub store_after : (place : ℕ) → Store → Client → Command → Reply → Store
+store_after place store client command answer = record store {
   history = store.history ++ logged_entries store client command answer;
-  stopped = if is_fault answer then true else store.stopped;
-  installed = installed_edit store client command answer;
+  stopped = if stops_log command answer then true else store.stopped;
+  limit = if is_renewed answer then store.renewed_limit else store.limit;
+  installed = installed_edit place store client command answer;
   halted = if is_tables_fault answer then true else store.halted;
   board = board_after store.board command answer;
 }

@@ -1,5 +1,5 @@
 -- What a reply says of the history: the one list of all replies that say something.
-use Rattle.std.specs.Prelude.{ℕ, suc, ◌-◌, ◌==◌, Bool, true, false, List, [], ◌∷◌, Option, Some, None, min, unwrap_or}
+use Rattle.std.specs.Prelude.{ℕ, suc, ◌-◌, ◌==◌, ◌||◌, Bool, true, false, List, [], ◌∷◌, Option, Some, None, min, unwrap_or}
 use Rattle.wp_text.specs.declared.script.Command.{Command}
 use Rattle.wp_text.specs.declared.script.Command.TheVariants as command
 use Rattle.wp_text.specs.declared.reply.Reply.{Reply}
@@ -9,10 +9,11 @@ pub data Kind : Type 0 where
   Logged : ℕ → Kind  -- it acknowledges the entry with this number
   RolledBack : ℕ → Kind  -- it acknowledges an Undo, and its Close, which has this number
   Published : ℕ → Kind  -- it was given over so many entries
-  LogFault : Kind  -- the log failed
-  Stopped : Kind  -- the log had failed before
+  LogFault : Kind  -- the log's device failed
+  Stopped : Kind  -- the log was stopped before
   Flushed : ℕ → Kind  -- one table more was installed, and this is the flushed number from then on
   Compacted : ℕ → ℕ → Kind  -- over so many entries all tables were merged, and so many versions are left
+  Renewed : ℕ → Kind  -- another segment of the log was installed; this is its base, and the flushed number from then on
   TablesFault : Kind  -- the manifest's device or the tables' failed
   Halted : Kind  -- one of them had failed before
   Plain : Kind  -- it speaks of no entry
@@ -33,6 +34,7 @@ kind reply.FaultLog = LogFault
 kind (reply.Stopped n) = Stopped
 kind (reply.Flushed n versions) = Flushed n
 kind (reply.Compacted n versions) = Compacted n versions
+kind (reply.Renewed n carried) = Renewed n
 kind reply.FaultTables = TablesFault
 kind (reply.Halted flushed) = Halted
 kind other = Plain
@@ -59,7 +61,7 @@ abbrev pub says_log_fault : Kind → Bool
 says_log_fault LogFault = true
 says_log_fault other = false
 
--- the log failed at its command
+-- the log's device failed at its command
 abbrev pub is_fault : Reply → Bool
 is_fault answer = says_log_fault (kind answer)
 
@@ -67,13 +69,14 @@ abbrev pub says_stopped : Kind → Bool
 says_stopped Stopped = true
 says_stopped other = false
 
--- the log had failed before its command
+-- the log was stopped before its command
 abbrev pub is_stopped : Reply → Bool
 is_stopped answer = says_stopped (kind answer)
 
 abbrev pub says_installed : Kind → Bool
 says_installed (Flushed n) = true
 says_installed (Compacted n versions) = true
+says_installed (Renewed n) = true
 says_installed other = false
 
 -- an edit of the tables was installed at its command
@@ -82,11 +85,32 @@ is_installed answer = says_installed (kind answer)
 
 abbrev pub says_flushed : ℕ → Kind → Bool
 says_flushed n (Flushed flushed) = n == flushed
+says_flushed n (Renewed flushed) = n == flushed
 says_flushed n other = false
 
 -- n is the flushed number from its command on
 abbrev pub is_flushed : ℕ → Reply → Bool
 is_flushed n answer = says_flushed n (kind answer)
+
+abbrev pub says_based : ℕ → Kind → Bool
+says_based n (Renewed base) = n == base
+says_based n other = false
+
+-- n is the base of the log from its command on
+abbrev pub is_based : ℕ → Reply → Bool
+is_based n answer = says_based n (kind answer)
+
+abbrev pub says_renewed : Kind → Bool
+says_renewed (Renewed n) = true
+says_renewed other = false
+
+-- another segment of the log was installed at its command
+abbrev pub is_renewed : Reply → Bool
+is_renewed answer = says_renewed (kind answer)
+
+-- the log's device is called at its command
+abbrev pub calls_log : Reply → Bool
+calls_log answer = is_logged answer || is_renewed answer
 
 abbrev pub says_compacted : Kind → Bool
 says_compacted (Compacted n versions) = true
@@ -104,6 +128,19 @@ says_tables_fault other = false
 abbrev pub is_tables_fault : Reply → Bool
 is_tables_fault answer = says_tables_fault (kind answer)
 
+abbrev pub is_renewal : Command → Bool
+is_renewal command.Renew = true
+is_renewal other = false
+
+abbrev pub says_stop : Bool → Kind → Bool
+says_stop renewal LogFault = true
+says_stop renewal TablesFault = renewal
+says_stop renewal other = false
+
+-- the log takes no more from the command on: its device failed there, or, in a renewal, one of the tables' two
+abbrev pub stops_log : Command → Reply → Bool
+stops_log command answer = says_stop (is_renewal command) (kind answer)
+
 abbrev pub says_halted : Kind → Bool
 says_halted Halted = true
 says_halted other = false
@@ -118,6 +155,7 @@ number_of_kind (RolledBack n) = Some n
 number_of_kind (Published n) = Some n
 number_of_kind (Flushed n) = Some n
 number_of_kind (Compacted n versions) = Some n
+number_of_kind (Renewed n) = Some n
 number_of_kind other = None
 
 -- the number after the @ of a reply

@@ -13,9 +13,9 @@ use Rattle.wp_replies.specs.declared.client.Txn.{Txn}
 use Rattle.wp_replies.specs.declared.client.Txn.TheVariants.{Idle, Open}
 use Rattle.wp_replies.specs.Client.{Client, new_client}
 use Rattle.wp_replies.specs.After.{after_reply}
-use Rattle.wp_replies.specs.Kind.{is_fault, is_flushed, is_compacted, is_tables_fault}
+use Rattle.wp_replies.specs.Kind.{is_flushed, is_based, is_compacted, is_tables_fault, stops_log}
 use Rattle.wp_replies.specs.Progress.{Progress}
-use Rattle.wp_replies.specs.Replies.{Claim, HasName, HasTaken, HasKey, WritesKey, WasTold, LogFailed, WasFlushed, TablesFailed, OtherCompacted, Untaken, Evidence}
+use Rattle.wp_replies.specs.Replies.{Claim, HasName, HasTaken, HasKey, WritesKey, WasTold, LogStopped, WasFlushed, WasBase, TablesFailed, OtherCompacted, Untaken, Limits, Evidence}
 
 -- what a store has on its devices: a history, and the last edit of the tables
 pub record StoredState : Type 0 where
@@ -30,6 +30,19 @@ known_at_first found = record { last = length found.history; tables = found.edit
 pub record Dialogue : Type 0 where
   pub part : Part
   pub answers : List Reply
+
+-- the replies, each with its command
+abbrev pub exchanges : List Command → List Reply → List (Command × Reply)
+exchanges (first ∷ commands) (answer ∷ answers) = (first, answer) ∷ exchanges commands answers
+exchanges commands answers = []
+
+-- the log takes no more from this one on
+abbrev pub is_stop : Command × Reply → Bool
+is_stop exchange = stops_log exchange.0 exchange.1
+
+-- one of a dialogue's is such
+abbrev pub has_stop : Dialogue → Bool
+has_stop d = list_any is_stop (exchanges d.part.commands d.answers)
 
 -- the replies of all dialogues
 abbrev pub answers_in : List Dialogue → List Reply
@@ -91,11 +104,13 @@ is_said history found all others (HasTaken name) = one_comes_to (takes_name name
 is_said history found all others (HasKey name key) = one_comes_to (stages_key name key) others
 is_said history found all others (WritesKey name key) = one_comes_to (writes_key key) (filter (λ d. bytes_eq d.part.client name) others)
 is_said history found all others (WasTold label n) = one_comes_to (tells label n) all
-is_said history found all others (LogFailed n) = (n == length history) && list_any is_fault (answers_in all)
+is_said history found all others (LogStopped n) = (n == length history) && list_any has_stop all
 is_said history found all others (WasFlushed n) = (n == found.edit.flushed) || list_any (is_flushed n) (answers_in all)
+is_said history found all others (WasBase n) = (n == found.edit.segment.base) || list_any (is_based n) (answers_in all)
 is_said history found all others TablesFailed = list_any is_tables_fault (answers_in all)
 is_said history found all others OtherCompacted = list_any is_compacted (answers_in others)
 
 -- what a client's replies are judged by: what is left, what was found, the dialogues of all clients, and those of the others
-abbrev pub evidence_of : (left : StoredState) → ℕ → Untaken → (found : StoredState) → List Dialogue → List Dialogue → Evidence
-evidence_of left limit failed found all others = record { opened = length found.history; history = left.history; installed = left.edit; limit = limit; failed = failed; known = is_said left.history found all others }
+abbrev pub evidence_of : (left : StoredState) → Limits → Untaken → (found : StoredState) → List Dialogue → List Dialogue → Evidence
+evidence_of left limits failed found all others =
+    record { opened = length found.history; base = found.edit.segment.base; history = left.history; installed = left.edit; limits = limits; failed = failed; known = is_said left.history found all others }

@@ -16,7 +16,8 @@ use Rattle.wp_replies.specs.Client.{Client, new_client, number_of}
 use Rattle.wp_replies.specs.After.{labels_after, after_reply}
 use Rattle.wp_replies.specs.Kind.{acknowledged, fresh_in, last_after}
 use Rattle.wp_replies.specs.Progress.{Progress}
-use Rattle.wp_replies.specs.Replies.{Claim, Evidence, IsKnown, IsFresh, IsLoggedAt, WasUndecided}
+use Rattle.wp_replies.specs.Replies.{Claim, Evidence, IsKnown, IsFresh, IsLoggedAt, WasUndecided, Row}
+use Rattle.wp_replies.specs.Alike.{IsLike, IsFrom}
 use Rattle.wp_replies.specs.Moments.{AreDueFrom}
 use Rattle.wp_replies.specs.Session.{IsSession}
 
@@ -25,6 +26,7 @@ use Rattle.wp_replies.specs.Session.{IsSession}
 -- A session stays one as the history grows, and as more is known of the others.
 abbrev pub SessionGrows : Type 0
 SessionGrows = (evidence : Evidence) (more : List Entry) (later : Claim → Bool) (progress : Progress) (client : Client) (commands : List Command) (answers : List Reply)
+    → evidence.base ≤ length evidence.history
     → ((claim : Claim) → IsKnown evidence claim → later claim ≡ true)
     → IsSession evidence progress client commands answers
     → IsSession (record evidence { history = evidence.history ++ more; known = later }) progress client commands answers
@@ -33,8 +35,23 @@ SessionGrows = (evidence : Evidence) (more : List Entry) (later : Claim → Bool
 -- fits the devices at these moments.
 abbrev pub DueIsSession : Type 0
 DueIsSession = (evidence : Evidence) (from : ℕ) (progress : Progress) (commands : List Command) (answers : List Reply)
-    → progress.last ≤ from → AreDueFrom evidence from progress new_client commands answers
+    → evidence.base ≤ progress.last → progress.last ≤ from → AreDueFrom evidence from progress new_client commands answers
     → IsSession evidence progress new_client commands answers
+
+-- What is below the base of the log does not matter: with another list that tells alike from there on, the same sessions are allowed.
+-- Where the two are full lists of one cut, with the same values at its base, they tell alike.
+abbrev pub SessionsTellAlike : Type 0
+SessionsTellAlike = (evidence : Evidence) (other : List Entry) (progress : Progress) (commands : List Command) (answers : List Reply)
+    → IsLike evidence other → evidence.base ≤ progress.last
+    → IsSession evidence progress new_client commands answers
+    → IsSession (record evidence { history = other }) progress new_client commands answers
+
+-- Likewise each row by itself, where what the client has is from the base on.
+abbrev pub RowsTellAlike : Type 0
+RowsTellAlike = (evidence : Evidence) (other : List Entry) (progress : Progress) (client : Client) (p : ℕ) (command : Command) (answer : Reply)
+    → IsLike evidence other → IsFrom evidence.base evidence.history progress.last client
+    → Row evidence progress client p command answer
+    → Row (record evidence { history = other }) progress client p command answer
 
 -- ---- reads
 

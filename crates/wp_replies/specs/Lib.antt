@@ -13,4 +13,5 @@ pub mod Current
 pub mod Asked
 pub mod Explains
 pub mod Exact
+pub mod Alike
 pub mod Laws

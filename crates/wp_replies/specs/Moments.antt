@@ -1,8 +1,13 @@
 -- A session whose replies are due at moments of the history, one after another.
-use Rattle.std.specs.Prelude.{◌≡◌, ◌⊎◌, ℕ, ◌≤◌, Bool, true, List, [], ◌∷◌, ◌++◌, length, take, Some, is_some, IfSome}
+use Rattle.std.specs.Prelude.{◌≡◌, ◌⊎◌, ℕ, ◌≤◌, Bool, true, List, [], ◌∷◌, ◌++◌, length, take, Option, Some, None, is_some, IfSome}
 use Rattle.std.specs.FinMap as map
-use Rattle.wp_model.specs.Flushed.{InstalledEdit, later_versions}
+use Rattle.wp_model.specs.declared.entry.Entry.{Entry}
+use Rattle.wp_model.specs.Covered.{GivesStore}
+use Rattle.wp_model.specs.Decision.{entry_version}
+use Rattle.wp_model.specs.Flushed.{InstalledEdit}
+use Rattle.wp_model.specs.Legal.{IsLegal, undone_last}
 use Rattle.wp_model.specs.LockTables.{Labels}
+use Rattle.wp_model.specs.Versions.{AreInOrder, version_at}
 use Rattle.wp_text.specs.declared.script.Command.{Command}
 use Rattle.wp_text.specs.declared.reply.Reply.{Reply}
 use Rattle.wp_replies.specs.Client.{Client}
@@ -10,29 +15,44 @@ use Rattle.wp_replies.specs.Due.{Store, IsReply, logged_entries, edit_of, client
 use Rattle.wp_replies.specs.Kind.{is_fault, is_tables_fault, fresh_in}
 use Rattle.wp_replies.specs.Plan.{plan, asked_of}
 use Rattle.wp_replies.specs.Progress.{Progress, knows_label, progress_after}
-use Rattle.wp_replies.specs.Replies.{WasTold, LogFailed, WasFlushed, TablesFailed, OtherCompacted, Evidence, IsKnown}
+use Rattle.wp_replies.specs.Replies.{WasTold, LogStopped, WasFlushed, WasBase, TablesFailed, OtherCompacted, Evidence, IsKnown, IsLimit}
 
 -- what a store has beside its history
 pub record Devices : Type 0 where
-  pub stopped : Bool  -- the log has failed
+  pub stopped : Bool  -- the log takes no more
+  pub limit : ℕ  -- the greatest number of an entry
   pub installed : InstalledEdit  -- the last edit of the tables
   pub halted : Bool  -- the manifest's device or the tables' has failed
   pub board : Labels  -- what was told last under each label
 
 -- the store when so many entries of the history were published
 abbrev pub store_at : Evidence → Devices → ℕ → Store
-store_at evidence devices at = record { history = take at evidence.history; stopped = devices.stopped; limit = evidence.limit; installed = devices.installed; halted = devices.halted; board = devices.board }
+store_at evidence devices at =
+    record { base = evidence.base; history = take at evidence.history; stopped = devices.stopped; limit = devices.limit; renewed_limit = evidence.limits.renewed; installed = devices.installed; halted = devices.halted; board = devices.board }
+
+-- These entries are a legal history that can be cut at the base. The edit's base is no earlier, and its tables have versions of the
+-- history, in order, which show a reader at the base what the store had there.
+pub record AreStored (base : ℕ) (history : List Entry) (edit : InstalledEdit) : Type 0 where
+  pub legal : IsLegal history
+  pub within : base ≤ length history
+  pub whole : undone_last (take base history) ≡ None
+  pub from_base : base ≤ edit.segment.base
+  pub order : AreInOrder edit.versions
+  pub part : (key : List ℕ) (p : ℕ) (value : Option (List ℕ)) → version_at edit.versions key p ≡ Some value → (entry_version history p key ≡ Some value) × (p ≤ length history)
+  pub gives : (key : List ℕ) → GivesStore edit.versions history key base
 
 -- What is known of the others fits the devices when so many entries were published: what has failed, and which number the edit
--- has, which is the last one once the tables' devices failed. The edit has as many tables as the client knows of, unless another
--- client made them one, and no more versions than these entries. What is on the board was told, and each label is there that the
--- client knows.
+-- has, which is the last one once the tables' devices failed; and its base. The edit has as many tables as the client knows of, unless
+-- another client made them one, and they have what is stored. What is on the board was told, and each label is there that the client
+-- knows.
 pub record AreKnown (evidence : Evidence) (at : ℕ) (progress : Progress) (devices : Devices) : Type 0 where
-  pub stopped : devices.stopped ≡ true → IsKnown evidence (LogFailed at)
+  pub stopped : devices.stopped ≡ true → IsKnown evidence (LogStopped at)
+  pub limit : IsLimit evidence devices.limit
   pub halted : devices.halted ≡ true → (devices.installed.flushed ≡ evidence.installed.flushed) × IsKnown evidence TablesFailed
   pub flushed : IsKnown evidence (WasFlushed devices.installed.flushed)
+  pub based : IsKnown evidence (WasBase devices.installed.segment.base)
   pub counted : (progress.tables ≤ devices.installed.tables) ⊎ IsKnown evidence OtherCompacted
-  pub few : length devices.installed.versions ≤ length (later_versions (take at evidence.history) 0)
+  pub stored : AreStored evidence.base (take at evidence.history) devices.installed
   pub told : (label : List ℕ) (n : ℕ) → map.get devices.board label ≡ Some n → IsKnown evidence (WasTold label at)
   pub heard : (label : List ℕ) → knows_label progress.labels label ≡ true → is_some (map.get devices.board label) ≡ true
 
@@ -45,6 +65,7 @@ pub record IsDueFrom (evidence : Evidence) (from : ℕ) (progress : Progress) (c
   pub grows : before ≤ after
   pub within : after ≤ length evidence.history
   pub devices : Devices
+  pub place : ℕ  -- of the segment that a renewal writes
   pub known : AreKnown evidence before progress devices
   pub replied : IsReply (store_at evidence devices before) client command answer
   pub logged : take after evidence.history ≡ take before evidence.history ++ logged_entries (store_at evidence devices before) client command answer
@@ -52,7 +73,7 @@ pub record IsDueFrom (evidence : Evidence) (from : ℕ) (progress : Progress) (c
   -- what the log failed to take is what the command asked for
   pub asked : is_fault answer ≡ true → evidence.failed.entries ≡ asked_of (plan (take before evidence.history) client command)
   -- likewise the tables, which have the last edit then
-  pub asked_edit : is_tables_fault answer ≡ true → IfSome evidence.failed.edit (λ edit. edit ≡ edit_of (store_at evidence devices before) client (plan (take before evidence.history) client command)) × (devices.installed ≡ evidence.installed)
+  pub asked_edit : is_tables_fault answer ≡ true → IfSome evidence.failed.edit (λ edit. edit ≡ edit_of place (store_at evidence devices before) client (plan (take before evidence.history) client command)) × (devices.installed ≡ evidence.installed)
 
 abbrev pub AreDueFrom : Evidence → ℕ → Progress → Client → List Command → List Reply → Type 0
 AreDueFrom evidence from progress client [] [] = Unit {0}

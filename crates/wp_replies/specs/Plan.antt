@@ -17,7 +17,7 @@ use Rattle.wp_replies.specs.declared.client.LabelledSnapshot.{LabelledSnapshot}
 use Rattle.wp_replies.specs.declared.client.Txn.{Txn}
 use Rattle.wp_replies.specs.declared.client.Txn.TheVariants.{Idle, Open, Prepared}
 use Rattle.wp_replies.specs.declared.plan.Plan.{Plan}
-use Rattle.wp_replies.specs.declared.plan.Plan.TheVariants.{Say, Log, RollBack, Flush, Compact, Tell, Hear}
+use Rattle.wp_replies.specs.declared.plan.Plan.TheVariants.{Say, Log, RollBack, Flush, Compact, Renew, Tell, Hear}
 use Rattle.wp_replies.specs.Client.{Client, own_batch, number_of}
 use Rattle.wp_replies.specs.Replies.{refuses_change, unless_idle, unless_prepared, unless_labelled, refuses_label}
 
@@ -125,6 +125,7 @@ plan history client command.Leave = leave_plan client.txn
 plan history client (command.Take name) = take_plan history client.txn name
 plan history client command.Flush = Flush
 plan history client command.Compact = Compact
+plan history client command.Renew = Renew
 plan history client (command.Tell label) = Tell label
 plan history client (command.Hear label) = Hear label
 

@@ -1,6 +1,6 @@
 -- The table of replies: each reply is given only where its row says so, over a history, with what is known of the other
 -- clients. Each row stays true as the history grows, and as more is known of the others.
-use Rattle.std.specs.Prelude.{◌≡◌, ◌⊎◌, ℕ, ◌+◌, ◌-◌, ◌<◌, ◌≤◌, ◌==◌, Bool, true, false, nat_le, List, [], ◌∷◌, length, take, Option, Some, None, is_some, IfSome, if◌then◌else◌}
+use Rattle.std.specs.Prelude.{◌≡◌, ◌≢◌, ◌⊎◌, ℕ, ◌+◌, ◌-◌, ◌<◌, ◌≤◌, ◌==◌, Bool, true, false, nat_le, List, [], ◌∷◌, length, take, Option, Some, None, is_some, IfSome, if◌then◌else◌}
 use Rattle.std.specs.List.{list_any}
 use Rattle.wp_model.specs.declared.change.Change.{Change}
 use Rattle.wp_model.specs.declared.change.Change.TheVariants as change
@@ -10,7 +10,9 @@ use Rattle.wp_model.specs.declared.holder.Holder.{Holder}
 use Rattle.wp_model.specs.declared.holder.Holder.TheVariants as holder
 use Rattle.wp_model.specs.Batch.{change_to}
 use Rattle.wp_model.specs.Flushed.{InstalledEdit, later_versions}
-use Rattle.wp_model.specs.History.{entry_at, name_at, batch_at, is_undecided, is_changed, named, value_at}
+use Rattle.wp_model.specs.History.{entry_at, name_at, batch_at, is_undecided, undecided, is_changed, named, value_at}
+use Rattle.wp_cuts.specs.Cut.{carried_of}
+use Rattle.wp_cuts.specs.Kept.{carried_versions, HasKeysAt}
 use Rattle.wp_text.specs.declared.script.Command.{Command}
 use Rattle.wp_text.specs.declared.script.Command.TheVariants as command
 use Rattle.wp_text.specs.declared.reply.Reply.{Reply}
@@ -20,8 +22,9 @@ use Rattle.wp_replies.specs.declared.client.LabelledSnapshot.{LabelledSnapshot}
 use Rattle.wp_replies.specs.declared.client.Txn.{Txn}
 use Rattle.wp_replies.specs.declared.client.Txn.TheVariants.{Idle, Open, Prepared}
 use Rattle.wp_replies.specs.Client.{Client, number_of, numbers_of, own_batch, has_no_room}
+use Rattle.wp_replies.specs.Kind.{is_renewal}
 use Rattle.wp_replies.specs.Progress.{Progress, knows_label}
-use Rattle.wp_replies.specs.Tables.{unflushed, after_flush, after_compaction}
+use Rattle.wp_replies.specs.Tables.{unflushed, after_flush, listed, after_compaction, after_renewal}
 
 -- ---- what is known of the others
 
@@ -32,8 +35,9 @@ pub data Claim : Type 0 where
   HasKey : List ℕ → List ℕ → Claim  -- another client was answered `held` for the key, in its open transaction of this name
   WritesKey : List ℕ → List ℕ → Claim  -- another client, of this name, came to write the key at once
   WasTold : List ℕ → ℕ → Claim  -- a client was answered `told` for the label, with a number of at most this
-  LogFailed : ℕ → Claim  -- a client was answered `fault log`, and so many entries are all of the history
-  WasFlushed : ℕ → Claim  -- this was the flushed number at opening, or a client was answered `flushed` with it
+  LogStopped : ℕ → Claim  -- a client was answered `fault log`, or `fault tables` to `renew`, and so many entries are all of the history
+  WasFlushed : ℕ → Claim  -- this was the flushed number at opening, or a client was answered `flushed` or `renewed` with it
+  WasBase : ℕ → Claim  -- this was the base of the log at opening, or a client was answered `renewed` with it
   TablesFailed : Claim  -- a client was answered `fault tables`
   OtherCompacted : Claim  -- another client was answered `compacted`
 
@@ -42,12 +46,18 @@ pub record Untaken : Type 0 where
   pub entries : List Entry  -- of one record, for the log
   pub edit : Option InstalledEdit  -- for the manifest's device and the tables'; none where one failed before the manifest was called
 
+-- the greatest number that an entry may have: a log in the first version of its format has room for less
+pub record Limits : Type 0 where
+  pub opened : ℕ  -- in the log as it was opened
+  pub renewed : ℕ  -- once it has been renewed
+
 -- what a reply is judged by
 pub record Evidence : Type 0 where
   pub opened : ℕ  -- so many entries the store was opened with
+  pub base : ℕ  -- the base of the log that it was opened from
   pub history : List Entry
   pub installed : InstalledEdit  -- the last edit of the tables
-  pub limit : ℕ  -- the greatest number that an entry may have
+  pub limits : Limits
   pub failed : Untaken
   pub known : Claim → Bool  -- what is known of the other clients, of the log and of the tables
 
@@ -101,6 +111,7 @@ refusal_of client command.Leave = unless_prepared client.txn
 refusal_of client (command.Take name) = unless_idle client.txn
 refusal_of client command.Flush = None
 refusal_of client command.Compact = None
+refusal_of client command.Renew = None
 refusal_of client (command.Tell label) = None
 refusal_of client (command.Hear label) = None
 
@@ -168,7 +179,11 @@ needed (Prepared p) command.Commit = 1
 needed (Prepared p) command.Rollback = 2
 needed txn other = 0
 
--- the entries that the command asks the log for, as one record
+-- the log may refuse the command: it has to take an entry, or to be renewed
+abbrev pub IsOfLog : Txn → Command → Type 0
+IsOfLog txn command = (1 ≤ needed txn command) ⊎ (is_renewal command ≡ true)
+
+-- The entries that the command asks the log for, as one record. A renewal asks it for none.
 abbrev pub AsksFor : Txn → Command → List Entry → Type 0
 AsksFor Idle (command.Put key value) entries = entries ≡ entry.Write (change.Put key value ∷ []) ∷ []
 AsksFor Idle (command.Del key) entries = entries ≡ entry.Write (change.Del key ∷ []) ∷ []
@@ -176,7 +191,19 @@ AsksFor (Open name batch) command.Prepare entries = entries ≡ entry.Prepare na
 AsksFor (Open name batch) command.Commit entries = entries ≡ entry.Write batch ∷ []
 AsksFor (Prepared p) command.Commit entries = entries ≡ entry.Commit p ∷ []
 AsksFor (Prepared p) command.Rollback entries = (batch : List Change) × (entries ≡ entry.Undo p batch ∷ entry.Close p ∷ [])
+AsksFor txn command.Renew entries = entries ≡ []
 AsksFor txn other entries = ⊥
+
+-- ---- the log
+
+-- It is a limit of the log: as it was opened, or renewed. In the first the number published is at most that limit, so where it passes
+-- it the log was renewed.
+abbrev pub IsLimit : Evidence → ℕ → Type 0
+IsLimit evidence most = (most ≡ evidence.limits.opened) ⊎ (most ≡ evidence.limits.renewed)
+
+-- Nothing was to be renewed: what the client had seen goes no further than a number that was the base.
+abbrev pub HasNothingToRenew : Evidence → ℕ → Type 0
+HasNothingToRenew evidence last = (base : ℕ) × IsKnown evidence (WasBase base) × (last ≤ base)
 
 -- ---- transactions in the log
 
@@ -201,9 +228,11 @@ RollsBackAt history last other n = ⊥
 abbrev pub IsFlushCount : Evidence → ℕ → ℕ → Type 0
 IsFlushCount evidence n versions = (flushed : ℕ) × IsKnown evidence (WasFlushed flushed) × (length (later_versions (take n evidence.history) flushed) ≡ versions)
 
--- there are that many versions up to n, or more
-abbrev pub IsCompactionCount : List Entry → ℕ → ℕ → Type 0
-IsCompactionCount history n versions = versions ≤ length (later_versions (take n history) 0)
+-- There are that many versions up to n, or more: those of the entries behind the base, those of the prepares that were undecided there,
+-- and for each key with a value there one. From the base 0 on that is each version of an entry.
+abbrev pub IsCompactionCount : List Entry → ℕ → ℕ → ℕ → Type 0
+IsCompactionCount history base n versions = (keys : List (List ℕ)) → HasKeysAt history base keys
+    → versions ≤ length keys + (length (carried_versions (carried_of (take base history))) + length (later_versions (take n history) base))
 
 -- Nothing was to be flushed: no version is numbered above a number that was the flushed one, and up to what the client
 -- had seen.
@@ -222,14 +251,23 @@ pub record FailsFlush (evidence : Evidence) (last : ℕ) : Type 0 where
   pub some : 1 ≤ length (unflushed (take at evidence.history) evidence.installed)
   pub edit : IfSome evidence.failed.edit (λ edit. edit ≡ after_flush (take at evidence.history) evidence.installed)
 
--- It is a compaction's: of what readers needed then, with the client's snapshots or more of them.
+-- It is a compaction's: of what readers needed then, with the client's snapshots or more of them, none of which is from below the base.
 pub record FailsCompaction (evidence : Evidence) (last : ℕ) (client : Client) : Type 0 where
   pub at : ℕ
   pub fresh : IsFresh evidence.history last at
   pub two : 2 ≤ evidence.installed.tables
   pub snapshots : List ℕ
   pub own : (n : ℕ) → list_any (λ m. m == n) (numbers_of client.snapshots) ≡ true → list_any (λ m. m == n) snapshots ≡ true
-  pub edit : IfSome evidence.failed.edit (λ edit. edit ≡ after_compaction (take at evidence.history) snapshots evidence.installed)
+  pub from_base : (n : ℕ) → list_any (λ m. m == n) snapshots ≡ true → evidence.base ≤ n
+  pub edit : IfSome evidence.failed.edit (λ edit. edit ≡ after_compaction (take at evidence.history) (listed snapshots evidence.base evidence.installed) evidence.installed)
+
+-- It is a renewal's, where the log did not begin behind the number published then.
+pub record FailsRenewal (evidence : Evidence) (last : ℕ) : Type 0 where
+  pub at : ℕ
+  pub fresh : IsFresh evidence.history last at
+  pub behind : evidence.installed.segment.base ≢ at
+  pub place : ℕ
+  pub edit : IfSome evidence.failed.edit (λ edit. edit ≡ after_renewal (take at evidence.history) place evidence.installed)
 
 -- the manifest's device or the tables' failed, and the number is the last edit's flushed one
 abbrev pub IsHaltedAt : Evidence → ℕ → Type 0
@@ -240,9 +278,9 @@ IsHaltedAt evidence flushed = (flushed ≡ evidence.installed.flushed) × IsKnow
 -- A row for each command and reply, by what the client knows then; `took` gives the prepare with the number p. Of `held`,
 -- `freed`, `begun`, `dropped` and `left` the client's state alone decides.
 abbrev pub Row : Evidence → Progress → Client → ℕ → Command → Reply → Type 0
-Row evidence progress client p command (reply.Full published most) = (1 ≤ needed client.txn command) × IsFresh evidence.history progress.last published × (most ≡ evidence.limit) × (evidence.limit < published + needed client.txn command)
+Row evidence progress client p command (reply.Full published most) = (1 ≤ needed client.txn command) × IsFresh evidence.history progress.last published × IsLimit evidence most × (most < published + needed client.txn command)
 Row evidence progress client p command reply.FaultLog = AsksFor client.txn command evidence.failed.entries
-Row evidence progress client p command (reply.Stopped n) = (1 ≤ needed client.txn command) × IsFresh evidence.history progress.last n × IsKnown evidence (LogFailed n)
+Row evidence progress client p command (reply.Stopped n) = IsOfLog client.txn command × IsFresh evidence.history progress.last n × IsKnown evidence (LogStopped n)
 Row evidence progress client p (command.Put key value) (reply.Put n) = (client.txn ≡ Idle) × IsLoggedAt evidence.history progress.last n (entry.Write (change.Put key value ∷ []))
 Row evidence progress client p (command.Put key value) reply.Held = TxnIsOpen client.txn
 Row evidence progress client p (command.Put key value) (reply.Busy holder) = IsBusy evidence progress.last key holder
@@ -271,10 +309,14 @@ Row evidence progress client p command.Flush (reply.Flushed n versions) = IsFres
 Row evidence progress client p command.Flush reply.Nothing = HasNothingToFlush evidence progress.last
 Row evidence progress client p command.Flush (reply.Halted flushed) = IsHaltedAt evidence flushed
 Row evidence progress client p command.Flush reply.FaultTables = FailsFlush evidence progress.last
-Row evidence progress client p command.Compact (reply.Compacted n versions) = IsFresh evidence.history progress.last n × IsCompactionCount evidence.history n versions
+Row evidence progress client p command.Compact (reply.Compacted n versions) = IsFresh evidence.history progress.last n × IsCompactionCount evidence.history evidence.base n versions
 Row evidence progress client p command.Compact reply.Nothing = HasNothingToMerge evidence progress.tables
 Row evidence progress client p command.Compact (reply.Halted flushed) = IsHaltedAt evidence flushed
 Row evidence progress client p command.Compact reply.FaultTables = FailsCompaction evidence progress.last client
+Row evidence progress client p command.Renew (reply.Renewed n carried) = IsFresh evidence.history progress.last n × (carried ≡ length (undecided (take n evidence.history)))
+Row evidence progress client p command.Renew reply.Nothing = HasNothingToRenew evidence progress.last
+Row evidence progress client p command.Renew (reply.Halted flushed) = IsHaltedAt evidence flushed
+Row evidence progress client p command.Renew reply.FaultTables = FailsRenewal evidence progress.last
 Row evidence progress client p (command.Tell label) (reply.Told n) = IsFresh evidence.history progress.last n
 Row evidence progress client p (command.Hear label) (reply.Heard n) = IsFresh evidence.history progress.last n × IsKnown evidence (WasTold label n)
 Row evidence progress client p (command.Hear label) (reply.Silent other) = (other ≡ label) × (knows_label progress.labels label ≡ false)

@@ -1,11 +1,17 @@
 //! What is true of every session.
 ghost use Rattle.std.specs.Prelude.{◌≡◌};
 ghost use Rattle.wp_replies.specs.declared.client.TheConstants.{MOST_SNAPSHOTS};
-ghost use Rattle.wp_replies.specs.Laws.{SessionGrows, DueIsSession, ReadsAreValues, FreshNumbersNeverFall, AcknowledgedAreLogged};
+ghost use Rattle.wp_replies.specs.Laws.{SessionGrows, SessionsTellAlike, RowsTellAlike, DueIsSession, ReadsAreValues, FreshNumbersNeverFall, AcknowledgedAreLogged};
 
 /// A session stays one as the history grows, and as more is known of the other clients.
 pub fn session_grows()
     ensures { SessionGrows }
+{}
+
+/// No row depends on what stands below the base of the log that the store was opened from, and so no session does.
+pub fn nothing_below_the_base_tells()
+    ensures rows { RowsTellAlike }
+    ensures sessions { SessionsTellAlike }
 {}
 
 /// Replies that are due at moments of the history, one after another, are a session.

@@ -14,6 +14,8 @@ pub enum Plan {
     Flush,
     /// All tables are to be one, where the tables take an edit.
     Compact,
+    /// The log is to begin behind the number published, where it does not yet, and where the log and the tables take it.
+    Renew,
     /// The label is to have the number published.
     Tell(Name),
     /// The number published is heard, where something was told under the label.

@@ -2,13 +2,13 @@
 use Rattle.std.proofs.Common.{ℕ, List, [], ◌≤◌, refl, arith}
 use Rattle.wp_outside.specs.Disk.{Moment}
 use Rattle.wp_outside.specs.Faults.{Rose}
-use Rattle.wp_gatelog.specs.Durability.{HasAcknowledged, LosesNoRecord}
-use Rattle.wp_gatelog.specs.Moments.{Leaves}
+use Rattle.wp_gatelog.specs.Durability.{HasAcknowledged, LosesNoRecordAt}
+use Rattle.wp_gatelog.specs.Moments.{Leaves, LeavesFrom}
 use Rattle.wp_gatelog.proofs.DurabilityLemmas.{preserves_on}
 use Rattle.wp_tableset.specs.Device.{BeginsWith, KeepsFronts}
 
-pub records_trans : (magic : List ℕ) (old mid new : List Moment) → LosesNoRecord magic old mid → LosesNoRecord magic mid new → LosesNoRecord magic old new
-records_trans magic old mid new a b = λ id records. preserves_on (Leaves (HasAcknowledged magic id records)) old mid new (a id records) (b id records)
+pub records_trans : (place : ℕ) (magic : List ℕ) (old mid new : List Moment) → LosesNoRecordAt place magic old mid → LosesNoRecordAt place magic mid new → LosesNoRecordAt place magic old new
+records_trans place magic old mid new a b = λ stamp records. preserves_on (LeavesFrom place (HasAcknowledged magic stamp records)) old mid new (a stamp records) (b stamp records)
 
 pub fronts_same : (ms : List Moment) → KeepsFronts ms ms
 fronts_same ms = λ front. ([], refl, tt)

@@ -6,7 +6,8 @@ use Rattle.wp_gatelog.specs.Moments.{Leaves}
 use Rattle.wp_open.specs.declared.bad.Bad.TheVariants as bad
 use Rattle.wp_open.specs.declared.opening.OpenError.{OpenError}
 use Rattle.wp_open.specs.declared.opening.OpenError.TheVariants as open_error
-use Rattle.wp_open.specs.Refused.{IsLeft, at_log, at_manifest, at_place, at_edit, at_tables}
+use Rattle.wp_open.specs.Devices.{DevicesLeft}
+use Rattle.wp_open.specs.Refused.{IsLeft, at_manifest, at_log, at_new_manifest, at_place, at_ids, at_edit, at_tables}
 use Rattle.wp_open.specs.Tables.{IsAtMostSynced, LeavesSynced}
 use Rattle.wp_tableset.specs.Device.{BeginsWith, KeepsFronts}
 use Rattle.wp_run.proofs.Keeping.{fronts_same}
@@ -26,20 +27,21 @@ fronts_at_most_synced old new itself left = elim left [
 ]
 
 fronts_left : (same : Type 0) (old new : List Moment) (why : OpenError) → (same → KeepsFronts old new) → ReadsItself old → LeavesSynced same old new why → KeepsFronts old new
-fronts_left same old new (open_error.Contents (bad.BadHead device)) unchanged itself left = unchanged left
+fronts_left same old new (open_error.Contents (bad.BaseAhead base flushed)) unchanged itself left = unchanged left
 fronts_left same old new (open_error.Contents (bad.LogBehind flushed published)) unchanged itself left = unchanged left
 fronts_left same old new (open_error.OpenFault device) unchanged itself left = fronts_at_most_synced old new itself left
 fronts_left same old new other unchanged itself left = fronts_at_most_synced old new itself (inr left)
 
 -- what a refused opening leaves of that device
-pub refused_fronts : (same_manifest same : Type 0) (log log_now manifest manifest_now tables tables_now : List Moment) (why : OpenError) → (same → tables_now ≡ tables) → ReadsItself tables
-    → IsLeft same_manifest same log log_now manifest manifest_now tables tables_now why → KeepsFronts tables tables_now
-refused_fronts same_manifest same log log_now manifest manifest_now tables tables_now why is itself left =
-    let unchanged : same → KeepsFronts tables tables_now = λ s. subst (λ (ms : List Moment). KeepsFronts tables ms) (sym (is s)) (fronts_same tables) in
+pub refused_fronts : (asked : ℕ) (same_log same_tables : Type 0) (old new : DevicesLeft) (why : OpenError) → (same_tables → new.tables ≡ old.tables) → ReadsItself old.tables → IsLeft asked same_log same_tables old new why → KeepsFronts old.tables new.tables
+refused_fronts asked same_log same_tables old new why is itself left =
+    let unchanged : same_tables → KeepsFronts old.tables new.tables = λ s. subst (λ (ms : List Moment). KeepsFronts old.tables ms) (sym (is s)) (fronts_same old.tables) in
     elim left [
-      | at_log refusal reason records manifest_same tables_same ↦ unchanged tables_same
-      | at_manifest id history refusal log_left reason edits survives tables_same ↦ unchanged tables_same
-      | at_place id history edits log_left manifest_left elsewhere named tables_same ↦ unchanged tables_same
-      | at_edit id history edits log_left manifest_left behind named tables_same ↦ unchanged tables_same
-      | at_tables id history edits log_left manifest_left within reason synced ↦ fronts_left same tables tables_now why unchanged itself synced
+      | at_manifest refusal reason edits survives log_same tables_same ↦ unchanged tables_same
+      | at_log edits refusal manifest_left reason records kept tables_same ↦ unchanged tables_same
+      | at_new_manifest id c refusal log_left reason edits survives tables_same ↦ unchanged tables_same
+      | at_place id c edits are elsewhere named tables_same ↦ unchanged tables_same
+      | at_ids id found c edits are other named tables_same ↦ unchanged tables_same
+      | at_edit id c edits are apart tables_same ↦ unchanged tables_same
+      | at_tables id c edits are within reason synced ↦ fronts_left same_tables old.tables new.tables why unchanged itself synced
     ]

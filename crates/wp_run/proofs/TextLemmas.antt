@@ -18,10 +18,10 @@ entry_lines-push n (x ∷ front) e =
     let at : (n + 1) + length front ≡ n + suc (length front) = omega arith in
     ap (λ (xs : List ℕ). entry_line n x ++ xs) (entry_lines-push (n + 1) front e ∙ ap (λ (k : ℕ). entry_lines (n + 1) front ++ entry_line k e) at) ∙ sym (append_assoc (entry_line n x) (entry_lines (n + 1) front) (entry_line (n + suc (length front)) e))
 
-pub entry_lines_more : (entries : List Entry) (i : ℕ) (here : Entry) → i < length entries → here ≡ get_or entries i here → entry_lines 1 (take (i + 1) entries) ≡ entry_lines 1 (take i entries) ++ entry_line (i + 1) here
-entry_lines_more entries i here lt is =
-    let at : 1 + length (take i entries) ≡ i + 1 = omega (arith, length-take i entries) in
-    rw (take_more entries i here lt, ← is) (entry_lines-push 1 (take i entries) here ∙ ap (λ (k : ℕ). entry_lines 1 (take i entries) ++ entry_line k here) at)
+pub entry_lines_more : (first : ℕ) (entries : List Entry) (i : ℕ) (here : Entry) → i < length entries → here ≡ get_or entries i here → entry_lines first (take (i + 1) entries) ≡ entry_lines first (take i entries) ++ entry_line (first + i) here
+entry_lines_more first entries i here lt is =
+    let at : first + length (take i entries) ≡ first + i = omega (arith, length-take i entries) in
+    rw (take_more entries i here lt, ← is) (entry_lines-push first (take i entries) here ∙ ap (λ (k : ℕ). entry_lines first (take i entries) ++ entry_line k here) at)
 
 client_lines-push : (parts : List Part) (sessions : List (List Reply)) (part : Part) (answers : List Reply) → length parts ≡ length sessions → client_lines (parts ++ part ∷ []) (sessions ++ answers ∷ []) ≡ client_lines parts sessions ++ client_text part answers
 client_lines-push [] [] part answers same = append-nil (client_text part answers)

@@ -2,8 +2,9 @@
 use Rattle.std.specs.Prelude.{Result, Ok, Err, IfOk, OnErr}
 use Rattle.std.specs.Global.{Vec}
 use Rattle.std.specs.declared.alloc.AllocError.{AllocError}
-use Rattle.std.proofs.Common.{◌≡◌, ℕ, ◌≤◌, ◌<◌, ◌^◌, Bool, true, false, List, [], ◌∷◌, length, Option, Some, None, refl, sym, subst, inl, inr, ap, ◌∙◌, arith}
-use Rattle.wp_fields.specs.declared.format.Format.TheVariants.{One}
+use Rattle.std.proofs.Common.{◌≡◌, ◌⊎◌, ℕ, ◌+◌, ◌≤◌, ◌^◌, min, Bool, true, List, [], ◌∷◌, length, Option, Some, None, refl, sym, subst, inl, inr, ap, ◌∙◌, arith}
+use Rattle.wp_fields.specs.declared.format.Format.{Format}
+use Rattle.wp_fields.specs.declared.format.Format.TheVariants.{One, Two}
 use Rattle.wp_entry.specs.Record.{last_number}
 use Rattle.wp_model.specs.declared.entry.Entry.{Entry}
 use Rattle.wp_open.specs.declared.opening.OpenError.{OpenError}
@@ -15,9 +16,12 @@ use Rattle.wp_core.specs.Lists.{one_if}
 use Rattle.wp_core.specs.World.{Actor}
 use Rattle.wp_rule.specs.Words.{SawAll}
 use Rattle.wp_rule.proofs.Knows.{one_was_first}
-use Rattle.wp_shared.specs.Parts.{content}
+use Rattle.wp_shared.specs.Limits.{least_opened, opened_limit, renewed_limit}
+use Rattle.wp_shared.specs.Parts.{content, log_first}
+use Rattle.wp_wal.specs.Wal.{WalState}
 use Rattle.wp_replies.specs.Exact.{IsExact}
 use Rattle.wp_replies.specs.Explains.{Faults, Explains}
+use Rattle.wp_replies.specs.Replies.{Limits}
 use Rattle.wp_replies.specs.Kind.{is_fault, is_tables_fault}
 use Rattle.wp_shared.specs.OpenedFrom.{IsOpenedFrom}
 use Rattle.wp_shared.specs.Seats.{SharedState, SeatState, place_at}
@@ -34,20 +38,31 @@ use Rattle.wp_run.specs.Run.{Call, CanMake, IsChosen, IsUnread, IsReadAs, IsServ
 use Rattle.wp_run.specs.Seating.{IsFirstClient}
 use Rattle.wp_run.specs.Headline.{Serving, Headline}
 use Rattle.wp_run.specs.Met.{SharesWords}
+use Rattle.wp_run.specs.Base.{AreLimits, IsBaseStore}
 use Rattle.wp_run.specs.Serving.{nothing_more, exactly, AnswersScript, LacksMemory, faults_of, Serves, ServesExactly, are_whole, one_fails, IsWritten, HasEnded}
 use Rattle.wp_run.specs.Unopened.{IsUnopened}
 use Rattle.wp_run.specs.Status.{IsStatusOf}
 use Rattle.wp_run.specs.Transcript.{text_of}
-use Rattle.wp_run.specs.Use.{SinkUse, AreUncalled}
-use Rattle.wp_run.proofs.Stored.{before, after, was_opened, crash_leaves, is_stored}
-use Rattle.wp_run.proofs.Whole.{all_ran, fails_as_counted}
+use Rattle.wp_run.specs.Use.{SinkUse, AreUncalled, before, after}
+use Rattle.wp_threads.proofs.Counted.{none_or_some}
+use Rattle.wp_run.proofs.Stored.{at_most_one, was_opened, crash_leaves, is_stored}
+use Rattle.wp_run.proofs.Whole.{all_ran, fails_counted}
+
+-- the limit as it was opened
+least_either : (limit asked : ℕ) → limit ≡ asked → asked ≤ last_number Two → (first : Option WalState) → (least_opened limit first ≡ asked) ⊎ (least_opened limit first ≡ min asked 4294967295)
+least_either limit asked is low None = inl is
+least_either limit asked is low (Some first) = by first.format
+  where
+    by : (format : Format) → (min limit (last_number format) ≡ asked) ⊎ (min limit (last_number format) ≡ min asked 4294967295)
+    by One = inr (ap (λ (n : ℕ). min n 4294967295) is)
+    by Two = inl (omega (arith, is, low))
 
 -- ---- how a script was served
 
-module _ {D : Type 0} (z : SharedState D) (s : Serving) (answered : List Answered) (history : List Entry) (cells : z.cells ≡ 2 ^ s.bits) (limit : z.limit ≡ s.limit) (first : Actor) (stands : SawAll (place_at z 0) first (length z.opened)) (seen : first.participant.seen ≡ z.opened) (opened : IsOpenedFrom s.id (before s.disks) z) (run : HaveRun z s.script answered history (after s.disks)) where
+module _ {D : Type 0} (z : SharedState D) (s : Serving) (answered : List Answered) (history : List Entry) (base : ℕ) (store : List (List ℕ × List ℕ)) (cells : z.cells ≡ 2 ^ s.bits) (limit : z.limit ≡ s.limit) (low : s.limit ≤ last_number Two) (first : Actor) (stands : SawAll (place_at z 0) first (length z.opened)) (seen : first.participant.seen ≡ z.opened) (opened : IsOpenedFrom s.id (before s.disks) z) (run : HaveRun z s.script answered history (after s.disks)) (based : base ≡ run.ended.first_edit.segment.base) (store_is : IsBaseStore history base store) where
   -- the store was opened to one last edit
-  same_edit : run.ended.first_edit ≡ installed_of opened.edits.edit opened.versions.tables
-  same_edit = one_was_first content z.first run.ended.first_edit (installed_of opened.edits.edit opened.versions.tables) run.ended.first_is opened.last_is
+  same_edit : run.ended.first_edit ≡ installed_of opened.wal.segment.base opened.edits.edit opened.versions.tables
+  same_edit = one_was_first content z.first run.ended.first_edit (installed_of opened.wal.segment.base opened.edits.edit opened.versions.tables) run.ended.first_is opened.last_is
 
   shares_words : SharesWords (2 ^ s.bits) (found_in run.ended)
   shares_words =
@@ -60,13 +75,22 @@ module _ {D : Type 0} (z : SharedState D) (s : Serving) (answered : List Answere
         cache = there.cells ∙ cells;
       }
 
+  abbrev limits : Limits
+  limits = record { opened = opened_limit z; renewed = renewed_limit z }
+
+  are_limits : AreLimits s.limit limits
+  are_limits = record {
+    opened = least_either z.limit s.limit limit low (log_first z.first);
+    renewed = (let same : min z.limit (last_number Two) ≡ s.limit = omega (arith, limit, low) in same);
+  }
+
   abbrev replies : List (List Reply)
   replies = replies_of answered
 
   -- what the commands came to that ran
-  headline : (parts : List Part) → run.run ≡ parts → (h : Headline s (faults_in run.ended) parts) × exactly s (faults_in run.ended) parts h × (h.replies ≡ replies) × (h.left.history ≡ history)
+  headline : (parts : List Part) → run.run ≡ parts → (h : Headline s (faults_in run.ended) parts) × exactly s (faults_in run.ended) parts h × (h.replies ≡ replies) × (h.left.history ≡ history) × (h.store ≡ store) × (h.found.edit.segment.base ≡ base)
   headline parts is =
-      let e = subst (λ (x : ℕ × List Part). Explains x.0 (faults_in run.ended) s.script x.1 (found_in run.ended) (left_in run.ended) (failed_in run.ended) replies) (λ i. (limit i, is i)) run.explained in (
+      let e = subst (λ (ran : List Part). Explains limits (faults_in run.ended) s.script ran (found_in run.ended) (left_in run.ended) (failed_in run.ended) replies) is run.explained in (
         record {
           id = run.ended.opened.wal.id;
           found = found_in run.ended;
@@ -75,44 +99,69 @@ module _ {D : Type 0} (z : SharedState D) (s : Serving) (answered : List Answere
           left = left_in run.ended;
           legal = e.legal;
           begins = e.begins;
+          store = store;
+          store_is = subst (λ (b : ℕ). IsBaseStore history b store) based store_is;
           failed = failed_in run.ended;
           replies = replies;
+          limits = limits;
+          limits_are = are_limits;
           sessions = e.answered;
           once = e.paired;
           within = λ n low high. subst (λ (m : ℕ). n ≤ m) limit (run.within n low high);
-          crash = crash_leaves s opened run.ended;
-          stored = is_stored s opened run.ended;
-          met = record { log_failed = e.log_failed; stopped = e.stopped; tables_failed = e.tables_failed; halted = e.halted; edit = e.edit };
+          crash = crash_leaves s opened run.ended same_edit run.closed run.by_device run.behind;
+          stored = is_stored s opened run.ended same_edit run.closed run.by_device run.behind;
+          met = record { log_failed = e.log_failed; log_stopped = e.log_stopped; stopped = e.stopped; tables_failed = e.tables_failed; halted = e.halted; edit = e.edit };
         },
-        subst (λ (x : ℕ × List Part). IsExact x.0 (found_in run.ended) (left_in run.ended) (failed_in run.ended) x.1 replies) (λ i. (limit i, is i)) run.exact,
+        subst (λ (ran : List Part). IsExact limits (found_in run.ended) (left_in run.ended) (failed_in run.ended) ran replies) is run.exact,
         refl,
         refl,
+        refl,
+        sym based,
       )
 
   lacks : LacksMemory s (exactly s)
   lacks = let h = headline run.run refl in record { faults = faults_in run.ended; run = run.run; first = run.first; headline = h.0; also = h.1 }
 
-  answers : are_whole answered ≡ true → AnswersScript s (exactly s) (faults_in run.ended) (text_of s.action s.script replies history)
+  abbrev text : List ℕ
+  text = text_of s.action s.script replies base store history
+
+  answers : are_whole answered ≡ true → AnswersScript s (exactly s) (faults_in run.ended) text
   answers whole =
       let h = headline s.script (all_ran s.script run.run answered run.whole whole) in
-      record { headline = h.0; text_is = λ i. text_of s.action s.script (sym h.2 i) (sym h.3 i); also = h.1 }
+      record { headline = h.0; text_is = λ i. text_of s.action s.script (sym h.2 i) (sym h.5 i) (sym h.4 i) (sym h.3 i); also = h.1 }
+
+  abbrev faults : Faults
+  faults = faults_in run.ended
 
   -- the faults are those that a client was answered
-  log_as_told : one_fails is_fault answered ≡ run.ended.writes.closed
-  log_as_told = fails_as_counted is_fault answered run.ended.writes.closed run.explained.log_failed
+  log_as_told : one_if (one_fails is_fault answered) ≡ faults.log
+  log_as_told = fails_counted is_fault answered faults.log (let all = run.closed in let most = at_most_one run.ended.writes.closed in omega (arith, all, most)) run.explained.log_failed
 
-  tables_as_told : one_fails is_tables_fault answered ≡ run.ended.edits.halted
-  tables_as_told = fails_as_counted is_tables_fault answered run.ended.edits.halted run.explained.tables_failed
+  tables_as_told : one_if (one_fails is_tables_fault answered) ≡ faults.tables
+  tables_as_told = fails_counted is_tables_fault answered faults.tables (at_most_one run.ended.edits.halted) run.explained.tables_failed
 
-  answers_as : (stopped halted : Bool) → run.ended.writes.closed ≡ stopped → run.ended.edits.halted ≡ halted → are_whole answered ≡ true → AnswersScript s (exactly s) (faults_of (one_if stopped) (one_if halted)) (text_of s.action s.script (replies_of answered) history)
-  answers_as stopped halted a b whole = subst (λ (x : Bool × Bool). AnswersScript s (exactly s) (faults_of (one_if x.0) (one_if x.1)) (text_of s.action s.script (replies_of answered) history)) (λ i. (a i, b i)) (answers whole)
+  -- a renewal stopped the log at most once, and neither beside a fault of its device nor without one of the tables
+  few_stops : faults.log + faults.renewals ≤ 1
+  few_stops = let all = run.closed in let most = at_most_one run.ended.writes.closed in omega (arith, all, most)
 
-  pub serves_run : (end : Status) → HasEnded s.action s.script answered history s.sink end → ServesExactly s end
+  no_stops : faults.tables ≡ 0 → faults.renewals ≡ 0
+  no_stops none = elim (none_or_some faults.renewals) [
+    | inl nought ↦ nought
+    | inr stop ↦ let one : one_if run.ended.edits.halted ≡ 1 = ap one_if (run.behind stop).0 in absurd (omega (arith, none, one))
+  ]
+
+  answers_as : (log tables renewals : ℕ) → faults.log ≡ log → faults.tables ≡ tables → faults.renewals ≡ renewals → are_whole answered ≡ true → AnswersScript s (exactly s) (faults_of log tables renewals) text
+  answers_as log tables renewals a b c whole = subst (λ (x : ℕ × ℕ × ℕ). AnswersScript s (exactly s) (faults_of x.0 x.1 x.2) text) (λ i. (a i, b i, c i)) (answers whole)
+
+  pub serves_run : (end : Status) → HasEnded s.action s.script answered base store history s.sink end → ServesExactly s end
   serves_run status.Memory h = inr lacks
-  serves_run status.Ok h = (text_of s.action s.script (replies_of answered) history, answers_as false false (sym log_as_told ∙ h.1.0) (sym tables_as_told ∙ h.1.1) h.0, h.1.2)
-  serves_run status.LogFault h = (one_if run.ended.edits.halted, text_of s.action s.script (replies_of answered) history, answers_as true run.ended.edits.halted (sym log_as_told ∙ h.1.0) refl h.0, h.1.1)
-  serves_run status.TableFault h = (text_of s.action s.script (replies_of answered) history, answers_as false true (sym log_as_told ∙ h.1.0) (sym tables_as_told ∙ h.1.1) h.0, h.1.2)
-  serves_run status.SinkFault h = (h.1.0, faults_in run.ended, text_of s.action s.script (replies_of answered) history, answers h.0, h.1.1)
+  serves_run status.Ok h =
+      let log : faults.log ≡ 0 = sym log_as_told ∙ ap one_if h.1.0 in let tables : faults.tables ≡ 0 = sym tables_as_told ∙ ap one_if h.1.1 in (text, answers_as 0 0 0 log tables (no_stops tables) h.0, h.1.2)
+  serves_run status.LogFault h =
+      let log : faults.log ≡ 1 = sym log_as_told ∙ ap one_if h.1.0 in let few = few_stops in (faults.tables, text, answers_as 1 faults.tables 0 log refl (omega (arith, log, few)) h.0, h.1.1)
+  serves_run status.TableFault h =
+      let log : faults.log ≡ 0 = sym log_as_told ∙ ap one_if h.1.0 in let tables : faults.tables ≡ 1 = sym tables_as_told ∙ ap one_if h.1.1 in (faults.renewals, text, answers_as 0 1 faults.renewals log tables refl h.0, h.1.2)
+  serves_run status.SinkFault h = (h.1.0, faults, text, answers h.0, h.1.1)
   serves_run status.Words h = absurd h.1
   serves_run status.SourceFault h = absurd h.1
   serves_run (status.Script fault) h = absurd h.1
@@ -131,7 +180,7 @@ answers_only s faults text a = record { headline = a.headline; text_is = a.text_
 pub serves_only : (s : Serving) (end : Status) → ServesExactly s end → Serves s end
 serves_only s status.Ok h = (h.0, answers_only s _ h.0 h.1, h.2)
 serves_only s status.LogFault h = (h.0, h.1, answers_only s _ h.1 h.2, h.3)
-serves_only s status.TableFault h = (h.0, answers_only s _ h.0 h.1, h.2)
+serves_only s status.TableFault h = (h.0, h.1, answers_only s _ h.1 h.2, h.3)
 serves_only s status.SinkFault h = (h.0, h.1, h.2, answers_only s h.1 h.2 h.3, h.4)
 serves_only s status.Memory (inl none) = inl none
 serves_only s status.Memory (inr lacks) = inr (record { faults = lacks.faults; run = lacks.run; first = lacks.first; headline = lacks.headline; also = tt })
@@ -147,16 +196,16 @@ is_first z [] client first is own = (client, is)
 is_first z (part ∷ parts) client first is own = is ∙ ap (first_seat z) own
 
 -- the text was written, or what could be of it; or there was none
-pub text_ends : (asked : Action) (script : List Part) (answered : List Answered) (history : List Entry) (text : Result (Vec ℕ) AllocError) (stopped halted : Bool) (sink : SinkUse) (end : Status)
-    → IfOk text (λ t. are_whole answered ≡ true) → IfOk text (λ t. t.items ≡ text_of asked script (replies_of answered) history) → stopped ≡ one_fails is_fault answered → halted ≡ one_fails is_tables_fault answered
-    → IfOk text (λ t. IsWritten stopped halted sink t.items end) → OnErr text (end ≡ status.Memory) → HasEnded asked script answered history sink end
-text_ends asked script answered history (Ok text) stopped halted sink end whole is stopped-is halted-is written none =
+pub text_ends : (asked : Action) (script : List Part) (answered : List Answered) (base : ℕ) (store : List (List ℕ × List ℕ)) (history : List Entry) (text : Result (Vec ℕ) AllocError) (stopped halted : Bool) (sink : SinkUse) (end : Status)
+    → IfOk text (λ t. are_whole answered ≡ true) → IfOk text (λ t. t.items ≡ text_of asked script (replies_of answered) base store history) → stopped ≡ one_fails is_fault answered → halted ≡ one_fails is_tables_fault answered
+    → IfOk text (λ t. IsWritten stopped halted sink t.items end) → OnErr text (end ≡ status.Memory) → HasEnded asked script answered base store history sink end
+text_ends asked script answered base store history (Ok text) stopped halted sink end whole is stopped-is halted-is written none =
     has_ended end (subst (λ (x : (Bool × Bool) × List ℕ). IsWritten x.0.0 x.0.1 sink x.1 end) (λ i. ((stopped-is i, halted-is i), is i)) written)
   where
-    has_ended : (e : Status) → IsWritten (one_fails is_fault answered) (one_fails is_tables_fault answered) sink (text_of asked script (replies_of answered) history) e → HasEnded asked script answered history sink e
+    has_ended : (e : Status) → IsWritten (one_fails is_fault answered) (one_fails is_tables_fault answered) sink (text_of asked script (replies_of answered) base store history) e → HasEnded asked script answered base store history sink e
     has_ended status.Memory w = tt
     has_ended other w = (whole, w)
-text_ends asked script answered history (Err e) stopped halted sink end whole is stopped-is halted-is written none = rw none tt
+text_ends asked script answered base store history (Err e) stopped halted sink end whole is stopped-is halted-is written none = rw none tt
 
 -- a choice whose script was served
 pub served_ends : (call : Call) (end : Status) → IsServed ServesExactly call end → Ends ServesExactly call end
@@ -188,10 +237,10 @@ ends_only call (status.Contents damage) h = served_only call (status.Contents da
 ends_only call (status.OpenFault device) h = served_only call (status.OpenFault device) h
 
 -- the numbers of a choice are in their ranges
-pub in_ranges : (words : List (List ℕ)) (choice : Choice) → IsChoice words choice → (choice.bits ≤ 16) × (1 ≤ choice.limit) × (choice.limit ≤ last_number One)
+pub in_ranges : (words : List (List ℕ)) (choice : Choice) → IsChoice words choice → (choice.bits ≤ 16) × (1 ≤ choice.limit) × (choice.limit ≤ last_number Two)
 in_ranges words choice is = by _ is.entered
   where
-    by : (entered : Option (List ℕ × List _)) → IsEntered entered choice → (choice.bits ≤ 16) × (1 ≤ choice.limit) × (choice.limit ≤ last_number One)
+    by : (entered : Option (List ℕ × List _)) → IsEntered entered choice → (choice.bits ≤ 16) × (1 ≤ choice.limit) × (choice.limit ≤ last_number Two)
     by None none = absurd none
     by (Some x) has = let high = has.limit.high in (has.bits.high, has.limit.low, omega (arith, high))
 

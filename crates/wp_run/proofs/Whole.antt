@@ -1,5 +1,5 @@
 -- What the replies of all clients tell at once.
-use Rattle.std.proofs.Common.{◌≡◌, inl, inr, ℕ, suc, ◌+◌, ◌≤◌, Bool, true, false, true≢false, cond, List, [], ◌∷◌, length, refl, sym, ap, ◌∙◌, arith}
+use Rattle.std.proofs.Common.{◌≡◌, inl, inr, ℕ, zero, suc, ◌+◌, ◌≤◌, Bool, true, false, true≢false, cond, List, [], ◌∷◌, length, refl, sym, ap, ◌∙◌, arith}
 use Rattle.std.specs.Prelude.{◌||◌, count_by}
 use Rattle.std.specs.List.{list_any}
 use Rattle.std.proofs.lemmas.Bool.{cases_Bool, or_cases}
@@ -50,3 +50,7 @@ fails_as_counted p answered false none = elim (cases_Bool (one_fails p answered)
   | inl is ↦ let some = any_counts p (all_replies (replies_of answered)) (any_of_all p answered ∙ is) in absurd (omega (arith, none, some))
   | inr is ↦ is
 ]
+
+pub fails_counted : (p : Reply → Bool) (answered : List Answered) (n : ℕ) → n ≤ 1 → count_by p (all_replies (replies_of answered)) ≡ n → one_if (one_fails p answered) ≡ n
+fails_counted p answered zero low counted = ap one_if (fails_as_counted p answered false counted)
+fails_counted p answered (suc n) low counted = let one : suc n ≡ 1 = omega (arith, low) in ap one_if (fails_as_counted p answered true (counted ∙ one)) ∙ sym one

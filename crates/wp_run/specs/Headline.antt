@@ -10,8 +10,9 @@ use Rattle.wp_open.specs.Opens.{AllKnown, OpensTo}
 use Rattle.wp_replies.specs.Explains.{Faults, AreSessions, all_replies}
 use Rattle.wp_replies.specs.Kind.{acknowledged}
 use Rattle.wp_replies.specs.Known.{StoredState}
-use Rattle.wp_replies.specs.Replies.{Untaken}
+use Rattle.wp_replies.specs.Replies.{Untaken, Limits}
 use Rattle.wp_run.specs.Crash.{CrashOpens}
+use Rattle.wp_run.specs.Base.{AreLimits, IsBaseStore}
 use Rattle.wp_run.specs.Met.{SharesWords, IsStored, AreMet}
 use Rattle.wp_run.specs.Use.{DisksUse, SinkUse}
 
@@ -39,11 +40,16 @@ pub record Headline (s : Serving) (faults : Faults) (run : List Part) : Type 0 w
   pub left : StoredState
   pub legal : IsLegal left.history
   pub begins : (added : List Entry) × (left.history ≡ found.history ++ added)
+  -- The text tells what the store had at the base of the log that was found, key by key.
+  pub store : List (List ℕ × List ℕ)
+  pub store_is : IsBaseStore left.history found.edit.segment.base store
   -- Each client's replies to its commands are a session that the table of replies allows over the one history that is left. What
   -- is read is what its first n entries leave, what is acknowledged is an entry of it, and fresh numbers never fall.
   pub failed : Untaken  -- the record, or the edit, that a device failed to take
   pub replies : List (List Reply)
-  pub sessions : AreSessions left s.limit failed found [] s.script run replies
+  pub limits : Limits
+  pub limits_are : AreLimits s.limit limits
+  pub sessions : AreSessions left limits failed found [] s.script run replies
   -- Each new entry is acknowledged by exactly one reply, an Undo together with its Close. No number of one is above the limit.
   pub once : (n : ℕ) → length found.history < n → n ≤ length left.history → count_by (λ m. m == n) (flat_map acknowledged (all_replies replies)) ≡ 1
   pub within : (n : ℕ) → length found.history < n → n ≤ length left.history → n ≤ s.limit
@@ -53,4 +59,4 @@ pub record Headline (s : Serving) (faults : Faults) (run : List Part) : Type 0 w
   -- Of the log: the id that a new one got, and that the history is acknowledged there. For each fault a device's count rose.
   pub stored : IsStored s.disks s.id id found left failed faults
   -- The replies tell of just these faults, and of the last edit.
-  pub met : AreMet found.edit left.edit faults (all_replies replies)
+  pub met : AreMet found.edit left.edit faults run replies

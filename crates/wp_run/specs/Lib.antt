@@ -2,6 +2,7 @@ pub mod Use
 pub mod Limits
 pub mod Status
 pub mod Transcript
+pub mod Base
 pub mod Crash
 pub mod Met
 pub mod Headline

@@ -31,14 +31,14 @@ nothing_more s faults run headline = Unit {0}
 
 -- With one client, what is left and what was answered are just what is due.
 abbrev pub exactly : (s : Serving) → More s
-exactly s faults run headline = IsExact s.limit headline.found headline.left headline.failed run headline.replies
+exactly s faults run headline = IsExact headline.limits headline.found headline.left headline.failed run headline.replies
 
 -- ---- how serving ended
 
 -- All commands of the script ran, and the text is of just these replies and this history: the transcript, or the summary of a
 -- made script.
 abbrev pub IsText : (s : Serving) → (faults : Faults) → Headline s faults s.script → List ℕ → Type 0
-IsText s faults headline text = text ≡ text_of s.action s.script headline.replies headline.left.history
+IsText s faults headline text = text ≡ text_of s.action s.script headline.replies headline.found.edit.segment.base headline.store headline.left.history
 
 -- The text answers the script, with these faults.
 pub record AnswersScript (s : Serving) (more : More s) (faults : Faults) (text : List ℕ) : Type 0 where
@@ -55,14 +55,14 @@ pub record LacksMemory (s : Serving) (more : More s) : Type 0 where
   pub headline : Headline s faults run
   pub also : more faults run headline
 
-abbrev pub faults_of : ℕ → ℕ → Faults
-faults_of log tables = record { log = log; tables = tables }
+abbrev pub faults_of : (log tables renewals : ℕ) → Faults
+faults_of log tables renewals = record { log = log; tables = tables; renewals = renewals }
 
 -- how serving ended, why, what was written and what the devices store
 abbrev pub ServesWith : (s : Serving) → More s → Status → Type 0
-ServesWith s more status.Ok = (text : List ℕ) × AnswersScript s more (faults_of 0 0) text × Appends s.sink.before s.sink.after text
-ServesWith s more status.LogFault = (tables : ℕ) × (text : List ℕ) × AnswersScript s more (faults_of 1 tables) text × Appends s.sink.before s.sink.after text
-ServesWith s more status.TableFault = (text : List ℕ) × AnswersScript s more (faults_of 0 1) text × Appends s.sink.before s.sink.after text
+ServesWith s more status.Ok = (text : List ℕ) × AnswersScript s more (faults_of 0 0 0) text × Appends s.sink.before s.sink.after text
+ServesWith s more status.LogFault = (tables : ℕ) × (text : List ℕ) × AnswersScript s more (faults_of 1 tables 0) text × Appends s.sink.before s.sink.after text
+ServesWith s more status.TableFault = (renewals : ℕ) × (text : List ℕ) × AnswersScript s more (faults_of 0 1 renewals) text × Appends s.sink.before s.sink.after text
 ServesWith s more status.SinkFault = Rose s.sink.faults_before s.sink.faults_after × (faults : Faults) × (text : List ℕ) × AnswersScript s more faults text × AppendsPrefix s.sink.before s.sink.after text
 ServesWith s more status.Memory = IsUnopened s open_error.Memory ⊎ LacksMemory s more
 ServesWith s more (status.Contents damage) = IsUnopened s (open_error.Contents damage)
@@ -95,6 +95,6 @@ IsWritten stopped halted sink text other = ⊥
 
 -- What became of the replies: with the history they were written, or what could be of them; or memory was wanting for that, or in
 -- a session.
-abbrev pub HasEnded : Action → List Part → List Answered → List Entry → SinkUse → Status → Type 0
-HasEnded action script answered history sink status.Memory = Unit {0}
-HasEnded action script answered history sink end = (are_whole answered ≡ true) × IsWritten (one_fails is_fault answered) (one_fails is_tables_fault answered) sink (text_of action script (replies_of answered) history) end
+abbrev pub HasEnded : Action → List Part → List Answered → (base : ℕ) → List (List ℕ × List ℕ) → List Entry → SinkUse → Status → Type 0
+HasEnded action script answered base store history sink status.Memory = Unit {0}
+HasEnded action script answered base store history sink end = (are_whole answered ≡ true) × IsWritten (one_fails is_fault answered) (one_fails is_tables_fault answered) sink (text_of action script (replies_of answered) base store history) end

@@ -5,7 +5,7 @@ use Rattle.wp_outside.specs.declared.disk.Disks.{Disks}
 use Rattle.wp_gatelog.specs.Durability.{LosesNoRecord}
 use Rattle.wp_manifest.specs.Spelling as edits
 use Rattle.wp_tableset.specs.Device.{KeepsFronts}
-use Rattle.wp_wal.specs.Wal.{LosesNothing}
+use Rattle.wp_open.specs.Devices.{DevicesLeft}
 
 pub record DiskUse : Type 1 where
   pub before : List Moment
@@ -27,9 +27,30 @@ abbrev pub disks_use : {D : Type 0} → (D → List Moment) → (D → ℕ) → 
 disks_use moments faults old new =
     record { log = disk_use moments faults old.log new.log; manifest = disk_use moments faults old.manifest new.manifest; tables = disk_use moments faults old.tables new.tables }
 
--- What was for good on the devices is so afterwards, and no count of faults falls.
+-- the devices as a call found them, and as it left them
+abbrev pub before : DisksUse → DevicesLeft
+before disks = record {
+  log = disks.log.before;
+  log_faults = disks.log.faults_before;
+  manifest = disks.manifest.before;
+  manifest_faults = disks.manifest.faults_before;
+  tables = disks.tables.before;
+  tables_faults = disks.tables.faults_before;
+}
+
+abbrev pub after : DisksUse → DevicesLeft
+after disks = record {
+  log = disks.log.after;
+  log_faults = disks.log.faults_after;
+  manifest = disks.manifest.after;
+  manifest_faults = disks.manifest.faults_after;
+  tables = disks.tables.after;
+  tables_faults = disks.tables.faults_after;
+}
+
+-- What was for good on the manifest's device and the tables' is so afterwards, and no count of faults falls. Of the log's that is said of
+-- the place that the edit names, where the store was opened or refused.
 pub record IsDurable (disks : DisksUse) : Type 0 where
-  pub log : LosesNothing disks.log.before disks.log.after
   pub manifest : LosesNoRecord edits.MAGIC disks.manifest.before disks.manifest.after
   pub tables : KeepsFronts disks.tables.before disks.tables.after
   pub log_later : disks.log.faults_before ≤ disks.log.faults_after

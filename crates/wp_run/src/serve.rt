@@ -1,8 +1,9 @@
 //! A script served over a store.
-ghost use Rattle.std.specs.Prelude.{◌≡◌, ◌≤◌, length};
-ghost use Rattle.wp_fields.specs.declared.format.Format.TheVariants.{One};
+ghost use Rattle.std.specs.Prelude.{◌≡◌, ◌≤◌, ℕ, List, length};
+ghost use Rattle.wp_fields.specs.declared.format.Format.TheVariants.{Two};
 ghost use Rattle.wp_entry.specs.Record.{last_number};
 ghost use Rattle.wp_outside.specs.Disk.{ReadsItself};
+ghost use Rattle.wp_run.specs.Base.{IsBaseStore};
 ghost use Rattle.wp_run.specs.Seating.{IsSeating};
 ghost use Rattle.wp_run.specs.Serving.{ServesExactly, HasEnded};
 ghost use Rattle.wp_run.specs.Status.{IsStatusOf, IsBeforeSink, stage_of};
@@ -37,9 +38,9 @@ fn finish<D: Drop, K: Sink>(
     sink: &mut K,
 ) -> Served<D>
     requires parts { length parts.now ≡ length run.answers.items }
-    requires base { run.history.base ≡ 0 }
     ensures disks { result.disks ≡ run.disks }
-    ensures ended { HasEnded action parts.now run.answers.items run.history.entries (sink_use K.contents K.faults sink.old sink.new) result.status }
+    ensures ended { (store : List (List ℕ × List ℕ)) × IsBaseStore run.history.entries run.history.base store
+        × HasEnded action parts.now run.answers.items run.history.base store run.history.entries (sink_use K.contents K.faults sink.old sink.new) result.status }
     ensures silent { IsBeforeSink (stage_of result.status) → sink.new ≡ sink.old }
     ensures sink_later { K.faults sink.old ≤ K.faults sink.new }
 {
@@ -48,7 +49,7 @@ fn finish<D: Drop, K: Sink>(
         history,
         disks,
     } = run;
-    let text = text_of(alloc, action, parts, &answers, &history);
+    let text = text_of(alloc, action, parts, &answers, &history, history.store());
     let stopped = log_failed(&answers);
     let halted = tables_failed(&answers);
     let status = write_text(sink, text, stopped, halted);
@@ -83,7 +84,7 @@ pub(crate) fn serve<R: Threads + Wait + Sync, D: Disk + Drop + Send, K: Sink, G:
     sink: &mut K,
     gate: &G,
 ) -> Served<D>
-    requires ranges { (choice.bits ≤ 16) × (1 ≤ choice.limit) × (choice.limit ≤ last_number One) }
+    requires ranges { (choice.bits ≤ 16) × (1 ≤ choice.limit) × (choice.limit ≤ last_number Two) }
     requires seating { IsSeating parts.now seating.client seating.room }
     ensures serves { ServesExactly (record {
       action = choice.action;

@@ -12,9 +12,11 @@ ghost use Rattle.wp_run.specs.Use.{sink_use};
 use crate::status::Status;
 use crate::transcript::transcript;
 use std::alloc::{AllocError, Global};
+use std::collections::BTreeMap;
 use wp_args::Action;
 use wp_ledger::History;
 use wp_make::summary;
+use wp_model::{Key, Value};
 use wp_outside::{Failed, Sink, write_all};
 use wp_text::{Part, Reply};
 use wp_threads::Answered;
@@ -84,12 +86,12 @@ fn summary_of(
     lines: u32,
     answers: &[Answered],
     history: &History,
+    store: &BTreeMap<Key, Value>,
 ) -> Result<Vec<u8>, AllocError>
-    requires { history.now.base ≡ 0 }
-    ensures { IfOk result (λ text. text.items ≡ summary_of seed clients lines (replies_of answers.now) history.now.entries) }
+    ensures { IfOk result (λ text. text.items ≡ summary_of seed clients lines (replies_of answers.now) history.now.base store.now.entries history.now.entries) }
 {
     let sessions = replies_of(alloc, answers)?;
-    summary(alloc, seed, clients, lines, &sessions, history)
+    summary(alloc, seed, clients, lines, &sessions, history, store)
 }
 
 /// The text of the command, where no session broke off.
@@ -99,11 +101,11 @@ pub(crate) fn text_of(
     parts: &[Part],
     answers: &[Answered],
     history: &History,
+    store: &BTreeMap<Key, Value>,
 ) -> Result<Vec<u8>, AllocError>
     requires parts { length parts.now ≡ length answers.now }
-    requires base { history.now.base ≡ 0 }
     ensures whole { IfOk result (λ text. are_whole answers.now ≡ true) }
-    ensures text { IfOk result (λ text. text.items ≡ text_of action parts.now (replies_of answers.now) history.now.entries) }
+    ensures text { IfOk result (λ text. text.items ≡ text_of action parts.now (replies_of answers.now) history.now.base store.now.entries history.now.entries) }
 {
     if !are_whole(answers) {
         return Err(AllocError);
@@ -113,8 +115,8 @@ pub(crate) fn text_of(
             seed,
             clients,
             lines,
-        } => summary_of(alloc, seed, clients, lines, answers, history),
-        Action::Run | Action::Show => transcript(alloc, parts, answers, history),
+        } => summary_of(alloc, seed, clients, lines, answers, history, store),
+        Action::Run | Action::Show => transcript(alloc, parts, answers, history, store),
     }
 }
 

@@ -72,8 +72,8 @@ pub fn run<R: Threads + Wait + Sync, D: Disk + Drop + Send, S: Source, K: Sink, 
     ensures ends { Ends Serves (call_of (map string_bytes words.now) (source_use S.left S.faults source.old source.new) (disks_use D.moments D.faults disks result.disks) (sink_use K.contents K.faults sink.old sink.new)) result.status }
     // The same, where each reply of a client that is alone is the one that is due.
     ensures alone { Ends ServesExactly (call_of (map string_bytes words.now) (source_use S.left S.faults source.old source.new) (disks_use D.moments D.faults disks result.disks) (sink_use K.contents K.faults sink.old sink.new)) result.status }
-    // However it ended, no crash takes what each crash would have left before: acknowledged entries and edits, and the
-    // bytes of tables.
+    // However it ended, no crash takes what each crash would have left before: acknowledged edits, and the bytes of tables. Of
+    // acknowledged entries `ends` says it, by the place where the log begins.
     ensures durable { IsDurable (disks_use D.moments D.faults disks result.disks) }
     ensures uncalled { LeavesUncalled (stage_of result.status) (source.new ≡ source.old) (result.disks ≡ disks) (sink.new ≡ sink.old) }
     ensures shown { IsChosen (map string_bytes words.now) Action.Show → source.new ≡ source.old }

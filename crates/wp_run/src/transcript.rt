@@ -1,13 +1,16 @@
-ghost use Rattle.std.specs.Prelude.{◌≡◌, ◌++◌, ◌≤◌, ◌<◌, ◌^◌, length, IfOk, OnOk};
+ghost use Rattle.std.specs.Prelude.{◌≡◌, ◌+◌, ◌++◌, ◌≤◌, ◌<◌, ◌^◌, length, IfOk, OnOk};
 ghost use Rattle.std.specs.List.{flat_map};
 ghost use Rattle.wp_text.specs.Lines as text;
 ghost use Rattle.wp_threads.specs.Over.{replies_of};
-ghost use Rattle.wp_run.specs.Transcript.{client_text, client_lines, transcript_of};
+ghost use Rattle.wp_run.specs.Transcript.{client_text, client_lines, opening_lines, transcript_of};
 
 use std::alloc::{AllocError, Global};
+use std::collections::BTreeMap;
 use wp_ledger::History;
-use wp_model::Entry;
-use wp_text::{Part, Reply, client_line, end_line, history_line, reply_line};
+use wp_model::{Carried, Entry, Key, Seq, Value};
+use wp_text::{
+    Part, Reply, base_line, carried_line, client_line, end_line, has_line, history_line, reply_line,
+};
 use wp_threads::Answered;
 
 fn push_replies(out: &mut Vec<u8>, replies: &[Reply]) -> Result<(), AllocError>
@@ -36,31 +39,72 @@ fn push_clients(out: &mut Vec<u8>, parts: &[Part], sessions: &[Answered]) -> Res
     Ok(())
 }
 
-fn push_history(out: &mut Vec<u8>, entries: &[Entry]) -> Result<(), AllocError>
-    ensures { OnOk result (out.new.items ≡ out.old.items ++ text.entry_lines 1 entries.now) }
+fn push_store(out: &mut Vec<u8>, store: &BTreeMap<Key, Value>) -> Result<(), AllocError>
+    ensures { OnOk result (out.new.items ≡ out.old.items ++ flat_map text.has_line store.now.entries) }
 {
-    for (i, entry) in entries.iter().enumerate() {
-        history_line(out, i as u64 + 1, entry)?;
+    for (key, value) in store.iter() {
+        has_line(out, key, value)?;
     }
     Ok(())
 }
 
-/// The transcript: each client's replies, then every entry of the history, then the end.
+fn push_carried(out: &mut Vec<u8>, carried: &[Carried]) -> Result<(), AllocError>
+    ensures { OnOk result (out.new.items ≡ out.old.items ++ flat_map text.carried_line carried.now) }
+{
+    for prepare in carried {
+        carried_line(out, prepare)?;
+    }
+    Ok(())
+}
+
+/// Appends the lines of a base, unless it is 0.
+fn push_base(
+    out: &mut Vec<u8>,
+    base: Seq,
+    store: &BTreeMap<Key, Value>,
+    carried: &[Carried],
+) -> Result<(), AllocError>
+    ensures { OnOk result (out.new.items ≡ out.old.items ++ opening_lines base store.now.entries carried.now) }
+{
+    if base == 0 {
+        return Ok(());
+    }
+    base_line(out, base)?;
+    push_store(out, store)?;
+    push_carried(out, carried)
+}
+
+/// Appends the lines of entries, of which the first has this number.
+fn push_history(out: &mut Vec<u8>, first: Seq, entries: &[Entry]) -> Result<(), AllocError>
+    requires { first + length entries.now ≤ 2 ^ 63 }
+    ensures { OnOk result (out.new.items ≡ out.old.items ++ text.entry_lines first entries.now) }
+{
+    for (i, entry) in entries.iter().enumerate() {
+        history_line(out, first + i as u64, entry)?;
+    }
+    Ok(())
+}
+
+/// The transcript: each client's replies, then the base with what the store had there, then every entry of the history behind it,
+/// then the end.
 pub(crate) fn transcript(
     alloc: Global,
     parts: &[Part],
     sessions: &[Answered],
     history: &History,
+    store: &BTreeMap<Key, Value>,
 ) -> Result<Vec<u8>, AllocError>
     requires parts { length parts.now ≡ length sessions.now }
-    requires base { history.now.base ≡ 0 }
-    ensures { IfOk result (λ text. text.items ≡ transcript_of parts.now (replies_of sessions.now) history.now.entries) }
+    ensures { IfOk result (λ text. text.items ≡ transcript_of parts.now (replies_of sessions.now) history.now.base store.now.entries history.now.entries) }
 {
     let mut out = Vec::new(alloc);
     push_clients(&mut out, parts, sessions)?;
     out.extend_from_slice(b"history\n")?;
-    push_history(&mut out, history.later())?;
+    let published = history.published();
+    let base = history.base();
+    push_base(&mut out, base, store, history.carried())?;
+    push_history(&mut out, base + 1, history.later())?;
     let undecided = history.undecided().len() as u64;
-    end_line(&mut out, history.published(), undecided)?;
+    end_line(&mut out, published, undecided)?;
     Ok(out)
 }

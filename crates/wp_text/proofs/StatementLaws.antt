@@ -44,6 +44,7 @@ words_again (statement.Command command.Leave) = refl
 words_again (statement.Command (command.Take name)) = tested (is_name name) name (λ w. statement.Command (command.Take w))
 words_again (statement.Command command.Flush) = refl
 words_again (statement.Command command.Compact) = refl
+words_again (statement.Command command.Renew) = refl
 words_again (statement.Command (command.Tell name)) = tested (is_name name) name (λ w. statement.Command (command.Tell w))
 words_again (statement.Command (command.Hear name)) = tested (is_name name) name (λ w. statement.Command (command.Hear w))
 
@@ -186,6 +187,7 @@ after_keyword keyword.Leave words = alone_read (keyword_text keyword.Leave) comm
 after_keyword keyword.Take words = one_word_read MOST_NAME_BYTES (keyword_text keyword.Take) (λ w. statement.Command (command.Take w)) (λ w. (refl, refl)) words
 after_keyword keyword.Flush words = alone_read (keyword_text keyword.Flush) command.Flush (refl, refl) words
 after_keyword keyword.Compact words = alone_read (keyword_text keyword.Compact) command.Compact (refl, refl) words
+after_keyword keyword.Renew words = alone_read (keyword_text keyword.Renew) command.Renew (refl, refl) words
 after_keyword keyword.Tell words = one_word_read MOST_NAME_BYTES (keyword_text keyword.Tell) (λ w. statement.Command (command.Tell w)) (λ w. (refl, refl)) words
 after_keyword keyword.Hear words = one_word_read MOST_NAME_BYTES (keyword_text keyword.Hear) (λ w. statement.Command (command.Hear w)) (λ w. (refl, refl)) words
 

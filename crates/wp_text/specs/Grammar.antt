@@ -51,6 +51,7 @@ command_words command.Leave = codes "leave" ∷ []
 command_words (command.Take name) = codes "take" ∷ name ∷ []
 command_words command.Flush = codes "flush" ∷ []
 command_words command.Compact = codes "compact" ∷ []
+command_words command.Renew = codes "renew" ∷ []
 command_words (command.Tell name) = codes "tell" ∷ name ∷ []
 command_words (command.Hear name) = codes "hear" ∷ name ∷ []
 
@@ -75,6 +76,7 @@ is_command_in_range command.Leave = true
 is_command_in_range (command.Take name) = is_name name
 is_command_in_range command.Flush = true
 is_command_in_range command.Compact = true
+is_command_in_range command.Renew = true
 is_command_in_range (command.Tell name) = is_name name
 is_command_in_range (command.Hear name) = is_name name
 

@@ -1,6 +1,7 @@
 -- The lines of a transcript.
 use Rattle.std.specs.Prelude.{ℕ, ◌+◌, List, [], ◌∷◌, ◌++◌, codes, decimal}
 use Rattle.std.specs.List.{flat_map}
+use Rattle.wp_model.specs.declared.carried.Carried.{Carried}
 use Rattle.wp_model.specs.declared.change.Change.{Change}
 use Rattle.wp_model.specs.declared.change.Change.TheVariants as change
 use Rattle.wp_model.specs.declared.entry.Entry.{Entry}
@@ -61,6 +62,7 @@ reply_words reply.FaultLog = codes "fault log"
 reply_words (reply.Stopped published) = codes "stopped " ++ decimal published
 reply_words (reply.Flushed at versions) = codes "flushed " ++ numbered at ++ codes " " ++ decimal versions
 reply_words (reply.Compacted at versions) = codes "compacted " ++ numbered at ++ codes " " ++ decimal versions
+reply_words (reply.Renewed at carried) = codes "renewed " ++ numbered at ++ codes " " ++ decimal carried
 reply_words reply.Nothing = codes "nothing"
 reply_words (reply.Halted flushed) = codes "halted " ++ decimal flushed
 reply_words reply.FaultTables = codes "fault tables"
@@ -78,10 +80,14 @@ change_words (change.Del key) = codes " del " ++ key
 abbrev pub changes_words : List Change → List ℕ
 changes_words changes = flat_map change_words changes
 
+-- a prepare after its number
+abbrev pub prepare_words : List ℕ → List Change → List ℕ
+prepare_words name batch = codes " prepare " ++ name ++ changes_words batch
+
 -- an entry after its number
 abbrev pub entry_words : Entry → List ℕ
 entry_words (entry.Write batch) = codes " write" ++ changes_words batch
-entry_words (entry.Prepare name batch) = codes " prepare " ++ name ++ changes_words batch
+entry_words (entry.Prepare name batch) = prepare_words name batch
 entry_words (entry.Commit p) = codes " commit " ++ decimal p
 entry_words (entry.Undo p batch) = codes " undo " ++ decimal p ++ changes_words batch
 entry_words (entry.Close p) = codes " close " ++ decimal p
@@ -94,6 +100,26 @@ entry_line n entry = decimal n ++ entry_words entry ++ line_end
 abbrev pub entry_lines : ℕ → List Entry → List ℕ
 entry_lines n [] = []
 entry_lines n (entry ∷ entries) = entry_line n entry ++ entry_lines (n + 1) entries
+
+-- ---- a history's base
+
+-- the number behind which the entries follow
+abbrev pub base_line : ℕ → List ℕ
+base_line base = codes "base " ++ decimal base ++ line_end
+
+-- a key with the value that it has at the base
+abbrev pub has_line : List ℕ × List ℕ → List ℕ
+has_line pair = codes "has " ++ pair.0 ++ codes " " ++ pair.1 ++ line_end
+
+-- a prepare that was undecided there
+abbrev pub carried_line : Carried → List ℕ
+carried_line x = decimal x.number ++ prepare_words x.name x.batch ++ line_end
+
+-- the lines of a base, of the keys that have a value there, in order, and of the prepares that were undecided
+abbrev pub base_lines : ℕ → List (List ℕ × List ℕ) → List Carried → List ℕ
+base_lines base store carried = base_line base ++ flat_map has_line store ++ flat_map carried_line carried
+
+-- ---- the end
 
 -- how many entries there are, and how many prepares are undecided
 abbrev pub end_line : ℕ → ℕ → List ℕ

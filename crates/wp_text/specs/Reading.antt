@@ -45,6 +45,7 @@ keyword_text keyword.Leave = codes "leave"
 keyword_text keyword.Take = codes "take"
 keyword_text keyword.Flush = codes "flush"
 keyword_text keyword.Compact = codes "compact"
+keyword_text keyword.Renew = codes "renew"
 keyword_text keyword.Tell = codes "tell"
 keyword_text keyword.Hear = codes "hear"
 
@@ -101,6 +102,7 @@ statement_with keyword.Take words = do
   Ok (statement.Command (command.Take name))
 statement_with keyword.Flush words = alone command.Flush words
 statement_with keyword.Compact words = alone command.Compact words
+statement_with keyword.Renew words = alone command.Renew words
 statement_with keyword.Tell words = do
   name ← one_word MOST_NAME_BYTES words
   Ok (statement.Command (command.Tell name))

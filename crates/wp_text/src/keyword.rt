@@ -18,11 +18,12 @@ pub enum Keyword {
     Take,
     Flush,
     Compact,
+    Renew,
     Tell,
     Hear,
 }
 
-const KEYWORDS: [Keyword; 16] = [
+const KEYWORDS: [Keyword; 17] = [
     Keyword::Client,
     Keyword::Put,
     Keyword::Del,
@@ -37,6 +38,7 @@ const KEYWORDS: [Keyword; 16] = [
     Keyword::Take,
     Keyword::Flush,
     Keyword::Compact,
+    Keyword::Renew,
     Keyword::Tell,
     Keyword::Hear,
 ];
@@ -60,6 +62,7 @@ impl Keyword {
             Keyword::Take => b"take",
             Keyword::Flush => b"flush",
             Keyword::Compact => b"compact",
+            Keyword::Renew => b"renew",
             Keyword::Tell => b"tell",
             Keyword::Hear => b"hear",
         }

@@ -19,7 +19,9 @@ mod script;
 pub use fault::{Fault, ScriptError, Why};
 pub use limits::limits_are;
 pub use line::MOST_LINE_BYTES;
-pub use lines::{client_line, end_line, history_line, reply_line};
+pub use lines::{
+    base_line, carried_line, client_line, end_line, has_line, history_line, reply_line,
+};
 pub use read::{MOST_BYTES, MOST_CLIENTS, one_reading, read_script};
 pub use reply::Reply;
 pub use script::{Command, Commands, Part, Script};

@@ -118,6 +118,7 @@ fn statement_with(alloc: Global, keyword: Keyword, words: &[&[u8]]) -> Result<St
         Keyword::Take => Ok(Statement::Command(Command::Take(one_word(alloc, words)?))),
         Keyword::Flush => alone(words, Command::Flush),
         Keyword::Compact => alone(words, Command::Compact),
+        Keyword::Renew => alone(words, Command::Renew),
         Keyword::Tell => Ok(Statement::Command(Command::Tell(one_word(alloc, words)?))),
         Keyword::Hear => Ok(Statement::Command(Command::Hear(one_word(alloc, words)?))),
     }

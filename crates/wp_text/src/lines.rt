@@ -4,7 +4,7 @@ ghost use Rattle.wp_text.specs.Said.{said};
 
 use crate::reply::Reply;
 use std::alloc::{AllocError, Global};
-use wp_model::{Batch, Change, Entry, Holder, Name, Seq, Word};
+use wp_model::{Batch, Carried, Change, Entry, Holder, Key, Name, Seq, Value, Word};
 
 fn push_number(out: &mut Vec<u8>, n: Seq) -> Result<(), AllocError>
     ensures { OnOk result (out.new.items ≡ out.old.items ++ decimal n) }
@@ -122,6 +122,7 @@ fn words_of(reply: &Reply) -> Words<'_>
         Reply::Stopped(n) => Words::Number(b"stopped ", *n),
         Reply::Flushed { at, versions } => Words::Numbers(b"flushed @", *at, *versions),
         Reply::Compacted { at, versions } => Words::Numbers(b"compacted @", *at, *versions),
+        Reply::Renewed { at, carried } => Words::Numbers(b"renewed @", *at, *carried),
         Reply::Nothing => Words::Text(b"nothing"),
         Reply::Halted(n) => Words::Number(b"halted ", *n),
         Reply::FaultTables => Words::Text(b"fault tables"),
@@ -177,6 +178,13 @@ fn push_batch(out: &mut Vec<u8>, batch: &Batch) -> Result<(), AllocError>
     Ok(())
 }
 
+fn push_prepare(out: &mut Vec<u8>, name: &Name, batch: &Batch) -> Result<(), AllocError>
+    ensures { OnOk result (out.new.items ≡ out.old.items ++ text.prepare_words name.now batch.now) }
+{
+    push_with_word(out, b" prepare ", name)?;
+    push_batch(out, batch)
+}
+
 fn push_entry(out: &mut Vec<u8>, entry: &Entry) -> Result<(), AllocError>
     ensures { OnOk result (out.new.items ≡ out.old.items ++ text.entry_words entry.now) }
 {
@@ -185,10 +193,7 @@ fn push_entry(out: &mut Vec<u8>, entry: &Entry) -> Result<(), AllocError>
             out.extend_from_slice(b" write")?;
             push_batch(out, batch)
         }
-        Entry::Prepare(name, batch) => {
-            push_with_word(out, b" prepare ", name)?;
-            push_batch(out, batch)
-        }
+        Entry::Prepare(name, batch) => push_prepare(out, name, batch),
         Entry::Commit(p) => push_with_number(out, b" commit ", *p),
         Entry::Undo(p, batch) => {
             push_with_number(out, b" undo ", *p)?;
@@ -196,6 +201,32 @@ fn push_entry(out: &mut Vec<u8>, entry: &Entry) -> Result<(), AllocError>
         }
         Entry::Close(p) => push_with_number(out, b" close ", *p),
     }
+}
+
+/// Appends the line of a base: the number behind which a history's entries follow.
+pub fn base_line(out: &mut Vec<u8>, base: Seq) -> Result<(), AllocError>
+    ensures { OnOk result (out.new.items ≡ out.old.items ++ text.base_line base) }
+{
+    push_with_number(out, b"base ", base)?;
+    out.extend_from_slice(b"\n")
+}
+
+/// Appends the line of a key that has a value at a base.
+pub fn has_line(out: &mut Vec<u8>, key: &Key, value: &Value) -> Result<(), AllocError>
+    ensures { OnOk result (out.new.items ≡ out.old.items ++ text.has_line (key.now, value.now)) }
+{
+    push_with_word(out, b"has ", key)?;
+    push_with_word(out, b" ", value)?;
+    out.extend_from_slice(b"\n")
+}
+
+/// Appends the line of a prepare that was undecided at a base. It is that of an entry.
+pub fn carried_line(out: &mut Vec<u8>, carried: &Carried) -> Result<(), AllocError>
+    ensures { OnOk result (out.new.items ≡ out.old.items ++ text.carried_line carried.now) }
+{
+    push_number(out, carried.number)?;
+    push_prepare(out, &carried.name, &carried.batch)?;
+    out.extend_from_slice(b"\n")
 }
 
 /// Appends the line of a history's entry.

@@ -57,18 +57,23 @@ pub enum Reply {
     Silent(Name),
     /// A number that the command needs would pass the limit: the number published, and the limit.
     Full { published: Seq, limit: Seq },
-    /// The log failed while it took the entry. It takes no more in this run.
+    /// The log's device failed as it took the entry, or as a renewal wrote the log anew. It takes no more in this run.
     FaultLog,
-    /// The log failed before; this is the number published.
+    /// The log's device failed before, or any device in a renewal; this is the number published.
     Stopped(Seq),
     /// Every version numbered up to this, the number published, is in a table; the new table has so many versions.
     Flushed { at: Seq, versions: u64 },
     /// All tables are one, merged when this number was published. It has so many versions; with none there is no table.
     Compacted { at: Seq, versions: u64 },
-    /// No version stands in memory alone, so there is nothing to flush; or there are too few tables to merge.
+    /// The log has no entry up to this, the number published, and so many prepares from before, which are undecided. Every version
+    /// up to it is in a table.
+    Renewed { at: Seq, carried: u64 },
+    /// No version stands in memory alone, so there is nothing to flush; or there are too few tables to merge; or the log begins
+    /// behind the number published.
     Nothing,
-    /// A flush or a compaction failed before; this is the flushed number that the tables have.
+    /// The manifest's device or the tables' failed before; this is the flushed number that the tables have.
     Halted(Seq),
-    /// The manifest's device or the tables' failed at the flush or the compaction. Neither is tried again in this run.
+    /// The manifest's device or the tables' failed at the flush, the compaction or the renewal. Neither is called again in this
+    /// run. Where it was the renewal, the log takes no more either.
     FaultTables,
 }

@@ -33,6 +33,8 @@ pub enum Command {
     Flush,
     /// Merge all tables into one, without the versions that no reader needs.
     Compact,
+    /// Write the log anew from the number published on, with what stands in memory in a table first.
+    Renew,
     /// Tell the number published, under this label.
     Tell(Name),
     /// See no less than was told last under this label.

@@ -1,5 +1,5 @@
 -- What the replies of all clients say at the end agrees with each seat.
-use Rattle.std.proofs.Common.{◌≡◌, ◌≢◌, ◌⊎◌, inl, inr, ℕ, ◌≤◌, ◌<◌, Bool, true, false, List, ◌∷◌, ◌++◌, length, map, take, Option, Some, None, refl, sym, subst, ap, ◌∙◌, arith}
+use Rattle.std.proofs.Common.{◌≡◌, ◌≢◌, ◌⊎◌, inl, inr, ℕ, ◌≤◌, ◌<◌, Bool, true, false, List, ◌∷◌, ◌++◌, length, map, take, Option, Some, None, refl, subst, ap, ◌∙◌, arith}
 use Rattle.std.specs.Prelude.{◌==◌, ◌&&◌, nat_le}
 use Rattle.std.specs.List.{list_any}
 use Rattle.std.specs.Str.{bytes_eq}
@@ -10,7 +10,8 @@ use lib.ListN.{get_elem?}
 use Rattle.wp_model.specs.declared.entry.Entry.{Entry}
 use Rattle.wp_model.specs.declared.holder.Holder.{Holder}
 use Rattle.wp_model.specs.declared.holder.Holder.TheVariants.{Txn, Client}
-use Rattle.wp_model.specs.History.{name_at, named}
+use Rattle.wp_model.specs.Flushed.{InstalledEdit}
+use Rattle.wp_model.specs.History.{name_at}
 use Rattle.wp_model.proofs.Found.{found_named}
 use Rattle.wp_text.specs.declared.script.Command.{Command}
 use Rattle.wp_text.specs.declared.script.Command.TheVariants as command
@@ -20,9 +21,11 @@ use Rattle.wp_text.specs.declared.reply.Reply.TheVariants as reply
 use Rattle.wp_core.specs.Lists.{IsIn}
 use Rattle.wp_core.specs.Sound.Actors.{seen_of}
 use Rattle.wp_core.specs.Sound.Locks.{WasPrepared}
-use Rattle.wp_core.specs.Sound.Pasts.{HasDone, IsPast, MadeHolder, IsAccounted, raised_to, WasInstalled, past_of}
+use Rattle.wp_core.specs.Sound.Pasts.{HasDone, IsPast, MadeHolder, IsAccounted, raised_to, WasInstalled, WasBased, past_of}
 use Rattle.wp_core.specs.Views.{Account, own, another, prepare_at, Event, claimed, took, locked, told, heard, installed, renewed, log_failed, log_stopped, tables_failed, stopped, found_edit, found}
 use Rattle.wp_core.specs.World.{Participant}
+use Rattle.wp_rule.proofs.Knows.{one_was_first}
+use Rattle.wp_shared.specs.Parts.{content}
 use Rattle.wp_shared.specs.Devices.{DevicesLeft}
 use Rattle.wp_shared.specs.Ended.{IsEnded, of_seats}
 use Rattle.wp_shared.specs.Ending.{participant_of}
@@ -30,14 +33,15 @@ use Rattle.wp_shared.specs.Seats.{SharedState, SeatState}
 use Rattle.wp_replies.specs.declared.client.Txn as session_txn
 use Rattle.wp_replies.specs.Client.{new_client}
 use Rattle.wp_replies.specs.Explains.{dialogues, judged_by}
-use Rattle.wp_replies.specs.Kind.{is_fault, is_flushed, is_compacted}
-use Rattle.wp_replies.specs.Known.{Dialogue, answers_in, comes_to, gets_name, takes_name, stages_key, writes_key, tells}
-use Rattle.wp_replies.specs.Replies.{WasTold, WasFlushed, TablesFailed, OtherCompacted, Evidence, IsKnown}
+use Rattle.wp_replies.specs.Kind.{is_flushed, is_based, is_compacted}
+use Rattle.wp_replies.specs.Known.{Dialogue, has_stop, answers_in, comes_to, gets_name, takes_name, stages_key, writes_key, tells}
+use Rattle.wp_replies.specs.Replies.{WasTold, WasFlushed, WasBase, TablesFailed, OtherCompacted, Evidence, IsKnown}
+use Rattle.wp_answers.specs.Alone.{limits_of}
 use Rattle.wp_answers.specs.Agrees.{IsAnother, IsPrepares, KnowsHolder, Knows, Agrees}
 use Rattle.wp_threads.specs.Explained.{found_in, left_in, failed_in}
 use Rattle.wp_threads.specs.Over.{Answered, AreOver, replies_of}
 use Rattle.wp_core.proofs.Tests.{same_some}
-use Rattle.wp_threads.proofs.Coming.{comes_wider, never_comes, comes_answered, answers_any}
+use Rattle.wp_threads.proofs.Coming.{comes_wider, comes_answered, renewal_answered, answers_any}
 use Rattle.wp_threads.proofs.Doings.{Did, did, took_name, wrote_key}
 use Rattle.wp_threads.proofs.Lists.{or_left, or_right, both_so, at_map, any_at, any_other, any_filter}
 
@@ -56,7 +60,7 @@ tells_more label n m le t c a is = absurd cc
 module _ {D : Type 0} {z : SharedState D} {seats : List SeatState} {history : List Entry} {left : DevicesLeft} (ended : IsEnded z seats history left) (parts : List Part) (answered : List Answered) (over : AreOver z (found_in ended) parts answered seats) (before : List Dialogue) (mine : Dialogue) (after : List Dialogue)
     (split : dialogues parts (replies_of answered) ≡ before ++ mine ∷ after) where
   abbrev pub evidence : Evidence
-  evidence = judged_by (left_in ended) z.limit (failed_in ended) (found_in ended) before mine after
+  evidence = judged_by (left_in ended) (limits_of z) (failed_in ended) (found_in ended) before mine after
 
   abbrev all : List Dialogue
   all = dialogues parts (replies_of answered)
@@ -117,16 +121,29 @@ module _ {D : Type 0} {z : SharedState D} {seats : List SeatState} {history : Li
       let said = comes_answered (is_flushed edit.flushed) new_client d.own.part.commands d.own.answers d.told in
       or_right (n == ended.first_edit.flushed) (list_any (is_flushed n) (answers_in (before ++ mine ∷ after)))
       (answers_any (is_flushed n) (before ++ mine ∷ after) (one_did (λ (x : Dialogue). list_any (is_flushed n) x.answers) i d.own d.there (subst (λ (m : ℕ). list_any (is_flushed m) d.own.answers ≡ true) same said)))
-  was_raised n (renewed edit) raised j i h = let d = (done_by j i (renewed edit) h).1 in absurd (never_comes new_client d.own.part.commands d.own.answers d.told)
+  was_raised n (renewed edit) raised j i h =
+      let d = (done_by j i (renewed edit) h).1 in
+      let same : edit.flushed ≡ n = same_some edit.flushed n raised in
+      let said = (renewal_answered edit.segment.base edit.flushed new_client d.own.part.commands d.own.answers d.told).1 in
+      or_right (n == ended.first_edit.flushed) (list_any (is_flushed n) (answers_in (before ++ mine ∷ after)))
+      (answers_any (is_flushed n) (before ++ mine ∷ after) (one_did (λ (x : Dialogue). list_any (is_flushed n) x.answers) i d.own d.there (subst (λ (m : ℕ). list_any (is_flushed m) d.own.answers ≡ true) same said)))
   was_raised n other raised j i h = absurd cc
 
   was_flushed : (n : ℕ) → WasInstalled ended.first_edit (of_seats past_of seats) n → IsKnown evidence (WasFlushed n)
   was_flushed n (inl first) = or_left (n == ended.first_edit.flushed) (list_any (is_flushed n) (answers_in (before ++ mine ∷ after))) (eq-eqb n ended.first_edit.flushed first)
   was_flushed n (inr (e, raised, (j, i, h))) = was_raised n e raised j i h
 
+  was_based : (n : ℕ) → WasBased ended.first_edit (of_seats past_of seats) n → IsKnown evidence (WasBase n)
+  was_based n (inl first) = or_left (n == ended.first_edit.segment.base) (list_any (is_based n) (answers_in (before ++ mine ∷ after))) (eq-eqb n ended.first_edit.segment.base first)
+  was_based n (inr (edit, same, (j, i, h))) =
+      let d = (done_by j i (renewed edit) h).1 in
+      let said = (renewal_answered edit.segment.base edit.flushed new_client d.own.part.commands d.own.answers d.told).0 in
+      or_right (n == ended.first_edit.segment.base) (list_any (is_based n) (answers_in (before ++ mine ∷ after)))
+      (answers_any (is_based n) (before ++ mine ∷ after) (one_did (λ (x : Dialogue). list_any (is_based n) x.answers) i d.own d.there (subst (λ (m : ℕ). list_any (is_based m) d.own.answers ≡ true) same said)))
+
   -- ---- the seat
 
-  module _ (p : Participant) (at : get_elem? (map participant_of seats) (length before) ≡ some p) (closed_said : ended.writes.closed ≡ true → list_any is_fault (answers_in (before ++ mine ∷ after)) ≡ true) (halted_said : ended.edits.halted ≡ true → IsKnown evidence TablesFailed) where
+  module _ (p : Participant) (at : get_elem? (map participant_of seats) (length before) ≡ some p) (closed_said : ended.writes.closed ≡ true → list_any has_stop (before ++ mine ∷ after) ≡ true) (halted_said : ended.edits.halted ≡ true → IsKnown evidence TablesFailed) where
     mine_did : (event : Event) → IsIn event p.past → HasDone (of_seats past_of seats) 0 (length before) event
     mine_did event there = (p.past, (map past_of (map participant_of seats), refl, at_map past_of (map participant_of seats) (length before) p at), there)
 
@@ -154,11 +171,12 @@ module _ {D : Type 0} {z : SharedState D} {seats : List SeatState} {history : Li
     knows (heard label n) there = λ m le. was_told label n m le (ended.board.heard label n (past_is (heard label n) there))
     knows (stopped n) there =
         let k = ended.faults.stopped n (past_is (stopped n) there) in
-        both_so (n == length history) (list_any is_fault (answers_in (before ++ mine ∷ after))) (eq-eqb n (length history) (k.1 ∙ ap (λ (h : List Entry). length h) ended.history_is)) (closed_said k.0)
+        both_so (n == length history) (list_any has_stop (before ++ mine ∷ after)) (eq-eqb n (length history) (k.1 ∙ ap (λ (h : List Entry). length h) ended.history_is)) (closed_said k.0)
     knows (log_failed entries) there = (ended.faults.failed entries (past_is (log_failed entries) there)).1
     knows (tables_failed last edit) there = let f = ended.installed.failed last edit (past_is (tables_failed last edit) there) in (f.1, f.2)
     knows (found_edit n base tables due halted) there = (
       was_flushed n (ended.installed.found n base tables due halted (past_is (found_edit n base tables due halted) there)),
+      was_based base (ended.installed.found_base n base tables due halted (past_is (found_edit n base tables due halted) there)),
       (λ is. let k = ended.installed.found_halted n base tables due (past_is (found_edit n base tables due true) (subst (λ (b : Bool). IsIn (found_edit n base tables due b) p.past) is there)) in (k.1, halted_said k.0)),
       (λ lt. other_compacted n base tables due halted there lt),
     )
@@ -173,6 +191,7 @@ module _ {D : Type 0} {z : SharedState D} {seats : List SeatState} {history : Li
     pub agrees : Agrees evidence z p
     agrees = record {
       seen = ended.seen 0 (length before) p.seen (map seen_of (map participant_of seats), refl, at_map seen_of (map participant_of seats) (length before) p at);
-      limit = refl;
+      limits = refl;
+      base = λ first is_first. ap (λ (e : InstalledEdit). e.segment.base) (one_was_first content z.first ended.first_edit first ended.first_is is_first);
       past = knows;
     }

@@ -8,11 +8,12 @@ use Rattle.wp_model.specs.Batch.{key_cmp}
 use Rattle.wp_core.specs.Lists.{IsIn}
 use Rattle.wp_core.specs.World.{Actor, Participant, new_participant}
 use Rattle.wp_core.proofs.KeepsSeen.{whole}
+use Rattle.wp_shared.proofs.Limits.{limit_opened}
 use Rattle.wp_shared.specs.Seats.{SharedState, SeatState}
 use Rattle.wp_replies.specs.Client.{new_client}
 use Rattle.wp_replies.specs.Current.{opened_store}
 use Rattle.wp_replies.specs.Known.{StoredState, known_at_first}
-use Rattle.wp_answers.specs.Alone.{log_faults, tables_faults, IsStoreOf}
+use Rattle.wp_answers.specs.Alone.{log_faults, device_faults, tables_faults, limits_of, IsStoreOf}
 use Rattle.wp_answers.specs.Holdings.{times_registered, no_holdings, Holds}
 use Rattle.wp_threads.specs.New.{IsNew}
 use Rattle.wp_threads.specs.SoFar.{IsFound, IsSessionTo, IsExplainedTo, RanAlone, IsSessionSoFar}
@@ -41,13 +42,18 @@ module _ {D : Type 0} (z : SharedState D) (name : List ℕ) (s : SeatState) (new
   }
 
 module _ {D : Type 0} (z : SharedState D) (found : StoredState) (is_found : IsFound z found) (name : List ℕ) (s : SeatState) (new : IsNew z name s) where
-  store_is : IsStoreOf z found.edit (new_participant name z.opened) (opened_store z.limit found)
+  store_is : IsStoreOf z found.edit (new_participant name z.opened) (opened_store (limits_of z) found)
   store_is = record {
+    first_is = is_found.edit;
+    at = is_found.at;
+    base = refl;
+    risen = omega arith;
     history = is_found.history;
     opened = whole z.opened;
     own = λ n there. absurd there;
     stopped = refl;
-    limit = refl;
+    limit = sym (limit_opened z found.edit.segment.base is_found.at);
+    renewed_limit = refl;
     installed = refl;
     halted = refl;
     board = λ label. ((λ is. absurd (some_not_none (finite.get finite.empty label) (get-empty key_cmp label) is)), (λ told. absurd told.1));
@@ -57,6 +63,7 @@ module _ {D : Type 0} (z : SharedState D) (found : StoredState) (is_found : IsFo
   goes_new = record {
     holds = holds_new z name s new;
     client = ap (λ (p : Participant). p.client) (is_new z name s new);
+    each = refl;
     own = ap (λ (p : Participant). p.own) (is_new z name s new);
     within = of_new z name s new (λ p. (n : ℕ) → IsIn n p.own → n ≤ z.limit) (λ n there. absurd there);
     session = of_new z name s new (λ p. IsSessionTo z found [] [] p new_client) (record {
@@ -65,8 +72,9 @@ module _ {D : Type 0} (z : SharedState D) (found : StoredState) (is_found : IsFo
       goes_on = λ e agrees commands others rest. rest;
     });
     explained = of_new z name s new (λ p. IsExplainedTo name [] [] p.past new_client) (record { alike = new_client; is_alike = refl; goes_on = λ is_such commands others comes. comes; explained = λ event there. absurd there });
-    log_failed = of_new z name s new (λ p. 0 ≡ log_faults p.past) refl;
+    log_failed = of_new z name s new (λ p. 0 ≡ device_faults p.past) refl;
+    log_stopped = of_new z name s new (λ p. 0 ≡ log_faults p.past) refl;
     tables_failed = of_new z name s new (λ p. 0 ≡ tables_faults p.past) refl;
     remembered = λ answer there. absurd there;
-    alone = λ only. of_new z name s new (λ p. RanAlone z found [] [] p new_client) (record { store = opened_store z.limit found; store_is = store_is; ran = (refl, refl); asked = λ entries there. absurd there; asked_edit = λ last edit there. absurd there });
+    alone = λ only. of_new z name s new (λ p. RanAlone z found [] [] p new_client) (record { places = []; store = opened_store (limits_of z) found; store_is = store_is; ran = (refl, refl); asked = λ entries there. absurd there; asked_none = λ there. absurd there; asked_edit = λ last edit there. absurd there });
   }

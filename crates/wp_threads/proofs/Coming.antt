@@ -1,5 +1,5 @@
 -- What a client comes to by its commands and replies.
-use Rattle.std.proofs.Common.{◌≡◌, inl, inr, Bool, true, false, true≢false, List, [], ◌∷◌, Option, Some, None, sym, ap, ◌∙◌}
+use Rattle.std.proofs.Common.{◌≡◌, inl, inr, ℕ, Bool, true, true≢false, List, [], ◌∷◌, Option, Some, None, sym, ap, ◌∙◌}
 use Rattle.std.specs.Prelude.{◌||◌, ◌&&◌}
 use Rattle.std.specs.List.{list_any}
 use Rattle.std.proofs.lemmas.Bool.{or_cases}
@@ -11,9 +11,10 @@ use Rattle.wp_core.proofs.Tests.{both}
 use Rattle.wp_replies.specs.declared.client.Txn.{Txn}
 use Rattle.wp_replies.specs.Client.{Client}
 use Rattle.wp_replies.specs.After.{after_reply}
-use Rattle.wp_replies.specs.Known.{Dialogue, answers_in, comes_to}
+use Rattle.wp_replies.specs.Kind.{is_based, is_flushed}
+use Rattle.wp_replies.specs.Known.{Dialogue, answers_in, comes_to, exchanges}
 use Rattle.wp_answers.specs.Answers.{is_answer}
-use Rattle.wp_threads.proofs.Lists.{or_left, or_right}
+use Rattle.wp_threads.proofs.Lists.{or_left, or_right, any_wider}
 
 -- in such a state, to such a command, with such a reply or none
 abbrev pub Such : Type 0
@@ -36,12 +37,6 @@ comes_both b p client (c ∷ commands) (a ∷ answers) is =
       | inr later ↦ let k = comes_both b p (after_reply 0 client c a) commands answers later in (k.0, or_right (p client.txn c (Some a)) (comes_to p (after_reply 0 client c a) commands answers) k.1)
     ]
 
--- it never comes to what is never so
-pub never_comes : (client : Client) (commands : List Command) (answers : List Reply) → comes_to (λ t c a. false) client commands answers ≡ true → ⊥
-never_comes client [] answers is = true≢false (sym is)
-never_comes client (c ∷ commands) [] is = true≢false (sym is)
-never_comes client (c ∷ commands) (a ∷ answers) is = never_comes (after_reply 0 client c a) commands answers is
-
 -- a reply of such a kind is among the replies
 pub comes_answered : (p : Reply → Bool) (client : Client) (commands : List Command) (answers : List Reply) → comes_to (λ t c a. is_answer p a) client commands answers ≡ true → list_any p answers ≡ true
 comes_answered p client [] answers is = absurd (true≢false (sym is))
@@ -50,6 +45,23 @@ comes_answered p client (c ∷ commands) (a ∷ answers) is = elim (or_cases (p 
   | inl here ↦ or_left (p a) (list_any p answers) here
   | inr later ↦ or_right (p a) (list_any p answers) (comes_answered p (after_reply 0 client c a) commands answers later)
 ]
+
+-- likewise a command that was answered so
+pub comes_exchanged : (p : Command → Reply → Bool) (client : Client) (commands : List Command) (answers : List Reply) → comes_to (λ t c a. is_answer (p c) a) client commands answers ≡ true → list_any (λ (x : Command × Reply). p x.0 x.1) (exchanges commands answers) ≡ true
+comes_exchanged p client [] answers is = absurd (true≢false (sym is))
+comes_exchanged p client (c ∷ commands) [] is = absurd (true≢false (sym is))
+comes_exchanged p client (c ∷ commands) (a ∷ answers) is = elim (or_cases (p c a) (comes_to (λ t d r. is_answer (p d) r) (after_reply 0 client c a) commands answers) is) [
+  | inl here ↦ or_left (p c a) (list_any (λ (x : Command × Reply). p x.0 x.1) (exchanges commands answers)) here
+  | inr later ↦ or_right (p c a) (list_any (λ (x : Command × Reply). p x.0 x.1) (exchanges commands answers)) (comes_exchanged p (after_reply 0 client c a) commands answers later)
+]
+
+-- a renewal is among the replies, which tells its base and the flushed number from then on
+pub renewal_answered : (base flushed : ℕ) (client : Client) (commands : List Command) (answers : List Reply) → comes_to (λ t c a. is_answer (λ r. is_based base r && is_flushed flushed r) a) client commands answers ≡ true → (list_any (is_based base) answers ≡ true) × (list_any (is_flushed flushed) answers ≡ true)
+renewal_answered base flushed client commands answers is =
+    let said = comes_answered (λ (r : Reply). is_based base r && is_flushed flushed r) client commands answers is in (
+      any_wider (λ (r : Reply). is_based base r && is_flushed flushed r) (is_based base) answers (λ r k. (both (is_based base r) (is_flushed flushed r) k).0) said,
+      any_wider (λ (r : Reply). is_based base r && is_flushed flushed r) (is_flushed flushed) answers (λ r k. (both (is_based base r) (is_flushed flushed r) k).1) said,
+    )
 
 -- so it is among those of all dialogues
 pub answers_any : (p : Reply → Bool) (all : List Dialogue) → list_any (λ (d : Dialogue). list_any p d.answers) all ≡ true → list_any p (answers_in all) ≡ true

@@ -27,7 +27,7 @@ use Rattle.wp_threads.proofs.Lists.{count_append, count_times, any_in, counted_i
 pub once_after : (opened history : List Entry) (n : ℕ) → length opened < n → n ≤ length history → once opened history n ≡ 1
 once_after opened history n low high = grind (arith, nat_tests)
 
-none_or_some : (n : ℕ) → (n ≡ 0) ⊎ (1 ≤ n)
+pub none_or_some : (n : ℕ) → (n ≡ 0) ⊎ (1 ≤ n)
 none_or_some zero = inl refl
 none_or_some (suc n) = inr (omega arith)
 

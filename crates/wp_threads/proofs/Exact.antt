@@ -23,13 +23,12 @@ use Rattle.wp_replies.specs.Asked.{AsksLog, AsksEdit, FaultAsks}
 use Rattle.wp_replies.specs.Client.{new_client}
 use Rattle.wp_replies.specs.Current.{opened_store}
 use Rattle.wp_replies.specs.Exact.{IsExact}
-use Rattle.wp_replies.specs.Kind.{is_fault}
+use Rattle.wp_replies.specs.Kind.{stops_log}
 use Rattle.wp_replies.specs.Kind as kinds
-use Rattle.wp_answers.specs.Alone.{IsOnly}
+use Rattle.wp_answers.specs.Alone.{limits_of, IsOnly}
 use Rattle.wp_threads.specs.Explained.{found_in, left_in, failed_in}
 use Rattle.wp_threads.specs.Over.{Answered, EndsAlone, IsOver}
 use Rattle.wp_threads.proofs.Alone.{runs_grow, asks_any}
-use Rattle.wp_threads.proofs.Coming.{never_comes}
 use Rattle.wp_threads.proofs.Counted.{once_after}
 use Rattle.wp_threads.proofs.Lists.{any_in, count_any, counted_in}
 
@@ -64,7 +63,7 @@ module _ {D : Type 0} {z : SharedState D} {s : SeatState} {history : List Entry}
   grown = starts_on alone.store.history s.knows.participant.seen history alone.history (ended.seen 0 0 s.knows.participant.seen (s.knows.participant.seen ∷ [], refl, refl))
 
   from_opened : length z.opened ≤ length alone.store.history
-  from_opened = shorter alone.store.history z.opened (runs_grow (opened_store z.limit (found_in ended)) new_client over.done answered.replies alone.store alone.client alone.ran)
+  from_opened = shorter alone.store.history z.opened (runs_grow alone.places (opened_store (limits_of z) (found_in ended)) new_client over.done answered.replies alone.store alone.client alone.ran)
 
   own_low : (n : ℕ) → times n s.knows.participant.own ≡ 1 → n ≤ length alone.store.history
   own_low n one =
@@ -95,30 +94,32 @@ module _ {D : Type 0} {z : SharedState D} {s : SeatState} {history : List Entry}
   in_past : (e : Event) → IsIn e s.knows.participant.past → IsPast (of_seats past_of (s ∷ [])) e
   in_past e there = (0, 0, (s.knows.participant.past, (s.knows.participant.past ∷ [], refl, refl), there))
 
-  asked_log : alone.store.stopped ≡ true → FaultAsks is_fault (AsksLog ended.writes.failed) (opened_store z.limit (found_in ended)) new_client over.done answered.replies
+  asked_log : alone.store.stopped ≡ true → FaultAsks stops_log (AsksLog ended.writes.failed) alone.places (opened_store (limits_of z) (found_in ended)) new_client over.done answered.replies
   asked_log up =
       let one : one_if alone.store.stopped ≡ 1 = rw up refl in let same = alone.stopped in
       let k = counted_in closes_log s.knows.participant.past (omega (arith, one, same)) in by_event (log_fault_is k.0 k.2) k.1
     where
-      by_event : {x : Event} → ((entries : List Entry) × (x ≡ log_failed entries)) ⊎ (x ≡ log_stopped) → IsIn x s.knows.participant.past → FaultAsks is_fault (AsksLog ended.writes.failed) (opened_store z.limit (found_in ended)) new_client over.done answered.replies
+      by_event : {x : Event} → ((entries : List Entry) × (x ≡ log_failed entries)) ⊎ (x ≡ log_stopped) → IsIn x s.knows.participant.past → FaultAsks stops_log (AsksLog ended.writes.failed) alone.places (opened_store (limits_of z) (found_in ended)) new_client over.done answered.replies
       by_event (inl e) in_it =
           let there : IsIn (log_failed e.0) s.knows.participant.past = subst (λ (x : Event). IsIn x s.knows.participant.past) e.1 in_it in
-          subst (λ (entries : List Entry). FaultAsks is_fault (AsksLog entries) (opened_store z.limit (found_in ended)) new_client over.done answered.replies) (sym (ended.faults.failed e.0 (in_past (log_failed e.0) there)).1) (alone.asked e.0 there)
-      by_event (inr e) in_it = absurd (never_comes new_client part.commands answered.replies (over.explained log_stopped (subst (λ (x : Event). IsIn x s.knows.participant.past) e in_it)))
+          subst (λ (entries : List Entry). FaultAsks stops_log (AsksLog entries) alone.places (opened_store (limits_of z) (found_in ended)) new_client over.done answered.replies) (sym (ended.faults.failed e.0 (in_past (log_failed e.0) there)).1) (alone.asked e.0 there)
+      by_event (inr e) in_it =
+          let there : IsIn log_stopped s.knows.participant.past = subst (λ (x : Event). IsIn x s.knows.participant.past) e in_it in
+          subst (λ (entries : List Entry). FaultAsks stops_log (AsksLog entries) alone.places (opened_store (limits_of z) (found_in ended)) new_client over.done answered.replies) (sym (ended.faults.unfailed (in_past log_stopped there)).1) (alone.asked_none there)
 
-  asked_tables : alone.store.halted ≡ true → FaultAsks kinds.is_tables_fault (AsksEdit ended.edits.failed) (opened_store z.limit (found_in ended)) new_client over.done answered.replies
+  asked_tables : alone.store.halted ≡ true → FaultAsks (λ command answer. kinds.is_tables_fault answer) (AsksEdit ended.edits.failed) alone.places (opened_store (limits_of z) (found_in ended)) new_client over.done answered.replies
   asked_tables up =
       let one : one_if alone.store.halted ≡ 1 = rw up refl in let same = alone.halted in
       let k = counted_in is_tables_fault s.knows.participant.past (omega (arith, one, same)) in let e = tables_fault_is k.0 k.2 in
       let there : IsIn (tables_failed e.0 e.1) s.knows.participant.past = subst (λ (x : Event). IsIn x s.knows.participant.past) e.2 k.1 in
       let counted = over.tables_failed in
       let failed = ended.installed.failed e.0 e.1 (in_past (tables_failed e.0 e.1) there) in
-      subst (λ (edit : Option InstalledEdit). FaultAsks kinds.is_tables_fault (AsksEdit edit) (opened_store z.limit (found_in ended)) new_client over.done answered.replies) (sym failed.2)
+      subst (λ (edit : Option InstalledEdit). FaultAsks (λ command answer. kinds.is_tables_fault answer) (AsksEdit edit) alone.places (opened_store (limits_of z) (found_in ended)) new_client over.done answered.replies) (sym failed.2)
       (by e.0 e.1 there (count_any kinds.is_tables_fault answered.replies (omega (arith, one, same, counted))))
     where
-      by : (last : InstalledEdit) (edit : Option InstalledEdit) → IsIn (tables_failed last edit) s.knows.participant.past → list_any kinds.is_tables_fault answered.replies ≡ true → FaultAsks kinds.is_tables_fault (AsksEdit edit) (opened_store z.limit (found_in ended)) new_client over.done answered.replies
+      by : (last : InstalledEdit) (edit : Option InstalledEdit) → IsIn (tables_failed last edit) s.knows.participant.past → list_any kinds.is_tables_fault answered.replies ≡ true → FaultAsks (λ command answer. kinds.is_tables_fault answer) (AsksEdit edit) alone.places (opened_store (limits_of z) (found_in ended)) new_client over.done answered.replies
       by last (Some edit) there said = alone.asked_edit last edit there
-      by last None there said = asks_any kinds.is_tables_fault (AsksEdit None) (λ x y c. tt) (opened_store z.limit (found_in ended)) new_client over.done answered.replies alone.store alone.client alone.ran (any_in kinds.is_tables_fault answered.replies said)
+      by last None there said = asks_any kinds.is_tables_fault (AsksEdit None) (λ x y c. tt) alone.places (opened_store (limits_of z) (found_in ended)) new_client over.done answered.replies alone.store alone.client alone.ran (any_in kinds.is_tables_fault answered.replies said)
 
-  pub exact : IsExact z.limit (found_in ended) (left_in ended) (failed_in ended) (record { client = part.client; commands = over.done } ∷ []) (answered.replies ∷ [])
-  exact = (alone.store, alone.client, alone.ran, (λ i. record { history = same_history i; edit = same_edit i }), asked_log, asked_tables)
+  pub exact : IsExact (limits_of z) (found_in ended) (left_in ended) (failed_in ended) (record { client = part.client; commands = over.done } ∷ []) (answered.replies ∷ [])
+  exact = (alone.places, alone.store, alone.client, alone.ran, (λ i. record { history = same_history i; edit = same_edit i }), asked_log, asked_tables)

@@ -8,8 +8,8 @@ use Rattle.wp_text.specs.declared.script.Command.{Command}
 use Rattle.wp_text.specs.declared.script.Part.{Part}
 use Rattle.wp_core.specs.Lists.{IsIn, one_if, total}
 use Rattle.wp_core.specs.Sound.Actors.{StartsWith}
-use Rattle.wp_core.specs.Sound.Pasts.{closes_log, is_tables_fault, is_install, last_after, last_installed}
-use Rattle.wp_core.specs.Views.{Event, installed, renewed, log_failed, tables_failed}
+use Rattle.wp_core.specs.Sound.Pasts.{closes_log, is_log_fault, is_tables_fault, is_install, last_after, last_installed}
+use Rattle.wp_core.specs.Views.{Event, installed, renewed, log_failed, log_stopped, tables_failed}
 use Rattle.wp_core.proofs.KeepsSeen.{whole}
 use Rattle.wp_core.proofs.PastsGrow.{in_front}
 use Rattle.wp_shared.specs.Seats.{SharedState, SeatState}
@@ -41,6 +41,7 @@ ends_here s txn rest = record {
   past = sym (append-nil s.knows.participant.past);
   explained = λ event there. absurd there;
   log_failed = refl;
+  log_stopped = refl;
   tables_failed = refl;
 }
 
@@ -53,6 +54,7 @@ ends_broken s t was c others broke = record {
   past = broke.past;
   explained = λ event there. (c, others, refl, broke.explained event there);
   log_failed = broke.log_failed;
+  log_stopped = broke.log_stopped;
   tables_failed = broke.tables_failed;
 }
 
@@ -65,6 +67,7 @@ ends_then z s t u txn rest was now ends goes = record {
   past = goes.past ∙ ends.past;
   explained = ends.explained;
   log_failed = ends.log_failed;
+  log_stopped = ends.log_stopped;
   tables_failed = ends.tables_failed;
 }
 
@@ -113,16 +116,19 @@ module _ {D : Type 0} (z : SharedState D) (found : StoredState) (part : Part) (a
 
   ends_alone : RanAlone z found done answered.replies s.knows.participant (client_of h) → EndsAlone z found done answered.replies u.knows.participant
   ends_alone ran = record {
+    places = ran.places;
     store = ran.store;
     client = client_of h;
     ran = ran.ran;
     history = subst (StartsWith u.knows.participant.seen) (sym ran.store_is.history) ends.stays.seen;
     own = λ n there. subst (λ (k : List Entry). n ≤ length k) (sym ran.store_is.history) (ran.store_is.own n (subst (IsIn n) ends.own there));
-    stopped = ran.store_is.stopped ∙ counted_still closes_log ends.log_failed;
+    stopped = ran.store_is.stopped ∙ counted_still closes_log ends.log_stopped;
     installed = ran.store_is.installed ∙ (sym (last_still found.edit s.knows.participant.past ends.events installs_none) ∙ ap (last_installed found.edit) (sym ends.past));
     halted = ran.store_is.halted ∙ counted_still is_tables_fault ends.tables_failed;
-    asked = λ entries there. ⊎_elim (ran.asked entries) (λ (k : IsIn (log_failed entries) ends.events). absurd (not_counted closes_log ends.events (log_failed entries) ends.log_failed k refl))
+    asked = λ entries there. ⊎_elim (ran.asked entries) (λ (k : IsIn (log_failed entries) ends.events). absurd (not_counted closes_log ends.events (log_failed entries) ends.log_stopped k refl))
         (in_parts (log_failed entries) s.knows.participant.past ends.events (subst (IsIn (log_failed entries)) ends.past there));
+    asked_none = λ there. ⊎_elim ran.asked_none (λ (k : IsIn log_stopped ends.events). absurd (not_counted closes_log ends.events log_stopped ends.log_stopped k refl))
+        (in_parts log_stopped s.knows.participant.past ends.events (subst (IsIn log_stopped) ends.past there));
     asked_edit = λ last edit there. ⊎_elim (ran.asked_edit last edit) (λ (k : IsIn (tables_failed last (Some edit)) ends.events). absurd (not_counted is_tables_fault ends.events (tables_failed last (Some edit)) ends.tables_failed k refl))
         (in_parts (tables_failed last (Some edit)) s.knows.participant.past ends.events (subst (IsIn (tables_failed last (Some edit))) ends.past there));
   }
@@ -140,7 +146,8 @@ module _ {D : Type 0} (z : SharedState D) (found : StoredState) (part : Part) (a
     session = λ e agrees. subst (λ (x : List Command × List _). IsSession e (known_at_first found) new_client x.0 x.1) (λ i. (append-nil done i, append-nil answered.replies i))
         (g.session.goes_on e (agrees_before z e s.knows.participant u.knows.participant ends.events ends.stays.seen ends.past agrees) [] [] tt);
     explained = explained_rest commands;
-    log_failed = g.log_failed ∙ counted_still closes_log ends.log_failed;
+    log_failed = g.log_failed ∙ counted_still is_log_fault ends.log_failed;
+    log_stopped = g.log_stopped ∙ counted_still closes_log ends.log_stopped;
     tables_failed = g.tables_failed ∙ counted_still is_tables_fault ends.tables_failed;
     remembered = λ answer there. remembered_wider s.knows.participant.past u.knows.participant.past answer (λ e x. subst (IsIn e) (sym ends.past) (in_front e s.knows.participant.past ends.events x)) (g.remembered answer there);
     alone = λ only. ends_alone (g.alone (only_before s u ends.stays only));

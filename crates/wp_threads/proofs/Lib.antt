@@ -16,4 +16,5 @@ pub mod Looping
 pub mod Onward
 pub mod Places
 pub mod Seated
+pub mod Stops
 pub mod Unused

@@ -1,5 +1,5 @@
 -- A session with one reply more.
-use Rattle.std.proofs.Common.{◌≡◌, ◌⊎◌, ⊎_elim, inl, inr, ℕ, ◌+◌, Bool, true, cond, List, [], ◌∷◌, ◌++◌, Some, refl, sym, subst, ap, ◌∙◌, append_assoc, arith}
+use Rattle.std.proofs.Common.{◌≡◌, ◌⊎◌, ⊎_elim, inl, inr, ℕ, ◌+◌, Bool, true, cond, List, [], ◌∷◌, ◌++◌, length, length-append, Some, refl, sym, subst, ap, ◌∙◌, append_assoc, arith}
 use Rattle.std.specs.Prelude.{count_by}
 use Rattle.std.specs.List.{flat_map}
 use Rattle.std.proofs.lemmas.List.Concat.{flat_map-cons, flat_map-append}
@@ -9,8 +9,8 @@ use Rattle.wp_text.specs.declared.script.Command.{Command}
 use Rattle.wp_text.specs.declared.reply.Reply.{Reply}
 use Rattle.wp_text.specs.declared.reply.Reply.TheVariants as reply
 use Rattle.wp_core.specs.Lists.{IsIn, one_if, total}
-use Rattle.wp_core.specs.Sound.Pasts.{closes_log, is_tables_fault}
-use Rattle.wp_core.specs.Views.{Event, log_failed, tables_failed}
+use Rattle.wp_core.specs.Sound.Pasts.{closes_log, is_log_fault, is_tables_fault}
+use Rattle.wp_core.specs.Views.{Event, log_failed, log_stopped, tables_failed}
 use Rattle.wp_core.specs.World.{Participant}
 use Rattle.wp_core.proofs.PastsGrow.{in_front}
 use Rattle.wp_shared.specs.Seats.{SharedState, SeatState}
@@ -19,12 +19,12 @@ use Rattle.wp_replies.specs.Client.{Client, new_client}
 use Rattle.wp_replies.specs.After.{after_reply}
 use Rattle.wp_replies.specs.Current.{opened_store, RunsAlone}
 use Rattle.wp_replies.specs.Due.{Store, store_after}
-use Rattle.wp_replies.specs.Kind.{acknowledged, is_fault}
+use Rattle.wp_replies.specs.Kind.{acknowledged, is_fault, stops_log}
 use Rattle.wp_replies.specs.Kind as kinds
-use Rattle.wp_replies.specs.Known.{StoredState, known_at_first, comes_to}
+use Rattle.wp_replies.specs.Known.{StoredState, known_at_first, comes_to, exchanges, is_stop}
 use Rattle.wp_replies.specs.Progress.{progress_after}
 use Rattle.wp_replies.specs.Session.{IsSession}
-use Rattle.wp_answers.specs.Alone.{IsOnly, IsStoreOf, AnswersAlone}
+use Rattle.wp_answers.specs.Alone.{limits_of, IsOnly, IsStoreOf, AnswersAlone}
 use Rattle.wp_answers.specs.Answers.{explaining, IsExplained, IsRemembered, Stays, Answers}
 use Rattle.wp_answers.specs.Holdings.{HoldingsState, client_of, Holds}
 use Rattle.wp_answers.proofs.Growing.{agrees_before, in_back}
@@ -52,18 +52,26 @@ pub remembered_wider : (xs ys : List Event) (r : Reply) → ((e : Event) → IsI
 remembered_wider xs ys (reply.Stopped n) f there = f _ there
 remembered_wider xs ys (reply.Flushed n versions) f (edit, same, there) = (edit, same, f _ there)
 remembered_wider xs ys (reply.Halted flushed) f (base, tables, due, there) = (base, tables, due, f _ there)
+remembered_wider xs ys (reply.Renewed n carried) f (edit, based, same, there) = (edit, based, same, f _ there)
 remembered_wider xs ys other f k = tt
 
-count_one : (p : Reply → Bool) (r : Reply) → count_by p (r ∷ []) ≡ one_if (p r)
+count_one : {X : Type 0} (p : X → Bool) (r : X) → count_by p (r ∷ []) ≡ one_if (p r)
 count_one p r = let whole : count_by p (r ∷ []) ≡ cond (p r) 1 0 + count_by p [] = sum_by-cons (λ x. cond (p x) 1 0) r [] in let none : count_by p [] ≡ 0 = refl in
     let same : ◌≡◌ {A = ℕ} (cond (p r) 1 0) (one_if (p r)) = refl in omega (arith, whole, none, same)
 
 -- as many replies tell a fault as were met
-pub counted_more : (p : Reply → Bool) (test : Event → Bool) (answers : List Reply) (past events after : List Event) (r : Reply) → after ≡ past ++ events → count_by p answers ≡ total (λ e. one_if (test e)) past → total (λ e. one_if (test e)) events ≡ one_if (p r)
+pub counted_more : {X : Type 0} (p : X → Bool) (test : Event → Bool) (answers : List X) (past events after : List Event) (r : X) → after ≡ past ++ events → count_by p answers ≡ total (λ e. one_if (test e)) past → total (λ e. one_if (test e)) events ≡ one_if (p r)
     → count_by p (answers ++ r ∷ []) ≡ total (λ e. one_if (test e)) after
 counted_more p test answers past events after r is before now =
     let sum = count_append p answers (r ∷ []) in let one = count_one p r in let all = total_append (λ (e : Event). one_if (test e)) past events in
     sum ∙ (ap (λ (n : ℕ). n + count_by p (r ∷ [])) before ∙ (ap (λ (n : ℕ). total (λ e. one_if (test e)) past + n) (one ∙ sym now) ∙ (sym all ∙ ap (total (λ (e : Event). one_if (test e))) (sym is))))
+
+-- one command more with its reply
+exchanges_more : (done : List Command) (answers : List Reply) (c : Command) (r : Reply) → length answers ≡ length done → exchanges (done ++ c ∷ []) (answers ++ r ∷ []) ≡ exchanges done answers ++ (c, r) ∷ []
+exchanges_more [] [] c r same = refl
+exchanges_more [] (a ∷ answers) c r same = absurd (omega (arith, same))
+exchanges_more (d ∷ done) [] c r same = absurd (omega (arith, same))
+exchanges_more (d ∷ done) (a ∷ answers) c r same = ap (λ (xs : List (Command × Reply)). (d, a) ∷ xs) (exchanges_more done answers c r (omega (arith, same)))
 
 module _ {D : Type 0} (z : SharedState D) (found : StoredState) (is_found : IsFound z found) (name : List ℕ) (done : List Command) (answers : List Reply) (c : Command) (r : Reply) (s t : SeatState) (was now : Client) (a : Answers z s t was now c r) where
   abbrev before : Participant
@@ -111,16 +119,22 @@ module _ {D : Type 0} (z : SharedState D) (found : StoredState) (is_found : IsFo
 
   alone_more : (ran : RanAlone z found done answers before was) → AnswersAlone z found.edit s t was now c r ran.store → RanAlone z found (done ++ c ∷ []) (answers ++ r ∷ []) after now
   alone_more ran did = record {
-    store = store_after ran.store was c r;
+    places = ran.places ++ did.place ∷ [];
+    store = store_after did.place ran.store was c r;
     store_is = did.store_is;
-    ran = subst (RunsAlone (opened_store z.limit found) new_client (done ++ c ∷ []) (answers ++ r ∷ []) (store_after ran.store was c r)) (sym did.client) (runs_more (opened_store z.limit found) new_client done answers ran.store was c r ran.ran did.replied);
+    ran = subst (RunsAlone (ran.places ++ did.place ∷ []) (opened_store (limits_of z) found) new_client (done ++ c ∷ []) (answers ++ r ∷ []) (store_after did.place ran.store was c r)) (sym did.client)
+        (runs_more did.place ran.places (opened_store (limits_of z) found) new_client done answers ran.store was c r ran.ran did.replied);
     asked = λ entries there. ⊎_elim
-        (λ (k : IsIn (log_failed entries) before.past). asks_front is_fault (AsksLog entries) (opened_store z.limit found) new_client done (c ∷ []) answers (r ∷ []) (ran.asked entries k))
-        (λ (k : IsIn (log_failed entries) did.events). let b = did.asked entries k in asks_last is_fault (AsksLog entries) (opened_store z.limit found) new_client done answers ran.store was c r ran.ran b.0 b.1)
+        (λ (k : IsIn (log_failed entries) before.past). asks_front stops_log (AsksLog entries) ran.places (did.place ∷ []) (opened_store (limits_of z) found) new_client done (c ∷ []) answers (r ∷ []) (ran.asked entries k))
+        (λ (k : IsIn (log_failed entries) did.events). let b = did.asked entries k in asks_last stops_log (AsksLog entries) did.place ran.places (opened_store (limits_of z) found) new_client done answers ran.store was c r ran.ran b.0 b.1)
         (in_parts (log_failed entries) before.past did.events (subst (IsIn (log_failed entries)) did.past there));
+    asked_none = λ there. ⊎_elim
+        (λ (k : IsIn log_stopped before.past). asks_front stops_log (AsksLog []) ran.places (did.place ∷ []) (opened_store (limits_of z) found) new_client done (c ∷ []) answers (r ∷ []) (ran.asked_none k))
+        (λ (k : IsIn log_stopped did.events). let b = did.asked_none k in asks_last stops_log (AsksLog []) did.place ran.places (opened_store (limits_of z) found) new_client done answers ran.store was c r ran.ran b.0 b.1)
+        (in_parts log_stopped before.past did.events (subst (IsIn log_stopped) did.past there));
     asked_edit = λ last edit there. ⊎_elim
-        (λ (k : IsIn (tables_failed last (Some edit)) before.past). asks_front kinds.is_tables_fault (AsksTables edit) (opened_store z.limit found) new_client done (c ∷ []) answers (r ∷ []) (ran.asked_edit last edit k))
-        (λ (k : IsIn (tables_failed last (Some edit)) did.events). let b = did.asked_edit last edit k in asks_last kinds.is_tables_fault (AsksTables edit) (opened_store z.limit found) new_client done answers ran.store was c r ran.ran b.0 b.1)
+        (λ (k : IsIn (tables_failed last (Some edit)) before.past). asks_front (λ command answer. kinds.is_tables_fault answer) (AsksTables edit) ran.places (did.place ∷ []) (opened_store (limits_of z) found) new_client done (c ∷ []) answers (r ∷ []) (ran.asked_edit last edit k))
+        (λ (k : IsIn (tables_failed last (Some edit)) did.events). let b = did.asked_edit last edit k in asks_last (λ command answer. kinds.is_tables_fault answer) (AsksTables edit) did.place ran.places (opened_store (limits_of z) found) new_client done answers ran.store was c r ran.ran b.0 b.1)
         (in_parts (tables_failed last (Some edit)) before.past did.events (subst (IsIn (tables_failed last (Some edit))) did.past there));
   }
 
@@ -131,11 +145,13 @@ pub goes_more : {D : Type 0} (z : SharedState D) (found : StoredState) (is_found
 goes_more z found is_found name done answers c r s t h k g a holds alone = record {
   holds = holds;
   client = a.stays.client ∙ g.client;
+  each = let replies = length-append answers (r ∷ []) in let commands = length-append done (c ∷ []) in let same = g.each in omega (arith, replies, commands, same);
   own = a.own ∙ (ap (λ (ns : List ℕ). ns ++ acknowledged r) g.own ∙ sym (flat_map-append acknowledged answers (r ∷ []) ∙ ap (λ (ns : List ℕ). flat_map acknowledged answers ++ ns) (flat_map-cons acknowledged r [] ∙ append-nil (acknowledged r))));
   within = λ n there. ⊎_elim (g.within n) (a.within n) (in_parts n s.knows.participant.own (acknowledged r) (subst (IsIn n) a.own there));
   session = session_more z found is_found name done answers c r s t (client_of h) (client_of k) a g.session;
   explained = explained_more z found is_found name done answers c r s t (client_of h) (client_of k) a g.client g.explained;
-  log_failed = counted_more is_fault closes_log answers s.knows.participant.past a.events t.knows.participant.past r a.past g.log_failed a.log_failed;
+  log_failed = counted_more is_fault is_log_fault answers s.knows.participant.past a.events t.knows.participant.past r a.past g.log_failed a.log_failed;
+  log_stopped = ap (count_by is_stop) (exchanges_more done answers c r g.each) ∙ counted_more is_stop closes_log (exchanges done answers) s.knows.participant.past a.events t.knows.participant.past (c, r) a.past g.log_stopped a.log_stopped;
   tables_failed = counted_more kinds.is_tables_fault is_tables_fault answers s.knows.participant.past a.events t.knows.participant.past r a.past g.tables_failed a.tables_failed;
   remembered = λ answer there. ⊎_elim
       (λ (i : IsIn answer answers). remembered_wider s.knows.participant.past t.knows.participant.past answer (λ e x. subst (IsIn e) (sym a.past) (in_front e s.knows.participant.past a.events x)) (g.remembered answer i))

@@ -13,6 +13,7 @@ use Rattle.wp_shared.specs.Devices.{DevicesLeft}
 use Rattle.wp_shared.specs.Ended.{IsEnded}
 use Rattle.wp_shared.specs.Seats.{SharedState, SeatState}
 use Rattle.wp_replies.specs.Explains.{Explains}
+use Rattle.wp_answers.specs.Alone.{limits_of}
 use Rattle.wp_threads.specs.Explained.{found_in, left_in, failed_in, faults_in, HaveRun}
 use Rattle.wp_threads.specs.New.{first_seat}
 use Rattle.wp_threads.specs.Over.{Answered}
@@ -35,9 +36,6 @@ module _ {D : Type 0} {z : SharedState D} (client : List ℕ) {history : List En
     | inr other ↦ absurd (nothing_done other.2.0 other.2.1 _ other.2.3)
   ]
 
-  not_closed : 0 ≡ one_if ended.writes.closed
-  not_closed = ended.faults.log
-
   not_halted : 0 ≡ one_if ended.edits.halted
   not_halted = ended.faults.tables
 
@@ -47,13 +45,14 @@ module _ {D : Type 0} {z : SharedState D} (client : List ℕ) {history : List En
   none_new : (n : ℕ) → length z.opened < n → n ≤ length history → ⊥
   none_new n low high = let none = none_published n in let one = once_after z.opened history n low high in omega (arith, none, one)
 
-  explains_none : Explains z.limit (faults_in ended) [] [] (found_in ended) (left_in ended) (failed_in ended) []
+  explains_none : Explains (limits_of z) (faults_in ended) [] [] (found_in ended) (left_in ended) (failed_in ended) []
   explains_none = record {
     legal = ended.legal;
     begins = ended.grown;
     answered = tt;
     paired = λ n low high. absurd (none_new n low high);
-    log_failed = not_closed;
+    log_failed = refl;
+    log_stopped = refl;
     stopped = λ said. absurd cc;
     tables_failed = not_halted;
     halted = λ said. absurd cc;
@@ -61,6 +60,8 @@ module _ {D : Type 0} {z : SharedState D} (client : List ℕ) {history : List En
       said = inl (ap (λ (e : InstalledEdit). e.flushed) same_edit);
       kept = ended.installed.rises ended.first_edit.flushed (inl refl);
       greatest = λ n said. absurd cc;
+      based = inl (ap (λ (e : InstalledEdit). e.segment.base) same_edit);
+      in_place = λ none. ap (λ (e : InstalledEdit). e.segment) same_edit;
       unchanged = λ none. same_edit;
     };
   }
@@ -74,6 +75,9 @@ module _ {D : Type 0} {z : SharedState D} (client : List ℕ) {history : List En
     whole = tt;
     explained = explains_none;
     within = λ n low high. absurd (none_new n low high);
+    closed = ended.faults.log;
+    by_device = λ some. absurd (omega (arith, some));
+    behind = λ some. absurd (omega (arith, some));
     exact = tt;
   }
 

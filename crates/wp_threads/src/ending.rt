@@ -1,5 +1,8 @@
 //! The end of all sessions: their seats are handed in, and the store is ended.
 ghost use Rattle.std.specs.Prelude.{◌≡◌, ◌≤◌, ◌<◌, ℕ, List, [], map, vec_len, vec_capacity};
+ghost use Rattle.wp_model.specs.Flushed.{InstalledEdit};
+ghost use Rattle.wp_rule.specs.Shows.{WasLast};
+ghost use Rattle.wp_shared.specs.Parts.{content};
 ghost use Rattle.wp_shared.specs.Devices.{devices_of};
 ghost use Rattle.wp_shared.specs.Ending.{AreAll};
 ghost use Rattle.wp_threads.specs.New.{AreNew, clients_of, first_seat};
@@ -55,7 +58,7 @@ pub(crate) fn end_unused<D: Disk + Drop>(
     requires first { (client : List ℕ) × (first ≡ first_seat store client) }
     requires empty { (seats.items ≡ []) × (answers.items ≡ []) }
     requires room { 0 < vec_capacity seats }
-    ensures base { result.history.base ≡ 0 }
+    ensures base { (first : InstalledEdit) → WasLast content store.first first → result.history.base ≡ first.segment.base }
     ensures run { HaveRun store [] [] result.history.entries (devices_of D.moments D.faults result.disks) }
     ensures answers { result.answers.items ≡ [] }
 {
@@ -86,7 +89,7 @@ pub(crate) fn run_to_end<D: Disk + Drop + Send, G: Gate + Sync, R: Threads + Wai
     requires all { AreAll (map seat_of sessions.items) }
     requires empty { (seats.items ≡ []) × (answers.items ≡ []) }
     requires room { (vec_len sessions ≤ vec_capacity seats) × (vec_len sessions ≤ vec_capacity answers) }
-    ensures base { result.history.base ≡ 0 }
+    ensures base { (first : InstalledEdit) → WasLast content store.first first → result.history.base ≡ first.segment.base }
     ensures run { HaveRun store parts.now result.answers.items result.history.entries (devices_of D.moments D.faults result.disks) }
 {
     let mut sessions = sessions;

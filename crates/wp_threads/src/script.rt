@@ -1,5 +1,8 @@
 //! A script's sessions at an opened store.
 ghost use Rattle.std.specs.Prelude.{◌≡◌, ◌+◌, ◌<◌, [], ◌∷◌, map, vec_len, vec_capacity};
+ghost use Rattle.wp_model.specs.Flushed.{InstalledEdit};
+ghost use Rattle.wp_rule.specs.Shows.{WasLast};
+ghost use Rattle.wp_shared.specs.Parts.{content};
 ghost use Rattle.wp_shared.specs.Devices.{devices_of};
 ghost use Rattle.wp_shared.specs.Ending.{AreAll};
 ghost use Rattle.wp_threads.specs.New.{AreNew, having_made, first_seat, IsFirst, others_of};
@@ -96,7 +99,7 @@ pub fn run_script<D: Disk + Drop + Send, G: Gate + Sync, R: Threads + Wait + Syn
 ) -> ScriptRun<D>
     requires first { IsFirst store parts.now first }
     requires room { room ≡ others_of parts.now }
-    ensures base { result.history.base ≡ 0 }
+    ensures base { (first : InstalledEdit) → WasLast content store.first first → result.history.base ≡ first.segment.base }
     ensures run { HaveRun store parts.now result.answers.items result.history.entries (devices_of D.moments D.faults result.disks) }
 {
     let (names, sessions, seats, answers) = room.into_lists();

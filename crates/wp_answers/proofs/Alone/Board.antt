@@ -8,7 +8,7 @@ use Rattle.wp_text.specs.declared.script.Command.TheVariants as command
 use Rattle.wp_text.specs.declared.reply.Reply.TheVariants as reply
 use Rattle.wp_core.specs.Lists.{IsIn}
 use Rattle.wp_core.specs.Sound.Pasts.{closes_log, is_tables_fault}
-use Rattle.wp_core.specs.Views.{Event, told, heard, log_failed, tables_failed}
+use Rattle.wp_core.specs.Views.{Event, told, heard, log_failed, log_stopped, tables_failed}
 use Rattle.wp_core.specs.World.{Participant, World}
 use Rattle.wp_core.proofs.Keyed.{is_word_same, at_inserted, else_inserted, some_inserted}
 use Rattle.wp_core.proofs.PastsGrow.{in_front, in_last}
@@ -26,8 +26,8 @@ use Rattle.wp_answers.proofs.Alone.Seated.{none_quiet, one_quiet, follows_on, is
 use Rattle.wp_answers.proofs.Alone.Quiet.{quiet_answers}
 
 -- the store once something was told
-store_told : (store : Store) (was : Client) (label : List ℕ) (n : ℕ) → store_after store was (command.Tell label) (reply.Told n) ≡ record store { board = finite.insert store.board label n }
-store_told store was label n = λ i. record { history = append-nil store.history i; stopped = store.stopped; limit = store.limit; installed = store.installed; halted = store.halted; board = finite.insert store.board label n }
+store_told : (store : Store) (was : Client) (label : List ℕ) (n : ℕ) → store_after 0 store was (command.Tell label) (reply.Told n) ≡ record store { board = finite.insert store.board label n }
+store_told store was label n = λ i. record { base = store.base; history = append-nil store.history i; stopped = store.stopped; limit = store.limit; renewed_limit = store.renewed_limit; installed = store.installed; halted = store.halted; board = finite.insert store.board label n }
 
 -- only the label was told
 told_is : (label other : List ℕ) (n m : ℕ) → IsIn (told other m) (told label n ∷ []) → other ≡ label
@@ -49,21 +49,28 @@ module _ {D : Type 0} (z : SharedState D) (first : InstalledEdit) (old new : Sea
       let seen = seen_still z first old new only store is stood events f in
       let n_is : n ≡ length store.history = k.0 ∙ ap (λ (h : List Entry). length h) seen in
       let grown : IsStoreOf z first new.knows.participant (record store { board = finite.insert store.board label n }) = record {
+        first_is = is.first_is;
+        at = is.at;
+        base = is.base;
+        risen = is.risen;
         history = sym seen;
         opened = begins_opened z first old new only store is stood [] events f;
         own = few_now z first old new only store is stood events f;
         stopped = log_still z first old new only store is stood [] events f refl;
         limit = is.limit;
+        renewed_limit = is.renewed_limit;
         installed = edit_still z first old new only store is stood [] events f (λ edit. refl);
         halted = let now = tables_now z first old new only store is stood [] events f in omega (arith, now);
         board = λ other. (known f.past other, back f.past other);
       } in record {
         replied = inl (ap reply.Told n_is);
+        place = 0;
         store_is = subst (λ (x : Store). IsStoreOf z first new.knows.participant x) (sym (store_told store client label n)) grown;
         client = refl;
         events = events;
         past = f.past;
         asked = λ entries there. absurd (not_counted closes_log events (log_failed entries) refl there refl);
+        asked_none = λ there. absurd (not_counted closes_log events log_stopped refl there refl);
         asked_edit = λ last edit there. absurd (not_counted is_tables_fault events (tables_failed last (Some edit)) refl there refl);
       }
     where

@@ -1,5 +1,5 @@
 -- What a client is answered that is alone and compacts the tables.
-use Rattle.std.proofs.Common.{◌≡◌, ℕ, ◌≤◌, ◌<◌, nat_lt, Bool, true, false, List, length, take, refl, sym, subst, ap, ◌∙◌, Option, Some, None, arith}
+use Rattle.std.proofs.Common.{◌≡◌, ⊎_elim, ℕ, ◌≤◌, ◌<◌, nat_lt, Bool, true, false, List, [], ◌∷◌, length, take, refl, sym, subst, ap, ◌∙◌, Option, Some, None, arith}
 use Rattle.std.specs.Prelude.{IfSome, Ok, Err, if◌then◌else◌}
 use Rattle.std.proofs.lemmas.Bool.Decides.{nat_tests}
 use Rattle.std.proofs.lemmas.List.{take_all, length-take-le}
@@ -12,11 +12,14 @@ use Rattle.wp_text.specs.declared.reply.Reply.{Reply}
 use Rattle.wp_text.specs.declared.reply.Reply.TheVariants as reply
 use Rattle.wp_core.specs.Lists.{IsIn}
 use Rattle.wp_core.specs.Reading.{Registration}
+use Rattle.wp_core.specs.Views as event
 use Rattle.wp_core.specs.World.{Participant, World}
 use Rattle.wp_core.proofs.EachStep.{reached_is_sound}
 use Rattle.wp_core.proofs.KeepsSeen.{shorter}
+use Rattle.wp_core.proofs.PastsGrow.{in_front}
 use Rattle.wp_core.proofs.Registered.{registered_live}
 use Rattle.wp_rule.specs.Shows.{WasLast}
+use Rattle.wp_rule.proofs.Knows.{one_was_first}
 use Rattle.wp_shared.specs.Parts.{content}
 use Rattle.wp_shared.specs.Seats.{SharedState, SeatState, Stands}
 use Rattle.wp_maint.specs.declared.done.Done.{Done}
@@ -27,11 +30,12 @@ use Rattle.wp_replies.specs.declared.client.Txn.{Txn}
 use Rattle.wp_replies.specs.Client.{Client, numbers_of}
 use Rattle.wp_replies.specs.Due.{Store, compacted}
 use Rattle.wp_replies.specs.Kind.{is_installed}
-use Rattle.wp_replies.specs.Tables.{retained, after_compaction}
+use Rattle.wp_replies.specs.Tables.{listed, retained, after_compaction}
 use Rattle.wp_answers.specs.Alone.{IsOnly, IsStoreOf, AnswersAlone}
+use Rattle.wp_answers.proofs.Alone.Published.{in_both, in_behind}
 use Rattle.wp_answers.proofs.Alone.Worlds.{only_of}
 use Rattle.wp_answers.proofs.Alone.Seated.{follows_on, alone_at, seen_still}
-use Rattle.wp_answers.proofs.Alone.TablesFound.{AsksTablesFor, last_is, halted_answers, nothing_answers, installs_answers, failed_answers}
+use Rattle.wp_answers.proofs.Alone.TablesFound.{AsksTablesFor, makes_installed, same_base, last_is, halted_answers, nothing_answers, installs_answers, failed_answers}
 use Rattle.wp_answers.proofs.Alone.Retained.{AreSame, retained_same, compaction_same, contained, containing, numbers_in, number_in, of_number, times_in, numbers_same}
 
 module _ {D : Type 0} (z : SharedState D) (first : InstalledEdit) (old new : SeatState) (only : IsOnly old) (store : Store) (is : IsStoreOf z first old.knows.participant store) (stood : (w : World) × Stands z new w) (was_last : WasLast content z.first first) (txn : Txn) (snapshots : List LabelledSnapshot)
@@ -42,11 +46,15 @@ module _ {D : Type 0} (z : SharedState D) (first : InstalledEdit) (old new : Sea
   abbrev ready : Reply
   ready = compacted store (numbers_of snapshots)
 
+  -- the numbers that it lists
+  abbrev mine : List ℕ
+  mine = listed (numbers_of snapshots) store.base store.installed
+
   abbrev next : InstalledEdit
-  next = after_compaction store.history (numbers_of snapshots) store.installed
+  next = after_compaction store.history mine store.installed
 
   asks : new.knows.participant.seen ≡ store.history → AsksTablesFor store client command.Compact ready next
-  asks seen = record { due_is = refl; edit_is = refl; board = λ b r. refl }
+  asks seen = record { due_is = refl; place = 0; edit_is = refl; board = λ b r. refl }
 
   -- ---- what was pinned
 
@@ -89,33 +97,45 @@ module _ {D : Type 0} (z : SharedState D) (first : InstalledEdit) (old new : Sea
         };
       }
 
-  -- what is kept, where it was pinned so
-  kept : (floor : ℕ) (live : List ℕ) (edit : InstalledEdit) → IsWhole floor live → edit ≡ store.installed → retained (take floor new.knows.participant.seen) live edit ≡ retained store.history (numbers_of snapshots) store.installed
-  kept floor live edit all same = ap (λ (x : List Entry × InstalledEdit). retained x.0 live x.1) (λ i. (all.history i, same i)) ∙ retained_same store.history live (numbers_of snapshots) store.installed all.live_is
+  -- the lists are the same too
+  both_listed : (live : List ℕ) → AreSame live (numbers_of snapshots) → AreSame (listed live store.base store.installed) mine
+  both_listed live same = record { there = λ n there. of_both live (numbers_of snapshots) n same.there there; back = λ n there. of_both (numbers_of snapshots) live n same.back there }
+    where
+      of_both : (xs ys : List ℕ) (n : ℕ) → ((m : ℕ) → IsIn m xs → IsIn m ys) → IsIn n (listed xs store.base store.installed) → IsIn n (listed ys store.base store.installed)
+      of_both xs ys n f there = ⊎_elim
+          (λ (k : IsIn n xs). in_front n ys (store.base ∷ store.installed.segment.base ∷ []) (f n k))
+          (λ (k : IsIn n (store.base ∷ store.installed.segment.base ∷ [])). in_behind n ys (store.base ∷ store.installed.segment.base ∷ []) k)
+          (in_both n xs (store.base ∷ store.installed.segment.base ∷ []) there)
 
-  edit_kept : (floor : ℕ) (live : List ℕ) (edit : InstalledEdit) → IsWhole floor live → edit ≡ store.installed → after_compaction (take floor new.knows.participant.seen) live edit ≡ next
-  edit_kept floor live edit all same = ap (λ (x : List Entry × InstalledEdit). after_compaction x.0 live x.1) (λ i. (all.history i, same i)) ∙ compaction_same store.history live (numbers_of snapshots) store.installed all.live_is
+  -- what is kept, where it was pinned so
+  kept : (floor : ℕ) (live : List ℕ) (opening edit : InstalledEdit) → IsWhole floor live → opening ≡ first → edit ≡ store.installed → retained (take floor new.knows.participant.seen) (listed live opening.segment.base edit) edit ≡ retained store.history mine store.installed
+  kept floor live opening edit all began same = ap (λ (x : List Entry × ℕ × InstalledEdit). retained x.0 (listed live x.1 x.2) x.2) (λ i. (all.history i, (ap (λ (x : InstalledEdit). x.segment.base) began ∙ sym is.base) i, same i)) ∙ retained_same store.history (listed live store.base store.installed) mine store.installed (both_listed live all.live_is)
+
+  edit_kept : (floor : ℕ) (live : List ℕ) (opening edit : InstalledEdit) → IsWhole floor live → opening ≡ first → edit ≡ store.installed → after_compaction (take floor new.knows.participant.seen) (listed live opening.segment.base edit) edit ≡ next
+  edit_kept floor live opening edit all began same = ap (λ (x : List Entry × ℕ × InstalledEdit). after_compaction x.0 (listed live x.1 x.2) x.2) (λ i. (all.history i, (ap (λ (x : InstalledEdit). x.segment.base) began ∙ sym is.base) i, same i)) ∙ compaction_same store.history (listed live store.base store.installed) mine store.installed (both_listed live all.live_is)
 
   -- ---- what is answered
 
-  merges : 2 ≤ store.installed.tables → ready ≡ reply.Compacted (length store.history) (length (retained store.history (numbers_of snapshots) store.installed))
+  merges : 2 ≤ store.installed.tables → ready ≡ reply.Compacted (length store.history) (length (retained store.history mine store.installed))
   merges two = let several : nat_lt store.installed.tables 2 ≡ false = grind (arith, nat_tests) in
-      ap (λ (b : Bool). if b then reply.Nothing else reply.Compacted (length store.history) (length (retained store.history (numbers_of snapshots) store.installed))) several
+      ap (λ (b : Bool). if b then reply.Nothing else reply.Compacted (length store.history) (length (retained store.history mine store.installed))) several
 
   merges_none : store.installed.tables < 2 → ready ≡ reply.Nothing
   merges_none one = let few : nat_lt store.installed.tables 2 ≡ true = grind (arith, nat_tests) in
-      ap (λ (b : Bool). if b then reply.Nothing else reply.Compacted (length store.history) (length (retained store.history (numbers_of snapshots) store.installed))) few
+      ap (λ (b : Bool). if b then reply.Nothing else reply.Compacted (length store.history) (length (retained store.history mine store.installed))) few
 
   pub compacted_alone : (done : Done) → Compacts z old (Ok done) new → AnswersAlone z first old new client client command.Compact (reply.Compacted done.at done.versions) store
   compacted_alone done (e, k) =
       let edit_is = last_is z first old new only store is stood was_last e k.found in
       let seen = seen_still z first old new only store is stood _ (follows_on _ z old new _ k.goes_on _ refl refl) in
       let all = whole done.at k.live k.pinned seen in
-      let versions : done.versions ≡ length (retained store.history (numbers_of snapshots) store.installed) = k.versions ∙ ap (λ (vs : List Version). length vs) (kept done.at k.live e.last all edit_is) in
+      let began : k.first ≡ first = one_was_first content z.first k.first first k.is_first was_last in
+      let edit : InstalledEdit = after_compaction (take done.at new.knows.participant.seen) (listed k.live k.first.segment.base e.last) e.last in
+      let versions : done.versions ≡ length (retained store.history mine store.installed) = k.versions ∙ ap (λ (vs : List Version). length vs) (kept done.at k.live k.first e.last all began edit_is) in
       let at = all.floor_is in
       installs_answers z first old new only store is stood was_last e k.found client command.Compact ready next asks (reply.Compacted done.at done.versions)
       (merges (subst (λ (x : InstalledEdit). 2 ≤ x.tables) edit_is k.several) ∙ ap (λ (x : ℕ × ℕ). reply.Compacted x.0 x.1) (λ i. (sym at i, sym versions i)))
-      refl refl refl refl refl k.running (after_compaction (take done.at new.knows.participant.seen) k.live e.last) true (edit_kept done.at k.live e.last all edit_is) k.goes_on
+      refl refl refl refl refl k.running (same_base store.installed) is.limit edit (event.installed edit true) (makes_installed edit true) (edit_kept done.at k.live k.first e.last all began edit_is) k.goes_on
 
   pub nothing_compacted_alone : Compacts z old (Err Nothing) new → AnswersAlone z first old new client client command.Compact reply.Nothing store
   nothing_compacted_alone (e, k) =
@@ -125,12 +145,12 @@ module _ {D : Type 0} (z : SharedState D) (first : InstalledEdit) (old new : Sea
   pub compact_failed_alone : Compacts z old (Err TableFault) new → AnswersAlone z first old new client client command.Compact reply.FaultTables store
   compact_failed_alone (e, k) =
       let edit_is = last_is z first old new only store is stood was_last e k.found in
-      failed_answers z first old new only store is stood was_last e k.found client command.Compact ready next asks (ap is_installed (merges (subst (λ (x : InstalledEdit). 2 ≤ x.tables) edit_is k.busy))) k.running k.asked
+      failed_answers z first old new only store is stood was_last e k.found client command.Compact ready next asks refl (ap is_installed (merges (subst (λ (x : InstalledEdit). 2 ≤ x.tables) edit_is k.busy))) k.running k.asked
       (λ seen. is_next e.last edit_is seen k.asked k.next) k.goes_on
     where
-      is_next : (last : InstalledEdit) → last ≡ store.installed → new.knows.participant.seen ≡ store.history → (o : Option InstalledEdit) → IfSome o (IsCompactionOf (HasPinned z old new) new last) → IfSome o (λ edit. edit ≡ next)
+      is_next : (last : InstalledEdit) → last ≡ store.installed → new.knows.participant.seen ≡ store.history → (o : Option InstalledEdit) → IfSome o (IsCompactionOf (HasPinned z old new) z new last) → IfSome o (λ edit. edit ≡ next)
       is_next last same seen None k = tt
-      is_next last same seen (Some edit) k = k.edit_is ∙ edit_kept k.floor k.live last (whole k.floor k.live k.pinned seen) same
+      is_next last same seen (Some edit) k = k.edit_is ∙ edit_kept k.floor k.live k.first last (whole k.floor k.live k.pinned seen) (one_was_first content z.first k.first first k.is_first was_last) same
 
   pub compact_halted_alone : (number : ℕ) → Compacts z old (Err (TablesStopped number)) new → AnswersAlone z first old new client client command.Compact (reply.Halted number) store
   compact_halted_alone number (e, k) = halted_answers z first old new only store is stood was_last e k.found client command.Compact ready next asks number k.flushed_is k.halted k.goes_on

@@ -132,7 +132,7 @@ module _ {D : Type 0} (z : SharedState D) (first : InstalledEdit) (old new : Sea
   back_prepared t left c answer same k = subst (λ (x : PreparedState). AnswersAlone z first old new (prepared t) (prepared x) c answer store) (sym same) k
 
   module _ (t left : PreparedState) where
-    commit_refused : (closed : Bool) → FoundLog z old.by it new.knows.participant.seen closed → new.knows.participant.seen ≡ store.history → AsksFor store (prepared t) command.Commit 1 (reply.Committed (next store.history)) (entry.Commit t.number ∷ [])
+    commit_refused : (closed : Bool) → FoundLog z old it new.knows.participant.seen closed → new.knows.participant.seen ≡ store.history → AsksFor store (prepared t) command.Commit 1 (reply.Committed (next store.history)) (entry.Commit t.number ∷ [])
     commit_refused closed found seen = asks_commit t (next store.history) refl
 
     pub commit_stopped_alone : (n : ℕ) → RefusesPrepared z old t 1 AsksCommit left (Stopped n) new → AnswersAlone z first old new (prepared t) (prepared left) command.Commit (reply.Stopped n) store
@@ -154,7 +154,7 @@ module _ {D : Type 0} (z : SharedState D) (first : InstalledEdit) (old new : Sea
       abbrev undone : List Entry
       undone = entry.Undo t.number (prior store.history t.batch) ∷ entry.Close t.number ∷ []
 
-      rollback_refused : (closed : Bool) → FoundLog z old.by it new.knows.participant.seen closed → new.knows.participant.seen ≡ store.history → AsksFor store (prepared t) command.Rollback 2 (reply.RolledBack (next store.history + 1)) undone
+      rollback_refused : (closed : Bool) → FoundLog z old it new.knows.participant.seen closed → new.knows.participant.seen ≡ store.history → AsksFor store (prepared t) command.Rollback 2 (reply.RolledBack (next store.history + 1)) undone
       rollback_refused closed found seen = asks_rollback t has store.history refl (next store.history + 1) refl
 
       pub rollback_stopped_alone : (n : ℕ) → RefusesPrepared z old t 2 AsksRollback left (Stopped n) new → AnswersAlone z first old new (prepared t) (prepared left) command.Rollback (reply.Stopped n) store

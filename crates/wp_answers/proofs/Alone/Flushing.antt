@@ -8,6 +8,7 @@ use Rattle.wp_model.specs.Flushed.{InstalledEdit}
 use Rattle.wp_text.specs.declared.script.Command.TheVariants as command
 use Rattle.wp_text.specs.declared.reply.Reply.{Reply}
 use Rattle.wp_text.specs.declared.reply.Reply.TheVariants as reply
+use Rattle.wp_core.specs.Views as event
 use Rattle.wp_core.specs.World.{World}
 use Rattle.wp_rule.specs.Shows.{WasLast}
 use Rattle.wp_shared.specs.Parts.{content}
@@ -21,7 +22,7 @@ use Rattle.wp_replies.specs.Kind.{is_installed}
 use Rattle.wp_replies.specs.Tables.{unflushed, after_flush}
 use Rattle.wp_answers.specs.Alone.{IsOnly, IsStoreOf, AnswersAlone}
 use Rattle.wp_answers.proofs.Alone.Seated.{follows_on, seen_still}
-use Rattle.wp_answers.proofs.Alone.TablesFound.{AsksTablesFor, last_is, halted_answers, nothing_answers, installs_answers, failed_answers}
+use Rattle.wp_answers.proofs.Alone.TablesFound.{AsksTablesFor, makes_installed, same_base, last_is, halted_answers, nothing_answers, installs_answers, failed_answers}
 
 -- some versions are flushed
 flushes : (n : ℕ) (versions : List Version) → 1 ≤ length versions → flushed n versions ≡ reply.Flushed n (length versions)
@@ -36,7 +37,7 @@ module _ {D : Type 0} (z : SharedState D) (first : InstalledEdit) (old new : Sea
   next = after_flush store.history store.installed
 
   asks : new.knows.participant.seen ≡ store.history → AsksTablesFor store client command.Flush ready next
-  asks seen = record { due_is = refl; edit_is = refl; board = λ b r. refl }
+  asks seen = record { due_is = refl; place = 0; edit_is = refl; board = λ b r. refl }
 
   pub flushed_alone : (done : Done) → Flushes z old (Ok done) new → AnswersAlone z first old new client client command.Flush (reply.Flushed done.at done.versions) store
   flushed_alone done (e, k) =
@@ -47,7 +48,7 @@ module _ {D : Type 0} (z : SharedState D) (first : InstalledEdit) (old new : Sea
       let some_there : 1 ≤ length (unflushed store.history store.installed) = (let least = k.some in omega (arith, least, versions)) in
       installs_answers z first old new only store is stood was_last e k.found client command.Flush ready next asks (reply.Flushed done.at done.versions)
       (flushes (length store.history) (unflushed store.history store.installed) some_there ∙ ap (λ (x : ℕ × ℕ). reply.Flushed x.0 x.1) (λ i. (sym at i, sym versions i)))
-      refl refl refl refl refl k.running (after_flush new.knows.participant.seen e.last) false (ap (λ (x : List Entry × InstalledEdit). after_flush x.0 x.1) (λ i. (seen i, edit_is i))) k.goes_on
+      refl refl refl refl refl k.running (same_base store.installed) is.limit (after_flush new.knows.participant.seen e.last) (event.installed (after_flush new.knows.participant.seen e.last) false) (makes_installed (after_flush new.knows.participant.seen e.last) false) (ap (λ (x : List Entry × InstalledEdit). after_flush x.0 x.1) (λ i. (seen i, edit_is i))) k.goes_on
 
   pub nothing_flushed_alone : Flushes z old (Err Nothing) new → AnswersAlone z first old new client client command.Flush reply.Nothing store
   nothing_flushed_alone (e, (whole, k)) =
@@ -63,7 +64,7 @@ module _ {D : Type 0} (z : SharedState D) (first : InstalledEdit) (old new : Sea
       let seen = seen_still z first old new only store is stood _ (follows_on _ z old new _ k.goes_on _ refl refl) in
       let same : length (unflushed new.knows.participant.seen e.last) ≡ length (unflushed store.history store.installed) = ap (λ (x : List Entry × InstalledEdit). length (unflushed x.0 x.1)) (λ i. (seen i, edit_is i)) in
       let some_there : 1 ≤ length (unflushed store.history store.installed) = (let least = k.busy in omega (arith, least, same)) in
-      failed_answers z first old new only store is stood was_last e k.found client command.Flush ready next asks (ap is_installed (flushes (length store.history) (unflushed store.history store.installed) some_there)) k.running k.asked
+      failed_answers z first old new only store is stood was_last e k.found client command.Flush ready next asks refl (ap is_installed (flushes (length store.history) (unflushed store.history store.installed) some_there)) k.running k.asked
       (λ seen_is. if_some_same k.asked (ap (λ (x : List Entry × InstalledEdit). after_flush x.0 x.1) (λ i. (seen_is i, edit_is i))) k.next) k.goes_on
     where
       if_some_same : (o : Option InstalledEdit) {a b : InstalledEdit} → a ≡ b → IfSome o (λ edit. edit ≡ a) → IfSome o (λ edit. edit ≡ b)

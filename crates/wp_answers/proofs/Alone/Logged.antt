@@ -1,5 +1,5 @@
 -- What is answered to a command that asks the log for entries: they are put there, or it refuses them, or it fails.
-use Rattle.std.proofs.Common.{◌≡◌, ⊎_elim, inl, inr, ℕ, ◌+◌, ◌<◌, ◌≤◌, Bool, true, false, nat_lt, List, [], ◌∷◌, ◌++◌, length, refl, sym, subst, ap, ◌∙◌, append-nil, append_assoc, length-append, Some, arith}
+use Rattle.std.proofs.Common.{◌≡◌, ⊎_elim, inl, inr, ℕ, ◌+◌, ◌<◌, ◌≤◌, Bool, true, false, ◌||◌, nat_lt, List, [], ◌∷◌, ◌++◌, length, refl, sym, subst, ap, ◌∙◌, append-nil, append_assoc, length-append, Some, arith}
 use Rattle.std.specs.Prelude.{if◌then◌else◌}
 use Rattle.std.proofs.lemmas.Bool.Decides.{nat_tests}
 use Rattle.wp_model.specs.declared.entry.Entry.{Entry}
@@ -12,24 +12,27 @@ use Rattle.wp_text.specs.declared.reply.Reply.{Reply}
 use Rattle.wp_text.specs.declared.reply.Reply.TheVariants as reply
 use Rattle.wp_core.specs.Lists.{IsIn, one_if}
 use Rattle.wp_core.specs.World.{Participant, World}
-use Rattle.wp_core.specs.Sound.Pasts.{closes_log, is_tables_fault}
-use Rattle.wp_core.specs.Views.{Event, Fact, log_failed, tables_failed, stopped}
+use Rattle.wp_core.specs.Sound.Pasts.{closes_log, is_tables_fault, last_installed}
+use Rattle.wp_core.specs.Views.{Event, Fact, log_failed, log_stopped, tables_failed, stopped}
 use Rattle.wp_core.proofs.EachStep.{reached_is_sound}
 use Rattle.wp_txn.specs.Writing.{FoundLog}
 use Rattle.wp_txn.specs.Records.{numbers_behind}
+use Rattle.wp_rule.proofs.Knows.{one_was_first}
+use Rattle.wp_shared.specs.Limits.{limit_at}
+use Rattle.wp_shared.specs.Parts.{content}
 use Rattle.wp_shared.specs.Seats.{SharedState, SeatState, Stands}
 use Rattle.wp_txn.specs.declared.error.TxnError.TheVariants.{NumbersFull, LogFault, Stopped}
 use Rattle.wp_txn.specs.Writes.{HasPut, Refuses}
 use Rattle.wp_replies.specs.Client.{Client}
 use Rattle.wp_replies.specs.Due.{Store, logged, due, edit_of, board_after, store_after, client_after}
-use Rattle.wp_replies.specs.Kind.{is_logged, is_fault, is_installed}
+use Rattle.wp_replies.specs.Kind.{is_logged, is_fault, is_installed, is_renewed, is_renewal, calls_log}
 use Rattle.wp_replies.specs.Kind as kind
 use Rattle.wp_replies.specs.Plan.{plan, asked_of}
 use Rattle.wp_answers.specs.Alone.{log_faults, IsOnly, IsStoreOf, AnswersAlone}
 use Rattle.wp_answers.proofs.Alone.Published.{total_both, none_if, if_one, in_both, in_behind, not_counted}
 use Rattle.wp_answers.proofs.Alone.Worlds.{has_seen, no_log_fault, only_of, was_stopped}
-use Rattle.wp_answers.proofs.Alone.Seated.{LeaveTables, AreQuiet, one_quiet, one_leaves, both_leave, both_quiet, Follows, follows, follows_on, is_alone, begins_opened, log_now, log_still, past_still, seen_still, few_now, few_put, put_behind}
-use Rattle.wp_answers.proofs.Alone.Quiet.{LeavesStore, quiet_answers}
+use Rattle.wp_answers.proofs.Alone.Seated.{LeaveTables, AreQuiet, one_quiet, one_leaves, both_leave, both_quiet, Follows, alone_at, follows, follows_on, is_alone, last_over, begins_opened, log_now, log_still, past_still, seen_still, few_now, few_put, put_behind}
+use Rattle.wp_answers.proofs.Alone.Quiet.{never_stops, never_renews, LeavesStore, quiet_answers}
 
 -- ---- what is due
 
@@ -59,22 +62,26 @@ pub record AsksFor (store : Store) (was : Client) (c : Command) (needed : ℕ) (
   pub board : (b : Labels) (answer : Reply) → board_after b c answer ≡ b
 
 -- the store with the entries
-store_with : (store : Store) (was : Client) (c : Command) (needed : ℕ) (r : Reply) (entries : List Entry) → AsksFor store was c needed r entries → store_after store was c r ≡ record store { history = store.history ++ entries }
+store_with : (store : Store) (was : Client) (c : Command) (needed : ℕ) (r : Reply) (entries : List Entry) → AsksFor store was c needed r entries → store_after 0 store was c r ≡ record store { history = store.history ++ entries }
 store_with store was c needed r entries a = λ i. record {
+  base = store.base;
   history = (ap (λ (b : Bool). store.history ++ (if b then asked_of (plan store.history was c) else [])) a.logged ∙ ap (λ (es : List Entry). store.history ++ es) a.asked) i;
-  stopped = ap (λ (b : Bool). if b then true else store.stopped) a.fault i;
-  limit = store.limit;
-  installed = ap (λ (b : Bool). if b then edit_of store was (plan store.history was c) else store.installed) a.installed i;
+  stopped = ap (λ (b : Bool). if b then true else store.stopped) (never_stops (is_renewal c) (kind.kind r) a.fault a.tables) i;
+  limit = ap (λ (b : Bool). if b then store.renewed_limit else store.limit) (never_renews (kind.kind r) a.installed) i;
+  renewed_limit = store.renewed_limit;
+  installed = ap (λ (b : Bool). if b then edit_of 0 store was (plan store.history was c) else store.installed) a.installed i;
   halted = ap (λ (b : Bool). if b then true else store.halted) a.tables i;
   board = a.board store.board r i;
 }
 
 -- the store with its log failed
-store_failed : (store : Store) (was : Client) (c : Command) (needed : ℕ) (r : Reply) (entries : List Entry) → AsksFor store was c needed r entries → store_after store was c reply.FaultLog ≡ record store { stopped = true }
+store_failed : (store : Store) (was : Client) (c : Command) (needed : ℕ) (r : Reply) (entries : List Entry) → AsksFor store was c needed r entries → store_after 0 store was c reply.FaultLog ≡ record store { stopped = true }
 store_failed store was c needed r entries a = λ i. record {
+  base = store.base;
   history = append-nil store.history i;
   stopped = true;
   limit = store.limit;
+  renewed_limit = store.renewed_limit;
   installed = store.installed;
   halted = store.halted;
   board = a.board store.board reply.FaultLog i;
@@ -84,16 +91,35 @@ of_last : (others es : List Entry) → IsIn (log_failed others) (log_failed es �
 of_last others es (inl same) = let e : log_failed es ≡ log_failed others = same in cc
 of_last others es (inr none) = absurd none
 
+not_stopped : (es : List Entry) → IsIn log_stopped (log_failed es ∷ []) → ⊥
+not_stopped es (inl same) = let e : log_failed es ≡ log_stopped = same in cc
+not_stopped es (inr none) = none
+
 module _ {D : Type 0} (z : SharedState D) (first : InstalledEdit) (old new : SeatState) (only : IsOnly old) (store : Store) (is : IsStoreOf z first old.knows.participant store) where
   -- the log was found running, so it had not failed before
-  pub not_failed : (found : Participant) (history : List Entry) (pre : List Event) → found.past ≡ old.knows.participant.past ++ pre → FoundLog z old.by found history false → log_faults old.knows.participant.past ≡ 0
+  pub not_failed : (found : Participant) (history : List Entry) (pre : List Event) → found.past ≡ old.knows.participant.past ++ pre → FoundLog z old found history false → log_faults old.knows.participant.past ≡ 0
   not_failed found history pre past k =
       let none = no_log_fault k.world k.there.reached old.by k.actor k.there.there k.closed_is in
       let both = total_both (λ (e : Event). one_if (closes_log e)) old.knows.participant.past pre in
       let same : log_faults k.actor.participant.past ≡ log_faults (old.knows.participant.past ++ pre) = ap log_faults (ap (λ (q : Participant). q.past) k.participant ∙ past) in omega (arith, none, both, same)
 
-  pub store_runs : (found : Participant) (history : List Entry) (pre : List Event) → found.past ≡ old.knows.participant.past ++ pre → FoundLog z old.by found history false → store.stopped ≡ false
+  pub store_runs : (found : Participant) (history : List Entry) (pre : List Event) → found.past ≡ old.knows.participant.past ++ pre → FoundLog z old found history false → store.stopped ≡ false
   store_runs found history pre past k = none_if store.stopped (is.stopped ∙ not_failed found history pre past k)
+
+  -- its last edit was the store's
+  edit_found : (found : Participant) (history : List Entry) (closed : Bool) (pre : List Event) → found.past ≡ old.knows.participant.past ++ pre → LeaveTables pre → (k : FoundLog z old found history closed) → k.world.installed.last ≡ store.installed
+  edit_found found history closed pre past leave k =
+      let alone = alone_at z old.by k.actor k.world k.there only.by (k.made ∙ only.made) (k.joined ∙ only.joined) in
+      let began : k.world.first_edit ≡ first = one_was_first content z.first k.world.first_edit first k.there.first_edit is.first_is in
+      let past_then : k.actor.participant.past ≡ old.knows.participant.past ++ pre = ap (λ (q : Participant). q.past) k.participant ∙ past in
+      (only_of k.world k.there.reached k.actor alone).edit
+      ∙ (ap (λ (edit : InstalledEdit). last_installed edit k.actor.participant.past) began ∙ (ap (last_installed first) past_then
+      ∙ (last_over first old.knows.participant.past pre ∙ (leave.edits (last_installed first old.knows.participant.past) ∙ sym is.installed))))
+
+  -- so the limit was its limit
+  limit_found : (found : Participant) (history : List Entry) (closed : Bool) (pre : List Event) → found.past ≡ old.knows.participant.past ++ pre → LeaveTables pre → (k : FoundLog z old found history closed)
+      → limit_at z k.world.installed.last.segment.base ≡ store.limit
+  limit_found found history closed pre past leave k = ap (λ (edit : InstalledEdit). limit_at z edit.segment.base) (edit_found found history closed pre past leave k) ∙ sym is.limit
 
   module _ (stood : (w : World) × Stands z new w) where
     abbrev behind_it : World
@@ -120,31 +146,38 @@ module _ {D : Type 0} (z : SharedState D) (first : InstalledEdit) (old new : Sea
           let a = asks behind (subst IsLegal put.seen legal_seen) in
           let running = store_runs found history pre found_past put.found_log in
           let room : length store.history + length entries ≤ store.limit =
-          (let size : length history ≡ length store.history = ap (λ (h : List Entry). length h) behind in let both = length-append history entries in let most = put.within in let limit = is.limit in omega (arith, size, both, most, limit)) in
+          (let size : length history ≡ length store.history = ap (λ (h : List Entry). length h) behind in let both = length-append history entries in let most = put.within in let limit = limit_found found history false pre found_past quiet.leave put.found_log in omega (arith, size, both, most, limit)) in
           let still = past_still z first old new only store is stood (numbers_behind (length history) entries) pre f quiet.leave in
           let grown : IsStoreOf z first new.knows.participant (record store { history = store.history ++ entries }) = record {
+            first_is = is.first_is;
+            at = is.at;
+            base = is.base;
+            risen = is.risen;
             history = ap (λ (h : List Entry). h ++ entries) (sym behind) ∙ sym put.seen;
             opened = begins_opened z first old new only store is stood (numbers_behind (length history) entries) pre f;
             own = few_put z first old new only store is stood history entries pre f put.grown put.seen;
             stopped = log_still z first old new only store is stood (numbers_behind (length history) entries) pre f quiet.log;
             limit = is.limit;
+            renewed_limit = is.renewed_limit;
             installed = still.installed;
             halted = still.halted;
             board = still.board;
           } in record {
             replied = inl (sym (a.due_is ∙ log_takes store (length entries) r running room));
+            place = 0;
             store_is = subst (λ (x : Store). IsStoreOf z first new.knows.participant x) (sym (store_with store was c (length entries) r entries a)) grown;
             client = client;
             events = pre;
             past = f.past;
             asked = λ es there. absurd (not_counted closes_log pre (log_failed es) quiet.log there refl);
+            asked_none = λ there. absurd (not_counted closes_log pre log_stopped quiet.log there refl);
             asked_edit = λ last edit there. absurd (not_counted is_tables_fault pre (tables_failed last (Some edit)) quiet.leave.tables there refl);
           }
 
       -- ---- they are refused
 
       module _ (needed : ℕ) (Asks : List Entry → Type 0) (was : Client) (c : Command) (r : Reply) (entries : List Entry)
-          (asks : (closed : Bool) → FoundLog z old.by found new.knows.participant.seen closed → new.knows.participant.seen ≡ store.history → AsksFor store was c needed r entries) where
+          (asks : (closed : Bool) → FoundLog z old found new.knows.participant.seen closed → new.knows.participant.seen ≡ store.history → AsksFor store was c needed r entries) where
         leaves_for : (answer : Reply) → is_logged answer ≡ false → is_fault answer ≡ false → is_installed answer ≡ false → kind.is_tables_fault answer ≡ false → AsksFor store was c needed r entries → LeavesStore c answer
         leaves_for answer l f i t a = record { logged = l; fault = f; installed = i; tables = t; board = λ b. a.board b answer }
 
@@ -166,11 +199,11 @@ module _ {D : Type 0} (z : SharedState D) (first : InstalledEdit) (old new : Sea
         full_answers published limit k client =
             let f = follows_on _ z old new _ k.4 pre after_own after_past in
             let seen = seen_still z first old new only store is stood pre f in
-            let a = asks false k.3 seen in
-            let running = store_runs found new.knows.participant.seen pre found_past k.3 in
+            let a = asks false k.2 seen in
+            let running = store_runs found new.knows.participant.seen pre found_past k.2 in
             let size : published ≡ length store.history = k.0 ∙ ap (λ (h : List Entry). length h) seen in
-            let most : limit ≡ store.limit = k.1 ∙ sym is.limit in
-            let full : store.limit < length store.history + needed = (let over = k.2 in omega (arith, size, most, over)) in
+            let most : limit ≡ store.limit = k.3 ∙ limit_found found new.knows.participant.seen false pre found_past quiet.leave k.2 in
+            let full : store.limit < length store.history + needed = (let over = k.1 in omega (arith, size, most, over)) in
             quiet_answers z first old new only store is stood pre f quiet was was c (reply.Full published limit) (leaves_for (reply.Full published limit) refl refl refl refl a)
             (inl (sym (a.due_is ∙ (log_is_full store needed r running full ∙ ap (λ (x : ℕ × ℕ). reply.Full x.0 x.1) (λ i. (sym size i, sym most i)))))) client
 
@@ -181,25 +214,31 @@ module _ {D : Type 0} (z : SharedState D) (first : InstalledEdit) (old new : Sea
             let leave : LeaveTables events = both_leave pre (log_failed es ∷ []) quiet.leave (one_leaves (log_failed es) refl (λ edit. refl) (λ label m e. absurd cc)) in
             let f = follows_on _ z old new _ k.2.2 events after_own (ap (λ (xs : List Event). xs ++ log_failed es ∷ []) after_past ∙ append_assoc old.knows.participant.past pre (log_failed es ∷ [])) in
             let seen = seen_still z first old new only store is stood events f in
-            let a = asks false k.1 seen in
-            let running = store_runs found new.knows.participant.seen pre found_past k.1 in
+            let a = asks false k.0 seen in
+            let running = store_runs found new.knows.participant.seen pre found_past k.0 in
             let size : length new.knows.participant.seen ≡ length store.history = ap (λ (h : List Entry). length h) seen in
-            let room : length store.history + needed ≤ store.limit = (let most = k.0 in let limit = is.limit in omega (arith, most, size, limit)) in
+            let room : length store.history + needed ≤ store.limit = (let most = k.1 in let limit = limit_found found new.knows.participant.seen false pre found_past quiet.leave k.0 in omega (arith, most, size, limit)) in
             let still = past_still z first old new only store is stood [] events f leave in
             let once : one_if true ≡ log_faults new.knows.participant.past =
             (let now = log_now z first old new only store is stood [] events f in let both = total_both (λ (e : Event). one_if (closes_log e)) pre (log_failed es ∷ []) in let none = quiet.log in let not : one_if store.stopped ≡ 0 = ap one_if running in
             omega (arith, now, both, none, not)) in
             let failed : IsStoreOf z first new.knows.participant (record store { stopped = true }) = record {
+              first_is = is.first_is;
+              at = is.at;
+              base = is.base;
+              risen = is.risen;
               history = sym seen;
               opened = begins_opened z first old new only store is stood [] events f;
               own = few_now z first old new only store is stood events f;
               stopped = once;
               limit = is.limit;
+              renewed_limit = is.renewed_limit;
               installed = still.installed;
               halted = still.halted;
               board = still.board;
             } in record {
-              replied = inr (inl (refl, ap is_logged (a.due_is ∙ log_takes store needed r running room) ∙ a.logged));
+              replied = inr (inl (refl, ap calls_log (a.due_is ∙ log_takes store needed r running room) ∙ ap (λ (b : Bool). b || is_renewed r) a.logged));
+              place = 0;
               store_is = subst (λ (x : Store). IsStoreOf z first new.knows.participant x) (sym (store_failed store was c needed r entries a)) failed;
               client = client;
               events = events;
@@ -211,5 +250,9 @@ module _ {D : Type 0} (z : SharedState D) (first : InstalledEdit) (old new : Sea
                     (λ (k : IsIn (log_failed others) (log_failed es ∷ [])). of_last others es k ∙ (same es seen asks_it ∙ sym a.asked))
                     (in_both (log_failed others) pre (log_failed es ∷ []) there),
               );
+              asked_none = λ there. ⊎_elim
+                  (λ (k : IsIn log_stopped pre). absurd (not_counted closes_log pre log_stopped quiet.log k refl))
+                  (λ (k : IsIn log_stopped (log_failed es ∷ [])). absurd (not_stopped es k))
+                  (in_both log_stopped pre (log_failed es ∷ []) there);
               asked_edit = λ last edit there. absurd (not_counted is_tables_fault events (tables_failed last (Some edit)) leave.tables there refl);
             }

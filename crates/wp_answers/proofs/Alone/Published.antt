@@ -5,6 +5,9 @@ use Rattle.std.proofs.lemmas.Bool.Decides.{nat_tests}
 use Rattle.wp_model.specs.declared.entry.Entry.{Entry}
 use Rattle.wp_core.specs.Lists.{IsIn, one_if, total}
 use Rattle.wp_core.specs.Sound.Actors.{StartsWith, times, once}
+use Rattle.wp_core.specs.Sound.Pasts.{closes_log, is_log_fault}
+use Rattle.wp_core.specs.Views.{Event, log_failed}
+use Rattle.wp_answers.specs.Alone.{log_faults, device_faults}
 
 -- ---- sums
 
@@ -40,6 +43,23 @@ pub not_counted : {X : Type 0} (test : X → Bool) (xs : List X) (x : X) → tot
 not_counted test [] x none there is = there
 not_counted test (y ∷ xs) x none (inl same) is = let one : one_if (test y) ≡ 1 = ap (λ z. one_if (test z)) same ∙ ap one_if is in omega (arith, none, one)
 not_counted test (y ∷ xs) x none (inr there) is = not_counted test xs x (omega (arith, none)) there is
+
+-- ---- faults of the log
+
+-- what does not close it is no fault of its device
+no_fault : (e : Event) → closes_log e ≡ false → is_log_fault e ≡ false
+no_fault (log_failed entries) none = absurd cc
+no_fault other none = refl
+
+-- where nothing closed the log, its device did not fail
+pub no_device_fault : (events : List Event) → log_faults events ≡ 0 → device_faults events ≡ 0
+no_device_fault [] none = refl
+no_device_fault (e ∷ events) none =
+    let all : one_if (closes_log e) + log_faults events ≡ 0 = none in
+    let others : log_faults events ≡ 0 = omega (arith, all) in
+    let first : one_if (is_log_fault e) ≡ 0 = ap one_if (no_fault e (none_if (closes_log e) (omega (arith, all)))) in
+    let rest = no_device_fault events others in
+    let sum : one_if (is_log_fault e) + device_faults events ≡ 0 = omega (arith, first, rest) in sum
 
 -- ---- what is in two lists
 

@@ -51,6 +51,7 @@ state_board command.Leave b = refl
 state_board (command.Take name) b = refl
 state_board command.Flush b = refl
 state_board command.Compact b = refl
+state_board command.Renew b = refl
 state_board (command.Tell label) b = refl
 state_board (command.Hear label) b = refl
 

@@ -218,11 +218,16 @@ module _ {D : Type 0} (z : SharedState D) (first : InstalledEdit) (old new : Sea
 
     pub same_store : AreQuiet events → IsStoreOf z first new.knows.participant store
     same_store quiet = let told_still = past_still [] events f quiet.leave in record {
+      first_is = is.first_is;
+      at = is.at;
+      base = is.base;
+      risen = is.risen;
       history = sym seen_still;
       opened = begins_opened [] events f;
       own = few_now;
       stopped = log_still [] events f quiet.log;
       limit = is.limit;
+      renewed_limit = is.renewed_limit;
       installed = told_still.installed;
       halted = told_still.halted;
       board = told_still.board;

@@ -1,5 +1,5 @@
 -- The store that one seat alone uses, as it was opened and later.
-use Rattle.std.proofs.Common.{◌≡◌, ℕ, true≢false, List, [], refl, sym, ap, ◌∙◌, append-nil, Option, is_some}
+use Rattle.std.proofs.Common.{◌≡◌, ℕ, true≢false, List, [], refl, sym, ap, ◌∙◌, append-nil, Option, is_some, arith}
 use Rattle.std.specs.FinMap as finite
 use Rattle.wp_model.specs.Batch.{key_cmp}
 use Rattle.wp_model.specs.Flushed.{InstalledEdit}
@@ -8,22 +8,29 @@ use Rattle.wp_core.specs.World.{World, new_participant}
 use Rattle.wp_rule.specs.Shows.{WasLast}
 use Rattle.wp_rule.proofs.Knows.{one_was_first}
 use Rattle.wp_shared.specs.Parts.{content}
+use Rattle.wp_shared.specs.Limits.{WasOpenedAt}
+use Rattle.wp_shared.proofs.Limits.{limit_opened}
 use Rattle.wp_shared.specs.Seats.{SharedState, SeatState, Stands}
 use Rattle.wp_replies.specs.Current.{opened_store}
 use Rattle.wp_replies.specs.Due.{Store}
 use Rattle.wp_replies.specs.Known.{StoredState}
-use Rattle.wp_answers.specs.Alone.{IsOnly, IsStoreOf, IsAsStored}
+use Rattle.wp_answers.specs.Alone.{limits_of, IsOnly, IsStoreOf, IsAsStored}
 use Rattle.wp_answers.proofs.Alone.Published.{same_if}
 use Rattle.wp_answers.proofs.Alone.Worlds.{only_of}
 use Rattle.wp_answers.proofs.Alone.Seated.{alone_then, history_then}
 
-pub opened_is_told : {D : Type 0} (z : SharedState D) (found : StoredState) (client : List ℕ) → found.history ≡ z.opened → IsStoreOf z found.edit (new_participant client z.opened) (opened_store z.limit found)
-opened_is_told z found client same = record {
+pub opened_is_told : {D : Type 0} (z : SharedState D) (found : StoredState) (client : List ℕ) → found.history ≡ z.opened → WasLast content z.first found.edit → WasOpenedAt z found.edit.segment.base → IsStoreOf z found.edit (new_participant client z.opened) (opened_store (limits_of z) found)
+opened_is_told z found client same was at = record {
+  first_is = was;
+  at = at;
+  base = refl;
+  risen = omega arith;
   history = same;
   opened = ([], sym (append-nil z.opened));
   own = λ n there. absurd there;
   stopped = refl;
-  limit = refl;
+  limit = sym (limit_opened z found.edit.segment.base at);
+  renewed_limit = refl;
   installed = refl;
   halted = refl;
   board = λ label. ((λ known. absurd (true≢false (sym known ∙ ap (λ (o : Option ℕ). is_some o) (finite.get-empty key_cmp label)))), (λ told. absurd told.1));

@@ -1,6 +1,6 @@
 -- What a client is answered that is alone and asks something of the tables: an edit is installed, or there is nothing to do, or the
 -- devices fail, or have failed before.
-use Rattle.std.proofs.Common.{◌≡◌, inl, inr, ℕ, Bool, true, false, List, [], ◌∷◌, ◌++◌, refl, sym, subst, ap, ◌∙◌, append-nil, Option, Some, arith}
+use Rattle.std.proofs.Common.{◌≡◌, inl, inr, ℕ, ◌≤◌, Bool, true, false, List, [], ◌∷◌, ◌++◌, refl, sym, subst, ap, ◌∙◌, append-nil, Option, Some, arith}
 use Rattle.std.specs.Prelude.{IfSome, if◌then◌else◌}
 use Rattle.wp_model.specs.Flushed.{InstalledEdit}
 use Rattle.wp_model.specs.LockTables.{Labels}
@@ -9,50 +9,77 @@ use Rattle.wp_text.specs.declared.reply.Reply.{Reply}
 use Rattle.wp_text.specs.declared.reply.Reply.TheVariants as reply
 use Rattle.wp_core.specs.Alone.{IsAlone}
 use Rattle.wp_core.specs.Lists.{IsIn, one_if, total}
-use Rattle.wp_core.specs.Sound.Pasts.{closes_log, is_tables_fault, last_installed}
+use Rattle.wp_core.specs.Sound.Pasts.{closes_log, is_tables_fault, last_after, last_installed}
 use Rattle.wp_core.specs.Tables.{Installed, installed}
-use Rattle.wp_core.specs.Views.{Event, log_failed, tables_failed, found_edit, told}
+use Rattle.wp_core.specs.Views.{Event, log_failed, log_stopped, tables_failed, told}
 use Rattle.wp_core.specs.Views as event
 use Rattle.wp_core.specs.World.{World}
 use Rattle.wp_rule.specs.Shows.{WasLast}
 use Rattle.wp_rule.proofs.Knows.{held_is, one_was_first}
 use Rattle.wp_shared.specs.Parts.{content}
 use Rattle.wp_shared.specs.Calls.{Continues, remembering}
+use Rattle.wp_shared.specs.Limits.{limit_at}
 use Rattle.wp_shared.specs.Seats.{SharedState, SeatState, Stands, place_at}
 use Rattle.wp_maint.specs.Calls.{Finds, found_by}
 use Rattle.wp_replies.specs.Client.{Client}
 use Rattle.wp_replies.specs.Due.{Store, due, unless_halted, edit_of, board_after, store_after}
-use Rattle.wp_replies.specs.Kind.{is_logged, is_fault, is_installed}
+use Rattle.wp_replies.specs.Kind.{is_logged, is_fault, is_installed, is_renewed, is_renewal}
 use Rattle.wp_replies.specs.Kind as kind
 use Rattle.wp_replies.specs.Plan.{plan, asked_of}
-use Rattle.wp_answers.specs.Alone.{IsOnly, IsStoreOf, AnswersAlone}
+use Rattle.wp_answers.specs.Alone.{log_faults, tables_faults, IsOnly, IsStoreOf, AnswersAlone}
 use Rattle.wp_answers.proofs.Alone.Published.{none_if, if_one, not_counted}
 use Rattle.wp_answers.proofs.Alone.Worlds.{only_of}
 use Rattle.wp_answers.proofs.Alone.Seated.{last_over, AreQuiet, one_quiet, Follows, follows_on, alone_at, begins_opened, few_now, log_still, edit_still, tables_now, board_still, seen_still}
-use Rattle.wp_answers.proofs.Alone.Quiet.{quiet_answers}
+use Rattle.wp_answers.proofs.Alone.Quiet.{never_stops, quiet_answers}
 use Rattle.wp_replies.specs.Due.{client_after}
 
--- where the tables are not halted, the command is answered so, and has the tables take this edit
+-- where the tables are not halted, the command is answered so, and has the tables take this edit; a renewal puts the log's segment at
+-- the place
 pub record AsksTablesFor (store : Store) (was : Client) (c : Command) (ready : Reply) (next : InstalledEdit) : Type 0 where
   pub due_is : due store was c ≡ unless_halted store ready
-  pub edit_is : edit_of store was (plan store.history was c) ≡ next
+  pub place : ℕ
+  pub edit_is : edit_of place store was (plan store.history was c) ≡ next
   pub board : (b : Labels) (r : Reply) → board_after b c r ≡ b
 
+-- the limit from a reply on
+abbrev pub limit_after : Store → Reply → ℕ
+limit_after store r = if is_renewed r then store.renewed_limit else store.limit
+
+-- the event is of an edit that was installed
+pub record Installs (made : Event) (edit : InstalledEdit) : Type 0 where
+  pub last : (old : InstalledEdit) → last_after old made ≡ edit
+  pub log : log_faults (made ∷ []) ≡ 0
+  pub tables : tables_faults (made ∷ []) ≡ 0
+  pub untold : (label : List ℕ) (n : ℕ) → made ≡ told label n → ⊥
+
+pub makes_installed : (edit : InstalledEdit) (compacts : Bool) → Installs (event.installed edit compacts) edit
+makes_installed edit compacts = record { last = λ old. refl; log = refl; tables = refl; untold = λ label n same. absurd cc }
+
+pub makes_renewed : (edit : InstalledEdit) → Installs (event.renewed edit) edit
+makes_renewed edit = record { last = λ old. refl; log = refl; tables = refl; untold = λ label n same. absurd cc }
+
+-- an edit of the same segment has no lower base
+pub same_base : (edit : InstalledEdit) → edit.segment.base ≤ edit.segment.base
+same_base edit = omega arith
+
 -- the store with the edit
-store_with : (store : Store) (was : Client) (c : Command) (ready : Reply) (next : InstalledEdit) (r : Reply) → AsksTablesFor store was c ready next → is_logged r ≡ false → is_fault r ≡ false → is_installed r ≡ true → kind.is_tables_fault r ≡ false
-    → store_after store was c r ≡ record store { installed = next }
-store_with store was c ready next r a logged fault takes tables = λ i. record {
+store_with : (store : Store) (was : Client) (c : Command) (ready : Reply) (next : InstalledEdit) (r : Reply) → is_logged r ≡ false → is_fault r ≡ false → is_installed r ≡ true → kind.is_tables_fault r ≡ false
+    → (a : AsksTablesFor store was c ready next) → store_after a.place store was c r ≡ record store { installed = next; limit = limit_after store r }
+store_with store was c ready next r logged fault takes tables a = λ i. record {
+  base = store.base;
   history = (ap (λ (b : Bool). store.history ++ (if b then asked_of (plan store.history was c) else [])) logged ∙ append-nil store.history) i;
-  stopped = ap (λ (b : Bool). if b then true else store.stopped) fault i;
-  limit = store.limit;
-  installed = (ap (λ (b : Bool). if b then edit_of store was (plan store.history was c) else store.installed) takes ∙ a.edit_is) i;
+  stopped = ap (λ (b : Bool). if b then true else store.stopped) (never_stops (is_renewal c) (kind.kind r) fault tables) i;
+  limit = limit_after store r;
+  renewed_limit = store.renewed_limit;
+  installed = (ap (λ (b : Bool). if b then edit_of a.place store was (plan store.history was c) else store.installed) takes ∙ a.edit_is) i;
   halted = ap (λ (b : Bool). if b then true else store.halted) tables i;
   board = a.board store.board r i;
 }
 
--- the store with its tables halted
-store_halted : (store : Store) (was : Client) (c : Command) (ready : Reply) (next : InstalledEdit) → AsksTablesFor store was c ready next → store_after store was c reply.FaultTables ≡ record store { halted = true }
-store_halted store was c ready next a = λ i. record { history = append-nil store.history i; stopped = store.stopped; limit = store.limit; installed = store.installed; halted = true; board = a.board store.board reply.FaultTables i }
+-- the store with its tables halted, and its log stopped where the command is a renewal
+pub store_halted : (store : Store) (was : Client) (c : Command) (ready : Reply) (next : InstalledEdit) (a : AsksTablesFor store was c ready next) → store_after a.place store was c reply.FaultTables ≡ record store { halted = true; stopped = if is_renewal c then true else store.stopped }
+store_halted store was c ready next a =
+    λ i. record { base = store.base; history = append-nil store.history i; stopped = if is_renewal c then true else store.stopped; limit = store.limit; renewed_limit = store.renewed_limit; installed = store.installed; halted = true; board = a.board store.board reply.FaultTables i }
 
 module _ {D : Type 0} (z : SharedState D) (first : InstalledEdit) (old new : SeatState) (only : IsOnly old) (store : Store) (is : IsStoreOf z first old.knows.participant store) (stood : (w : World) × Stands z new w) (was_last : WasLast content z.first first) where
   module _ (e : Installed) (f : Finds z old new e) where
@@ -114,63 +141,79 @@ module _ {D : Type 0} (z : SharedState D) (first : InstalledEdit) (old new : Sea
 
       -- the edit is installed
       pub installs_answers : (r : Reply) → ready ≡ r → is_logged r ≡ false → is_fault r ≡ false → is_installed r ≡ true → kind.is_tables_fault r ≡ false → was ≡ client_after store.history was c r → e.halted ≡ false
-          → (edit : InstalledEdit) (compacts : Bool) → edit ≡ next → Continues z old new (remembering (found_event ∷ event.installed edit compacts ∷ []) old.knows.participant) → AnswersAlone z first old new was was c r store
-      installs_answers r ready_is logged fault takes tables client running edit compacts edit_is goes =
-          let events : List Event = found_event ∷ event.installed edit compacts ∷ [] in
+          → store.installed.segment.base ≤ next.segment.base → limit_after store r ≡ limit_at z next.segment.base → (edit : InstalledEdit) (made : Event) → Installs made edit → edit ≡ next → Continues z old new (remembering (found_event ∷ made ∷ []) old.knows.participant) → AnswersAlone z first old new was was c r store
+      installs_answers r ready_is logged fault takes tables client running higher limit_is edit made makes edit_is goes =
+          let events : List Event = found_event ∷ made ∷ [] in
+          let log : log_faults events ≡ 0 = (let m = makes.log in omega (arith, m)) in
+          let none : tables_faults events ≡ 0 = (let m = makes.tables in omega (arith, m)) in
           let f = follows_on _ z old new _ goes events refl refl in
           let seen = seen_still z first old new only store is stood events f in
           let a = asks seen in
-          let last : last_installed first new.knows.participant.past ≡ edit = ap (last_installed first) f.past ∙ last_over first old.knows.participant.past events in
-          let has : IsStoreOf z first new.knows.participant (record store { installed = next }) = record {
+          let last : last_installed first new.knows.participant.past ≡ edit = ap (last_installed first) f.past ∙ (last_over first old.knows.participant.past events ∙ makes.last (last_installed first old.knows.participant.past)) in
+          let has : IsStoreOf z first new.knows.participant (record store { installed = next; limit = limit_after store r }) = record {
+            first_is = is.first_is;
+            at = is.at;
+            base = is.base;
+            risen = (let low = is.risen in omega (arith, low, higher));
             history = sym seen;
             opened = begins_opened z first old new only store is stood [] events f;
             own = few_now z first old new only store is stood events f;
-            stopped = log_still z first old new only store is stood [] events f refl;
-            limit = is.limit;
+            stopped = log_still z first old new only store is stood [] events f log;
+            limit = limit_is;
+            renewed_limit = is.renewed_limit;
             installed = sym (last ∙ edit_is);
-            halted = let now = tables_now z first old new only store is stood [] events f in omega (arith, now);
-            board = board_still z first old new only store is stood [] events f (λ label n there. untold label n compacts edit there);
+            halted = let now = tables_now z first old new only store is stood [] events f in omega (arith, now, none);
+            board = board_still z first old new only store is stood [] events f (λ label n there. untold label n made makes there);
           } in record {
             replied = inl (sym (a.due_is ∙ (ap (λ (b : Bool). if b then reply.Halted store.installed.flushed else ready) (runs running) ∙ ready_is)));
-            store_is = subst (λ (x : Store). IsStoreOf z first new.knows.participant x) (sym (store_with store was c ready next r a logged fault takes tables)) has;
+            place = a.place;
+            store_is = subst (λ (x : Store). IsStoreOf z first new.knows.participant x) (sym (store_with store was c ready next r logged fault takes tables a)) has;
             client = client;
             events = events;
             past = f.past;
-            asked = λ entries there. absurd (not_counted closes_log events (log_failed entries) refl there refl);
-            asked_edit = λ last edit there. absurd (not_counted is_tables_fault events (tables_failed last (Some edit)) refl there refl);
+            asked = λ entries there. absurd (not_counted closes_log events (log_failed entries) log there refl);
+            asked_none = λ there. absurd (not_counted closes_log events log_stopped log there refl);
+            asked_edit = λ last edit there. absurd (not_counted is_tables_fault events (tables_failed last (Some edit)) none there refl);
           }
         where
-          untold : (label : List ℕ) (n : ℕ) (b : Bool) (x : InstalledEdit) → IsIn (told label n) (found_event ∷ event.installed x b ∷ []) → ⊥
-          untold label n b x (inl same) = let k : found_event ≡ told label n = same in absurd cc
-          untold label n b x (inr (inl same)) = let k : event.installed x b ≡ told label n = same in absurd cc
-          untold label n b x (inr (inr none)) = none
+          untold : (label : List ℕ) (n : ℕ) (x : Event) → Installs x edit → IsIn (told label n) (found_event ∷ x ∷ []) → ⊥
+          untold label n x m (inl same) = let k : found_event ≡ told label n = same in absurd cc
+          untold label n x m (inr (inl same)) = m.untold label n same
+          untold label n x m (inr (inr none)) = none
 
-      -- a device failed
-      pub failed_answers : is_installed ready ≡ true → e.halted ≡ false → (asked : Option InstalledEdit) → (new.knows.participant.seen ≡ store.history → IfSome asked (λ edit. edit ≡ next))
+      -- a device failed, in no renewal
+      pub failed_answers : is_renewal c ≡ false → is_installed ready ≡ true → e.halted ≡ false → (asked : Option InstalledEdit) → (new.knows.participant.seen ≡ store.history → IfSome asked (λ edit. edit ≡ next))
           → Continues z old new (remembering (found_event ∷ tables_failed e.last asked ∷ []) old.knows.participant) → AnswersAlone z first old new was was c reply.FaultTables store
-      failed_answers installs running asked edit_is goes =
+      failed_answers plain installs running asked edit_is goes =
           let events : List Event = found_event ∷ tables_failed e.last asked ∷ [] in
           let f = follows_on _ z old new _ goes events refl refl in
           let seen = seen_still z first old new only store is stood events f in
           let a = asks seen in
           let not : one_if store.halted ≡ 0 = ap one_if (runs running) in
           let has : IsStoreOf z first new.knows.participant (record store { halted = true }) = record {
+            first_is = is.first_is;
+            at = is.at;
+            base = is.base;
+            risen = is.risen;
             history = sym seen;
             opened = begins_opened z first old new only store is stood [] events f;
             own = few_now z first old new only store is stood events f;
             stopped = log_still z first old new only store is stood [] events f refl;
             limit = is.limit;
+            renewed_limit = is.renewed_limit;
             installed = edit_still z first old new only store is stood [] events f (λ edit. refl);
             halted = let now = tables_now z first old new only store is stood [] events f in omega (arith, now, not);
             board = board_still z first old new only store is stood [] events f (λ label n there. untold label n there);
           } in record {
             replied = inr (inr (refl, ap is_installed (a.due_is ∙ ap (λ (b : Bool). if b then reply.Halted store.installed.flushed else ready) (runs running)) ∙ installs));
-            store_is = subst (λ (x : Store). IsStoreOf z first new.knows.participant x) (sym (store_halted store was c ready next a)) has;
+            place = a.place;
+            store_is = subst (λ (x : Store). IsStoreOf z first new.knows.participant x) (sym (store_halted store was c ready next a ∙ ap (λ (b : Bool). record store { halted = true; stopped = if b then true else store.stopped }) plain)) has;
             client = refl;
             events = events;
             past = f.past;
             asked = λ entries there. absurd (not_counted closes_log events (log_failed entries) refl there refl);
-            asked_edit = λ last edit there. (refl, of_asked last edit asked (edit_is seen) there ∙ sym a.edit_is);
+            asked_none = λ there. absurd (not_counted closes_log events log_stopped refl there refl);
+            asked_edit = λ last edit there. (refl, (a.place, of_asked last edit asked (edit_is seen) there ∙ sym a.edit_is));
           }
         where
           untold : (label : List ℕ) (n : ℕ) → IsIn (told label n) (found_event ∷ tables_failed e.last asked ∷ []) → ⊥

@@ -96,7 +96,7 @@ module _ {D : Type 0} (z : SharedState D) (first : InstalledEdit) (old new : Sea
   -- ---- the log refuses it
 
   -- it holds the key as it finds the log, so no undecided prepare has it
-  asks_refused : (closed : Bool) → FoundLog z old.by (writing_direct (key_of c) it) new.knows.participant.seen closed → new.knows.participant.seen ≡ store.history
+  asks_refused : (closed : Bool) → FoundLog z old (writing_direct (key_of c) it) new.knows.participant.seen closed → new.knows.participant.seen ≡ store.history
       → AsksFor store idle (asking c) 1 (acknowledging c (next store.history)) entries
   asks_refused closed k seen =
       asks_for (ap (λ (h : List Entry). holder_of h (key_of c)) (sym (k.history_is ∙ seen)) ∙ direct_is_free k.world k.there.reached old.by k.actor k.there.there (key_of c) (ap (λ (p : Participant). p.direct) k.participant)) (next store.history) refl

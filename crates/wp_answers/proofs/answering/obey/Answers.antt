@@ -129,3 +129,15 @@ returns-in-Compact-clause-answered g c = rw c.in-Compact.is (held_answers c.args
 
 pub returns-in-Compact-clause-err : goal.returns-in-Compact-clause-err
 returns-in-Compact-clause-err g c = rw c.in-Compact.is (any_breaks c.args.store.now c.args.seat.now c.compact.new.seat command.Compact c.compact.result (client_of c.args.held.now) c.compact.ensures.err)
+
+pub renew-requires : goal.renew-requires
+renew-requires g c = c.requires.txn.free
+
+pub returns-in-Renew-clause-holds : goal.returns-in-Renew-clause-holds
+returns-in-Renew-clause-holds g c = c.renew.ensures.holds c.args.held.now c.requires
+
+pub returns-in-Renew-clause-answered : goal.returns-in-Renew-clause-answered
+returns-in-Renew-clause-answered g c = rw c.in-Renew.is (any_answers c.args.store.now c.args.seat.now c.renew.new.seat command.Renew c.renew.result (client_of c.args.held.now) c.renew.ensures.answered)
+
+pub returns-in-Renew-clause-err : goal.returns-in-Renew-clause-err
+returns-in-Renew-clause-err g c = rw c.in-Renew.is (any_breaks c.args.store.now c.args.seat.now c.renew.new.seat command.Renew c.renew.result (client_of c.args.held.now) c.renew.ensures.err)

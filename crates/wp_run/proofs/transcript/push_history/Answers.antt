@@ -4,4 +4,4 @@ use Rattle.wp_run.proofs.transcript.push_history.Goals as goal
 
 pub loop-i-preserved : goal.loop-i-preserved
 loop-i-preserved c =
-    appends _ _ _ _ _ _ c.loop-i.invariant c.in_ok-history_line.ensures (entry_lines_more _ c.loop-i.i c.index-entries-i.result (omega arith) c.index-entries-i.is)
+    appends _ _ _ _ _ _ c.loop-i.invariant c.in_ok-history_line.ensures (entry_lines_more _ _ c.loop-i.i c.index-entries-i.result (omega arith) c.index-entries-i.is)
