@@ -12,7 +12,7 @@ class Alone:
 
     history: History
     edit: Edit
-    limit: int
+    limits: tuple  # of the log as it was opened, and once it was renewed
     stopped: bool = False
     halted: bool = False
     board: dict = field(default_factory=dict)
@@ -21,7 +21,8 @@ class Alone:
         needed = len(asked(client, command))
         if self.stopped:
             return ("stopped", len(self.history))
-        return ("full", len(self.history), self.limit) if len(self.history) + needed > self.limit else answer
+        limit = self.limits[0]
+        return ("full", len(self.history), limit) if len(self.history) + needed > limit else answer
 
     def due(self, client, command):
         """The reply that is due where no device fails."""
@@ -47,7 +48,7 @@ class Alone:
             return ("dropped",) if client.state == "open" else self.logs(client, command, ("rollback", published + 2))
         if kind == "hear":
             return ("heard", published) if command[1] in self.board else ("silent", command[1])
-        if kind in ("flush", "compact"):
+        if kind in ("flush", "compact", "renew"):
             return self.due_tables(client, kind)
         return {"snap": ("snap", published), "tell": ("told", published), "free": ("freed",), "leave": ("left",)}[kind]
 
@@ -67,20 +68,31 @@ class Alone:
         if kind == "flush":
             versions = self.history.versions(self.edit.flushed)
             return ("flushed", published, len(versions)) if versions else ("nothing",)
+        if kind == "renew":
+            return self.due_renewal()
         if self.edit.tables < 2:
             return ("nothing",)
         return ("compacted", published, len(self.kept(client)))
 
+    def due_renewal(self):
+        published = len(self.history)
+        if self.stopped:
+            return ("stopped", published)
+        return ("nothing",) if self.edit.base == published else ("renewed", published, len(self.history.undecided()))
+
     def kept(self, client):
-        return retained(self.history, self.edit.versions, [n for _, n in client.snapshots], len(self.history))
+        numbers = [self.history.base, self.edit.base, *(n for _, n in client.snapshots)]
+        return retained(self.history, self.edit.versions, numbers, len(self.history))
 
     def take(self, client, command, answer):
         """The client once it has the reply; the store is what the reply leaves of it."""
         form = answer[0]
         prepare = self.history.named(command[1]) if form == "took" else 0
-        if form == "flushed":
-            versions = in_order(self.edit.versions + tuple(self.history.versions(self.edit.flushed)))
-            self.edit = Edit(len(self.history), versions, self.edit.tables + 1)
+        if form in ("flushed", "renewed"):
+            more = tuple(self.history.versions(self.edit.flushed))
+            base = len(self.history) if form == "renewed" else self.edit.base
+            self.edit = Edit(len(self.history), in_order(self.edit.versions + more), self.edit.tables + bool(more), base)
+            self.limits = self.limits[1:] * 2 if form == "renewed" else self.limits
         elif form == "compacted":
             self.edit = replace(self.edit, versions=self.kept(client), tables=min(answer[2], 1))
         elif form in ("put", "del", "prepare", "commit", "rollback"):
@@ -89,18 +101,18 @@ class Alone:
                 self.history.add(replace(entry, batch=batch))
         elif form == "told":
             self.board[command[1]] = answer[1]
-        self.stopped |= form == "fault log"
+        self.stopped |= form == "fault log" or form == "fault tables" and command == ("renew",)
         self.halted |= form == "fault tables"
         return after(client, command, answer, prepare)
 
 
-def check_alone(part, found, edit, limit):
+def check_alone(part, found, edit, limits):
     """Each reply is the one that is due; returns the store that is left."""
-    store, client = Alone(found.copy(), edit, limit), Client()
+    store, client = Alone(found.copy(), edit, limits), Client()
     for line, (command, answer) in enumerate(zip(part.commands, part.answers), 1):
         due = store.due(client, command)
-        logs = due[0] in ("put", "del", "prepare", "commit", "rollback")
-        fails = answer == ("fault log",) and logs or answer == ("fault tables",) and due[0] in ("flushed", "compacted")
+        logs = due[0] in ("put", "del", "prepare", "commit", "rollback", "renewed")
+        fails = answer == ("fault log",) and logs or answer == ("fault tables",) and due[0] in ("flushed", "compacted", "renewed")
         need(answer == due or fails, "due", f"line {line}, `{' '.join(command)}`: `{part.lines[line - 1]}`, and {due} is due")
         client = store.take(client, command, answer)
     return store

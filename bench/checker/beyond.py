@@ -10,10 +10,10 @@ def acknowledged(answer):
 
 
 def check_flushes(history, found, answers):
-    """The flushes make one chain, from the flushed number that was found on; returns the last one's number."""
+    """The flushes make one chain, from the flushed number that was found on, and renewals flush too; returns the last one's number."""
     flushed = found.flushed
-    for _, n, versions in sorted((answer for answer in answers if answer[0] == "flushed"), key=lambda it: it[1]):
-        need(history.count(flushed, n) == versions, "chain", f"`flushed @{n} {versions}` does not follow the flush at {flushed}")
+    for form, n, count in sorted((answer for answer in answers if answer[0] in ("flushed", "renewed")), key=lambda it: (it[1], it[0])):
+        need(form == "renewed" or history.count(flushed, n) == count, "chain", f"`flushed @{n} {count}` does not follow the flush at {flushed}")
         flushed = n
     for answer in answers:
         need(answer[0] != "halted" or answer[1] == flushed, "chain", f"`halted` has {answer[-1]}, and the last flushed number is {flushed}")

@@ -4,7 +4,7 @@ It is written from that page and from docs/DEFINITIONS.md alone, for the program
 Nothing here repairs a file: what is read is what an opening would find.
 """
 from bisect import bisect_right
-from dataclasses import dataclass
+from dataclasses import dataclass, field, replace
 from pathlib import Path
 
 MOST_KEYS = 64
@@ -34,27 +34,42 @@ def with_change(batch, key, value):
 
 
 class History:
-    """A list of entries, numbered from 1 on, and what each of its beginnings holds."""
+    """A list of entries, numbered behind a base, and what each of its beginnings holds from there on: at the base a store, and the
+    prepares that are undecided, by number."""
 
-    def __init__(self, entries=()):
+    def __init__(self, entries=(), base=0, store=None, carried=None):
+        self.base, self.store, self.carried = base, store or {}, carried or {}
         self.entries = []
-        self.names = [{}]  # of the undecided prepares, by number: after each entry
-        self.values = {}  # of each key: the numbers at which its value changes, and the values
-        self.decisions = {}  # of each number whose versions count: from which entry on
+        self.names = [{p: entry.name for p, entry in self.carried.items()}]  # of the undecided prepares, by number: after each entry
+        self.values = {key: ([base], [value]) for key, value in self.store.items()}  # of each key: the numbers at which its value changes, and the values
+        self.decisions = {}  # of each number behind the base, and of what is carried: from which entry on its versions count
         self.counts = [0]  # how many versions the entries have, up to each
         self.prepares = {}  # the prepares of each name
         self.changed = {}  # the entries that have a version of each key
+        for p, entry in self.carried.items():
+            self.prepares.setdefault(entry.name, []).append(p)
         for entry in entries:
             self.add(entry)
 
     def __len__(self):
-        return len(self.entries)
+        return self.base + len(self.entries)
 
     def at(self, n):
-        return self.entries[n - 1] if 1 <= n <= len(self) else None
+        return self.entries[n - self.base - 1] if self.base < n <= len(self) else self.carried.get(n)
 
     def copy(self):
-        return History(self.entries)
+        return History(self.entries, self.base, self.store, self.carried)
+
+    def cut(self, base):
+        """The same behind a later base."""
+        store = {key: self.value(key, base) for key in self.values}
+        carried = {p: self.at(p) for p in sorted(self.undecided(base))}
+        return History(self.entries[base - self.base :], base, {key: value for key, value in store.items() if value is not None}, carried)
+
+    def begins_with(self, other):
+        """Whether the other one has the same base, and is this one's beginning."""
+        same = (self.base, self.store, self.carried) == (other.base, other.store, other.carried)
+        return same and self.entries[: len(other.entries)] == other.entries
 
     def add(self, entry):
         self.entries.append(entry)
@@ -84,7 +99,7 @@ class History:
         return entry.batch if entry and entry.kind == "prepare" else ()
 
     def undecided(self, n=None):
-        return self.names[len(self) if n is None else n]
+        return self.names[len(self.entries) if n is None else n - self.base]
 
     def named(self, name, n=None):
         """The undecided prepare of that name among the first n entries."""
@@ -107,12 +122,13 @@ class History:
         return tuple((key, self.value(key)) for key, _ in batch)
 
     def is_committed(self, p, n):
-        return self.decisions.get(p, n + 1) <= n
+        """Whether the versions of the number count among the first n entries: those up to the base do, but for what is carried."""
+        return p <= n if p <= self.base and p not in self.carried else self.decisions.get(p, n + 1) <= n
 
     def versions(self, after, n=None):
         """The versions of the entries after so many, among the first n."""
         end = len(self) if n is None else n
-        return [(key, i + 1, value) for i in range(after, end) for key, value in self.entries[i].batch]
+        return [(key, i, value) for i in range(max(after, self.base) + 1, end + 1) for key, value in self.at(i).batch]
 
     def change(self, key, after, n):
         """An entry after so many, among the first n, that has a version of the key, or None."""
@@ -122,7 +138,11 @@ class History:
 
     def count(self, after, n):
         """How many versions the entries after so many have, among the first n."""
-        return max(0, self.counts[n] - self.counts[min(after, len(self))])
+        return max(0, self.counts[n - self.base] - self.counts[min(max(after, self.base), len(self)) - self.base])
+
+    def most_versions(self, n):
+        """How many versions there may be up to n: those of the entries and of what is carried, and one of each key at the base."""
+        return len(self.store) + sum(len(entry.batch) for entry in self.carried.values()) + self.count(self.base, n)
 
     def fault(self, entry):
         """Why the entry may not come next, or None."""
@@ -150,11 +170,14 @@ class History:
 
 @dataclass
 class Edit:
-    """The last edit of a store: its flushed number, its tables' versions in order, and how many tables they are."""
+    """The last edit of a store: its flushed number, its tables' versions in order, how many tables they are, and the base of the log
+    that it names. At which place that log begins is told beside."""
 
     flushed: int = 0
     versions: tuple = ()
     tables: int = 0
+    base: int = 0
+    place: int = field(default=0, compare=False)
 
 
 def in_order(versions):
@@ -179,12 +202,16 @@ def retained(history, versions, snapshots, n):
 
 def uncovered(history, edit):
     """Why the edit's versions, with those of later entries, do not show what the history holds, or None."""
-    if edit.flushed > len(history):
-        return f"{edit.flushed} is flushed, of {len(history)} entries"
+    if not edit.base <= edit.flushed <= len(history):
+        return f"{edit.flushed} is flushed, of {len(history)} entries behind {edit.base}"
     versions = in_order(edit.versions + tuple(history.versions(edit.flushed)))
     for key, number, value in versions:
         entry = history.at(number)
-        if entry is None or (key, value) not in entry.batch:
+        if entry is None and number <= history.base:
+            later = [p for p, carried in history.carried.items() if has(carried.batch, key) and p <= number]
+            if later:
+                return f"{key} has the number {number}, and the prepare {later[0]} holds it"
+        elif entry is None or (key, value) not in entry.batch:
             return f"the entry {number} has no such version of {key}"
     found = {(key, number) for key, number, _ in versions}
     last = history.at(len(history))
@@ -193,13 +220,14 @@ def uncovered(history, edit):
         for key, _ in history.at(number).batch:
             if (key, number) not in found:
                 return f"the version of {key} with the number {number} is missing"
-    newest = {}
-    for key, number, value in versions:
-        if history.is_committed(number, len(history)):
-            newest.setdefault(key, value)
-    for key in {*newest, *history.values}:
-        if newest.get(key) != history.value(key):
-            return f"under {key} they show {newest.get(key)}, and not {history.value(key)}"
+    for n in (edit.base, len(history)):
+        newest = {}
+        for key, number, value in versions:
+            if history.is_committed(number, n):
+                newest.setdefault(key, value)
+        for key in {*newest, *history.values}:
+            if newest.get(key) != history.value(key, n):
+                return f"under {key} they show {newest.get(key)} at {n}, and not {history.value(key, n)}"
     return None
 
 
@@ -247,23 +275,46 @@ class Fields:
             raise Damaged("bytes follow the end")
 
 
-def records(data, magic):
-    """The records before the first closed gate, and the store's id; of a log that was never made, none and no id."""
+def records(data, magic, versions=(1,)):
+    """The records before the first closed gate, the store's id and the format's version; of a log that was never made, none, no id
+    and the newest version."""
     fields = Fields(data)
     if len(data) < 2 or fields.number(1) == 0:
-        return [], None
-    if fields.take(5) != magic + b"\x01":
+        return [], None, versions[-1]
+    if fields.take(4) != magic:
         raise Damaged("another head")
+    version = fields.number(1)
+    if version not in versions:
+        raise Damaged("another version")
     store = fields.number(4)
     found = []
     while fields.number(1):
         found.append(fields.take(fields.number(8)))
-    return found, store
+    return found, store, version
 
 
-def entries_of(record, due):
+def log_records(data, place):
+    """The records of the log that begins at the place, and its version."""
+    found, _, version = records(data[place:], b"WPLG", (1, 2))
+    return found, version
+
+
+def base_of(record):
+    """What a base record says: the base, and the prepares that are carried."""
     fields = Fields(record)
-    if fields.number(4) != due:
+    base, carried = fields.number(8), {}
+    for _ in range(fields.number(8)):
+        p = fields.number(8)
+        if not max(carried, default=0) < p <= base:
+            raise Damaged("another order of what is carried")
+        carried[p] = Entry("prepare", name=fields.word(1), batch=fields.batch())
+    fields.end()
+    return base, carried
+
+
+def entries_of(record, due, version):
+    fields, width = Fields(record), {1: 4, 2: 8}[version]
+    if fields.number(width) != due:
         raise Damaged("another number")
     kind = fields.number(1)
     if kind == 1:
@@ -271,9 +322,9 @@ def entries_of(record, due):
     elif kind == 2:
         entries = [Entry("prepare", name=fields.word(1), batch=fields.batch())]
     elif kind == 3:
-        entries = [Entry("commit", number=fields.number(4))]
+        entries = [Entry("commit", number=fields.number(width))]
     elif kind == 4:
-        p = fields.number(4)
+        p = fields.number(width)
         entries = [Entry("undo", number=p, batch=fields.batch()), Entry("close", number=p)]
     else:
         raise Damaged("no kind of record")
@@ -281,11 +332,24 @@ def entries_of(record, due):
     return entries
 
 
-def history_in(data):
-    """The history that the bytes of a log have."""
-    history = History()
-    for record in records(data, b"WPLG")[0]:
-        for entry in entries_of(record, len(history) + 1):
+def behind_base(found, version):
+    """The base that the records of a log begin with, what it carries, and the other records."""
+    if version == 1 or not found:
+        return 0, {}, found
+    return *base_of(found[0]), found[1:]
+
+
+def history_in(data, place=0, versions=()):
+    """The history that the bytes of a log have from the place on, over tables with these versions."""
+    found, version = log_records(data, place)
+    base, carried, found = behind_base(found, version)
+    store = {}
+    for key, number, value in versions:
+        if number <= base and number not in carried:
+            store.setdefault(key, value)
+    history = History((), base, {key: value for key, value in store.items() if value is not None}, carried)
+    for record in found:
+        for entry in entries_of(record, len(history) + 1, version):
             fault = history.fault(entry)
             if fault:
                 raise Damaged(f"entry {len(history) + 1}: {fault}")
@@ -316,16 +380,15 @@ def versions_in(table, store, flushed):
 
 
 def edit_in(record, tables, store):
+    """An edit without the base of its log, which it does not say."""
     fields = Fields(record)
-    flushed, count = fields.number(4), fields.number(4)
+    flushed, count, place = fields.number(4), fields.number(4), 0
     if (flushed, count) == (0, 0xFFFFFFFF):
         flushed, place, count = fields.number(8), fields.number(8), fields.number(8)
-        if place:
-            raise Damaged("no log at that place")
     places = [(fields.number(8), fields.number(8)) for _ in range(count)]
     fields.end()
     versions = [version for at, length in places for version in versions_in(tables[at : at + length], store, flushed)]
-    return Edit(flushed, in_order(versions), len(places))
+    return Edit(flushed, in_order(versions), len(places), place=place)
 
 
 def bytes_of(folder, name):
@@ -333,11 +396,22 @@ def bytes_of(folder, name):
     return file.read_bytes() if file.exists() else b""
 
 
+def last_edit(folder):
+    """The last edit of the store in the folder, without the base of its log."""
+    edits, store, _ = records(bytes_of(folder, "wp.manifest"), b"WPMF")
+    return edit_in(edits[-1], bytes_of(folder, "wp.tables"), store) if edits else Edit()
+
+
+def version_in(folder):
+    """The version of the store's log."""
+    return log_records(bytes_of(folder, "wp.log"), last_edit(folder).place)[1]
+
+
 def store_in(folder):
     """The history and the last edit of the store in the folder; new ones where there is none."""
-    history = history_in(bytes_of(folder, "wp.log"))
-    edits, store = records(bytes_of(folder, "wp.manifest"), b"WPMF")
-    edit = edit_in(edits[-1], bytes_of(folder, "wp.tables"), store) if edits else Edit()
+    edit = last_edit(folder)
+    history = history_in(bytes_of(folder, "wp.log"), edit.place, edit.versions)
+    edit = replace(edit, base=history.base)
     fault = uncovered(history, edit)
     if fault:
         raise Damaged(fault)

@@ -6,7 +6,7 @@ from .history import MOST_KEYS, MOST_SNAPSHOTS, Edit, Entry, History, has, with_
 from .texts import Wrong, need
 
 # The replies that say up to which entry the client has seen the history.
-FRESH = {"put", "del", "get", "missing", "snap", "prepare", "commit", "rollback", "told", "heard", "unknown", "flushed", "compacted"}
+FRESH = {"put", "del", "get", "missing", "snap", "prepare", "commit", "rollback", "told", "heard", "unknown", "flushed", "compacted", "renewed"}
 
 
 # ---- clients
@@ -143,10 +143,11 @@ class Evidence:
     opened: int  # so many entries the store was opened with
     history: History
     found: Edit
-    limit: int
+    limits: tuple  # of the log as it was opened, and once it was renewed
     others: dict  # what each other client's dialogue says, by the client
     all: list  # what each client's says
-    flushed: set  # the flushed number that was found, and those of `flushed` replies
+    flushed: set  # the flushed number that was found, and those of `flushed` and `renewed` replies
+    bases: set  # the base that was found, and the numbers of `renewed` replies
     faults: Counter  # how often each form stands in the transcript
 
 
@@ -201,10 +202,10 @@ class Judge:
             return
         form = answer[0]
         if form == "fault log":
-            need(asked(self.client, command), "needed", "the command is not logged")
+            need(asked(self.client, command) or command == ("renew",), "needed", "the command is not logged")
         elif form in ("full", "stopped"):
             self.log_is_closed(command, answer)
-        elif form in ("halted", "fault tables", "nothing", "flushed", "compacted"):
+        elif form in ("halted", "fault tables", "nothing", "flushed", "compacted", "renewed"):
             self.tables_row(command, answer)
         elif command[0] in ("put", "del"):
             self.change_row(command, answer)
@@ -220,13 +221,13 @@ class Judge:
 
     def log_is_closed(self, command, answer):
         needed = len(asked(self.client, command))
-        need(needed, "needed", "the command is not logged")
+        need(needed or answer[0] == "stopped" and command == ("renew",), "needed", "the command is not logged")
         self.fresh(answer[1])
         if answer[0] == "stopped":
             need(answer[1] == len(self.evidence.history), "stopped", "later entries are published")
-            need(self.evidence.faults["fault log"], "stopped", "the log did not fail")
+            need(self.evidence.faults["fault log"] or self.evidence.faults["stopped by tables"], "stopped", "the log did not fail")
         else:
-            need(answer[2] == self.evidence.limit, "full", f"the limit is {self.evidence.limit}")
+            need(answer[2] in self.evidence.limits, "full", f"the limits are {self.evidence.limits}")
             need(answer[1] + needed > answer[2], "full", f"{needed} more would be within the limit")
 
     def change_row(self, command, answer):
@@ -319,16 +320,21 @@ class Judge:
     def tables_row(self, command, answer):
         history, flushed = self.evidence.history, self.evidence.flushed
         kind, form = command[0], answer[0]
-        need(kind in ("flush", "compact"), "row", "the command changes no table")
+        need(kind in ("flush", "compact", "renew"), "row", "the command changes no table")
         if form == "halted":
             need(answer[1] in flushed, "halted", f"{answer[1]} was never the flushed number")
             need(self.evidence.faults["fault tables"], "halted", "the tables did not fail")
         elif form == "fault tables" and kind == "flush":
             need(history.count(max(flushed), len(history)), "failed", "nothing was to be flushed")
+        elif form == "fault tables" and kind == "renew":
+            need(len(history) > max(self.evidence.bases), "failed", "nothing was to be renewed")
         elif form == "fault tables":
-            need(self.evidence.found.tables + self.evidence.faults["flushed"] > 1, "failed", "there were never two tables")
+            flushes = self.evidence.faults["flushed"] + self.evidence.faults["renewed"]
+            need(self.evidence.found.tables + flushes > 1, "failed", "there were never two tables")
         elif form == "nothing" and kind == "flush":
             need(any(not history.count(f, self.last) for f in flushed), "nothing", "versions were to be flushed")
+        elif form == "nothing" and kind == "renew":
+            need(any(self.last <= base for base in self.evidence.bases), "nothing", "there was something to be renewed")
         elif form == "nothing":
             merged = any(other.compacted for other in self.others())
             need(self.tables < 2 or merged, "nothing", f"there were {self.tables} tables, and nobody else merged them")
@@ -338,7 +344,11 @@ class Judge:
             need(answer[2] in counts, "flushed", f"{answer[2]} versions are not all up to {answer[1]} from a flushed number on")
         elif form == "compacted" and kind == "compact":
             self.fresh(answer[1])
-            need(answer[2] <= history.count(0, answer[1]), "compacted", f"there are fewer versions up to {answer[1]}")
+            need(answer[2] <= history.most_versions(answer[1]), "compacted", f"there are fewer versions up to {answer[1]}")
+        elif form == "renewed" and kind == "renew":
+            self.fresh(answer[1])
+            undecided = len(history.undecided(answer[1]))
+            need(answer[2] == undecided, "renewed", f"{undecided} prepares are undecided after {answer[1]} entries")
         else:
             self.none(command, answer)
 

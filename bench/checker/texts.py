@@ -63,6 +63,7 @@ FORMS = [
     ("full", rf"full {NUMBER} {NUMBER}"),
     ("flushed", rf"flushed @{NUMBER} {NUMBER}"),
     ("compacted", rf"compacted @{NUMBER} {NUMBER}"),
+    ("renewed", rf"renewed @{NUMBER} {NUMBER}"),
 ]
 PATTERNS = [(form, re.compile(pattern)) for form, pattern in FORMS]
 # The forms whose groups have a word first.
@@ -103,6 +104,31 @@ def entry_in(line, n):
     return entry
 
 
+def opening_in(lines):
+    """The history at its base, which the first lines tell, and the lines of the entries behind it."""
+    base = re.fullmatch(f"base {NUMBER}", lines[0]) if lines else None
+    if not base:
+        return History(), lines
+    b, store, carried, count = int(base[1]), {}, {}, 1
+    need(b > 0, "text", "the base 0 has no line")
+    for line in lines[1:]:
+        has = re.fullmatch(f"has {WORD} {WORD}", line)
+        if not has:
+            break
+        need(not carried and has[1] > max(store, default=""), "text", f"`{line}` is out of its order")
+        store[has[1]] = has[2]
+        count += 1
+    for line in lines[count:]:
+        number = line.split(" ")[0]
+        if not number.isdecimal() or int(number) > b:
+            break
+        entry = entry_in(line, int(number))
+        need(entry.kind == "prepare" and int(number) > max(carried, default=0), "text", f"`{line}` is not carried")
+        carried[int(number)] = entry
+        count += 1
+    return History((), b, store, carried), lines[count:]
+
+
 def text_in(text):
     """A transcript read line by line. Its history is legal."""
     need(text.endswith("\n"), "text", "the last line has no end")
@@ -117,8 +143,8 @@ def text_in(text):
             need(parts, "text", f"`{line}` comes before the first client")
             parts[-1][1].append(line)
     need(len(lines) > start + 1, "text", "the end is missing")
-    history = History()
-    for n, line in enumerate(lines[start + 1 : -1], 1):
+    history, rest = opening_in(lines[start + 1 : -1])
+    for n, line in enumerate(rest, len(history) + 1):
         entry = entry_in(line, n)
         fault = history.fault(entry)
         need(fault is None, "legal", f"`{line}`: {fault}")

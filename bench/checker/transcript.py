@@ -8,7 +8,9 @@ from .history import Edit, History, uncovered
 from .session import Evidence, check_session, known_by
 from .texts import need, reply_in, script_in, text_in
 
-MOST_NUMBER = 4294967295
+MOST_NUMBER = 70368744177663
+# Of a log in each version of the format.
+LAST_NUMBERS = {1: 4294967295, 2: 2**56 - 1}
 
 
 def check_pairing(history, found, answers):
@@ -25,16 +27,19 @@ def check_faults(faults, status):
 
 
 def check_left(history, flushed, found, left, faults, answers, failed):
-    """What the devices have afterwards: the history and the last edit, or one record or edit more that failed."""
+    """What the devices have afterwards: from the base on that the edit names the history, and the last edit; or one record or edit
+    more that failed."""
     stored, edit = left
-    begins = stored.entries[: len(history)] == history.entries
-    more = stored.entries[len(history) :]
-    need(begins, "stored", "the log has another history")
+    renewed = [answer[1] for answer in answers if answer[0] == "renewed"]
+    bases = {max([found.base, *renewed])} | ({len(history)} if faults["stopped by tables"] else set())
+    need(edit.base in bases, "stored", f"the log begins behind {edit.base}")
+    need(stored.begins_with(history.cut(edit.base)), "stored", "the log has another history")
+    more = stored.entries[len(history) - edit.base :]
     need(not more or faults["fault log"] and is_asked(history, more, failed), "stored", f"the log has {len(more)} entries more")
     if faults["fault tables"]:
         return
     need(edit.flushed == flushed, "edit", f"the manifest has {edit.flushed} as the flushed number in place of {flushed}")
-    installed = any(answer[0] in ("flushed", "compacted") for answer in answers)
+    installed = any(answer[0] in ("flushed", "compacted", "renewed") for answer in answers)
     need(installed or edit == found, "edit", "the manifest has an edit that nobody was answered")
     fault = uncovered(history, edit)
     need(fault is None, "edit", str(fault))
@@ -60,29 +65,33 @@ def joined(script, text):
     return script
 
 
-def check(script, transcript, limit=MOST_NUMBER, found=None, left=None, status=None):
-    """Raises the first rule that the transcript breaks. `found` and `left` are what store_in gives, or None."""
+def check(script, transcript, limit=MOST_NUMBER, found=None, left=None, status=None, version=2):
+    """Raises the first rule that the transcript breaks. `found` and `left` are what store_in gives, or None; the version is that of
+    the log as it was found."""
     text = text_in(transcript)
     parts = joined(script_in(script), text)
     history = text.history
     need(text.end == (len(history), len(history.undecided())), "end", f"there are {len(history)} entries, and {len(history.undecided())} undecided")
     opened, edit = found or (History(), Edit())
-    need(history.entries[: len(opened)] == opened.entries, "begins", "the history does not begin with the one that was found")
+    need(history.begins_with(opened), "begins", "the history does not begin with the one that was found")
     answers = [answer for part in parts for answer in part.answers]
     faults = Counter(answer[0] for answer in answers)
+    faults["stopped by tables"] = sum(command == ("renew",) and answer == ("fault tables",) for part in parts for command, answer in zip(part.commands, part.answers))
     check_faults(faults, status)
-    flushed = {edit.flushed, *(answer[1] for answer in answers if answer[0] == "flushed")}
+    flushed = {edit.flushed, *(answer[1] for answer in answers if answer[0] in ("flushed", "renewed"))}
+    bases = {edit.base, *(answer[1] for answer in answers if answer[0] == "renewed")}
+    limits = (min(limit, LAST_NUMBERS[version]), limit)
     known = {part.client: known_by(part) for part in parts}
     failed = []
     for part in parts:
         others = {client: it for client, it in known.items() if client != part.client}
-        failed += check_session(Evidence(len(opened), history, edit, limit, others, list(known.values()), flushed, faults), part, opened)
+        failed += check_session(Evidence(len(opened), history, edit, limits, others, list(known.values()), flushed, bases, faults), part, opened)
     check_pairing(history, opened, answers)
     last = check_flushes(history, edit, answers)
     check_board(parts, len(opened))
     for part in parts:
         check_locks(history, part)
-    alone = check_alone(parts[0], opened, edit, limit) if len(parts) == 1 else None
+    alone = check_alone(parts[0], opened, edit, limits) if len(parts) == 1 else None
     need(alone is None or alone.history.entries == history.entries, "due", "the replies leave another history")
     if left is not None:
         check_left(history, last, edit, left, faults, answers, failed)
