@@ -16,14 +16,14 @@ use Rattle.wp_gatelog.specs.Left.{IsLeftAtRestAt, RestsAsSpelledAt}
 use Rattle.wp_gatelog.specs.Log.{BeforeOrAfter, IsAtRest, LogState, Rests, stamp_of}
 use Rattle.wp_gatelog.specs.Moments.{Leaves, LeavesFrom}
 use Rattle.wp_gatelog.specs.Opening.{IsFound, IsOpened, KeepsLogAt, Survives, front_at}
-use Rattle.wp_gatelog.specs.Spelling.{Stamp, IsUnmadeAt, IsUpTo}
+use Rattle.wp_gatelog.specs.Spelling.{Stamp, IsUnmadeAt, IsUpTo, SpellsAt, stamped}
 use Rattle.wp_gatelog.proofs.DurabilityLemmas.{preserves_on}
 use Rattle.wp_gatelog.proofs.OpenLemmas.{before_place, spelled_within}
 use Rattle.wp_wal.specs.declared.error.WalError.{WalError}
 use Rattle.wp_wal.specs.declared.error.WalError.TheVariants.{Memory, DiskFault, BadHead, BadRecord, Illegal}
 use Rattle.wp_wal.specs.Opening.{IsBaseAppended, IsBegunLog, IsOpenedLog, IsUnopenedLog, KeepsWal, LeavesRecords, SurvivesOpening, first_record}
 use Rattle.wp_wal.specs.Reading.{IsJudged, IsRecordCause, next_number}
-use Rattle.wp_wal.specs.Spelling.{MAGIC, NEWEST, AreCut, IsBegun, IsLogAt, new_stamp, uncut}
+use Rattle.wp_wal.specs.Spelling.{MAGIC, NEWEST, AreCut, IsBegun, IsInVersion, IsLogAt, new_stamp, uncut}
 use Rattle.wp_wal.specs.Wal.{LosesNothingAt, StoresCut, wal_state}
 use Rattle.wp_wal.proofs.AppendLemmas.{each_other, loses_nothing}
 use Rattle.wp_wal.proofs.Causes.{refused_records}
@@ -178,12 +178,15 @@ module _ (place asked : ℕ) (old : List Moment) (log : LogState) (records : Lis
       by [] found = tt
       by (m ∷ past) found = λ unmade. ap (λ (s : Stamp). s.id) (found.unmade unmade)
 
-  newest_so : IfKnown old (λ m. IsUnmadeAt place m.reads → log.format ≡ NEWEST)
-  newest_so = by old opened.found
+  version_so : IfKnown old (λ m. IsInVersion log.format place m.reads)
+  version_so = by old opened.found
     where
-      by : (ms : List Moment) → IfKnown ms (λ m. IsFound place MAGIC (new_stamp asked) m.reads (stamp_of log) records) → IfKnown ms (λ m. IsUnmadeAt place m.reads → log.format ≡ NEWEST)
+      by : (ms : List Moment) → IfKnown ms (λ m. IsFound place MAGIC (new_stamp asked) m.reads (stamp_of log) records) → IfKnown ms (λ m. IsInVersion log.format place m.reads)
       by [] found = tt
-      by (m ∷ past) found = λ unmade. ap (λ (s : Stamp). s.format) (found.unmade unmade)
+      by (m ∷ past) found = elim found.spelled [
+        | inl none ↦ inl (none.0, ap (λ (s : Stamp). s.format) (found.unmade none.0))
+        | inr made ↦ inr (log.id, made.0, made.1, made.2)
+      ]
 
   -- ---- it is kept
 
@@ -219,20 +222,32 @@ module _ (place asked : ℕ) (old : List Moment) (log : LogState) (records : Lis
       after : AppendsAfter MAGIC behind.front [] [] first_record log new result
       after = subst (λ (rs : List (List ℕ)). AppendsAfter MAGIC behind.front [] rs first_record log new result) nothing (appends MAGIC behind.front [] records (λ _. behind.rests))
 
-      -- before and after, a crash leaves a log that spells nothing
-      spells_none : (image : List ℕ) → BeforeOrAfter (length behind.front) MAGIC (stamp_of log) [] first_record image → IsLogAt log.id place (uncut []) image
-      spells_none image h =
+      -- without a record it is a log of what was found
+      still_none : (bytes image : List ℕ) → IsFound place MAGIC (new_stamp asked) bytes (stamp_of log) records → SpellsAt place image MAGIC (stamp_of log) [] → Survives place MAGIC (new_stamp asked) bytes image
+      still_none bytes image found spells = elim found.spelled [
+        | inl none ↦ inr (inl (none.0, subst (λ (s : Stamp). SpellsAt place image MAGIC s []) (found.unmade none.0) spells))
+        | inr made ↦ inr (inr (stamp_of log, made.0, made.1, made.2, inl (subst (λ (rs : List (List ℕ)). SpellsAt place image MAGIC (stamp_of log) rs) (sym nothing ∙ made.3) spells)))
+      ]
+
+      -- before, a crash leaves that; and then its base record in it
+      image_survives : (bytes image : List ℕ) → IsFound place MAGIC (new_stamp asked) bytes (stamp_of log) records → BeforeOrAfter (length behind.front) MAGIC (stamp_of log) [] first_record image → SurvivesOpening place asked bytes image
+      image_survives bytes image found h =
           let here = subst (λ (n : ℕ). BeforeOrAfter n MAGIC (stamp_of log) [] first_record image) (sym behind.begins) h in
           elim here [
-            | inl before ↦ (log.format, [], opened.readable, before, subst (λ (f : Format). AreCut f place [] (uncut [])) (sym version) (at_start.0, refl))
-            | inr more ↦ (log.format, first_record ∷ [], opened.readable, more, subst (λ (f : Format). AreCut f place (first_record ∷ []) (uncut [])) (sym version) (first_spelled place))
+            | inl before ↦ inl (still_none bytes image found before)
+            | inr more ↦ inr (
+              at_start.0,
+              log.id,
+              subst (λ (x : Format × List (List ℕ)). SpellsAt place bytes MAGIC (stamped x.0 log.id) x.1) (λ i. (version i, nothing i)) found.spelled,
+              (λ unmade. ap (λ (s : Stamp). s.id) (found.unmade unmade)),
+              subst (λ (f : Format). SpellsAt place image MAGIC (stamped f log.id) (first_record ∷ [])) version more,
+            )
           ]
 
-      survives : (m : Moment) → IsLogAt log.id place c m.reads → Passes (Leaves (SurvivesOpening place asked m.reads)) log.moments new.moments
+      survives : (m : Moment) → IsFound place MAGIC (new_stamp asked) m.reads (stamp_of log) records → Passes (Leaves (SurvivesOpening place asked m.reads)) log.moments new.moments
       survives m found =
           let passed = after.any_moment in
-          let nothing_found : IsLogAt log.id place (uncut []) m.reads = subst (λ (d : Cut). IsLogAt log.id place d m.reads) at_start.1 found in
-          (passed.0, passed.1, each_other (BeforeOrAfter (length behind.front) MAGIC (stamp_of log) [] first_record) (SurvivesOpening place asked m.reads) passed.0 (λ image h. inr (log.id, nothing_found, spells_none image h)) passed.2)
+          (passed.0, passed.1, each_other (BeforeOrAfter (length behind.front) MAGIC (stamp_of log) [] first_record) (SurvivesOpening place asked m.reads) passed.0 (λ image h. image_survives m.reads image found h) passed.2)
 
       keeps_records : LosesNothingAt place log.moments new.moments
       keeps_records = loses_nothing log.moments new.moments place behind.front behind.begins after.durable
@@ -274,7 +289,7 @@ module _ (place asked : ℕ) (old : List Moment) (log : LogState) (records : Lis
           placed = at;
           found = found_cut;
           made = made_so;
-          newest = newest_so;
+          version = version_so;
         })
     | inr one ↦
         let there = begun.appended one.0 one.1 in
@@ -289,7 +304,7 @@ module _ (place asked : ℕ) (old : List Moment) (log : LogState) (records : Lis
           placed = at;
           found = subst (λ (n : ℕ). IfKnown old (λ m. IsLogAt n place c m.reads)) (sym id) found_cut;
           made = subst (λ (n : ℕ). IfKnown old (λ m. IsUnmadeAt place m.reads → n ≡ asked)) (sym id) made_so;
-          newest = subst (λ (f : Format). IfKnown old (λ m. IsUnmadeAt place m.reads → f ≡ NEWEST)) (sym format) newest_so;
+          version = subst (λ (f : Format). IfKnown old (λ m. IsInVersion f place m.reads)) (sym format) version_so;
         }
   ]
 
@@ -302,12 +317,12 @@ module _ (place asked : ℕ) (old : List Moment) (log : LogState) (records : Lis
     -- while its base record was appended
     appended_keeps : {T E : Type 0} (new : LogState) (result : Result T E) → log.format ≡ Two → log.count ≡ 0 → Appends first_record log new result → log.faults ≤ new.faults → KeepsWal place asked old new.moments before new.faults
     appended_keeps new result version few appends later = record {
-      survives = by old so_far.survives found_cut;
+      survives = by old so_far.survives opened.found;
       durable = λ stamp rs. preserves_on (LeavesFrom place (HasAcknowledged MAGIC stamp rs)) old log.moments new.moments (keeps.durable stamp rs) (keeps_records version few new result appends stamp rs);
       later = omega (arith, keeps.later, later);
     }
       where
-        by : (ms : List Moment) → IfKnown ms (λ m. Passes (Leaves (SurvivesOpening place asked m.reads)) old log.moments) → IfKnown ms (λ m. IsLogAt log.id place c m.reads) → IfKnown ms (λ m. Passes (Leaves (SurvivesOpening place asked m.reads)) old new.moments)
+        by : (ms : List Moment) → IfKnown ms (λ m. Passes (Leaves (SurvivesOpening place asked m.reads)) old log.moments) → IfKnown ms (λ m. IsFound place MAGIC (new_stamp asked) m.reads (stamp_of log) records) → IfKnown ms (λ m. Passes (Leaves (SurvivesOpening place asked m.reads)) old new.moments)
         by [] passes found = tt
         by (m ∷ past) passes found = passes_on (Leaves (SurvivesOpening place asked m.reads)) old log.moments new.moments passes (survives version few new result appends m found)
 

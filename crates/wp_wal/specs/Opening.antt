@@ -1,5 +1,5 @@
 -- What an opening hands out, why a log is not opened, and what is left of it.
-use Rattle.std.specs.Prelude.{◌≡◌, ◌≢◌, ◌⊎◌, ℕ, ◌≤◌, false, List, [], drop, None, Result, Ok, Err, ⊤}
+use Rattle.std.specs.Prelude.{◌≡◌, ◌≢◌, ◌⊎◌, ℕ, ◌≤◌, false, List, [], ◌∷◌, drop, None, Result, Ok, Err, ⊤}
 use Rattle.wp_cuts.specs.Cut.{Cut}
 use Rattle.wp_outside.specs.Disk.{Moment, IfKnown, Passes, added, after_sync}
 use Rattle.wp_outside.specs.Faults.{Rose}
@@ -19,12 +19,12 @@ use Rattle.wp_gatelog.specs.Opening.{Survives}
 use Rattle.wp_gatelog.specs.Spelling.{IsUnmadeAt, IsUpTo, SpellsAt, stamped}
 use Rattle.wp_wal.specs.declared.error.WalError.{WalError}
 use Rattle.wp_wal.specs.declared.error.WalError.TheVariants.{Memory, DiskFault, BadHead, BadRecord, Illegal}
-use Rattle.wp_wal.specs.Spelling.{MAGIC, NEWEST, IsLogAt, base_of_cut, new_stamp, uncut}
+use Rattle.wp_wal.specs.Spelling.{MAGIC, NEWEST, IsInVersion, IsLogAt, base_of_cut, new_stamp, uncut}
 use Rattle.wp_wal.specs.Reading.{IsBadRecord, IsIllegal, IsJudged}
 use Rattle.wp_wal.specs.Wal.{WalState, LosesNothingAt, StoresCut}
 
--- The log at that place was opened on a disk with these moments. It stores the cut that the disk spelled there, whose entries may come so, under the id in
--- the head, or the one that was asked for where no log was made; that is of the newest version.
+-- The log at that place was opened on a disk with these moments. It stores the cut that the disk spelled there, whose entries may come so, under the id and in
+-- the version of the head; or, where no log was made, under the id that was asked for, in the newest version.
 pub record IsOpenedLog (asked place : ℕ) (old : List Moment) (wal : WalState) (c : Cut) : Type 0 where
   pub stores : StoresCut wal c []
   pub judged : IsJudged c
@@ -33,7 +33,7 @@ pub record IsOpenedLog (asked place : ℕ) (old : List Moment) (wal : WalState) 
   pub placed : wal.segment.place ≡ place
   pub found : IfKnown old (λ m. IsLogAt wal.id place c m.reads)
   pub made : IfKnown old (λ m. IsUnmadeAt place m.reads → wal.id ≡ asked)
-  pub newest : IfKnown old (λ m. IsUnmadeAt place m.reads → wal.format ≡ NEWEST)
+  pub version : IfKnown old (λ m. IsInVersion wal.format place m.reads)
 
 -- ---- refusals
 
@@ -97,12 +97,12 @@ pub record IsBegunLog (old new : LogState) (result : Result (Unit {0}) WalError)
 
 -- ---- what it keeps
 
--- While a log is opened, a crash leaves what was found, or a log of it (`SurvivesThroughAt`); or, where what was found has no records in
--- the second version, a log with the base 0, which carries nothing.
+-- While a log is opened, a crash leaves what was found, or a log of it (`SurvivesThroughAt`); or, where what was found at the front has no
+-- records in the second version, that log with the base 0, which carries nothing. A new one has the id that was asked for.
 abbrev pub SurvivesOpening : ℕ → ℕ → List ℕ → List ℕ → Type 0
 SurvivesOpening place asked found image =
     Survives place MAGIC (new_stamp asked) found image
-    ⊎ ((id : ℕ) × IsLogAt id place (uncut []) found × IsLogAt id place (uncut []) image)
+    ⊎ ((place ≡ 0) × (id : ℕ) × SpellsAt place found MAGIC (stamped Two id) [] × (IsUnmadeAt place found → id ≡ asked) × SpellsAt place image MAGIC (stamped Two id) (first_record ∷ []))
 
 -- What the opening of a log keeps of the disk, whatever it answers.
 pub record KeepsWal (place asked : ℕ) (old new : List Moment) (before now : ℕ) : Type 0 where

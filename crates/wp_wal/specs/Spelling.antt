@@ -7,7 +7,7 @@ use Rattle.wp_fields.specs.declared.format.Format.TheVariants.{One, Two}
 use Rattle.wp_entry.specs.Base.{Base, IsBase, base_bytes}
 use Rattle.wp_entry.specs.Record.{IsRecord, record_bytes}
 use Rattle.wp_gatelog.specs.Durability.{HasAcknowledged}
-use Rattle.wp_gatelog.specs.Spelling.{Stamp, stamped, IsUpTo, SpellsAt}
+use Rattle.wp_gatelog.specs.Spelling.{Gated, Stamp, stamped, HasLog, IsUnmadeAt, IsUpTo, SpellsAt}
 
 -- the first four bytes after the head's gate
 abbrev pub MAGIC : List ℕ
@@ -59,6 +59,12 @@ longer c more = record c { entries = c.entries ++ more }
 abbrev pub IsLogAt : ℕ → ℕ → Cut → List ℕ → Type 0
 IsLogAt id place c bytes =
     (format : Format) × (records : List (List ℕ)) × IsUpTo NEWEST format × SpellsAt place bytes MAGIC (stamped format id) records × AreCut format place records c
+
+-- the head of the log at that place names this version; where no log was made, it is that of a new one
+abbrev pub IsInVersion : Format → ℕ → List ℕ → Type 0
+IsInVersion format place bytes =
+    (IsUnmadeAt place bytes × (format ≡ NEWEST))
+    ⊎ ((id : ℕ) × (head : ℕ) × (gated : List Gated) × HasLog MAGIC (stamped format id) head gated (drop place bytes))
 
 -- they spell the cut, or it and the next entries, whole
 abbrev pub IsLogOrNextAt : ℕ → ℕ → Cut → List Entry → List ℕ → Type 0
