@@ -1,5 +1,5 @@
 -- The manifest and the log, opened one after the other: what is handed out, and each refusal.
-use Rattle.std.proofs.Common.{◌≡◌, ◌≢◌, ℕ, ◌<◌, ◌≤◌, ◌^◌, List, [], inl, inr, sym, ap, ◌∙◌, subst}
+use Rattle.std.proofs.Common.{◌≡◌, ◌≢◌, ℕ, ◌<◌, ◌≤◌, ◌^◌, List, [], sym, ap, ◌∙◌, subst}
 use Rattle.wp_outside.specs.declared.disk.Device.TheVariants as device
 use Rattle.wp_outside.specs.Disk.{Moment, IfKnown}
 use Rattle.wp_cuts.specs.Cut.{Cut, cut_at}
@@ -24,11 +24,10 @@ use Rattle.wp_open.specs.declared.opening.OpenError.TheVariants as open_error
 use Rattle.wp_open.specs.Damage.{IsOther}
 use Rattle.wp_open.specs.Devices.{DevicesLeft}
 use Rattle.wp_open.specs.Parts.{LogsOpened, stored_cut}
-use Rattle.wp_open.specs.Refused.{WasRead, WereRead, of_manifest, of_log, of_place, of_ids, of_edit, IsLogReason, IsManifestReason, IsLogLeft, IsManifestLeft, AreLeft, at_manifest, at_log, at_new_manifest, at_place, at_ids, IsRefusedFrom}
+use Rattle.wp_open.specs.Refused.{WasRead, WereRead, of_manifest, of_log, of_place, of_ids, of_edit, IsLogReason, IsManifestReason, IsLogLeft, IsManifestLeft, IsManifestSeen, AreLeft, at_manifest, at_log, at_new_manifest, at_place, at_ids, IsRefusedFrom}
 use Rattle.wp_open.specs.Tables.{IsStoreCause, LeavesSynced}
 use Rattle.wp_outside.specs.Faults.{Rose}
-use Rattle.wp_open.proofs.OneWay.{unmade_spells}
-use Rattle.wp_open.proofs.Stages.{OpensOrDamaged, edit_left, kept_whatever, made_any, manifest_rests, opened_anew, opened_read, refused_from, seen_only}
+use Rattle.wp_open.proofs.Stages.{OpensOrDamaged, edit_left, kept_whatever, made_any, manifest_rests, opened_anew, opened_read, refused_from}
 
 -- ---- both are open
 
@@ -64,19 +63,11 @@ log_left asked place old new wal c o moments faults kept left = record {
   kept = subst (λ (n : ℕ). KeepsWal place asked old.log new.log old.log_faults n) (sym faults) (subst (λ (ms : List Moment). KeepsWal place asked old.log ms old.log_faults wal.faults) (sym moments) kept);
 }
 
-pub manifest_left : (asked id : ℕ) (old new : List Moment) (state : ManifestState) (o : Opened asked old state) → new ≡ state.log.moments → SurvivesThrough edits.MAGIC (edits.head_stamp id) old state.log.moments → IsManifestLeft id o.edits old new
+pub manifest_left : (asked id : ℕ) (old new : List Moment) (state : ManifestState) (o : Opened asked old state) → new ≡ state.log.moments → SurvivesThrough edits.MAGIC (edits.head_stamp id) old state.log.moments → IsManifestLeft id state.log.id o.edits old new
 manifest_left asked id old new state o moments survives = record {
-  found = known_map (λ m. edits.IsManifestOf state.log.id o.edits m.reads) (λ m. (its : ℕ) × edits.IsManifestOf its o.edits m.reads) (λ m is. (state.log.id, is)) old o.found;
-  rests = inr (subst (λ (ms : List Moment). IsLeftAtRest edits.MAGIC old ms) (sym moments) (manifest_rests asked old state o));
+  found = o.found;
+  rests = subst (λ (ms : List Moment). IsLeftAtRest edits.MAGIC old ms) (sym moments) (manifest_rests asked old state o);
   survives = subst (SurvivesThrough edits.MAGIC (edits.head_stamp id) old) (sym moments) survives;
-}
-
--- one that was not made, and only looked at
-pub seen_left : (id : ℕ) (old new : List Moment) → new ≡ old → IfKnown old (λ m. IsUnmade m.reads) → IsManifestLeft id [] old new
-seen_left id old new same unmade = record {
-  found = known_map (λ m. IsUnmade m.reads) (λ m. (its : ℕ) × edits.IsManifestOf its [] m.reads) (λ m is. (0, unmade_spells 0 m.reads is)) old unmade;
-  rests = inl same;
-  survives = seen_only id old new same;
 }
 
 -- ---- refusals
@@ -87,27 +78,27 @@ module _ (law : OpensOrDamaged) (asked : ℕ) (same_log same_tables : Type 0) (o
   manifest_refused refusal is unopened kept log log_later =
       refused_from law asked same_log same_tables old new why (of_manifest refusal is unopened.cause) (at_manifest refusal is unopened.left kept.survives log tables) kept.durable log_later kept.later tables_later
 
-  pub log_refused : (found : ℕ) (list : List Edit) (place : ℕ) (refusal : WalError) → place ≡ place_of (edits.last_edit list) → WereRead found list old.manifest → IsManifestLeft asked list old.manifest new.manifest → IsLogReason refusal why
+  pub log_refused : (found : ℕ) (list : List Edit) (place : ℕ) (refusal : WalError) → place ≡ place_of (edits.last_edit list) → WereRead found list old.manifest → IsManifestSeen asked found list old.manifest new.manifest → IsLogReason refusal why
       → IsUnopenedLog place old.log new.log old.log_faults new.log_faults refusal → KeepsWal place asked old.log new.log old.log_faults new.log_faults → LosesNoRecord edits.MAGIC old.manifest new.manifest → old.manifest_faults ≤ new.manifest_faults → IsRefusedFrom asked same_log same_tables old new why
   log_refused found list place refusal place_is reads left is unopened kept durable later =
       let there = subst (λ (n : ℕ). IsUnopenedLog n old.log new.log old.log_faults new.log_faults refusal) place_is unopened in
       refused_from law asked same_log same_tables old new why
       (of_log found list refusal reads is there.cause)
-      (at_log list refusal left is there.left (subst (λ (n : ℕ). KeepsWal n asked old.log new.log old.log_faults new.log_faults) place_is kept) tables)
+      (at_log found list refusal left is there.left (subst (λ (n : ℕ). KeepsWal n asked old.log new.log old.log_faults new.log_faults) place_is kept) tables)
       durable kept.later later tables_later
 
-  pub new_refused : (id : ℕ) (c : Cut) (refusal : ManifestError) → IsLogLeft asked id 0 c old new → IsManifestReason refusal why → IsUnopenedManifest old.manifest new.manifest old.manifest_faults new.manifest_faults refusal
+  pub new_refused : (id : ℕ) (c : Cut) (refusal : ManifestError) → IfKnown old.manifest (λ m. IsUnmade m.reads) → IsLogLeft asked id 0 c old new → IsManifestReason refusal why → IsUnopenedManifest old.manifest new.manifest old.manifest_faults new.manifest_faults refusal
       → KeepsLog edits.MAGIC (edits.head_stamp id) old.manifest new.manifest old.manifest_faults new.manifest_faults → IsRefusedFrom asked same_log same_tables old new why
-  new_refused id c refusal log is unopened kept =
-      refused_from law asked same_log same_tables old new why (of_manifest refusal is unopened.cause) (at_new_manifest id c refusal log is unopened.left kept.survives tables) kept.durable log.kept.later kept.later tables_later
+  new_refused id c refusal unmade log is unopened kept =
+      refused_from law asked same_log same_tables old new why (of_manifest refusal is unopened.cause) (at_new_manifest id c refusal unmade log is unopened.left kept.survives tables) kept.durable log.kept.later kept.later tables_later
 
-  pub place_refused : (id : ℕ) (c : Cut) (list : List Edit) → IfKnown old.manifest (λ m. ⊥) → AreLeft asked id 0 c list old new → place_of (edits.last_edit list) ≢ 0 → why ≡ open_error.Contents (bad.BadHead device.Log)
+  pub place_refused : (id its : ℕ) (c : Cut) (list : List Edit) → IfKnown old.manifest (λ m. ⊥) → AreLeft asked id its 0 c list old new → place_of (edits.last_edit list) ≢ 0 → why ≡ open_error.Contents (bad.BadHead device.Log)
       → LosesNoRecord edits.MAGIC old.manifest new.manifest → old.manifest_faults ≤ new.manifest_faults → IsRefusedFrom asked same_log same_tables old new why
-  place_refused id c list none left other is durable later =
+  place_refused id its c list none left other is durable later =
       let log = left.log in
-      refused_from law asked same_log same_tables old new why (of_place none is) (at_place id c list left other is tables) durable log.kept.later later tables_later
+      refused_from law asked same_log same_tables old new why (of_place none is) (at_place id its c list left (none, other) is tables) durable log.kept.later later tables_later
 
-  pub ids_refused : (id found : ℕ) (c : Cut) (list : List Edit) → WereRead found list old.manifest → WasRead asked id (place_of (edits.last_edit list)) c old.log → found ≢ id → IfKnown old.manifest (λ m. IsOther id found m.reads) → AreLeft asked id (place_of (edits.last_edit list)) c list old new
+  pub ids_refused : (id found : ℕ) (c : Cut) (list : List Edit) → WereRead found list old.manifest → WasRead asked id (place_of (edits.last_edit list)) c old.log → found ≢ id → IfKnown old.manifest (λ m. IsOther id found m.reads) → AreLeft asked id found (place_of (edits.last_edit list)) c list old new
       → why ≡ open_error.Contents (bad.Stranger id found) → LosesNoRecord edits.MAGIC old.manifest new.manifest → old.manifest_faults ≤ new.manifest_faults → IsRefusedFrom asked same_log same_tables old new why
   ids_refused id found c list reads finds differ other left is durable later =
       let log = left.log in
@@ -115,7 +106,7 @@ module _ (law : OpensOrDamaged) (asked : ℕ) (same_log same_tables : Type 0) (o
 
 -- what the last edit says is refused
 pub edit_refused : OpensOrDamaged → (asked : ℕ) (same_log same_tables : Type 0) (old new : DevicesLeft) (why : OpenError) (id : ℕ) (c : Cut) (list : List Edit) → WereRead id list old.manifest → WasRead asked id (place_of (edits.last_edit list)) c old.log
-    → AreLeft asked id (place_of (edits.last_edit list)) c list old new → IsStoreCause id c (edits.last_edit list) (Rose old.tables_faults new.tables_faults) old.tables why → LeavesSynced same_tables old.tables new.tables why
+    → AreLeft asked id id (place_of (edits.last_edit list)) c list old new → IsStoreCause id c (edits.last_edit list) (Rose old.tables_faults new.tables_faults) old.tables why → LeavesSynced same_tables old.tables new.tables why
     → LosesNoRecord edits.MAGIC old.manifest new.manifest → old.manifest_faults ≤ new.manifest_faults → old.tables_faults ≤ new.tables_faults → IsRefusedFrom asked same_log same_tables old new why
 edit_refused law asked same_log same_tables old new why id c list reads finds left cause tables durable later tables_later =
     let log = left.log in
@@ -131,7 +122,7 @@ logs_read asked old wal c state l fits =
     subst (λ (e : Edit). WasRead asked wal.id (place_of e) c old.log) l.manifest.stores.last (opened_read asked (place_of state.edit) old.log wal c fits l.log)
 
 pub logs_left : (asked : ℕ) (old new : DevicesLeft) (wal : WalState) (c : Cut) (state : ManifestState) (l : LogsOpened asked old wal c state) → new.log ≡ wal.moments → new.log_faults ≡ wal.faults → new.manifest ≡ state.log.moments → IfKnown wal.moments (LeavesCut wal.id wal.segment.place c)
-    → AreLeft asked wal.id (place_of (edits.last_edit l.manifest.edits)) c l.manifest.edits old new
+    → AreLeft asked wal.id state.log.id (place_of (edits.last_edit l.manifest.edits)) c l.manifest.edits old new
 logs_left asked old new wal c state l moments faults manifest left = record {
   log = subst (λ (e : Edit). IsLogLeft asked wal.id (place_of e) c old new) l.manifest.stores.last (log_left asked (place_of state.edit) old new wal c l.log moments faults l.log_kept left);
   manifest = manifest_left wal.id wal.id old.manifest new.manifest state l.manifest manifest l.manifest_kept.survives;

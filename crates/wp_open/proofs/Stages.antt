@@ -214,7 +214,7 @@ of_the_tables id edit rose moments (open_error.Contents (bad.BadTable place why)
 of_the_tables id edit rose moments (open_error.Contents other) cause = absurd cause
 
 -- after a log and a manifest that are right
-pub edit_left : (asked : ℕ) (same_log same_tables rose : Type 0) (old new : DevicesLeft) (id : ℕ) (c : Cut) (list : List Edit) (why : OpenError) → AreLeft asked id (place_of (edits.last_edit list)) c list old new → IsStoreCause id c (edits.last_edit list) rose old.tables why → LeavesSynced same_tables old.tables new.tables why
+pub edit_left : (asked : ℕ) (same_log same_tables rose : Type 0) (old new : DevicesLeft) (id : ℕ) (c : Cut) (list : List Edit) (why : OpenError) → AreLeft asked id id (place_of (edits.last_edit list)) c list old new → IsStoreCause id c (edits.last_edit list) rose old.tables why → LeavesSynced same_tables old.tables new.tables why
     → IsLeft asked same_log same_tables old new why
 edit_left asked same_log same_tables rose old new id c list why left (ahead lt named) tables = at_edit id c list left (inl (lt, named)) (subst (LeavesSynced same_tables old.tables new.tables) named tables)
 edit_left asked same_log same_tables rose old new id c list why left (behind low lt named) tables = at_edit id c list left (inr (low, lt, named)) (subst (LeavesSynced same_tables old.tables new.tables) named tables)

@@ -1,5 +1,5 @@
 -- Why a store is not opened, and what that leaves of its devices.
-use Rattle.std.specs.Prelude.{◌≡◌, ◌≢◌, ◌⊎◌, ℕ, ◌<◌, ◌≤◌, ◌^◌, List}
+use Rattle.std.specs.Prelude.{◌≡◌, ◌≢◌, ◌⊎◌, ℕ, ◌<◌, ◌≤◌, ◌^◌, List, []}
 use Rattle.wp_model.specs.declared.entry.Entry.{Entry}
 use Rattle.wp_outside.specs.declared.disk.Device.TheVariants as device
 use Rattle.wp_outside.specs.Disk.{Moment, IfKnown, Each}
@@ -8,6 +8,7 @@ use Rattle.wp_cuts.specs.Cut.{Cut}
 use Rattle.wp_gatelog.specs.Durability.{LosesNoRecord}
 use Rattle.wp_gatelog.specs.Left.{IsLeftAtRest}
 use Rattle.wp_gatelog.specs.Opening.{SurvivesThrough}
+use Rattle.wp_gatelog.specs.Spelling.{IsUnmade}
 use Rattle.wp_wal.specs.declared.error.WalError.{WalError}
 use Rattle.wp_wal.specs.declared.error.WalError.TheVariants as wal_error
 use Rattle.wp_wal.specs.Opening.{IsLogCause, KeepsWal, LeavesRecords}
@@ -101,16 +102,22 @@ pub record IsLogLeft (asked id place : ℕ) (c : Cut) (old new : DevicesLeft) : 
   pub left : IfKnown new.log (LeavesCut id place c)
   pub kept : KeepsWal place asked old.log new.log old.log_faults new.log_faults
 
--- a manifest that was opened, and let go of: it is as it was, or at rest with the edits that it spelled; one that is new has this id
-pub record IsManifestLeft (id : ℕ) (edits : List Edit) (old new : List Moment) : Type 0 where
-  pub found : IfKnown old (λ m. (its : ℕ) × IsManifestOf its edits m.reads)
-  pub rests : (new ≡ old) ⊎ IsLeftAtRest MAGIC old new
+-- a manifest that was opened, and let go of: it is at rest with the edits that it spelled under its id; one that is new has this id
+pub record IsManifestLeft (id its : ℕ) (edits : List Edit) (old new : List Moment) : Type 0 where
+  pub found : IfKnown old (λ m. IsManifestOf its edits m.reads)
+  pub rests : IsLeftAtRest MAGIC old new
   pub survives : SurvivesThrough MAGIC (head_stamp id) old new
 
+-- before the log is called a manifest that was made is opened so, and one that was not made is looked at, and is as it was
+abbrev pub IsManifestSeen : ℕ → ℕ → List Edit → List Moment → List Moment → Type 0
+IsManifestSeen id its edits old new =
+    (IfKnown old (λ m. IsUnmade m.reads → ⊥) × IsManifestLeft id its edits old new)
+    ⊎ ((edits ≡ []) × IfKnown old (λ m. IsUnmade m.reads) × (new ≡ old))
+
 -- both of them
-pub record AreLeft (asked id place : ℕ) (c : Cut) (edits : List Edit) (old new : DevicesLeft) : Type 0 where
+pub record AreLeft (asked id its place : ℕ) (c : Cut) (edits : List Edit) (old new : DevicesLeft) : Type 0 where
   pub log : IsLogLeft asked id place c old new
-  pub manifest : IsManifestLeft id edits old.manifest new.manifest
+  pub manifest : IsManifestLeft id its edits old.manifest new.manifest
 
 -- the base is ahead of what was flushed, or the log is behind it
 abbrev pub IsApart : Cut → Edit → OpenError → Type 0
@@ -122,12 +129,12 @@ IsApart c edit why =
 -- What a new log or a new manifest would be is said with it.
 pub data IsLeft (asked : ℕ) (same_log same_tables : Type 0) (old new : DevicesLeft) (why : OpenError) : Type 0 where
   at_manifest : (refusal : ManifestError) → IsManifestReason refusal why → LeavesEdits old.manifest new.manifest refusal → SurvivesThrough MAGIC (head_stamp asked) old.manifest new.manifest → same_log → same_tables → IsLeft asked same_log same_tables old new why
-  at_log : (edits : List Edit) (refusal : WalError) → IsManifestLeft asked edits old.manifest new.manifest → IsLogReason refusal why → LeavesRecords (place_of (last_edit edits)) old.log new.log refusal → KeepsWal (place_of (last_edit edits)) asked old.log new.log old.log_faults new.log_faults → same_tables → IsLeft asked same_log same_tables old new why
-  at_new_manifest : (id : ℕ) (c : Cut) (refusal : ManifestError) → IsLogLeft asked id 0 c old new → IsManifestReason refusal why → LeavesEdits old.manifest new.manifest refusal → SurvivesThrough MAGIC (head_stamp id) old.manifest new.manifest → same_tables → IsLeft asked same_log same_tables old new why
-  at_place : (id : ℕ) (c : Cut) (edits : List Edit) → AreLeft asked id 0 c edits old new → place_of (last_edit edits) ≢ 0 → why ≡ open_error.Contents (bad.BadHead device.Log) → same_tables → IsLeft asked same_log same_tables old new why
-  at_ids : (id found : ℕ) (c : Cut) (edits : List Edit) → AreLeft asked id (place_of (last_edit edits)) c edits old new → found ≢ id → why ≡ open_error.Contents (bad.Stranger id found) → same_tables → IsLeft asked same_log same_tables old new why
-  at_edit : (id : ℕ) (c : Cut) (edits : List Edit) → AreLeft asked id (place_of (last_edit edits)) c edits old new → IsApart c (last_edit edits) why → same_tables → IsLeft asked same_log same_tables old new why
-  at_tables : (id : ℕ) (c : Cut) (edits : List Edit) → AreLeft asked id (place_of (last_edit edits)) c edits old new → IsWithin c (last_edit edits) → IsOfTables id why → LeavesSynced same_tables old.tables new.tables why → IsLeft asked same_log same_tables old new why
+  at_log : (its : ℕ) (edits : List Edit) (refusal : WalError) → IsManifestSeen asked its edits old.manifest new.manifest → IsLogReason refusal why → LeavesRecords (place_of (last_edit edits)) old.log new.log refusal → KeepsWal (place_of (last_edit edits)) asked old.log new.log old.log_faults new.log_faults → same_tables → IsLeft asked same_log same_tables old new why
+  at_new_manifest : (id : ℕ) (c : Cut) (refusal : ManifestError) → IfKnown old.manifest (λ m. IsUnmade m.reads) → IsLogLeft asked id 0 c old new → IsManifestReason refusal why → LeavesEdits old.manifest new.manifest refusal → SurvivesThrough MAGIC (head_stamp id) old.manifest new.manifest → same_tables → IsLeft asked same_log same_tables old new why
+  at_place : (id its : ℕ) (c : Cut) (edits : List Edit) → AreLeft asked id its 0 c edits old new → IfKnown old.manifest (λ m. ⊥) × (place_of (last_edit edits) ≢ 0) → why ≡ open_error.Contents (bad.BadHead device.Log) → same_tables → IsLeft asked same_log same_tables old new why
+  at_ids : (id found : ℕ) (c : Cut) (edits : List Edit) → AreLeft asked id found (place_of (last_edit edits)) c edits old new → found ≢ id → why ≡ open_error.Contents (bad.Stranger id found) → same_tables → IsLeft asked same_log same_tables old new why
+  at_edit : (id : ℕ) (c : Cut) (edits : List Edit) → AreLeft asked id id (place_of (last_edit edits)) c edits old new → IsApart c (last_edit edits) why → same_tables → IsLeft asked same_log same_tables old new why
+  at_tables : (id : ℕ) (c : Cut) (edits : List Edit) → AreLeft asked id id (place_of (last_edit edits)) c edits old new → IsWithin c (last_edit edits) → IsOfTables id why → LeavesSynced same_tables old.tables new.tables why → IsLeft asked same_log same_tables old new why
 
 -- ---- the whole
 

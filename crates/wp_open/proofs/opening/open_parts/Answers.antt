@@ -6,11 +6,12 @@ use Rattle.wp_cuts.specs.Cut.{Cut}
 use Rattle.wp_ledger.specs.Outline.{cut_in}
 use Rattle.wp_wal.specs.Opening.{IsOpenedLog}
 use Rattle.wp_manifest.specs.Edit.{Edit, place_of}
+use Rattle.wp_manifest.specs.Spelling.{last_edit}
 use Rattle.wp_table.specs.File.{HasTables}
 use Rattle.wp_table.specs.Table.{IsTable}
 use Rattle.wp_open.specs.Devices.{DevicesLeft, devices_of}
 use Rattle.wp_open.specs.Parts.{IsStoreOf}
-use Rattle.wp_open.specs.Refused.{WereRead}
+use Rattle.wp_open.specs.Refused.{AreLeft, WereRead}
 use Rattle.wp_open.specs.Tables.{IsStoreCause}
 use Rattle.wp_open.proofs.BothOpen.{edit_refused, ids_refused, logs_left, logs_read, other_id, same_stored}
 use Rattle.wp_open.proofs.Opened.{opens_to}
@@ -104,7 +105,7 @@ returns-in-Err-open_store-clause-refused g c =
     } in
     edit_refused c.a_store_is_opened_in_one_way.ensures.opened_or_damaged c.args.id _ _ old new c.in-Err-open_store.why wal.id cut l.manifest.edits
     (subst (λ (n : ℕ). WereRead n l.manifest.edits old.manifest) one_id (edits_read wal.id _ manifest l.manifest)) (logs_read c.args.id _ wal cut manifest l (omega (arith, c.id.type_inv, c.id.ensures)))
-    (logs_left c.args.id old new wal cut manifest l log.moments log.faults back.moments (log.left cut [] l.log.stores l.log.running))
+    (subst (λ (n : ℕ). AreLeft c.args.id wal.id n (place_of (last_edit l.manifest.edits)) cut l.manifest.edits old new) one_id (logs_left c.args.id old new wal cut manifest l log.moments log.faults back.moments (log.left cut [] l.log.stores l.log.running)))
     (subst (λ (x : Edit). IsStoreCause wal.id cut x rose tables c.in-Err-open_store.why) (c.edit.ensures ∙ l.manifest.stores.last) cause)
     (rw c.in-Ok.ensures.tables at c.in-Err-open_store.ensures.left)
     (rw back.moments l.manifest_kept.durable) (rw back.faults l.manifest_kept.later) (rw c.in-Ok.ensures.tables at c.open_store.ensures.later)
