@@ -7,9 +7,10 @@ use Rattle.wp_outside.specs.Disk.{images}
 use Rattle.wp_gatelog.proofs.SurvivalLemmas.{rest_spells}
 use Rattle.wp_manifest.specs.Spelling.{MAGIC, IsManifestOf, head_stamp}
 use Rattle.wp_manifest.proofs.EditLemmas.{last-push}
+use Rattle.wp_open.specs.Opens.{installed_of}
 use Rattle.wp_table.specs.File.{HasTables}
 use Rattle.wp_core.specs.Images.{MayName}
-use Rattle.wp_parts.specs.Edits.{EditsState, failed_edit, installed_at, IsNamed, IsEdits}
+use Rattle.wp_parts.specs.Edits.{EditsState, failed_edit, IsNamed, IsEdits}
 use Rattle.wp_parts.proofs.LogLemmas.{known_image}
 
 -- ---- as it is opened
@@ -20,7 +21,7 @@ none_asked false parts = refl
 
 -- ---- what a crash leaves
 
-module _ (s : EditsState) (k : IsEdits s) (base : ℕ) (last_is : s.table.last ≡ installed_at base s.set.manifest.edit s.parts) where
+module _ (s : EditsState) (k : IsEdits s) (base : ℕ) (last_is : s.table.last ≡ installed_of base s.set.manifest.edit s.parts) where
   last_there : (tables : List ℕ) → images s.set.moments tables → HasTables s.set.manifest.log.id s.set.manifest.edit.flushed tables s.set.manifest.edit.tables s.parts
   last_there tables at = known_image _ s.set.moments tables at k.stores.left
 
@@ -33,7 +34,7 @@ module _ (s : EditsState) (k : IsEdits s) (base : ℕ) (last_is : s.table.last �
 
   named_next : (image : List ℕ) → s.set.manifest.log.closed ≡ true → IsManifestOf s.set.manifest.log.id (k.edits ++ k.next ∷ []) image → (edit : InstalledEdit) × IsNamed s image edit × MayName s.table edit
   named_next image closed spelled =
-      (installed_at k.next_base k.next k.next_parts, record { edits = k.edits ++ k.next ∷ []; spelled = spelled; base = k.next_base; parts = k.next_parts; is = rw (last-push k.edits k.next) refl; there = rw (last-push k.edits k.next) next_there }, inr (k.failed closed))
+      (installed_of k.next_base k.next k.next_parts, record { edits = k.edits ++ k.next ∷ []; spelled = spelled; base = k.next_base; parts = k.next_parts; is = rw (last-push k.edits k.next) refl; there = rw (last-push k.edits k.next) next_there }, inr (k.failed closed))
 
   pub manifest_tells : (image : List ℕ) → images s.set.manifest.log.moments image → (edit : InstalledEdit) × IsNamed s image edit × MayName s.table edit
   manifest_tells image at = elim (cases_Bool s.set.manifest.log.closed) [

@@ -18,6 +18,7 @@ use Rattle.wp_manifest.specs.Spelling.{MAGIC, last_edit, IsManifestOrNext}
 use Rattle.wp_merge.specs.Merge.{first_at, joined, sorted_of}
 use Rattle.wp_merge.proofs.Merged.{or_none}
 use Rattle.wp_merge.proofs.Sorted.{at_sorted, in_order_sorted, in_order_same}
+use Rattle.wp_open.specs.Opens.{installed_of}
 use Rattle.wp_open.proofs.Later.{at_append}
 use Rattle.wp_store.specs.Store.{with_newest}
 use Rattle.wp_table.specs.Table.{is_flushed}
@@ -32,7 +33,7 @@ use Rattle.wp_tableset.proofs.SetLemmas.{Grows, left_of, none_left, passes_grown
 use Rattle.wp_core.specs.Effects.{with_failed}
 use Rattle.wp_core.specs.Tables.{Installed}
 use Rattle.wp_parts.specs.declared.edits.FailedInstall.{FailedInstall}
-use Rattle.wp_parts.specs.Edits.{EditsState, edits_state, installed_at, asked_for, failed_edit, IsEdits}
+use Rattle.wp_parts.specs.Edits.{EditsState, edits_state, asked_for, failed_edit, IsEdits}
 use Rattle.wp_parts.specs.Installs.{with_table, in_one_table, in_segment, HadCause, HasHalted, IsRefused, SurvivesInstall}
 use Rattle.wp_parts.specs.Renewal.{SegmentState, IsBehind, IsWritten, MatchWritten}
 use Rattle.wp_parts.proofs.FlushedVersions.{both_flushed, later_flushed}
@@ -63,14 +64,14 @@ one_counted : (versions : List Version) → length (compacted_parts versions) �
 one_counted [] = refl
 one_counted (v ∷ versions) = omega arith
 
-pub is_with_table : (base : ℕ) (edit next : Edit) (versions : List Version) (parts : List (List Version)) → place_of next ≡ place_of edit → installed_at base next (versions ∷ parts) ≡ with_table versions next.flushed (installed_at base edit parts)
+pub is_with_table : (base : ℕ) (edit next : Edit) (versions : List Version) (parts : List (List Version)) → place_of next ≡ place_of edit → installed_of base next (versions ∷ parts) ≡ with_table versions next.flushed (installed_of base edit parts)
 is_with_table base edit next versions parts here = λ i. record { segment = record { place = here i; base = base }; flushed = next.flushed; versions = front_sorted versions parts i; tables = suc (length parts) }
 
-pub is_in_one_table : (base : ℕ) (edit next : Edit) (versions : List Version) (parts : List (List Version)) → AreInOrder versions → next.flushed ≡ edit.flushed → place_of next ≡ place_of edit → installed_at base next (compacted_parts versions) ≡ in_one_table versions (installed_at base edit parts)
+pub is_in_one_table : (base : ℕ) (edit next : Edit) (versions : List Version) (parts : List (List Version)) → AreInOrder versions → next.flushed ≡ edit.flushed → place_of next ≡ place_of edit → installed_of base next (compacted_parts versions) ≡ in_one_table versions (installed_of base edit parts)
 is_in_one_table base edit next versions parts ordered same here = λ i. record { segment = record { place = here i; base = base }; flushed = same i; versions = one_sorted versions ordered i; tables = one_counted versions i }
 
 -- the log is in another segment, with one table more where there is something to have in it
-pub is_in_segment : (base : ℕ) (edit next : Edit) (versions : List Version) (segment : Segment) (parts : List (List Version)) → place_of next ≡ segment.place → in_segment versions next.flushed segment (installed_at base edit parts) ≡ installed_at segment.base next (compacted_parts versions ++ parts)
+pub is_in_segment : (base : ℕ) (edit next : Edit) (versions : List Version) (segment : Segment) (parts : List (List Version)) → place_of next ≡ segment.place → in_segment versions next.flushed segment (installed_of base edit parts) ≡ installed_of segment.base next (compacted_parts versions ++ parts)
 is_in_segment base edit next [] segment parts here = λ i. record { segment = record { place = sym here i; base = segment.base }; flushed = next.flushed; versions = sorted_of (joined parts); tables = length parts }
 is_in_segment base edit next (v ∷ versions) segment parts here =
     λ i. record { segment = record { place = sym here i; base = segment.base }; flushed = next.flushed; versions = sym (front_sorted (v ∷ versions) parts) i; tables = suc (length parts) }
@@ -128,7 +129,7 @@ module _ (set first : TableSetState) (base : ℕ) (parts : List (List Version)) 
 
   -- ---- while it is being installed
 
-  pub survives : (next : Edit) (after : List (List Version) → List (List Version)) (edit : InstalledEdit) (now : EditsState) → edit ≡ installed_at edit.segment.base next (after parts) → now.set ≡ new
+  pub survives : (next : Edit) (after : List (List Version) → List (List Version)) (edit : InstalledEdit) (now : EditsState) → edit ≡ installed_of edit.segment.base next (after parts) → now.set ≡ new
       → ((edits : List Edit) → StoresEdits set.manifest edits no_edit → set.manifest.log.closed ≡ false → Passes (Leaves (IsManifestOrNext set.manifest.log.id edits next)) set.manifest.log.moments new.manifest.log.moments)
       → ((edits : List Edit) (ps : List (List Version)) → StoresTables set edits no_edit ps [] → (new.manifest.log.moments ≡ set.manifest.log.moments) ⊎ IfKnown new.moments (LeavesTables set.manifest.log.id next (after ps)))
       → SurvivesInstall (edits_state set first base parts failed) now edit
@@ -139,7 +140,7 @@ module _ (set first : TableSetState) (base : ℕ) (parts : List (List Version)) 
         next = next;
         next_parts = after parts;
         stores = stored;
-        last_is = ap (λ (e : Edit). installed_at base e parts) last;
+        last_is = ap (λ (e : Edit). installed_of base e parts) last;
         next_is = made;
         manifest = passed k.edits stored.manifest open_before;
         tables = subst (λ (e : Edit). Passes (LeavesTables set.manifest.log.id e parts) set.moments new.moments) last (keeps.tables k.edits k.next parts k.next_parts k.stores);
@@ -212,7 +213,7 @@ module _ (set first : TableSetState) (base : ℕ) (parts : List (List Version)) 
   table_refused Fault refused =
       let same = refused.1.manifest in
       let none = open_asked new.manifest.log.closed failed parts (ap (λ (m : ManifestState). m.log.closed) same ∙ open_before) ∙ sym none_before in
-      let last = ap (λ (m : ManifestState). installed_at base m.edit parts) same in
+      let last = ap (λ (m : ManifestState). installed_of base m.edit parts) same in
       let none_failed : failed_edit new.manifest.log.closed failed parts ≡ failed_edit set.manifest.log.closed failed parts = none in
       λ i. record { last = last i; failed = none_failed i; halted = refused.0 i }
   table_refused Halted refused = absurd refused
@@ -222,7 +223,7 @@ module _ (set first : TableSetState) (base : ℕ) (parts : List (List Version)) 
   stage_refused (Err why) refused = table_refused why refused
 
   -- whatever the edit is to be, a crash leaves those that there are
-  pub survives_write : new.manifest ≡ set.manifest → (versions : List Version) (flushed : ℕ) (segment : Segment) (now : EditsState) → now.set ≡ new → SurvivesInstall (edits_state set first base parts failed) now (in_segment versions flushed segment (installed_at base set.manifest.edit parts))
+  pub survives_write : new.manifest ≡ set.manifest → (versions : List Version) (flushed : ℕ) (segment : Segment) (now : EditsState) → now.set ≡ new → SurvivesInstall (edits_state set first base parts failed) now (in_segment versions flushed segment (installed_of base set.manifest.edit parts))
   survives_write same versions flushed segment now is =
       let last : set.manifest.edit ≡ last_edit k.edits = k.stores.manifest.last in
       let next : Edit = record { flushed = flushed; place = Some segment.place; tables = [] } in
@@ -231,7 +232,7 @@ module _ (set first : TableSetState) (base : ℕ) (parts : List (List Version)) 
         next = next;
         next_parts = compacted_parts versions ++ parts;
         stores = stored;
-        last_is = ap (λ (e : Edit). installed_at base e parts) last;
+        last_is = ap (λ (e : Edit). installed_of base e parts) last;
         next_is = is_in_segment base set.manifest.edit next versions segment parts refl;
         manifest = ([], ap (λ (m : ManifestState). m.log.moments) same, tt);
         tables = subst (λ (e : Edit). Passes (LeavesTables set.manifest.log.id e parts) set.moments new.moments) last (keeps.tables k.edits k.next parts k.next_parts k.stores);
@@ -261,9 +262,9 @@ module _ (set first : TableSetState) (base : ℕ) (parts : List (List Version)) 
       durable = durable;
     }
 
-    table_then : (new_base : ℕ) (edit : InstalledEdit) → installed_at new_base next tables ≡ edit → (edits_state new first new_base now failed).table ≡ record (edits_state set first base parts failed).table { last = edit }
+    table_then : (new_base : ℕ) (edit : InstalledEdit) → installed_of new_base next tables ≡ edit → (edits_state new first new_base now failed).table ≡ record (edits_state set first base parts failed).table { last = edit }
     table_then new_base edit made =
-        let named : installed_at new_base new.manifest.edit now ≡ edit = ap (λ (e : Edit). installed_at new_base e now) last ∙ ap (installed_at new_base next) is ∙ made in
+        let named : installed_of new_base new.manifest.edit now ≡ edit = ap (λ (e : Edit). installed_of new_base e now) last ∙ ap (installed_of new_base next) is ∙ made in
         let none = open_asked new.manifest.log.closed failed now open_ ∙ sym none_before in
         let halted = runs ∙ sym running in
         λ i. record { last = named i; failed = none i; halted = halted i }
@@ -272,12 +273,12 @@ module _ (set first : TableSetState) (base : ℕ) (parts : List (List Version)) 
     pub installed_edits : (new_base : ℕ) → list_all (is_flushed next.flushed) (sorted_of (joined (after parts))) ≡ true → IsEdits (edits_state new first new_base now failed)
     installed_edits = edits_then next (after parts) installed.running installed.last (installed.stores k.edits parts stored) open_ now is
 
-    pub installed_table : (new_base : ℕ) (edit : InstalledEdit) → installed_at new_base next (after parts) ≡ edit → (edits_state new first new_base now failed).table ≡ record (edits_state set first base parts failed).table { last = edit }
+    pub installed_table : (new_base : ℕ) (edit : InstalledEdit) → installed_of new_base next (after parts) ≡ edit → (edits_state new first new_base now failed).table ≡ record (edits_state set first base parts failed).table { last = edit }
     installed_table = table_then next (after parts) installed.running installed.last (installed.stores k.edits parts stored) open_ now is
 
   -- ---- it is refused
 
-  module _ (next : Edit) (after : List (List Version) → List (List Version)) (f : FailedInstall) (next_base : ℕ) (asked : asked_for f parts ≡ installed_at next_base next (after parts)) where
+  module _ (next : Edit) (after : List (List Version) → List (List Version)) (f : FailedInstall) (next_base : ℕ) (asked : asked_for f parts ≡ installed_of next_base next (after parts)) where
     same_open : new.manifest ≡ set.manifest → new.manifest.log.closed ≡ false
     same_open same = ap (λ (m : ManifestState). m.log.closed) same ∙ open_before
 
@@ -331,13 +332,13 @@ module _ (set first : TableSetState) (base : ℕ) (parts : List (List Version)) 
     ]
     refused_edits Halted refused = let halted = refused.0 in absurd cc
 
-    module _ (edit : InstalledEdit) (made : installed_at next_base next (after parts) ≡ edit) where
+    module _ (edit : InstalledEdit) (made : installed_of next_base next (after parts) ≡ edit) where
       halted_by : (closed : Bool) → new.manifest.log.closed ≡ closed → new.manifest.edit ≡ set.manifest.edit → new.halted ≡ true → HasHalted (edits_state set first base parts failed).table (edits_state new first base parts (Some f)).table edit
       halted_by false open_ same stopped = rw (open_, same, stopped, none_before) (refl, inl refl)
       halted_by true closed same stopped = rw (closed, same, stopped) (refl, inr (ap Some (asked ∙ made)))
 
       failed_table : new.manifest.log.closed ≡ true → new.manifest.edit ≡ set.manifest.edit → new.halted ≡ true → (edits_state new first base parts (Some f)).table ≡ with_failed (edits_state set first base parts failed).table (Some edit)
-      failed_table closed same stopped = rw (closed, same, stopped) (λ i. record { last = installed_at base set.manifest.edit parts; failed = Some ((asked ∙ made) i); halted = true })
+      failed_table closed same stopped = rw (closed, same, stopped) (λ i. record { last = installed_of base set.manifest.edit parts; failed = Some ((asked ∙ made) i); halted = true })
 
       pub refused_table : (why : TableSetError) → NextRefused set new next after why → IsRefused (edits_state set first base parts failed).table (edits_state new first base parts (Some f)).table edit why
       refused_table Memory refused =
@@ -394,7 +395,7 @@ module _ (set first : TableSetState) (base : ℕ) (parts : List (List Version)) 
   next_rests = subst (λ (ps : List (List Version)). IfKnown set.moments (RestsWith before.set.manifest.log.id next_edit (compacted_parts versions ++ ps))) (sym b.parts) (b.written.there segment.place b.was.edits before.parts stored_before)
 
   pub survives_moved : {T : Type 0} (new : TableSetState) (result : Result T TableSetError) (now : EditsState) → now.set ≡ new → InstallsEdit set new (record ready.edit.edit { place = Some segment.place }) result
-      → SurvivesInstall before now (in_segment versions segment.base segment (installed_at base set.manifest.edit parts))
+      → SurvivesInstall before now (in_segment versions segment.base segment (installed_of base set.manifest.edit parts))
   survives_moved new result now is installs =
       let id : ℕ = before.set.manifest.log.id in
       let edits = b.was.edits in
@@ -410,7 +411,7 @@ module _ (set first : TableSetState) (base : ℕ) (parts : List (List Version)) 
         next = next_edit;
         next_parts = next_tables;
         stores = stored_before;
-        last_is = subst (λ (e : InstalledEdit). e ≡ installed_at e.segment.base (last_edit edits) before.parts) (ap (λ (t : Installed). t.last) b.table) (λ i. installed_at base (named i) (b.parts i));
+        last_is = subst (λ (e : InstalledEdit). e ≡ installed_of e.segment.base (last_edit edits) before.parts) (ap (λ (t : Installed). t.last) b.table) (λ i. installed_of base (named i) (b.parts i));
         next_is = is_in_segment base set.manifest.edit next_edit versions segment parts refl;
         manifest = subst (λ (e : Edit). Passes (Leaves (IsManifestOrNext id edits e)) before.set.manifest.log.moments new.manifest.log.moments) is_next passed;
         tables = subst (λ (ms : List Moment). Passes (LeavesTables id (last_edit edits) before.parts) before.set.moments ms) (sym installs.moments) (subst (λ (e : Edit). Passes (LeavesTables id e before.parts) before.set.moments set.moments) last kept);
@@ -448,13 +449,13 @@ module _ (set first : TableSetState) (base : ℕ) (parts : List (List Version)) 
           edits_then set first base parts failed k running new keeps next_edit next_tables installs.installed.0 last_now stores_next open_ now is segment.base
           (moved_flushed set.manifest.edit.flushed segment.base versions parts (omega (arith, before_now, b.may.later)) b.may.flushed_all k.flushed)
 
-      pub moved_table : (edits_state new first segment.base now failed).table ≡ record (edits_state set first base parts failed).table { last = in_segment versions segment.base segment (installed_at base set.manifest.edit parts) }
+      pub moved_table : (edits_state new first segment.base now failed).table ≡ record (edits_state set first base parts failed).table { last = in_segment versions segment.base segment (installed_of base set.manifest.edit parts) }
       moved_table =
-          table_then set first base parts failed k running new keeps next_edit next_tables installs.installed.0 last_now stores_next open_ now is segment.base (in_segment versions segment.base segment (installed_at base set.manifest.edit parts))
+          table_then set first base parts failed k running new keeps next_edit next_tables installs.installed.0 last_now stores_next open_ now is segment.base (in_segment versions segment.base segment (installed_of base set.manifest.edit parts))
           (sym (is_in_segment base set.manifest.edit next_edit versions segment parts refl))
 
     -- the manifest's device failed
-    module _ (same : new.moments ≡ set.moments) (stopped : InstallStopped set new (record ready.edit.edit { place = Some segment.place }) Fault) (f : FailedInstall) (asked : asked_for f parts ≡ installed_at segment.base next_edit next_tables) where
+    module _ (same : new.moments ≡ set.moments) (stopped : InstallStopped set new (record ready.edit.edit { place = Some segment.place }) Fault) (f : FailedInstall) (asked : asked_for f parts ≡ installed_of segment.base next_edit next_tables) where
       stores_old : StoresTables new k.edits next_edit parts next_tables
       stores_old =
           let left : IfKnown new.moments (LeavesTables new.manifest.log.id set.manifest.edit parts) = subst (λ (ms : List Moment). IfKnown ms (LeavesTables new.manifest.log.id set.manifest.edit parts)) (sym same) (subst (λ (n : ℕ). IfKnown set.moments (LeavesTables n set.manifest.edit parts)) (sym keeps.id) stored_now.left) in
@@ -468,8 +469,8 @@ module _ (set first : TableSetState) (base : ℕ) (parts : List (List Version)) 
       pub unmoved_edits : IsEdits (edits_state new first base parts (Some f))
       unmoved_edits = failed_then set first base parts failed k running new keeps next_edit (λ ps. compacted_parts versions ++ ps) f segment.base asked stopped.1 stopped.2 stopped.0 stores_old
 
-      pub unmoved_table : (edits_state new first base parts (Some f)).table ≡ with_failed (edits_state set first base parts failed).table (Some (in_segment versions segment.base segment (installed_at base set.manifest.edit parts)))
-      unmoved_table = failed_table set first base parts failed k running new keeps next_edit (λ ps. compacted_parts versions ++ ps) f segment.base asked (in_segment versions segment.base segment (installed_at base set.manifest.edit parts))
+      pub unmoved_table : (edits_state new first base parts (Some f)).table ≡ with_failed (edits_state set first base parts failed).table (Some (in_segment versions segment.base segment (installed_of base set.manifest.edit parts)))
+      unmoved_table = failed_table set first base parts failed k running new keeps next_edit (λ ps. compacted_parts versions ++ ps) f segment.base asked (in_segment versions segment.base segment (installed_of base set.manifest.edit parts))
           (sym (is_in_segment base set.manifest.edit next_edit versions segment parts refl)) stopped.4 stopped.2 stopped.0
 
 -- the table of these versions, if there is one, comes before the others
@@ -501,13 +502,13 @@ stage_manifest old new asked ready (Err why) written refused versions flushed is
 
 -- an install that called no device
 pub nothing_called : (set first : TableSetState) (base : ℕ) (parts : List (List Version)) (failed : Option FailedInstall) → IsEdits (edits_state set first base parts failed) → set.halted ≡ false → (next : Edit) (after : List (List Version) → List (List Version)) (edit : InstalledEdit) (now : EditsState)
-    → edit ≡ installed_at edit.segment.base next (after parts) → now.set ≡ set → SurvivesInstall (edits_state set first base parts failed) now edit
+    → edit ≡ installed_of edit.segment.base next (after parts) → now.set ≡ set → SurvivesInstall (edits_state set first base parts failed) now edit
 nothing_called set first base parts failed k running next after edit now made same = rw same record {
   edits = k.edits;
   next = next;
   next_parts = after parts;
   stores = running_stores set k.edits k.next parts k.next_parts (k.running running) k.stores;
-  last_is = ap (λ (e : Edit). installed_at base e parts) k.stores.manifest.last;
+  last_is = ap (λ (e : Edit). installed_of base e parts) k.stores.manifest.last;
   next_is = made;
   manifest = ([], refl, tt);
   tables = ([], refl, tt);

@@ -21,7 +21,7 @@ use Rattle.wp_entry.specs.Record.{FormRecord, IsRecord, IsEarlier, last_number}
 use Rattle.wp_gatelog.specs.declared.log.AppendError.TheVariants.{DiskFault}
 use Rattle.wp_gatelog.specs.Moments.{Leaves}
 use Rattle.wp_gatelog.proofs.DurabilityLemmas.{preserves_on}
-use Rattle.wp_wal.specs.Segment.{WrittenState, IsBeside, base_of, cut_behind}
+use Rattle.wp_wal.specs.Segment.{WrittenState, IsBeside, IsPlaceFor, base_of, cut_behind}
 use Rattle.wp_wal.specs.Spelling.{IsLogAt, longer}
 use Rattle.wp_wal.specs.Wal.{WalState, Reserved, LeavesCut, LosesNothingAt, StoresCut, IsReserved, Appended, Refuses, reserved_of}
 use Rattle.wp_wal.proofs.AppendLemmas.{running_cut}
@@ -589,6 +589,11 @@ module _ (wal first : WalState) (history pending : List Entry) (logged : Bool) (
 -- what was written behind the base of the history waits beside the log
 waits_beside : (s : WalState) (history : List Entry) (w : WrittenState) → IsBeside s (cut_behind (base_of history)) w → IsBeside s (cut_at history (length history)) w
 waits_beside s history w beside = subst (λ (c : Cut). IsBeside s c w) (cut_end history) beside
+
+-- before the log in use, if there is room for so many bytes
+pub before_log : (used size place : ℕ) → IsPlaceFor used size place → size ≤ used → place ≡ 0
+before_log used size place (inl before) fits = before.1
+before_log used size place (inr behind) fits = absurd (omega (arith, behind.0, fits))
 
 pub waits_of : (wal first : WalState) (history pending : List Entry) (logged : Bool) (ending : Ending) (new : WalState) (w : WrittenState) → new ≡ record wal { moments = new.moments; faults = new.faults; reserved = None }
     → (asked : Base) → asked ≡ base_of history → w.segment.base ≡ asked.number → undone_last history ≡ None → wal.segment.base < length history → IsBeside new (cut_behind asked) w

@@ -36,6 +36,7 @@ use Rattle.wp_merge.proofs.Merged.{or_none}
 use Rattle.wp_merge.proofs.Sorted.{at_sorted}
 use Rattle.wp_open.specs.Damage.{IsWithin}
 use Rattle.wp_open.specs.Parts.{PartsOpened, stored_cut}
+use Rattle.wp_open.specs.Opens.{installed_of}
 use Rattle.wp_open.proofs.Later.{at_append}
 use Rattle.wp_store.specs.Store.{StoreParts}
 use Rattle.wp_table.specs.File.{HasTables}
@@ -56,7 +57,7 @@ use Rattle.wp_core.proofs.Tests.{none_some}
 use Rattle.wp_rule.specs.Shows.{Founds, IsPart}
 use Rattle.wp_parts.specs.Log.{LogState, log_state, open_ending}
 use Rattle.wp_parts.specs.Stock.{StockState, store_table}
-use Rattle.wp_parts.specs.Edits.{EditsState, edits_state, installed_at}
+use Rattle.wp_parts.specs.Edits.{EditsState, edits_state}
 use Rattle.wp_parts.specs.Opening.{AreFilled, IsFlagOf, running_set}
 use Rattle.wp_parts.specs.Parts.{content, LogStands, EditsStand, tells}
 use Rattle.wp_parts.specs.declared.part.Part.{Part}
@@ -136,7 +137,7 @@ module _ (asked : ℕ) (log manifest tables : List Moment) (wal : WalState) (his
   later = later_versions history flushed
 
   abbrev last : InstalledEdit
-  last = installed_at wal.segment.base edits.edit store.tables
+  last = installed_of wal.segment.base edits.edit store.tables
 
   -- what the log has of the history
   abbrev cut : Cut

@@ -27,10 +27,6 @@ pub record EditsState : Type 0 where
   pub parts : List (List Version)
   pub first : TableSetState
 
--- what an edit says, where these are its tables, and the log has this base at its place
-abbrev pub installed_at : ℕ → Edit → List (List Version) → InstalledEdit
-installed_at base edit parts = installed_of base edit parts
-
 -- ---- an install that failed
 
 -- the tables once the new one takes the place of the frozen parts, or of all tables, or of the frozen parts if there are any
@@ -50,7 +46,7 @@ failed_edit closed other parts = None
 -- the manifest does not say the base
 abbrev pub edits_state : TableSetState → TableSetState → ℕ → List (List Version) → Option FailedInstall → EditsState
 edits_state set first base parts failed = record {
-  table = record { last = installed_at base set.manifest.edit parts; failed = failed_edit set.manifest.log.closed failed parts; halted = set.halted };
+  table = record { last = installed_of base set.manifest.edit parts; failed = failed_edit set.manifest.log.closed failed parts; halted = set.halted };
   set = set;
   parts = parts;
   first = first;
@@ -64,7 +60,7 @@ pub record IsNamed (s : EditsState) (image : List ℕ) (edit : InstalledEdit) : 
   pub spelled : IsManifestOf s.set.manifest.log.id edits image
   pub base : ℕ
   pub parts : List (List Version)
-  pub is : edit ≡ installed_at base (last_edit edits) parts
+  pub is : edit ≡ installed_of base (last_edit edits) parts
   pub there : (tables : List ℕ) → images s.set.moments tables → HasTables s.set.manifest.log.id (last_edit edits).flushed tables (last_edit edits).tables parts
 
 -- the bytes have the tables of this edit, whole
@@ -72,7 +68,7 @@ pub record HasTablesOf (s : EditsState) (image : List ℕ) (installed : Installe
   pub edit : Edit
   pub base : ℕ
   pub parts : List (List Version)
-  pub is : installed ≡ installed_at base edit parts
+  pub is : installed ≡ installed_of base edit parts
   pub there : HasTables s.set.manifest.log.id edit.flushed image edit.tables parts
 
 -- ---- what is so of it
@@ -87,7 +83,7 @@ pub record IsEdits (s : EditsState) : Type 0 where
   pub stores : StoresTables s.set edits next s.parts next_parts
   pub flushed : list_all (is_flushed s.table.last.flushed) s.table.last.versions ≡ true
   pub none_failed : s.set.manifest.log.closed ≡ false → s.table.failed ≡ None
-  pub failed : s.set.manifest.log.closed ≡ true → s.table.failed ≡ Some (installed_at next_base next next_parts)
+  pub failed : s.set.manifest.log.closed ≡ true → s.table.failed ≡ Some (installed_of next_base next next_parts)
   pub running : s.table.halted ≡ false → s.set.manifest.log.closed ≡ false
   pub id : s.set.manifest.log.id ≡ s.first.manifest.log.id
   pub later : s.first.faults ≤ s.set.faults

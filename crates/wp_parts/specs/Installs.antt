@@ -9,12 +9,13 @@ use Rattle.wp_gatelog.specs.Moments.{Leaves}
 use Rattle.wp_manifest.specs.Edit.{Edit, no_edit}
 use Rattle.wp_manifest.specs.Spelling.{last_edit, IsManifestOrNext}
 use Rattle.wp_merge.specs.Merge.{sorted_of}
+use Rattle.wp_open.specs.Opens.{installed_of}
 use Rattle.wp_core.specs.Effects.{with_failed}
 use Rattle.wp_core.specs.Tables.{Installed}
 use Rattle.wp_tableset.specs.Set.{TableSetState, LeavesTables, StoresTables}
 use Rattle.wp_tableset.specs.declared.error.TableSetError.{TableSetError}
 use Rattle.wp_tableset.specs.declared.error.TableSetError.TheVariants.{Memory, Fault, Halted}
-use Rattle.wp_parts.specs.Edits.{EditsState, installed_at}
+use Rattle.wp_parts.specs.Edits.{EditsState}
 
 -- these versions are in one table more, the newest, and the entries up to this number are flushed
 abbrev pub with_table : List Version → ℕ → InstalledEdit → InstalledEdit
@@ -56,8 +57,8 @@ pub record SurvivesInstall (old new : EditsState) (edit : InstalledEdit) : Type 
   pub next : Edit
   pub next_parts : List (List Version)
   pub stores : StoresTables old.set edits no_edit old.parts []
-  pub last_is : old.table.last ≡ installed_at old.table.last.segment.base (last_edit edits) old.parts
-  pub next_is : edit ≡ installed_at edit.segment.base next next_parts
+  pub last_is : old.table.last ≡ installed_of old.table.last.segment.base (last_edit edits) old.parts
+  pub next_is : edit ≡ installed_of edit.segment.base next next_parts
   pub manifest : Passes (Leaves (IsManifestOrNext old.set.manifest.log.id edits next)) old.set.manifest.log.moments new.set.manifest.log.moments
   pub tables : Passes (LeavesTables old.set.manifest.log.id (last_edit edits) old.parts) old.set.moments new.set.moments
   pub next_tables : (new.set.manifest.log.moments ≡ old.set.manifest.log.moments) ⊎ IfKnown new.set.moments (LeavesTables old.set.manifest.log.id next next_parts)

@@ -100,6 +100,10 @@ pub record IsKept (s : LogState) (base room : ℕ) : Type 0 where
 abbrev pub IsSegmentOf : LogState → NewSegmentState → Type 0
 IsSegmentOf s new = (new.base ≡ base_of s.table.history) × IsBase new.base × IsWholeLog MAGIC (stamped Two s.wal.id) (base_bytes new.base ∷ []) new.bytes
 
+-- where they go: to the device's beginning, if the segment in use begins at their end or behind it; else to the device's end
+abbrev pub IsPlaceOf : LogState → NewSegmentState → ℕ → Type 0
+IsPlaceOf s new place = (length new.bytes ≤ s.table.segment.place → place ≡ 0) × (s.table.segment.place < length new.bytes → IfKnown s.wal.moments (λ m. place ≡ length m.reads))
+
 -- the table once this segment waits beside the one in use
 abbrev pub with_next : WriteTable → Segment → WriteTable
 with_next t segment = record t { next = Some segment }

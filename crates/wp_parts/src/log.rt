@@ -15,7 +15,7 @@ ghost use Rattle.wp_core.specs.Conditions.{NoneNext};
 ghost use Rattle.wp_core.specs.Effects.{with_entry};
 ghost use Rattle.wp_core.specs.Entries.{IsOneRecord};
 ghost use Rattle.wp_core.specs.Images.{LogTells};
-ghost use Rattle.wp_parts.specs.Log.{IsLog, IsSegmentOf, IsWaiting, log_state, open_ending, spells, with_next, with_segment};
+ghost use Rattle.wp_parts.specs.Log.{IsLog, IsPlaceOf, IsSegmentOf, IsWaiting, log_state, open_ending, spells, with_next, with_segment};
 
 use crate::base::end_of;
 use std::alloc::{AllocError, Global};
@@ -246,6 +246,7 @@ impl<D: Disk> Log<D> {
         requires segment { IsSegmentOf self.old segment.now }
         ensures ok { OnOk result (self.new.table ≡ self.old.table) }
         ensures waits { IfOk result (λ written. IsWaiting self.new written × (written.segment.place ≢ self.old.table.segment.place)) }
+        ensures place { IfOk result (λ written. IsPlaceOf self.old segment.now written.segment.place) }
         ensures err { OnErr result (self.new.table ≡ record self.old.table { closed = true }) }
         ensures cause { OnErr result (Rose self.old.wal.faults self.new.wal.faults) }
         ensures later { self.old.wal.faults ≤ self.new.wal.faults }

@@ -20,7 +20,7 @@ pub none_remain : (old : Edit) (flushed : ℕ) (others : List (ℕ × ℕ)) → 
 none_remain old flushed others none id bytes parts has = rw none tt
 
 pub flush_installs : {T : Type 0} (old new : TableSetState) (versions : List Version) (flushed : ℕ) (others : List (ℕ × ℕ)) (result : Result T TableSetError) → others ≡ old.manifest.edit.tables → old.manifest.edit.flushed ≤ flushed → Puts old new versions flushed others result
-    → (place : ℕ) × Installs old new (flushed_edit old versions flushed place) (λ parts. versions ∷ parts) result × Wrote old new (flushed_edit old versions flushed place).tables
+    → (place : ℕ) × Installs old new (flushed_edit old versions flushed place) (λ parts. versions ∷ parts) result × Wrote old new (flushed_edit old versions flushed place).tables result
 flush_installs old new versions flushed others result same later puts =
     let installs = puts.1 (λ parts. parts) (all_remain old.manifest.edit flushed others same later) in
     (puts.0, rw same at installs, puts.2)
@@ -37,7 +37,7 @@ flushed_some flushed [] some numbered in_range = absurd (omega arith)
 flushed_some flushed (v ∷ versions) some numbered in_range = grind arith
 
 pub compact_installed : {T U : Type 0} (old new : TableSetState) (versions : List Version) (flushed : ℕ) (others : List (ℕ × ℕ)) (x : T) (y : U) → 1 ≤ length versions → others ≡ [] → flushed ≡ old.manifest.edit.flushed → Puts {T = T} old new versions flushed others (Ok x)
-    → (place : ℕ) × Installs {T = U} old new (compacted_edit old versions place) (λ _. compacted_parts versions) (Ok y) × Wrote old new (compacted_edit old versions place).tables
+    → (place : ℕ) × Installs {T = U} old new (compacted_edit old versions place) (λ _. compacted_parts versions) (Ok y) × Wrote {T = U} old new (compacted_edit old versions place).tables (Ok y)
 compact_installed old new [] flushed others x y some none same puts = absurd (omega arith)
 compact_installed old new (v ∷ versions) flushed others x y some none same puts =
     let installs = puts.1 (λ _. []) (none_remain old.manifest.edit flushed others none) in
@@ -45,7 +45,7 @@ compact_installed old new (v ∷ versions) flushed others x y some none same put
     (puts.0, record { passed = named.passed; there = named.there; installed = named.installed; refused = tt }, puts.2)
 
 pub compact_refused : {T U : Type 0} (old new : TableSetState) (versions : List Version) (flushed : ℕ) (others : List (ℕ × ℕ)) (why : TableSetError) → 1 ≤ length versions → others ≡ [] → flushed ≡ old.manifest.edit.flushed → Puts {T = T} old new versions flushed others (Err why)
-    → (place : ℕ) × Installs {T = U} old new (compacted_edit old versions place) (λ _. compacted_parts versions) (Err why) × Wrote old new (compacted_edit old versions place).tables
+    → (place : ℕ) × Installs {T = U} old new (compacted_edit old versions place) (λ _. compacted_parts versions) (Err why) × Wrote {T = U} old new (compacted_edit old versions place).tables (Err why)
 compact_refused old new [] flushed others why some none same puts = absurd (omega arith)
 compact_refused old new (v ∷ versions) flushed others why some none same puts =
     let installs = puts.1 (λ _. []) (none_remain old.manifest.edit flushed others none) in
@@ -53,11 +53,11 @@ compact_refused old new (v ∷ versions) flushed others why some none same puts 
     (puts.0, record { passed = named.passed; there = named.there; installed = tt; refused = named.refused }, puts.2)
 
 pub none_installed : {T : Type 0} (old new : TableSetState) (versions : List Version) (flushed : ℕ) (tables : List (ℕ × ℕ)) (x : T) → old.halted ≡ false → versions ≡ [] → tables ≡ [] → flushed ≡ old.manifest.edit.flushed → InstallsEdit {T = Unit {0}} old new (record { flushed = flushed; place = Some (place_of old.manifest.edit); tables = tables }) (Ok tt)
-    → (place : ℕ) × Installs {T = T} old new (compacted_edit old versions place) (λ _. compacted_parts versions) (Ok x) × Wrote old new (compacted_edit old versions place).tables
+    → (place : ℕ) × Installs {T = T} old new (compacted_edit old versions place) (λ _. compacted_parts versions) (Ok x) × Wrote {T = T} old new (compacted_edit old versions place).tables (Ok x)
 none_installed old new versions flushed tables x running empty none same installs =
-    (0, rw empty (ready_installed old new old.moments old.faults (record { flushed = old.manifest.edit.flushed; place = Some (place_of old.manifest.edit); tables = [] }) (λ _. []) (none_ready old old.manifest.edit.flushed (place_of old.manifest.edit) running) x (rw (none, same) at installs)), rw empty (inr installs.moments))
+    (0, rw empty (ready_installed old new old.moments old.faults (record { flushed = old.manifest.edit.flushed; place = Some (place_of old.manifest.edit); tables = [] }) (λ _. []) (none_ready old old.manifest.edit.flushed (place_of old.manifest.edit) running) x (rw (none, same) at installs)), rw empty installs.moments)
 
 pub none_refused : {T : Type 0} (old new : TableSetState) (versions : List Version) (flushed : ℕ) (tables : List (ℕ × ℕ)) (why : TableSetError) → old.halted ≡ false → versions ≡ [] → tables ≡ [] → flushed ≡ old.manifest.edit.flushed → InstallsEdit {T = Unit {0}} old new (record { flushed = flushed; place = Some (place_of old.manifest.edit); tables = tables }) (Err why)
-    → (place : ℕ) × Installs {T = T} old new (compacted_edit old versions place) (λ _. compacted_parts versions) (Err why) × Wrote old new (compacted_edit old versions place).tables
+    → (place : ℕ) × Installs {T = T} old new (compacted_edit old versions place) (λ _. compacted_parts versions) (Err why) × Wrote {T = T} old new (compacted_edit old versions place).tables (Err why)
 none_refused old new versions flushed tables why running empty none same installs =
     (0, rw empty (ready_refused old new old.moments old.faults (record { flushed = old.manifest.edit.flushed; place = Some (place_of old.manifest.edit); tables = [] }) (λ _. []) (none_ready old old.manifest.edit.flushed (place_of old.manifest.edit) running) why (rw (none, same) at installs)), rw empty (inr installs.moments))

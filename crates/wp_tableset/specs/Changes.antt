@@ -1,5 +1,5 @@
 -- What a call makes of the tables of a store.
-use Rattle.std.specs.Prelude.{◌≡◌, ◌⊎◌, ◌≤◌, ℕ, true, false, List, [], ◌∷◌, ◌++◌, length, Option, Some, None, Result, OnOk, IfErr}
+use Rattle.std.specs.Prelude.{◌≡◌, ◌⊎◌, ◌≤◌, ℕ, true, false, List, [], ◌∷◌, ◌++◌, length, Option, Some, None, Result, Ok, Err, OnOk, IfErr}
 use Rattle.wp_model.specs.declared.version.Version.{Version}
 use Rattle.wp_outside.specs.Disk.{Moment, IfKnown, Passes, added, after_write, after_sync}
 use Rattle.wp_outside.specs.Faults.{Rose}
@@ -61,9 +61,15 @@ NewestIsWritten old new [] = new ≡ old
 NewestIsWritten old new (table ∷ tables) =
     IsEnd old table.0 × ((bytes : List ℕ) × (length bytes ≡ table.1) × (new ≡ added after_sync (added (after_write table.0 bytes) old)))
 
--- Where the manifest was called, the newest of these tables had been written before.
-abbrev pub Wrote : TableSetState → TableSetState → List (ℕ × ℕ) → Type 0
-Wrote old new tables = (new.manifest ≡ old.manifest) ⊎ NewestIsWritten old.moments new.moments tables
+-- where a device failed, it was the tables'
+abbrev pub TablesRose : TableSetState → TableSetState → TableSetError → Type 0
+TablesRose old new Fault = Rose old.faults new.faults
+TablesRose old new other = Unit {0}
+
+-- Where the manifest was called, the newest of these tables had been written before. Else memory ran out, or the tables' device failed.
+abbrev pub Wrote : {T : Type 0} → TableSetState → TableSetState → List (ℕ × ℕ) → Result T TableSetError → Type 0
+Wrote old new tables (Ok done) = NewestIsWritten old.moments new.moments tables
+Wrote old new tables (Err why) = ((new.manifest ≡ old.manifest) × TablesRose old new why) ⊎ NewestIsWritten old.moments new.moments tables
 
 -- the next edit is the last one, and the set stores its tables, which `after` makes of the old ones
 pub record NextInstalled (old new : TableSetState) (next : Edit) (after : List (List Version) → List (List Version)) : Type 0 where

@@ -63,7 +63,7 @@ Remain old flushed others after = (id : ℕ) (bytes : List ℕ) (parts : List (L
 abbrev pub Puts : {T : Type 0} → TableSetState → TableSetState → List Version → ℕ → List (ℕ × ℕ) → Result T TableSetError → Type 0
 Puts old new versions flushed others result = (place : ℕ) × ((after : List (List Version) → List (List Version)) → Remain old.manifest.edit flushed others after
     → Installs old new (record { flushed = flushed; place = Some (place_of old.manifest.edit); tables = placed old.manifest.log.id versions place ∷ others }) (λ parts. versions ∷ after parts) result)
-    × Wrote old new (placed old.manifest.log.id versions place ∷ others)
+    × Wrote old new (placed old.manifest.log.id versions place ∷ others) result
 
 -- ---- an edit that moves the log
 

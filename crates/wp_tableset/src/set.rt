@@ -1,4 +1,4 @@
-ghost use Rattle.std.specs.Prelude.{◌≡◌, ◌≤◌, ◌<◌, ℕ, true, false, [], ◌∷◌, ◌++◌, List, length, vec_capacity, IfOk, IfErr, OnOk, is_some, Some, None};
+ghost use Rattle.std.specs.Prelude.{◌≡◌, ◌≤◌, ◌<◌, ℕ, true, false, [], ◌∷◌, List, length, vec_capacity, IfOk, IfErr, OnOk, is_some, Some, None};
 ghost use Rattle.std.specs.Arc.{arc_value};
 ghost use Rattle.std.specs.List.{list_all};
 ghost use Rattle.std.specs.Option.{option_map};
@@ -162,7 +162,7 @@ impl<D: Disk> TableSet<D> {
         requires later { self.old.manifest.edit.flushed < flushed }
         ensures table { IfOk result (λ table. arc_value table ≡ versions.now) }
         ensures installs { (place : ℕ) × Installs self.old self.new (flushed_edit self.old versions.now flushed place) (λ parts. versions.now ∷ parts) result
-            × Wrote self.old self.new (flushed_edit self.old versions.now flushed place).tables }
+            × Wrote self.old self.new (flushed_edit self.old versions.now flushed place).tables result }
         ensures keeps { LosesNoTable self.old self.new }
     {
         if self.halted {
@@ -181,7 +181,7 @@ impl<D: Disk> TableSet<D> {
         requires flushed { list_all (is_flushed self.old.manifest.edit.flushed) versions.now ≡ true }
         ensures table { IfOk result (λ table. option_map arc_value table ≡ one_part versions.now) }
         ensures installs { (place : ℕ) × Installs self.old self.new (compacted_edit self.old versions.now place) (λ _. compacted_parts versions.now) result
-            × Wrote self.old self.new (compacted_edit self.old versions.now place).tables }
+            × Wrote self.old self.new (compacted_edit self.old versions.now place).tables result }
         ensures keeps { LosesNoTable self.old self.new }
         ensures uncalled { versions.now ≡ [] → (self.new.moments ≡ self.old.moments) × (self.new.faults ≡ self.old.faults) }
     {

@@ -1,10 +1,10 @@
-use Rattle.std.proofs.Common.{subst, sym, ◌∙◌, true≢false}
+use Rattle.std.proofs.Common.{length, subst, sym, ◌∙◌, true≢false}
 use Rattle.wp_cuts.specs.Cut.{Cut}
 use Rattle.wp_gatelog.specs.Moments.{Leaves}
 use Rattle.wp_outside.specs.Disk.{Passes}
 use Rattle.wp_wal.specs.Spelling.{IsLogAt}
 use Rattle.wp_parts.specs.Log.{Ending}
-use Rattle.wp_parts.proofs.LogLemmas.{cut_is, stores_now, the_cut, unwritten, wal_runs, waits_of, written}
+use Rattle.wp_parts.proofs.LogLemmas.{before_log, cut_is, stores_now, the_cut, unwritten, wal_runs, waits_of, written}
 use Rattle.wp_parts.proofs.log.Log.write_segment.Goals as goal
 
 pub invariant_of-self : goal.invariant_of-self
@@ -44,6 +44,17 @@ returns-in-Ok-clause-waits g c =
           (rw (← c.self.view_is) at c.requires.whole) (rw (← c.self.view_is) at c.requires.below) k.beside,
       c.in-Ok.ensures.ok.1,
     )
+
+pub returns-in-Ok-clause-place : goal.returns-in-Ok-clause-place
+returns-in-Ok-clause-place g c =
+    let inside = c.self.inside in
+    let ending : Ending = record { closed = inside.closed; stopped = inside.stopped; failed = inside.failed.value.items; next = inside.next } in
+    let running = rw (← c.self.view_is) at c.requires.running in
+    let nothing = rw (← c.self.view_is) at c.requires.nothing in
+    let stores = stores_now inside.wal inside.first.value inside.history.entries inside.pending.items inside.logged ending inside.history.base inside.history.room c.self.invariant running nothing in
+    let is = rw (← c.self.view_is) at c.requires.segment in
+    let k = c.in-Ok.ensures.writes c.self.invariant.log.cut stores is.1 is.2 in
+    rw (← c.self.view_is) (before_log inside.wal.segment.place (length c.args.segment.now.bytes) c.in-Ok.written.segment.place c.in-Ok.ensures.place.0, k.place)
 
 pub returns-in-Ok-clause-durable : goal.returns-in-Ok-clause-durable
 returns-in-Ok-clause-durable g c =
