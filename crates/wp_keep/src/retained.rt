@@ -1,4 +1,4 @@
-ghost use Rattle.std.specs.Prelude.{◌≡◌, IfOk};
+ghost use Rattle.std.specs.Prelude.{◌≡◌, [], ◌∷◌, ◌++◌, IfOk};
 ghost use Rattle.wp_keep.specs.Keep.{is_committed, retained_of};
 
 use crate::commits::Commits;
@@ -9,8 +9,25 @@ use std::alloc::{AllocError, Global};
 use wp_model::{Seq, Versions};
 
 /// The versions that stay once no reader without a snapshot goes below the floor. Each of them is moved, and none copied. `committed`
-/// has the pair of each number that is committed, at least up to the floor.
+/// has the pair of each number that is committed, at least up to the floor. The base at which the log was opened and the one that it has
+/// count as snapshots, since what an opening finds below them it finds in tables alone.
 pub fn keep(
+    alloc: Global,
+    versions: Versions,
+    committed: &[Pair],
+    mut snapshots: Vec<Seq>,
+    opened: Seq,
+    installed: Seq,
+    floor: Seq,
+) -> Result<Versions, AllocError>
+    ensures retained { IfOk result (λ retained. retained ≡ retained_of (is_committed committed.now) versions (snapshots.items ++ opened ∷ installed ∷ []) floor) }
+{
+    snapshots.push(opened)?;
+    snapshots.push(installed)?;
+    keep_at(alloc, versions, committed, &snapshots, floor)
+}
+
+fn keep_at(
     alloc: Global,
     versions: Versions,
     committed: &[Pair],
