@@ -137,7 +137,7 @@ module _ {D : Type 0} (z : SharedState D) (old new : SeatState) where
 
   pub renewed_grown : (result : Result Renewed RenewError) → Renews z old result new → StartsWith new.knows.participant.seen p.seen
   renewed_grown (Ok done) k = k.1.goes_on.seen
-  renewed_grown (Err renewal.Memory) k = k.1.seen
+  renewed_grown (Err renewal.Memory) k = k.1.goes_on.seen
   renewed_grown (Err (renewal.TablesStopped flushed)) k = k.1.goes_on.seen
   renewed_grown (Err (renewal.Stopped n)) k = k.1.goes_on.seen
   renewed_grown (Err renewal.Nothing) k = k.1.goes_on.seen
@@ -147,7 +147,7 @@ module _ {D : Type 0} (z : SharedState D) (old new : SeatState) where
   module _ (Leaves : Type 0) where
     pub renewed_before : (result : Result Renewed RenewError) → Renews z old result new → IfErr result (UnlessDeviceFault Leaves) → IfErr result (λ why. IsRefusedBefore Leaves old why new)
     renewed_before (Ok done) k left = tt
-    renewed_before (Err renewal.Memory) k left = (ap installs_of k.1.participant, left)
+    renewed_before (Err renewal.Memory) k left = (ap installs_of k.1.goes_on.participant, left)
     renewed_before (Err (renewal.TablesStopped flushed)) k left = (none_remembered (found_by z old new k.0 k.1.found ∷ []) refl k.1.goes_on, left)
     renewed_before (Err (renewal.Stopped n)) k left = (none_remembered (found_by z old new k.0 k.1.found ∷ stopped n ∷ []) refl k.1.goes_on, left)
     renewed_before (Err renewal.Nothing) k left = (none_remembered (found_by z old new k.0 k.1.found ∷ []) refl k.1.goes_on, left)

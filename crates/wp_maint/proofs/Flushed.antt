@@ -9,7 +9,7 @@ use Rattle.wp_replies.specs.Tables.{unflushed, after_flush}
 use Rattle.wp_core.specs.Effects.{with_failed}
 use Rattle.wp_core.specs.Lists.{IsIn}
 use Rattle.wp_core.specs.Tables.{Installed, installed}
-use Rattle.wp_core.specs.Views.{tables_failed, tables_stay, nothing_flushed, frozen_stay}
+use Rattle.wp_core.specs.Views.{tables_failed, tables_stay, frozen_stay}
 use Rattle.wp_core.specs.Views as event
 use Rattle.wp_core.specs.World.{Participant}
 use Rattle.wp_rule.specs.Knows.{KnowsTables}

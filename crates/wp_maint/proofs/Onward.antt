@@ -135,7 +135,7 @@ found_later z s u v e grown k = held_between z s s u v s.knows.participant.past 
 
 -- ... the store turn, as the versions in tables were these, or as what was decided of them was overtaken
 module _ {D : Type 0} (z : SharedState D) (s t u v : SeatState) (same : IsSeat s t) (past : t.knows.participant.past ≡ s.knows.participant.past) (starts : StartsWith t.knows.participant.seen s.knows.participant.seen) (grown : StartsWith v.knows.participant.seen u.knows.participant.seen) where
-  had_between : (table : Content) → HeldContent z t u t.knows.participant.past table → HeldContent z s v s.knows.participant.past table
+  abbrev had_between : (table : Content) → HeldContent z t u t.knows.participant.past table → HeldContent z s v s.knows.participant.past table
   had_between table k = held_between z s t u v t.knows.participant.past s.knows.participant.past table same starts grown past k
 
   pub versions_between : (versions : List Version) → HadVersions z t u versions → HadVersions z s v versions
@@ -237,11 +237,13 @@ module _ {D : Type 0} (First Last : Participant → Type 0) (z : SharedState D) 
   flushes_so seen (Err (TablesStopped flushed)) k = record { found = found_so k.found; halted = k.halted; flushed_is = k.flushed_is; goes_on = remembers_so k.found [] k.goes_on }
 
   -- ... and of a renewal
-  busy_so : u.knows.participant.seen ≡ v.knows.participant.seen → IsBusy z t u e → IsBusy z s v e
+  abbrev busy_so : u.knows.participant.seen ≡ v.knows.participant.seen → IsBusy z t u e → IsBusy z s v e
   busy_so seen k = record {
     running = k.running;
     whole = saw_whole seen k.whole;
     unclosed = (k.unclosed.0, had_between z s t u v same same_past starts grown (writes k.unclosed.0) k.unclosed.1, k.unclosed.2);
+    at_once = k.at_once;
+    history_is = k.history_is ∙ seen;
     below = subst (λ (h : List Entry). e.last.segment.base < length h) seen k.below;
   }
 
@@ -265,13 +267,8 @@ module _ {D : Type 0} (First Last : Participant → Type 0) (z : SharedState D) 
       so = k.table.so ∙ ap (λ (h : List Entry). compacted_parts (sorted_of (unflushed h e.last)) ++ k.table.before.parts) seen;
     };
     survives = subst (λ (h : List Entry). SurvivesInstall k.table.before k.table.after (after_renewal h k.place e.last)) seen k.survives;
-    log = (
-      k.log.0,
-      k.log.1,
-      k.log.2 ∙ seen,
-      subst (λ (h : List Entry). LogBecame z k.log.0 (record k.log.0 { segment = record { place = k.place; base = length h }; next = None })
-          (λ before after. SurvivesBeside before after (Some after.table.segment) × NamesItsSegment k.table.before k.table.after before after (after_renewal h k.place e.last))) seen k.log.3,
-    );
+    log = subst (λ (h : List Entry). LogBecame z k.busy.unclosed.0 (record k.busy.unclosed.0 { segment = record { place = k.place; base = length h }; next = None })
+        (λ before after. SurvivesBeside before after (Some after.table.segment) × NamesItsSegment k.table.before k.table.after before after (Some (after_renewal h k.place e.last)))) seen k.log;
     goes_on = remembers_so k.found (event.renewed (after_renewal v.knows.participant.seen k.place e.last) ∷ [])
         (subst (λ (h : List Entry). First (remembering (found_by z t u e k.found ∷ event.renewed (after_renewal h k.place e.last) ∷ []) t.knows.participant)) seen k.goes_on);
   }
@@ -285,13 +282,14 @@ module _ {D : Type 0} (First Last : Participant → Type 0) (z : SharedState D) 
     left = holds_so (with_failed e k.asked) k.left;
     fault = k.fault;
     survives = (k.survives.0, subst (λ (h : List Entry). (place : ℕ) × (k.survives.0 ≡ after_renewal h place e.last)) seen k.survives.1, k.survives.2, k.survives.3);
-    log = (k.log.0, k.log.1, k.log.2 ∙ seen, k.log.3);
+    uncalled = k.uncalled;
+    log = k.log;
     goes_on = remembers_so k.found (tables_failed e.last k.asked ∷ log_stopped ∷ []) k.goes_on;
   }
 
   pub renews_so : u.knows.participant.seen ≡ v.knows.participant.seen → (result : Result Renewed RenewError) → RenewsFrom First z t e result u → RenewsFrom Last z s e result v
   renews_so seen (Ok done) k = renewed_so seen done k
-  renews_so seen (Err renewal.Memory) k = still k
+  renews_so seen (Err renewal.Memory) k = record { busy = busy_so seen k.busy; tables = k.tables; log = k.log; goes_on = still k.goes_on }
   renews_so seen (Err (renewal.TablesStopped flushed)) k = record { found = found_so k.found; halted = k.halted; flushed_is = k.flushed_is; goes_on = remembers_so k.found [] k.goes_on }
   renews_so seen (Err (renewal.Stopped n)) k = record {
     found = found_so k.found;
@@ -315,7 +313,8 @@ module _ {D : Type 0} (First Last : Participant → Type 0) (z : SharedState D) 
     busy = busy_so seen k.busy;
     left = holds_so e k.left;
     tables = k.tables;
-    log = (k.log.0, k.log.1, k.log.2 ∙ seen, k.log.3);
+    survives = (k.survives.0, subst (λ (h : List Entry). (place : ℕ) × (k.survives.0 ≡ after_renewal h place e.last)) seen k.survives.1, k.survives.2);
+    log = k.log;
     goes_on = remembers_so k.found (log_failed [] ∷ []) k.goes_on;
   }
 

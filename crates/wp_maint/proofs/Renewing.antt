@@ -9,26 +9,31 @@ use Rattle.wp_model.specs.Legal.{undone_last}
 use Rattle.wp_cuts.specs.Cut.{IsCut, cut_at}
 use Rattle.wp_cuts.proofs.Growing.{cut_again}
 use Rattle.wp_wal.specs.Spelling.{IsLogAt}
+use Rattle.wp_tableset.specs.Set.{TableSetState}
+use Rattle.wp_wal.specs.Wal.{WalState}
 use Rattle.wp_replies.specs.Tables.{after_renewal}
 use Rattle.wp_core.specs.Conditions.{NoneNext}
 use Rattle.wp_core.specs.IsSound.{IsSound}
+use Rattle.wp_core.specs.Runs.{Reaches}
 use Rattle.wp_core.specs.Sound.History.{IsHistory, logged_part}
 use Rattle.wp_core.specs.Sound.Segments.{AreCoupled}
 use Rattle.wp_core.specs.Tables.{WriteTable, Installed}
 use Rattle.wp_core.specs.World.{World, Participant}
 use Rattle.wp_core.proofs.EachStep.{reached_is_sound}
-use Rattle.wp_core.proofs.Tests.{none_some}
+use Rattle.wp_core.proofs.Tests.{none_some, same_some}
 use Rattle.wp_shared.specs.Edits.{EditsState}
 use Rattle.wp_shared.specs.Log.{LogState, IsLog}
+use Rattle.wp_shared.specs.Opening.{IsOneStore}
 use Rattle.wp_shared.specs.Seats.{SharedState, SeatState}
 use Rattle.wp_maint.specs.declared.renewed.Renewed.{Renewed}
+use Rattle.wp_maint.specs.Calls.{TablesBecame}
 use Rattle.wp_maint.specs.Moments.{OpensFromBase}
-use Rattle.wp_maint.specs.Renewal.{HasBrokenOff, HasRenewed, LeftInRenewal, NamesItsSegment, OpensInRenewal, segment_of}
+use Rattle.wp_maint.specs.Renewal.{HasBrokenOff, HasLogFault, HasNoMemory, HasRenewed, IsAtEnd, IsBusy, LeftInRenewal, LogBecame, NamesItsSegment, OpensInRenewal, segment_of}
 use Rattle.wp_maint.proofs.Memory.{renewal_covered}
 use Rattle.wp_maint.proofs.Throughout.{log_based, opens_as}
 
 -- where no segment waits, the last edit names the one in use
-names_this : (t : WriteTable) (e : Installed) → (e.last.segment ≡ t.segment) ⊎ ((t.next ≡ Some e.last.segment) × (t.closed ≡ false)) → NoneNext t → e.last.segment ≡ t.segment
+pub names_this : (t : WriteTable) (e : Installed) → (e.last.segment ≡ t.segment) ⊎ ((t.next ≡ Some e.last.segment) × (t.closed ≡ false)) → NoneNext t → e.last.segment ≡ t.segment
 names_this t e (inl same) waits = same
 names_this t e (inr next) (inl none) = absurd (none_some t.next e.last.segment none next.0)
 names_this t e (inr next) (inr closed) = absurd (true≢false (sym closed ∙ next.1))
@@ -71,18 +76,24 @@ module _ (old : EditsState) (log : LogState) (g : IsLog log) (w : World) (sound 
       (λ i. take (based i) (of_history.log i)) ∙ take-append-le last.segment.base history (logged_part log.table.logged log.table.pending) base_within in
       cut_again history last.segment.base base_within (ap (λ (h : List Entry). undone_last h) (sym front) ∙ g.is_cut.whole)
 
-  module _ (new : EditsState) (moved : LogState) (next : InstalledEdit) (whole : undone_last history ≡ None) (covers : IsEditCovered history next) (based : next.segment.base ≡ length history) (named : NamesItsSegment old new log moved next) (fits : old.set.manifest.log.id < 2 ^ 32) (one : log.wal.id ≡ old.set.manifest.log.id) where
-    cut_next : IsCut history (cut_at history next.segment.base)
-    cut_next = cut_again history next.segment.base (omega (arith, based)) (ap (λ (n : ℕ). undone_last (take n history)) based ∙ ap (λ (h : List Entry). undone_last h) (take-length history) ∙ whole)
+  abbrev Stands : InstalledEdit → Type 0
+  Stands edit = IsCut history (cut_at history edit.segment.base) × IsEditCovered history edit
 
-    abbrev Stands : InstalledEdit → Type 0
-    Stands edit = IsCut history (cut_at history edit.segment.base) × IsEditCovered history edit
+  stands_at_end : (edit : InstalledEdit) → IsAtEnd history edit → Stands edit
+  stands_at_end edit (whole, covers, based) =
+      (cut_again history edit.segment.base (omega (arith, based)) (ap (λ (n : ℕ). undone_last (take n history)) based ∙ ap (λ (h : List Entry). undone_last h) (take-length history) ∙ whole), covers)
 
-    stands : (edit : InstalledEdit) → (edit ≡ last) ⊎ (edit ≡ next) → Stands edit
+  -- so is the edit of a renewal, where the history ends with no undo
+  renewed_at_end : (asked : Option InstalledEdit) → IfSome asked (λ edit. (place : ℕ) × (edit ≡ after_renewal history place last)) → IfSome asked (λ edit. undone_last history ≡ None) → IfSome asked (IsAtEnd history)
+  renewed_at_end None made whole = tt
+  renewed_at_end (Some edit) made whole = (whole, subst (λ (e : InstalledEdit). IsEditCovered history e) (sym made.1) (covered_renewed made.0), ap (λ (e : InstalledEdit). e.segment.base) made.1)
+
+  module _ (new : EditsState) (moved : LogState) (asked : Option InstalledEdit) (at_end : IfSome asked (IsAtEnd history)) (named : NamesItsSegment old new log moved asked) (fits : old.set.manifest.log.id < 2 ^ 32) (one : log.wal.id ≡ old.set.manifest.log.id) where
+    stands : (edit : InstalledEdit) → (edit ≡ last) ⊎ (asked ≡ Some edit) → Stands edit
     stands edit (inl is) = subst Stands (sym is) (cut_last, covered_last)
-    stands edit (inr is) = subst Stands (sym is) (cut_next, covers)
+    stands edit (inr is) = stands_at_end edit (subst (λ (o : Option InstalledEdit). IfSome o (IsAtEnd history)) is at_end)
 
-    opens_renewing : (l m t : List ℕ) → LeftInRenewal old new log moved l m t → (edit : InstalledEdit) × ((edit ≡ last) ⊎ (edit ≡ next)) × OpensFromBase old.set.manifest.log.id history edit l m t
+    opens_renewing : (l m t : List ℕ) → LeftInRenewal old new log moved l m t → (edit : InstalledEdit) × ((edit ≡ last) ⊎ (asked ≡ Some edit)) × OpensFromBase old.set.manifest.log.id history edit l m t
     opens_renewing l m t left =
         let found = named l m t left in
         let so = stands found.0 found.1 in
@@ -91,46 +102,69 @@ module _ (old : EditsState) (log : LogState) (g : IsLog log) (w : World) (sound 
 
 -- ---- as callers see it
 
-pub opens_amid : (old new : EditsState) (log moved : LogState) (next : InstalledEdit) → IsLog log → undone_last log.table.history ≡ None → IsEditCovered log.table.history next → next.segment.base ≡ length log.table.history → NamesItsSegment old new log moved next
-    → OpensInRenewal old new log moved next
-opens_amid old new log moved next g whole covers based named fits one w reached here there l m t left =
-    opens_renewing old log g w (reached_is_sound w reached) here there new moved next whole covers based named fits one l m t left
+pub opens_amid : (old new : EditsState) (log moved : LogState) (asked : Option InstalledEdit) → IsLog log → IfSome asked (IsAtEnd log.table.history) → NamesItsSegment old new log moved asked
+    → old.set.manifest.log.id < 2 ^ 32 → log.wal.id ≡ old.set.manifest.log.id → (w : World) → Reaches w → w.installed ≡ old.table → w.writes ≡ log.table → OpensInRenewal old new log moved asked
+opens_amid old new log moved asked g at_end named fits one w reached here there l m t left = opens_renewing old log g w (reached_is_sound w reached) here there new moved asked at_end named fits one l m t left
 
--- of the edit of a renewal, where the history ends with no undo in each such world
-renews_amid : (old new : EditsState) (log moved : LogState) (next : InstalledEdit) (place : ℕ) → IsLog log → next ≡ after_renewal log.table.history place old.table.last → NamesItsSegment old new log moved next
-    → ((w : World) → IsSound w → w.writes ≡ log.table → undone_last log.table.history ≡ None) → OpensInRenewal old new log moved next
-renews_amid old new log moved next place g is named whole fits one w reached here there l m t left =
-    let sound : IsSound w = reached_is_sound w reached in
-    let covers : IsEditCovered log.table.history next = subst (λ (e : InstalledEdit). IsEditCovered log.table.history e) (sym is) (covered_renewed old log g w sound here there place) in
-    let based : next.segment.base ≡ length log.table.history = ap (λ (e : InstalledEdit). e.segment.base) is in
-    opens_renewing old log g w sound here there new moved next (whole w sound there) covers based named fits one l m t left
+-- where a segment waits beside a log, its history ends with no undo
+whole_waiting : (log : LogState) → IsLog log → (asked : Option InstalledEdit) → log.table.next ≡ segment_of asked → IfSome asked (λ edit. undone_last log.table.history ≡ None)
+whole_waiting log g None waits = tt
+whole_waiting log g (Some edit) waits = (g.beside edit.segment waits).2
 
-module _ {D : Type 0} (Goes : Participant → Type 0) (z : SharedState D) (s u : SeatState) (e : Installed) where
-  pub opens_renewed : (done : Renewed) (k : HasRenewed Goes z s u e done)
-      → OpensInRenewal k.table.before k.table.after k.log.3.before k.log.3.after (after_renewal u.knows.participant.seen k.place e.last)
-  opens_renewed done k =
-      let x = k.log.3 in
-      let history : u.knows.participant.seen ≡ x.before.table.history = sym k.log.2 ∙ ap (λ (t : WriteTable). t.history) (sym x.before_is) in
-      let is : after_renewal u.knows.participant.seen k.place e.last ≡ after_renewal x.before.table.history k.place k.table.before.table.last =
-      λ i. after_renewal (history i) k.place (sym k.table.before_is i).last in
-      renews_amid k.table.before k.table.after x.before x.after (after_renewal u.knows.participant.seen k.place e.last) k.place x.log is x.so.1
-      (λ w sound there.
-      let tables : k.log.0 ≡ w.writes = sym x.before_is ∙ sym there in
-      let logs : x.after.table.log ≡ w.writes.log = ap (λ (t : WriteTable). t.log) x.after_is ∙ ap (λ (t : WriteTable). t.log) tables in
-      let based : x.after.table.segment.base ≡ length w.writes.history =
-      ap (λ (t : WriteTable). t.segment.base) x.after_is ∙ ap (λ (h : List Entry). length h) (sym k.log.2) ∙ ap (λ (t : WriteTable). length t.history) tables in
-      ap (λ (t : WriteTable). undone_last t.history) (sym there) ∙ whole_at w sound x.after x.still_log logs based)
+module _ {D : Type 0} (z : SharedState D) (s u : SeatState) (e : Installed) (one : IsOneStore z.opened z.first) where
+  -- of the devices of a call, in the world in which the seat held both turns
+  module _ (busy : IsBusy z s u e) (next : Installed) (Edits : EditsState → EditsState → Type 0) (tables : TablesBecame z e next Edits) (now : WriteTable) (Log : LogState → LogState → Type 0) (log : LogBecame z busy.unclosed.0 now Log) where
+    abbrev world : World
+    world = busy.unclosed.1.world
 
-  pub opens_broken : (k : HasBrokenOff Goes z s u e) (next : InstalledEdit) → k.asked ≡ Some next
-      → OpensInRenewal k.fault.before k.fault.after k.log.3.before k.log.3.after next
-  opens_broken k next asked =
-      let x = k.log.3 in
-      let made : (place : ℕ) × (next ≡ after_renewal u.knows.participant.seen place e.last) =
-      subst (λ (o : Option InstalledEdit). IfSome o (λ edit. (place : ℕ) × (edit ≡ after_renewal u.knows.participant.seen place e.last))) asked k.next in
-      let history : u.knows.participant.seen ≡ x.before.table.history = sym k.log.2 ∙ ap (λ (t : WriteTable). t.history) (sym x.before_is) in
-      let is : next ≡ after_renewal x.before.table.history made.0 k.fault.before.table.last =
-      made.1 ∙ (λ i. after_renewal (history i) made.0 (sym k.fault.before_is i).last) in
-      let waits : x.after.table.next ≡ Some next.segment = ap (λ (t : WriteTable). t.next) x.after_is ∙ ap segment_of asked in
-      let tables : x.after.table.history ≡ x.before.table.history = ap (λ (t : WriteTable). t.history) x.after_is ∙ ap (λ (t : WriteTable). t.history) (sym x.before_is) in
-      renews_amid k.fault.before k.fault.after x.before x.after next made.0 x.log is (x.so.1 next asked)
-      (λ w sound there. ap (λ (h : List Entry). undone_last h) (sym tables) ∙ (x.still_log.beside next.segment waits).2)
+    sound : IsSound world
+    sound = reached_is_sound world busy.unclosed.1.there.reached
+
+    here : world.installed ≡ tables.before.table
+    here = busy.at_once.0 ∙ sym tables.before_is
+
+    there : world.writes ≡ log.before.table
+    there = busy.at_once.1 ∙ sym log.before_is
+
+    -- the devices have the store's id
+    id_of_log : log.before.wal.id ≡ one.wal.id
+    id_of_log = log.log.id ∙ ap (λ (w : WalState). w.id) (same_some log.before.first one.wal (sym log.of_store ∙ one.log))
+
+    id_of_tables : tables.before.set.manifest.log.id ≡ one.wal.id
+    id_of_tables = tables.edits.id ∙ ap (λ (x : TableSetState). x.manifest.log.id) (same_some tables.before.first one.set (sym tables.of_store ∙ one.tables)) ∙ one.id
+
+    history_seen : u.knows.participant.seen ≡ log.before.table.history
+    history_seen = sym busy.history_is ∙ ap (λ (t : WriteTable). t.history) (sym log.before_is)
+
+    opens_in : (asked : Option InstalledEdit) → IfSome asked (λ edit. (place : ℕ) × (edit ≡ after_renewal u.knows.participant.seen place e.last)) → NamesItsSegment tables.before tables.after log.before log.after asked
+        → IfSome asked (λ edit. undone_last log.before.table.history ≡ None) → OpensInRenewal tables.before tables.after log.before log.after asked
+    opens_in asked made named whole l m t left =
+        let made_here = subst (λ (y : List Entry × Installed). IfSome asked (λ edit. (place : ℕ) × (edit ≡ after_renewal y.0 place y.1.last))) (λ i. (history_seen i, sym tables.before_is i)) made in
+        opens_renewing tables.before log.before log.log world sound here there tables.after log.after asked (renewed_at_end tables.before log.before log.log world sound here there asked made_here whole) named
+        (subst (λ (n : ℕ). n < 2 ^ 32) (sym id_of_tables) one.id_fits) (id_of_log ∙ sym id_of_tables) l m t left
+
+    -- where the log has a base at the end of its history, that is no undo
+    whole_based : now.log ≡ busy.unclosed.0.log → now.segment.base ≡ length busy.unclosed.0.history → undone_last log.before.table.history ≡ None
+    whole_based logs based =
+        ap (λ (t : WriteTable). undone_last t.history) (sym there)
+        ∙ whole_at world sound log.after log.still_log (ap (λ (t : WriteTable). t.log) log.after_is ∙ logs ∙ ap (λ (t : WriteTable). t.log) (sym busy.at_once.1))
+        (ap (λ (t : WriteTable). t.segment.base) log.after_is ∙ based ∙ ap (λ (t : WriteTable). length t.history) (sym busy.at_once.1))
+
+  module _ (Goes : Participant → Type 0) where
+    pub opens_renewed : (done : Renewed) (k : HasRenewed Goes z s u e done) → OpensInRenewal k.table.before k.table.after k.log.before k.log.after (Some (after_renewal u.knows.participant.seen k.place e.last))
+    opens_renewed done k =
+        opens_in k.busy _ _ k.table _ _ k.log (Some (after_renewal u.knows.participant.seen k.place e.last)) (k.place, refl) k.log.so.1
+        (whole_based k.busy _ _ k.table _ _ k.log refl (ap (λ (h : List Entry). length h) (sym k.busy.history_is)))
+
+    pub opens_broken : (k : HasBrokenOff Goes z s u e) → OpensInRenewal k.fault.before k.fault.after k.log.before k.log.after k.asked
+    opens_broken k =
+        let x = k.log in
+        let tables : x.after.table.history ≡ x.before.table.history = ap (λ (t : WriteTable). t.history) x.after_is ∙ ap (λ (t : WriteTable). t.history) (sym x.before_is) in
+        opens_in k.busy _ _ k.fault _ _ x k.asked k.next x.so.1
+        (subst (λ (h : List Entry). IfSome k.asked (λ edit. undone_last h ≡ None)) tables (whole_waiting x.after x.still_log k.asked (ap (λ (t : WriteTable). t.next) x.after_is)))
+
+    pub opens_log_fault : (k : HasLogFault Goes z s u e) → OpensInRenewal k.tables.before k.tables.after k.log.before k.log.after None
+    opens_log_fault k = opens_in k.busy _ _ k.tables _ _ k.log None tt k.log.so.2 tt
+
+    pub opens_memory : (k : HasNoMemory Goes z s u e) → OpensInRenewal k.tables.before k.tables.after k.log.before k.log.after None
+    opens_memory k = opens_in k.busy _ _ k.tables _ _ k.log None tt k.log.so.1 tt

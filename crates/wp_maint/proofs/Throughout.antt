@@ -1,6 +1,7 @@
 -- What a crash leaves in the midst of an install opens to the history that the log spells; and in the midst of a renewal each edit has its
 -- segment.
-use Rattle.std.proofs.Common.{◌≡◌, ◌⊎◌, inl, inr, ℕ, ◌<◌, ◌^◌, Bool, true, false, true≢false, List, [], ◌∷◌, ◌++◌, length, take, Some, append_assoc, length-append, refl, sym, subst, ap, ◌∙◌, arith}
+use Rattle.std.proofs.Common.{◌≡◌, ◌⊎◌, inl, inr, ℕ, ◌<◌, ◌^◌, Bool, true, false, true≢false, List, [], ◌∷◌, ◌++◌, length, take, Option, Some, None, append_assoc, length-append, refl, sym, subst, ap, ◌∙◌, arith}
+use Rattle.std.specs.Prelude.{IfSome}
 use Rattle.std.proofs.Math.Seq.{take-append_seam}
 use Rattle.wp_model.specs.declared.entry.Entry.{Entry}
 use Rattle.wp_model.specs.declared.segment.Segment.{Segment}
@@ -15,6 +16,7 @@ use Rattle.wp_gatelog.proofs.SurvivalLemmas.{rest_spells}
 use Rattle.wp_wal.specs.Spelling.{IsLogAt, HasAcknowledgedCut}
 use Rattle.wp_wal.proofs.AppendLemmas.{running_cut}
 use Rattle.wp_manifest.specs.Edit.{Edit}
+use Rattle.wp_manifest.specs.Manifest.{ManifestState}
 use Rattle.wp_manifest.specs.Spelling.{MAGIC, IsManifestOf, IsManifestOrNext, last_edit, head_stamp}
 use Rattle.wp_manifest.proofs.EditLemmas.{last-push}
 use Rattle.wp_merge.specs.Merge.{joined}
@@ -22,21 +24,24 @@ use Rattle.wp_merge.proofs.Sorted.{in_order_sorted}
 use Rattle.wp_open.specs.Opens.{installed_of}
 use Rattle.wp_table.specs.File.{HasTables}
 use Rattle.wp_core.specs.Sound.Actors.{StartsWith}
+use Rattle.wp_core.specs.Images.{LogTells, ManifestTells, MayName, MaySpell}
 use Rattle.wp_core.specs.IsSound.{IsSound}
 use Rattle.wp_core.specs.Tables.{Installed}
 use Rattle.wp_core.specs.World.{World, history}
 use Rattle.wp_core.proofs.CrashImages.{left_by_crash}
 use Rattle.wp_core.proofs.EachStep.{reached_is_sound}
+use Rattle.wp_core.proofs.Tests.{none_some}
 use Rattle.wp_rule.proofs.Maintenance.{edit_later}
-use Rattle.wp_shared.specs.Edits.{EditsState, IsEdits, installed_at}
+use Rattle.wp_shared.specs.Edits.{EditsState, IsEdits, IsNamed}
 use Rattle.wp_shared.specs.Installs.{SurvivesInstall}
-use Rattle.wp_shared.specs.Log.{LogState, IsLog}
+use Rattle.wp_shared.specs.Log.{LogState, IsLog, spells}
 use Rattle.wp_shared.proofs.Ended as ended
 use Rattle.wp_shared.proofs.LogLemmas.{known_image}
 use Rattle.wp_shared.proofs.Onward.{starts_on, starts_equal, starts_same}
 use Rattle.wp_shared.proofs.Reopens.{ReopensEdit, reopens_edit}
+use Rattle.wp_maint.specs.Calls.{IsUncalled}
 use Rattle.wp_maint.specs.Moments.{LeftSince, LeftInInstall, MaySpellAmid, OpensFrom, OpensFromBase, OpensThroughout, SpellsCut}
-use Rattle.wp_maint.specs.Renewal.{SurvivesBeside, NamesEdit, NamesItsSegment}
+use Rattle.wp_maint.specs.Renewal.{LeftInRenewal, SurvivesBeside, NamesEdit, NamesItsSegment, segment_of}
 
 -- ---- what is so at each moment
 
@@ -80,10 +85,10 @@ ends_since P old new image passes at = ([], passes.0, passes.1, subst (λ (ms : 
 pub opens_as : (old : EditsState) → old.set.manifest.log.id < 2 ^ 32 → (entries : List Entry) → IsLegal entries → (c : Cut) → IsCut entries c → (edit : InstalledEdit) → c.base ≡ edit.segment.base → IsEditCovered entries edit
     → (log manifest tables : List ℕ) → IsLogAt old.set.manifest.log.id edit.segment.place c log → NamesEdit old manifest tables edit → OpensFromBase old.set.manifest.log.id entries edit log manifest tables
 opens_as old fits entries legal c cut edit based covered log manifest tables spelled named =
-    let segment : edit.segment ≡ (installed_at edit.segment.base (last_edit named.edits) named.parts).segment = ap (λ (x : InstalledEdit). x.segment) named.is in
+    let segment : edit.segment ≡ (installed_of edit.segment.base (last_edit named.edits) named.parts).segment = ap (λ (x : InstalledEdit). x.segment) named.is in
     let order : AreInOrder edit.versions = subst AreInOrder (ap (λ (x : InstalledEdit). x.versions) (sym named.is)) (in_order_sorted (joined named.parts)) in
     let r : ReopensEdit entries c edit = reopens_edit entries c edit legal cut based order covered in
-    let full : full_of c edit.versions ≡ full_of c (installed_at edit.segment.base (last_edit named.edits) named.parts).versions = ap (λ (x : InstalledEdit). full_of c x.versions) named.is in
+    let full : full_of c edit.versions ≡ full_of c (installed_of edit.segment.base (last_edit named.edits) named.parts).versions = ap (λ (x : InstalledEdit). full_of c x.versions) named.is in
     let named_is : edit ≡ installed_of c.base (last_edit named.edits) named.parts = named.is ∙ ap (λ (n : ℕ). installed_of n (last_edit named.edits) named.parts) (sym based) in (
       full_of c edit.versions,
       ended.opens_from entries c edit edit.segment.base cut.within based r,
@@ -142,8 +147,8 @@ module _ (old new : EditsState) (next : InstalledEdit) (k : IsEdits old) (runnin
   last_of_more = sym (last-push s.edits s.next)
 
   -- the next edit is the last one of those and itself
-  next_named : next ≡ installed_at next.segment.base (last_edit (s.edits ++ s.next ∷ [])) s.next_parts
-  next_named = s.next_is ∙ ap (λ (e : Edit). installed_at next.segment.base e s.next_parts) last_of_more
+  next_named : next ≡ installed_of next.segment.base (last_edit (s.edits ++ s.next ∷ [])) s.next_parts
+  next_named = s.next_is ∙ ap (λ (e : Edit). installed_of next.segment.base e s.next_parts) last_of_more
 
   next_there : (image : List ℕ) → Next image → HasTables id (last_edit (s.edits ++ s.next ∷ [])).flushed image (last_edit (s.edits ++ s.next ∷ [])).tables s.next_parts
   next_there image there = subst (λ (e : Edit). HasTables id e.flushed image e.tables s.next_parts) last_of_more there
@@ -195,7 +200,7 @@ module _ (old new : EditsState) (next : InstalledEdit) (k : IsEdits old) (runnin
 
   -- ---- a renewal
 
-  module _ (log moved : LogState) (g : IsLog log) (open_ : log.table.closed ≡ false) (whole : log.table.log ≡ log.table.history) (coupled : log.table.segment ≡ old.table.last.segment) (b : SurvivesBeside log moved (Some next.segment)) where
+  module _ (log moved : LogState) (g : IsLog log) (open_ : log.table.closed ≡ false) (whole : log.table.log ≡ log.table.history) (coupled : log.table.segment ≡ old.table.last.segment) where
     cut_now : g.cut ≡ cut_at log.table.history log.table.segment.base
     cut_now = g.is_cut.is ∙ (λ i. cut_at (whole i) (log_based log g i))
 
@@ -214,12 +219,6 @@ module _ (old new : EditsState) (next : InstalledEdit) (k : IsEdits old) (runnin
         subst (λ (x : Segment). IsLogAt log.wal.id x.place g.cut image) (sym g.segment)
         (known_image (λ bytes. IsLogAt log.wal.id log.wal.segment.place g.cut bytes × HasAcknowledgedCut log.wal.id log.wal.segment.place g.cut bytes) log.wal.moments image at (running_cut log.wal g.cut log.table.failed g.stores device_open)).0
 
-    log_passes : Passes (Leaves At) log.wal.moments moved.wal.moments
-    log_passes = b.still g.cut (subst (λ (h : List Entry). IsCut h g.cut) whole g.is_cut) (log_based log g)
-
-    log_since : (image : List ℕ) → LeftSince log.wal.moments moved.wal.moments image → At image
-    log_since = holds_since At log.wal.moments moved.wal.moments log_rests log_passes
-
     -- at the place that the edit names the log spells the history, cut at its base
     abbrev HasItsSegment : List ℕ → InstalledEdit → Type 0
     HasItsSegment image edit = IsLogAt log.wal.id edit.segment.place (cut_at log.table.history edit.segment.base) image
@@ -227,17 +226,83 @@ module _ (old new : EditsState) (next : InstalledEdit) (k : IsEdits old) (runnin
     has_last : (image : List ℕ) → At image → HasItsSegment image old.table.last
     has_last image at = subst (λ (x : Segment). IsLogAt log.wal.id x.place (cut_at log.table.history x.base) image) coupled (subst (λ (d : Cut). IsLogAt log.wal.id log.table.segment.place d image) cut_now at)
 
-    has_next : (image : List ℕ) → images moved.wal.moments image → HasItsSegment image next
-    has_next image at =
+    module _ (segment : Option Segment) (b : SurvivesBeside log moved segment) where
+      log_passes : Passes (Leaves At) log.wal.moments moved.wal.moments
+      log_passes = b.still g.cut (subst (λ (h : List Entry). IsCut h g.cut) whole g.is_cut) (log_based log g)
+
+      log_since : (image : List ℕ) → LeftSince log.wal.moments moved.wal.moments image → At image
+      log_since = holds_since At log.wal.moments moved.wal.moments log_rests log_passes
+
+      -- until the manifest may be called
+      before_edit : (l m t : List ℕ) → LeftInRenewal old new log moved l m t
+          → (HasItsSegment l old.table.last × NamesEdit old m t old.table.last)
+          ⊎ (HasItsSegment l old.table.last × images moved.wal.moments l × LeftSince old.set.manifest.log.moments new.set.manifest.log.moments m × images new.set.moments t)
+      before_edit l m t (inl (at_l, at_m, since)) = inl (has_last l (log_rests l at_l), names_last m t (manifest_rests m at_m) (tables_since t since))
+      before_edit l m t (inr (inl (since, at_m, at_t))) = inl (has_last l (log_since l since), names_last m t (manifest_rests m at_m) (tables_done t at_t))
+      before_edit l m t (inr (inr (at_l, since, at_t))) = inr (has_last l (log_since l (ends_since (Leaves At) log.wal.moments moved.wal.moments l log_passes at_l)), at_l, since, at_t)
+
+    has_next : SurvivesBeside log moved (Some next.segment) → (image : List ℕ) → images moved.wal.moments image → HasItsSegment image next
+    has_next b image at =
         (known_image (λ bytes. IsLogAt log.wal.id next.segment.place (cut_at log.table.history next.segment.base) bytes × HasAcknowledgedCut log.wal.id next.segment.place (cut_at log.table.history next.segment.base) bytes) moved.wal.moments image at b.beside.2).0
 
-    pub names_its_segment : NamesItsSegment old new log moved next
-    names_its_segment l m t (inl (at_l, at_m, since)) = (old.table.last, inl refl, names_last m t (manifest_rests m at_m) (tables_since t since), has_last l (log_rests l at_l))
-    names_its_segment l m t (inr (inl (since, at_m, at_t))) = (old.table.last, inl refl, names_last m t (manifest_rests m at_m) (tables_done t at_t), has_last l (log_since l since))
-    names_its_segment l m t (inr (inr (at_l, since, at_t))) = elim (done_since m t since at_t) [
-      | inl last ↦ (old.table.last, inl refl, names_last m t last.0 last.1, has_last l (log_since l (ends_since (Leaves At) log.wal.moments moved.wal.moments l log_passes at_l)))
-      | inr more ↦ (next, inr refl, names_next m t more.0 more.1, has_next l at_l)
+    uncalled_since : IsUncalled old new → (image : List ℕ) → LeftSince old.set.manifest.log.moments new.set.manifest.log.moments image → IsManifestOf id s.edits image
+    uncalled_since uncalled = holds_since (IsManifestOf id s.edits) old.set.manifest.log.moments new.set.manifest.log.moments manifest_rests ([], ap (λ (x : ManifestState). x.log.moments) uncalled, tt)
+
+    pub names_its_segment : (asked : Option InstalledEdit) → IfSome asked (λ edit. edit ≡ next) → (asked ≡ None → IsUncalled old new) → SurvivesBeside log moved (segment_of asked) → NamesItsSegment old new log moved asked
+    names_its_segment None is uncalled b l m t left = elim (before_edit None b l m t left) [
+      | inl last ↦ (old.table.last, inl refl, last.1, last.0)
+      | inr more ↦ (old.table.last, inl refl, names_last m t (uncalled_since (uncalled refl) m more.2) (tables_done t more.3), more.0)
     ]
+    names_its_segment (Some edit) is uncalled b l m t left = elim (before_edit (Some edit.segment) b l m t left) [
+      | inl last ↦ (old.table.last, inl refl, last.1, last.0)
+      | inr more ↦ elim (done_since m t more.2 more.3) [
+        | inl last ↦ (old.table.last, inl refl, names_last m t last.0 last.1, more.0)
+        | inr named ↦ (next, inr (ap Some is), names_next m t named.0 named.1, has_next (subst (λ (x : InstalledEdit). SurvivesBeside log moved (Some x.segment)) is b) l more.1)
+      ]
+    ]
+
+-- ---- no device is called in a renewal
+
+-- each image names the last edit, with its tables, and the log has the history at its place
+pub names_still : (e : EditsState) (log : LogState) → e.table.failed ≡ None → log.table.closed ≡ false → log.table.log ≡ log.table.history → log.table.segment ≡ e.table.last.segment
+    → ManifestTells (images e.set.manifest.log.moments) (IsNamed e) e.table → LogTells (images log.wal.moments) (spells log) log.table → NamesItsSegment e e log log None
+names_still e log none open_ whole coupled edits_tell log_tells l m t left =
+    let found = edits_tell m (at_m left) in let named = found.1 in let spelled = (log_tells l (at_l left)).0 in
+    let last : found.0 ≡ e.table.last = is_last found.0 found.2 in
+    let based : named.base ≡ found.0.segment.base = sym (ap (λ (x : InstalledEdit). x.segment.base) named.is) in
+    let history : spelled.0 ≡ log.table.history = is_spelled spelled.0 spelled.2 in
+    let segment : log.table.segment ≡ found.0.segment = coupled ∙ ap (λ (x : InstalledEdit). x.segment) (sym last) in (
+      found.0,
+      inl last,
+      record { edits = named.edits; parts = named.parts; spelled = named.spelled; is = named.is ∙ ap (λ (n : ℕ). installed_of n (last_edit named.edits) named.parts) based; there = named.there t (at_t left) },
+      subst (λ (x : ℕ × Cut). IsLogAt log.wal.id x.0 x.1 l) (λ i. ((segment i).place, (spelled.1.2.is ∙ (λ j. cut_at (history j) ((spelled.1.3 ∙ ap (λ (s : Segment). s.base) segment) j))) i)) spelled.1.1,
+    )
+  where
+    rests : (moments : List Moment) (image : List ℕ) → LeftSince moments moments image → images moments image
+    rests moments = holds_since (images moments) moments moments (λ image at. at) ([], refl, tt)
+
+    at_l : LeftInRenewal e e log log l m t → images log.wal.moments l
+    at_l (inl k) = k.0
+    at_l (inr (inl k)) = rests log.wal.moments l k.0
+    at_l (inr (inr k)) = k.0
+
+    at_m : LeftInRenewal e e log log l m t → images e.set.manifest.log.moments m
+    at_m (inl k) = k.1
+    at_m (inr (inl k)) = k.1
+    at_m (inr (inr k)) = rests e.set.manifest.log.moments m k.1
+
+    at_t : LeftInRenewal e e log log l m t → images e.set.moments t
+    at_t (inl k) = rests e.set.moments t k.2
+    at_t (inr (inl k)) = k.2
+    at_t (inr (inr k)) = k.2
+
+    is_last : (edit : InstalledEdit) → MayName e.table edit → edit ≡ e.table.last
+    is_last edit (inl is) = is
+    is_last edit (inr asked) = absurd (none_some e.table.failed edit none asked)
+
+    is_spelled : (entries : List Entry) → MaySpell log.table entries → entries ≡ log.table.history
+    is_spelled entries (inl is) = is ∙ whole
+    is_spelled entries (inr closed) = absurd (true≢false (sym closed.0 ∙ open_))
 
 -- ---- as callers see it
 

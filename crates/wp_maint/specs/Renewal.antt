@@ -1,12 +1,14 @@
 -- What a renewal of the log answers, and what it leaves of the seat and of the three devices.
-use Rattle.std.specs.Prelude.{◌≡◌, ◌≢◌, ◌⊎◌, ℕ, ◌<◌, ◌≤◌, ◌^◌, true, false, List, [], ◌∷◌, ◌++◌, length, map, option_map, Option, Some, None, IfSome, Result, Ok, Err}
+use Rattle.std.specs.Prelude.{◌≡◌, ◌≢◌, ◌⊎◌, ℕ, ◌<◌, ◌≤◌, true, false, List, [], ◌∷◌, ◌++◌, length, map, option_map, Option, Some, None, IfSome, Result, Ok, Err}
 use Rattle.std.specs.Arc.{arc_value}
 use Rattle.std.specs.List.{list_all}
 use Rattle.std.specs.Vec.{vec_capacity}
+use Rattle.wp_model.specs.declared.entry.Entry.{Entry}
 use Rattle.wp_model.specs.declared.segment.Segment.{Segment}
 use Rattle.wp_model.specs.declared.version.Version.{Version}
 use Rattle.wp_model.specs.Flushed.{InstalledEdit, IsEditCovered}
 use Rattle.wp_model.specs.History.{undecided}
+use Rattle.wp_model.specs.Legal.{undone_last}
 use Rattle.wp_cuts.specs.Cut.{Cut, IsCut, cut_at}
 use Rattle.wp_outside.specs.Disk.{IfKnown, Passes, images}
 use Rattle.wp_outside.specs.Faults.{Rose}
@@ -14,22 +16,23 @@ use Rattle.wp_gatelog.specs.Moments.{Leaves}
 use Rattle.wp_manifest.specs.Edit.{Edit}
 use Rattle.wp_manifest.specs.Spelling.{IsManifestOf, last_edit}
 use Rattle.wp_merge.specs.Merge.{joined, sorted_of}
+use Rattle.wp_open.specs.Opens.{installed_of}
 use Rattle.wp_replies.specs.Tables.{unflushed, after_renewal}
 use Rattle.wp_table.specs.File.{HasTables}
 use Rattle.wp_table.specs.Table.{is_numbered, is_flushed}
 use Rattle.wp_tableset.specs.Changes.{compacted_parts}
+use Rattle.wp_wal.specs.Segment.{NewSegmentState}
 use Rattle.wp_wal.specs.Spelling.{IsLogAt}
 use Rattle.wp_wal.specs.Wal.{LeavesCut, LosesNothingAt}
 use Rattle.wp_core.specs.Effects.{with_failed}
-use Rattle.wp_core.specs.Runs.{Reaches}
 use Rattle.wp_core.specs.Tables.{WriteTable, Installed, writes, installed}
 use Rattle.wp_core.specs.Views.{frozen_stay, tables_failed, log_failed, log_stopped, stopped}
 use Rattle.wp_core.specs.Views as event
-use Rattle.wp_core.specs.World.{Actor, Participant, World}
+use Rattle.wp_core.specs.World.{Actor, Participant}
 use Rattle.wp_rule.specs.Knows.{Noted}
-use Rattle.wp_shared.specs.Edits.{EditsState, installed_at}
+use Rattle.wp_shared.specs.Edits.{EditsState}
 use Rattle.wp_shared.specs.Installs.{SurvivesInstall}
-use Rattle.wp_shared.specs.Log.{LogState, IsLog}
+use Rattle.wp_shared.specs.Log.{LogState, IsLog, IsPlaceOf, IsSegmentOf}
 use Rattle.wp_shared.specs.Parts.{log_first, set_first}
 use Rattle.wp_shared.specs.Calls.{Continues, remembering}
 use Rattle.wp_shared.specs.Seats.{SharedState, SeatState}
@@ -38,7 +41,7 @@ use Rattle.wp_maint.specs.declared.frozen.Frozen.{Frozen}
 use Rattle.wp_maint.specs.declared.renewed.Renewed.{Renewed}
 use Rattle.wp_maint.specs.declared.renewed.RenewError.{RenewError}
 use Rattle.wp_maint.specs.declared.renewed.RenewError.TheVariants.{Memory, TablesStopped, Stopped, Nothing, TableFault, LogFault}
-use Rattle.wp_maint.specs.Calls.{FailedOnce, Finds, found_by, HasFault, HeldContent, HeldTables, IsStopped, MadeNoInstall, SawWhole, TablesBecame}
+use Rattle.wp_maint.specs.Calls.{FailedOnce, Finds, found_by, HasFault, HeldContent, HeldTables, IsStopped, IsUncalled, MadeNoInstall, SawWhole, TablesBecame}
 use Rattle.wp_maint.specs.Flush.{versions_of}
 use Rattle.wp_maint.specs.Moments.{LeftSince, OpensFromBase}
 
@@ -79,13 +82,15 @@ pub record LogBecame {D : Type 0} (z : SharedState D) (t next : WriteTable) (So 
   pub so : So before after
 
 -- What a crash leaves of the log while a segment is written beside it, and from then on: the history at the old place throughout, and what
--- was acknowledged there. Once the segment is on the device for good, the history is at its place too, cut at its base.
+-- was acknowledged there. Once the segment is on the device for good, the history is at its place too, cut at its base. It is the
+-- segment of this history, and stands where that one has its place.
 pub record SurvivesBeside (old new : LogState) (segment : Option Segment) : Type 0 where
   pub still : (c : Cut) → IsCut old.table.history c → c.base ≡ old.table.segment.base
       → Passes (Leaves (IsLogAt old.wal.id old.table.segment.place c)) old.wal.moments new.wal.moments
   pub durable : LosesNothingAt old.table.segment.place old.wal.moments new.wal.moments
   pub beside : IfSome segment (λ s. (s.base ≡ length old.table.history) × (s.place ≢ old.table.segment.place)
       × IfKnown new.wal.moments (LeavesCut old.wal.id s.place (cut_at old.table.history s.base)))
+  pub placed : IfSome segment (λ s. (written : NewSegmentState) × IsSegmentOf old written × IsPlaceOf old written s.place)
 
 -- First the tables' device is called, then the log's, and then the manifest's, each while the others are as they are then. That the code
 -- calls them so, no clause tells: each device shows its own moments.
@@ -104,23 +109,25 @@ pub record NamesEdit (s : EditsState) (manifest tables : List ℕ) (edit : Insta
   pub edits : List Edit
   pub parts : List (List Version)
   pub spelled : IsManifestOf s.set.manifest.log.id edits manifest
-  pub is : edit ≡ installed_at edit.segment.base (last_edit edits) parts
+  pub is : edit ≡ installed_of edit.segment.base (last_edit edits) parts
   pub there : HasTables s.set.manifest.log.id (last_edit edits).flushed tables (last_edit edits).tables parts
 
--- Whatever a crash in the renewal leaves, the manifest's last edit is the old one or the next one, and is so with its tables; and at the
--- place that this edit names the log spells the history, cut at the edit's base.
-abbrev pub NamesItsSegment : EditsState → EditsState → LogState → LogState → InstalledEdit → Type 0
-NamesItsSegment old new log moved next = (l m t : List ℕ) → LeftInRenewal old new log moved l m t
-    → (edit : InstalledEdit) × ((edit ≡ old.table.last) ⊎ (edit ≡ next)) × NamesEdit old m t edit × IsLogAt log.wal.id edit.segment.place (cut_at log.table.history edit.segment.base) l
+-- Whatever a crash in the renewal leaves, the manifest's last edit is the old one, or the one that was asked for, if one was, and is so
+-- with its tables; and at the place that this edit names the log spells the history, cut at the edit's base.
+abbrev pub NamesItsSegment : EditsState → EditsState → LogState → LogState → Option InstalledEdit → Type 0
+NamesItsSegment old new log moved asked = (l m t : List ℕ) → LeftInRenewal old new log moved l m t
+    → (edit : InstalledEdit) × ((edit ≡ old.table.last) ⊎ (asked ≡ Some edit)) × NamesEdit old m t edit × IsLogAt log.wal.id edit.segment.place (cut_at log.table.history edit.segment.base) l
 
--- In each reached world with the old tables and the log as it was: whatever a crash in the renewal leaves, the three devices open to a list
--- that is the history from the edit's base on, and to the last edit or the next one.
-abbrev pub OpensInRenewal : EditsState → EditsState → LogState → LogState → InstalledEdit → Type 0
-OpensInRenewal old new log moved next =
-    old.set.manifest.log.id < 2 ^ 32 → log.wal.id ≡ old.set.manifest.log.id
-    → (w : World) → Reaches w → w.installed ≡ old.table → w.writes ≡ log.table
-    → (l m t : List ℕ) → LeftInRenewal old new log moved l m t
-    → (edit : InstalledEdit) × ((edit ≡ old.table.last) ⊎ (edit ≡ next)) × OpensFromBase old.set.manifest.log.id log.table.history edit l m t
+-- the edit's base is where the history ends, which is no undo, and the history covers it
+abbrev pub IsAtEnd : List Entry → InstalledEdit → Type 0
+IsAtEnd history edit = (undone_last history ≡ None) × IsEditCovered history edit × (edit.segment.base ≡ length history)
+
+-- Whatever a crash in the renewal leaves, the three devices open to a list that is the history from the edit's base on, and to the last
+-- edit, or the one that was asked for, if one was.
+abbrev pub OpensInRenewal : EditsState → EditsState → LogState → LogState → Option InstalledEdit → Type 0
+OpensInRenewal old new log moved asked =
+    (l m t : List ℕ) → LeftInRenewal old new log moved l m t
+    → (edit : InstalledEdit) × ((edit ≡ old.table.last) ⊎ (asked ≡ Some edit)) × OpensFromBase old.set.manifest.log.id log.table.history edit l m t
 
 -- ---- refusals
 
@@ -142,15 +149,19 @@ pub record IsRenewed {D : Type 0} (Goes : Participant → Type 0) (z : SharedSta
   pub based : e.last.segment.base ≡ length new.knows.participant.seen
   pub goes_on : Goes (remembering (found_by z old new e found ∷ []) old.knows.participant)
 
--- where there was something to renew, and the log was not closed
+-- There was something to renew, and the log was not closed: one world of the store had these tables, and the log with the whole history,
+-- when the seat held the write turn.
 pub record IsBusy {D : Type 0} (z : SharedState D) (old new : SeatState) (e : Installed) : Type 0 where
   pub running : e.halted ≡ false
   pub whole : SawWhole z old new.knows.participant.seen
   pub unclosed : (t : WriteTable) × HeldContent z old new old.knows.participant.past (writes t) × (t.closed ≡ false)
+  pub at_once : (unclosed.1.world.installed ≡ e) × (unclosed.1.world.writes ≡ unclosed.0)
+  pub history_is : unclosed.0.history ≡ new.knows.participant.seen
   pub below : e.last.segment.base < length new.knows.participant.seen
 
--- A device of the tables failed: before the segment was written, or in the install of the edit that names it, which a later opening may
--- find then; its segment is beside the one in use in either case that it finds. The log takes no entry any more.
+-- A device of the tables failed: before the segment was written, when no edit was asked for and the manifest was not called; or in the
+-- install of the edit that names it, which a later opening may find then, and its segment beside the one in use. The log takes no entry
+-- any more.
 pub record HasBrokenOff {D : Type 0} (Goes : Participant → Type 0) (z : SharedState D) (old new : SeatState) (e : Installed) : Type 0 where
   pub found : Finds z old new e
   pub busy : IsBusy z old new e
@@ -159,20 +170,30 @@ pub record HasBrokenOff {D : Type 0} (Goes : Participant → Type 0) (z : Shared
   pub left : HeldTables z old new new.knows.participant.past (with_failed e asked)
   pub fault : TablesBecame z e (with_failed e asked) HasFault
   pub survives : (edit : InstalledEdit) × ((place : ℕ) × (edit ≡ after_renewal new.knows.participant.seen place e.last)) × IfSome asked (λ next. next ≡ edit) × SurvivesInstall fault.before fault.after edit
-  pub log : (t : WriteTable) × (t.closed ≡ false) × (t.history ≡ new.knows.participant.seen)
-      × LogBecame z t (record t { next = segment_of asked; closed = true; stopped = true }) (λ before after. SurvivesBeside before after (segment_of asked)
-      × ((next : InstalledEdit) → asked ≡ Some next → NamesItsSegment fault.before fault.after before after next))
+  pub uncalled : asked ≡ None → IsUncalled fault.before fault.after
+  pub log : LogBecame z busy.unclosed.0 (record busy.unclosed.0 { next = segment_of asked; closed = true; stopped = true })
+      (λ before after. SurvivesBeside before after (segment_of asked) × NamesItsSegment fault.before fault.after before after asked)
   pub goes_on : Goes (remembering (found_by z old new e found ∷ tables_failed e.last asked ∷ log_stopped ∷ []) old.knows.participant)
 
--- The log's device failed. Tables and manifest are as they were, but that the tables' device may have bytes that nothing names.
+-- The log's device failed. Tables and manifest are as they were, but that the tables' device may have bytes that nothing names: of the
+-- table of an edit that was not asked for. While that was written, a crash left the tables that there were.
 pub record HasLogFault {D : Type 0} (Goes : Participant → Type 0) (z : SharedState D) (old new : SeatState) (e : Installed) : Type 0 where
   pub found : Finds z old new e
   pub busy : IsBusy z old new e
   pub left : HeldTables z old new new.knows.participant.past e
-  pub tables : TablesBecame z e e (λ before after. after.set.manifest ≡ before.set.manifest)
-  pub log : (t : WriteTable) × (t.closed ≡ false) × (t.history ≡ new.knows.participant.seen)
-      × LogBecame z t (record t { closed = true }) (λ before after. Rose before.wal.faults after.wal.faults × SurvivesBeside before after None)
+  pub tables : TablesBecame z e e IsUncalled
+  pub survives : (edit : InstalledEdit) × ((place : ℕ) × (edit ≡ after_renewal new.knows.participant.seen place e.last)) × SurvivesInstall tables.before tables.after edit
+  pub log : LogBecame z busy.unclosed.0 (record busy.unclosed.0 { closed = true })
+      (λ before after. Rose before.wal.faults after.wal.faults × SurvivesBeside before after None × NamesItsSegment tables.before tables.after before after None)
   pub goes_on : Goes (remembering (found_by z old new e found ∷ log_failed [] ∷ []) old.knows.participant)
+
+-- Memory ran out. Tables, manifest and log are as they were, but that the tables' device may have bytes that nothing names. At each moment
+-- meanwhile a crash left the last edit, with its tables, and the history at the place that it names.
+pub record HasNoMemory {D : Type 0} (Goes : Participant → Type 0) (z : SharedState D) (old new : SeatState) (e : Installed) : Type 0 where
+  pub busy : IsBusy z old new e
+  pub tables : TablesBecame z e e IsUncalled
+  pub log : LogBecame z busy.unclosed.0 busy.unclosed.0 (λ before after. (after ≡ before) × NamesItsSegment tables.before tables.after before after None)
+  pub goes_on : Goes old.knows.participant
 
 -- ---- the renewal
 
@@ -190,15 +211,14 @@ pub record HasRenewed {D : Type 0} (Goes : Participant → Type 0) (z : SharedSt
   pub table : TablesBecame z e (record e { last = after_renewal new.knows.participant.seen place e.last })
       (λ before after. after.parts ≡ compacted_parts (sorted_of (unflushed new.knows.participant.seen e.last)) ++ before.parts)
   pub survives : SurvivesInstall table.before table.after (after_renewal new.knows.participant.seen place e.last)
-  pub log : (t : WriteTable) × (t.closed ≡ false) × (t.history ≡ new.knows.participant.seen)
-      × LogBecame z t (record t { segment = record { place = place; base = length new.knows.participant.seen }; next = None })
-      (λ before after. SurvivesBeside before after (Some after.table.segment) × NamesItsSegment table.before table.after before after (after_renewal new.knows.participant.seen place e.last))
+  pub log : LogBecame z busy.unclosed.0 (record busy.unclosed.0 { segment = record { place = place; base = length new.knows.participant.seen }; next = None })
+      (λ before after. SurvivesBeside before after (Some after.table.segment) × NamesItsSegment table.before table.after before after (Some (after_renewal new.knows.participant.seen place e.last)))
   pub goes_on : Goes (remembering (found_by z old new e found ∷ event.renewed (after_renewal new.knows.participant.seen place e.last) ∷ []) old.knows.participant)
 
 -- what it answers and leaves where it finds these tables
 abbrev pub RenewsFrom : {D : Type 0} → (Participant → Type 0) → SharedState D → SeatState → Installed → Result Renewed RenewError → SeatState → Type 0
 RenewsFrom Goes z old e (Ok done) new = HasRenewed Goes z old new e done
-RenewsFrom Goes z old e (Err Memory) new = Goes old.knows.participant
+RenewsFrom Goes z old e (Err Memory) new = HasNoMemory Goes z old new e
 RenewsFrom Goes z old e (Err (TablesStopped flushed)) new = IsStopped Goes z old new e flushed
 RenewsFrom Goes z old e (Err (Stopped n)) new = IsClosed Goes z old new e n
 RenewsFrom Goes z old e (Err Nothing) new = IsRenewed Goes z old new e

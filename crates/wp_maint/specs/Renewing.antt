@@ -29,7 +29,7 @@ use Rattle.wp_maint.specs.declared.frozen.Frozen.{Frozen}
 use Rattle.wp_maint.specs.declared.renewed.Renewed.{Renewed}
 use Rattle.wp_maint.specs.declared.renewed.RenewError.{RenewError}
 use Rattle.wp_maint.specs.declared.renewed.RenewError.TheVariants.{Memory, TableFault, LogFault}
-use Rattle.wp_maint.specs.Calls.{Finds, found_by, HasFault}
+use Rattle.wp_maint.specs.Calls.{Finds, found_by, HasFault, IsUncalled}
 use Rattle.wp_maint.specs.Flush.{versions_of}
 use Rattle.wp_maint.specs.Holding.{is_of_flushed}
 use Rattle.wp_maint.specs.Installs.{AreLeft}
@@ -73,11 +73,12 @@ pub record HasStopped {D : Type 0} (z : SharedState D) (Survives : EditsState �
 
 -- ---- the table
 
--- What the write of the table leaves: the edit behind it; or for want of memory what there was; or a stopped store.
+-- What the write of the table leaves: the edit behind it; or for want of memory what there was; or a stopped store. A crash meanwhile left
+-- the tables that there were.
 abbrev pub WritesTable : {D T : Type 0} → SharedState D → SeatState → EditsState → LogState → SegmentState → Result T RenewError → SeatState → EditsState → LogState → SegmentState → Type 0
-WritesTable z old e log edit (Ok table) new left now ready = (new ≡ old) × (now ≡ log) × (left.table ≡ e.table) × HoldsBoth z new left now now.table × IsWritten e left edit ready
-WritesTable z old e log edit (Err Memory) new left now ready = (new ≡ old) × (now ≡ log) × AreLeft e left × (left.first ≡ e.first)
-WritesTable z old e log edit (Err TableFault) new left now ready = HasStopped z (λ before after. SurvivesWrite before after edit) old e log None new left now
+WritesTable z old e log edit (Ok table) new left now ready = (new ≡ old) × (now ≡ log) × (left.table ≡ e.table) × HoldsBoth z new left now now.table × IsWritten e left edit ready × SurvivesWrite e left edit
+WritesTable z old e log edit (Err Memory) new left now ready = (new ≡ old) × (now ≡ log) × AreLeft e left × (left.first ≡ e.first) × SurvivesWrite e left edit × IsEdits left
+WritesTable z old e log edit (Err TableFault) new left now ready = HasStopped z (λ before after. SurvivesWrite before after edit × IsUncalled before after) old e log None new left now
 WritesTable z old e log edit (Err other) new left now ready = ⊥
 
 -- ---- the segment

@@ -1,22 +1,24 @@
 //! What a crash leaves in the midst of an install, of all three devices; and what may be refused behind one.
-ghost use Rattle.std.specs.Prelude.{◌≡◌, ◌⊎◌, false, Bool, List, ◌∷◌, [], ◌++◌, length, None, Some};
+ghost use Rattle.std.specs.Prelude.{◌≡◌, ◌⊎◌, ℕ, ◌<◌, ◌^◌, false, Bool, List, ◌∷◌, [], ◌++◌, Option, None, Some, IfSome};
 ghost use Rattle.wp_model.specs.declared.entry.Entry.{Entry};
 ghost use Rattle.wp_model.specs.Flushed.{InstalledEdit, IsEditCovered};
-ghost use Rattle.wp_model.specs.Legal.{undone_last};
 ghost use Rattle.wp_replies.specs.Tables.{after_renewal};
+ghost use Rattle.wp_core.specs.Runs.{Reaches};
 ghost use Rattle.wp_core.specs.Tables.{Installed};
 ghost use Rattle.wp_core.specs.Views as event;
+ghost use Rattle.wp_core.specs.World.{World};
 ghost use Rattle.wp_shared.specs.Calls.{Continues};
 ghost use Rattle.wp_shared.specs.Edits.{EditsState, IsEdits};
 ghost use Rattle.wp_shared.specs.Installs.{SurvivesInstall};
+ghost use Rattle.wp_shared.specs.Opening.{IsOneStore};
 ghost use Rattle.wp_shared.specs.Seats.{SharedState, SeatState};
 ghost use Rattle.wp_maint.specs.declared.error.MaintError.{MaintError};
 ghost use Rattle.wp_maint.specs.declared.error.MaintError.TheVariants.{TableFault};
 ghost use Rattle.wp_maint.specs.declared.renewed.Renewed.{Renewed};
-ghost use Rattle.wp_maint.specs.Calls.{installs_of, FailedOnce, LeavesEach, LeavesOnce, MadeNoInstall, RefusesBeforeInstall, UnlessFault};
+ghost use Rattle.wp_maint.specs.Calls.{installs_of, FailedOnce, IsUncalled, LeavesEach, LeavesOnce, MadeNoInstall, RefusesBeforeInstall, UnlessFault};
 ghost use Rattle.wp_maint.specs.Installs.{AreLeft, HasBroken, NotInstalled};
 ghost use Rattle.wp_maint.specs.Moments.{OpensFrom};
-ghost use Rattle.wp_maint.specs.Renewal.{HasBrokenOff, HasRenewed, NamesItsSegment, OpensInRenewal, SurvivesBeside};
+ghost use Rattle.wp_maint.specs.Renewal.{HasBrokenOff, HasLogFault, HasNoMemory, HasRenewed, IsAtEnd, NamesItsSegment, OpensInRenewal, SurvivesBeside, segment_of};
 ghost use Rattle.wp_shared.specs.Log.{LogState, IsLog};
 
 /// Whatever a crash leaves of the three devices at a moment of an install, they open to just what the log spells then, from its base on,
@@ -29,26 +31,33 @@ pub fn installs_open_throughout()
 
 /// Whatever a crash leaves of the three devices at a moment of a renewal: the manifest spells the old edits, or those and the new one; and
 /// at the place that the last of them names the log spells the history, cut at that edit's base. The renewal is any whose edit was
-/// installed, or failed in its install, behind the write of its segment.
+/// installed, or failed in its install, behind the write of its segment; or that broke off before, with the manifest uncalled.
 pub fn a_renewal_leaves_each_edit_its_segment()
     ensures { (old new : EditsState) (log moved : LogState) (next : InstalledEdit) → IsEdits old → old.table.halted ≡ false → SurvivesInstall old new next
-        → IsLog log → log.table.closed ≡ false → log.table.log ≡ log.table.history → log.table.segment ≡ old.table.last.segment → SurvivesBeside log moved (Some next.segment) → NamesItsSegment old new log moved next }
+        → IsLog log → log.table.closed ≡ false → log.table.log ≡ log.table.history → log.table.segment ≡ old.table.last.segment
+        → (asked : Option InstalledEdit) → IfSome asked (λ edit. edit ≡ next) → (asked ≡ None → IsUncalled old new) → SurvivesBeside log moved (segment_of asked) → NamesItsSegment old new log moved asked }
 {}
 
 /// Whatever a crash leaves of the three devices at a moment of a renewal, they open to a list that is the history from the edit's base
-/// on, and to the last edit or the next one. The history and the edits are those of a world of the store that has the tables and the log
-/// as they were before the renewal.
+/// on, and to the last edit, or the one that was asked for, if one was.
 ///
-/// The renewal is any at whose moments each edit has its segment, and whose edit is covered by the history and has as its base the
-/// history's end, which is no undo. So it is of one that is answered with its number, and of one in which a device of the tables failed
-/// once the edit was asked for.
+/// The renewal is any at whose moments each edit has its segment, and whose edit, if one was asked for, is covered by the history and has
+/// as its base the history's end, which is no undo; where the devices have one id, and a world of the store has the tables and the log as
+/// they were before. So it is of each call that is answered with its number; in which a device of the tables failed, before the edit was
+/// asked for or in its install; in which the log's device failed; or that wants memory. What the call tells is enough then, and that the devices are one
+/// store's, as `Shared::shows_one_store` tells.
 pub fn renewals_open_throughout<D>()
-    ensures amid { (old new : EditsState) (log moved : LogState) (next : InstalledEdit) → IsLog log → undone_last log.table.history ≡ None → IsEditCovered log.table.history next
-        → next.segment.base ≡ length log.table.history → NamesItsSegment old new log moved next → OpensInRenewal old new log moved next }
-    ensures renewed { (z : SharedState D) (old new : SeatState) (e : Installed) (done : Renewed) (k : HasRenewed (Continues z old new) z old new e done)
-        → OpensInRenewal k.table.before k.table.after k.log.3.before k.log.3.after (after_renewal new.knows.participant.seen k.place e.last) }
-    ensures broken_off { (z : SharedState D) (old new : SeatState) (e : Installed) (k : HasBrokenOff (Continues z old new) z old new e) (next : InstalledEdit) → k.asked ≡ Some next
-        → OpensInRenewal k.fault.before k.fault.after k.log.3.before k.log.3.after next }
+    ensures amid { (old new : EditsState) (log moved : LogState) (asked : Option InstalledEdit) → IsLog log → IfSome asked (IsAtEnd log.table.history)
+        → NamesItsSegment old new log moved asked → old.set.manifest.log.id < 2 ^ 32 → log.wal.id ≡ old.set.manifest.log.id
+        → (w : World) → Reaches w → w.installed ≡ old.table → w.writes ≡ log.table → OpensInRenewal old new log moved asked }
+    ensures renewed { (z : SharedState D) (old new : SeatState) (e : Installed) → IsOneStore z.opened z.first → (done : Renewed) (k : HasRenewed (Continues z old new) z old new e done)
+        → OpensInRenewal k.table.before k.table.after k.log.before k.log.after (Some (after_renewal new.knows.participant.seen k.place e.last)) }
+    ensures broken_off { (z : SharedState D) (old new : SeatState) (e : Installed) → IsOneStore z.opened z.first → (k : HasBrokenOff (Continues z old new) z old new e)
+        → OpensInRenewal k.fault.before k.fault.after k.log.before k.log.after k.asked }
+    ensures log_fault { (z : SharedState D) (old new : SeatState) (e : Installed) → IsOneStore z.opened z.first → (k : HasLogFault (Continues z old new) z old new e)
+        → OpensInRenewal k.tables.before k.tables.after k.log.before k.log.after None }
+    ensures memory { (z : SharedState D) (old new : SeatState) (e : Installed) → IsOneStore z.opened z.first → (k : HasNoMemory (Continues z old new) z old new e)
+        → OpensInRenewal k.tables.before k.tables.after k.log.before k.log.after None }
 {}
 
 /// From the append of an edit to the reply nothing is refused but by a device of the tables.

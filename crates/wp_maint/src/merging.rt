@@ -3,14 +3,12 @@ ghost use Rattle.std.specs.Prelude.{◌≡◌, ◌≤◌, true, false, [], ◌�
 ghost use Rattle.std.specs.Arc.{arc_value};
 ghost use Rattle.std.specs.List.{list_all};
 ghost use Rattle.std.specs.Option.{option_map};
-ghost use Rattle.wp_model.specs.declared.version.Version.{Version};
 ghost use Rattle.wp_model.specs.Flushed.{IsEditCovered};
 ghost use Rattle.wp_merge.specs.Merge.{joined, sorted_of};
 ghost use Rattle.wp_replies.specs.Tables.{listed, retained};
 ghost use Rattle.wp_table.specs.Table.{is_numbered, is_flushed};
 ghost use Rattle.wp_tableset.specs.Changes.{one_part};
 ghost use Rattle.wp_store.specs.Store.{with_newest};
-ghost use Rattle.wp_core.specs.Reading.{Registration};
 ghost use Rattle.wp_core.specs.Tables.{installed};
 ghost use Rattle.wp_core.specs.Views.{nothing_flushed};
 ghost use Rattle.wp_keep.specs.Keep.{is_committed, retained_of};
@@ -51,10 +49,16 @@ fn kept_of(
 ) -> Result<Versions, AllocError>
     ensures { IfOk result (λ kept. kept ≡ retained_of (is_committed committed.now) versions (numbers_of pinned.now.live.items ++ both_bases bases) pinned.now.floor.number) }
 {
-    let mut numbers = numbers_of(alloc, &pinned.live)?;
-    numbers.push(bases.opened)?;
-    numbers.push(bases.installed)?;
-    keep(alloc, versions, committed, &numbers, pinned.floor.number())
+    let live = numbers_of(alloc, &pinned.live)?;
+    keep(
+        alloc,
+        versions,
+        committed,
+        live,
+        bases.opened,
+        bases.installed,
+        pinned.floor.number(),
+    )
 }
 
 /// Writes these versions to a table, if there are any, and installs the edit that names it alone.

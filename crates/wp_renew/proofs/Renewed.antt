@@ -29,6 +29,7 @@ use Rattle.wp_core.specs.Tables.{WriteTable, Installed, writes, installed}
 use Rattle.wp_core.specs.Views.{Event, found_edit, frozen_stay, log_failed, log_stopped, stopped, tables_failed, tables_stay}
 use Rattle.wp_core.specs.Views as event
 use Rattle.wp_core.specs.World.{Participant, World}
+use Rattle.wp_core.proofs.Tests.{none_some}
 use Rattle.wp_rule.specs.Knows.{KnowsTables, Noted}
 use Rattle.wp_rule.specs.Words.{IsAt}
 use Rattle.wp_shared.specs.Edits.{EditsState, IsEdits}
@@ -44,11 +45,11 @@ use Rattle.wp_shared.proofs.Tables.{held_table}
 use Rattle.wp_maint.specs.declared.frozen.Frozen.{Frozen}
 use Rattle.wp_maint.specs.declared.renewed.Renewed.{Renewed}
 use Rattle.wp_maint.specs.declared.renewed.RenewError.TheVariants.{Stopped, Nothing, TableFault, LogFault}
-use Rattle.wp_maint.specs.Calls.{Finds, found_by, HasFault, HeldContent, SawWhole}
+use Rattle.wp_maint.specs.Calls.{Finds, found_by, HasFault, HeldContent, IsUncalled, SawWhole}
 use Rattle.wp_maint.specs.Finding.{Remembers}
 use Rattle.wp_maint.specs.Flush.{versions_of}
 use Rattle.wp_maint.specs.Holding.{is_of_flushed, is_of_tables}
-use Rattle.wp_maint.specs.Renewal.{HasFrozenAll, HoldsBoth, IsBusy, HasBrokenOff, HasLogFault, HasRenewed, NamesItsSegment, SurvivesBeside, segment_of}
+use Rattle.wp_maint.specs.Renewal.{HasFrozenAll, HoldsBoth, IsBusy, HasBrokenOff, HasLogFault, HasNoMemory, HasRenewed, NamesItsSegment, SurvivesBeside, segment_of}
 use Rattle.wp_maint.specs.Renewing.{HasClosed, HasMoved, HasStopped, MayPutAll, RenewsHolding}
 use Rattle.wp_maint.proofs.Found.{failed_last}
 use Rattle.wp_maint.proofs.Made.{first_held, second_held}
@@ -88,6 +89,7 @@ beside_still old new later segment same k = record {
   still = λ c cut at. subst (λ (ms : List Moment). Passes (Leaves (IsLogAt old.wal.id old.table.segment.place c)) old.wal.moments ms) (sym same) (k.still c cut at);
   durable = subst (λ (ms : List Moment). LosesNothingAt old.table.segment.place old.wal.moments ms) (sym same) k.durable;
   beside = waits segment k.beside;
+  placed = k.placed;
 }
   where
     waits : (o : Option Segment) → IfSome o (λ s. (s.base ≡ length old.table.history) × (s.place ≢ old.table.segment.place) × IfKnown new.wal.moments (LeavesCut old.wal.id s.place (cut_at old.table.history s.base)))
@@ -106,6 +108,9 @@ module _ {D : Type 0} (z : SharedState D) (s0 s1 : SeatState) (e0 e1 : EditsStat
 
   here : w0.0.writes ≡ log0.table
   here = held_table (place_at z s0.by) s0.knows w0.0 (writes log0.table) w0.1 log_held
+
+  tables_here : w0.0.installed ≡ e0.table
+  tables_here = held_table (place_at z s0.by) s0.knows w0.0 (installed e0.table) w0.1 (second_held s0.knows (writes log0.table) (installed e0.table) holds.turn.held)
 
   seat : IsSeat s0 s1
   seat = seat_still s0 s1 s0.knows.participant first
@@ -133,7 +138,7 @@ module _ {D : Type 0} (z : SharedState D) (s0 s1 : SeatState) (e0 e1 : EditsStat
     history_seen : log0.table.history ≡ v.knows.participant.seen
     history_seen = sym seen ∙ sym same
 
-    busy : IsBusy z s0 v e0.table
+    abbrev busy : IsBusy z s0 v e0.table
     busy = record {
       running = running;
       whole = subst (SawWhole z s0) (sym same) saw;
@@ -152,8 +157,22 @@ module _ {D : Type 0} (z : SharedState D) (s0 s1 : SeatState) (e0 e1 : EditsStat
         },
         open_,
       );
+      at_once = (tables_here, here);
+      history_is = history_seen;
       below = subst (λ (x : Segment × List Entry). x.0.base < length x.1) (λ i. (coupled i, history_seen i)) below;
     }
+
+  -- ---- memory ran out
+
+  -- the edits are as they were, but for what their device may have
+  pub no_memory : (u : SeatState) (left : EditsState) → GoesOnAs s0 u s0.knows.participant → u.knows.participant.seen ≡ s0.knows.participant.seen → left.table ≡ e0.table → left.first ≡ e0.first → IsEdits left → IsUncalled e0 left
+      → NamesItsSegment e0 left log0 log0 None → HasNoMemory (GoesOnAs s0 u) z s0 u e0.table
+  no_memory u left goes same table_is first_is is_left uncalled named = record {
+    busy = busy u same;
+    tables = record { before = e0; after = left; of_store = holds.edits_of_store; still_of_store = holds.edits_of_store ∙ ap Some (sym first_is); before_is = refl; after_is = table_is; edits = is_edits; still_edits = is_left; so = uncalled };
+    log = record { before = log0; after = log0; of_store = holds.log_of_store; still_of_store = holds.log_of_store; before_is = refl; after_is = refl; log = is_log; still_log = is_log; so = (refl, named) };
+    goes_on = goes;
+  }
 
   -- the tables as they were found
   found_of : (u v : SeatState) → StartsWith v.knows.participant.seen u.knows.participant.seen → Finds z s1 u e1.table → Finds z s0 v e0.table
@@ -181,7 +200,7 @@ module _ {D : Type 0} (z : SharedState D) (s0 s1 : SeatState) (e0 e1 : EditsStat
   -- ---- a device of the tables failed
 
   module _ (Survives : EditsState → EditsState → Type 0) (asked : Option InstalledEdit) (u : SeatState) (left : EditsState) (now : LogState) (k : HasStopped z Survives s1 e1 log1 asked u left now)
-      (edit : InstalledEdit) (made : (place : ℕ) × (edit ≡ after_renewal s0.knows.participant.seen place e0.table.last)) (is_asked : IfSome asked (λ next. next ≡ edit)) (survived : SurvivesInstall e0 left edit) (beside : SurvivesBeside log0 now (segment_of asked)) (fault : HasFault e0 left) where
+      (edit : InstalledEdit) (made : (place : ℕ) × (edit ≡ after_renewal s0.knows.participant.seen place e0.table.last)) (is_asked : IfSome asked (λ next. next ≡ edit)) (survived : SurvivesInstall e0 left edit) (uncalled : asked ≡ None → IsUncalled e0 left) (beside : SurvivesBeside log0 now (segment_of asked)) (fault : HasFault e0 left) where
     broken_seen : u.knows.participant.seen ≡ s0.knows.participant.seen
     broken_seen = ap (λ (x : SeatState). x.knows.participant.seen) k.goes.same ∙ seen_still
 
@@ -196,11 +215,6 @@ module _ {D : Type 0} (z : SharedState D) (s0 s1 : SeatState) (e0 e1 : EditsStat
     made_now : (place : ℕ) × (edit ≡ after_renewal u.knows.participant.seen place e0.table.last)
     made_now = (made.0, made.1 ∙ ap (λ (h : List Entry). after_renewal h made.0 e0.table.last) (sym broken_seen))
 
-    names : (next : InstalledEdit) → asked ≡ Some next → NamesItsSegment e0 left log0 now next
-    names next is =
-        names_its_segment e0 left next is_edits running (subst (SurvivesInstall e0 left) (sym (subst (λ (o : Option InstalledEdit). IfSome o (λ x. x ≡ edit)) is is_asked)) survived) log0 now is_log open_ whole coupled
-        (subst (λ (o : Option InstalledEdit). SurvivesBeside log0 now (segment_of o)) is beside)
-
     broken_off : HasBrokenOff (GoesOnAs s0 u) z s0 u e0.table
     broken_off = record {
       found = found_of u u (starts_same u.knows.participant.seen) k.found;
@@ -210,22 +224,18 @@ module _ {D : Type 0} (z : SharedState D) (s0 s1 : SeatState) (e0 e1 : EditsStat
       left = held_left z s0 u u (with_failed e0.table asked) k.stands (seat_still s0 u _ broken_goes) broken_seen refl (subst (λ (t : Installed). IsIn (installed t) u.knows.held) broken_table (second_held u.knows (writes now.table) (installed left.table) k.holds.turn.held));
       fault = record { before = e0; after = left; of_store = holds.edits_of_store; still_of_store = k.holds.edits_of_store; before_is = refl; after_is = broken_table; edits = is_edits; still_edits = k.still_edits; so = fault };
       survives = (edit, made_now, is_asked, survived);
-      log = (
-        log0.table,
-        open_,
-        history_seen u broken_seen,
-        record {
-          before = log0;
-          after = now;
-          of_store = holds.log_of_store;
-          still_of_store = k.holds.log_of_store;
-          before_is = refl;
-          after_is = ap (λ (l : LogState). l.table) k.stopped ∙ ap (λ (t : WriteTable). record t { next = segment_of asked; closed = true; stopped = true }) same_log;
-          log = is_log;
-          still_log = k.still_log;
-          so = (beside, names);
-        },
-      );
+      uncalled = uncalled;
+      log = record {
+        before = log0;
+        after = now;
+        of_store = holds.log_of_store;
+        still_of_store = k.holds.log_of_store;
+        before_is = refl;
+        after_is = ap (λ (l : LogState). l.table) k.stopped ∙ ap (λ (t : WriteTable). record t { next = segment_of asked; closed = true; stopped = true }) same_log;
+        log = is_log;
+        still_log = k.still_log;
+        so = (beside, names_its_segment e0 left edit is_edits running survived log0 now is_log open_ whole coupled asked is_asked uncalled beside);
+      };
       goes_on = subst (λ (t : Installed). GoesOnAs s0 u (remembering (found_by z s0 u e0.table (found_of u u (starts_same u.knows.participant.seen) k.found) ∷ tables_failed t.last asked ∷ log_stopped ∷ []) s0.knows.participant)) same_table broken_goes;
     }
 
@@ -337,25 +347,21 @@ module _ {D : Type 0} (z : SharedState D) (s0 s1 : SeatState) (e0 e1 : EditsStat
             so = k.parts ∙ (λ i. compacted_parts ((versions_are ∙ frozen.versions ∙ ap (λ (h : List Entry). sorted_of (unflushed h e0.table.last)) (sym last_seen)) i) ++ behind.parts i);
           };
           survives = subst (SurvivesInstall e0 left) is_last moved_survived;
-          log = (
-            log0.table,
-            open_,
-            history_seen v last_seen,
-            record {
-              before = log0;
-              after = now;
-              of_store = holds.log_of_store;
-              still_of_store = k.holds.log_of_store;
-              before_is = refl;
-              after_is = k.log_table ∙ (λ i. record (same_log i) { segment = base_is i; next = None });
-              log = is_log;
-              still_log = k.still_log;
-              so = (
-                subst (λ (x : Segment). SurvivesBeside log0 now (Some x)) (sym (ap (λ (t : WriteTable). t.segment) k.log_table)) moved_beside,
-                names_its_segment e0 left last_edit is_edits running (subst (SurvivesInstall e0 left) is_last moved_survived) log0 now is_log open_ whole coupled (subst (λ (x : Segment). SurvivesBeside log0 now (Some x)) base_is moved_beside),
-              );
-            },
-          );
+          log = record {
+            before = log0;
+            after = now;
+            of_store = holds.log_of_store;
+            still_of_store = k.holds.log_of_store;
+            before_is = refl;
+            after_is = k.log_table ∙ (λ i. record (same_log i) { segment = base_is i; next = None });
+            log = is_log;
+            still_log = k.still_log;
+            so = (
+              subst (λ (x : Segment). SurvivesBeside log0 now (Some x)) (sym (ap (λ (t : WriteTable). t.segment) k.log_table)) moved_beside,
+              names_its_segment e0 left last_edit is_edits running (subst (SurvivesInstall e0 left) is_last moved_survived) log0 now is_log open_ whole coupled (Some last_edit) refl (λ none. absurd (none_some (Some last_edit) last_edit none refl))
+                  (subst (λ (x : Segment). SurvivesBeside log0 now (Some x)) base_is moved_beside),
+            );
+          };
           goes_on = subst (λ (x : InstalledEdit). GoesOnAs s0 v (remembering (found_by z s0 v e0.table found ∷ event.renewed x ∷ []) s0.knows.participant)) (ap (λ (t : Installed). t.last) last_table) (goes_still s0 u v (remembering (found_by z s0 v e0.table found ∷ event.renewed left.table.last ∷ []) s0.knows.participant) moved_goes put_goes);
         }
 
@@ -370,7 +376,7 @@ module _ {D : Type 0} (z : SharedState D) (s0 s1 : SeatState) (e0 e1 : EditsStat
 
   -- ---- the log's device failed
 
-  module _ (u : SeatState) (now : LogState) (k : HasClosed z s1 e1 log1 u now) (manifest : e1.set.manifest ≡ e0.set.manifest) (left_first : e1.first ≡ e0.first) (is_left : IsEdits e1) (rose : Rose log0.wal.faults now.wal.faults) (beside : SurvivesBeside log0 now None) where
+  module _ (u : SeatState) (now : LogState) (k : HasClosed z s1 e1 log1 u now) (manifest : e1.set.manifest ≡ e0.set.manifest) (left_first : e1.first ≡ e0.first) (is_left : IsEdits e1) (rose : Rose log0.wal.faults now.wal.faults) (beside : SurvivesBeside log0 now None) (place : ℕ) (survived : SurvivesInstall e0 e1 (after_renewal s0.knows.participant.seen place e0.table.last)) where
     closed_seen : u.knows.participant.seen ≡ s0.knows.participant.seen
     closed_seen = ap (λ (x : SeatState). x.knows.participant.seen) k.goes.same ∙ seen_still
 
@@ -385,12 +391,8 @@ module _ {D : Type 0} (z : SharedState D) (s0 s1 : SeatState) (e0 e1 : EditsStat
       busy = busy u closed_seen;
       left = held_left z s0 u u e0.table k.stands (seat_still s0 u _ closed_goes) closed_seen refl (subst (λ (t : Installed). IsIn (installed t) u.knows.held) same_table (second_held u.knows (writes now.table) (installed e1.table) k.holds.turn.held));
       tables = record { before = e0; after = e1; of_store = holds.edits_of_store; still_of_store = holds.edits_of_store ∙ ap Some (sym left_first); before_is = refl; after_is = same_table; edits = is_edits; still_edits = is_left; so = manifest };
-      log = (
-        log0.table,
-        open_,
-        history_seen u closed_seen,
-        record { before = log0; after = now; of_store = holds.log_of_store; still_of_store = k.holds.log_of_store; before_is = refl; after_is = k.table ∙ ap (λ (t : WriteTable). record t { closed = true }) same_log; log = is_log; still_log = k.still_log; so = (rose, beside) },
-      );
+      survives = (after_renewal s0.knows.participant.seen place e0.table.last, (place, ap (λ (h : List Entry). after_renewal h place e0.table.last) (sym closed_seen)), survived);
+      log = record { before = log0; after = now; of_store = holds.log_of_store; still_of_store = k.holds.log_of_store; before_is = refl; after_is = k.table ∙ ap (λ (t : WriteTable). record t { closed = true }) same_log; log = is_log; still_log = k.still_log; so = (rose, beside, names_its_segment e0 e1 (after_renewal s0.knows.participant.seen place e0.table.last) is_edits running survived log0 now is_log open_ whole coupled None tt (λ none. manifest) beside) };
       goes_on = closed_goes;
     }
 

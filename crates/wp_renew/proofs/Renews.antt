@@ -1,18 +1,15 @@
 -- The steps of a renewal, as the seat knows them that holds both turns.
-use Rattle.std.proofs.Common.{◌≡◌, ◌≢◌, ◌⊎◌, inl, inr, ℕ, true, false, true≢false, List, [], ◌∷◌, ◌++◌, append-nil, length, Option, Some, None, IfSome, unwrap_or, refl, sym, ap, ◌∙◌}
+use Rattle.std.proofs.Common.{◌≡◌, ◌≢◌, inr, ℕ, true, false, true≢false, List, [], ◌∷◌, ◌++◌, append-nil, length, Option, Some, None, IfSome, unwrap_or, refl, sym, ap, ◌∙◌}
 use Rattle.wp_core.specs.Changes.{held_with}
 use Rattle.wp_core.specs.Effects.{with_failed}
-use Rattle.wp_core.specs.Conditions.{NoneNext}
 use Rattle.wp_core.specs.Lists.{IsIn}
 use Rattle.wp_core.specs.Notes.{ends}
 use Rattle.wp_core.specs.Sound.History.{IsHistory, logged_part}
-use Rattle.wp_core.specs.Sound.Segments.{AreCoupled}
 use Rattle.wp_core.specs.Steps.{find_log_closed, write_segment, close_log, renew, use_segment, halt, stop_log}
 use Rattle.wp_core.specs.Tables.{Content, WriteTable, Installed, writes, installed}
 use Rattle.wp_core.specs.Views.{Fact, nothing_flushed, log_failed, log_stopped, renewed, stopped, tables_failed}
 use Rattle.wp_core.specs.World.{Actor, World}
 use Rattle.wp_core.proofs.PendingSteps.{none_logged}
-use Rattle.wp_core.proofs.Tests.{none_some}
 use Rattle.wp_model.specs.declared.entry.Entry.{Entry}
 use Rattle.wp_model.specs.declared.segment.Segment.{Segment}
 use Rattle.wp_model.specs.Flushed.{InstalledEdit, IsEditCovered}
@@ -33,15 +30,6 @@ use Rattle.wp_maint.proofs.Found.{failed_last}
 use Rattle.wp_maint.proofs.Made.{first_held, goes_from, second_held}
 
 -- ---- before the first call
-
--- where no segment waits, the last edit names the one in use
-pub names_used : (t : WriteTable) (e : Installed) (holder : Option ℕ) → AreCoupled t e holder → NoneNext t → e.last.segment ≡ t.segment
-names_used t e holder k none = by k.last none
-  where
-    by : (e.last.segment ≡ t.segment) ⊎ ((t.next ≡ Some e.last.segment) × (t.closed ≡ false)) → NoneNext t → e.last.segment ≡ t.segment
-    by (inl same) waits = same
-    by (inr next) (inl none_there) = absurd (none_some t.next e.last.segment none_there next.0)
-    by (inr next) (inr closed) = absurd (true≢false (sym closed ∙ next.1))
 
 -- with nothing pending the history ends with no undo
 pub whole_now : (opened : List Entry) (t : WriteTable) (max : ℕ) → IsHistory opened t max → t.pending ≡ [] → undone_last t.history ≡ None

@@ -5,7 +5,7 @@ use Rattle.wp_model.specs.declared.segment.Segment.{Segment}
 use Rattle.wp_cuts.specs.Cut.{Cut, IsCut, cut_at}
 use Rattle.wp_outside.specs.Disk.{IfKnown, Passes}
 use Rattle.wp_gatelog.specs.Moments.{Leaves}
-use Rattle.wp_wal.specs.Segment.{WrittenState}
+use Rattle.wp_wal.specs.Segment.{NewSegmentState, WrittenState}
 use Rattle.wp_wal.specs.Spelling.{IsLogAt}
 use Rattle.wp_wal.specs.Wal.{LeavesCut, LosesNothingAt}
 use Rattle.wp_model.specs.declared.version.Version.{Version}
@@ -18,7 +18,7 @@ use Rattle.wp_shared.specs.Calls.{remembering}
 use Rattle.wp_rule.specs.Knows.{NextNamed}
 use Rattle.wp_shared.specs.Edits.{EditsState}
 use Rattle.wp_shared.specs.Installs.{in_segment}
-use Rattle.wp_shared.specs.Log.{LogState, IsWaiting, with_next}
+use Rattle.wp_shared.specs.Log.{LogState, IsPlaceOf, IsSegmentOf, IsWaiting, with_next}
 use Rattle.wp_shared.specs.Notes.{being, GoesOn}
 use Rattle.wp_shared.specs.Seats.{SharedState, SeatState}
 use Rattle.wp_shared.proofs.Goes.{then}
@@ -56,10 +56,11 @@ more_tables (v ∷ versions) flushed segment last = omega arith
 -- What the call says of the log in use, and of the segment that it wrote.
 module _ (log now : LogState) (passed : (c : Cut) → IsCut log.table.history c → c.base ≡ log.table.segment.base → Passes (Leaves (IsLogAt log.wal.id log.table.segment.place c)) log.wal.moments now.wal.moments) (durable : LosesNothingAt log.table.segment.place log.wal.moments now.wal.moments) where
   pub beside_none : SurvivesBeside log now None
-  beside_none = record { still = passed; durable = durable; beside = tt }
+  beside_none = record { still = passed; durable = durable; beside = tt; placed = tt }
 
-  pub beside_some : (written : WrittenState) → IsWaiting now written → written.segment.place ≢ log.table.segment.place → now.table ≡ log.table → now.wal.id ≡ log.wal.id → SurvivesBeside log now (Some written.segment)
-  beside_some written waits apart same id =
+  pub beside_some : (written : WrittenState) → IsWaiting now written → written.segment.place ≢ log.table.segment.place → now.table ≡ log.table → now.wal.id ≡ log.wal.id → (segment : NewSegmentState) → IsSegmentOf log segment → IsPlaceOf log segment written.segment.place
+      → SurvivesBeside log now (Some written.segment)
+  beside_some written waits apart same id segment its at =
       let history : now.table.history ≡ log.table.history = ap (λ (t : WriteTable). t.history) same in record {
         still = passed;
         durable = durable;
@@ -68,6 +69,7 @@ module _ (log now : LogState) (passed : (c : Cut) → IsCut log.table.history c 
           apart,
           subst (λ (x : ℕ × List Entry × ℕ). IfKnown now.wal.moments (LeavesCut x.0 written.segment.place (cut_at x.1 x.2))) (λ i. (id i, history i, sym waits.based i)) waits.beside.left,
         );
+        placed = (segment, its, at);
       }
 
 -- the device is not called
@@ -76,6 +78,7 @@ beside_same log now same = record {
   still = λ c cut at. ([], same, tt);
   durable = subst (λ ms. LosesNothingAt log.table.segment.place log.wal.moments ms) (sym same) (λ stamp records. ([], refl, tt));
   beside = tt;
+  placed = tt;
 }
 
 -- ---- what is held

@@ -1,11 +1,11 @@
 -- A renewal as a whole, from the stage that broke it off, or from all of them.
-use Rattle.std.proofs.Common.{◌≡◌, ◌≢◌, ◌⊎◌, inl, inr, ℕ, ◌<◌, ◌≤◌, true, false, List, [], ◌∷◌, length, Option, Some, None, refl, sym, subst, ap, ◌∙◌, arith}
-use Rattle.std.specs.Prelude.{Ok, Err, IfSome, Result}
+use Rattle.std.proofs.Common.{◌≡◌, inl, inr, ℕ, ◌<◌, ◌≤◌, false, List, [], ◌∷◌, length, Option, Some, None, refl, sym, subst, ap, ◌∙◌, arith}
+use Rattle.std.specs.Prelude.{Ok, Err, Result}
 use Rattle.wp_model.specs.declared.entry.Entry.{Entry}
 use Rattle.wp_model.specs.declared.segment.Segment.{Segment}
 use Rattle.wp_model.specs.declared.version.Version.{Version}
-use Rattle.wp_model.specs.Flushed.{InstalledEdit}
 use Rattle.wp_model.specs.History.{undecided}
+use Rattle.wp_outside.specs.Disk.{images}
 use Rattle.wp_outside.specs.Faults.{Rose}
 use Rattle.wp_wal.specs.Segment.{WrittenState}
 use Rattle.wp_replies.specs.Tables.{after_renewal}
@@ -15,13 +15,15 @@ use Rattle.wp_table.specs.Walk.{BuiltTable}
 use Rattle.wp_tableset.specs.Install.{IsReadyEdit, built_of}
 use Rattle.wp_tableset.specs.Set.{TableSetState}
 use Rattle.wp_tableset.specs.declared.error.TableSetError.TheVariants.{Fault}
+use Rattle.wp_core.specs.Images.{LogTells, ManifestTells}
 use Rattle.wp_core.specs.Tables.{WriteTable, Installed, writes, installed}
 use Rattle.wp_core.specs.Views.{frozen_stay}
 use Rattle.wp_core.specs.World.{Participant, World}
-use Rattle.wp_rule.specs.Knows.{KnowsTables, Noted}
-use Rattle.wp_shared.specs.Edits.{EditsState, IsEdits}
+use Rattle.wp_core.proofs.Tests.{none_some}
+use Rattle.wp_rule.specs.Knows.{KnowsTables}
+use Rattle.wp_shared.specs.Edits.{EditsState, IsEdits, IsNamed}
 use Rattle.wp_shared.specs.Installs.{HadCause, SurvivesInstall, in_segment}
-use Rattle.wp_shared.specs.Log.{LogState, IsLog, with_next}
+use Rattle.wp_shared.specs.Log.{LogState, IsLog, spells, with_next}
 use Rattle.wp_shared.specs.Renewal.{SegmentState, IsBehind, IsWritten, SurvivesWrite}
 use Rattle.wp_shared.specs.Calls.{GoesOnAs}
 use Rattle.wp_shared.specs.Notes.{GoesOn, no_fact}
@@ -32,13 +34,14 @@ use Rattle.wp_maint.specs.declared.frozen.Frozen.{Frozen}
 use Rattle.wp_maint.specs.declared.renewed.Renewed.{Renewed}
 use Rattle.wp_maint.specs.declared.renewed.RenewError.{RenewError}
 use Rattle.wp_maint.specs.declared.renewed.RenewError.TheVariants.{Memory, TablesStopped, Stopped, Nothing, TableFault, LogFault}
-use Rattle.wp_maint.specs.Calls.{HasFault}
+use Rattle.wp_maint.specs.Calls.{IsUncalled}
 use Rattle.wp_maint.specs.Flush.{versions_of}
 use Rattle.wp_maint.specs.Holding.{is_of_tables}
-use Rattle.wp_maint.specs.Renewal.{HasFrozenAll, HoldsBoth}
+use Rattle.wp_maint.specs.Renewal.{HasFrozenAll, HasNoMemory, HoldsBoth}
 use Rattle.wp_maint.specs.Renewing.{HasMoved, HasPlace, HasSegment, IsTold, LeavesSegment, MayPutAll, RenewsHolding, SurvivesEdit, WritesTable}
 use Rattle.wp_maint.proofs.Onward.{goes_more, renews_so, settled_on}
-use Rattle.wp_renew.proofs.Renewed.{beside_still, broken_holding, closed_holding, covered_next, is_next, may_put_all, renewed_holding, same_renewal}
+use Rattle.wp_maint.proofs.Throughout.{names_its_segment, names_still}
+use Rattle.wp_renew.proofs.Renewed.{beside_still, broken_holding, closed_holding, covered_next, is_next, may_put_all, no_memory, renewed_holding, same_renewal}
 use Rattle.wp_renew.proofs.Stages.{beside_same}
 
 -- the table that is built has the versions, if there are any
@@ -73,12 +76,20 @@ module _ {D : Type 0} (z : SharedState D) (s0 : SeatState) (e0 : EditsState) (lo
     log_of_store = holds.log_of_store ∙ ap (λ (l : LogState). Some l.first) (sym same_log);
   }
 
+  -- a crash meanwhile left the tables that there were
+  while_written : (left : EditsState) → SurvivesWrite e0 left ready → SurvivesInstall e0 left (after_renewal s0.knows.participant.seen 0 e0.table.last)
+  while_written left survives =
+      let segment : Segment = record { place = 0; base = f.at } in
+      subst (SurvivesInstall e0 left) (same_renewal s0.knows.participant.seen e0.table.last versions segment (versions_are ∙ frozen.versions) frozen.at) (survives versions f.at is_ready segment)
+
   pub not_written : (T : Type 0) (why : RenewError) (u : SeatState) (left : EditsState) (now : LogState) (behind : SegmentState) → WritesTable {T = T} z s0 e0 log0 ready (Err why) u left now behind → RenewsHolding (GoesOnAs s0 u) z s0 e0 log0 (Err why) u left now
-  not_written T Memory u left now behind (same, same_log, are_left, first) = record {
+  not_written T Memory u left now behind (same, same_log, are_left, first, survives, is_left) = record {
     holds = unwritten u left now same same_log are_left.0 first;
     nothing = ap (λ (l : LogState). l.table.pending) same_log ∙ nothing;
     settled = subst (λ (x : SeatState × Installed). KnowsTables x.0.knows x.1.last) (λ i. (sym same i, sym are_left.0 i)) settled;
-    says = subst (λ (x : SeatState). GoesOnAs s0 x s0.knows.participant) (sym same) begun;
+    says = subst (λ (x : SeatState). HasNoMemory (GoesOnAs s0 x) z s0 x e0.table) (sym same)
+        (no_memory z s0 s0 e0 e0 log0 log0 holds running open_ nothing (sym coupled) below seen whole w0 is_edits is_log begun refl refl refl s0 left begun refl are_left.0 first is_left are_left.1
+        (names_its_segment e0 left (after_renewal s0.knows.participant.seen 0 e0.table.last) is_edits running (while_written left survives) log0 log0 is_log open_ whole (sym coupled) None tt (λ none. are_left.1) (beside_same log0 log0 refl)));
     manifest = are_left;
   }
   not_written T (TablesStopped n) u left now behind wrong = absurd wrong
@@ -86,10 +97,8 @@ module _ {D : Type 0} (z : SharedState D) (s0 : SeatState) (e0 : EditsState) (lo
   not_written T Nothing u left now behind wrong = absurd wrong
   not_written T LogFault u left now behind wrong = absurd wrong
   not_written T TableFault u left now behind k =
-      let segment : Segment = record { place = 0; base = f.at } in
-      broken_holding z s0 s0 e0 e0 log0 log0 holds running open_ nothing (sym coupled) below seen whole w0 is_edits is_log begun refl refl refl (λ before after. SurvivesWrite before after ready) None u left now k
-      (after_renewal s0.knows.participant.seen 0 e0.table.last) (0, refl) tt
-      (subst (SurvivesInstall e0 left) (same_renewal s0.knows.participant.seen e0.table.last versions segment (versions_are ∙ frozen.versions) frozen.at) (k.survives versions f.at is_ready segment))
+      broken_holding z s0 s0 e0 e0 log0 log0 holds running open_ nothing (sym coupled) below seen whole w0 is_edits is_log begun refl refl refl (λ before after. SurvivesWrite before after ready × IsUncalled before after) None u left now k
+      (after_renewal s0.knows.participant.seen 0 e0.table.last) (0, refl) tt (while_written left k.survives.0) (λ none. k.survives.1)
       (beside_same log0 now (ap (λ (l : LogState). l.wal.moments) k.stopped)) k.fault settled
 
   -- ---- the table is written, if there is one
@@ -105,14 +114,14 @@ module _ {D : Type 0} (z : SharedState D) (s0 : SeatState) (e0 : EditsState) (lo
     settled1 = subst (λ (t : Installed). KnowsTables s0.knows t.last) (sym same_table) settled
 
     -- the segment was not
-    pub not_placed : (why : RenewError) (u : SeatState) (now : LogState) → IsEdits e1 → HasPlace z s0 e1 log0 (Err why) u now → RenewsHolding (GoesOnAs s0 u) z s0 e0 log0 (Err why) u e1 now
-    not_placed Memory u now is_left wrong = absurd wrong
-    not_placed (TablesStopped n) u now is_left wrong = absurd wrong
-    not_placed (Stopped n) u now is_left wrong = absurd wrong
-    not_placed Nothing u now is_left wrong = absurd wrong
-    not_placed TableFault u now is_left wrong = absurd wrong
-    not_placed LogFault u now is_left k =
-        closed_holding z s0 s0 e0 e1 log0 log0 holds running open_ nothing (sym coupled) below seen whole w0 is_edits is_log begun refl same_table refl u now k same_manifest its.first is_left k.rose k.survives settled1
+    pub not_placed : (why : RenewError) (u : SeatState) (now : LogState) → IsEdits e1 → SurvivesWrite e0 e1 ready → HasPlace z s0 e1 log0 (Err why) u now → RenewsHolding (GoesOnAs s0 u) z s0 e0 log0 (Err why) u e1 now
+    not_placed Memory u now is_left survives wrong = absurd wrong
+    not_placed (TablesStopped n) u now is_left survives wrong = absurd wrong
+    not_placed (Stopped n) u now is_left survives wrong = absurd wrong
+    not_placed Nothing u now is_left survives wrong = absurd wrong
+    not_placed TableFault u now is_left survives wrong = absurd wrong
+    not_placed LogFault u now is_left survives k =
+        closed_holding z s0 s0 e0 e1 log0 log0 holds running open_ nothing (sym coupled) below seen whole w0 is_edits is_log begun refl same_table refl u now k same_manifest its.first is_left k.rose k.survives 0 (while_written e1 survives) settled1
 
     -- ---- and so is the segment
 
@@ -160,11 +169,12 @@ module _ {D : Type 0} (z : SharedState D) (s0 : SeatState) (e0 : EditsState) (lo
       not_installed T Nothing v left now wrong = absurd wrong
       not_installed T LogFault v left now wrong = absurd wrong
       not_installed T TableFault v left now k =
+          let edit = in_segment versions written.segment.base written.segment e1.table.last in
           let its_edit = is_next z s0 u e0 e1 log0 log1 holds running open_ nothing (sym coupled) below seen whole w0 is_edits is_log first still same_table p.table written behind f versions versions_are frozen based in
           broken_holding z s0 u e0 e1 log0 log1 holds running open_ nothing (sym coupled) below seen whole w0 is_edits is_log first still same_table p.table (SurvivesEdit written behind versions)
-          (Some (in_segment versions written.segment.base written.segment e1.table.last)) v left now k
+          (Some edit) v left now k
           (after_renewal s0.knows.participant.seen written.segment.place e0.table.last) (written.segment.place, refl) its_edit
-          (subst (SurvivesInstall e0 left) its_edit (k.survives e0 its_now))
+          (subst (SurvivesInstall e0 left) its_edit (k.survives e0 its_now)) (λ none. absurd (none_some (Some edit) edit none refl))
           (beside_still log0 log1 now (Some written.segment) (ap (λ (l : LogState). l.wal.moments) k.stopped) p.survives)
           (fault_since e0.set e1.set left.set (ap (λ (s : TableSetState). s.manifest.log.faults) its.written.changed) its.written.later k.fault) settled2
 
@@ -223,5 +233,13 @@ module _ {D : Type 0} (z : SharedState D) (s t u : SeatState) (e : EditsState) (
   settled_still settled = settled_on s t no_fact s.knows.held s.turns refl (λ vs floor. refl) goes e.table.last settled
 
   -- there is no memory for it
-  pub no_room : HoldsBoth z s e log log.table → log.table.pending ≡ [] → KnowsTables s.knows e.table.last → RenewsHolding (GoesOnAs s t) z s e log (Err Memory) t e log
-  no_room holds nothing settled = record { holds = holds_both_still holds; nothing = nothing; settled = settled_still settled; says = so_far; manifest = (refl, refl) }
+  pub no_room : HoldsBoth z s e log log.table → e.table.halted ≡ false → log.table.closed ≡ false → log.table.pending ≡ [] → e.table.last.segment ≡ log.table.segment → log.table.segment.base < length log.table.history → s.knows.participant.seen ≡ log.table.history → log.table.log ≡ log.table.history
+      → (w : World) × Stands z s w → IsEdits e → IsLog log → ManifestTells (images e.set.manifest.log.moments) (IsNamed e) e.table → LogTells (images log.wal.moments) (spells log) log.table → KnowsTables s.knows e.table.last → RenewsHolding (GoesOnAs s t) z s e log (Err Memory) t e log
+  no_room holds running open_ nothing coupled below seen whole w0 is_edits is_log edits_tell log_tells settled = record {
+    holds = holds_both_still holds;
+    nothing = nothing;
+    settled = settled_still settled;
+    says = no_memory z s s e e log log holds running open_ nothing (sym coupled) below seen whole w0 is_edits is_log (goes_none s) refl refl refl t e so_far (ap (λ (x : SeatState). x.knows.participant.seen) goes.same) refl refl is_edits refl
+        (names_still e log (is_edits.none_failed (is_edits.running running)) open_ whole (sym coupled) edits_tell log_tells);
+    manifest = (refl, refl);
+  }

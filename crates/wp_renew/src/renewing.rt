@@ -1,5 +1,5 @@
 //! A renewal of the log: it goes on in a segment that begins where the history ends.
-ghost use Rattle.std.specs.Prelude.{◌≡◌, ◌<◌, ℕ, true, false, List, [], ◌∷◌, ◌++◌, length, map, vec_capacity, Some, None, IfOk, IfErr, IfSome, OnOk};
+ghost use Rattle.std.specs.Prelude.{◌≡◌, ◌<◌, ℕ, false, List, [], ◌∷◌, length, map, vec_capacity, Some, None, IfOk, IfErr};
 ghost use Rattle.std.specs.Arc.{arc_value};
 ghost use Rattle.std.specs.Option.{option_map};
 ghost use Rattle.wp_model.specs.declared.version.Version.{Version};
@@ -18,7 +18,6 @@ ghost use Rattle.wp_shared.specs.Notes.{no_fact, GoesOn};
 ghost use Rattle.wp_shared.specs.Seats.{IsFree, Stands};
 ghost use Rattle.wp_shared.specs.Turns.{HoldsTurn};
 ghost use Rattle.wp_maint.specs.Calls.{LeavesOnce};
-ghost use Rattle.wp_maint.specs.Flush.{versions_of};
 ghost use Rattle.wp_maint.specs.Holding.{is_of_tables, HoldsEdits};
 ghost use Rattle.wp_maint.specs.Installs.{AreLeft};
 ghost use Rattle.wp_maint.specs.Renewal.{HasFrozenAll, HoldsBoth, IsRefusedBefore, Renews, RenewsFrom, UnlessDeviceFault};
@@ -186,7 +185,10 @@ fn write_table<D: Disk + Drop>(
     log.shows_told();
     match edits.write_table(edit) {
         Ok(table) => Ok(table),
-        Err(TableSetError::Memory) => Err(RenewError::Memory),
+        Err(TableSetError::Memory) => {
+            edits.shows_told();
+            Err(RenewError::Memory)
+        }
         Err(TableSetError::Fault) => {
             edits.shows_told();
             find_edits(store, seat);
@@ -354,6 +356,7 @@ fn renew_held<D: Disk + Drop, R: Wait>(
         find_edits(store, seat);
         return Err(RenewError::Nothing);
     }
+    edits.shows_told();
     let room = take_room(store, rt, seat, edits, log)?;
     renew_in(store, rt, seat, edits, log, room)
 }

@@ -67,9 +67,12 @@ pub returns-in_err-room : goal.returns-in_err-room
 returns-in_err-room g c =
     let z = c.args.store.now in let s = c.args.seat.now in let t = c.take_room.new.seat in let e = c.args.edits.now in let log = c.args.log.now in
     let goes = subst (λ (x : SeatState). GoesOn no_fact x.knows.held x.turns x t) c.shows_segment.ensures.same c.in_err-room.ensures.goes in
+    let whole = c.shows_segment.ensures.whole c.requires.seen.1 in
     let q = err_from_is_err_and c.from_residual.result c.from_residual.ensures.1 in
     subst (λ (r : Result Renewed RenewError). RenewsHolding (GoesOnAs s t) z s e log r t e log) (sym (q.1 ∙ ap Err q.2))
-    (no_room z s t t e log goes c.requires.holds c.requires.seen.1 c.requires.settled)
+    (no_room z s t t e log goes c.requires.holds c.requires.running (sym c.is_closed.ensures ∙ c.if-is_closed.false) c.requires.seen.1 c.shows_segment.ensures.segment
+    (base_below log c.shows_told.ensures.log whole.1 (λ is. c.if-base-published.false (c.base.ensures ∙ is ∙ sym c.published-2.ensures.value)))
+    c.requires.seen.0 whole.1 c.requires.stands c.shows_told-2.ensures.edits c.shows_told.ensures.log c.shows_told-2.ensures.manifest c.shows_told.ensures.tells c.requires.settled)
 
 pub returns : goal.returns
 returns g c =

@@ -1,10 +1,9 @@
-use Rattle.std.proofs.Common.{◌≡◌, ◌<◌, length, [], ◌∷◌, Err, None, refl, sym, subst, ap, ◌∙◌}
+use Rattle.std.proofs.Common.{◌≡◌, ◌<◌, length, Err, None, refl, sym, subst, ap, ◌∙◌}
 use Rattle.std.specs.Prelude.{Result}
 use Rattle.std.proofs.lemmas.List.{length-map}
 use Rattle.std.proofs.lemmas.Result.{err_from_is_err_and}
 use Rattle.wp_model.specs.History.{undecided}
 use Rattle.wp_model.specs.Legal.{undone_last}
-use Rattle.wp_core.specs.Tables.{WriteTable}
 use Rattle.wp_core.specs.World.{World}
 use Rattle.wp_shared.specs.Calls.{GoesOnAs}
 use Rattle.wp_shared.specs.Log.{LogState, IsSegmentOf}
@@ -59,7 +58,7 @@ returns-in_err-written g c =
     let two = c.write_segment.new in let q = err_from_is_err_and c.from_residual-in_err-written.result c.from_residual-in_err-written.ensures.1 in
     subst (λ (r : Result Renewed RenewError). RenewsHolding (GoesOnAs s two.seat) z s e log r two.seat one.edits two.log) (sym (q.1 ∙ ap Err q.2))
     (not_placed z s e log c.requires.holds c.requires.running.0 c.requires.running.1 c.requires.running.2 c.requires.coupled c.requires.below c.requires.seen.0 c.requires.seen.1 c.requires.stands c.requires.settled c.shows_told.ensures.edits c.shows_told-2.ensures.log room.frozen room.versions c.requires.room.versions_are c.requires.room.frozen room.edit c.requires.room.ready
-    one.edits one.edit k.2 k.4 holds c.in_err-written.field-0.0 two.seat two.log c.shows_told-3.ensures.edits (subst (λ (x : SeatState × LogState). HasPlace z x.0 one.edits x.1 (Err c.in_err-written.field-0.0) two.seat two.log) (λ i. (k.0 i, k.1 i)) c.in_err-written.ensures))
+    one.edits one.edit k.2 k.4 holds c.in_err-written.field-0.0 two.seat two.log c.shows_told-3.ensures.edits k.5 (subst (λ (x : SeatState × LogState). HasPlace z x.0 one.edits x.1 (Err c.in_err-written.field-0.0) two.seat two.log) (λ i. (k.0 i, k.1 i)) c.in_err-written.ensures))
 
 pub shows_waiting-requires : goal.shows_waiting-requires
 shows_waiting-requires g c = c.in_ok-written.ensures.waits

@@ -8,7 +8,8 @@ use Rattle.wp_rule.proofs.Knows.{at_sound}
 use Rattle.wp_shared.specs.Seats.{SeatState, Stands, place_at}
 use Rattle.wp_shared.proofs.Tables.{held_table}
 use Rattle.wp_maint.proofs.Made.{first_held, second_held}
-use Rattle.wp_renew.proofs.Renews.{log_now, names_used, whole_now}
+use Rattle.wp_maint.proofs.Renewing.{names_this}
+use Rattle.wp_renew.proofs.Renews.{log_now, whole_now}
 use Rattle.wp_renew.proofs.renewing.shows_segment.Goals as goal
 
 pub shows_world-requires : goal.shows_world-requires
@@ -21,7 +22,7 @@ returns-clause-segment g c =
     let sound : IsSound w = at_sound (place_at z s.by) s.knows w stands.1 in
     let log_is = held_table (place_at z s.by) s.knows w (writes d) stands.1 (first_held s.knows (writes d) (installed t ∷ []) c.requires.turn.held) in
     let tables_are = held_table (place_at z s.by) s.knows w (installed t) stands.1 (second_held s.knows (writes d) (installed t) c.requires.turn.held) in
-    names_used d t w.holders.write (subst (λ (x : WriteTable × Installed). AreCoupled x.0 x.1 w.holders.write) (λ i. (log_is i, tables_are i)) sound.coupled) c.shows_told.ensures.next
+    names_this d t (subst (λ (x : WriteTable × Installed). AreCoupled x.0 x.1 w.holders.write) (λ i. (log_is i, tables_are i)) sound.coupled).last c.shows_told.ensures.next
 
 pub returns-clause-whole : goal.returns-clause-whole
 returns-clause-whole g c nothing =

@@ -29,11 +29,12 @@ returns-in-Ok-clause-writes g c =
         log_of_store = h.log_of_store;
       },
       c.in-Ok.ensures.written.1,
+      c.in-Ok.ensures.survives,
     )
 
 pub returns-in-Err-Memory-clause-writes : goal.returns-in-Err-Memory-clause-writes
 returns-in-Err-Memory-clause-writes g c =
-    (refl, refl, (subst (MatchWritten c.args.edits.now.table c.write_table.new.self.table) c.in-Err-Memory.field-0-is c.in-Err-Memory.ensures.refused, c.in-Err-Memory.ensures.manifest), c.in-Err-Memory.ensures.first)
+    (refl, refl, (subst (MatchWritten c.args.edits.now.table c.write_table.new.self.table) c.in-Err-Memory.field-0-is c.in-Err-Memory.ensures.refused, c.in-Err-Memory.ensures.manifest), c.in-Err-Memory.ensures.first, c.in-Err-Memory.ensures.survives, c.shows_told-in-Err-Memory.ensures.edits)
 
 pub find_edits-requires-clause-held : goal.find_edits-requires-clause-held
 find_edits-requires-clause-held g c = let e = c.args.edits.now.table in (e, second_held c.args.seat.now.knows (writes c.args.log.now.table) (installed e) c.requires.holds.turn.held)
@@ -97,7 +98,7 @@ returns-in-Err-Fault-clause-writes g c =
       found = found_then z s t v e.table k held no_fact (tables_failed e.table.last None ∷ log_stopped ∷ []) all;
       goes = more;
       fault = subst (HadCause e.set left.set) c.in-Err-Fault.field-0-is c.in-Err-Fault.ensures.cause;
-      survives = c.in-Err-Fault.ensures.survives;
+      survives = (c.in-Err-Fault.ensures.survives, c.in-Err-Fault.ensures.manifest);
       edits = c.shows_told.ensures.edits;
       still_edits = c.shows_told-in-Err-Fault.ensures.edits;
       log_is = c.shows_told-2.ensures.log;

@@ -1,5 +1,3 @@
-use Rattle.std.proofs.Common.{[], ◌∷◌, length}
-use Rattle.wp_shared.proofs.OneStep.{becomes}
 use Rattle.wp_renew.proofs.Renews.{may_find_closed, closed_found}
 use Rattle.wp_renew.proofs.steps.find_closed.Goals as goal
 

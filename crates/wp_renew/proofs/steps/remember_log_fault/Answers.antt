@@ -1,4 +1,4 @@
-use Rattle.std.proofs.Common.{true, List, [], ◌∷◌, sym, subst, ◌∙◌}
+use Rattle.std.proofs.Common.{true, [], ◌∷◌, sym, subst, ◌∙◌}
 use Rattle.wp_core.specs.Tables.{WriteTable, installed, writes}
 use Rattle.wp_core.specs.Views.{log_failed}
 use Rattle.wp_shared.specs.Calls.{remembering}

@@ -1,4 +1,3 @@
-use Rattle.std.proofs.Common.{◌≡◌, ◌∷◌, []}
 use Rattle.wp_maint.proofs.Made.{stands_after}
 use Rattle.wp_renew.proofs.Renews.{may_renew, same_held, was_renewed}
 use Rattle.wp_renew.proofs.steps.remember_renewal.Goals as goal

@@ -1,4 +1,3 @@
-use Rattle.std.proofs.Common.{sym}
 use Rattle.wp_model.specs.declared.segment.Segment.{Segment}
 use Rattle.wp_maint.proofs.Made.{stands_after}
 use Rattle.wp_renew.proofs.Renews.{may_write, was_written}
