@@ -170,7 +170,7 @@ module _ {D : Type 0} (z : SharedState D) (old new : SeatState) (txn : PreparedS
         remembered = tt;
         number = 0;
         after = refl;
-        progress = λ first is_first before p. progress_still first old.knows.participant new.knows.participant [] before _ grown (λ due. refl) p (let is = k.0 in omega (arith, is)) refl (λ label known. inl known);
+        progress = λ first is_first before p. progress_still first old.knows.participant new.knows.participant [] before _ grown (λ due. refl) p (let is = k.0 in omega (arith, is)) refl refl (λ label known. inl known);
         allowed = λ first is_first before p e agrees. let low = later_two before p.last in ((low.0, close_there e.history agrees.seen), (prior history txn.batch, (low.1, undo_there e.history agrees.seen)));
       }
 
@@ -214,7 +214,7 @@ module _ {D : Type 0} (z : SharedState D) (old new : SeatState) (why : TxnError)
     pub open_refused_answers : (r : Reply) → refusal why ≡ Some r → Answers z old new (having (Open txn.name txn.batch) snapshots) (having (Open left.name left.batch) snapshots) c r
     open_refused_answers r is =
         subst (λ (x : OpenState). Answers z old new (having (Open txn.name txn.batch) snapshots) (having (Open x.name x.batch) snapshots) c r) (sym k.0)
-        (refused_answers z old new (having (Open txn.name txn.batch) snapshots) c 1 (λ (entries : List Entry). entries ≡ made ∷ []) logged old.knows.participant old.knows.participant [] refl refl (sym (append-nil old.knows.participant.past)) (none_before (having (Open txn.name txn.batch) snapshots) c old.knows.participant.client) why r is k.2)
+        (refused_answers z old new (having (Open txn.name txn.batch) snapshots) c 1 (λ (entries : List Entry). entries ≡ made ∷ []) logged old.knows.participant old.knows.participant [] (λ event there. there) refl refl (sym (append-nil old.knows.participant.past)) (none_before (having (Open txn.name txn.batch) snapshots) c old.knows.participant.client) why r is k.2)
 
     pub open_refused_named : why ≢ Silent
     open_refused_named is = (subst (λ (w : TxnError). RefusesOpen z old txn made left w new) is k).2
@@ -230,7 +230,7 @@ module _ {D : Type 0} (z : SharedState D) (old new : SeatState) (why : TxnError)
     pub prepared_refused_answers : (r : Reply) → refusal why ≡ Some r → Answers z old new (having (Prepared txn.number) snapshots) (having (Prepared left.number) snapshots) c r
     prepared_refused_answers r is =
         subst (λ (x : PreparedState). Answers z old new (having (Prepared txn.number) snapshots) (having (Prepared x.number) snapshots) c r) (sym k.0)
-        (refused_answers z old new (having (Prepared txn.number) snapshots) c needs (Asks new.knows.participant.seen txn) logged old.knows.participant old.knows.participant [] refl refl (sym (append-nil old.knows.participant.past)) (none_before (having (Prepared txn.number) snapshots) c old.knows.participant.client) why r is k.2)
+        (refused_answers z old new (having (Prepared txn.number) snapshots) c needs (Asks new.knows.participant.seen txn) logged old.knows.participant old.knows.participant [] (λ event there. there) refl refl (sym (append-nil old.knows.participant.past)) (none_before (having (Prepared txn.number) snapshots) c old.knows.participant.client) why r is k.2)
 
     pub prepared_refused_named : why ≢ Silent
     prepared_refused_named is = (subst (λ (w : TxnError). RefusesPrepared z old txn needs Asks left w new) is k).2

@@ -1,5 +1,5 @@
 -- How a reply is put together, by what it acknowledges and what the seat remembers of its command.
-use Rattle.std.proofs.Common.{◌≡◌, inl, ℕ, suc, ◌+◌, ◌<◌, ◌≤◌, true, List, [], ◌∷◌, ◌++◌, length, Some, sym, subst, ap, ◌∙◌, fold, arith}
+use Rattle.std.proofs.Common.{◌≡◌, ◌⊎◌, inl, inr, refl, ℕ, suc, ◌+◌, ◌<◌, ◌≤◌, true, List, [], ◌∷◌, ◌++◌, length, Some, sym, subst, ap, ◌∙◌, fold, arith}
 use mathlib.Core.List.{append-nil}
 use Rattle.wp_model.specs.declared.entry.Entry.{Entry}
 use Rattle.wp_model.specs.Flushed.{InstalledEdit}
@@ -8,6 +8,7 @@ use Rattle.wp_model.proofs.Entries.{entry_at_old}
 use Rattle.wp_history.proofs.Growth.{entry_at_next, length_next}
 use Rattle.wp_text.specs.declared.script.Command.{Command}
 use Rattle.wp_text.specs.declared.reply.Reply.{Reply}
+use Rattle.wp_text.specs.declared.reply.Reply.TheVariants as reply
 use Rattle.wp_core.specs.Lists.{IsIn, one_if}
 use Rattle.wp_core.specs.Sound.Actors.{StartsWith}
 use Rattle.wp_core.specs.Sound.Pasts.{due_after}
@@ -24,12 +25,12 @@ use Rattle.wp_txn.specs.Writes.{HasPut}
 use Rattle.wp_replies.specs.declared.client.Txn.{Txn}
 use Rattle.wp_replies.specs.Client.{Client}
 use Rattle.wp_replies.specs.After.{after_reply}
-use Rattle.wp_replies.specs.Kind.{acknowledged, is_fault, is_tables_fault, is_renewal, stops_log, last_after, tables_after}
+use Rattle.wp_replies.specs.Kind.{acknowledged, is_fault, is_tables_fault, is_renewal, stops_log, last_after, tables_after, base_after}
 use Rattle.wp_replies.specs.Progress.{Progress, heard_after, knows_label}
 use Rattle.wp_replies.specs.Replies.{Evidence, IsLoggedAt, Allows}
 use Rattle.wp_answers.specs.Agrees.{Agrees}
 use Rattle.wp_answers.specs.Alone.{log_faults, device_faults, tables_faults}
-use Rattle.wp_answers.specs.Answers.{IsProgress, IsExplained, findings, IsRemembered, Answers}
+use Rattle.wp_answers.specs.Answers.{HasBase, IsProgress, IsExplained, findings, IsRemembered, Answers}
 use Rattle.wp_answers.proofs.Staying.{in_place}
 use Rattle.wp_answers.proofs.Growing.{of_one, progress_by, last_still}
 
@@ -45,6 +46,11 @@ pub record Fits (c : Command) (r : Reply) (numbers : List ℕ) (events : List Ev
   pub once : findings events ≤ 1 + one_if (is_renewal c)
   pub remembered : IsRemembered events r
   pub explained : (event : Event) → IsIn event events → IsExplained client txn c (Some r) event
+
+-- the base that the client knows of then is the one before, or among these events
+base_noted : (before : ℕ) (r : Reply) (events : List Event) → IsRemembered events r → (base_after before r ≡ before) ⊎ HasBase events (base_after before r)
+base_noted before (reply.Renewed n carried) events (edit, based, same, there) = inr (edit, based, there)
+base_noted before other events k = inl refl
 
 -- ---- the last entry
 
@@ -97,7 +103,7 @@ module _ {D : Type 0} (z : SharedState D) (old new : SeatState) where
     remembered = k.remembered;
     number = number;
     after = is;
-    progress = λ first is_first before p. progress_by first it new.knows.participant events before _ grown p (low before.last (last_still first it new.knows.participant before goes.seen p)) (k.tables before.tables)
+    progress = λ first is_first before p. progress_by first it new.knows.participant events before _ grown p (low before.last (last_still first it new.knows.participant before goes.seen p)) (k.tables before.tables) (base_noted before.base r events k.remembered)
         (λ label known. inl (subst (λ (labels : List (List ℕ)). knows_label labels label ≡ true) (k.labels before.labels) known));
     allowed = allowed;
   }
@@ -124,7 +130,7 @@ module _ {D : Type 0} (z : SharedState D) (old new : SeatState) where
         remembered = k.remembered;
         number = 0;
         after = then;
-        progress = λ first is_first before p. progress_by first it new.knows.participant events before _ grown p (let m = last before.last in omega (arith, m, is)) (k.tables before.tables)
+        progress = λ first is_first before p. progress_by first it new.knows.participant events before _ grown p (let m = last before.last in omega (arith, m, is)) (k.tables before.tables) (base_noted before.base r events k.remembered)
             (λ label known. inl (subst (λ (labels : List (List ℕ)). knows_label labels label ≡ true) (k.labels before.labels) known));
         allowed = λ first is_first before p e agrees. allowed before e
             (later_number history it.seen new.knows.participant.seen entry before.last n put.grown p.last put.seen is, last_entry e.history new.knows.participant.seen history entry n agrees.seen put.seen is);

@@ -68,7 +68,7 @@ module _ {D : Type 0} (z : SharedState D) (old new : SeatState) (label : List �
     remembered = tt;
     number = 0;
     after = refl;
-    progress = λ first is_first before k. progress_still first it new.knows.participant (told label n ∷ []) before _ (ap (λ (p : Participant). p.past) goes.participant) (λ due. refl) k (omega (arith, is)) refl
+    progress = λ first is_first before k. progress_still first it new.knows.participant (told label n ∷ []) before _ (ap (λ (p : Participant). p.past) goes.participant) (λ due. refl) k (omega (arith, is)) refl refl
         (λ other known. ⊎_elim (λ (same : label ≡ other). inr (n, inl (inl (ap (λ (l : List ℕ). told l n) same)))) (λ (k : knows_label before.labels other ≡ true). inl k) (known_or_same before.labels label other known));
     allowed = λ first is_first before k e agrees. let low = last_still first it new.knows.participant before goes.seen k in let high = shorter e.history new.knows.participant.seen agrees.seen in (omega (arith, is, low), omega (arith, is, high));
   }
@@ -88,7 +88,7 @@ module _ {D : Type 0} (z : SharedState D) (old new : SeatState) (label : List �
     remembered = tt;
     number = 0;
     after = refl;
-    progress = λ first is_first before k. progress_still first it new.knows.participant (heard label m ∷ []) before _ (ap (λ (p : Participant). p.past) goes.participant) (λ due. refl) k (omega (arith, is)) refl
+    progress = λ first is_first before k. progress_still first it new.knows.participant (heard label m ∷ []) before _ (ap (λ (p : Participant). p.past) goes.participant) (λ due. refl) k (omega (arith, is)) refl refl
         (λ other known. ⊎_elim (λ (same : label ≡ other). inr (m, inr (inl (ap (λ (l : List ℕ). heard l m) same)))) (λ (k : knows_label before.labels other ≡ true). inl k) (known_or_same before.labels label other known));
     allowed = λ first is_first before k e agrees. let low = last_still first it new.knows.participant before goes.seen k in let high = shorter e.history new.knows.participant.seen agrees.seen in
         ((omega (arith, is, low), omega (arith, is, high)), agrees.past (heard label m) (subst (IsIn (heard label m)) (sym (ap (λ (p : Participant). p.past) goes.participant)) (in_last (heard label m) it.past)) n low_m);
@@ -116,7 +116,7 @@ module _ {D : Type 0} (z : SharedState D) (old new : SeatState) (label : List �
     remembered = tt;
     number = 0;
     after = refl;
-    progress = λ first is_first before k. progress_still first it new.knows.participant [] before _ (ap (λ (p : Participant). p.past) goes.participant ∙ sym (append-nil it.past)) (λ due. refl) k (last_still first it new.knows.participant before goes.seen k) refl (λ other known. inl known);
+    progress = λ first is_first before k. progress_still first it new.knows.participant [] before _ (ap (λ (p : Participant). p.past) goes.participant ∙ sym (append-nil it.past)) (λ due. refl) k (last_still first it new.knows.participant before goes.seen k) refl refl (λ other known. inl known);
     allowed = λ first is_first before k e agrees. (
       refl,
       elim (cases_Bool (knows_label before.labels label)) [

@@ -4,6 +4,7 @@ pub mod Staying
 pub mod Growing
 pub mod Clients
 pub mod Fitting
+pub mod Risen
 pub mod Refused
 pub mod Labels
 pub mod Holders

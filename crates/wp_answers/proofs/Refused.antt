@@ -1,5 +1,6 @@
 -- What a client is answered whose command the log does not take.
 use Rattle.std.proofs.Common.{◌≡◌, ⊎_elim, inl, inr, ℕ, ◌+◌, ◌≤◌, List, [], ◌∷◌, ◌++◌, length, Option, Some, None, refl, sym, subst, ap, ◌∙◌, append_assoc, arith}
+use Rattle.std.proofs.lemmas.Bool.{cases_lt}
 use Rattle.std.specs.Prelude.{unwrap_or}
 use Rattle.wp_model.specs.declared.entry.Entry.{Entry}
 use Rattle.wp_model.specs.Flushed.{InstalledEdit}
@@ -14,9 +15,12 @@ use Rattle.wp_core.specs.World.{Participant}
 use Rattle.wp_core.proofs.KeepsSeen.{shorter}
 use Rattle.wp_core.proofs.PastsGrow.{in_last, in_either, total_more}
 use Rattle.wp_core.proofs.Tests.{same_some}
+use Rattle.wp_rule.proofs.Knows.{one_was_first}
+use Rattle.wp_rule.specs.Shows.{WasLast}
 use Rattle.wp_shared.specs.Calls.{Continues, remembering}
-use Rattle.wp_shared.proofs.Limits.{limit_either}
-use Rattle.wp_shared.specs.Seats.{SharedState, SeatState}
+use Rattle.wp_shared.specs.Parts.{content}
+use Rattle.wp_shared.proofs.Limits.{limit_either, limit_renewed}
+use Rattle.wp_shared.specs.Seats.{SharedState, SeatState, place_at}
 use Rattle.wp_txn.specs.declared.error.TxnError.{TxnError}
 use Rattle.wp_txn.specs.declared.error.TxnError.TheVariants.{Memory, Taken, Busy, TooMany, Silent, Unknown, InUse, NumbersFull, LogFault, Stopped}
 use Rattle.wp_txn.specs.Writes.{Refuses}
@@ -32,6 +36,7 @@ use Rattle.wp_answers.specs.Replies.{refusal}
 use Rattle.wp_answers.proofs.Alone.Published.{no_device_fault}
 use Rattle.wp_answers.proofs.Fitting.{else_answers}
 use Rattle.wp_answers.proofs.Growing.{InstallNothing, due_still, last_still}
+use Rattle.wp_answers.proofs.Risen.{base_there, base_between}
 use Rattle.wp_answers.proofs.Staying.{holds_still}
 
 -- the log does not take it: its numbers are full, it fails, or it failed before
@@ -115,16 +120,24 @@ module _ {D : Type 0} (z : SharedState D) (old new : SeatState) (client : Client
   by_row : (e : Evidence) (before : Progress) (r : Reply) → Row e before client 0 c r → Allows e before client 0 c r
   by_row e before r row = subst (λ (o : Option Reply). UnlessRefused o r (Row e before client 0 c r)) (sym logged.free) row
 
-  module _ (found after : Participant) (front : List Event) (same_client : after.client ≡ it.client) (own : after.own ≡ it.own) (past : after.past ≡ it.past ++ front) (k : ComesBefore client c it.client front) where
+  module _ (found after : Participant) (front : List Event) (begins : (event : Event) → IsIn event it.past → IsIn event found.past) (same_client : after.client ≡ it.client) (own : after.own ≡ it.own) (past : after.past ≡ it.past ++ front) (k : ComesBefore client c it.client front) where
     -- the past with one event more
     past_more : (last : Event) → after.past ++ last ∷ [] ≡ it.past ++ (front ++ last ∷ [])
     past_more last = ap (λ (es : List Event). es ++ last ∷ []) past ∙ append_assoc it.past front (last ∷ [])
 
-    is_limit : (e : Evidence) (published limit : ℕ) → Refuses z old new needs Asks found after (NumbersFull published limit) → Agrees e z new.knows.participant → IsLimit e limit
-    is_limit e published limit f agrees = elim (limit_either z f.2.world.installed.last.segment.base) [
-      | inl opened ↦ inl (f.3 ∙ (opened ∙ ap (λ (l : Limits). l.opened) (sym agrees.limits)))
-      | inr renewed ↦ inr (f.3 ∙ (renewed ∙ ap (λ (l : Limits). l.renewed) (sym agrees.limits)))
-    ]
+    -- where the client knows of a renewal of its own, the log has been renewed
+    is_limit : (first : InstalledEdit) → WasLast content z.first first → (before : Progress) → IsProgress first it before → (e : Evidence) (published limit : ℕ) → Refuses z old new needs Asks found after (NumbersFull published limit) → Agrees e z new.knows.participant → IsLimit e before.base limit
+    is_limit first is_first before p e published limit f agrees =
+        let w = f.2.world in
+        let known = base_between first w f.2.there.reached (place_at z old.by).by f.2.actor f.2.there.there (one_was_first content z.first w.first_edit first f.2.there.first_edit is_first) before.base
+        (base_there first before.base it.past f.2.actor.participant.past (λ event there. subst (λ (past : List Event). IsIn event past) (sym (ap (λ (q : Participant). q.past) f.2.participant)) (begins event there)) p.base) in
+        elim (cases_lt first.segment.base before.base) [
+          | inl above ↦ inr (f.3 ∙ (limit_renewed z first.segment.base (agrees.opened first is_first) w.installed.last.segment.base (omega (arith, above, known.1)) ∙ ap (λ (l : Limits). l.renewed) (sym agrees.limits)))
+          | inr none ↦ elim (limit_either z w.installed.last.segment.base) [
+            | inl opened ↦ inl (f.3 ∙ (opened ∙ ap (λ (l : Limits). l.opened) (sym agrees.limits)), omega (arith, none, known.0, agrees.base first is_first))
+            | inr renewed ↦ inr (f.3 ∙ (renewed ∙ ap (λ (l : Limits). l.renewed) (sym agrees.limits)))
+          ]
+        ]
 
     full_answers : (published limit : ℕ) → Refuses z old new needs Asks found after (NumbersFull published limit) → Answers z old new client client c (reply.Full published limit)
     full_answers published limit f =
@@ -134,7 +147,7 @@ module _ {D : Type 0} (z : SharedState D) (old new : SeatState) (client : Client
         (λ first is_first before p e agrees. by_row e before (reply.Full published limit) (
           (let n = logged.needs_is in let some = logged.some in omega (arith, n, some)),
           fresh_number first before e published after f.4 f.0 p agrees,
-          is_limit e published limit f agrees,
+          is_limit first is_first before p e published limit f agrees,
           (let n = logged.needs_is in let low = f.1 in omega (arith, n, low)),
         ))
 

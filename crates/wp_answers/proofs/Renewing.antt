@@ -1,5 +1,5 @@
 -- What a client is answered that renews the log.
-use Rattle.std.proofs.Common.{◌≡◌, inl, inr, ℕ, ◌<◌, ◌≤◌, ◌&&◌, Bool, List, [], ◌∷◌, length, take, Option, Some, None, refl, sym, subst, ap, ◌∙◌, arith, eq-eqb}
+use Rattle.std.proofs.Common.{◌≡◌, ◌⊎◌, inl, inr, ℕ, ◌<◌, ◌≤◌, ◌&&◌, Bool, List, [], ◌∷◌, length, take, Option, Some, None, refl, sym, subst, ap, ◌∙◌, arith, eq-eqb}
 use Rattle.std.specs.Prelude.{Result, Ok, Err, IfSome}
 use Rattle.wp_model.specs.declared.entry.Entry.{Entry}
 use Rattle.wp_model.specs.Flushed.{InstalledEdit}
@@ -8,14 +8,17 @@ use Rattle.wp_text.specs.declared.script.Command.TheVariants as command
 use Rattle.wp_text.specs.declared.reply.Reply.{Reply}
 use Rattle.wp_text.specs.declared.reply.Reply.TheVariants as reply
 use Rattle.wp_core.specs.Sound.Actors.{StartsWith}
-use Rattle.wp_core.specs.Tables.{Installed}
+use Rattle.wp_core.specs.Tables.{Installed, installed}
 use Rattle.wp_core.specs.Views.{Event, log_failed, log_stopped, tables_failed, stopped}
 use Rattle.wp_core.specs.Views as event
 use Rattle.wp_core.specs.World.{Participant}
 use Rattle.wp_core.proofs.KeepsSeen.{shorter}
 use Rattle.wp_core.proofs.Tests.{same_some}
+use Rattle.wp_rule.proofs.Knows.{held_is, one_was_first}
+use Rattle.wp_rule.specs.Shows.{WasLast}
 use Rattle.wp_shared.specs.Calls.{Continues}
-use Rattle.wp_shared.specs.Seats.{SharedState, SeatState}
+use Rattle.wp_shared.specs.Parts.{content}
+use Rattle.wp_shared.specs.Seats.{SharedState, SeatState, place_at}
 use Rattle.wp_maint.specs.Calls.{found_by}
 use Rattle.wp_maint.specs.declared.renewed.Renewed.{Renewed}
 use Rattle.wp_maint.specs.declared.renewed.RenewError.{RenewError}
@@ -28,11 +31,12 @@ use Rattle.wp_replies.specs.Tables.{after_renewal}
 use Rattle.wp_replies.proofs.DueTables.{asks_none}
 use Rattle.wp_answers.proofs.Alone.Renewing.{renewed_alone, nothing_renewed_alone, renew_halted_alone, renew_stopped_alone, renew_log_failed_alone, renew_failed_alone}
 use Rattle.wp_answers.specs.Agrees.{Agrees}
-use Rattle.wp_answers.specs.Answers.{IsExplained, Answers, BreaksOff, IsDue, IsAnswered}
+use Rattle.wp_answers.specs.Answers.{HasBase, IsProgress, IsExplained, Answers, BreaksOff, IsDue, IsAnswered}
 use Rattle.wp_answers.specs.Holdings.{HoldingsState, Holds}
 use Rattle.wp_answers.specs.Replies.{renewal_refusal}
 use Rattle.wp_answers.proofs.Growing.{of_two, of_three, seen_taken, last_still}
 use Rattle.wp_answers.proofs.Maintaining.{renewal_is, known_of, tables_answers, halted_answers, nothing_answers}
+use Rattle.wp_answers.proofs.Risen.{base_between}
 use Rattle.wp_answers.proofs.Staying.{holds_still, keeps_holds, broke_off}
 
 module _ {D : Type 0} (z : SharedState D) (old new : SeatState) where
@@ -49,9 +53,21 @@ module _ {D : Type 0} (z : SharedState D) (old new : SeatState) where
     fresh_end : (n : ℕ) → n ≡ length seen → (before : Progress) → before.last ≤ length seen → (e : Evidence) → Agrees e z new.knows.participant → IsFresh e.history before.last n
     fresh_end n is before low e agrees = let high = shorter e.history seen agrees.seen in (omega (arith, is, low), omega (arith, is, high))
 
-    renewed_row : (t : Installed) (done : Renewed) (k : HasRenewed (Continues z old new) z old new t done) (before : Progress) → before.last ≤ length seen → (e : Evidence) → Agrees e z new.knows.participant → Row e before client 0 command.Renew (reply.Renewed done.at done.carried)
-    renewed_row t done k before low e agrees = (
-      fresh_end done.at k.at before low e agrees,
+    -- the base is above the one that the client knows of
+    base_below : (t : Installed) (done : Renewed) (k : HasRenewed (Continues z old new) z old new t done) (first : InstalledEdit) → WasLast content z.first first → (before : Progress) → IsProgress first it before → before.base < done.at
+    base_below t done k first is_first before p =
+        let f = k.found in
+        let known = base_between first f.world f.there.reached old.by f.actor f.there.there (one_was_first content z.first f.world.first_edit first f.there.first_edit is_first) before.base
+        (subst (λ (past : List Event). (before.base ≡ first.segment.base) ⊎ HasBase past before.base) (sym f.past_is) p.base) in
+        let held : installed f.world.installed ≡ installed t = (held_is (place_at z old.by) f.actor f.world (installed t) f.there f.held).1 in
+        let table : f.world.installed ≡ t = cc in
+        let same : f.world.installed.last.segment.base ≡ t.last.segment.base = ap (λ (x : Installed). x.last.segment.base) table in
+        let below = k.busy.below in let at = k.at in omega (arith, known.1, same, below, at)
+
+    renewed_row : (t : Installed) (done : Renewed) (k : HasRenewed (Continues z old new) z old new t done) (first : InstalledEdit) → WasLast content z.first first → (before : Progress) → IsProgress first it before → (e : Evidence) → Agrees e z new.knows.participant → Row e before client 0 command.Renew (reply.Renewed done.at done.carried)
+    renewed_row t done k first is_first before p e agrees = (
+      fresh_end done.at k.at before (last_still first it new.knows.participant before k.goes_on.seen p) e agrees,
+      base_below t done k first is_first before p,
       k.carried ∙ ap (λ (h : List Entry). length (undecided h)) (sym (ap (λ (m : ℕ). take m e.history) k.at ∙ seen_taken e.history seen agrees.seen)),
     )
 
@@ -63,7 +79,7 @@ module _ {D : Type 0} (z : SharedState D) (old new : SeatState) where
     fails_row t asked place below next grown before low e agrees last failed = let more = shorter seen it.seen grown in record {
       at = length seen;
       fresh = fresh_end (length seen) refl before (omega (arith, low, more)) e agrees;
-      behind = λ same. let base = ap (λ (x : InstalledEdit). x.segment.base) last in omega (arith, below, base, same);
+      behind = let base = ap (λ (x : InstalledEdit). x.segment.base) last in omega (arith, below, base);
       place = place;
       edit = subst (λ (o : Option InstalledEdit). IfSome o (λ edit. edit ≡ after_renewal (take (length seen) e.history) place e.installed)) (sym failed)
           (subst (λ (x : InstalledEdit). IfSome asked (λ edit. edit ≡ after_renewal (take (length seen) e.history) place x)) (sym last)
@@ -88,7 +104,7 @@ module _ {D : Type 0} (z : SharedState D) (old new : SeatState) where
           explained = of_two (IsExplained it.client client.txn command.Renew (Some (reply.Renewed done.at done.carried))) found made tt (ap (λ (b : Bool). b && b) (eq-eqb (length seen) done.at (sym k.at)));
         })
         refl (λ before low. let at = k.at in omega (arith, at))
-        (λ first is_first before p e agrees. renewed_row t done k before (last_still first it new.knows.participant before k.goes_on.seen p) e agrees)
+        (λ first is_first before p e agrees. renewed_row t done k first is_first before p e agrees)
 
     nothing_beside : (t : Installed) → IsRenewed (Continues z old new) z old new t → Answers z old new client client command.Renew reply.Nothing
     nothing_beside t k =
@@ -177,7 +193,7 @@ module _ {D : Type 0} (z : SharedState D) (old new : SeatState) where
     not_renewed_answers why r is k = (not_renewed_beside why r is k, not_renewed_due why r is k)
 
     pub not_renewed_breaks : (why : RenewError) → renewal_refusal why ≡ None → Renews z old (Err why) new → BreaksOff old new client command.Renew
-    not_renewed_breaks Memory none (t, goes) = broke_off z old new client command.Renew goes
+    not_renewed_breaks Memory none (t, k) = broke_off z old new client command.Renew k.goes_on
     not_renewed_breaks Nothing none f = absurd cc
     not_renewed_breaks TableFault none f = absurd cc
     not_renewed_breaks LogFault none f = absurd cc
@@ -187,7 +203,7 @@ module _ {D : Type 0} (z : SharedState D) (old new : SeatState) where
   -- what the client has then: what it had
   pub renewal_holds : (answer : Result Renewed RenewError) → Renews z old answer new → (h : HoldingsState) → Holds z old h → Holds z new h
   renewal_holds (Ok done) (t, k) = holds_still z old new _ refl refl refl k.goes_on
-  renewal_holds (Err Memory) (t, goes) = keeps_holds z old new goes
+  renewal_holds (Err Memory) (t, k) = keeps_holds z old new k.goes_on
   renewal_holds (Err Nothing) (t, k) = holds_still z old new _ refl refl refl k.goes_on
   renewal_holds (Err TableFault) (t, k) = holds_still z old new _ refl refl refl k.goes_on
   renewal_holds (Err LogFault) (t, k) = holds_still z old new _ refl refl refl k.goes_on

@@ -14,7 +14,7 @@ use Rattle.wp_text.specs.declared.reply.Reply.TheVariants as reply
 use Rattle.wp_core.specs.Lists.{IsIn}
 use Rattle.wp_core.specs.Views.{Account, Event, locked, found}
 use Rattle.wp_core.specs.World.{Participant}
-use Rattle.wp_core.proofs.PastsGrow.{in_last}
+use Rattle.wp_core.proofs.PastsGrow.{in_front, in_last}
 use Rattle.wp_core.proofs.Tests.{same_some}
 use Rattle.wp_rule.specs.Accounts.{account_of}
 use Rattle.wp_shared.specs.Calls.{Continues, remembering}
@@ -139,7 +139,7 @@ module _ {D : Type 0} (z : SharedState D) (old new : SeatState) (c : Change) (sn
       (agrees.past event (subst (IsIn event) (sym (ap (λ (q : Participant). q.past) f.goes_on.participant)) (in_last event it.past)))))
 
   log_refused : (why : TxnError) (r : Reply) → refusal why ≡ Some r → Refuses z old new 1 (λ (entries : List Entry). entries ≡ Write (c ∷ []) ∷ []) (writing_direct (key_of c) it) (wrote_direct (key_of c) it) why → Answers z old new me me (asking c) r
-  log_refused = refused_answers z old new me (asking c) 1 (λ (entries : List Entry). entries ≡ Write (c ∷ []) ∷ []) (writes_logged c snapshots) (writing_direct (key_of c) it) (wrote_direct (key_of c) it) (locked (key_of c) (holder.Client it.client) ∷ []) refl refl refl lock_before
+  log_refused = refused_answers z old new me (asking c) 1 (λ (entries : List Entry). entries ≡ Write (c ∷ []) ∷ []) (writes_logged c snapshots) (writing_direct (key_of c) it) (wrote_direct (key_of c) it) (locked (key_of c) (holder.Client it.client) ∷ []) (λ event there. in_front event it.past (locked (key_of c) (holder.Client it.client) ∷ []) there) refl refl refl lock_before
 
   pub not_written_answers : HoldsTxn z old held.Idle → (why : TxnError) (r : Reply) → refusal why ≡ Some r → WritesDirect z old c (Err why) new → IsAnswered z old new me me (asking c) r
   not_written_answers has (Busy by) r is f = subst (IsAnswered z old new me me (asking c)) (same_some (reply.Busy by) r is)

@@ -9,6 +9,7 @@ use Rattle.wp_core.specs.Views.{Account, own, another, prepare_at, Event, heard,
 use Rattle.wp_core.specs.World.{Participant}
 use Rattle.wp_model.specs.Flushed.{InstalledEdit}
 use Rattle.wp_rule.specs.Shows.{WasLast}
+use Rattle.wp_shared.specs.Limits.{WasOpenedAt}
 use Rattle.wp_shared.specs.Parts.{content}
 use Rattle.wp_shared.specs.Seats.{SharedState}
 use Rattle.wp_answers.specs.Alone.{limits_of}
@@ -42,10 +43,11 @@ Knows e (tables_failed last edit) = (e.installed ≡ last) × (e.failed.edit ≡
 Knows e (found_edit flushed base tables due halted) = IsKnown e (WasFlushed flushed) × IsKnown e (WasBase base) × (halted ≡ true → IsHaltedAt e flushed) × (tables < due → IsKnown e OtherCompacted)
 Knows e other = Unit {0}
 
--- The history begins with what the seat has seen, the limits and the base at opening are the store's, and what the seat's past tells is known. Less of it
--- is told by an earlier seat, so what agrees with a seat agrees with the same seat earlier.
+-- The history begins with what the seat has seen, the limits and the base at opening are the store's, and what the seat's past tells is
+-- known. Less of it is told by an earlier seat, so what agrees with a seat agrees with the same seat earlier.
 pub record Agrees {D : Type 0} (e : Evidence) (z : SharedState D) (p : Participant) : Type 0 where
   pub seen : StartsWith e.history p.seen
   pub limits : e.limits ≡ limits_of z
   pub base : (first : InstalledEdit) → WasLast content z.first first → e.base ≡ first.segment.base
+  pub opened : (first : InstalledEdit) → WasLast content z.first first → WasOpenedAt z first.segment.base
   pub past : (event : Event) → IsIn event p.past → Knows e event

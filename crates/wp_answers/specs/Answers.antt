@@ -33,10 +33,15 @@ use Rattle.wp_answers.specs.Holdings.{txn_of}
 abbrev pub HasLabel : List Event → List ℕ → Type 0
 HasLabel past label = (n : ℕ) × (IsIn (told label n) past ⊎ IsIn (heard label n) past)
 
+-- a renewal there gave the log this base
+abbrev pub HasBase : List Event → ℕ → Type 0
+HasBase past base = (edit : InstalledEdit) × (edit.segment.base ≡ base) × IsIn (renewed edit) past
+
 -- what the client knows by its replies is what its seat saw and did
 pub record IsProgress (first : InstalledEdit) (p : Participant) (progress : Progress) : Type 0 where
   pub last : progress.last ≤ length p.seen
   pub tables : progress.tables ≡ tables_due first p.past
+  pub base : (progress.base ≡ first.segment.base) ⊎ HasBase p.past progress.base
   pub labels : (label : List ℕ) → knows_label progress.labels label ≡ true → HasLabel p.past label
 
 -- there is a reply, of this kind

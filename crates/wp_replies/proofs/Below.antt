@@ -270,7 +270,7 @@ module _ (e : Evidence) (other : List Entry) (k : IsLike e other) where
   row_other progress client p command.Compact reply.Nothing f k = k
   row_other progress client p command.Compact (reply.Halted flushed) f k = k
   row_other progress client p command.Compact reply.FaultTables f k = compaction_fails_other progress.last client f.last k
-  row_other progress client p command.Renew (reply.Renewed n carried) f k = (fresh_other progress.last n k.0, k.1 ∙ ap (λ (ns : List ℕ). length ns) (a.whole.prepares n (let low = f.last in omega (arith, low, k.0.0)) k.0.1))
+  row_other progress client p command.Renew (reply.Renewed n carried) f k = (fresh_other progress.last n k.0, k.1, k.2 ∙ ap (λ (ns : List ℕ). length ns) (a.whole.prepares n (let low = f.last in omega (arith, low, k.0.0)) k.0.1))
   row_other progress client p command.Renew reply.Nothing f k = k
   row_other progress client p command.Renew (reply.Halted flushed) f k = k
   row_other progress client p command.Renew reply.FaultTables f k = renewal_fails_other progress.last f.last k

@@ -1,14 +1,14 @@
 -- A reply to a flush, a compaction or a renewal that is due at a moment of a history is one that the table allows.
-use Rattle.std.proofs.Common.{◌≡◌, ℕ, zero, suc, ◌≤◌, ◌⊎◌, true, false, true≢false, ◌==◌, eq-eqb, List, [], ◌∷◌, ◌++◌, length, take, drop, None, refl, sym, ap, ◌∙◌, subst, arith, inl, inr}
+use Rattle.std.proofs.Common.{◌≡◌, ℕ, zero, suc, ◌≤◌, ◌<◌, ◌⊎◌, true, false, true≢false, ◌==◌, eq-eqb, List, [], ◌∷◌, ◌++◌, length, take, drop, None, refl, sym, ap, ◌∙◌, subst, arith, inl, inr}
 use Rattle.std.specs.List.{AllByRecursion}
 use Rattle.std.specs.Prelude.{nat_lt}
-use Rattle.std.proofs.lemmas.Bool.{cases_Bool, or_cases, or_left, or_right, eqb-true, ltb-true, ltb-false}
+use Rattle.std.proofs.lemmas.Bool.{cases_Bool, cases_lt, or_cases, or_left, or_right, eqb-true, ltb-true, ltb-false}
 use Rattle.std.proofs.lemmas.List.{take-append-drop}
 use Rattle.wp_model.specs.declared.entry.Entry.{Entry}
 use Rattle.wp_model.specs.Legal.{changes_in}
 use Rattle.wp_model.specs.declared.version.Version.{Version}
 use Rattle.wp_model.specs.Covered.{is_among}
-use Rattle.wp_model.specs.Flushed.{versions_under, versions_after, later_versions}
+use Rattle.wp_model.specs.Flushed.{InstalledEdit, versions_under, versions_after, later_versions}
 use Rattle.wp_model.specs.History.{undecided}
 use Rattle.wp_cuts.specs.Cut.{carried_of, cut_at}
 use Rattle.wp_cuts.specs.Kept.{carried_versions, HasKeysAt}
@@ -181,12 +181,19 @@ asks_none Idle entries none = none
 asks_none (Open name batch) entries none = none
 asks_none (Prepared p) entries none = none
 
+-- the base goes up
+base_below : {client : Client} {answer : Reply} (s : Scene client command.Renew answer) → (s.given.devices.installed.segment.base == length (front s)) ≡ false → s.given.devices.installed.segment.base < length (front s)
+base_below s differs = let size = front_size s in let risen = s.given.known.risen in elim (cases_lt s.given.devices.installed.segment.base (length (front s))) [
+  | inl lower ↦ lower
+  | inr high ↦ absurd (true≢false (sym (eq-eqb s.given.devices.installed.segment.base (length (front s)) (omega (arith, size, risen.1, high))) ∙ differs))
+]
+
 renewal_fails : {client : Client} {answer : Reply} (s : Scene client command.Renew answer) → (s.given.devices.installed.segment.base == length (front s)) ≡ false → is_tables_fault answer ≡ true → FailsRenewal s.evidence s.progress.last
 renewal_fails s differs f =
     let asked = s.given.asked_edit f in record {
       at = length (front s);
       fresh = front_fresh s;
-      behind = λ same. true≢false (sym (eq-eqb s.given.devices.installed.segment.base (length (front s)) (ap (λ x. x.segment.base) asked.1 ∙ same)) ∙ differs);
+      behind = let same = ap (λ (x : InstalledEdit). x.segment.base) asked.1 in let below = base_below s differs in omega (arith, same, below);
       place = s.given.place;
       edit = rw (at_front s, ← asked.1) asked.0;
     }
@@ -194,6 +201,10 @@ renewal_fails s differs f =
 pub renew_allowed : {client : Client} {answer : Reply} (s : Scene client command.Renew answer) → IsAllowed s
 renew_allowed {client = client} {answer = answer} s = by_row s refl (by s.given.replied)
   where
+    -- ... above the one that the client knows of
+    below : (s.given.devices.installed.segment.base == length (front s)) ≡ false → s.progress.base < length (front s)
+    below differs = let risen = s.given.known.risen in let installed = base_below s differs in omega (arith, risen.0, installed)
+
     by_due : (r : Reply) → r ≡ due (store_in s) client command.Renew → RowOf s r
     by_due r is = elim (cases_Bool s.given.devices.halted) [
       | inl failed ↦ let answered : r ≡ reply.Halted s.given.devices.installed.flushed = rw failed at is in subst (RowOf s) (sym answered) (s.given.known.halted failed)
@@ -208,7 +219,7 @@ renew_allowed {client = client} {answer = answer} s = by_row s refl (by s.given.
               subst (RowOf s) (sym answered) (s.given.devices.installed.segment.base, s.given.known.based, omega (arith, at, (front_fresh s).0))
           | inr differs ↦
               let answered : r ≡ reply.Renewed (length (front s)) (length (undecided (front s))) = rw (runs, open_, differs) at is in
-              subst (RowOf s) (sym answered) (front_fresh s, ap (λ (f : List Entry). length (undecided f)) (sym (at_front s)))
+              subst (RowOf s) (sym answered) (front_fresh s, below differs, ap (λ (f : List Entry). length (undecided f)) (sym (at_front s)))
         ]
       ]
     ]

@@ -206,7 +206,7 @@ row_more e more later within f progress client p command.Compact (reply.Compacte
 row_more e more later within f progress client p command.Compact reply.Nothing k = nothing_to_merge_more e more later f progress.tables k
 row_more e more later within f progress client p command.Compact (reply.Halted flushed) k = halted_more e more later f flushed k
 row_more e more later within f progress client p command.Compact reply.FaultTables k = compaction_fails_more e more later progress.last client k
-row_more e more later within f progress client p command.Renew (reply.Renewed n carried) k = (fresh_more e.history more progress.last n k.0, front_more (λ h. carried ≡ length (undecided h)) e.history more n k.0.1 k.1)
+row_more e more later within f progress client p command.Renew (reply.Renewed n carried) k = (fresh_more e.history more progress.last n k.0, k.1, front_more (λ h. carried ≡ length (undecided h)) e.history more n k.0.1 k.2)
 row_more e more later within f progress client p command.Renew reply.Nothing k = nothing_to_renew_more e more later f progress.last k
 row_more e more later within f progress client p command.Renew (reply.Halted flushed) k = halted_more e more later f flushed k
 row_more e more later within f progress client p command.Renew reply.FaultTables k = renewal_fails_more e more later progress.last k

@@ -64,13 +64,15 @@ AreSessions left limits failed found before (part ∷ parts) (first ∷ firsts) 
 AreSessions left limits failed found before script run sessions = ⊥
 
 -- What the replies say of the last edit. Its flushed number is the one that was found or that of a `flushed` or `renewed` reply, and is
--- less than none of these; its base is the one that was found or that of a `renewed` reply. Where no reply says that the log was renewed,
--- it names the segment that was found; and where none says that an edit was installed, it is the edit that was found.
+-- less than none of these; its base is the one that was found or that of a `renewed` reply, and is not less than the one that was found.
+-- Where no reply says that the log was renewed, it names the segment that was found; and where none says that an edit was installed, it
+-- is the edit that was found.
 pub record IsLastEdit (found left : InstalledEdit) (answers : List Reply) : Type 0 where
   pub said : (left.flushed ≡ found.flushed) ⊎ (list_any (is_flushed left.flushed) answers ≡ true)
   pub kept : found.flushed ≤ left.flushed
   pub greatest : (n : ℕ) → list_any (is_flushed n) answers ≡ true → n ≤ left.flushed
   pub based : (left.segment.base ≡ found.segment.base) ⊎ (list_any (is_based left.segment.base) answers ≡ true)
+  pub risen : found.segment.base ≤ left.segment.base
   pub in_place : list_any is_renewed answers ≡ false → left.segment ≡ found.segment
   pub unchanged : list_any is_installed answers ≡ false → left ≡ found
 

@@ -179,3 +179,11 @@ tables_of_kind tables other = tables
 -- how many tables a client knows of after a reply
 abbrev pub tables_after : ℕ → Reply → ℕ
 tables_after tables answer = tables_of_kind tables (kind answer)
+
+abbrev pub base_of_kind : ℕ → Kind → ℕ
+base_of_kind base (Renewed n) = n
+base_of_kind base other = base
+
+-- the base of the log that a client knows of after a reply
+abbrev pub base_after : ℕ → Reply → ℕ
+base_after base answer = base_of_kind base (kind answer)

@@ -24,7 +24,7 @@ pub record StoredState : Type 0 where
 
 -- what a client knows as its session begins
 abbrev pub known_at_first : StoredState → Progress
-known_at_first found = record { last = length found.history; tables = found.edit.tables; labels = [] }
+known_at_first found = record { last = length found.history; tables = found.edit.tables; base = found.edit.segment.base; labels = [] }
 
 -- a client with its commands, and the replies to the first of these
 pub record Dialogue : Type 0 where

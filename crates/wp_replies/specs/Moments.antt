@@ -42,15 +42,16 @@ pub record AreStored (base : ℕ) (history : List Entry) (edit : InstalledEdit) 
   pub gives : (key : List ℕ) → GivesStore edit.versions history key base
 
 -- What is known of the others fits the devices when so many entries were published: what has failed, and which number the edit
--- has, which is the last one once the tables' devices failed; and its base. The edit has as many tables as the client knows of, unless
+-- has, which is the last one once the tables' devices failed; and its base, no lower than the client knows of. The edit has as many tables as the client knows of, unless
 -- another client made them one, and they have what is stored. What is on the board was told, and each label is there that the client
 -- knows.
 pub record AreKnown (evidence : Evidence) (at : ℕ) (progress : Progress) (devices : Devices) : Type 0 where
   pub stopped : devices.stopped ≡ true → IsKnown evidence (LogStopped at)
-  pub limit : IsLimit evidence devices.limit
+  pub limit : IsLimit evidence progress.base devices.limit
   pub halted : devices.halted ≡ true → (devices.installed.flushed ≡ evidence.installed.flushed) × IsKnown evidence TablesFailed
   pub flushed : IsKnown evidence (WasFlushed devices.installed.flushed)
   pub based : IsKnown evidence (WasBase devices.installed.segment.base)
+  pub risen : (progress.base ≤ devices.installed.segment.base) × (devices.installed.segment.base ≤ at)
   pub counted : (progress.tables ≤ devices.installed.tables) ⊎ IsKnown evidence OtherCompacted
   pub stored : AreStored evidence.base (take at evidence.history) devices.installed
   pub told : (label : List ℕ) (n : ℕ) → map.get devices.board label ≡ Some n → IsKnown evidence (WasTold label at)

@@ -1,6 +1,6 @@
 -- The table of replies: each reply is given only where its row says so, over a history, with what is known of the other
 -- clients. Each row stays true as the history grows, and as more is known of the others.
-use Rattle.std.specs.Prelude.{◌≡◌, ◌≢◌, ◌⊎◌, ℕ, ◌+◌, ◌-◌, ◌<◌, ◌≤◌, ◌==◌, Bool, true, false, nat_le, List, [], ◌∷◌, length, take, Option, Some, None, is_some, IfSome, if◌then◌else◌}
+use Rattle.std.specs.Prelude.{◌≡◌, ◌⊎◌, ℕ, ◌+◌, ◌-◌, ◌<◌, ◌≤◌, ◌==◌, Bool, true, false, nat_le, List, [], ◌∷◌, length, take, Option, Some, None, is_some, IfSome, if◌then◌else◌}
 use Rattle.std.specs.List.{list_any}
 use Rattle.wp_model.specs.declared.change.Change.{Change}
 use Rattle.wp_model.specs.declared.change.Change.TheVariants as change
@@ -196,10 +196,9 @@ AsksFor txn other entries = ⊥
 
 -- ---- the log
 
--- It is a limit of the log: as it was opened, or renewed. In the first the number published is at most that limit, so where it passes
--- it the log was renewed.
-abbrev pub IsLimit : Evidence → ℕ → Type 0
-IsLimit evidence most = (most ≡ evidence.limits.opened) ⊎ (most ≡ evidence.limits.renewed)
+-- It is the limit of the log as it was opened, where the client was answered of no renewal of its own; or that of the log once renewed.
+abbrev pub IsLimit : Evidence → (base : ℕ) → ℕ → Type 0
+IsLimit evidence base most = ((most ≡ evidence.limits.opened) × (base ≡ evidence.base)) ⊎ (most ≡ evidence.limits.renewed)
 
 -- Nothing was to be renewed: what the client had seen goes no further than a number that was the base.
 abbrev pub HasNothingToRenew : Evidence → ℕ → Type 0
@@ -261,11 +260,11 @@ pub record FailsCompaction (evidence : Evidence) (last : ℕ) (client : Client) 
   pub from_base : (n : ℕ) → list_any (λ m. m == n) snapshots ≡ true → evidence.base ≤ n
   pub edit : IfSome evidence.failed.edit (λ edit. edit ≡ after_compaction (take at evidence.history) (listed snapshots evidence.base evidence.installed) evidence.installed)
 
--- It is a renewal's, where the log did not begin behind the number published then.
+-- It is a renewal's, where the number published then was above the log's base.
 pub record FailsRenewal (evidence : Evidence) (last : ℕ) : Type 0 where
   pub at : ℕ
   pub fresh : IsFresh evidence.history last at
-  pub behind : evidence.installed.segment.base ≢ at
+  pub behind : evidence.installed.segment.base < at
   pub place : ℕ
   pub edit : IfSome evidence.failed.edit (λ edit. edit ≡ after_renewal (take at evidence.history) place evidence.installed)
 
@@ -278,7 +277,7 @@ IsHaltedAt evidence flushed = (flushed ≡ evidence.installed.flushed) × IsKnow
 -- A row for each command and reply, by what the client knows then; `took` gives the prepare with the number p. Of `held`,
 -- `freed`, `begun`, `dropped` and `left` the client's state alone decides.
 abbrev pub Row : Evidence → Progress → Client → ℕ → Command → Reply → Type 0
-Row evidence progress client p command (reply.Full published most) = (1 ≤ needed client.txn command) × IsFresh evidence.history progress.last published × IsLimit evidence most × (most < published + needed client.txn command)
+Row evidence progress client p command (reply.Full published most) = (1 ≤ needed client.txn command) × IsFresh evidence.history progress.last published × IsLimit evidence progress.base most × (most < published + needed client.txn command)
 Row evidence progress client p command reply.FaultLog = AsksFor client.txn command evidence.failed.entries
 Row evidence progress client p command (reply.Stopped n) = IsOfLog client.txn command × IsFresh evidence.history progress.last n × IsKnown evidence (LogStopped n)
 Row evidence progress client p (command.Put key value) (reply.Put n) = (client.txn ≡ Idle) × IsLoggedAt evidence.history progress.last n (entry.Write (change.Put key value ∷ []))
@@ -313,7 +312,7 @@ Row evidence progress client p command.Compact (reply.Compacted n versions) = Is
 Row evidence progress client p command.Compact reply.Nothing = HasNothingToMerge evidence progress.tables
 Row evidence progress client p command.Compact (reply.Halted flushed) = IsHaltedAt evidence flushed
 Row evidence progress client p command.Compact reply.FaultTables = FailsCompaction evidence progress.last client
-Row evidence progress client p command.Renew (reply.Renewed n carried) = IsFresh evidence.history progress.last n × (carried ≡ length (undecided (take n evidence.history)))
+Row evidence progress client p command.Renew (reply.Renewed n carried) = IsFresh evidence.history progress.last n × (progress.base < n) × (carried ≡ length (undecided (take n evidence.history)))
 Row evidence progress client p command.Renew reply.Nothing = HasNothingToRenew evidence progress.last
 Row evidence progress client p command.Renew (reply.Halted flushed) = IsHaltedAt evidence flushed
 Row evidence progress client p command.Renew reply.FaultTables = FailsRenewal evidence progress.last

@@ -38,9 +38,9 @@ refused_fronts asked same_log same_tables old new why is itself left =
     let unchanged : same_tables → KeepsFronts old.tables new.tables = λ s. subst (λ (ms : List Moment). KeepsFronts old.tables ms) (sym (is s)) (fronts_same old.tables) in
     elim left [
       | at_manifest refusal reason edits survives log_same tables_same ↦ unchanged tables_same
-      | at_log edits refusal manifest_left reason records kept tables_same ↦ unchanged tables_same
-      | at_new_manifest id c refusal log_left reason edits survives tables_same ↦ unchanged tables_same
-      | at_place id c edits are elsewhere named tables_same ↦ unchanged tables_same
+      | at_log its edits refusal manifest_left reason records kept tables_same ↦ unchanged tables_same
+      | at_new_manifest id c refusal unmade log_left reason edits survives tables_same ↦ unchanged tables_same
+      | at_place id its c edits are elsewhere named tables_same ↦ unchanged tables_same
       | at_ids id found c edits are other named tables_same ↦ unchanged tables_same
       | at_edit id c edits are apart tables_same ↦ unchanged tables_same
       | at_tables id c edits are within reason synced ↦ fronts_left same_tables old.tables new.tables why unchanged itself synced

@@ -2,11 +2,12 @@
 use Rattle.std.specs.Prelude.{Result, Ok, Err, IfOk, OnErr}
 use Rattle.std.specs.Global.{Vec}
 use Rattle.std.specs.declared.alloc.AllocError.{AllocError}
-use Rattle.std.proofs.Common.{◌≡◌, ◌⊎◌, ℕ, ◌+◌, ◌≤◌, ◌^◌, min, Bool, true, List, [], ◌∷◌, length, Option, Some, None, refl, sym, subst, inl, inr, ap, ◌∙◌, arith}
-use Rattle.wp_fields.specs.declared.format.Format.{Format}
-use Rattle.wp_fields.specs.declared.format.Format.TheVariants.{One, Two}
+use Rattle.std.proofs.Common.{◌≡◌, ℕ, ◌+◌, ◌≤◌, ◌^◌, min, Bool, true, List, [], ◌∷◌, length, Option, Some, None, refl, sym, subst, inl, inr, ap, ◌∙◌, arith}
+use Rattle.wp_outside.specs.Disk.{IfKnown}
+use Rattle.wp_fields.specs.declared.format.Format.TheVariants.{Two}
 use Rattle.wp_entry.specs.Record.{last_number}
 use Rattle.wp_model.specs.declared.entry.Entry.{Entry}
+use Rattle.wp_model.specs.Flushed.{InstalledEdit}
 use Rattle.wp_open.specs.declared.opening.OpenError.{OpenError}
 use Rattle.wp_open.specs.declared.opening.OpenError.TheVariants as open_error
 use Rattle.wp_open.specs.Opens.{installed_of}
@@ -17,8 +18,8 @@ use Rattle.wp_core.specs.World.{Actor}
 use Rattle.wp_rule.specs.Words.{SawAll}
 use Rattle.wp_rule.proofs.Knows.{one_was_first}
 use Rattle.wp_shared.specs.Limits.{least_opened, opened_limit, renewed_limit}
-use Rattle.wp_shared.specs.Parts.{content, log_first}
-use Rattle.wp_wal.specs.Wal.{WalState}
+use Rattle.wp_shared.specs.Parts.{content}
+use Rattle.wp_wal.specs.Spelling.{IsInVersion}
 use Rattle.wp_replies.specs.Exact.{IsExact}
 use Rattle.wp_replies.specs.Explains.{Faults, Explains}
 use Rattle.wp_replies.specs.Replies.{Limits}
@@ -48,15 +49,6 @@ use Rattle.wp_threads.proofs.Counted.{none_or_some}
 use Rattle.wp_run.proofs.Stored.{at_most_one, was_opened, crash_leaves, is_stored}
 use Rattle.wp_run.proofs.Whole.{all_ran, fails_counted}
 
--- the limit as it was opened
-least_either : (limit asked : ℕ) → limit ≡ asked → asked ≤ last_number Two → (first : Option WalState) → (least_opened limit first ≡ asked) ⊎ (least_opened limit first ≡ min asked 4294967295)
-least_either limit asked is low None = inl is
-least_either limit asked is low (Some first) = by first.format
-  where
-    by : (format : Format) → (min limit (last_number format) ≡ asked) ⊎ (min limit (last_number format) ≡ min asked 4294967295)
-    by One = inr (ap (λ (n : ℕ). min n 4294967295) is)
-    by Two = inl (omega (arith, is, low))
-
 -- ---- how a script was served
 
 module _ {D : Type 0} (z : SharedState D) (s : Serving) (answered : List Answered) (history : List Entry) (base : ℕ) (store : List (List ℕ × List ℕ)) (cells : z.cells ≡ 2 ^ s.bits) (limit : z.limit ≡ s.limit) (low : s.limit ≤ last_number Two) (first : Actor) (stands : SawAll (place_at z 0) first (length z.opened)) (seen : first.participant.seen ≡ z.opened) (opened : IsOpenedFrom s.id (before s.disks) z) (run : HaveRun z s.script answered history (after s.disks)) (based : base ≡ run.ended.first_edit.segment.base) (store_is : IsBaseStore history base store) where
@@ -78,9 +70,11 @@ module _ {D : Type 0} (z : SharedState D) (s : Serving) (answered : List Answere
   abbrev limits : Limits
   limits = record { opened = opened_limit z; renewed = renewed_limit z }
 
-  are_limits : AreLimits s.limit limits
+  are_limits : AreLimits s.limit (found_in run.ended).edit.segment.place s.disks.log.before limits
   are_limits = record {
-    opened = least_either z.limit s.limit limit low (log_first z.first);
+    format = opened.wal.format;
+    found = subst (λ (e : InstalledEdit). IfKnown s.disks.log.before (λ m. IsInVersion opened.wal.format e.segment.place m.reads)) (sym same_edit) opened.parts.opened.version;
+    opened = ap (least_opened z.limit) opened.log_is ∙ ap (λ (n : ℕ). min n (last_number opened.wal.format)) limit;
     renewed = (let same : min z.limit (last_number Two) ≡ s.limit = omega (arith, limit, low) in same);
   }
 

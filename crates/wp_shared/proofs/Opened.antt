@@ -6,7 +6,7 @@ use Rattle.std.specs.List.{remove}
 use Rattle.wp_model.specs.declared.entry.Entry.{Entry}
 use Rattle.wp_model.specs.Flushed.{InstalledEdit}
 use Rattle.wp_outside.specs.Disk.{Moment}
-use Rattle.wp_parts.proofs.OpeningLemmas.{has_cut, is_within}
+use Rattle.wp_parts.proofs.OpeningLemmas.{is_within}
 use Rattle.wp_parts.specs.Cut.{Cut, IsCut, cut_at}
 use Rattle.wp_parts.specs.Store.{StoreParts}
 use Rattle.wp_parts.specs.Set.{TableSetState}
@@ -14,11 +14,13 @@ use Rattle.wp_wal.specs.Opening.{KeepsWal}
 use Rattle.wp_wal.specs.Wal.{WalState}
 use Rattle.wp_wal.proofs.AppendLemmas.{running_cut}
 use Rattle.wp_manifest.specs.declared.error.ManifestError.TheVariants as manifest_error
+use Rattle.wp_manifest.specs.Edit.{place_of}
 use Rattle.wp_manifest.specs.Manifest.{ManifestState}
+use Rattle.wp_manifest.specs.Spelling.{last_edit}
 use Rattle.wp_open.specs.Damage.{IsWithin}
 use Rattle.wp_open.specs.Opens.{AllKnown, installed_of}
 use Rattle.wp_open.specs.Parts.{PartsOpened, ArePartsOf, LogsOpened, stored_cut}
-use Rattle.wp_open.specs.Refused.{of_manifest, IsLeft, at_tables, IsRefusedFrom}
+use Rattle.wp_open.specs.Refused.{of_manifest, AreLeft, IsLeft, at_tables, IsRefusedFrom}
 use Rattle.wp_open.specs.declared.opening.OpenError.TheVariants as open_error
 use Rattle.wp_open.proofs.BothOpen.{logs_left}
 use Rattle.wp_core.specs.Tables.{writes, installed}
@@ -115,7 +117,8 @@ module _ (same_log same_tables : Type 0) (asked : ℕ) (old : DevicesLeft) (wal 
 
   left_behind : IsLeft asked same_log same_tables old left open_error.Memory
   left_behind =
-      at_tables wal.id cut p.installed.edits (logs_left asked old left wal cut edits logs_opened refl refl refl (running_cut wal cut [] p.opened.stores p.opened.running))
+      at_tables wal.id cut p.installed.edits
+      (subst (λ (n : ℕ). AreLeft asked wal.id n (place_of (last_edit p.installed.edits)) cut p.installed.edits old left) p.one_id (logs_left asked old left wal cut edits logs_opened refl refl refl (running_cut wal cut [] p.opened.stores p.opened.running)))
       (subst (IsWithin cut) p.installed.stores.last (is_within asked old.log old.manifest old.tables wal history edits tables_now versions p)) tt p.synced
 
 -- nothing of the bytes is the cause

@@ -1,5 +1,5 @@
 -- What the replies of all clients say at the end agrees with each seat.
-use Rattle.std.proofs.Common.{◌≡◌, ◌≢◌, ◌⊎◌, inl, inr, ℕ, ◌≤◌, ◌<◌, Bool, true, false, List, ◌∷◌, ◌++◌, length, map, take, Option, Some, None, refl, subst, ap, ◌∙◌, arith}
+use Rattle.std.proofs.Common.{◌≡◌, ◌≢◌, ◌⊎◌, inl, inr, ℕ, ◌≤◌, ◌<◌, Bool, true, false, List, ◌∷◌, ◌++◌, length, map, take, Option, Some, None, refl, sym, subst, ap, ◌∙◌, arith}
 use Rattle.std.specs.Prelude.{◌==◌, ◌&&◌, nat_le}
 use Rattle.std.specs.List.{list_any}
 use Rattle.std.specs.Str.{bytes_eq}
@@ -10,6 +10,7 @@ use lib.ListN.{get_elem?}
 use Rattle.wp_model.specs.declared.entry.Entry.{Entry}
 use Rattle.wp_model.specs.declared.holder.Holder.{Holder}
 use Rattle.wp_model.specs.declared.holder.Holder.TheVariants.{Txn, Client}
+use Rattle.wp_model.specs.declared.segment.Segment.{Segment}
 use Rattle.wp_model.specs.Flushed.{InstalledEdit}
 use Rattle.wp_model.specs.History.{name_at}
 use Rattle.wp_model.proofs.Found.{found_named}
@@ -25,6 +26,7 @@ use Rattle.wp_core.specs.Sound.Pasts.{HasDone, IsPast, MadeHolder, IsAccounted, 
 use Rattle.wp_core.specs.Views.{Account, own, another, prepare_at, Event, claimed, took, locked, told, heard, installed, renewed, log_failed, log_stopped, tables_failed, stopped, found_edit, found}
 use Rattle.wp_core.specs.World.{Participant}
 use Rattle.wp_rule.proofs.Knows.{one_was_first}
+use Rattle.wp_shared.specs.Limits.{WasOpenedAt}
 use Rattle.wp_shared.specs.Parts.{content}
 use Rattle.wp_shared.specs.Devices.{DevicesLeft}
 use Rattle.wp_shared.specs.Ended.{IsEnded, of_seats}
@@ -40,10 +42,19 @@ use Rattle.wp_answers.specs.Alone.{limits_of}
 use Rattle.wp_answers.specs.Agrees.{IsAnother, IsPrepares, KnowsHolder, Knows, Agrees}
 use Rattle.wp_threads.specs.Explained.{found_in, left_in, failed_in}
 use Rattle.wp_threads.specs.Over.{Answered, AreOver, replies_of}
+use Rattle.wp_threads.specs.SoFar.{IsFound}
 use Rattle.wp_core.proofs.Tests.{same_some}
 use Rattle.wp_threads.proofs.Coming.{comes_wider, comes_answered, renewal_answered, answers_any}
 use Rattle.wp_threads.proofs.Doings.{Did, did, took_name, wrote_key}
 use Rattle.wp_threads.proofs.Lists.{or_left, or_right, both_so, at_map, any_at, any_other, any_filter}
+
+-- what the store was opened to
+pub ended_found : {D : Type 0} {z : SharedState D} {seats : List SeatState} {history : List Entry} {left : DevicesLeft} (ended : IsEnded z seats history left) → IsFound z (found_in ended)
+ended_found {z = z} ended = let o = ended.opened in record {
+  history = refl;
+  edit = ended.first_is;
+  at = (o.wal, o.log, sym (ap (λ (s : Segment). s.base) o.segment) ∙ ap (λ (e : InstalledEdit). e.segment.base) (one_was_first content z.first o.edit ended.first_edit o.last ended.first_is));
+}
 
 -- a number that was told is at most each greater one
 tells_more : (label : List ℕ) (n m : ℕ) → n ≤ m → (t : session_txn.Txn) (c : Command) (a : Option Reply) → tells label n t c a ≡ true → tells label m t c a ≡ true
@@ -193,5 +204,6 @@ module _ {D : Type 0} {z : SharedState D} {seats : List SeatState} {history : Li
       seen = ended.seen 0 (length before) p.seen (map seen_of (map participant_of seats), refl, at_map seen_of (map participant_of seats) (length before) p at);
       limits = refl;
       base = λ first is_first. ap (λ (e : InstalledEdit). e.segment.base) (one_was_first content z.first ended.first_edit first ended.first_is is_first);
+      opened = λ first is_first. subst (λ (e : InstalledEdit). WasOpenedAt z e.segment.base) (one_was_first content z.first ended.first_edit first ended.first_is is_first) (ended_found ended).at;
       past = knows;
     }

@@ -1,5 +1,5 @@
 -- A session begins at a new seat.
-use Rattle.std.proofs.Common.{◌≡◌, ℕ, ◌≤◌, true, List, [], length, Option, None, refl, sym, subst, ap, arith}
+use Rattle.std.proofs.Common.{◌≡◌, inl, ℕ, ◌≤◌, true, List, [], length, Option, None, refl, sym, subst, ap, arith}
 use Rattle.std.specs.Prelude.{is_some}
 use Rattle.std.specs.FinMap as finite
 use Rattle.std.specs.FinMap.{get-empty}
@@ -68,7 +68,7 @@ module _ {D : Type 0} (z : SharedState D) (found : StoredState) (is_found : IsFo
     within = of_new z name s new (λ p. (n : ℕ) → IsIn n p.own → n ≤ z.limit) (λ n there. absurd there);
     session = of_new z name s new (λ p. IsSessionTo z found [] [] p new_client) (record {
       progress = known_at_first found;
-      is_progress = record { last = let same : length found.history ≡ length z.opened = ap (λ (h : List Entry). length h) is_found.history in omega (arith, same); tables = refl; labels = λ label known. absurd cc };
+      is_progress = record { last = let same : length found.history ≡ length z.opened = ap (λ (h : List Entry). length h) is_found.history in omega (arith, same); tables = refl; base = inl refl; labels = λ label known. absurd cc };
       goes_on = λ e agrees commands others rest. rest;
     });
     explained = of_new z name s new (λ p. IsExplainedTo name [] [] p.past new_client) (record { alike = new_client; is_alike = refl; goes_on = λ is_such commands others comes. comes; explained = λ event there. absurd there });

@@ -1,11 +1,7 @@
 -- The seats of sessions that are over are handed in.
-use Rattle.std.proofs.Common.{◌≡◌, List, [], ◌∷◌, length, refl, sym, ap, ◌∙◌, arith}
+use Rattle.std.proofs.Common.{◌≡◌, List, [], ◌∷◌, length, refl, sym, ◌∙◌, arith}
 use Rattle.wp_model.specs.declared.entry.Entry.{Entry}
-use Rattle.wp_model.specs.Flushed.{InstalledEdit}
-use Rattle.wp_model.specs.declared.segment.Segment.{Segment}
 use Rattle.wp_text.specs.declared.script.Part.{Part}
-use Rattle.wp_rule.proofs.Knows.{one_was_first}
-use Rattle.wp_shared.specs.Parts.{content}
 use Rattle.wp_shared.specs.Devices.{DevicesLeft}
 use Rattle.wp_shared.specs.Ended.{IsEnded}
 use Rattle.wp_shared.specs.Ending.{AllFree, AreAll}
@@ -15,6 +11,7 @@ use Rattle.wp_threads.specs.Each.{AllStay}
 use Rattle.wp_threads.specs.Explained.{found_in, HaveRun}
 use Rattle.wp_threads.specs.SoFar.{IsFound}
 use Rattle.wp_threads.specs.Over.{Answered, AreOver}
+use Rattle.wp_threads.proofs.Agreeing.{ended_found}
 use Rattle.wp_threads.proofs.Composed.{have_run}
 
 module _ {D : Type 0} (z : SharedState D) where
@@ -32,13 +29,6 @@ module _ {D : Type 0} (z : SharedState D) where
   all_free [] [] k = tt
   all_free (o ∷ olds) (n ∷ news) k = (k.1, all_free olds news k.2)
   all_free _ _ k = absurd k
-
-pub ended_found : {D : Type 0} {z : SharedState D} {seats : List SeatState} {history : List Entry} {left : DevicesLeft} (ended : IsEnded z seats history left) → IsFound z (found_in ended)
-ended_found {z = z} ended = let o = ended.opened in record {
-  history = refl;
-  edit = ended.first_is;
-  at = (o.wal, o.log, sym (ap (λ (s : Segment). s.base) o.segment) ∙ ap (λ (e : InstalledEdit). e.segment.base) (one_was_first content z.first o.edit ended.first_edit o.last ended.first_is));
-}
 
 -- so the history that is left explains all of them
 pub run_explained : {D : Type 0} (z : SharedState D) (parts : List Part) (answered : List Answered) (seats : List SeatState) (history : List Entry) (left : DevicesLeft) → ((found : StoredState) → IsFound z found → AreOver z found parts answered seats)

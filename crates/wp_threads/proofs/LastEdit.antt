@@ -1,5 +1,5 @@
 -- What the replies of all clients say of the last edit.
-use Rattle.std.proofs.Common.{◌≡◌, ◌⊎◌, inl, inr, ℕ, ◌≤◌, true, false, true≢false, List, [], ◌∷◌, map, refl, sym, subst, ap, ◌∙◌, Some}
+use Rattle.std.proofs.Common.{◌≡◌, ◌⊎◌, inl, inr, ℕ, ◌≤◌, true, false, true≢false, List, [], ◌∷◌, map, refl, sym, subst, ap, ◌∙◌, arith, Some}
 use Rattle.std.specs.List.{list_any}
 use Rattle.std.proofs.lemmas.Bool.{eqb-true}
 use mathlib.Core.Option.{some}
@@ -13,9 +13,11 @@ use Rattle.wp_core.specs.Lists.{IsIn}
 use Rattle.wp_core.specs.Sound.Pasts.{HasDone, is_install, raised_to, WasInstalled, WasPlaced, last_installed, past_of}
 use Rattle.wp_core.specs.Views.{Event, installed, renewed}
 use Rattle.wp_core.proofs.Tests.{same_some}
+use Rattle.wp_rule.proofs.Knows.{one_was_first}
 use Rattle.wp_shared.specs.Devices.{DevicesLeft}
 use Rattle.wp_shared.specs.Ended.{IsEnded, of_seats}
 use Rattle.wp_shared.specs.Ending.{participant_of}
+use Rattle.wp_shared.specs.Parts.{content}
 use Rattle.wp_shared.specs.Seats.{SharedState, SeatState}
 use Rattle.wp_replies.specs.Client.{new_client}
 use Rattle.wp_replies.specs.Explains.{dialogues, all_replies, IsLastEdit}
@@ -121,6 +123,14 @@ module _ {D : Type 0} {z : SharedState D} {seats : List SeatState} {history : _}
     | inr said ↦ inr said
   ]
 
+  -- the log's base never fell
+  base_risen : ended.first_edit.segment.base ≤ ended.edits.last.segment.base
+  base_risen =
+      let o = ended.opened in
+      let first = ap (λ (x : InstalledEdit). x.segment.base) (one_was_first content z.first ended.first_edit o.edit ended.first_is o.last) in
+      let opened = ap (λ (s : Segment). s.base) o.segment in
+      let last = ap (λ (s : Segment). s.base) ended.in_place in let risen = ended.since.log_risen in omega (arith, first, opened, last, risen)
+
   in_place_said : list_any is_renewed replies ≡ false → ended.edits.last.segment ≡ ended.first_edit.segment
   in_place_said none = elim placed_said [
     | inl first ↦ first
@@ -139,6 +149,7 @@ module _ {D : Type 0} {z : SharedState D} {seats : List SeatState} {history : _}
     kept = ended.installed.rises ended.first_edit.flushed (inl refl);
     greatest = flushed_low;
     based = based_said;
+    risen = base_risen;
     in_place = in_place_said;
     unchanged = none_said past at;
   }

@@ -61,6 +61,7 @@ module _ {D : Type 0} {z : SharedState D} (client : List ℕ) {history : List En
       kept = ended.installed.rises ended.first_edit.flushed (inl refl);
       greatest = λ n said. absurd cc;
       based = inl (ap (λ (e : InstalledEdit). e.segment.base) same_edit);
+      risen = let same = ap (λ (e : InstalledEdit). e.segment.base) same_edit in omega (arith, same);
       in_place = λ none. ap (λ (e : InstalledEdit). e.segment) same_edit;
       unchanged = λ none. same_edit;
     };
