@@ -10,6 +10,8 @@ from random import Random
 WP = os.environ.get("WP", Path(__file__).resolve().parent.parent.parent / "wp")
 MEMORY = "/dev/shm"
 LINES_OF_A_SCRIPT = 60_000
+# As many bytes as the log gets for one of the puts.
+FRAME = bytes(28)
 
 
 def script(clients):
@@ -57,10 +59,13 @@ def run(folder, text, words=(), **setting):
 
 
 def run_on_copy(store, text, folder, words=(), **setting):
-    """... on a copy of the store in that folder, or on a new store there."""
+    """... on a copy of the store in that folder, which is synced first, or on a new store there."""
     with tempfile.TemporaryDirectory(dir=folder) as copy:
         if store:
             shutil.copytree(store, copy, dirs_exist_ok=True)
+            for file in Path(copy).iterdir():
+                with file.open() as opened:
+                    os.fsync(opened.fileno())
         return run(copy, text, words, **setting)
 
 

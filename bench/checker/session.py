@@ -162,6 +162,7 @@ class Judge:
     client: Client
     last: int  # the greatest fresh number so far
     tables: int  # how many tables the client knows of
+    base: int  # that of its last `renewed`, at first that of the log as it was opened
     labels: frozenset = frozenset()  # for which it was answered `told` or `heard`
     prepare: int = 0  # the prepare that `took` gives
 
@@ -227,7 +228,8 @@ class Judge:
             need(answer[1] == len(self.evidence.history), "stopped", "later entries are published")
             need(self.evidence.faults["fault log"] or self.evidence.faults["stopped by tables"], "stopped", "the log did not fail")
         else:
-            need(answer[2] in self.evidence.limits, "full", f"the limits are {self.evidence.limits}")
+            limits = self.evidence.limits if self.base == self.evidence.found.base else self.evidence.limits[1:]
+            need(answer[2] in limits, "full", f"the limits are {limits}")
             need(answer[1] + needed > answer[2], "full", f"{needed} more would be within the limit")
 
     def change_row(self, command, answer):
@@ -347,6 +349,7 @@ class Judge:
             need(answer[2] <= history.most_versions(answer[1]), "compacted", f"there are fewer versions up to {answer[1]}")
         elif form == "renewed" and kind == "renew":
             self.fresh(answer[1])
+            need(self.base < answer[1], "renewed", f"the client knows of the base {self.base}")
             undecided = len(history.undecided(answer[1]))
             need(answer[2] == undecided, "renewed", f"{undecided} prepares are undecided after {answer[1]} entries")
         else:
@@ -357,8 +360,9 @@ class Judge:
         given = self.undecided(command[1]) if answer[0] == "took" else {0}
         last = fresh_number(command, answer, self.last)
         tables = tables_after(self.tables, answer)
+        base = answer[1] if answer[0] == "renewed" else self.base
         labels = self.labels | {command[1]} if answer[0] in ("told", "heard") else self.labels
-        return [replace(self, client=after(self.client, command, answer, p), last=last, tables=tables, labels=labels) for p in sorted(given)]
+        return [replace(self, client=after(self.client, command, answer, p), last=last, tables=tables, base=base, labels=labels) for p in sorted(given)]
 
 
 def fresh_number(command, answer, last):
@@ -377,7 +381,7 @@ def tables_after(tables, answer):
 def check_session(evidence, part, found):
     """One client's replies, one after another; returns what it may have asked the log for where that failed. Which prepare it
     took may show later; so all that may be are followed."""
-    judges = [Judge(evidence, Client(), len(found), evidence.found.tables)]
+    judges = [Judge(evidence, Client(), len(found), evidence.found.tables, evidence.found.base)]
     failed = []
     for line, (command, answer) in enumerate(zip(part.commands, part.answers), 1):
         allowed, wrong = [], None
