@@ -1,0 +1,13 @@
+mod Onward
+mod BeforeInstall
+mod Made
+mod Retained
+mod Covering
+mod Decisions
+mod Pinning
+mod Based
+mod Replaces
+mod Tabled
+mod StillTabled
+mod Rounds
+mod Merged
