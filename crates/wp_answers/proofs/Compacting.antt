@@ -29,7 +29,8 @@ use Rattle.wp_read.specs.Registers as pins
 use Rattle.wp_maint.specs.declared.done.Done.{Done}
 use Rattle.wp_maint.specs.declared.error.MaintError.{MaintError}
 use Rattle.wp_maint.specs.declared.error.MaintError.TheVariants.{Memory, Nothing, TableFault, TablesStopped}
-use Rattle.wp_maint.specs.Calls.{found_by, FewTables, SeveralTables, HasPinned, IsCompactionOf, Compacts}
+use Rattle.wp_maint.specs.Calls.{found_by}
+use Rattle.wp_compact.specs.Calls.{FewTables, SeveralTables, HasPinned, IsCompactionOf, Compacts}
 use Rattle.wp_replies.specs.Client.{Client, numbers_of}
 use Rattle.wp_replies.specs.Progress.{Progress}
 use Rattle.wp_replies.specs.Replies.{Evidence, OtherCompacted, IsKnown, IsCompactionCount, HasNothingToMerge, FailsCompaction}

@@ -11,7 +11,8 @@ use Rattle.wp_core.specs.Sound.Actors.{StartsWith}
 use Rattle.wp_read.specs.Registers.{IsTaken}
 use Rattle.wp_shared.specs.Seats.{SharedState, SeatState}
 use Rattle.wp_txn.specs.Calls.{WasHistory}
-use Rattle.wp_maint.specs.Calls.{Flushes, Compacts}
+use Rattle.wp_maint.specs.Calls.{Flushes}
+use Rattle.wp_compact.specs.Calls.{Compacts}
 use Rattle.wp_maint.specs.Renewal.{Renews}
 
 -- The number was published in a world of the store in which the seat took a snapshot with it, and had done no more than before.

@@ -77,7 +77,7 @@ pub(crate) fn compact<D: Disk + Drop, R: Wait>(
     ensures published { IfOk result (NamesPublished store.now seat.old seat.new Compact) }
     ensures err { OnErr result ((client : Client) → BreaksOff seat.old seat.new client Compact) }
 {
-    match wp_maint::compact(store, rt, alloc, seat) {
+    match wp_compact::compact(store, rt, alloc, seat) {
         Ok(done) => Ok(Reply::Compacted {
             at: done.at,
             versions: done.versions,

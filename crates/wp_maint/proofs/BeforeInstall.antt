@@ -1,12 +1,12 @@
--- A refused flush or compaction installed no edit and did not call the manifest's device, or a device failed it.
-use Rattle.std.proofs.Common.{◌≡◌, ◌⊎◌, inl, inr, ℕ, Bool, true, false, List, [], ◌∷◌, ◌++◌, filter, length, length-append, Option, Some, None, refl, sym, subst, ap, ◌∙◌, append-nil, arith}
+-- A refused flush or renewal installed no edit and did not call the manifest's device, or a device failed it; and what that says of any call.
+use Rattle.std.proofs.Common.{◌≡◌, ◌⊎◌, inl, inr, ℕ, Bool, true, false, List, [], ◌∷◌, ◌++◌, filter, length, length-append, Option, Some, refl, sym, subst, ap, ◌∙◌, append-nil, arith}
 use Rattle.std.proofs.lemmas.List.{append_cancel_left}
 use Rattle.std.proofs.lemmas.List.Elements.{filter-append}
 use Rattle.std.specs.Prelude.{Result, Ok, Err, IfErr}
 use Rattle.wp_model.specs.Flushed.{InstalledEdit}
 use Rattle.wp_core.specs.Lists.{IsIn}
 use Rattle.wp_core.specs.Sound.Actors.{StartsWith}
-use Rattle.wp_core.specs.Tables.{Installed, installed}
+use Rattle.wp_core.specs.Tables.{installed}
 use Rattle.wp_core.specs.Views.{Event, log_failed, log_stopped, stopped, tables_failed}
 use Rattle.wp_core.specs.Views as event
 use Rattle.wp_core.specs.World.{Participant, World}
@@ -22,11 +22,10 @@ use Rattle.wp_maint.specs.declared.error.MaintError.TheVariants.{Memory, Nothing
 use Rattle.wp_maint.specs.declared.renewed.Renewed.{Renewed}
 use Rattle.wp_maint.specs.declared.renewed.RenewError.{RenewError}
 use Rattle.wp_maint.specs.declared.renewed.RenewError.TheVariants as renewal
-use Rattle.wp_maint.specs.Calls.{Finds, Flushes, Compacts, is_of_install, installs_of, LeavesManifest, LeavesOnce, LeavesEach, MadeNoInstall, FailedOnce, UnlessFault, RefusesBeforeInstall, found_by}
-use Rattle.wp_maint.specs.Compaction.{InRound}
+use Rattle.wp_maint.specs.Calls.{Finds, Flushes, is_of_install, installs_of, LeavesManifest, LeavesOnce, LeavesEach, MadeNoInstall, FailedOnce, UnlessFault, RefusesBeforeInstall, found_by}
 use Rattle.wp_maint.specs.Installs.{AreLeft, HasBroken, NotInstalled}
 use Rattle.wp_maint.specs.Renewal.{IsRefusedBefore, Renews, UnlessDeviceFault}
-use Rattle.wp_maint.proofs.Onward.{IsSeat, held_between}
+use Rattle.wp_maint.proofs.Onward.{IsSeat}
 
 -- ---- unless a device failed
 
@@ -49,10 +48,6 @@ renewal_more f (Err (renewal.TablesStopped flushed)) k = f k
 renewal_more f (Err (renewal.Stopped n)) k = f k
 renewal_more f (Err renewal.Nothing) k = f k
 renewal_more f (Err renewal.LogFault) k = f k
-
-pub round_more : {A B : Type 0} → (A → B) → (result : Option (Result Done MaintError)) → InRound A result → InRound B result
-round_more f (Some result) k = err_more f result k
-round_more f None k = f k
 
 -- ---- the tables were given back with the manifest's device uncalled
 
@@ -87,33 +82,6 @@ module _ {D : Type 0} (z : SharedState D) (s t v : SeatState) (before after : Ed
     ],
   )
 
-pub none_taken : {D : Type 0} (z : SharedState D) (s v : SeatState) → LeavesEach z s v
-none_taken z s v = ([], λ e none. absurd none)
-
--- of a call between two others, and so between two that are further apart
-module _ {D : Type 0} (z : SharedState D) (s t u v : SeatState) (seat : IsSeat s t) (past : t.knows.participant.past ≡ s.knows.participant.past) (starts : StartsWith t.knows.participant.seen s.knows.participant.seen) (grown : StartsWith v.knows.participant.seen u.knows.participant.seen) where
-  pub each_between : LeavesEach z t u → LeavesEach z s v
-  each_between k = (k.0, λ e there. (held_between z s t u v t.knows.participant.past s.knows.participant.past (installed e) seat starts grown past (k.1 e there).0, (k.1 e there).1))
-
--- those of one call, and of the next
-module _ {D : Type 0} (z : SharedState D) (s v : SeatState) where
-  in_both : (one two : List Installed) (e : Installed) → IsIn e (one ++ two) → IsIn e one ⊎ IsIn e two
-  in_both [] two e there = inr there
-  in_both (x ∷ one) two e (inl is) = inl (inl is)
-  in_both (x ∷ one) two e (inr rest) = elim (in_both one two e rest) [
-    | inl front ↦ inl (inr front)
-    | inr back ↦ inr back
-  ]
-
-  pub each_then : LeavesEach z s v → LeavesEach z s v → LeavesEach z s v
-  each_then first second = (
-    first.0 ++ second.0,
-    λ e there. elim (in_both first.0 second.0 e there) [
-      | inl front ↦ first.1 e front
-      | inr back ↦ second.1 e back
-    ],
-  )
-
 -- ---- what it remembers
 
 module _ {D : Type 0} (z : SharedState D) (old new : SeatState) where
@@ -121,10 +89,10 @@ module _ {D : Type 0} (z : SharedState D) (old new : SeatState) where
   p = old.knows.participant
 
   -- it remembers these events too, of which some are of an install
-  remembered : (events : List Event) → Continues z old new (remembering events p) → installs_of new.knows.participant ≡ installs_of p ++ filter is_of_install events
+  pub remembered : (events : List Event) → Continues z old new (remembering events p) → installs_of new.knows.participant ≡ installs_of p ++ filter is_of_install events
   remembered events goes = ap installs_of goes.participant ∙ filter-append is_of_install p.past events
 
-  none_remembered : (events : List Event) → filter is_of_install events ≡ [] → Continues z old new (remembering events p) → installs_of new.knows.participant ≡ installs_of p
+  pub none_remembered : (events : List Event) → filter is_of_install events ≡ [] → Continues z old new (remembering events p) → installs_of new.knows.participant ≡ installs_of p
   none_remembered events none goes = remembered events goes ∙ ap (λ (es : List Event). installs_of p ++ es) none ∙ append-nil (installs_of p)
 
   -- what it has seen since
@@ -160,13 +128,6 @@ module _ {D : Type 0} (z : SharedState D) (old new : SeatState) where
     flushed_before (Err Nothing) k left = (none_remembered (found_by z old new k.0 k.1.1.found ∷ []) refl k.1.1.goes_on, left)
     flushed_before (Err TableFault) k left = (k.0.last, k.1.1.asked, remembered (found_by z old new k.0 k.1.1.found ∷ tables_failed k.0.last k.1.1.asked ∷ []) k.1.1.goes_on)
     flushed_before (Err (TablesStopped flushed)) k left = (none_remembered (found_by z old new k.0 k.1.found ∷ []) refl k.1.goes_on, left)
-
-    pub compacted_before : (result : Result Done MaintError) → Compacts z old result new → IfErr result (UnlessFault Leaves) → IfErr result (λ why. RefusesBeforeInstall Leaves old why new)
-    compacted_before (Ok done) k left = tt
-    compacted_before (Err Memory) k left = (ap installs_of k.1.participant, left)
-    compacted_before (Err Nothing) k left = (none_remembered (found_by z old new k.0 k.1.found ∷ []) refl k.1.goes_on, left)
-    compacted_before (Err TableFault) k left = (k.0.last, k.1.asked, remembered (found_by z old new k.0 k.1.found ∷ tables_failed k.0.last k.1.asked ∷ []) k.1.goes_on)
-    compacted_before (Err (TablesStopped flushed)) k left = (none_remembered (found_by z old new k.0 k.1.found ∷ []) refl k.1.goes_on, left)
 
 -- ---- what was refused left the manifest alone, or a device failed
 

@@ -26,8 +26,7 @@ use Rattle.wp_maint.specs.declared.frozen.Frozen.{Frozen}
 use Rattle.wp_shared.specs.Installs.{with_table}
 use Rattle.wp_maint.specs.Flush.{versions_of, HasFrozen, MayPut}
 use Rattle.wp_maint.specs.Holding.{HoldsEdits}
-use Rattle.wp_maint.proofs.Retained.{none_past}
-use Rattle.wp_maint.proofs.Versions.{Found, same_sorted}
+use Rattle.wp_maint.proofs.Versions.{Found, none_past, same_sorted}
 
 -- ---- the edit
 

@@ -1,5 +1,5 @@
 -- The steps of maintenance: that they may be made, and what they leave of the seat.
-use Rattle.std.proofs.Common.{◌≡◌, inl, inr, ℕ, ◌≤◌, Bool, true, false, true≢false, List, [], ◌∷◌, length, refl, sym, subst, ap, ◌∙◌, Option, Some, None}
+use Rattle.std.proofs.Common.{◌≡◌, inl, inr, ℕ, Bool, true, false, true≢false, List, [], ◌∷◌, length, refl, sym, subst, ap, ◌∙◌, Option, Some, None}
 use Rattle.std.specs.Prelude.{IfSome}
 use Rattle.wp_model.specs.declared.entry.Entry.{Entry}
 use Rattle.wp_model.specs.declared.version.Version.{Version}
@@ -9,8 +9,7 @@ use Rattle.wp_core.specs.Effects.{with_failed}
 use Rattle.wp_core.specs.Lists.{IsIn}
 use Rattle.wp_core.specs.Notes.{ends}
 use Rattle.wp_core.specs.Sound.Store.{NoneFlushed}
-use Rattle.wp_core.specs.Conditions.{KeepsStore}
-use Rattle.wp_core.specs.Steps.{Step, install, halt, find_edit, move_versions, replace_versions, note}
+use Rattle.wp_core.specs.Steps.{Step, install, halt, find_edit, move_versions, note}
 use Rattle.wp_core.specs.Tables.{Content, StoreTable, Installed, store, installed}
 use Rattle.wp_core.specs.Turns.{tables_turn}
 use Rattle.wp_core.specs.Sound.Pasts.{tables_due}
@@ -21,7 +20,6 @@ use Rattle.wp_rule.specs.Knows.{Noted, KnowsMoved, KnowsInstalled}
 use Rattle.wp_rule.specs.Moves.{MayMake, Moved, Outlasts, actor_after, world_after}
 use Rattle.wp_rule.specs.Words.{Place, IsAt}
 use Rattle.wp_rule.proofs.Forgets.{EndsNothing}
-use Rattle.wp_rule.proofs.Knows.{held_is, noted_is}
 use Rattle.wp_rule.proofs.MayBeMade.{known_made}
 use Rattle.wp_rule.proofs.Needed.{guarded, needed}
 use Rattle.wp_rule.proofs.Outlasting.{outlasts}
@@ -52,7 +50,7 @@ module _ (p : Place) (so : World → Type 0) (s u : SeatState) (same : (u.table 
     noted = λ fact other there. subst (λ (x : Actor). Noted x fact) (sym m.actor) (outlasts fact (steps m.world) m.world p.by s.knows (subst (IsIn fact) notes there) (stays fact other));
   }
 
-  noted_by : (fact : Fact) → Noted after fact → Noted u.knows fact
+  pub noted_by : (fact : Fact) → Noted after fact → Noted u.knows fact
   noted_by fact there = subst (λ (x : Actor). Noted x fact) (sym m.actor) there
 
 -- it stands in a world of the store then
@@ -95,7 +93,7 @@ found z so s u same t held m =
 
 -- ---- an edit
 
-install_ends : (history : List Entry) (words : ℕ) (edit : InstalledEdit) (compacts : Bool) (fact : Fact) → is_of_flushed fact ≡ false → ends history words (install edit compacts) fact ≡ false
+pub install_ends : (history : List Entry) (words : ℕ) (edit : InstalledEdit) (compacts : Bool) (fact : Fact) → is_of_flushed fact ≡ false → ends history words (install edit compacts) fact ≡ false
 install_ends history words edit compacts nothing_flushed e = absurd (true≢false e)
 install_ends history words edit compacts other e = refl
 
@@ -109,7 +107,7 @@ pub may_install : (p : Place) (a : Actor) (t : Installed) (edit : InstalledEdit)
 may_install p a t edit compacts held known = known_made p a (install edit compacts) tt (record { table = t; held = first_held a (installed t) [] held; so_is = known })
 
 module _ (p : Place) (so : World → Type 0) (s u : SeatState) (same : (u.table ≡ s.table) × (u.by ≡ s.by) × (u.turns ≡ s.turns)) (t e : Installed) (held : s.knows.held ≡ installed t ∷ []) where
-  table_is : (w : World) → IsAt p s.knows w → w.installed ≡ t
+  pub table_is : (w : World) → IsAt p s.knows w → w.installed ≡ t
   table_is w k = held_table p s.knows w (installed t) k (first_held s.knows (installed t) [] held)
 
   pub was_installed : (compacts : Bool) → e ≡ record t { last = e.last } → Moved p (λ w. install e.last compacts ∷ []) so s.knows u.knows
@@ -135,29 +133,6 @@ module _ (p : Place) (so : World → Type 0) (s u : SeatState) (same : (u.table 
       halt_ends : (history : List Entry) (words : ℕ) (edit : Option InstalledEdit) (fact : Fact) → ends history words (halt edit) fact ≡ false
       halt_ends history words edit nothing_flushed = refl
       halt_ends history words edit other = refl
-
--- the edit of a compaction, after which no flushed version is in memory either
-abbrev pub compacting : InstalledEdit → World → List Step
-compacting edit w = install edit true ∷ note nothing_flushed ∷ []
-
-pub may_compact : (p : Place) (a : Actor) (t : Installed) (edit : InstalledEdit) → a.held ≡ installed t ∷ [] → KnowsInstalled a t edit true → Noted a nothing_flushed → MayMake p a (compacting edit)
-may_compact p a t edit held known gone w k =
-    let there = first_held a (installed t) [] held in
-    let n = needed p a w k (install edit true) (record { table = t; held = there; so_is = known }) in
-    let same : edit.flushed ≡ w.installed.last.flushed = known.keeps refl ∙ ap (λ (x : Installed). x.last.flushed) (sym (held_table p a w (installed t) k there)) in
-    ((tt, (tt, tt)), (n, ((holder_is_live p a w tables_turn k n.0, guarded p a w k tables_turn n.0, subst (NoneFlushed w.store.memory) (sym same) (noted_is p a w nothing_flushed k gone).is_so), tt)))
-
-module _ (p : Place) (so : World → Type 0) (s u : SeatState) (same : (u.table ≡ s.table) × (u.by ≡ s.by) × (u.turns ≡ s.turns)) (t e : Installed) (held : s.knows.held ≡ installed t ∷ []) (m : Moved p (compacting e.last) so s.knows u.knows) where
-  pub was_compacted : e ≡ record t { last = e.last } → GoesOn is_of_flushed (installed e ∷ []) s.turns (being (remembering (event.installed e.last true ∷ []) s.knows.participant) s) u
-  was_compacted is =
-      let w = m.world in
-      let left : held_with s.knows.held (installed (record w.installed { last = e.last })) ≡ installed e ∷ [] =
-      (λ i. held_with (held i) (installed (record (table_is p so s u same t e held w m.before i) { last = e.last }))) ∙ ap (λ (x : Installed). installed x ∷ []) (sym is) in
-      goes_from p so s u same (compacting e.last) m (record s.knows { participant = remembering (event.installed e.last true ∷ []) s.knows.participant }) is_of_flushed (installed e ∷ []) refl refl left
-      (λ fact other. ((λ x. x), install_ends w.writes.history (length w.cache) e.last true fact other, ((λ x. x), note_ends_none w.writes.history (length w.cache) nothing_flushed fact, tt)))
-
-  pub still_gone : Noted u.knows nothing_flushed
-  still_gone = noted_by p so s u same (compacting e.last) m nothing_flushed (inl refl)
 
 pub may_halt : (p : Place) (a : Actor) (t : Installed) (edit : Option InstalledEdit) → a.held ≡ installed t ∷ [] → t.halted ≡ false → IfSome edit (IsEditCovered a.participant.seen) → IfSome edit (λ e. e.segment ≡ t.last.segment) → MayMake p a (λ w. halt edit ∷ [])
 may_halt p a t None held running covered same = known_made p a (halt None) tt (record { table = t; held = first_held a (installed t) [] held; so_is = running })
@@ -217,44 +192,3 @@ same_others a one other ones others is also = ap rest (sym is ∙ also)
     rest : List Content → List Content
     rest [] = []
     rest (c ∷ cs) = cs
-
--- ---- versions go
-
-replace_ends : (history : List Entry) (words : ℕ) (tables : List Version) (floor : ℕ) (fact : Fact) → is_of_tables fact ≡ false → ends history words (replace_versions tables floor) fact ≡ false
-replace_ends history words tables floor (tables_stay versions n) e = absurd (true≢false e)
-replace_ends history words tables floor (frozen_stay n versions) e = absurd (true≢false e)
-replace_ends history words tables floor nothing_flushed e = absurd (true≢false e)
-replace_ends history words tables floor other e = refl
-
-abbrev pub replacing : StoreTable → World → List Step
-replacing t w = replace_versions t.tables t.floor ∷ note (tables_stay t.tables t.floor) ∷ []
-
-pub may_replace : (p : Place) (a : Actor) (t now : StoreTable) (e : Installed) → a.held ≡ store t ∷ installed e ∷ []
-    → ((w : World) → IsAt p a w → (w.store.floor ≤ now.floor) × KeepsStore w (record w.store { tables = now.tables; floor = now.floor }) w.installed) → MayMake p a (replacing now)
-may_replace p a t now e held may w k =
-    let stores = (held_is p a w (store t) k (first_held a (store t) (installed e ∷ []) held)).0 in
-    let tables = (held_is p a w (installed e) k (second_held a (store t) (installed e) held)).0 in
-    let m = may w k in
-    ((tt, (tt, tt)), ((stores, tables, m.0, m.1), ((holder_is_live p a w tables_turn k tables, guarded p a w k tables_turn tables, (refl, refl)), tt)))
-
-module _ (p : Place) (so : World → Type 0) (s u : SeatState) (same : (u.table ≡ s.table) × (u.by ≡ s.by) × (u.turns ≡ s.turns)) (t now : StoreTable) (e : Installed) (held : s.knows.held ≡ store t ∷ installed e ∷ []) (memory : now.memory ≡ t.memory)
-    (m : Moved p (replacing now) so s.knows u.knows) where
-  abbrev x : World
-  x = m.world
-
-  kept_held : held_with s.knows.held (store (record x.store { tables = now.tables; floor = now.floor })) ≡ store now ∷ installed e ∷ []
-  kept_held =
-      let table : x.store ≡ t = held_table p s.knows x (store t) m.before (first_held s.knows (store t) (installed e ∷ []) held) in
-      (λ i. held_with (held i) (store (record (table i) { tables = now.tables; floor = now.floor }))) ∙ ap (λ (l : List Version). store (record { memory = l; tables = now.tables; floor = now.floor }) ∷ installed e ∷ []) (sym memory)
-
-  pub was_replaced : GoesOn is_of_tables (store now ∷ installed e ∷ []) s.turns s u
-  was_replaced = goes_from p so s u same (replacing now) m s.knows is_of_tables (store now ∷ installed e ∷ []) refl refl kept_held (λ fact other.
-      ((λ y. y), replace_ends x.writes.history (length x.cache) now.tables now.floor fact other, ((λ y. y), note_ends_none x.writes.history (length x.cache) (tables_stay now.tables now.floor) fact, tt)))
-
-  pub noted_replaced : Noted u.knows (tables_stay now.tables now.floor)
-  noted_replaced = noted_by p so s u same (replacing now) m (tables_stay now.tables now.floor) (inl refl)
-
-  pub gone_replaced : Noted s.knows nothing_flushed → Noted u.knows nothing_flushed
-  gone_replaced there =
-      noted_by p so s u same (replacing now) m nothing_flushed
-      (outlasts nothing_flushed (replacing now x) x p.by s.knows there ((λ y. y), refl, ((λ y. y), note_ends_none x.writes.history (length x.cache) (tables_stay now.tables now.floor) nothing_flushed, tt)))

@@ -1,17 +1,16 @@
 -- A seat that goes on, from one stage to the next.
-use Rattle.std.proofs.Common.{◌≡◌, inl, inr, ℕ, ◌<◌, ◌≤◌, Bool, false, true, List, [], ◌∷◌, ◌++◌, length, take, refl, sym, subst, ap, ◌∙◌, Option, Some, None}
+use Rattle.std.proofs.Common.{◌≡◌, ℕ, ◌<◌, ◌≤◌, Bool, false, true, List, [], ◌∷◌, ◌++◌, length, refl, sym, subst, ap, ◌∙◌, Some, None}
 use Rattle.std.specs.Prelude.{Result, Ok, Err, IfSome}
 use Rattle.wp_model.specs.declared.entry.Entry.{Entry}
 use Rattle.wp_model.specs.declared.version.Version.{Version}
 use Rattle.wp_model.specs.Flushed.{InstalledEdit}
 use Rattle.wp_model.specs.History.{undecided}
 use Rattle.wp_merge.specs.Merge.{sorted_of}
-use Rattle.wp_replies.specs.Replies.{IsCompactionCount}
-use Rattle.wp_replies.specs.Tables.{unflushed, listed, retained, after_flush, after_compaction, after_renewal}
+use Rattle.wp_replies.specs.Tables.{unflushed, after_flush, after_renewal}
 use Rattle.wp_core.specs.Effects.{with_failed}
 use Rattle.wp_core.specs.Lists.{IsIn}
 use Rattle.wp_core.specs.Sound.Actors.{StartsWith}
-use Rattle.wp_core.specs.Tables.{Content, Installed, store, installed, writes}
+use Rattle.wp_core.specs.Tables.{Content, Installed, installed, writes}
 use Rattle.wp_core.specs.Sound.Pasts.{tables_due}
 use Rattle.wp_core.specs.Views.{Fact, Event, tables_failed, log_failed, log_stopped, stopped, found_edit, tables_stay, nothing_flushed, frozen_stay}
 use Rattle.wp_core.specs.Views as event
@@ -32,9 +31,7 @@ use Rattle.wp_maint.specs.declared.renewed.Renewed.{Renewed}
 use Rattle.wp_maint.specs.declared.renewed.RenewError.{RenewError}
 use Rattle.wp_maint.specs.declared.renewed.RenewError.TheVariants as renewal
 use Rattle.wp_maint.specs.Renewal.{IsBusy, HasRenewed, HasBrokenOff, RenewsFrom, LogBecame, SurvivesBeside, NamesItsSegment}
-use Rattle.wp_maint.specs.Calls.{HeldContent, HeldTables, SawWhole, Finds, HasNothing, FlushesFrom, NoneInMemory, FewTables, CompactsFrom, IsCompactionOf, found_by}
-use Rattle.wp_maint.specs.declared.decided.Bases.{Bases}
-use Rattle.wp_maint.specs.Compaction.{AreBases, HadDecision, HadVersions, IsPassed, IsOvertaken, BeginsAgain, EndsRoundFrom}
+use Rattle.wp_maint.specs.Calls.{HeldContent, HeldTables, SawWhole, Finds, HasNothing, FlushesFrom, NoneInMemory, found_by}
 use Rattle.wp_maint.specs.Finding.{Remembers, Changes}
 use Rattle.wp_maint.specs.Holding.{is_of_flushed, is_of_tables, HoldsEdits}
 use Rattle.wp_maint.specs.Moments.{OpensThroughout}
@@ -87,6 +84,18 @@ module _ {D : Type 0} (z : SharedState D) (s u : SeatState) (events : List Event
   pub settled_being : (edit : InstalledEdit) → KnowsTables s.knows edit → KnowsTables u.knows edit
   settled_being edit k = subst (λ (x : SeatState). KnowsTables x.knows edit) (sym is) k
 
+-- a seat that goes on with the tables turn alone holds the same tables still
+pub still_edits : {D : Type 0} {z : SharedState D} {s u : SeatState} {test : Fact → Bool} {e : EditsState} {h : List Entry} → HoldsEdits z s e → GoesOn test (installed e.table ∷ []) s.turns (seeing h s) u → HoldsEdits z u e
+still_edits holds k = record {
+  turn = record {
+    same_table = ap (λ (x : SeatState). x.table) k.same ∙ holds.turn.same_table;
+    live = ap (λ (x : SeatState). x.knows.live) k.same ∙ holds.turn.live;
+    held = ap (λ (x : SeatState). x.knows.held) k.same;
+    turns = ap (λ (x : SeatState). x.turns) k.same ∙ holds.turn.turns;
+  };
+  of_store = holds.of_store;
+}
+
 -- which versions are in tables, and that no flushed one is in memory, is noted still
 pub settled_on : (s u : SeatState) (test : Fact → Bool) (held : List Content) (turns : List ℕ) → test nothing_flushed ≡ false → ((versions : List Version) (floor : ℕ) → test (tables_stay versions floor) ≡ false) → GoesOn test held turns s u
     → (edit : InstalledEdit) → KnowsTables s.knows edit → KnowsTables u.knows edit
@@ -133,28 +142,6 @@ held_between z s t u v past last table same starts grown is k = record {
 abbrev pub found_later : {D : Type 0} (z : SharedState D) (s u v : SeatState) (e : Installed) → StartsWith v.knows.participant.seen u.knows.participant.seen → Finds z s u e → Finds z s v e
 found_later z s u v e grown k = held_between z s s u v s.knows.participant.past s.knows.participant.past (installed e) (refl, refl, refl) (starts_same s.knows.participant.seen) grown refl k
 
--- ... the store turn, as the versions in tables were these, or as what was decided of them was overtaken
-module _ {D : Type 0} (z : SharedState D) (s t u v : SeatState) (same : IsSeat s t) (past : t.knows.participant.past ≡ s.knows.participant.past) (starts : StartsWith t.knows.participant.seen s.knows.participant.seen) (grown : StartsWith v.knows.participant.seen u.knows.participant.seen) where
-  abbrev had_between : (table : Content) → HeldContent z t u t.knows.participant.past table → HeldContent z s v s.knows.participant.past table
-  had_between table k = held_between z s t u v t.knows.participant.past s.knows.participant.past table same starts grown past k
-
-  pub versions_between : (versions : List Version) → HadVersions z t u versions → HadVersions z s v versions
-  versions_between versions k = (k.0, had_between (store k.0) k.1, k.2)
-
-  pub passed_between : (floor : ℕ) (e : Installed) → IsPassed z t u floor e → IsPassed z s v floor e
-  passed_between floor e (inl flushed) = inl flushed
-  passed_between floor e (inr k) = inr (k.0, had_between (store k.0) k.1, k.2)
-
-  pub overtaken_between : (floor base : ℕ) (versions : List Version) (e : Installed) → IsOvertaken z t u floor base versions e → IsOvertaken z s v floor base versions e
-  overtaken_between floor base versions e (inl passed) = inl (passed_between floor e passed)
-  overtaken_between floor base versions e (inr others) = inr others
-
-  pub bases_between : (floor : ℕ) (bases : Bases) → AreBases z t u floor bases → AreBases z s v floor bases
-  bases_between floor bases k = record { opened = k.opened; table = k.table; held = had_between (writes k.table) k.held; installed_is = k.installed_is }
-
-  pub decision_between : (floor : ℕ) (bases : Bases) (versions : List Version) → HadDecision z t u floor bases versions → HadDecision z s v floor bases versions
-  decision_between floor bases versions k = (versions_between versions k.0, bases_between floor bases k.1)
-
 -- the seat before it saw the whole history too
 pub saw_so : {D : Type 0} (z : SharedState D) (s t : SeatState) (history seen : List Entry) → IsSeat s t → t.knows.participant.past ≡ s.knows.participant.past → history ≡ seen → SawWhole z t history → SawWhole z s seen
 saw_so z s t history seen same past is k = record {
@@ -173,21 +160,21 @@ saw_so z s t history seen same past is k = record {
 
 module _ {D : Type 0} (First Last : Participant → Type 0) (z : SharedState D) (s t u v : SeatState) (e : Installed) (same : IsSeat s t) (same_past : t.knows.participant.past ≡ s.knows.participant.past) (starts : StartsWith t.knows.participant.seen s.knows.participant.seen) (past : u.knows.participant.past ≡ v.knows.participant.past) (grown : StartsWith v.knows.participant.seen u.knows.participant.seen)
     (more : (events : List Event) → First (remembering events t.knows.participant) → Last (remembering events s.knows.participant)) (still : First t.knows.participant → Last s.knows.participant) where
-  holds_so : (left : Installed) → HeldTables z t u u.knows.participant.past left → HeldTables z s v v.knows.participant.past left
+  pub holds_so : (left : Installed) → HeldTables z t u u.knows.participant.past left → HeldTables z s v v.knows.participant.past left
   holds_so left k = held_between z s t u v u.knows.participant.past v.knows.participant.past (installed left) same starts grown past k
 
-  abbrev found_so : Finds z t u e → Finds z s v e
+  abbrev pub found_so : Finds z t u e → Finds z s v e
   found_so k = held_between z s t u v t.knows.participant.past s.knows.participant.past (installed e) same starts grown same_past k
 
   -- what is remembered of the tables that were found, and then of these events
-  remembers_so : (k : Finds z t u e) (events : List Event) → First (remembering (found_by z t u e k ∷ events) t.knows.participant) → Last (remembering (found_by z s v e (found_so k) ∷ events) s.knows.participant)
+  pub remembers_so : (k : Finds z t u e) (events : List Event) → First (remembering (found_by z t u e k ∷ events) t.knows.participant) → Last (remembering (found_by z s v e (found_so k) ∷ events) s.knows.participant)
   remembers_so k events first =
       subst (λ (past : List Event). Last (remembering (found_edit e.last.flushed e.last.segment.base e.last.tables (tables_due k.world.first_edit past) e.halted ∷ events) s.knows.participant)) same_past (more (found_by z t u e k ∷ events) first)
 
-  throughout_so : (old new : EditsState) (next edit : InstalledEdit) → next ≡ edit → OpensThroughout t.knows.participant.seen u.knows.participant.seen old new next → OpensThroughout s.knows.participant.seen v.knows.participant.seen old new edit
+  pub throughout_so : (old new : EditsState) (next edit : InstalledEdit) → next ≡ edit → OpensThroughout t.knows.participant.seen u.knows.participant.seen old new next → OpensThroughout s.knows.participant.seen v.knows.participant.seen old new edit
   throughout_so old new next edit is k = throughout_between s.knows.participant.seen t.knows.participant.seen u.knows.participant.seen v.knows.participant.seen old new next edit starts grown is k
 
-  nothing_so : (Idle : InstalledEdit → Type 0) → HasNothing First z t u e Idle → HasNothing Last z s v e Idle
+  pub nothing_so : (Idle : InstalledEdit → Type 0) → HasNothing First z t u e Idle → HasNothing Last z s v e Idle
   nothing_so Idle k = record { found = found_so k.found; running = k.running; idle = k.idle; goes_on = remembers_so k.found [] k.goes_on }
 
   saw_whole : u.knows.participant.seen ≡ v.knows.participant.seen → SawWhole z t u.knows.participant.seen → SawWhole z s v.knows.participant.seen
@@ -317,81 +304,6 @@ module _ {D : Type 0} (First Last : Participant → Type 0) (z : SharedState D) 
     log = k.log;
     goes_on = remembers_so k.found (log_failed [] ∷ []) k.goes_on;
   }
-
-  -- the same of a compaction, where what it pinned is pinned still, and begins what was seen
-  module _ (First_pinned Last_pinned : ℕ → List ℕ → Type 0) (pins : (floor : ℕ) (live : List ℕ) → First_pinned floor live → Last_pinned floor live × (take floor u.knows.participant.seen ≡ take floor v.knows.participant.seen)) where
-    edit_so : (edit : InstalledEdit) → IsCompactionOf First_pinned z u e.last edit → IsCompactionOf Last_pinned z v e.last edit
-    edit_so edit k = let p = pins k.floor k.live k.pinned in
-        record { floor = k.floor; live = k.live; pinned = p.0; first = k.first; is_first = k.is_first; from_base = k.from_base; edit_is = k.edit_is ∙ ap (λ (h : List Entry). after_compaction h (listed k.live k.first.segment.base e.last) e.last) p.1 }
-
-    next_so : (asked : Option InstalledEdit) → IfSome asked (IsCompactionOf First_pinned z u e.last) → IfSome asked (IsCompactionOf Last_pinned z v e.last)
-    next_so None k = tt
-    next_so (Some edit) k = edit_so edit k
-
-    pub compacts_so : (result : Result Done MaintError) → CompactsFrom First First_pinned z t e result u → CompactsFrom Last Last_pinned z s e result v
-    compacts_so (Ok done) k = let p = pins done.at k.live k.pinned in record {
-      found = found_so k.found;
-      running = k.running;
-      several = k.several;
-      live = k.live;
-      pinned = p.0;
-      first = k.first;
-      is_first = k.is_first;
-      low = k.low;
-      from_base = k.from_base;
-      versions = k.versions ∙ ap (λ (h : List Entry). length (retained h (listed k.live k.first.segment.base e.last) e.last)) p.1;
-      few = subst (λ (h : List Entry). IsCompactionCount h k.first.segment.base done.at done.versions) p.1 k.few;
-      left = subst (λ (h : List Entry). HeldTables z s v v.knows.participant.past (record e { last = after_compaction h (listed k.live k.first.segment.base e.last) e.last })) p.1 (holds_so (record e { last = after_compaction (take done.at u.knows.participant.seen) (listed k.live k.first.segment.base e.last) e.last }) k.left);
-      table = record {
-        before = k.table.before;
-        after = k.table.after;
-        of_store = k.table.of_store;
-        still_of_store = k.table.still_of_store;
-        before_is = k.table.before_is;
-        after_is = k.table.after_is ∙ ap (λ (h : List Entry). record e { last = after_compaction h (listed k.live k.first.segment.base e.last) e.last }) p.1;
-        edits = k.table.edits;
-        still_edits = k.table.still_edits;
-        so = k.table.so ∙ ap (λ (h : List Entry). compacted_parts (retained h (listed k.live k.first.segment.base e.last) e.last)) p.1;
-      };
-      survives = subst (λ (h : List Entry). SurvivesInstall k.table.before k.table.after (after_compaction h (listed k.live k.first.segment.base e.last) e.last)) p.1 k.survives;
-      throughout = throughout_so k.table.before k.table.after (after_compaction (take done.at u.knows.participant.seen) (listed k.live k.first.segment.base e.last) e.last) (after_compaction (take done.at v.knows.participant.seen) (listed k.live k.first.segment.base e.last) e.last) (ap (λ (h : List Entry). after_compaction h (listed k.live k.first.segment.base e.last) e.last) p.1) k.throughout;
-      goes_on = remembers_so k.found (event.installed (after_compaction (take done.at v.knows.participant.seen) (listed k.live k.first.segment.base e.last) e.last) true ∷ [])
-          (subst (λ (h : List Entry). First (remembering (found_by z t u e k.found ∷ event.installed (after_compaction h (listed k.live k.first.segment.base e.last) e.last) true ∷ []) t.knows.participant)) p.1 k.goes_on);
-    }
-    compacts_so (Err Memory) k = still k
-    compacts_so (Err Nothing) k = nothing_so FewTables k
-    compacts_so (Err TableFault) k = record {
-      found = found_so k.found;
-      running = k.running;
-      busy = k.busy;
-      asked = k.asked;
-      next = next_so k.asked k.next;
-      left = holds_so _ k.left;
-      fault = k.fault;
-      survives = (k.survives.0, edit_so k.survives.0 k.survives.1, k.survives.2, throughout_so k.fault.before k.fault.after k.survives.0 k.survives.0 refl k.survives.3);
-      goes_on = remembers_so k.found (tables_failed e.last k.asked ∷ []) k.goes_on;
-    }
-    compacts_so (Err (TablesStopped flushed)) k = record { found = found_so k.found; halted = k.halted; flushed_is = k.flushed_is; goes_on = remembers_so k.found [] k.goes_on }
-
-    module _ (First_decided Last_decided : ℕ → Bases → List Version → Type 0) (decides : (floor : ℕ) (bases : Bases) (versions : List Version) → First_decided floor bases versions → Last_decided floor bases versions) where
-      again_so : BeginsAgain First First_pinned First_decided z t u e → BeginsAgain Last Last_pinned Last_decided z s v e
-      again_so k = record {
-        found = found_so k.found;
-        running = k.running;
-        several = k.several;
-        floor = k.floor;
-        live = k.live;
-        pinned = (pins k.floor k.live k.pinned).0;
-        versions = k.versions;
-        bases = k.bases;
-        decided = decides k.floor k.bases k.versions k.decided;
-        overtaken = overtaken_between z s t u v same same_past starts grown k.floor k.bases.installed k.versions e k.overtaken;
-        goes_on = still k.goes_on;
-      }
-
-      pub ends_so : (result : Option (Result Done MaintError)) → EndsRoundFrom First First_pinned First_decided z t e result u → EndsRoundFrom Last Last_pinned Last_decided z s e result v
-      ends_so (Some result) k = compacts_so result k
-      ends_so None k = again_so k
 
 -- ---- there is nothing to do
 

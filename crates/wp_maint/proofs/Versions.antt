@@ -1,9 +1,11 @@
 -- Lists of versions, and how many are in them.
-use Rattle.std.proofs.Common.{◌≡◌, inl, inr, ℕ, zero, suc, ◌≤◌, ◌==◌, Bool, true, false, cond, ne_eqb, Less, Equal, Greater, List, [], ◌∷◌, ◌++◌, length, drop, Option, Some, None, refl, sym, subst, ap, ◌∙◌, arith}
+use Rattle.std.proofs.Common.{◌≡◌, inl, inr, ℕ, zero, suc, ◌<◌, ◌≤◌, ◌==◌, ◌&&◌, Bool, true, false, cond, ne_eqb, Less, Equal, Greater, List, [], ◌∷◌, ◌++◌, length, drop, Option, Some, None, refl, sym, subst, ap, ◌∙◌, arith}
+use Rattle.std.proofs.lemmas.Bool.{and_parts, leb-true}
 use Rattle.std.specs.declared.cmp.Ordering.{Ordering}
 use Rattle.std.specs.Prelude.{slice_get}
 use Rattle.std.specs.List.{list_all}
 use Rattle.std.specs.Option.{option_or}
+use Rattle.std.specs.Str.{bytes_eq}
 use Rattle.wp_model.specs.declared.change.Change.{Change}
 use Rattle.wp_model.specs.declared.entry.Entry.{Entry}
 use Rattle.wp_model.specs.declared.version.Version.{Version}
@@ -17,6 +19,7 @@ use Rattle.wp_merge.specs.Merge.{merge_of, sorted_of, weave, choose_by_order}
 use Rattle.wp_merge.proofs.Merged.{is_here, missing, same_place}
 use Rattle.wp_merge.proofs.Sorted.{own_place, own_value, at_sorted, in_order_sorted, in_order_same}
 use Rattle.wp_open.proofs.Later.{at_append}
+use Rattle.wp_table.specs.Table.{is_flushed}
 use Rattle.wp_cover.proofs.Order.{key_itself}
 use Rattle.wp_cover.proofs.Presence.{none_after}
 use Rattle.wp_core.specs.Lists.{IsIn}
@@ -142,3 +145,17 @@ ascend_dropped (suc n) (entry ∷ entries) each = ascend_dropped n entries each.
 pub distinct_later : (history : List Entry) (n : ℕ) → IsLegal history → Distinct (later_versions history n)
 distinct_later history n legal =
     distinct_after n (drop n history) (ascend_dropped n history (ascend_from history history (λ m entry there. (legal.each m entry there).orderly.ascending)))
+
+-- ---- versions up to a number
+
+pub none_past : (flushed : ℕ) (versions : List Version) → list_all (is_flushed flushed) versions ≡ true → (key : List ℕ) (p : ℕ) → flushed < p → version_at versions key p ≡ None
+none_past flushed [] all key p above = refl
+none_past flushed (v ∷ versions) all key p above =
+    let parts = and_parts (is_flushed flushed v) (list_all (is_flushed flushed) versions) all in
+    let low = leb-true v.number flushed parts.0 in
+    let other : (v.number == p) ≡ false = ne_eqb v.number p (λ same. absurd (omega (arith, same, low, above))) in
+    rw (other, none_past flushed versions parts.1 key p above) (past (bytes_eq v.key key))
+  where
+    past : (b : Bool) → let nothing : Found = None in cond (b && false) (Some v.value) nothing ≡ nothing
+    past true = refl
+    past false = refl

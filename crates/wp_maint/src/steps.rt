@@ -2,7 +2,6 @@
 ghost use Rattle.std.specs.Prelude.{◌≡◌, ◌≤◌, ℕ, true, false, List, [], ◌∷◌, length, IfSome};
 ghost use Rattle.wp_model.specs.Flushed.{IsEditCovered};
 ghost use Rattle.wp_model.specs.Versions.{version_at};
-ghost use Rattle.wp_core.specs.Conditions.{KeepsStore};
 ghost use Rattle.wp_core.specs.Effects.{with_failed};
 ghost use Rattle.wp_core.specs.Lists.{IsIn};
 ghost use Rattle.wp_core.specs.Sound.Store.{NoneFlushed};
@@ -67,37 +66,8 @@ pub(crate) fn install_flush<D: Disk + Drop>(store: &Shared<D>, seat: &mut Seat<D
     remember_flush(store, seat, edits);
 }
 
-/// The edit of a compaction was installed. No flushed version is in memory, as before.
-fn remember_compaction<D: Disk + Drop>(store: &Shared<D>, seat: &mut Seat<D>, edits: &Edits<D>)
-    requires seat { (seat.old.table ≡ store.now.table) × (seat.old.knows.live ≡ true) }
-    requires held { (t : Installed) × (seat.old.knows.held ≡ installed t ∷ []) × (edits.now.table ≡ record t { last = edits.now.table.last }) × KnowsInstalled seat.old.knows t edits.now.table.last true }
-    requires gone { Noted seat.old.knows nothing_flushed }
-    ensures goes { GoesOn is_of_flushed (installed edits.now.table ∷ []) seat.old.turns (being (remembering (event.installed edits.now.table.last true ∷ []) seat.old.knows.participant) seat.old) seat.new }
-    ensures gone { Noted seat.new.knows nothing_flushed }
-    ensures stands { (w : World) × Stands store.now seat.new w }
-{
-    store.make_about::<Brand, Edits<D>>(seat, edits);
-}
-
-/// The edit of a compaction was installed, where the tables were found so.
-pub(crate) fn install_compaction<D: Disk + Drop>(
-    store: &Shared<D>,
-    seat: &mut Seat<D>,
-    edits: &Edits<D>,
-)
-    requires seat { (seat.old.table ≡ store.now.table) × (seat.old.knows.live ≡ true) }
-    requires held { (t : Installed) × (seat.old.knows.held ≡ installed t ∷ []) × (edits.now.table ≡ record t { last = edits.now.table.last }) × KnowsInstalled seat.old.knows t edits.now.table.last true }
-    requires gone { Noted seat.old.knows nothing_flushed }
-    ensures changes { (t : Installed) → seat.old.knows.held ≡ installed t ∷ [] → Changes store.now seat.old t edits.now.table (event.installed edits.now.table.last true) is_of_flushed seat.new }
-    ensures gone { Noted seat.new.knows nothing_flushed }
-    ensures stands { (w : World) × Stands store.now seat.new w }
-{
-    find_edits(store, seat);
-    remember_compaction(store, seat, edits);
-}
-
 /// A device of the tables failed, where they were found so.
-pub(crate) fn halt<D: Disk + Drop>(store: &Shared<D>, seat: &mut Seat<D>, edits: &Edits<D>)
+pub fn halt<D: Disk + Drop>(store: &Shared<D>, seat: &mut Seat<D>, edits: &Edits<D>)
     requires seat { seat.old.table ≡ store.now.table }
     requires held { (t : Installed) × (seat.old.knows.held ≡ installed t ∷ []) × (edits.now.table ≡ with_failed t edits.now.table.failed) × (t.halted ≡ false) }
     requires covered { IfSome edits.now.table.failed (IsEditCovered seat.old.knows.participant.seen) }
@@ -141,23 +111,6 @@ pub fn move_versions<D: Disk + Drop>(
         → GoesOn is_of_tables (table.store (store_table stock.now) ∷ others) seat.old.turns seat.old seat.new }
     ensures flushed { Noted seat.new.knows nothing_flushed }
     ensures named { Noted seat.new.knows (tables_stay (store_table stock.now).tables (store_table stock.now).floor) }
-{
-    store.make_about::<Brand, Stock>(seat, stock);
-}
-
-/// The versions in tables became these, which are enough for readers from the floor on, and at what else is live.
-pub(crate) fn replace_versions<D: Disk + Drop>(
-    store: &Shared<D>,
-    seat: &mut Seat<D>,
-    edits: &Edits<D>,
-    stock: &Stock,
-)
-    requires seat { seat.old.table ≡ store.now.table }
-    requires held { (t : StoreTable) × (seat.old.knows.held ≡ table.store t ∷ installed edits.now.table ∷ []) × ((store_table stock.now).memory ≡ t.memory) }
-    requires may { (w : World) → Stands store.now seat.old w → (w.store.floor ≤ (store_table stock.now).floor) × KeepsStore w (record w.store { tables = (store_table stock.now).tables; floor = (store_table stock.now).floor }) w.installed }
-    ensures goes { GoesOn is_of_tables (table.store (store_table stock.now) ∷ installed edits.now.table ∷ []) seat.old.turns seat.old seat.new }
-    ensures named { Noted seat.new.knows (tables_stay (store_table stock.now).tables (store_table stock.now).floor) }
-    ensures gone { Noted seat.old.knows nothing_flushed → Noted seat.new.knows nothing_flushed }
 {
     store.make_about::<Brand, Stock>(seat, stock);
 }

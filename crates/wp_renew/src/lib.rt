@@ -5,7 +5,7 @@
 //! and carries what is undecided there; and installs an edit that names both. Only then the log moves to the segment: so at each moment
 //! the place that the manifest names has the history.
 //!
-//! What a renewal answers, and what is said of it, stands in `wp_maint`, beside a flush and a compaction.
+//! What a renewal answers, and what is said of it, stands in `wp_maint`, beside a flush.
 #![tactic(auto)]
 
 mod renewing;

@@ -24,7 +24,7 @@ use Rattle.wp_shared.specs.Parts.{content}
 use Rattle.wp_shared.specs.Seats.{SharedState, SeatState, Stands}
 use Rattle.wp_maint.specs.declared.done.Done.{Done}
 use Rattle.wp_maint.specs.declared.error.MaintError.TheVariants.{Nothing, TableFault, TablesStopped}
-use Rattle.wp_maint.specs.Calls.{HasPinned, IsCompactionOf, Compacts}
+use Rattle.wp_compact.specs.Calls.{HasPinned, IsCompactionOf, Compacts}
 use Rattle.wp_replies.specs.declared.client.LabelledSnapshot.{LabelledSnapshot}
 use Rattle.wp_replies.specs.declared.client.Txn.{Txn}
 use Rattle.wp_replies.specs.Client.{Client, numbers_of}

@@ -9,8 +9,7 @@ use Rattle.wp_shared.specs.Seats.{SeatState}
 use Rattle.wp_shared.proofs.Onward.{starts_same, loose_under, goes_still}
 use Rattle.wp_maint.specs.Flush.{Freezes}
 use Rattle.wp_maint.proofs.Found.{held_first}
-use Rattle.wp_maint.proofs.Onward.{goes_saw, goes_more, found_nothing, holds_being, settled_being, settled_on, seat_still, saw_so, flushes_so}
-use Rattle.wp_maint.proofs.StillTabled.{still_edits}
+use Rattle.wp_maint.proofs.Onward.{goes_saw, goes_more, found_nothing, holds_being, settled_being, settled_on, still_edits, seat_still, saw_so, flushes_so}
 use Rattle.wp_maint.proofs.flushing.flush_running.Goals as goal
 
 pub find_edits-requires-clause-held : goal.find_edits-requires-clause-held

@@ -1,6 +1,0 @@
-use Rattle.wp_shared.specs.Calls.{Continues}
-use Rattle.wp_maint.specs.Calls.{LeavesEach}
-use Rattle.wp_maint.proofs.compacting.compact.Given as goal
-
-abbrev pub invariant-loop : goal.invariant-loop
-invariant-loop g l = Continues l.store l.fn.seat l.seat l.fn.seat.knows.participant × LeavesEach l.store l.fn.seat l.seat
