@@ -7,7 +7,7 @@ use Rattle.wp_model.specs.Flushed.{InstalledEdit}
 use Rattle.wp_replies.specs.Replies.{IsCompactionCount}
 use Rattle.wp_replies.specs.Tables.{listed, retained, after_compaction}
 use Rattle.wp_core.specs.Sound.Actors.{StartsWith}
-use Rattle.wp_core.specs.Tables.{Content, Installed, store, installed, writes}
+use Rattle.wp_core.specs.Tables.{Installed, store, installed, writes}
 use Rattle.wp_core.specs.Views.{Event, tables_failed}
 use Rattle.wp_core.specs.Views as event
 use Rattle.wp_core.specs.World.{Participant}
@@ -19,33 +19,30 @@ use Rattle.wp_shared.specs.Seats.{SharedState, SeatState}
 use Rattle.wp_maint.specs.declared.done.Done.{Done}
 use Rattle.wp_maint.specs.declared.error.MaintError.{MaintError}
 use Rattle.wp_maint.specs.declared.error.MaintError.TheVariants.{Memory, Nothing, TableFault, TablesStopped}
-use Rattle.wp_maint.specs.Calls.{HeldContent, HeldTables, Finds, found_by}
+use Rattle.wp_maint.specs.Calls.{HeldTables, Finds, found_by}
 use Rattle.wp_compact.specs.Calls.{FewTables, CompactsFrom, IsCompactionOf}
 use Rattle.wp_compact.specs.declared.decided.Bases.{Bases}
 use Rattle.wp_compact.specs.Compaction.{AreBases, HadDecision, HadVersions, IsPassed, IsOvertaken, BeginsAgain, EndsRoundFrom}
 use Rattle.wp_maint.specs.Moments.{OpensThroughout}
-use Rattle.wp_maint.proofs.Onward.{IsSeat, found_so, held_between, holds_so, nothing_so, remembers_so, throughout_so}
+use Rattle.wp_maint.proofs.Onward.{IsSeat, found_so, had_between, holds_so, nothing_so, remembers_so, throughout_so}
 
 -- ---- the tables and the log that it held
 
--- ... the store turn, as the versions in tables were these, or as what was decided of them was overtaken
+-- a seat held the store turn between two others, as the versions in tables were these, or as what was decided of them was overtaken
 module _ {D : Type 0} (z : SharedState D) (s t u v : SeatState) (same : IsSeat s t) (past : t.knows.participant.past ≡ s.knows.participant.past) (starts : StartsWith t.knows.participant.seen s.knows.participant.seen) (grown : StartsWith v.knows.participant.seen u.knows.participant.seen) where
-  had_between : (table : Content) → HeldContent z t u t.knows.participant.past table → HeldContent z s v s.knows.participant.past table
-  had_between table k = held_between z s t u v t.knows.participant.past s.knows.participant.past table same starts grown past k
-
   pub versions_between : (versions : List Version) → HadVersions z t u versions → HadVersions z s v versions
-  versions_between versions k = (k.0, had_between (store k.0) k.1, k.2)
+  versions_between versions k = (k.0, had_between z s t u v same past starts grown (store k.0) k.1, k.2)
 
   pub passed_between : (floor : ℕ) (e : Installed) → IsPassed z t u floor e → IsPassed z s v floor e
   passed_between floor e (inl flushed) = inl flushed
-  passed_between floor e (inr k) = inr (k.0, had_between (store k.0) k.1, k.2)
+  passed_between floor e (inr k) = inr (k.0, had_between z s t u v same past starts grown (store k.0) k.1, k.2)
 
   pub overtaken_between : (floor base : ℕ) (versions : List Version) (e : Installed) → IsOvertaken z t u floor base versions e → IsOvertaken z s v floor base versions e
   overtaken_between floor base versions e (inl passed) = inl (passed_between floor e passed)
   overtaken_between floor base versions e (inr others) = inr others
 
   pub bases_between : (floor : ℕ) (bases : Bases) → AreBases z t u floor bases → AreBases z s v floor bases
-  bases_between floor bases k = record { opened = k.opened; table = k.table; held = had_between (writes k.table) k.held; installed_is = k.installed_is }
+  bases_between floor bases k = record { opened = k.opened; table = k.table; held = had_between z s t u v same past starts grown (writes k.table) k.held; installed_is = k.installed_is }
 
   pub decision_between : (floor : ℕ) (bases : Bases) (versions : List Version) → HadDecision z t u floor bases versions → HadDecision z s v floor bases versions
   decision_between floor bases versions k = (versions_between versions k.0, bases_between floor bases k.1)

@@ -142,6 +142,11 @@ held_between z s t u v past last table same starts grown is k = record {
 abbrev pub found_later : {D : Type 0} (z : SharedState D) (s u v : SeatState) (e : Installed) → StartsWith v.knows.participant.seen u.knows.participant.seen → Finds z s u e → Finds z s v e
 found_later z s u v e grown k = held_between z s s u v s.knows.participant.past s.knows.participant.past (installed e) (refl, refl, refl) (starts_same s.knows.participant.seen) grown refl k
 
+-- ... any turn, where nothing was remembered before
+module _ {D : Type 0} (z : SharedState D) (s t u v : SeatState) (same : IsSeat s t) (past : t.knows.participant.past ≡ s.knows.participant.past) (starts : StartsWith t.knows.participant.seen s.knows.participant.seen) (grown : StartsWith v.knows.participant.seen u.knows.participant.seen) where
+  pub had_between : (table : Content) → HeldContent z t u t.knows.participant.past table → HeldContent z s v s.knows.participant.past table
+  had_between table k = held_between z s t u v t.knows.participant.past s.knows.participant.past table same starts grown past k
+
 -- the seat before it saw the whole history too
 pub saw_so : {D : Type 0} (z : SharedState D) (s t : SeatState) (history seen : List Entry) → IsSeat s t → t.knows.participant.past ≡ s.knows.participant.past → history ≡ seen → SawWhole z t history → SawWhole z s seen
 saw_so z s t history seen same past is k = record {
