@@ -8,8 +8,6 @@ pub mod WalkLemmas
 pub mod Judged
 pub mod Halving
 pub mod Lookup
-pub mod NextBlock
-pub mod Spelled
 pub mod FieldFaults
 pub mod TableFaults
 pub mod WholeFaults

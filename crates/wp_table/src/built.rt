@@ -29,7 +29,8 @@ impl Model for Built {
 }
 
 impl Built {
-    pub(crate) fn of(bytes: Vec<u8>, count: u64, index: Vec<u64>) -> Built
+    /// The table of so many versions that the bytes spell, whose blocks begin at these places.
+    pub fn of(bytes: Vec<u8>, count: u64, index: Vec<u64>) -> Built
         requires { IsIndexed Two bytes.items count index.items }
         ensures { result ≡ record { bytes = bytes.items; versions = stored_versions Two bytes.items count } }
     {

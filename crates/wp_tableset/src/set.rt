@@ -17,10 +17,11 @@ use crate::error::TableSetError;
 use std::alloc::{AllocError, Global};
 use std::marker::Model;
 use std::sync::Arc;
+use wp_build::build;
 use wp_manifest::{Edit, EditRoom, InstallError, Manifest};
 use wp_model::{Seq, Versions};
 use wp_outside::{Disk, Failed};
-use wp_table::{Built, Table, build};
+use wp_table::{Built, Table};
 
 /// The tables of a store: its manifest, and the device of its table files. Clauses see the manifest, the device's moments
 /// and faults, and whether a device has failed.

@@ -5,8 +5,8 @@ use Rattle.std.proofs.lemmas.Bool.{and_from}
 use Rattle.std.proofs.lemmas.List.Folds.{list_all-append}
 use Rattle.wp_fields.specs.declared.format.Format.TheVariants.{Two}
 use Rattle.wp_table.specs.Table.{has_words}
-use Rattle.wp_table.proofs.NextBlock.{next_block, pushed_more, placed_more}
-use Rattle.wp_table.proofs.writing.push_blocks.Goals as goal
+use Rattle.wp_build.proofs.NextBlock.{next_block, pushed_more, placed_more}
+use Rattle.wp_build.proofs.writing.push_blocks.Goals as goal
 
 pub loop-block-preserved : goal.loop-block-preserved
 loop-block-preserved c =

@@ -3,7 +3,7 @@ use Rattle.std.specs.Int.{w16, to_be_bytes}
 use Rattle.std.specs.List.{flat_map, list_all}
 use Rattle.wp_fields.specs.declared.format.Format.TheVariants.{Two}
 use Rattle.wp_table.specs.Table.{version_bytes, has_words}
-use Rattle.wp_table.proofs.writing.push_block.Given as goal
+use Rattle.wp_build.proofs.writing.push_block.Given as goal
 
 abbrev pub invariant-loop-version : goal.invariant-loop-version
 invariant-loop-version l = record {

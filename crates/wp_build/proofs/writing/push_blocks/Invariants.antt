@@ -4,7 +4,7 @@ use Rattle.std.specs.Slice.Iter.{chunks_rest, chunks_size}
 use Rattle.wp_fields.specs.declared.format.Format.TheVariants.{Two}
 use Rattle.wp_table.specs.declared.layout.TheConstants.{BLOCK}
 use Rattle.wp_table.specs.Table.{block_bytes, blocks_of, places_from, has_words}
-use Rattle.wp_table.proofs.writing.push_blocks.Given as goal
+use Rattle.wp_build.proofs.writing.push_blocks.Given as goal
 
 abbrev pub invariant-loop-block : goal.invariant-loop-block
 invariant-loop-block l = record {

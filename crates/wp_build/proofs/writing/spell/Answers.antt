@@ -6,9 +6,9 @@ use Rattle.wp_fields.specs.declared.format.Format.TheVariants.{Two}
 use Rattle.wp_table.specs.Table.{head_bytes, block_bytes, blocks_of, places_from, table_bytes, has_number, is_flushed, has_words, IsTableIn}
 use Rattle.wp_table.specs.Walk.{stored_versions}
 use Rattle.wp_table.proofs.Parts.{list_all-both}
-use Rattle.wp_table.proofs.Spelled.{from_head, all_bytes, all_flushed, all_fit, indexed}
+use Rattle.wp_build.proofs.Spelled.{from_head, all_bytes, all_flushed, all_fit, indexed}
 use Rattle.wp_table.proofs.WalkLemmas.{stored_is}
-use Rattle.wp_table.proofs.writing.spell.Goals as goal
+use Rattle.wp_build.proofs.writing.spell.Goals as goal
 
 pub returns-clause-table : goal.returns-clause-table
 returns-clause-table c = λ flushed below.

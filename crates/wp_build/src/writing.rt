@@ -1,4 +1,5 @@
-ghost use Rattle.std.specs.Prelude.{◌≡◌, ℕ, ◌≤◌, true, ◌&&◌, [], ◌∷◌, ◌++◌, length, OnOk, IfOk};
+//! The spelling of a table, part by part.
+ghost use Rattle.std.specs.Prelude.{◌≡◌, ℕ, ◌≤◌, true, [], ◌∷◌, ◌++◌, length, OnOk, IfOk};
 ghost use Rattle.std.specs.List.{flat_map, list_all};
 ghost use Rattle.std.specs.Int.{w64, to_be_bytes};
 ghost use Rattle.std.specs.Option.{option_copied};
@@ -6,12 +7,11 @@ ghost use Rattle.wp_fields.specs.declared.format.Format.TheVariants.{Two};
 ghost use Rattle.wp_table.specs.Table.{stored_bytes, version_bytes, block_bytes, is_numbered, is_flushed, is_stored, has_words, blocks_of, places_from, head_bytes, written_bytes, SpellsTable};
 ghost use Rattle.wp_table.specs.Walk.{stored_versions, IsIndexed};
 
-use crate::built::Built;
-use crate::layout::{BLOCK, DELETION, MAGIC, PUT, blocks_for};
 use std::alloc::{AllocError, Global};
 use wp_encoding::{push_value, push_word};
 use wp_fields::{Format, push_piece, push_u8, push_u16, push_u32, push_u64};
 use wp_model::{Value, Version, Versions};
+use wp_table::{BLOCK, Built, DELETION, MAGIC, PUT, blocks_for};
 
 fn push_head(out: &mut Vec<u8>, id: u32, count: u64) -> Result<(), AllocError>
     ensures { OnOk result (out.new.items ≡ out.old.items ++ head_bytes Two id count) }

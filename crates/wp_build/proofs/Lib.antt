@@ -1,0 +1,2 @@
+mod NextBlock
+mod Spelled
