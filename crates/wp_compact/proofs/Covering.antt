@@ -27,7 +27,7 @@ use Rattle.wp_cuts.proofs.Keeping as count
 use Rattle.wp_cuts.proofs.Staying.{are_kept}
 use Rattle.wp_cuts.proofs.UpTo.{gives_by_same}
 use Rattle.wp_merge.proofs.Merged.{or_none}
-use Rattle.wp_cover.proofs.Places.{at_append}
+use Rattle.wp_merge.proofs.Sorted.{at_append}
 use Rattle.wp_replies.specs.Replies.{IsCompactionCount}
 use Rattle.wp_replies.specs.Tables.{after_compaction}
 use Rattle.wp_table.specs.Table.{is_numbered, is_flushed}

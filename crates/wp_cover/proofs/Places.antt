@@ -14,7 +14,7 @@ use Rattle.wp_model.specs.Decision.{version_in, entry_version}
 use Rattle.wp_model.specs.Flushed.{versions_under, versions_after, later_versions}
 use Rattle.wp_model.specs.Legal.{changes_in}
 use Rattle.wp_model.specs.Versions.{version_at}
-use Rattle.wp_model.proofs.VersionLists.{or_cond}
+use Rattle.wp_merge.proofs.Sorted.{at_append}
 
 -- ---- one list after the other
 
@@ -25,12 +25,6 @@ next_item items i item lt is = let e : suc i ≡ i + 1 = omega arith in drop-con
 pub or_none : {X : Type 0} (a : Option X) → option_or a None ≡ a
 or_none None = refl
 or_none (Some v) = refl
-
-pub at_append : (xs ys : List Version) (key : List ℕ) (p : ℕ) → version_at (xs ++ ys) key p ≡ option_or (version_at xs key p) (version_at ys key p)
-at_append [] ys key p = refl
-at_append (v ∷ xs) ys key p =
-    ap (cond (bytes_eq v.key key && (v.number == p)) (Some v.value)) (at_append xs ys key p)
-    ∙ or_cond (bytes_eq v.key key && (v.number == p)) v.value (version_at xs key p) (version_at ys key p)
 
 -- what is found in the first of two places counts
 pub first_found : (found : Option (Option (Bor (List ℕ)))) (a b : Option (Option (List ℕ))) → is_some found ≡ true → option_map option_copied found ≡ a → option_map option_copied found ≡ option_or a b

@@ -7,8 +7,7 @@ use Rattle.wp_model.specs.declared.version.Version.{Version}
 use Rattle.wp_model.specs.Flushed.{InstalledEdit, IsEditCovered}
 use Rattle.wp_model.specs.Versions.{version_at}
 use Rattle.wp_merge.specs.Merge.{sorted_of}
-use Rattle.wp_merge.proofs.Sorted.{at_sorted}
-use Rattle.wp_open.proofs.Later.{at_append}
+use Rattle.wp_merge.proofs.Sorted.{at_append, at_sorted}
 use Rattle.wp_replies.specs.Tables.{unflushed, after_flush}
 use Rattle.wp_core.specs.Lists.{IsIn}
 use Rattle.wp_core.specs.Sound.Store.{NoneFlushed}

@@ -16,8 +16,7 @@ use Rattle.wp_history.proofs.Counting.{entry_version_old}
 use Rattle.wp_history.proofs.Growth.{legal_before}
 use Rattle.wp_merge.specs.Merge.{sorted_of}
 use Rattle.wp_merge.proofs.Merged.{or_none}
-use Rattle.wp_merge.proofs.Sorted.{in_order_sorted, at_sorted, in_order_same, own_value}
-use Rattle.wp_open.proofs.Later.{at_append}
+use Rattle.wp_merge.proofs.Sorted.{at_append, in_order_sorted, at_sorted, in_order_same, own_value}
 use Rattle.wp_replies.specs.Tables.{unflushed, after_flush, after_renewal, with_table}
 use Rattle.wp_table.specs.Table as table
 use Rattle.wp_core.specs.Entries.{next_of}

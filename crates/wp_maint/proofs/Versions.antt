@@ -17,8 +17,7 @@ use Rattle.wp_model.proofs.BatchLemmas.{ascending_rest}
 use Rattle.wp_model.proofs.VersionLists.{IsBefore, in_order_parts}
 use Rattle.wp_merge.specs.Merge.{merge_of, sorted_of, weave, choose_by_order}
 use Rattle.wp_merge.proofs.Merged.{is_here, missing, same_place}
-use Rattle.wp_merge.proofs.Sorted.{own_place, own_value, at_sorted, in_order_sorted, in_order_same}
-use Rattle.wp_open.proofs.Later.{at_append}
+use Rattle.wp_merge.proofs.Sorted.{at_append, own_place, own_value, at_sorted, in_order_sorted, in_order_same}
 use Rattle.wp_table.specs.Table.{is_flushed}
 use Rattle.wp_cover.proofs.Order.{key_itself}
 use Rattle.wp_cover.proofs.Presence.{none_after}

@@ -31,16 +31,16 @@ at_sorted (v ∷ versions) key n =
 
 -- ---- lists one after the other
 
-at_append : (key : List ℕ) (n : ℕ) (xs ys : List Version) → version_at (xs ++ ys) key n ≡ option_or (version_at xs key n) (version_at ys key n)
-at_append key n [] ys = refl
-at_append key n (x ∷ xs) ys =
-    ap (cond (is_here key n x) (Some x.value)) (at_append key n xs ys) ∙ or_cond (is_here key n x) x.value (version_at xs key n) (version_at ys key n)
+pub at_append : (xs ys : List Version) (key : List ℕ) (n : ℕ) → version_at (xs ++ ys) key n ≡ option_or (version_at xs key n) (version_at ys key n)
+at_append [] ys key n = refl
+at_append (x ∷ xs) ys key n =
+    ap (cond (is_here key n x) (Some x.value)) (at_append xs ys key n) ∙ or_cond (is_here key n x) x.value (version_at xs key n) (version_at ys key n)
 
 at_joined : (sources : List (List Version)) (key : List ℕ) (n : ℕ) → version_at (joined sources) key n ≡ first_at sources key n
 at_joined [] key n = refl
 at_joined (source ∷ sources) key n =
     ap (λ (vs : List Version). version_at vs key n) (flat_map-cons (λ (s : List Version). s) source sources)
-    ∙ at_append key n source (joined sources)
+    ∙ at_append source (joined sources) key n
     ∙ ap (option_or (version_at source key n)) (at_joined sources key n)
 
 -- ---- one list

@@ -12,8 +12,7 @@ use Rattle.wp_cuts.specs.Cut.{Cut}
 use Rattle.wp_cuts.specs.LegalCut.{AreBelow, AreNumbered}
 use Rattle.wp_manifest.specs.Edit.{Edit}
 use Rattle.wp_merge.specs.Merge.{joined}
-use Rattle.wp_merge.proofs.Sorted.{at_sorted}
-use Rattle.wp_cover.proofs.Places.{at_append}
+use Rattle.wp_merge.proofs.Sorted.{at_append, at_sorted}
 use Rattle.wp_open.specs.Opens.{AreCovering, all_in, history_over}
 use Rattle.wp_open.proofs.Base.{base_covered}
 

@@ -25,9 +25,9 @@ use Rattle.wp_cuts.proofs.Versions.{changes_to, newest_passing, found_none, foun
 use Rattle.wp_cuts.proofs.Whole.{full_settled}
 use Rattle.wp_ledger.specs.History.{RoomyHistory}
 use Rattle.wp_cover.specs.Sources.{AreSettled, is_settled}
-use Rattle.wp_cover.proofs.Places.{at_append, none_later, or_none}
+use Rattle.wp_cover.proofs.Places.{none_later, or_none}
 use Rattle.wp_merge.specs.Merge.{joined}
-use Rattle.wp_merge.proofs.Sorted.{at_sorted, in_order_sorted}
+use Rattle.wp_merge.proofs.Sorted.{at_append, at_sorted, in_order_sorted}
 use Rattle.wp_open.specs.Opens.{all_in, history_over}
 
 -- ---- a base

@@ -10,19 +10,13 @@ use Rattle.wp_model.specs.Batch.{key_of, value_of, change_to}
 use Rattle.wp_model.specs.Flushed.{versions_under, versions_after}
 use Rattle.wp_model.specs.Legal.{changes_in}
 use Rattle.wp_model.specs.Versions.{AreInOrder, version_at}
-use Rattle.wp_model.proofs.VersionLists.{in_order_nil, or_cond}
+use Rattle.wp_model.proofs.VersionLists.{in_order_nil}
 use Rattle.wp_memtable.specs.Memtable.{HasChanges}
 use Rattle.wp_merge.specs.Merge.{sorted_of}
 use Rattle.wp_merge.proofs.Merged.{or_none}
-use Rattle.wp_merge.proofs.Sorted.{in_order_sorted, at_sorted, in_order_same}
+use Rattle.wp_merge.proofs.Sorted.{at_append, at_sorted, in_order_sorted, in_order_same}
 
 -- ---- look-ups
-
-pub at_append : (xs ys : List Version) (key : List ℕ) (p : ℕ) → version_at (xs ++ ys) key p ≡ option_or (version_at xs key p) (version_at ys key p)
-at_append [] ys key p = refl
-at_append (v ∷ xs) ys key p =
-    ap (cond (bytes_eq v.key key && (v.number == p)) (Some v.value)) (at_append xs ys key p)
-    ∙ or_cond (bytes_eq v.key key && (v.number == p)) v.value (version_at xs key p) (version_at ys key p)
 
 none_either : (b : Bool) → let none : Option (Option (List ℕ)) = None in none ≡ cond b none none
 none_either true = refl

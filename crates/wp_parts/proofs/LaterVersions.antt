@@ -13,7 +13,7 @@ use Rattle.wp_model.specs.Legal.{IsLegal, changes_in}
 use Rattle.wp_model.specs.Versions.{version_at}
 use Rattle.wp_model.proofs.Entries.{entry_at_past}
 use Rattle.wp_merge.specs.Merge.{first_at}
-use Rattle.wp_open.proofs.Later.{at_append}
+use Rattle.wp_merge.proofs.Sorted.{at_append}
 use Rattle.wp_core.proofs.Openings.{all_versions}
 use Rattle.wp_core.proofs.PublishesVersions.{at_under}
 use Rattle.wp_table.specs.Table.{IsTable, is_flushed}

@@ -33,11 +33,10 @@ use Rattle.wp_manifest.specs.Edit.{Edit}
 use Rattle.wp_manifest.specs.Manifest.{ManifestState}
 use Rattle.wp_merge.specs.Merge.{first_at, joined, sorted_of}
 use Rattle.wp_merge.proofs.Merged.{or_none}
-use Rattle.wp_merge.proofs.Sorted.{at_sorted}
+use Rattle.wp_merge.proofs.Sorted.{at_append, at_sorted}
 use Rattle.wp_open.specs.Damage.{IsWithin}
 use Rattle.wp_open.specs.Parts.{PartsOpened, stored_cut}
 use Rattle.wp_open.specs.Opens.{installed_of}
-use Rattle.wp_open.proofs.Later.{at_append}
 use Rattle.wp_store.specs.Store.{StoreParts}
 use Rattle.wp_table.specs.File.{HasTables}
 use Rattle.wp_tableset.specs.Set.{RestsWith}

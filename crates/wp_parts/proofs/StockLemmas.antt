@@ -14,8 +14,7 @@ use Rattle.wp_model.specs.Versions.{version_at, version_cmp}
 use Rattle.wp_memtable.specs.Memtable.{HasChanges, above, below}
 use Rattle.wp_merge.specs.Merge.{AreMerged, first_at, joined, sorted_of, merge_of, weave, choose_by_order}
 use Rattle.wp_merge.proofs.Merged.{or_none}
-use Rattle.wp_merge.proofs.Sorted.{at_sorted, in_order_sorted, merged_sorted}
-use Rattle.wp_open.proofs.Later.{at_append}
+use Rattle.wp_merge.proofs.Sorted.{at_append, at_sorted, in_order_sorted, merged_sorted}
 use Rattle.wp_store.specs.Store.{parts_above}
 use Rattle.wp_core.specs.Entries.{HasVersionsAt}
 use Rattle.wp_parts.specs.Stock.{HasNoneAt}

@@ -10,8 +10,7 @@ use Rattle.wp_model.specs.History.{undecided}
 use Rattle.wp_model.specs.Versions.{version_at}
 use Rattle.wp_cuts.specs.Cut.{cut_at}
 use Rattle.wp_merge.specs.Merge.{sorted_of}
-use Rattle.wp_merge.proofs.Sorted.{at_sorted}
-use Rattle.wp_open.proofs.Later.{at_append}
+use Rattle.wp_merge.proofs.Sorted.{at_append, at_sorted}
 use Rattle.wp_outside.specs.Disk.{IfKnown, Moment, Passes}
 use Rattle.wp_outside.specs.Faults.{Rose}
 use Rattle.wp_gatelog.specs.Moments.{Leaves}

@@ -3,7 +3,8 @@ use Rattle.std.specs.Arc.{arc_value}
 use Rattle.wp_model.specs.declared.version.Version.{Version}
 use Rattle.wp_model.specs.Versions.{version_at}
 use Rattle.wp_merge.specs.Merge.{joined}
-use Rattle.wp_cover.proofs.Places.{at_append, first_found, none_found, next_item}
+use Rattle.wp_merge.proofs.Sorted.{at_append}
+use Rattle.wp_cover.proofs.Places.{first_found, none_found, next_item}
 use Rattle.wp_cover.proofs.sources.version_in_tables.Goals as goal
 
 pub returns-then-is_some : goal.returns-then-is_some
