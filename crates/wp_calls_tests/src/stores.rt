@@ -11,6 +11,7 @@ use std::test::Fail;
 use wp_memory::MemDisk;
 use wp_model::{Name, Seq};
 use wp_open::{Parts, open_parts};
+use wp_opened::share;
 use wp_outside::{Disks, Peek};
 use wp_shared::{Seat, Shared};
 
@@ -54,7 +55,7 @@ fn shared(alloc: Global, bits: u32) -> Result<(Shared<MemDisk>, Seat<MemDisk>), 
     ensures free { IfOk result (λ r. IsFree r.0.table r.1) }
     ensures first { IfOk result (λ r. (r.1.by ≡ 0) × (r.1.knows.joined ≡ []) × (r.1.knows.made ≡ 0) × (r.1.knows.participant.direct ≡ None)) }
 {
-    match Shared::new(alloc, name(alloc, b"a")?, parts(alloc)?, bits, MOST) {
+    match share(alloc, name(alloc, b"a")?, parts(alloc)?, bits, MOST) {
         Ok((store, seat)) => Ok((store, seat)),
         Err(_) => Err(Fail::from(NO_MEMORY)),
     }

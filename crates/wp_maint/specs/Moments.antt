@@ -6,7 +6,7 @@ use Rattle.wp_model.specs.Flushed.{InstalledEdit}
 use Rattle.wp_cuts.specs.Cut.{Cut, IsCut}
 use Rattle.wp_outside.specs.Disk.{Moment, images}
 use Rattle.wp_wal.specs.Spelling.{IsLogAt}
-use Rattle.wp_open.specs.Opens.{OpensTo}
+use Rattle.wp_shared.specs.Opens.{OpensTo}
 use Rattle.wp_core.specs.Images.{MaySpell}
 use Rattle.wp_core.specs.Runs.{Reaches}
 use Rattle.wp_core.specs.Sound.Actors.{StartsWith}

@@ -16,7 +16,7 @@ use Rattle.wp_gatelog.specs.Moments.{Leaves}
 use Rattle.wp_manifest.specs.Edit.{Edit}
 use Rattle.wp_manifest.specs.Spelling.{IsManifestOf, last_edit}
 use Rattle.wp_merge.specs.Merge.{joined, sorted_of}
-use Rattle.wp_open.specs.Opens.{installed_of}
+use Rattle.wp_shared.specs.Opens.{installed_of}
 use Rattle.wp_replies.specs.Tables.{unflushed, after_renewal}
 use Rattle.wp_table.specs.File.{HasTables}
 use Rattle.wp_table.specs.Table.{is_numbered, is_flushed}

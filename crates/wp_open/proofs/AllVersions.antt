@@ -13,7 +13,7 @@ use Rattle.wp_cuts.specs.LegalCut.{AreBelow, AreNumbered}
 use Rattle.wp_manifest.specs.Edit.{Edit}
 use Rattle.wp_merge.specs.Merge.{joined}
 use Rattle.wp_merge.proofs.Sorted.{at_append, at_sorted}
-use Rattle.wp_open.specs.Opens.{AreCovering, all_in, history_over}
+use Rattle.wp_devices.specs.Opens.{AreCovering, all_in, history_over}
 use Rattle.wp_open.proofs.Base.{base_covered}
 
 -- ---- what covers a history hangs on look-ups alone

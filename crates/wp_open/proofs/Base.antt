@@ -28,7 +28,7 @@ use Rattle.wp_cover.specs.Sources.{AreSettled, is_settled}
 use Rattle.wp_cover.proofs.Places.{none_later, or_none}
 use Rattle.wp_merge.specs.Merge.{joined}
 use Rattle.wp_merge.proofs.Sorted.{at_append, at_sorted, in_order_sorted}
-use Rattle.wp_open.specs.Opens.{all_in, history_over}
+use Rattle.wp_devices.specs.Opens.{all_in, history_over}
 
 -- ---- a base
 

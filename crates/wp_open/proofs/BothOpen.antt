@@ -22,7 +22,7 @@ use Rattle.wp_open.specs.declared.bad.Bad.TheVariants as bad
 use Rattle.wp_open.specs.declared.opening.OpenError.{OpenError}
 use Rattle.wp_open.specs.declared.opening.OpenError.TheVariants as open_error
 use Rattle.wp_open.specs.Damage.{IsOther}
-use Rattle.wp_open.specs.Devices.{DevicesLeft}
+use Rattle.wp_devices.specs.Devices.{DevicesLeft}
 use Rattle.wp_open.specs.Parts.{LogsOpened, stored_cut}
 use Rattle.wp_open.specs.Refused.{WasRead, WereRead, of_manifest, of_log, of_place, of_ids, of_edit, IsLogReason, IsManifestReason, IsLogLeft, IsManifestLeft, IsManifestSeen, AreLeft, at_manifest, at_log, at_new_manifest, at_place, at_ids, IsRefusedFrom}
 use Rattle.wp_open.specs.Tables.{IsStoreCause, LeavesSynced}

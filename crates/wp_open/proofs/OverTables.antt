@@ -27,7 +27,7 @@ use Rattle.wp_open.specs.declared.bad.Bad.{Bad}
 use Rattle.wp_open.specs.declared.bad.Bad.TheVariants as bad
 use Rattle.wp_open.specs.declared.opening.OpenError.TheVariants as open_error
 use Rattle.wp_open.specs.Damage.{UndosRestore, IsWrongUndo, end_of, standing}
-use Rattle.wp_open.specs.Opens.{all_in, history_over}
+use Rattle.wp_devices.specs.Opens.{all_in, history_over}
 use Rattle.wp_open.specs.Standing.{IsOverCause, Leaves, fits, is_under}
 use Rattle.wp_open.specs.Tables.{IsHistoryCause}
 use Rattle.wp_open.proofs.Base.{same_settled}

@@ -12,7 +12,7 @@ use Rattle.wp_cuts.specs.Cut.{Cut}
 use Rattle.wp_cuts.specs.LegalCut.{AreNumbered}
 use Rattle.wp_manifest.specs.Edit.{Edit}
 use Rattle.wp_cover.proofs.Places.{none_later, own_later}
-use Rattle.wp_open.specs.Opens.{AreCovering, history_over}
+use Rattle.wp_devices.specs.Opens.{AreCovering, history_over}
 use Rattle.wp_open.proofs.Base.{base_covered}
 
 own_version : (history : List Entry) (key : List ℕ) (p : ℕ) → version_at (later_versions history 0) key p ≡ entry_version history p key

@@ -8,7 +8,7 @@ use Rattle.wp_cuts.specs.Cut.{Cut}
 use Rattle.wp_ledger.specs.History.{RoomyHistory}
 use Rattle.wp_ledger.specs.Outline.{RestoreUpTo, IsFirstWrong}
 use Rattle.wp_open.specs.Damage.{IsWrongUndo, standing}
-use Rattle.wp_open.specs.Opens.{history_over}
+use Rattle.wp_devices.specs.Opens.{history_over}
 
 pub legal_restores : (h : RoomyHistory) (m : ℕ) → IsLegal h.entries → RestoreUpTo h m
 legal_restores h m legal n entry from lt there = (legal.each n entry there).restores_prior

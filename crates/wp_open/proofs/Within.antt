@@ -13,7 +13,7 @@ use Rattle.wp_open.specs.declared.bad.Bad.TheVariants as bad
 use Rattle.wp_open.specs.declared.opening.OpenError.{OpenError}
 use Rattle.wp_open.specs.declared.opening.OpenError.TheVariants as open_error
 use Rattle.wp_open.specs.Damage.{IsWithin, UndosRestore, end_of, standing}
-use Rattle.wp_open.specs.Opens.{all_in, history_over}
+use Rattle.wp_devices.specs.Opens.{all_in, history_over}
 use Rattle.wp_open.specs.Refused.{IsApart}
 use Rattle.wp_open.specs.Tables.{IsHistoryCause, IsStoreCause, ahead, behind, of_tables, not_legal, not_covered, LeavesSynced, WereTables}
 use Rattle.wp_open.proofs.Undos.{legal_restores}

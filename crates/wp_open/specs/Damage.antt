@@ -21,7 +21,7 @@ use Rattle.wp_table.specs.File.{HasTables}
 use Rattle.wp_table.specs.Table.{SpellsTable}
 use Rattle.wp_open.specs.declared.bad.Bad.{Bad}
 use Rattle.wp_open.specs.declared.bad.Bad.TheVariants as bad
-use Rattle.wp_open.specs.Opens.{AreCovering, history_over}
+use Rattle.wp_devices.specs.Opens.{AreCovering, history_over}
 
 -- ---- the manifest
 

@@ -1,9 +1,7 @@
-pub mod Opens
 pub mod Damage
 pub mod Tables
 pub mod Parts
 pub mod Refused
 pub mod Shown
-pub mod Devices
 pub mod Standing
 pub mod Logs

@@ -16,7 +16,7 @@ use Rattle.wp_open.specs.declared.bad.Bad.TheVariants as bad
 use Rattle.wp_open.specs.declared.opening.OpenError.{OpenError}
 use Rattle.wp_open.specs.declared.opening.OpenError.TheVariants as open_error
 use Rattle.wp_open.specs.Damage.{HasTableFault, IsFirstBadTable, IsOwnFault, end_of, IsWithin, UndosRestore, IsWrongUndo}
-use Rattle.wp_open.specs.Opens.{AreCovering, all_in}
+use Rattle.wp_devices.specs.Opens.{AreCovering, all_in}
 use Rattle.wp_open.specs.Shown.{Sometime, WereShown}
 
 -- ---- why

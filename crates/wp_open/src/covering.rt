@@ -5,7 +5,7 @@ ghost use Rattle.wp_cuts.specs.Cut.{IsCut};
 ghost use Rattle.wp_cuts.specs.LegalCut.{AreBelow};
 ghost use Rattle.wp_manifest.specs.Edit.{Edit};
 ghost use Rattle.wp_ledger.specs.Outline.{cut_in};
-ghost use Rattle.wp_open.specs.Opens.{AreCovering, all_in, history_over};
+ghost use Rattle.wp_devices.specs.Opens.{AreCovering, all_in, history_over};
 
 use std::alloc::{AllocError, Global};
 use wp_cover::tables_cover;

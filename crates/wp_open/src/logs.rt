@@ -6,7 +6,7 @@ ghost use Rattle.wp_cuts.specs.LegalCut.{prepares_of};
 ghost use Rattle.wp_manifest.specs.Edit.{place_of};
 ghost use Rattle.wp_manifest.specs.Opening.{IsUnopenedManifest};
 ghost use Rattle.wp_manifest.specs.Spelling.{MAGIC, head_stamp};
-ghost use Rattle.wp_open.specs.Devices.{devices_of};
+ghost use Rattle.wp_devices.specs.Devices.{devices_of};
 ghost use Rattle.wp_open.specs.Parts.{LogsOpened};
 ghost use Rattle.wp_open.specs.Refused.{IsRefusedFrom};
 ghost use Rattle.wp_open.specs.Logs.{WasMade};

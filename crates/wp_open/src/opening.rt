@@ -7,7 +7,7 @@ ghost use Rattle.wp_cuts.specs.LegalCut.{prepares_of};
 ghost use Rattle.wp_ledger.specs.Outline.{cut_in};
 ghost use Rattle.wp_table.specs.File.{HasTables};
 ghost use Rattle.wp_table.specs.Table.{IsTable};
-ghost use Rattle.wp_open.specs.Devices.{devices_of};
+ghost use Rattle.wp_devices.specs.Devices.{devices_of};
 ghost use Rattle.wp_open.specs.Tables.{IsStoreCause, LeavesSynced};
 ghost use Rattle.wp_open.specs.Parts.{IsStoreOf, PartsOpened, ArePartsOf};
 ghost use Rattle.wp_open.specs.Refused.{IsRefusedFrom, IsApart};

@@ -8,7 +8,7 @@ ghost use Rattle.wp_cuts.specs.LegalCut.{AreBelow, AreNumbered, prepares_of};
 ghost use Rattle.wp_ledger.specs.History.{HasBaseValues, IsStore};
 ghost use Rattle.wp_ledger.specs.Outline.{cut_in};
 ghost use Rattle.wp_cover.specs.Sources.{is_settled};
-ghost use Rattle.wp_open.specs.Opens.{all_in, history_over};
+ghost use Rattle.wp_devices.specs.Opens.{all_in, history_over};
 ghost use Rattle.wp_open.specs.Standing.{Leaves, IsOverCause, fits, is_under};
 ghost use Rattle.wp_open.specs.Tables.{IsHistoryCause};
 

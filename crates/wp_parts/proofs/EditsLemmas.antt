@@ -7,7 +7,7 @@ use Rattle.wp_outside.specs.Disk.{images}
 use Rattle.wp_gatelog.proofs.SurvivalLemmas.{rest_spells}
 use Rattle.wp_manifest.specs.Spelling.{MAGIC, IsManifestOf, head_stamp}
 use Rattle.wp_manifest.proofs.EditLemmas.{last-push}
-use Rattle.wp_open.specs.Opens.{installed_of}
+use Rattle.wp_devices.specs.Opens.{installed_of}
 use Rattle.wp_table.specs.File.{HasTables}
 use Rattle.wp_core.specs.Images.{MayName}
 use Rattle.wp_parts.specs.Edits.{EditsState, failed_edit, IsNamed, IsEdits}

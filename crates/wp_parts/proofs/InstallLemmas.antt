@@ -18,7 +18,7 @@ use Rattle.wp_manifest.specs.Spelling.{MAGIC, last_edit, IsManifestOrNext}
 use Rattle.wp_merge.specs.Merge.{first_at, joined, sorted_of}
 use Rattle.wp_merge.proofs.Merged.{or_none}
 use Rattle.wp_merge.proofs.Sorted.{at_append, at_sorted, in_order_sorted, in_order_same}
-use Rattle.wp_open.specs.Opens.{installed_of}
+use Rattle.wp_devices.specs.Opens.{installed_of}
 use Rattle.wp_store.specs.Store.{with_newest}
 use Rattle.wp_table.specs.Table.{is_flushed}
 use Rattle.wp_tableset.specs.Changes.{compacted_parts, compacted_places, moved_edit, one_part, NewestIsWritten, NextInstalled, NextRefused, LosesNoTable}

@@ -6,6 +6,5 @@ pub mod EditsLemmas
 pub mod InstallLemmas
 pub mod LaterVersions
 pub mod Reopens
-pub mod OpeningLemmas
 pub mod Sent
 pub use Rattle.wp_merge.proofs.Sorted

@@ -9,7 +9,7 @@ use Rattle.wp_gatelog.specs.Durability.{LosesNoRecord}
 use Rattle.wp_manifest.specs.Edit.{Edit}
 use Rattle.wp_manifest.specs.Spelling.{MAGIC, IsManifestOf, last_edit}
 use Rattle.wp_merge.specs.Merge.{joined, sorted_of}
-use Rattle.wp_open.specs.Opens.{installed_of}
+use Rattle.wp_devices.specs.Opens.{installed_of}
 use Rattle.wp_parts.specs.declared.gone.Gone.{Gone}
 use Rattle.wp_parts.specs.declared.gone.Gone.TheVariants as gone
 use Rattle.wp_table.specs.File.{HasTables}

@@ -9,7 +9,7 @@ use Rattle.wp_gatelog.specs.Moments.{Leaves}
 use Rattle.wp_manifest.specs.Edit.{Edit, no_edit}
 use Rattle.wp_manifest.specs.Spelling.{last_edit, IsManifestOrNext}
 use Rattle.wp_merge.specs.Merge.{sorted_of}
-use Rattle.wp_open.specs.Opens.{installed_of}
+use Rattle.wp_devices.specs.Opens.{installed_of}
 use Rattle.wp_core.specs.Effects.{with_failed}
 use Rattle.wp_core.specs.Tables.{Installed}
 use Rattle.wp_tableset.specs.Set.{TableSetState, LeavesTables, StoresTables}

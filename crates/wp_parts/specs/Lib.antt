@@ -5,7 +5,7 @@ pub mod Installs
 pub mod Renewal
 pub mod Parts
 pub mod Devices
-pub mod Opening
+pub use Rattle.wp_devices.specs.Opens
 pub use Rattle.wp_cuts.specs.Agree
 pub use Rattle.wp_cuts.specs.Cut
 pub use Rattle.wp_table.specs.File

@@ -10,23 +10,22 @@
 //! were opened no fault was forgotten and nothing acknowledged was lost. A record is made pending with all the memory that its
 //! log and its history will need, since neither may be refused once an append has begun. An install takes its memory before the
 //! manifest is called, and what moves flushed versions from memory to tables takes none.
-//!
-//! `guard` puts the parts of an opened store behind the turns, which are then an opening world of the machine.
 #![tactic(auto)]
 
+mod apart;
 mod base;
 mod behind_turn;
 mod edits;
 mod gone;
 mod log;
-mod opening;
 mod part;
 mod stock;
 mod table_versions;
 
+pub use apart::take_apart;
 pub use behind_turn::BehindTurn;
 pub use edits::{Edits, ReadySegment};
 pub use log::Log;
-pub use opening::{delayed_flag, guard, take_apart};
 pub use part::Part;
 pub use stock::Stock;
+pub use table_versions::TableVersions;

@@ -13,11 +13,11 @@ use Rattle.wp_wal.specs.Wal.{WalState, LeavesCutOrNext, LosesNothingAt}
 use Rattle.wp_tableset.specs.Device.{KeepsFronts}
 use Rattle.wp_tableset.specs.Set.{TableSetState}
 use Rattle.wp_gatelog.specs.Durability.{LosesNoRecord}
-use Rattle.wp_open.specs.Opens.{AllKnown, OpensTo, installed_of}
+use Rattle.wp_shared.specs.Opens.{AllKnown, OpensTo, installed_of}
 use Rattle.wp_core.specs.Lists.{one_if}
-use Rattle.wp_shared.specs.Opening.{running_set}
+use Rattle.wp_opened.specs.Filled.{running_set}
 use Rattle.wp_shared.specs.Ended.{IsEnded}
-use Rattle.wp_shared.specs.OpenedFrom.{IsOpenedFrom}
+use Rattle.wp_opened.specs.OpenedFrom.{IsOpenedFrom}
 use Rattle.wp_shared.specs.Seats.{SharedState, SeatState}
 use Rattle.wp_replies.specs.Explains.{Faults}
 use Rattle.wp_threads.specs.Explained.{found_in, left_in, failed_in, faults_in}

@@ -10,7 +10,7 @@ use Rattle.wp_model.specs.declared.entry.Entry.{Entry}
 use Rattle.wp_model.specs.Flushed.{InstalledEdit}
 use Rattle.wp_open.specs.declared.opening.OpenError.{OpenError}
 use Rattle.wp_open.specs.declared.opening.OpenError.TheVariants as open_error
-use Rattle.wp_open.specs.Opens.{installed_of}
+use Rattle.wp_shared.specs.Opens.{installed_of}
 use Rattle.wp_text.specs.declared.script.Part.{Part}
 use Rattle.wp_text.specs.declared.reply.Reply.{Reply}
 use Rattle.wp_core.specs.Lists.{one_if}
@@ -24,7 +24,7 @@ use Rattle.wp_replies.specs.Exact.{IsExact}
 use Rattle.wp_replies.specs.Explains.{Faults, Explains}
 use Rattle.wp_replies.specs.Replies.{Limits}
 use Rattle.wp_replies.specs.Kind.{is_fault, is_tables_fault}
-use Rattle.wp_shared.specs.OpenedFrom.{IsOpenedFrom}
+use Rattle.wp_opened.specs.OpenedFrom.{IsOpenedFrom}
 use Rattle.wp_shared.specs.Seats.{SharedState, SeatState, place_at}
 use Rattle.wp_threads.specs.Explained.{found_in, left_in, failed_in, faults_in, HaveRun}
 use Rattle.wp_threads.specs.New.{first_seat, IsFirst}

@@ -6,7 +6,7 @@ use Rattle.wp_model.specs.Legal.{IsLegal}
 use Rattle.wp_args.specs.declared.choice.Action.{Action}
 use Rattle.wp_text.specs.declared.script.Part.{Part}
 use Rattle.wp_text.specs.declared.reply.Reply.{Reply}
-use Rattle.wp_open.specs.Opens.{AllKnown, OpensTo}
+use Rattle.wp_shared.specs.Opens.{AllKnown, OpensTo}
 use Rattle.wp_replies.specs.Explains.{Faults, AreSessions, all_replies}
 use Rattle.wp_replies.specs.Kind.{acknowledged}
 use Rattle.wp_replies.specs.Known.{StoredState}

@@ -5,7 +5,7 @@ use Rattle.wp_outside.specs.declared.disk.Disks.{Disks}
 use Rattle.wp_gatelog.specs.Durability.{LosesNoRecord}
 use Rattle.wp_manifest.specs.Spelling as edits
 use Rattle.wp_tableset.specs.Device.{KeepsFronts}
-use Rattle.wp_open.specs.Devices.{DevicesLeft}
+use Rattle.wp_shared.specs.Devices.{DevicesLeft}
 
 pub record DiskUse : Type 1 where
   pub before : List Moment

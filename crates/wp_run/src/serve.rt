@@ -17,8 +17,8 @@ use std::sync::Wait;
 use std::thread::Threads;
 use wp_args::{Action, Choice};
 use wp_open::{OpenError, OpenRefused};
+use wp_opened::open_shared;
 use wp_outside::{Disk, Disks, Gate, Sink};
-use wp_shared::Shared;
 use wp_text::Part;
 use wp_threads::{ScriptRun, run_script};
 
@@ -101,7 +101,7 @@ pub(crate) fn serve<R: Threads + Wait + Sync, D: Disk + Drop + Send, K: Sink, G:
 {
     shows_reading(&disks);
     let Seating { client, room } = seating;
-    match Shared::open(alloc, client, disks, choice.bits, choice.limit, choice.id) {
+    match open_shared(alloc, client, disks, choice.bits, choice.limit, choice.id) {
         Ok((store, first)) => {
             let run = run_script(rt, alloc, store, first, gate, parts, room);
             finish(alloc, choice.action, parts, run, sink)

@@ -36,7 +36,7 @@ use Rattle.wp_core.proofs.Tests.{same_some}
 use Rattle.wp_rule.specs.Shows.{IsPart, Leaves, WasLast}
 use Rattle.wp_parts.specs.Log.{LogState, IsLog}
 use Rattle.wp_parts.specs.Edits.{EditsState, IsEdits}
-use Rattle.wp_open.specs.Opens.{installed_of}
+use Rattle.wp_parts.specs.Opens.{installed_of}
 use Rattle.wp_parts.specs.Parts.{content, tells, IsGuardedBy}
 use Rattle.wp_parts.specs.declared.part.Part.{Part}
 use Rattle.wp_parts.specs.declared.part.Part.TheVariants as part

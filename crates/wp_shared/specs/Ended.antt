@@ -17,7 +17,7 @@ use Rattle.wp_parts.specs.Agree.{HaveSameValues}
 use Rattle.wp_parts.specs.Cut.{Cut, IsCut, cut_at}
 use Rattle.wp_parts.specs.Device.{KeepsFronts}
 use Rattle.wp_parts.specs.Set.{TableSetState}
-use Rattle.wp_open.specs.Opens.{OpensTo}
+use Rattle.wp_parts.specs.Opens.{OpensTo}
 use Rattle.wp_core.specs.Images.{MaySpell, MayName}
 use Rattle.wp_core.specs.Tables.{WriteTable, Installed}
 use Rattle.wp_core.specs.World.{Participant}

@@ -1,7 +1,6 @@
 pub mod Opening
 pub mod Seats
 pub mod Limits
-pub mod OpenedFrom
 pub mod Notes
 pub mod Turns
 pub mod Clients
@@ -16,3 +15,4 @@ pub use Rattle.wp_parts.specs.Installs
 pub use Rattle.wp_parts.specs.Renewal
 pub use Rattle.wp_parts.specs.Parts
 pub use Rattle.wp_parts.specs.Devices
+pub use Rattle.wp_parts.specs.Opens

@@ -8,7 +8,6 @@ use Rattle.wp_wal.specs.Wal.{WalState}
 use Rattle.wp_parts.specs.declared.part.Part.{Part}
 use Rattle.wp_rule.specs.Shows.{WasLast}
 use Rattle.wp_parts.specs.Parts.{content, log_first, set_first}
-pub use Rattle.wp_parts.specs.Opening.{running_set}
 
 -- The values behind the turns were those of one store: its log, and its tables under the log's id, whose last edit names the log's
 -- segment. Its base is within the history that was opened, and there is no undo.

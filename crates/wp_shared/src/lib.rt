@@ -5,7 +5,7 @@
 //! threads go on meanwhile; it says what the seat knows: the actor of the machine of `wp_core` that makes the seat's steps, as
 //! an equation, and that a sound world stands behind it.
 //!
-//! - `Shared::new`: the parts of an opened store go behind the turns, and the first seat is made.
+//! - `Shared::new`: the values go behind the turns as they were opened, and the first seat is made.
 //! - `Shared::take_turn`, `take_log` and `give_turn`: a turn with the value behind it. A value goes home as its holder left the
 //!   turn's table.
 //! - `Shared::published`, `max`, `word`, and in `steps` every load and store for the crates above, whose calls are made of them.
@@ -13,7 +13,7 @@
 //! - `Shared::seat` and `finish`: the first seat makes the others, and at the end all are handed in for the history and the devices.
 //!   What each seat did and found is accounted for then, and whatever a crash leaves of the devices opens.
 //!
-//! `take_turn` and `take_log` alone wait, and `new` and `open` alone take memory.
+//! `take_turn` and `take_log` alone wait, and `new` alone takes memory.
 #![tactic(auto)]
 
 mod ending;

@@ -1,18 +1,12 @@
-//! A store that was opened, for clients to share.
-ghost use Rattle.std.specs.Prelude.{◌≡◌, ◌≤◌, ◌^◌, [], ℕ, List, Some, true, length, IfOk, IfErr};
+//! A store over what lies behind its turns.
+ghost use Rattle.std.specs.Prelude.{◌≡◌, ◌≤◌, ◌^◌, [], ℕ, true, length, IfOk, IfErr};
 ghost use Rattle.wp_fields.specs.declared.format.Format.TheVariants.{Two};
 ghost use Rattle.wp_entry.specs.Record.{last_number};
-ghost use Rattle.wp_outside.specs.Disk.{Moment};
-ghost use Rattle.wp_open.specs.Opens.{installed_of};
-ghost use Rattle.wp_open.specs.Parts.{PartsOpened};
-ghost use Rattle.wp_open.specs.Refused.{IsRefusedFrom};
 ghost use Rattle.wp_core.specs.World.{new_actor};
-ghost use Rattle.wp_rule.specs.Shows.{WasLast};
+ghost use Rattle.wp_rule.specs.Shows.{Founds};
 ghost use Rattle.wp_rule.specs.Words.{SawAll};
-ghost use Rattle.wp_parts.specs.Opening.{running_set};
-ghost use Rattle.wp_parts.specs.Parts.{content, log_first, set_first};
-ghost use Rattle.wp_parts.specs.Devices.{devices_of, devices_behind};
-ghost use Rattle.wp_shared.specs.OpenedFrom.{IsOpenedFrom};
+ghost use Rattle.wp_parts.specs.Parts.{content, tells};
+ghost use Rattle.wp_shared.specs.Opening.{IsOneStore};
 ghost use Rattle.wp_shared.specs.Seats.{place_at};
 
 use crate::seat::Seat;
@@ -20,84 +14,49 @@ use crate::shared::Shared;
 use std::alloc::Global;
 use std::snapshot::Snapshot;
 use wp_judge::count_words;
+use wp_ledger::History;
 use wp_model::{Name, Seq};
-use wp_open::{OpenError, OpenRefused, Parts, open_parts};
-use wp_outside::{Disk, Disks};
-use wp_parts::{BehindTurn, Edits, Log, delayed_flag, guard, take_apart};
+use wp_outside::Disk;
+use wp_parts::Part;
 use wp_rule::Words;
 
 impl<D: Disk + Drop> Shared<D> {
-    /// Shares an opened store, with a commit cache of as many words as the bits number. No entry gets a number above the limit. The
-    /// first seat is this client's, and has seen the history that was opened. Where memory is wanting the devices come back.
+    /// Shares what lies behind the turns of an opening world with this history, in their order, with a commit cache of as many words
+    /// as the bits number. No entry gets a number above the limit. The first seat is this client's, and has seen the history. Where
+    /// memory is wanting the values come back.
     pub fn new(
         alloc: Global,
         client: Name,
-        parts: Parts<D>,
+        history: Snapshot<History>,
+        published: Seq,
+        delayed_flag: u64,
+        slots: Vec<Part<D>>,
         bits: u32,
         limit: Seq,
-    ) -> Result<(Shared<D>, Seat<D>), Disks<D>>
-        requires opened { (asked : ℕ) × (log : List Moment) × (manifest : List Moment) × (tables : List Moment)
-            × PartsOpened asked log manifest tables parts.wal parts.history.entries parts.manifest (D.moments parts.tables) parts.store }
-        requires base { parts.history.base ≡ parts.wal.segment.base }
+    ) -> Result<(Shared<D>, Seat<D>), Vec<Part<D>>>
+        requires published { published ≡ length history.value.entries }
+        requires founds { (cells : ℕ) → 1 ≤ cells → Founds content (tells slots.items) client history.value.entries cells delayed_flag slots.items }
+        requires store { IsOneStore history.value.entries slots.items }
         requires bits { bits ≤ 16 }
         requires limit { (1 ≤ limit) × (limit ≤ last_number Two) }
-        ensures store { IfOk result (λ r. (r.0.opened ≡ parts.history.entries) × (r.0.cells ≡ 2 ^ bits) × (r.0.limit ≡ limit)) }
-        ensures log { IfOk result (λ r. log_first r.0.first ≡ Some parts.wal) }
-        ensures set { IfOk result (λ r. set_first r.0.first ≡ Some (running_set parts.manifest (D.moments parts.tables) (D.faults parts.tables))) }
-        ensures last_edit { IfOk result (λ r. WasLast content r.0.first (installed_of parts.wal.segment.base parts.manifest.edit parts.store.tables)) }
-        ensures seat { IfOk result (λ r. r.1 ≡ record { table = r.0.table; by = 0; knows = new_actor true client parts.history.entries; turns = [] }) }
-        ensures stands { IfOk result (λ r. SawAll (place_at r.0 0) r.1.knows (length parts.history.entries)) }
-        ensures refused { IfErr result (λ disks. devices_of D.moments D.faults disks ≡ devices_behind parts.wal (running_set parts.manifest (D.moments parts.tables) (D.faults parts.tables))) }
+        ensures store { IfOk result (λ r. (r.0.opened ≡ history.value.entries) × (r.0.cells ≡ 2 ^ bits) × (r.0.limit ≡ limit)) }
+        ensures first { IfOk result (λ r. r.0.first ≡ slots.items) }
+        ensures seat { IfOk result (λ r. r.1 ≡ record { table = r.0.table; by = 0; knows = new_actor true client history.value.entries; turns = [] }) }
+        ensures stands { IfOk result (λ r. SawAll (place_at r.0 0) r.1.knows (length history.value.entries)) }
+        ensures refused { IfErr result (λ back. back.items ≡ slots.items) }
     {
-        let entries = Snapshot::of(&parts.history);
-        let published = parts.history.published();
-        let flag = delayed_flag(&parts.history);
-        let slots = match guard(alloc, parts) {
-            Ok(slots) => slots,
-            Err(disks) => return Err(disks),
-        };
         let cells = count_words(bits) as usize;
-        match Words::new(alloc, &client, entries, published, cells, flag, slots) {
+        match Words::new(
+            alloc,
+            &client,
+            history,
+            published,
+            cells,
+            delayed_flag,
+            slots,
+        ) {
             Ok((words, seat)) => Ok((Shared { words, bits, limit }, Seat { seat, client })),
-            Err(mut slots) => {
-                let tables = Box::into_inner(Edits::out_of(slots.remove(5)));
-                let log = Box::into_inner(Log::out_of(slots.remove(0)));
-                Err(take_apart(log, tables).1)
-            }
-        }
-    }
-
-    /// Opens the log, the manifest and the tables of a store, and shares it. Where no log was made it makes one, with this id,
-    /// and likewise a manifest, with the log's. There are as many words in the commit cache as the bits number, and no entry gets
-    /// a number above the limit. The first seat is this client's, and has seen the history that was opened. The devices come back
-    /// with a refusal, of which want of memory may also come once all of them are read.
-    pub fn open(
-        alloc: Global,
-        client: Name,
-        disks: Disks<D>,
-        bits: u32,
-        limit: Seq,
-        id: u32,
-    ) -> Result<(Shared<D>, Seat<D>), OpenRefused<D>>
-        requires bits { bits ≤ 16 }
-        requires limit { (1 ≤ limit) × (limit ≤ last_number Two) }
-        ensures store { IfOk result (λ r. (r.0.cells ≡ 2 ^ bits) × (r.0.limit ≡ limit)) }
-        ensures opened { IfOk result (λ r. IsOpenedFrom id (devices_of D.moments D.faults disks) r.0) }
-        ensures seat { IfOk result (λ r. r.1 ≡ record { table = r.0.table; by = 0; knows = new_actor true client r.0.opened; turns = [] }) }
-        ensures stands { IfOk result (λ r. SawAll (place_at r.0 0) r.1.knows (length r.0.opened)) }
-        ensures refused { IfErr result (λ refused. IsRefusedFrom id (refused.disks.log ≡ disks.log) (refused.disks.tables ≡ disks.tables)
-            (devices_of D.moments D.faults disks) (devices_of D.moments D.faults refused.disks) refused.why) }
-    {
-        let parts = match open_parts(alloc, disks, id) {
-            Ok(parts) => parts,
-            Err(refused) => return Err(refused),
-        };
-        match Shared::new(alloc, client, parts, bits, limit) {
-            Ok(opened) => Ok(opened),
-            Err(disks) => Err(OpenRefused {
-                disks,
-                why: OpenError::Memory,
-            }),
+            Err(slots) => Err(slots),
         }
     }
 }

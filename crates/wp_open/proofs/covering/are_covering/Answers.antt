@@ -11,7 +11,7 @@ use Rattle.wp_cuts.proofs.Standing.{cut_numbered}
 use Rattle.wp_ledger.specs.Outline.{cut_in}
 use Rattle.wp_merge.specs.Merge.{joined}
 use Rattle.wp_cover.specs.Sources.{AreSettled}
-use Rattle.wp_open.specs.Opens.{AreCovering, history_over}
+use Rattle.wp_devices.specs.Opens.{AreCovering, history_over}
 use Rattle.wp_open.proofs.AllVersions.{covering_is}
 use Rattle.wp_open.proofs.Base.{settled_own}
 use Rattle.wp_open.proofs.OwnVersions.{all_in_memory}

@@ -9,7 +9,7 @@ use Rattle.wp_manifest.specs.Edit.{Edit, place_of}
 use Rattle.wp_manifest.specs.Spelling.{last_edit}
 use Rattle.wp_table.specs.File.{HasTables}
 use Rattle.wp_table.specs.Table.{IsTable}
-use Rattle.wp_open.specs.Devices.{DevicesLeft, devices_of}
+use Rattle.wp_devices.specs.Devices.{DevicesLeft, devices_of}
 use Rattle.wp_open.specs.Parts.{IsStoreOf}
 use Rattle.wp_open.specs.Refused.{AreLeft, WereRead}
 use Rattle.wp_open.specs.Tables.{IsStoreCause}

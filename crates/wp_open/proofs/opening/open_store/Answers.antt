@@ -8,7 +8,7 @@ use Rattle.wp_cuts.specs.LegalCut.{AreBelow}
 use Rattle.wp_ledger.specs.Outline.{cut_in}
 use Rattle.wp_manifest.specs.Edit.{Edit}
 use Rattle.wp_merge.specs.Merge.{sorted_of}
-use Rattle.wp_open.specs.Opens.{AreCovering, all_in}
+use Rattle.wp_devices.specs.Opens.{AreCovering, all_in}
 use Rattle.wp_open.specs.Tables.{not_covered}
 use Rattle.wp_open.proofs.Stages.{not_covering, were_tables}
 use Rattle.wp_open.proofs.Within.{apart_cause, apart_left, end_over, full_moved, history_cause, history_left, undos_over}

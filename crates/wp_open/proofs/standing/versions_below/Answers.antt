@@ -6,7 +6,7 @@ use Rattle.wp_model.proofs.VersionLists.{in_order_nil}
 use Rattle.wp_cuts.proofs.Standing.{cut_numbered}
 use Rattle.wp_ledger.specs.Outline.{cut_in}
 use Rattle.wp_merge.specs.Merge.{AreMerged}
-use Rattle.wp_open.specs.Opens.{all_in}
+use Rattle.wp_devices.specs.Opens.{all_in}
 use Rattle.wp_open.proofs.Base.{has_cut}
 use Rattle.wp_open.proofs.standing.versions_below.Goals as goal
 

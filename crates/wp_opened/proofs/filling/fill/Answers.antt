@@ -1,7 +1,7 @@
 use Rattle.std.proofs.Common.{arith, subst}
 use Rattle.wp_parts.specs.Log.{LogState}
 use Rattle.wp_parts.specs.Parts.{LogStands}
-use Rattle.wp_parts.proofs.opening.fill.Goals as goal
+use Rattle.wp_opened.proofs.filling.fill.Goals as goal
 
 pub unwrap-requires : goal.unwrap-requires
 unwrap-requires g c = c.push.ensures.succeeds (omega (arith, c.requires.slots.1))

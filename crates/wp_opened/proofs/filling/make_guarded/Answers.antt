@@ -1,7 +1,7 @@
 use Rattle.wp_parts.proofs.FlushedVersions.{tables_flushed}
 use Rattle.wp_open.specs.Parts.{stored_cut}
-use Rattle.wp_parts.proofs.OpeningLemmas.{has_cut, rests}
-use Rattle.wp_parts.proofs.opening.make_guarded.Goals as goal
+use Rattle.wp_opened.proofs.OpeningLemmas.{has_cut, rests}
+use Rattle.wp_opened.proofs.filling.make_guarded.Goals as goal
 
 pub new-edits-requires-clause-stores : goal.new-edits-requires-clause-stores
 new-edits-requires-clause-stores g c =

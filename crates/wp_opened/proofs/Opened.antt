@@ -6,7 +6,7 @@ use Rattle.std.specs.List.{remove}
 use Rattle.wp_model.specs.declared.entry.Entry.{Entry}
 use Rattle.wp_model.specs.Flushed.{InstalledEdit}
 use Rattle.wp_outside.specs.Disk.{Moment}
-use Rattle.wp_parts.proofs.OpeningLemmas.{is_within}
+use Rattle.wp_opened.proofs.OpeningLemmas.{is_within}
 use Rattle.wp_parts.specs.Cut.{Cut, IsCut, cut_at}
 use Rattle.wp_parts.specs.Store.{StoreParts}
 use Rattle.wp_parts.specs.Set.{TableSetState}
@@ -18,7 +18,7 @@ use Rattle.wp_manifest.specs.Edit.{place_of}
 use Rattle.wp_manifest.specs.Manifest.{ManifestState}
 use Rattle.wp_manifest.specs.Spelling.{last_edit}
 use Rattle.wp_open.specs.Damage.{IsWithin}
-use Rattle.wp_open.specs.Opens.{AllKnown, installed_of}
+use Rattle.wp_parts.specs.Opens.{AllKnown, installed_of}
 use Rattle.wp_open.specs.Parts.{PartsOpened, ArePartsOf, LogsOpened, stored_cut}
 use Rattle.wp_open.specs.Refused.{of_manifest, AreLeft, IsLeft, at_tables, IsRefusedFrom}
 use Rattle.wp_open.specs.declared.opening.OpenError.TheVariants as open_error
@@ -29,17 +29,17 @@ use Rattle.wp_rule.specs.Shows.{WasLast}
 use Rattle.wp_rule.specs.Words.{first_edit_of}
 use Rattle.wp_parts.specs.Log.{LogState}
 use Rattle.wp_parts.specs.Edits.{EditsState}
-use Rattle.wp_parts.specs.Opening.{AreFilled, running_set}
+use Rattle.wp_opened.specs.Filled.{AreFilled, running_set}
 use Rattle.wp_parts.specs.Parts.{content, log_first, set_first, IsGuardedBy}
 use Rattle.wp_parts.specs.declared.part.Part.{Part}
 use Rattle.wp_parts.specs.declared.part.Part.TheVariants as part
 use Rattle.wp_parts.specs.Devices.{DevicesLeft, devices_behind}
 use Rattle.wp_shared.specs.Opening.{IsOneStore}
 
-pub one_store : {D : Type 0} (opened history : List Entry) (first slots : List (Part D)) (wal : WalState) (set : TableSetState) (edit : InstalledEdit) → opened ≡ history → first ≡ slots → log_first slots ≡ Some wal → set_first slots ≡ Some set
-    → WasLast content slots edit → set.manifest.log.id ≡ wal.id → wal.id < 2 ^ 32 → edit.segment ≡ wal.segment → IsCut history (cut_at history edit.segment.base) → IsOneStore opened first
-one_store {D} opened history first slots wal set edit same_history same log tables last id fits segment cut =
-    subst (λ (x : List Entry × List (Part D)). IsOneStore x.0 x.1) (λ i. (sym same_history i, sym same i))
+pub one_store : {D : Type 0} (opened history : List Entry) (slots : List (Part D)) (wal : WalState) (set : TableSetState) (edit : InstalledEdit) → opened ≡ history → log_first slots ≡ Some wal → set_first slots ≡ Some set
+    → WasLast content slots edit → set.manifest.log.id ≡ wal.id → wal.id < 2 ^ 32 → edit.segment ≡ wal.segment → IsCut history (cut_at history edit.segment.base) → IsOneStore opened slots
+one_store opened history slots wal set edit same log tables last id fits segment cut =
+    subst (λ (x : List Entry). IsOneStore x slots) (sym same)
     (record { wal = wal; set = set; log = log; tables = tables; id = id; id_fits = fits; edit = edit; last = last; segment = segment; based = cut.within; whole = cut.whole })
 
 -- the last edit of an opened manifest names the segment of the log that was opened

@@ -36,7 +36,7 @@ use Rattle.wp_merge.proofs.Merged.{or_none}
 use Rattle.wp_merge.proofs.Sorted.{at_append, at_sorted}
 use Rattle.wp_open.specs.Damage.{IsWithin}
 use Rattle.wp_open.specs.Parts.{PartsOpened, stored_cut}
-use Rattle.wp_open.specs.Opens.{installed_of}
+use Rattle.wp_parts.specs.Opens.{installed_of}
 use Rattle.wp_store.specs.Store.{StoreParts}
 use Rattle.wp_table.specs.File.{HasTables}
 use Rattle.wp_tableset.specs.Set.{RestsWith}
@@ -57,7 +57,7 @@ use Rattle.wp_rule.specs.Shows.{Founds, IsPart}
 use Rattle.wp_parts.specs.Log.{LogState, log_state, open_ending}
 use Rattle.wp_parts.specs.Stock.{StockState, store_table}
 use Rattle.wp_parts.specs.Edits.{EditsState, edits_state}
-use Rattle.wp_parts.specs.Opening.{AreFilled, IsFlagOf, running_set}
+use Rattle.wp_opened.specs.Filled.{AreFilled, IsFlagOf, running_set}
 use Rattle.wp_parts.specs.Parts.{content, LogStands, EditsStand, tells}
 use Rattle.wp_parts.specs.declared.part.Part.{Part}
 use Rattle.wp_parts.specs.declared.part.Part.TheVariants as part

@@ -7,23 +7,19 @@ ghost use Rattle.wp_open.specs.Parts.{PartsOpened};
 ghost use Rattle.wp_history.specs.Opened.{AreOpened};
 ghost use Rattle.wp_rule.specs.Shows.{Founds};
 ghost use Rattle.wp_parts.specs.Devices.{devices_of, devices_behind};
-ghost use Rattle.wp_parts.specs.Edits.{IsEdits, edits_state};
-ghost use Rattle.wp_parts.specs.Log.{IsLog, log_state, open_ending};
-ghost use Rattle.wp_parts.specs.Opening.{AreDelayed, AreFilled, IsFlagOf, running_set};
+ghost use Rattle.wp_parts.specs.Edits.{edits_state};
+ghost use Rattle.wp_parts.specs.Log.{log_state, open_ending};
 ghost use Rattle.wp_parts.specs.Parts.{content, tells, LogStands, EditsStand};
 ghost use Rattle.wp_parts.specs.declared.part.Part.TheVariants as part;
+ghost use Rattle.wp_opened.specs.Filled.{AreDelayed, AreFilled, IsFlagOf, running_set};
 
-use crate::edits::Edits;
-use crate::log::Log;
-use crate::part::Part;
-use crate::stock::Stock;
-use crate::table_versions::TableVersions;
 use std::alloc::{AllocError, Global};
 use std::sync::Arc;
 use wp_ledger::History;
 use wp_locks::Locks;
 use wp_open::Parts;
 use wp_outside::{Disk, Disks};
+use wp_parts::{Edits, Log, Part, Stock, TableVersions, take_apart};
 use wp_prepared::Prepared;
 use wp_snaps::Snaps;
 use wp_table::Table;
@@ -165,7 +161,10 @@ fn disks_of<D: Disk>(parts: Parts<D>) -> Disks<D>
 }
 
 /// Puts the parts of an opened store behind the turns, in their order. Where memory is wanting the devices come back.
-pub fn guard<D: Disk + Drop>(alloc: Global, parts: Parts<D>) -> Result<Vec<Part<D>>, Disks<D>>
+pub(crate) fn guard<D: Disk + Drop>(
+    alloc: Global,
+    parts: Parts<D>,
+) -> Result<Vec<Part<D>>, Disks<D>>
     requires opened { (asked : ℕ) × (log : List Moment) × (manifest : List Moment) × (tables : List Moment)
         × PartsOpened asked log manifest tables parts.wal parts.history.entries parts.manifest (D.moments parts.tables) parts.store }
     requires base { parts.history.base ≡ parts.wal.segment.base }
@@ -183,28 +182,8 @@ pub fn guard<D: Disk + Drop>(alloc: Global, parts: Parts<D>) -> Result<Vec<Part<
     }
 }
 
-/// The history and the devices of what lay behind the write turn and the tables turn.
-pub fn take_apart<D: Disk>(log: Log<D>, edits: Edits<D>) -> (History, Disks<D>)
-    ensures base { result.0.base ≡ log.first.segment.base }
-    ensures history { result.0.entries ≡ log.table.history }
-    ensures disks { devices_of D.moments D.faults result.1 ≡ devices_behind log.wal edits.set }
-    ensures log { IsLog log }
-    ensures edits { IsEdits edits }
-{
-    let (wal, history) = log.into_parts();
-    let devices = edits.into_disks();
-    (
-        history,
-        Disks {
-            log: wal.into_disk(),
-            manifest: devices.manifest,
-            tables: devices.tables,
-        },
-    )
-}
-
 /// The flag with which the words of a store begin: 0 where the history leaves nothing undecided, else 1.
-pub fn delayed_flag(history: &History) -> u64
+pub(crate) fn delayed_flag(history: &History) -> u64
     ensures { IsFlagOf history.now.entries result }
 {
     u64::from(!history.undecided().is_empty())

@@ -1,5 +1,5 @@
-use Rattle.wp_parts.proofs.OpeningLemmas.{undecided_rise}
-use Rattle.wp_parts.proofs.opening.room_for.Goals as goal
+use Rattle.wp_opened.proofs.OpeningLemmas.{undecided_rise}
+use Rattle.wp_opened.proofs.filling.room_for.Goals as goal
 
 pub delaying-requires : goal.delaying-requires
 delaying-requires g c = rw c.undecided.ensures (undecided_rise c.args.parts.now.history.entries)

@@ -1,5 +1,5 @@
-use Rattle.wp_parts.proofs.OpeningLemmas.{founds}
-use Rattle.wp_parts.proofs.opening.guard.Goals as goal
+use Rattle.wp_opened.proofs.OpeningLemmas.{founds}
+use Rattle.wp_opened.proofs.filling.guard.Goals as goal
 
 pub returns-in-Ok-make_guarded-clause-slots : goal.returns-in-Ok-make_guarded-clause-slots
 returns-in-Ok-make_guarded-clause-slots g c = let room = c.in-Ok.room in let made = c.in-Ok-make_guarded in record {

@@ -2,32 +2,32 @@ use Rattle.std.proofs.Common.{List, sym, subst}
 use Rattle.wp_model.specs.declared.entry.Entry.{Entry}
 use Rattle.wp_open.specs.Parts.{PartsOpened, ArePartsOf}
 use Rattle.wp_parts.specs.Devices.{DevicesLeft, devices_of}
-use Rattle.wp_shared.proofs.Opened.{refused_late}
-use Rattle.wp_shared.proofs.shared.Shared.open.Goals as goal
+use Rattle.wp_opened.proofs.Opened.{refused_late}
+use Rattle.wp_opened.proofs.opening.open_shared.Goals as goal
 
-pub new-requires-clause-opened : goal.new-requires-clause-opened
-new-requires-clause-opened g c = (c.args.id, g.D.Peek.moments c.args.disks.log, g.D.Peek.moments c.args.disks.manifest, g.D.Peek.moments c.args.disks.tables, c.in-Ok.ensures.opened)
+pub share-requires-clause-opened : goal.share-requires-clause-opened
+share-requires-clause-opened g c = (c.args.id, g.D.Peek.moments c.args.disks.log, g.D.Peek.moments c.args.disks.manifest, g.D.Peek.moments c.args.disks.tables, c.in-Ok.ensures.opened)
 
-pub returns-in-Ok-new-clause-opened : goal.returns-in-Ok-new-clause-opened
-returns-in-Ok-new-clause-opened g c =
+pub returns-in-Ok-share-clause-opened : goal.returns-in-Ok-share-clause-opened
+returns-in-Ok-share-clause-opened g c =
     let e = c.in-Ok.ensures in let parts = c.in-Ok.parts in
     let tables = g.D.Peek.moments parts.tables in
-    let same = sym c.in-Ok-new.ensures.store.0 in
+    let same = sym c.in-Ok-share.ensures.store.0 in
     let old : DevicesLeft = devices_of g.D.Peek.moments g.D.Peek.faults c.args.disks in record {
       wal = parts.wal;
       edits = parts.manifest;
       tables = tables;
       tables_faults = g.D.Peek.faults parts.tables;
       versions = parts.store;
-      log_is = c.in-Ok-new.ensures.log;
-      set_is = c.in-Ok-new.ensures.set;
-      last_is = c.in-Ok-new.ensures.last_edit;
+      log_is = c.in-Ok-share.ensures.log;
+      set_is = c.in-Ok-share.ensures.set;
+      last_is = c.in-Ok-share.ensures.last_edit;
       parts = subst (λ (h : List Entry). PartsOpened c.args.id old.log old.manifest old.tables parts.wal h parts.manifest tables parts.store) same e.opened;
       found = subst (λ (h : List Entry). ArePartsOf c.args.id old parts.wal h parts.manifest (g.D.Peek.faults parts.tables) parts.store) same e.found;
     }
 
-pub returns-in-Err-new-clause-refused : goal.returns-in-Err-new-clause-refused
-returns-in-Err-new-clause-refused g c =
+pub returns-in-Err-share-clause-refused : goal.returns-in-Err-share-clause-refused
+returns-in-Err-share-clause-refused g c =
     let e = c.in-Ok.ensures in let parts = c.in-Ok.parts in
     refused_late _ _ c.args.id (devices_of g.D.Peek.moments g.D.Peek.faults c.args.disks) _ parts.wal parts.history.entries parts.manifest (g.D.Peek.moments parts.tables) (g.D.Peek.faults parts.tables) parts.store
-    c.in-Err-new.ensures.refused e.opened e.found
+    c.in-Err-share.ensures.refused e.opened e.found
