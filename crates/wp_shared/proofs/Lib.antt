@@ -8,7 +8,7 @@ pub mod TakenTurns
 pub mod Clients
 pub mod OneStep
 pub mod Noting
-pub mod Opening
+pub mod OneStore
 pub mod Endings
 pub mod Ended
 pub mod Sent

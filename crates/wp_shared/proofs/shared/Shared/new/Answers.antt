@@ -1,5 +1,5 @@
 use Rattle.std.proofs.Common.{ℕ, ◌≤◌, subst, sym, ◌∙◌}
-use Rattle.wp_shared.proofs.Opening.{same_store}
+use Rattle.wp_shared.proofs.OneStore.{same_store}
 use Rattle.wp_shared.proofs.shared.Shared.new.Goals as goal
 
 pub new-requires-clause-parts : goal.new-requires-clause-parts
