@@ -1,5 +1,4 @@
 pub mod Keeping
-pub mod TextLemmas
 pub mod Whole
 pub mod Opened
 pub mod Crashed

@@ -33,17 +33,18 @@ use Rattle.wp_args.specs.Choice.{IsEntered, IsChoice, HasNumbers}
 use Rattle.wp_args.specs.declared.choice.Action.{Action}
 use Rattle.wp_args.specs.declared.choice.Action.TheVariants as action
 use Rattle.wp_args.specs.declared.choice.Choice.{Choice}
-use Rattle.wp_run.specs.declared.status.Status.{Status}
-use Rattle.wp_run.specs.declared.status.Status.TheVariants as status
+use Rattle.wp_transcript.specs.declared.status.Status.{Status}
+use Rattle.wp_transcript.specs.declared.status.Status.TheVariants as status
 use Rattle.wp_run.specs.Run.{Call, CanMake, IsChosen, IsUnread, IsReadAs, IsServed, Ends}
 use Rattle.wp_run.specs.Seating.{IsFirstClient}
 use Rattle.wp_run.specs.Headline.{Serving, Headline}
 use Rattle.wp_run.specs.Met.{SharesWords}
 use Rattle.wp_run.specs.Base.{AreLimits, IsBaseStore}
-use Rattle.wp_run.specs.Serving.{nothing_more, exactly, AnswersScript, LacksMemory, faults_of, Serves, ServesExactly, are_whole, one_fails, IsWritten, HasEnded}
+use Rattle.wp_run.specs.Serving.{nothing_more, exactly, AnswersScript, LacksMemory, faults_of, Serves, ServesExactly, HasEnded}
 use Rattle.wp_run.specs.Unopened.{IsUnopened}
-use Rattle.wp_run.specs.Status.{IsStatusOf}
-use Rattle.wp_run.specs.Transcript.{text_of}
+use Rattle.wp_transcript.specs.Status.{IsStatusOf}
+use Rattle.wp_transcript.specs.Transcript.{text_of}
+use Rattle.wp_transcript.specs.Written.{are_whole, one_fails, IsWritten}
 use Rattle.wp_run.specs.Use.{SinkUse, AreUncalled, before, after}
 use Rattle.wp_threads.proofs.Counted.{none_or_some}
 use Rattle.wp_run.proofs.Stored.{at_most_one, was_opened, crash_leaves, is_stored}

@@ -1,7 +1,5 @@
 pub mod Use
 pub mod Limits
-pub mod Status
-pub mod Transcript
 pub mod Base
 pub mod Crash
 pub mod Met

@@ -1,6 +1,5 @@
 -- How serving a script ended.
-use Rattle.std.specs.Prelude.{◌≡◌, ◌⊎◌, ℕ, Bool, true, false, List}
-use Rattle.std.specs.List.{list_all, list_any}
+use Rattle.std.specs.Prelude.{◌≡◌, ◌⊎◌, ℕ, true, List}
 use Rattle.std.specs.Io.KnownBytes.{Appends}
 use Rattle.wp_model.specs.declared.entry.Entry.{Entry}
 use Rattle.wp_outside.specs.Faults.{Rose}
@@ -8,15 +7,15 @@ use Rattle.wp_outside.specs.Sink.{AppendsPrefix}
 use Rattle.wp_open.specs.declared.opening.OpenError.TheVariants as open_error
 use Rattle.wp_args.specs.declared.choice.Action.{Action}
 use Rattle.wp_text.specs.declared.script.Part.{Part}
-use Rattle.wp_text.specs.declared.reply.Reply.{Reply}
 use Rattle.wp_replies.specs.Exact.{IsExact}
 use Rattle.wp_replies.specs.Explains.{Faults, AreFirstParts}
 use Rattle.wp_replies.specs.Kind.{is_fault, is_tables_fault}
 use Rattle.wp_threads.specs.Over.{Answered, replies_of}
-use Rattle.wp_run.specs.declared.status.Status.{Status}
-use Rattle.wp_run.specs.declared.status.Status.TheVariants as status
+use Rattle.wp_transcript.specs.declared.status.Status.{Status}
+use Rattle.wp_transcript.specs.declared.status.Status.TheVariants as status
+use Rattle.wp_transcript.specs.Transcript.{text_of}
+use Rattle.wp_transcript.specs.Written.{are_whole, one_fails, IsWritten}
 use Rattle.wp_run.specs.Headline.{Serving, Headline}
-use Rattle.wp_run.specs.Transcript.{text_of}
 use Rattle.wp_run.specs.Unopened.{IsUnopened}
 use Rattle.wp_run.specs.Use.{SinkUse}
 
@@ -74,24 +73,6 @@ Serves s = ServesWith s (nothing_more s)
 
 abbrev pub ServesExactly : Serving → Status → Type 0
 ServesExactly s = ServesWith s (exactly s)
-
--- ---- what the sessions of a script left
-
--- no session broke off
-abbrev pub are_whole : List Answered → Bool
-are_whole answered = list_all (λ a. a.whole) answered
-
--- a client was answered by such a fault
-abbrev pub one_fails : (Reply → Bool) → List Answered → Bool
-one_fails is_failed answered = list_any (λ a. list_any is_failed a.replies) answered
-
--- how a text was written: whole, with the log failed, the tables alone, or neither; or in part
-abbrev pub IsWritten : (stopped halted : Bool) → SinkUse → List ℕ → Status → Type 0
-IsWritten stopped halted sink text status.Ok = (stopped ≡ false) × (halted ≡ false) × Appends sink.before sink.after text
-IsWritten stopped halted sink text status.LogFault = (stopped ≡ true) × Appends sink.before sink.after text
-IsWritten stopped halted sink text status.TableFault = (stopped ≡ false) × (halted ≡ true) × Appends sink.before sink.after text
-IsWritten stopped halted sink text status.SinkFault = Rose sink.faults_before sink.faults_after × AppendsPrefix sink.before sink.after text
-IsWritten stopped halted sink text other = ⊥
 
 -- What became of the replies: with the history they were written, or what could be of them; or memory was wanting for that, or in
 -- a session.

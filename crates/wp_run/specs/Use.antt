@@ -6,6 +6,7 @@ use Rattle.wp_gatelog.specs.Durability.{LosesNoRecord}
 use Rattle.wp_manifest.specs.Spelling as edits
 use Rattle.wp_tableset.specs.Device.{KeepsFronts}
 use Rattle.wp_shared.specs.Devices.{DevicesLeft}
+pub use Rattle.wp_transcript.specs.Written.{SinkUse, sink_use}
 
 pub record DiskUse : Type 1 where
   pub before : List Moment
@@ -60,15 +61,6 @@ pub record IsDurable (disks : DisksUse) : Type 0 where
 -- none of them was called
 abbrev pub AreUncalled : DisksUse → Type 0
 AreUncalled disks = disks.log.uncalled × disks.manifest.uncalled × disks.tables.uncalled
-
-pub record SinkUse : Type 0 where
-  pub before : Option (List ℕ)  -- the bytes in it, where they are known
-  pub after : Option (List ℕ)
-  pub faults_before : ℕ
-  pub faults_after : ℕ
-
-abbrev pub sink_use : {K : Type 0} → (K → Option (List ℕ)) → (K → ℕ) → (old new : K) → SinkUse
-sink_use contents faults old new = record { before = contents old; after = contents new; faults_before = faults old; faults_after = faults new }
 
 pub record SourceUse : Type 1 where
   pub before : Option (List ℕ)  -- the bytes that it has left, where they are known

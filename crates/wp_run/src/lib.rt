@@ -7,11 +7,8 @@
 
 mod seating;
 mod serve;
-mod status;
-mod text;
 mod top_call;
-mod transcript;
 
-pub use status::Status;
 pub use top_call::{Ended, run};
 pub use wp_open::Bad;
+pub use wp_transcript::Status;

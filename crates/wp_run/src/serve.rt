@@ -6,12 +6,10 @@ ghost use Rattle.wp_outside.specs.Disk.{ReadsItself};
 ghost use Rattle.wp_run.specs.Base.{IsBaseStore};
 ghost use Rattle.wp_run.specs.Seating.{IsSeating};
 ghost use Rattle.wp_run.specs.Serving.{ServesExactly, HasEnded};
-ghost use Rattle.wp_run.specs.Status.{IsStatusOf, IsBeforeSink, stage_of};
+ghost use Rattle.wp_transcript.specs.Status.{IsStatusOf, IsBeforeSink, stage_of};
 ghost use Rattle.wp_run.specs.Use.{IsDurable, disks_use, sink_use};
 
 use crate::seating::Seating;
-use crate::status::Status;
-use crate::text::{log_failed, tables_failed, text_of, write_text};
 use std::alloc::Global;
 use std::sync::Wait;
 use std::thread::Threads;
@@ -21,6 +19,7 @@ use wp_opened::open_shared;
 use wp_outside::{Disk, Disks, Gate, Sink};
 use wp_text::Part;
 use wp_threads::{ScriptRun, run_script};
+use wp_transcript::{Status, log_failed, tables_failed, text_of, write_text};
 
 /// How a script was served, and the store's devices.
 pub(crate) struct Served<D> {

@@ -4,11 +4,10 @@ ghost use Rattle.wp_run.specs.Limits.{LimitsAre};
 ghost use Rattle.wp_run.specs.Run.{call_of, CanMake, Ends, IsChosen, IsReadAs};
 ghost use Rattle.wp_run.specs.Serving.{Serves, ServesExactly};
 ghost use Rattle.wp_run.specs.Use.{IsDurable, disks_use, source_use, sink_use};
-ghost use Rattle.wp_run.specs.Status.{LeavesUncalled, stage_of};
+ghost use Rattle.wp_transcript.specs.Status.{LeavesUncalled, stage_of};
 
 use crate::seating::Seating;
 use crate::serve::{Served, serve};
-use crate::status::Status;
 use std::alloc::{AllocError, Global};
 use std::sync::Wait;
 use std::thread::Threads;
@@ -16,6 +15,7 @@ use wp_args::{Action, choice_of, words_choose_once};
 use wp_make::make_script;
 use wp_outside::{Disk, Disks, Gate, ReadError, Sink, Source, read_all};
 use wp_text::{MOST_BYTES, Script, ScriptError, read_script};
+use wp_transcript::Status;
 
 /// How a call ended, and the devices that it was handed.
 #[derive(Drop)]

@@ -1,5 +1,6 @@
 pub mod Lines
 pub mod Said
+pub mod Answered
 pub mod Grammar
 pub mod Faults
 pub mod Reading

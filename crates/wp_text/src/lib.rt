@@ -13,6 +13,7 @@ mod limits;
 mod line;
 mod lines;
 mod read;
+mod replies;
 mod reply;
 mod script;
 
@@ -23,5 +24,6 @@ pub use lines::{
     base_line, carried_line, client_line, end_line, has_line, history_line, reply_line,
 };
 pub use read::{MOST_BYTES, MOST_CLIENTS, one_reading, read_script};
+pub use replies::Answered;
 pub use reply::Reply;
 pub use script::{Command, Commands, Part, Script};

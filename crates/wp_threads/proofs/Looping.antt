@@ -4,6 +4,7 @@ use Rattle.std.proofs.lemmas.List.{take_more, take-append-drop, take_all}
 use mathlib.Core.List.{append-nil}
 use Rattle.wp_text.specs.declared.script.Command.{Command}
 use Rattle.wp_text.specs.declared.reply.Reply.{Reply}
+use Rattle.wp_text.specs.Answered.{Answered}
 use Rattle.wp_shared.specs.Seats.{SharedState, SeatState}
 use Rattle.wp_replies.specs.Known.{StoredState}
 use Rattle.wp_answers.specs.Answers.{Stays}
@@ -32,30 +33,31 @@ module _ {D : Type 0} (z : SharedState D) (commands : List Command) (i : ℕ) (c
   count_next same next = let all : length after ≡ length (before ++ next.0 ∷ []) = ap (λ (rs : List Reply). length rs) next.1 in let more = length-append before (next.0 ∷ []) in omega (arith, same, all, more)
 
   -- memory was wanting for the command
-  pub came_broken : TakesNext z s t h k c before after false → Holds z t k → (found : StoredState) (name : List ℕ) → IsFound z found → IsSessionSoFar z found name [] [] first had → HasComeTo z found name commands (record { replies = after; whole = false }) t k
-  came_broken next holds found name is_found begun =
-      let cut : drop i commands ≡ c ∷ drop (suc i) commands = drop-cons commands i c lt ∙ ap (λ (x : Command). x ∷ drop (suc i) commands) (sym at) in record {
+  pub came_broken : (answered : Answered) → answered ≡ record { replies = after; whole = false } → TakesNext z s t h k c before after false → Holds z t k → (found : StoredState) (name : List ℕ) → IsFound z found → IsSessionSoFar z found name [] [] first had → HasComeTo z found name commands answered t k
+  came_broken answered is next holds found name is_found begun =
+      let cut : drop i commands ≡ c ∷ drop (suc i) commands = drop-cons commands i c lt ∙ ap (λ (x : Command). x ∷ drop (suc i) commands) (sym at) in
+      subst (λ (a : Answered). HasComeTo z found name commands a t k) (sym is) (record {
         done = take i commands;
         rest = c ∷ drop (suc i) commands;
         commands = sym (take-append-drop i commands) ∙ ap (λ (cs : List Command). take i commands ++ cs) cut;
-        all = λ is. absurd (true≢false (sym is));
+        all = λ all. absurd (true≢false (sym all));
         last = s;
         had = h;
         goes = subst (λ (rs : List Reply). IsSessionSoFar z found name (take i commands) rs s h) (sym next.0) (goes found name is_found begun);
         ends = next.1 (drop (suc i) commands);
         holds = holds;
-      }
+      })
 
-pub came_whole : {D : Type 0} (z : SharedState D) (commands : List Command) (i : ℕ) (answers : List Reply) (first : SeatState) (had : HoldingsState) (s : SeatState) (h : HoldingsState) → length commands ≤ i → GoesOn z (take i commands) answers first had s h → Holds z s h
-    → (found : StoredState) (name : List ℕ) → IsFound z found → IsSessionSoFar z found name [] [] first had → HasComeTo z found name commands (record { replies = answers; whole = true }) s h
-came_whole z commands i answers first had s h le goes holds found name is_found begun = record {
+pub came_whole : {D : Type 0} (z : SharedState D) (commands : List Command) (i : ℕ) (answers : List Reply) (first : SeatState) (had : HoldingsState) (s : SeatState) (h : HoldingsState) (answered : Answered) → answered ≡ record { replies = answers; whole = true } → length commands ≤ i → GoesOn z (take i commands) answers first had s h → Holds z s h
+    → (found : StoredState) (name : List ℕ) → IsFound z found → IsSessionSoFar z found name [] [] first had → HasComeTo z found name commands answered s h
+came_whole z commands i answers first had s h answered is le goes holds found name is_found begun = subst (λ (a : Answered). HasComeTo z found name commands a s h) (sym is) (record {
   done = commands;
   rest = [];
   commands = sym (append-nil commands);
-  all = λ is. refl;
+  all = λ all. refl;
   last = s;
   had = h;
   goes = subst (λ (cs : List Command). IsSessionSoFar z found name cs answers s h) (take_all i commands le) (goes found name is_found begun);
   ends = ends_here s (client_of h).txn [];
   holds = holds;
-}
+})

@@ -1,11 +1,12 @@
 -- A client's session that is over.
-use Rattle.std.specs.Prelude.{◌≡◌, ℕ, ◌≤◌, Bool, true, List, [], ◌∷◌, ◌++◌, length, map, Some, None, IfSome, count_by}
+use Rattle.std.specs.Prelude.{◌≡◌, ℕ, ◌≤◌, true, List, [], ◌∷◌, ◌++◌, length, Some, None, IfSome, count_by}
 use Rattle.std.specs.List.{flat_map}
 use Rattle.wp_model.specs.declared.entry.Entry.{Entry}
 use Rattle.wp_model.specs.Flushed.{InstalledEdit}
 use Rattle.wp_text.specs.declared.script.Command.{Command}
 use Rattle.wp_text.specs.declared.script.Part.{Part}
 use Rattle.wp_text.specs.declared.reply.Reply.{Reply}
+pub use Rattle.wp_text.specs.Answered.{Answered, replies_in, replies_of}
 use Rattle.wp_core.specs.Lists.{IsIn, one_if}
 use Rattle.wp_core.specs.Sound.Actors.{StartsWith}
 use Rattle.wp_core.specs.Sound.Pasts.{last_installed}
@@ -25,11 +26,6 @@ use Rattle.wp_answers.specs.Agrees.{Agrees}
 use Rattle.wp_answers.specs.Alone.{log_faults, device_faults, tables_faults, limits_of, IsOnly}
 use Rattle.wp_answers.specs.Answers.{explaining, IsRemembered, IsExplained, Stays}
 use Rattle.wp_answers.specs.Holdings.{no_holdings, Holds}
-
--- what a client was answered: replies to its commands, or, where memory was wanting, to the first of them
-pub record Answered : Type 0 where
-  pub replies : List Reply
-  pub whole : Bool
 
 -- The session breaks off at the first of the commands that are left, if at any: what the seat's past has more, that one explains.
 pub record BreaksOffBefore (old new : SeatState) (txn : Txn) (rest : List Command) : Type 0 where
@@ -84,10 +80,3 @@ abbrev pub AreOver : {D : Type 0} → SharedState D → StoredState → List Par
 AreOver z found [] [] [] = Unit {0}
 AreOver z found (part ∷ parts) (answered ∷ others) (s ∷ seats) = IsOver z found part answered s × AreOver z found parts others seats
 AreOver z found parts answered seats = ⊥
-
-abbrev pub replies_in : Answered → List Reply
-replies_in answered = answered.replies
-
--- each client's replies
-abbrev pub replies_of : List Answered → List (List Reply)
-replies_of answered = map replies_in answered

@@ -9,7 +9,6 @@ ghost use Rattle.wp_threads.specs.New.{AreNew, clients_of, first_seat};
 ghost use Rattle.wp_threads.specs.Lists.{seat_of, answers_of};
 ghost use Rattle.wp_threads.specs.Explained.{HaveRun};
 
-use crate::session::Answered;
 use crate::threads::{Session, run_all};
 use std::alloc::Global;
 use std::sync::Wait;
@@ -17,7 +16,7 @@ use std::thread::Threads;
 use wp_ledger::History;
 use wp_outside::{Disk, Disks, Gate};
 use wp_shared::{Finished, Seat, Shared};
-use wp_text::Part;
+use wp_text::{Answered, Part};
 
 /// What the sessions leave.
 #[derive(Drop)]

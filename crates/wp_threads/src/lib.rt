@@ -18,4 +18,3 @@ mod threads;
 pub use ending::ScriptRun;
 pub use room::Room;
 pub use script::run_script;
-pub use session::Answered;

@@ -2,14 +2,13 @@
 ghost use Rattle.std.specs.Prelude.{◌≡◌, ◌<◌, ◌≤◌, [], IfOk, vec_len, vec_capacity};
 ghost use Rattle.wp_threads.specs.New.{clients_of, others_of};
 
-use crate::session::Answered;
 use crate::threads::Session;
 use std::alloc::{AllocError, Global};
 use std::marker::Model;
 use wp_model::Name;
 use wp_outside::Disk;
 use wp_shared::Seat;
-use wp_text::Part;
+use wp_text::{Answered, Part};
 
 /// Lists for the sessions of a script, each with room for all of them, and the names of the clients behind the first.
 #[derive(Drop)]

@@ -11,7 +11,6 @@ ghost use Rattle.wp_threads.specs.Explained.{HaveRun};
 
 use crate::ending::{ScriptRun, end_unused, run_to_end};
 use crate::room::Room;
-use crate::session::Answered;
 use crate::threads::Session;
 use std::alloc::Global;
 use std::sync::Wait;
@@ -19,7 +18,7 @@ use std::thread::Threads;
 use wp_model::Name;
 use wp_outside::{Disk, Gate};
 use wp_shared::{Seat, Shared};
-use wp_text::Part;
+use wp_text::{Answered, Part};
 
 /// A session for each of these clients, at a seat that the first seat makes. The list has room.
 fn seat_others<D: Disk + Drop>(

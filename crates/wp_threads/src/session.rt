@@ -1,5 +1,5 @@
 //! One client's session at its seat.
-ghost use Rattle.std.specs.Prelude.{◌≡◌, ℕ, false, List, []};
+ghost use Rattle.std.specs.Prelude.{ℕ, List, []};
 ghost use Rattle.wp_shared.specs.Seats.{IsFree};
 ghost use Rattle.wp_replies.specs.Known.{StoredState};
 ghost use Rattle.wp_answers.specs.Answers.{Stays};
@@ -10,51 +10,11 @@ ghost use Rattle.wp_threads.specs.Came.{TakesNext, HasComeTo};
 ghost use Rattle.wp_threads.specs.Over.{IsOver};
 
 use std::alloc::Global;
-use std::marker::Model;
 use std::sync::Wait;
 use wp_answers::{Holdings, answer, end};
 use wp_outside::{Disk, Gate};
 use wp_shared::{Seat, Shared};
-use wp_text::{Command, Part, Reply};
-
-/// What a client was answered: replies to its commands, or, where memory was wanting, to the first of them.
-#[derive(Drop)]
-pub struct Answered {
-    replies: Vec<Reply>,
-    whole: bool,
-}
-
-impl Model for Answered {
-    ghost use Rattle.wp_threads.specs.Over.{Answered};
-
-    ghost Value = { Answered };
-
-    ghost view = { λ a. record { replies = a.replies.items; whole = a.whole } };
-}
-
-impl Answered {
-    pub(crate) fn none(alloc: Global) -> Answered
-        ensures { result ≡ record { replies = []; whole = false } }
-    {
-        Answered {
-            replies: Vec::new(alloc),
-            whole: false,
-        }
-    }
-
-    pub fn replies(&self) -> &[Reply]
-        ensures { result.now ≡ self.now.replies }
-    {
-        &self.replies
-    }
-
-    /// Whether each command has its reply.
-    pub fn is_whole(&self) -> bool
-        ensures { result ≡ self.now.whole }
-    {
-        self.whole
-    }
-}
+use wp_text::{Answered, Command, Part, Reply};
 
 /// Answers the next command, and says whether memory was left for it. The reply has its place before.
 fn answer_next<D: Disk + Drop, R: Wait>(
@@ -105,17 +65,11 @@ fn answer_all<D: Disk + Drop, G: Gate, R: Wait>(
         gate.pass(client, line);
         let answered = answer_next(store, rt, alloc, seat, held, &mut replies, command);
         if !answered {
-            return Answered {
-                replies,
-                whole: false,
-            };
+            return Answered::new(replies, false);
         }
         gate.done(client, line);
     }
-    Answered {
-        replies,
-        whole: true,
-    }
+    Answered::new(replies, true)
 }
 
 /// Runs one client's session.

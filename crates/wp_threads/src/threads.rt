@@ -7,14 +7,14 @@ ghost use Rattle.wp_threads.specs.Over.{AreOver};
 ghost use Rattle.wp_threads.specs.Each.{IsNewAt, HasRunAt, AllStay};
 ghost use Rattle.wp_threads.specs.Lists.{seat_of, answers_of};
 
-use crate::session::{Answered, run_session};
+use crate::session::run_session;
 use std::alloc::Global;
 use std::sync::Wait;
 use std::thread;
 use std::thread::Threads;
 use wp_outside::{Disk, Gate};
 use wp_shared::{Seat, Shared};
-use wp_text::Part;
+use wp_text::{Answered, Part};
 
 /// A client's seat, and what the client was answered there.
 #[derive(Drop)]

@@ -6,7 +6,7 @@ use Rattle.wp_threads.proofs.session.answer_all.Goals as goal
 pub returns-then-not-answered-clause-came : goal.returns-then-not-answered-clause-came
 returns-then-not-answered-clause-came g c =
     came_broken c.args.store.now c.args.commands.now c.loop-command.command-index _ c.loop-command.replies.items c.answer_next-answered.new.replies.items c.args.seat.now c.args.held.now c.loop-command.seat c.answer_next-answered.new.seat c.loop-command.held c.answer_next-answered.new.held
-    (omega arith) c.command-item.is c.loop-command.invariant.goes c.if-not-answered.ensures.next c.if-not-answered.ensures.holds
+    (omega arith) c.command-item.is c.loop-command.invariant.goes c.new.result c.new.ensures c.if-not-answered.ensures.next c.if-not-answered.ensures.holds
 
 pub returns-then-not-answered-clause-stays : goal.returns-then-not-answered-clause-stays
 returns-then-not-answered-clause-stays g c =
@@ -30,4 +30,4 @@ loop-command-preserved g c = record {
 }
 
 pub returns-clause-came : goal.returns-clause-came
-returns-clause-came g c = came_whole c.args.store.now c.args.commands.now c.loop-command.command-index c.loop-command.replies.items c.args.seat.now c.args.held.now c.loop-command.seat c.loop-command.held (omega arith) c.loop-command.invariant.goes c.loop-command.invariant.holds
+returns-clause-came g c = came_whole c.args.store.now c.args.commands.now c.loop-command.command-index c.loop-command.replies.items c.args.seat.now c.args.held.now c.loop-command.seat c.loop-command.held c.new-2.result c.new-2.ensures (omega arith) c.loop-command.invariant.goes c.loop-command.invariant.holds

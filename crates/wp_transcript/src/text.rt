@@ -1,13 +1,12 @@
 //! The text of what the clients were answered: the transcript, or the summary of a made script.
 ghost use Rattle.std.specs.Prelude.{◌≡◌, ◌≤◌, true, length, map, IfOk, OnErr};
 ghost use Rattle.std.specs.List.{list_any};
+ghost use Rattle.wp_text.specs.Answered.{replies_of};
 ghost use Rattle.wp_make.specs.Summary.{summary_of};
 ghost use Rattle.wp_replies.specs.Kind.{is_fault, is_tables_fault};
-ghost use Rattle.wp_threads.specs.Over.{replies_of};
-ghost use Rattle.wp_run.specs.Serving.{are_whole, one_fails, IsWritten};
-ghost use Rattle.wp_run.specs.Status.{IsBeforeSink, stage_of};
-ghost use Rattle.wp_run.specs.Transcript.{text_of};
-ghost use Rattle.wp_run.specs.Use.{sink_use};
+ghost use Rattle.wp_transcript.specs.Status.{IsBeforeSink, stage_of};
+ghost use Rattle.wp_transcript.specs.Transcript.{text_of};
+ghost use Rattle.wp_transcript.specs.Written.{are_whole, one_fails, sink_use, IsWritten};
 
 use crate::status::Status;
 use crate::transcript::transcript;
@@ -18,8 +17,7 @@ use wp_ledger::History;
 use wp_make::summary;
 use wp_model::{Key, Value};
 use wp_outside::{Failed, Sink, write_all};
-use wp_text::{Part, Reply};
-use wp_threads::Answered;
+use wp_text::{Answered, Part, Reply};
 
 /// Whether no session broke off.
 fn are_whole(answers: &[Answered]) -> bool
@@ -56,14 +54,14 @@ fn tells_tables_fault(answered: &Answered) -> bool
 }
 
 /// Whether a client was answered that the log failed.
-pub(crate) fn log_failed(answers: &[Answered]) -> bool
+pub fn log_failed(answers: &[Answered]) -> bool
     ensures { result ≡ one_fails is_fault answers.now }
 {
     answers.iter().any(|answered| tells_log_fault(answered))
 }
 
 /// Whether a client was answered that a device of the tables failed.
-pub(crate) fn tables_failed(answers: &[Answered]) -> bool
+pub fn tables_failed(answers: &[Answered]) -> bool
     ensures { result ≡ one_fails is_tables_fault answers.now }
 {
     answers.iter().any(|answered| tells_tables_fault(answered))
@@ -95,7 +93,7 @@ fn summary_of(
 }
 
 /// The text of the command, where no session broke off.
-pub(crate) fn text_of(
+pub fn text_of(
     alloc: Global,
     action: Action,
     parts: &[Part],
@@ -122,7 +120,7 @@ pub(crate) fn text_of(
 
 /// Writes the text, where there is one. The status says whether it was written whole, and else what failed before: the log, or
 /// the tables.
-pub(crate) fn write_text<K: Sink>(
+pub fn write_text<K: Sink>(
     sink: &mut K,
     text: Result<Vec<u8>, AllocError>,
     stopped: bool,

@@ -5,8 +5,8 @@ use Rattle.wp_model.specs.declared.entry.Entry.{Entry}
 use Rattle.wp_text.specs.declared.script.Part.{Part}
 use Rattle.wp_text.specs.declared.reply.Reply.{Reply}
 use Rattle.wp_text.specs.Lines.{entry_line, entry_lines}
-use Rattle.wp_threads.specs.Over.{Answered, replies_in, replies_of}
-use Rattle.wp_run.specs.Transcript.{client_text, client_lines}
+use Rattle.wp_text.specs.Answered.{Answered, replies_in, replies_of}
+use Rattle.wp_transcript.specs.Transcript.{client_text, client_lines}
 
 -- one more piece after what was appended so far
 pub appends : (start front mid piece now whole : List ℕ) → mid ≡ start ++ front → now ≡ mid ++ piece → whole ≡ front ++ piece → now ≡ start ++ whole

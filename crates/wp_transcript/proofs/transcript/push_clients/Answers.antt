@@ -1,6 +1,6 @@
 use Rattle.std.proofs.Common.{arith}
-use Rattle.wp_run.proofs.TextLemmas.{appends, client_lines_more}
-use Rattle.wp_run.proofs.transcript.push_clients.Goals as goal
+use Rattle.wp_transcript.proofs.TextLemmas.{appends, client_lines_more}
+use Rattle.wp_transcript.proofs.transcript.push_clients.Goals as goal
 
 pub loop-i-preserved : goal.loop-i-preserved
 loop-i-preserved c =

@@ -1,7 +1,7 @@
 ghost use mathlib.Core.List.{IsPrefix};
 ghost use Rattle.std.specs.Prelude.{◌≡◌, IfOk};
 ghost use Rattle.std.specs.String.{string_bytes};
-ghost use Rattle.wp_run.specs.Status.{code_of, IsLine};
+ghost use Rattle.wp_transcript.specs.Status.{code_of, IsLine};
 
 use std::alloc::{AllocError, Global};
 use std::fmt::Display;

@@ -1,17 +1,17 @@
 ghost use Rattle.std.specs.Prelude.{◌≡◌, ◌+◌, ◌++◌, ◌≤◌, ◌<◌, ◌^◌, length, IfOk, OnOk};
 ghost use Rattle.std.specs.List.{flat_map};
 ghost use Rattle.wp_text.specs.Lines as text;
-ghost use Rattle.wp_threads.specs.Over.{replies_of};
-ghost use Rattle.wp_run.specs.Transcript.{client_text, client_lines, opening_lines, transcript_of};
+ghost use Rattle.wp_text.specs.Answered.{replies_of};
+ghost use Rattle.wp_transcript.specs.Transcript.{client_text, client_lines, opening_lines, transcript_of};
 
 use std::alloc::{AllocError, Global};
 use std::collections::BTreeMap;
 use wp_ledger::History;
 use wp_model::{Carried, Entry, Key, Seq, Value};
 use wp_text::{
-    Part, Reply, base_line, carried_line, client_line, end_line, has_line, history_line, reply_line,
+    Answered, Part, Reply, base_line, carried_line, client_line, end_line, has_line, history_line,
+    reply_line,
 };
-use wp_threads::Answered;
 
 fn push_replies(out: &mut Vec<u8>, replies: &[Reply]) -> Result<(), AllocError>
     ensures { OnOk result (out.new.items ≡ out.old.items ++ flat_map text.reply_line replies.now) }

@@ -1,7 +1,7 @@
 use Rattle.std.proofs.Common.{◌≡◌, ◌++◌, take}
 use Rattle.std.specs.List.{flat_map}
 use Rattle.wp_text.specs.Lines.{reply_line}
-use Rattle.wp_run.proofs.transcript.push_replies.Given as goal
+use Rattle.wp_transcript.proofs.transcript.push_replies.Given as goal
 
 abbrev pub invariant-loop-reply : goal.invariant-loop-reply
 invariant-loop-reply l = l.out.items ≡ l.initial.out.items ++ flat_map reply_line (take l.reply-index l.replies)

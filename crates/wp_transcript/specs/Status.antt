@@ -3,8 +3,8 @@ use Rattle.std.specs.Prelude.{◌≡◌, ℕ, List, codes}
 use mathlib.Core.List.{IsPrefix}
 use Rattle.wp_open.specs.declared.opening.OpenError.{OpenError}
 use Rattle.wp_open.specs.declared.opening.OpenError.TheVariants as open_error
-use Rattle.wp_run.specs.declared.status.Status.{Status}
-use Rattle.wp_run.specs.declared.status.Status.TheVariants as status
+use Rattle.wp_transcript.specs.declared.status.Status.{Status}
+use Rattle.wp_transcript.specs.declared.status.Status.TheVariants as status
 
 abbrev pub code_of : Status → ℕ
 code_of status.Ok = 0
