@@ -21,8 +21,8 @@ use Rattle.wp_core.proofs.KeepsSeen.{shorter}
 use Rattle.wp_txn.specs.Records.{numbers_behind}
 use Rattle.wp_shared.specs.Calls.{ContinuesWith}
 use Rattle.wp_shared.specs.Seats.{SharedState, SeatState}
-use Rattle.wp_txn.specs.declared.error.TxnError.{TxnError}
-use Rattle.wp_txn.specs.declared.error.TxnError.TheVariants.{Silent}
+use Rattle.wp_names.specs.declared.error.TxnError.{TxnError}
+use Rattle.wp_names.specs.declared.error.TxnError.TheVariants.{Silent}
 use Rattle.wp_txn.specs.Calls.{Keeps, without_transaction, GivesUp}
 use Rattle.wp_txn.specs.Txn.{OpenState, PreparedState, HasPrepared}
 use Rattle.wp_txn.specs.Writes.{Prepares, Ends, CommitsNow, Commits, RollsBack, RefusesOpen, RefusesPrepared, AsksCommit, AsksRollback}

@@ -16,8 +16,8 @@ use Rattle.wp_core.proofs.KeepsSeen.{shorter}
 use Rattle.wp_core.proofs.PastsGrow.{in_last}
 use Rattle.wp_shared.specs.Calls.{Continues, remembering}
 use Rattle.wp_shared.specs.Seats.{SharedState, SeatState}
-use Rattle.wp_txn.specs.declared.error.TxnError.{TxnError}
-use Rattle.wp_txn.specs.declared.error.TxnError.TheVariants.{Memory, Taken, Busy, TooMany, Silent, Unknown, InUse, NumbersFull, LogFault, Stopped}
+use Rattle.wp_names.specs.declared.error.TxnError.{TxnError}
+use Rattle.wp_names.specs.declared.error.TxnError.TheVariants.{Memory, Taken, Busy, TooMany, Silent, Unknown, InUse, NumbersFull, LogFault, Stopped}
 use Rattle.wp_txn.specs.Calls.{Keeps, IsSilent, Tells, Hears}
 use Rattle.wp_replies.specs.Client.{Client}
 use Rattle.wp_replies.specs.Progress.{knows_label}

@@ -21,8 +21,8 @@ use Rattle.wp_shared.specs.Calls.{Continues, remembering}
 use Rattle.wp_shared.specs.Parts.{content}
 use Rattle.wp_shared.proofs.Limits.{limit_either, limit_renewed}
 use Rattle.wp_shared.specs.Seats.{SharedState, SeatState, place_at}
-use Rattle.wp_txn.specs.declared.error.TxnError.{TxnError}
-use Rattle.wp_txn.specs.declared.error.TxnError.TheVariants.{Memory, Taken, Busy, TooMany, Silent, Unknown, InUse, NumbersFull, LogFault, Stopped}
+use Rattle.wp_names.specs.declared.error.TxnError.{TxnError}
+use Rattle.wp_names.specs.declared.error.TxnError.TheVariants.{Memory, Taken, Busy, TooMany, Silent, Unknown, InUse, NumbersFull, LogFault, Stopped}
 use Rattle.wp_txn.specs.Writes.{Refuses}
 use Rattle.wp_replies.specs.Client.{Client}
 use Rattle.wp_replies.specs.Kind.{number_in, fresh_in, last_after}

@@ -1,6 +1,6 @@
 //! What a refusal is answered.
 ghost use Rattle.std.specs.Prelude.{◌≡◌, ◌≢◌, Some, None, IfOk, OnErr};
-ghost use Rattle.wp_txn.specs.declared.error.TxnError.TheVariants.{Silent};
+ghost use Rattle.wp_names.specs.declared.error.TxnError.TheVariants.{Silent};
 ghost use Rattle.wp_answers.specs.Replies.{refusal};
 
 use std::alloc::AllocError;

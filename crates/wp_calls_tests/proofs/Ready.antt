@@ -22,8 +22,8 @@ use Rattle.wp_core.specs.Changes.{sees}
 use Rattle.wp_core.proofs.KeepsSeen.{shorter}
 use Rattle.wp_shared.specs.Calls.{ContinuesWith, Continues}
 use Rattle.wp_shared.specs.Seats.{SharedState, SeatState}
-use Rattle.wp_txn.specs.declared.error.TxnError.{TxnError}
-use Rattle.wp_txn.specs.declared.error.TxnError.TheVariants.{Memory, Taken, Busy, TooMany, Silent, Unknown, InUse, NumbersFull, LogFault, Stopped}
+use Rattle.wp_names.specs.declared.error.TxnError.{TxnError}
+use Rattle.wp_names.specs.declared.error.TxnError.TheVariants.{Memory, Taken, Busy, TooMany, Silent, Unknown, InUse, NumbersFull, LogFault, Stopped}
 use Rattle.wp_txn.specs.Calls.{Changes, TakesPrepared, Tells, Hears, locking, without_transaction}
 use Rattle.wp_txn.specs.Turns.{IsApartFrom}
 use Rattle.wp_txn.specs.Txn.{OpenState, PreparedState, HasOpen, HasPrepared}

@@ -9,13 +9,12 @@ use Rattle.wp_core.specs.Views.{Fact, passed, in_old_commits, apart, words_stay,
 use Rattle.wp_shared.specs.Seats.{SeatState}
 use Rattle.wp_commits.specs.declared.way.Way.{Way}
 use Rattle.wp_commits.specs.declared.way.Way.TheVariants.{Undecided, InWord, Delayed}
-use Rattle.wp_shared.specs.Notes.{is_flag, GoesOn, is_under}
+use Rattle.wp_shared.specs.Notes.{is_about, is_flag, GoesOn, is_under}
 use Rattle.wp_shared.proofs.Goes.{none_under_store}
 use Rattle.wp_commits.proofs.Clears.{flag_under_prepared}
 use Rattle.wp_core.specs.Turns.{prepared_turn, store_turn}
 use Rattle.wp_commits.specs.Notes.{is_of_words, is_of_delayed, is_of_place}
 use Rattle.wp_commits.specs.Ways.{is_of_way}
-use Rattle.wp_records.specs.Records.{is_about}
 use Rattle.wp_records.specs.Stages.{is_of_versions, is_of_heap, is_of_number, is_of_pair, is_of_pending, is_of_stage, is_guarded, is_over, may_end}
 
 -- ---- what no turn guards is in none of the tests

@@ -13,7 +13,7 @@ use Rattle.wp_core.specs.World.{Participant, World}
 use Rattle.wp_rule.specs.Knows.{Noted}
 use Rattle.wp_shared.specs.Log.{LogState}
 use Rattle.wp_shared.specs.Seats.{SharedState, SeatState, Stands}
-use Rattle.wp_shared.specs.Notes.{being, noting, GoesOn}
+use Rattle.wp_shared.specs.Notes.{is_about, being, noting, GoesOn}
 use Rattle.wp_shared.proofs.Goes.{holds, notes}
 use Rattle.wp_commits.specs.declared.way.Way.{Way}
 use Rattle.wp_commits.specs.Bound.{bound_with, bound_for}
@@ -23,7 +23,7 @@ use Rattle.wp_commits.proofs.Ways.{bound_for_more}
 use Rattle.wp_records.specs.declared.error.WriteError.{WriteError}
 use Rattle.wp_records.specs.declared.error.WriteError.TheVariants.{Memory, LogFault}
 use Rattle.wp_records.specs.Writing.{HoldsWrite}
-use Rattle.wp_records.specs.Records.{numbers_behind, putting, is_about, IsAboutNone, HasCleared, IsPutWith, IsPut, IsNotPut, IsUncalled, LeavesAll, failing, FailsAppend, Puts}
+use Rattle.wp_records.specs.Records.{numbers_behind, putting, IsAboutNone, HasCleared, IsPutWith, IsPut, IsNotPut, IsUncalled, LeavesAll, failing, FailsAppend, Puts}
 use Rattle.wp_records.specs.Stages.{is_of_stage, is_guarded, may_end, holding, as_failed, HoldsPending, IsLogged, Logs, HasJoined}
 use Rattle.wp_records.proofs.Facts.{not_stage, unguarded}
 use Rattle.wp_records.proofs.Holding.{as_write}

@@ -1,5 +1,5 @@
 -- What a record needs, and what it leaves: its entries in the history, or nothing of it.
-use Rattle.std.specs.Prelude.{◌≡◌, ℕ, suc, Bool, true, false, List, [], ◌∷◌, ◌++◌, length, Option, Some, None, Result, Ok, Err}
+use Rattle.std.specs.Prelude.{◌≡◌, ℕ, suc, Bool, true, false, List, [], ◌∷◌, ◌++◌, length, Some, None, Result, Ok, Err}
 use Rattle.std.specs.FinSet as set
 use Rattle.wp_model.specs.declared.entry.Entry.{Entry}
 use Rattle.wp_model.specs.History.{is_changed}
@@ -12,14 +12,14 @@ use Rattle.wp_wal.specs.Wal.{WalState, LosesNothingAt}
 use Rattle.wp_core.specs.Conditions.{HasTransaction}
 use Rattle.wp_core.specs.Entries.{transaction_of, changes_under}
 use Rattle.wp_core.specs.Lists.{IsIn}
-use Rattle.wp_core.specs.Notes.{is_name}
 use Rattle.wp_core.specs.Sound.Views.{guarded_by}
 use Rattle.wp_core.specs.Tables.{WriteTable, writes}
-use Rattle.wp_core.specs.Views.{Fact, words_stay, none_waits, log_failed, undecided_at, prior_values, unprepared}
+use Rattle.wp_core.specs.Views.{Fact, words_stay, none_waits, log_failed}
 use Rattle.wp_core.specs.World.{Transaction, Actor, Participant, World}
 use Rattle.wp_rule.specs.Knows.{KnowsHeld, Noted}
 use Rattle.wp_shared.specs.Cut.{Cut, IsCut}
 use Rattle.wp_shared.specs.Log.{LogState}
+use Rattle.wp_shared.specs.Notes.{is_about}
 use Rattle.wp_shared.specs.Seats.{SharedState, SeatState, Stands}
 use Rattle.wp_commits.specs.declared.way.Way.{Way}
 use Rattle.wp_commits.specs.Bound.{bound_for}
@@ -57,14 +57,7 @@ numbers_behind n (entry ∷ entries) = suc n ∷ numbers_behind (suc n) entries
 abbrev pub putting : List Entry → List Entry → Participant → Participant
 putting history entries p = record p { seen = history ++ entries; own = p.own ++ numbers_behind (length history) entries }
 
--- the fact is about the transaction of this name
-abbrev pub is_about : Option (List ℕ) → Fact → Bool
-is_about name (undecided_at other p) = is_name name other
-is_about name (prior_values other p batch) = is_name name other
-is_about name (unprepared other) = is_name name other
-is_about name other = false
-
--- it is about the transaction of none of the entries behind this history
+-- the fact is about the transaction of none of the entries behind this history
 abbrev pub IsAboutNone : List Entry → List Entry → Fact → Type 0
 IsAboutNone history [] fact = Unit {0}
 IsAboutNone history (entry ∷ entries) fact = (is_about (transaction_of history entry) fact ≡ false) × IsAboutNone (history ++ entry ∷ []) entries fact

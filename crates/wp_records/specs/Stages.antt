@@ -19,11 +19,11 @@ use Rattle.wp_shared.specs.Log.{LogState}
 use Rattle.wp_shared.specs.Parts.{log_first}
 use Rattle.wp_shared.specs.Seats.{SharedState, SeatState}
 use Rattle.wp_shared.specs.Turns.{HoldsTurn}
-use Rattle.wp_shared.specs.Notes.{is_flag, GoesOn, KnowsWords}
+use Rattle.wp_shared.specs.Notes.{is_about, is_flag, GoesOn, KnowsWords}
 use Rattle.wp_commits.specs.Ways.{way_of, ways_of, AreReady, AreApart, IsEntered, entered}
 use Rattle.wp_records.specs.declared.error.WriteError.{WriteError}
 use Rattle.wp_records.specs.declared.error.WriteError.TheVariants.{Memory, LogFault}
-use Rattle.wp_records.specs.Records.{OwnsEntry, is_about, MayPut, IsNotPut, IsUncalled, failing, FailsAppend}
+use Rattle.wp_records.specs.Records.{OwnsEntry, MayPut, IsNotPut, IsUncalled, failing, FailsAppend}
 
 -- ---- which facts
 

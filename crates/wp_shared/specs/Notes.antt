@@ -9,7 +9,7 @@
 -- GoesOnWith, GoesOnAs   a stage of a call, while turns may be held: as ContinuesWith and Continues say it of a whole one (in Calls)
 -- ContinuesWith, Continues   a whole call, which begins and ends with no turn held: the seat may have seen more, is else the participant
 --              that is named, and has the notes of the kind that is named, or all that need no turn (in Calls)
-use Rattle.std.specs.Prelude.{◌≡◌, ℕ, ◌≤◌, Bool, true, false, List, ◌∷◌, Some}
+use Rattle.std.specs.Prelude.{◌≡◌, ℕ, ◌≤◌, Bool, true, false, List, ◌∷◌, Option, Some}
 use Rattle.wp_judge.specs.Words.{CommitPair}
 use Rattle.wp_model.specs.Legal.{IsLegal}
 use Rattle.wp_model.specs.PreparedTables.{PreparedTables, NoneDelayed}
@@ -17,13 +17,13 @@ use Rattle.wp_model.specs.Snapshots.{Snapshots, NoOldCommits}
 use Rattle.wp_model.specs.declared.entry.Entry.{Entry}
 use Rattle.wp_core.specs.Cache.{pair_at}
 use Rattle.wp_core.specs.Changes.{sees}
-use Rattle.wp_core.specs.Notes.{gives_guard}
+use Rattle.wp_core.specs.Notes.{gives_guard, is_name}
 use Rattle.wp_core.specs.Sound.Actors.{StartsWith}
 use Rattle.wp_core.specs.Sound.Views.{guarded_by}
 use Rattle.wp_core.specs.Steps.{give_turn}
 use Rattle.wp_core.specs.Tables.{Content}
 use Rattle.wp_core.specs.Turns.{Turn}
-use Rattle.wp_core.specs.Views.{Fact, words_stay, delayed_flag_stays, old_flag_stays}
+use Rattle.wp_core.specs.Views.{Fact, words_stay, undecided_at, prior_values, unprepared, delayed_flag_stays, old_flag_stays}
 use Rattle.wp_core.specs.World.{Actor, Participant, World}
 use Rattle.wp_rule.specs.Knows.{Noted}
 use Rattle.wp_shared.specs.Seats.{SharedState, SeatState, Stands}
@@ -37,6 +37,13 @@ no_fact fact = false
 -- the turn guards it
 abbrev pub is_under : Turn → Fact → Bool
 is_under turn fact = gives_guard (guarded_by fact) (give_turn turn)
+
+-- the fact is about the transaction of this name
+abbrev pub is_about : Option (List ℕ) → Fact → Bool
+is_about name (undecided_at other p) = is_name name other
+is_about name (prior_values other p batch) = is_name name other
+is_about name (unprepared other) = is_name name other
+is_about name other = false
 
 -- what a flag is
 abbrev pub is_flag : Fact → Bool

@@ -17,10 +17,10 @@ use Rattle.wp_records.specs.Records.{Puts, IsUncalled, FailsAppend}
 use Rattle.wp_rule.specs.Accounts.{account_of}
 use Rattle.wp_shared.specs.Calls.{Continues, remembering}
 use Rattle.wp_shared.specs.Seats.{SharedState, SeatState}
-use Rattle.wp_txn.specs.Calls.{Keeps}
+use Rattle.wp_names.specs.Calls.{Keeps}
 use Rattle.wp_txn.specs.Writes.{Refuses, failed_appends, MadeNoAppend, FailedOnce, LeavesDevice, MayLeaveDevice, RefusesBeforeLog, wrote_direct, writing_direct, WritesDirect}
-use Rattle.wp_txn.specs.declared.error.TxnError.{TxnError}
-use Rattle.wp_txn.specs.declared.error.TxnError.TheVariants as why
+use Rattle.wp_names.specs.declared.error.TxnError.{TxnError}
+use Rattle.wp_names.specs.declared.error.TxnError.TheVariants as why
 
 as_it_was : (p : Participant) → MadeNoAppend p p
 as_it_was p = record { own = refl; failed = refl }

@@ -32,22 +32,23 @@ use Rattle.wp_rule.proofs.Knows.{at_sound, noted_is}
 use Rattle.wp_rule.proofs.MayBeMade.{known_made}
 use Rattle.wp_rule.proofs.Needed.{has_locks, alone}
 use Rattle.wp_rule.proofs.Outlasting.{outlasts}
-use Rattle.wp_records.specs.Records.{numbers_behind, is_about}
+use Rattle.wp_records.specs.Records.{numbers_behind}
+use Rattle.wp_shared.specs.Notes.{is_about}
 use Rattle.wp_shared.specs.Calls.{IsLoose, ContinuesWith, Continues, remembering}
 use Rattle.wp_shared.specs.Seats.{SharedState, SeatState, IsFree, Stands, place_at}
 use Rattle.wp_shared.specs.Turns.{HoldsTurn, Taken, Given}
 use Rattle.wp_shared.proofs.OneStep.{becomes}
 use Rattle.wp_shared.proofs.Onward.{holds_alone}
-use Rattle.wp_txn.specs.declared.error.TxnError.{TxnError}
-use Rattle.wp_txn.specs.declared.error.TxnError.TheVariants as why
-use Rattle.wp_txn.specs.Actors.{with_direct, ending_direct}
+use Rattle.wp_names.specs.declared.error.TxnError.{TxnError}
+use Rattle.wp_names.specs.declared.error.TxnError.TheVariants as why
+use Rattle.wp_names.specs.Actors.{with_direct, ending_direct}
 use Rattle.wp_txn.specs.Recording.{Records, HasDirect, HoldsDirect, EndsDirect, without_direct}
-use Rattle.wp_txn.specs.Turns.{is_of_direct, IsNoDirect, IsWithoutDirect}
-use Rattle.wp_txn.specs.Under.{LocksDirect}
+use Rattle.wp_names.specs.Turns.{is_of_direct, IsNoDirect, IsWithoutDirect}
+use Rattle.wp_names.specs.Under.{LocksDirect}
 use Rattle.wp_txn.specs.Writes.{Refuses, WritesDirect, wrote_direct, writing_direct, SawNoMore, LeavesDevice, MayLeaveDevice}
-use Rattle.wp_txn.proofs.GoesOn.{held_last, holds_tables, locks_found, locks_left, with_locks, under, back, back_at_once, noted_back, nothing_done, finds}
+use Rattle.wp_names.proofs.GoesOn.{held_last, holds_tables, locks_found, locks_left, with_locks, under, back, back_at_once, noted_back, nothing_done, finds}
 use Rattle.wp_txn.proofs.Goes.{chain, put_within, refused_within, refused_still, refused_free, left_within}
-use Rattle.wp_txn.proofs.Made.{all_made, locks_are, but_notes}
+use Rattle.wp_names.proofs.Made.{all_made, locks_are, but_notes}
 
 -- ---- steps
 

@@ -17,27 +17,22 @@ use Rattle.wp_core.specs.World.{Participant}
 use Rattle.wp_core.specs.Sound.Actors.{StartsWith}
 use Rattle.wp_core.specs.Sound.Views.{guarded_by}
 use Rattle.wp_core.proofs.HistoryLaws.{next_decides_prepare}
-use Rattle.wp_records.specs.Records.{numbers_behind, is_about, IsAboutNone}
+use Rattle.wp_records.specs.Records.{numbers_behind, IsAboutNone}
+use Rattle.wp_shared.specs.Notes.{is_about}
 use Rattle.wp_shared.specs.Calls.{IsLoose, ContinuesWith, Continues, remembering}
 use Rattle.wp_rule.specs.Words.{IsAt}
 use Rattle.wp_shared.specs.Seats.{SharedState, SeatState, place_at}
-use Rattle.wp_txn.specs.Calls.{without_transaction}
-use Rattle.wp_txn.specs.Recording.{Records, Frees}
-use Rattle.wp_txn.specs.Turns.{IsApartFrom}
-use Rattle.wp_txn.specs.Txn.{OpenState, PreparedState, HasLocked, HasOpen, HasPrepared}
+use Rattle.wp_names.specs.Calls.{without_transaction, Frees}
+use Rattle.wp_txn.specs.Recording.{Records}
+use Rattle.wp_names.specs.Turns.{IsApartFrom}
+use Rattle.wp_names.specs.Txn.{OpenState, PreparedState, HasLocked, HasOpen, HasPrepared}
 use Rattle.wp_txn.specs.Writes.{HasPut, Refuses, Prepares, Ends, RefusesOpen, RefusesPrepared}
-use Rattle.wp_txn.specs.declared.error.TxnError.{TxnError}
+use Rattle.wp_names.specs.declared.error.TxnError.{TxnError}
 use Rattle.wp_txn.proofs.DirectWrites.{none_about}
-use Rattle.wp_txn.proofs.Goes.{chain, put_within, refused_within, refused_still, open_still, prepared_still}
+use Rattle.wp_txn.proofs.Goes.{chain, put_within, refused_within, refused_still}
+use Rattle.wp_names.proofs.Still.{open_still, prepared_still}
 
 -- ---- the transaction is freed
-
--- its keys are those that its changes change
-pub open_locked : (s : SeatState) (name : List ℕ) (batch : List Change) → HasOpen s name batch → HasLocked s name batch
-open_locked s name batch h = record { transaction = h.transaction; has = h.has; keys = h.keys }
-
-pub prepared_locked : (s : SeatState) (name : List ℕ) (number : ℕ) (batch : List Change) → HasPrepared s name number batch → HasLocked s name batch
-prepared_locked s name number batch h = record { transaction = h.transaction; has = h.has; keys = h.keys }
 
 -- the call began with what left the seat as it was, but for what it had seen
 module _ {D : Type 0} (z : SharedState D) (old start mid new : SeatState) (name : List ℕ) (entries : List Entry) (facts : ℕ → List Fact) (n : ℕ) (begins : Continues z old start old.knows.participant)

@@ -1,17 +1,9 @@
 -- A seat that goes on twice goes on.
-use Rattle.std.proofs.Common.{◌≡◌, ⊎_elim, inl, inr, ℕ, ◌+◌, ◌≤◌, Bool, true, false, List, [], ◌∷◌, ◌++◌, length, refl, sym, subst, ap, ◌∙◌, None, arith}
-use Rattle.std.specs.FinMap as finite
-use Rattle.wp_model.specs.History.{entry_at}
+use Rattle.std.proofs.Common.{◌≡◌, ⊎_elim, inl, inr, ℕ, ◌+◌, ◌≤◌, Bool, true, false, List, [], ◌∷◌, ◌++◌, length, refl, sym, subst, ap, ◌∙◌}
 use Rattle.wp_model.specs.Legal.{IsLegal}
-use Rattle.wp_model.specs.declared.change.Change.{Change}
 use Rattle.wp_model.specs.declared.entry.Entry.{Entry}
-use Rattle.wp_model.proofs.Entries.{entry_at_old}
-use Rattle.wp_core.specs.Lists.{IsIn}
-use Rattle.wp_core.specs.Views.{Event, Fact, stopped, log_failed, undecided_at, unprepared}
-use Rattle.wp_core.specs.World.{Participant, Transactions}
-use Rattle.wp_core.specs.Sound.Actors.{StartsWith}
-use Rattle.wp_core.specs.Sound.Views.{guarded_by}
-use Rattle.wp_core.proofs.KeepsSeen.{shorter}
+use Rattle.wp_core.specs.Views.{Event, Fact, stopped, log_failed}
+use Rattle.wp_core.specs.World.{Participant}
 use Rattle.wp_rule.specs.Words.{IsAt}
 use Rattle.wp_records.specs.Writing.{FoundLog}
 use Rattle.wp_records.specs.Records.{numbers_behind, failing, IsUncalled}
@@ -19,9 +11,9 @@ use Rattle.wp_shared.specs.Calls.{ContinuesWith, Continues, remembering}
 use Rattle.wp_shared.specs.Limits.{limit_at}
 use Rattle.wp_shared.specs.Seats.{SharedState, SeatState, IsFree, place_at}
 use Rattle.wp_shared.proofs.Onward.{starts_on}
-use Rattle.wp_txn.specs.declared.error.TxnError.{TxnError}
-use Rattle.wp_txn.specs.declared.error.TxnError.TheVariants.{Memory, Taken, Busy, TooMany, Silent, Unknown, InUse, NumbersFull, LogFault, Stopped}
-use Rattle.wp_txn.specs.Txn.{HasOpen, HasPrepared}
+use Rattle.wp_names.specs.declared.error.TxnError.{TxnError}
+use Rattle.wp_names.specs.declared.error.TxnError.TheVariants.{Memory, Taken, Busy, TooMany, Silent, Unknown, InUse, NumbersFull, LogFault, Stopped}
+use Rattle.wp_names.proofs.Still.{HasStill, still}
 use Rattle.wp_txn.specs.Writes.{HasPut, Refuses, SawNoMore, HadLog, LeavesDevice}
 
 -- the participant that it is in the end, whatever it had seen on the way
@@ -115,16 +107,6 @@ refused_for z old new needed Asks found after (InUse name) c = c
 
 -- ---- a refusal leaves transactions as they were
 
--- the seat has the transactions that it had, and knows of them what it knew
-pub record HasStill (old new : SeatState) : Type 0 where
-  pub transactions : new.knows.participant.transactions ≡ old.knows.participant.transactions
-  pub direct : new.knows.participant.direct ≡ old.knows.participant.direct
-  pub seen : StartsWith new.knows.participant.seen old.knows.participant.seen
-  pub notes : (fact : Fact) → guarded_by fact ≡ None → IsIn fact old.knows.notes → IsIn fact new.knows.notes
-
-pub still : {D : Type 0} (z : SharedState D) (old new : SeatState) (p : Participant) → p.transactions ≡ old.knows.participant.transactions → p.direct ≡ old.knows.participant.direct → Continues z old new p → HasStill old new
-still z old new p same direct goes = record { transactions = ap (λ (x : Participant). x.transactions) goes.participant ∙ same; direct = ap (λ (x : Participant). x.direct) goes.participant ∙ direct; seen = goes.seen; notes = goes.notes }
-
 pub refused_still : {D : Type 0} (z : SharedState D) (old new : SeatState) (needed : ℕ) (Asks : List Entry → Type 0) (why : TxnError) → Refuses z old new needed Asks old.knows.participant old.knows.participant why → HasStill old new
 refused_still z old new needed Asks Memory c = still z old new old.knows.participant refl refl c
 refused_still z old new needed Asks (Stopped n) c = still z old new (remembering (stopped n ∷ []) old.knows.participant) refl refl c.2
@@ -148,24 +130,3 @@ refused_free z old new needed Asks TooMany c = absurd c
 refused_free z old new needed Asks Silent c = absurd c
 refused_free z old new needed Asks (Unknown name at) c = absurd c
 refused_free z old new needed Asks (InUse name) c = absurd c
-
-module _ (old new : SeatState) (k : HasStill old new) (name : List ℕ) where
-  pub open_still : (batch : List Change) → HasOpen old name batch → HasOpen new name batch
-  open_still batch h = record {
-    transaction = h.transaction;
-    has = ap (λ (ts : Transactions). finite.get ts name) k.transactions ∙ h.has;
-    batch_is = h.batch_is;
-    keys = h.keys;
-    noted = k.notes (unprepared name) refl h.noted;
-  }
-
-  pub prepared_still : (number : ℕ) (batch : List Change) → HasPrepared old name number batch → HasPrepared new name number batch
-  prepared_still number batch h = let low = shorter new.knows.participant.seen old.knows.participant.seen k.seen in record {
-    transaction = h.transaction;
-    has = ap (λ (ts : Transactions). finite.get ts name) k.transactions ∙ h.has;
-    batch_is = h.batch_is;
-    keys = h.keys;
-    noted = k.notes (undecided_at name number) refl h.noted;
-    seen = (let s = h.seen in omega (arith, low, s));
-    stands = ap (λ (es : List Entry). entry_at es number) k.seen.1 ∙ entry_at_old old.knows.participant.seen k.seen.0 number h.seen ∙ h.stands;
-  }

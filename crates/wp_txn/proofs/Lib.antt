@@ -1,11 +1,6 @@
-mod Made
-mod Freed
-mod GoesOn
 pub mod Goes
-mod Adding
-mod Taking
-mod OneName
 mod MayPut
+mod OneName
 mod UnderLog
 mod DirectWrites
 mod BeforeLog

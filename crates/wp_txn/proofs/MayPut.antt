@@ -32,8 +32,8 @@ use Rattle.wp_shared.specs.Log.{LogState}
 use Rattle.wp_records.specs.Records.{OwnsEntry, MayPut}
 use Rattle.wp_shared.specs.Seats.{SharedState, SeatState, place_at}
 use Rattle.wp_txn.specs.Recording.{OpensLog}
-use Rattle.wp_txn.specs.Txn.{HasOpen, HasPrepared}
-use Rattle.wp_txn.proofs.Adding.{changed_one}
+use Rattle.wp_names.specs.Txn.{HasOpen, HasPrepared}
+use Rattle.wp_names.proofs.Adding.{changed_one}
 
 -- ---- numbers
 

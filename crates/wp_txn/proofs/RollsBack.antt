@@ -20,17 +20,19 @@ use Rattle.wp_core.proofs.HistoryGrows.{named_stays}
 use Rattle.wp_core.proofs.HistoryLaws.{next_decides_prepare}
 use Rattle.wp_core.proofs.KeepsSeen.{shorter}
 use Rattle.wp_shared.specs.Log.{LogState}
-use Rattle.wp_records.specs.Records.{is_about, IsAboutNone}
+use Rattle.wp_records.specs.Records.{IsAboutNone}
+use Rattle.wp_shared.specs.Notes.{is_about}
 use Rattle.wp_shared.specs.Calls.{IsLoose, Continues}
 use Rattle.wp_shared.specs.Seats.{SharedState, SeatState}
 use Rattle.wp_shared.proofs.Onward.{continues_none}
-use Rattle.wp_txn.specs.Calls.{without_transaction}
-use Rattle.wp_txn.specs.Recording.{OpensLog, Records, HadPrior, IsPriorSince, Frees}
-use Rattle.wp_txn.specs.Turns.{IsApartFrom}
-use Rattle.wp_txn.specs.Txn.{HasLocked, HasPrepared}
+use Rattle.wp_names.specs.Calls.{without_transaction, Frees}
+use Rattle.wp_txn.specs.Recording.{OpensLog, Records, HadPrior, IsPriorSince}
+use Rattle.wp_names.specs.Turns.{IsApartFrom}
+use Rattle.wp_names.specs.Txn.{HasLocked, HasPrepared}
 use Rattle.wp_txn.specs.Writes.{HasPut, RollsBack, AsksRollback}
-use Rattle.wp_txn.proofs.Ends.{prepared_locked, put_and_freed, number_still, locked_until, name_before, stands_before}
-use Rattle.wp_txn.proofs.Goes.{chain, still, prepared_still}
+use Rattle.wp_txn.proofs.Ends.{put_and_freed, number_still, locked_until, name_before, stands_before}
+use Rattle.wp_txn.proofs.Goes.{chain}
+use Rattle.wp_names.proofs.Still.{still, prepared_locked, prepared_still}
 use Rattle.wp_txn.proofs.MayPut.{legal_now, stands_still, undecided_still}
 use Rattle.wp_txn.proofs.OneName.{name_is_free}
 

@@ -47,14 +47,14 @@ use Rattle.wp_shared.specs.Calls.{IsLoose, ContinuesWith, Continues, remembering
 use Rattle.wp_shared.specs.Seats.{SharedState, SeatState, IsFree, place_at}
 use Rattle.wp_shared.specs.Turns.{HoldsTurn, TookLog, Given}
 use Rattle.wp_shared.proofs.Onward.{starts_on, loose_under}
-use Rattle.wp_txn.specs.Actors.{with_stopped}
+use Rattle.wp_names.specs.Actors.{with_stopped}
 use Rattle.wp_shared.specs.Notes.{with_note, seat_of}
 use Rattle.wp_txn.specs.Recording.{OpensLog, notes_of, PutsNoting, Records, answer_of}
 use Rattle.wp_txn.specs.declared.recording.Noting.{Noting}
 use Rattle.wp_txn.specs.declared.recording.Noting.TheVariants as note
 use Rattle.wp_txn.specs.Writes.{HasPut, Refuses, LeavesDevice}
-use Rattle.wp_txn.specs.declared.error.TxnError.TheVariants.{NumbersFull, Stopped}
-use Rattle.wp_txn.proofs.Made.{all_made}
+use Rattle.wp_names.specs.declared.error.TxnError.TheVariants.{NumbersFull, Stopped}
+use Rattle.wp_names.proofs.Made.{all_made}
 use Rattle.wp_txn.proofs.OneName.{named_is, name_is_free}
 use Rattle.wp_txn.proofs.RollsBack.{rollback_frees}
 

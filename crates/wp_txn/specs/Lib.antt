@@ -1,10 +1,8 @@
-pub mod Txn
-pub mod Actors
-pub mod Turns
-pub mod Under
-pub mod Calls
-pub mod Keys
 pub mod Writes
 pub mod Recording
+pub use Rattle.wp_names.specs.Txn
+pub use Rattle.wp_names.specs.Actors
+pub use Rattle.wp_names.specs.Turns
+pub use Rattle.wp_names.specs.Calls
 pub use Rattle.wp_records.specs.Records
 pub use Rattle.wp_records.specs.Writing

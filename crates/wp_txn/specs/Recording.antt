@@ -20,12 +20,12 @@ use Rattle.wp_shared.specs.Calls.{ContinuesWith, Continues}
 use Rattle.wp_shared.specs.Limits.{limit_at}
 use Rattle.wp_shared.specs.Seats.{SharedState, SeatState}
 use Rattle.wp_shared.specs.Turns.{TookLog}
-use Rattle.wp_txn.specs.declared.error.TxnError.{TxnError}
+use Rattle.wp_names.specs.declared.error.TxnError.{TxnError}
 use Rattle.wp_txn.specs.declared.recording.Noting.{Noting}
 use Rattle.wp_txn.specs.declared.recording.Noting.TheVariants as noting
-use Rattle.wp_txn.specs.declared.error.TxnError.TheVariants.{Memory, Busy, LogFault}
-use Rattle.wp_txn.specs.Calls.{Keeps, Finds, GivesUp, LocksWere, IsFreeName, without_transaction}
-use Rattle.wp_txn.specs.Turns.{IsNoDirect}
+use Rattle.wp_names.specs.declared.error.TxnError.TheVariants.{Memory, Busy, LogFault}
+use Rattle.wp_names.specs.Calls.{Keeps, Finds, LocksWere}
+use Rattle.wp_names.specs.Turns.{IsNoDirect}
 use Rattle.wp_txn.specs.Writes.{HasPut, Refuses, SawNoMore, MayLeaveDevice, writing_direct}
 
 -- what is noted of a record once it is put, where so many entries are published
@@ -86,12 +86,6 @@ HadPrior s number batch found = (n : ℕ) × (number ≤ n) × (n ≤ length s.k
 -- ... at some moment since the seat was the old one
 abbrev pub IsPriorSince : SeatState → SeatState → List Change → List Change → Type 0
 IsPriorSince old new batch found = HadPrior new (length old.knows.participant.seen) batch found
-
--- a transaction of this name is gone from the seat, which has seen no more, and its name and keys are free
-pub record Frees {D : Type 0} (z : SharedState D) (old new : SeatState) (name : List ℕ) : Type 0 where
-  pub gives_up : GivesUp z old new name
-  pub same : new.knows.participant ≡ without_transaction name old.knows.participant
-  pub freed : LocksWere z new (IsFreeName name)
 
 -- ---- a direct write
 

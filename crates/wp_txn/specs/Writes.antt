@@ -22,11 +22,11 @@ use Rattle.wp_records.specs.Records.{numbers_behind, failing, FailsAppend, IsUnc
 use Rattle.wp_shared.specs.Calls.{ContinuesWith, Continues, remembering}
 use Rattle.wp_shared.specs.Limits.{limit_at}
 use Rattle.wp_shared.specs.Seats.{SharedState, SeatState}
-use Rattle.wp_txn.specs.declared.error.TxnError.{TxnError}
-use Rattle.wp_txn.specs.declared.error.TxnError.TheVariants.{Memory, Busy, NumbersFull, LogFault, Stopped}
-use Rattle.wp_txn.specs.Calls.{Keeps, Finds, LocksWere, IsFreeName, without_transaction}
-use Rattle.wp_txn.specs.Turns.{IsApartFrom}
-use Rattle.wp_txn.specs.Txn.{OpenState, PreparedState, HasOpen, HasPrepared}
+use Rattle.wp_names.specs.declared.error.TxnError.{TxnError}
+use Rattle.wp_names.specs.declared.error.TxnError.TheVariants.{Memory, Busy, NumbersFull, LogFault, Stopped}
+use Rattle.wp_names.specs.Calls.{Keeps, Finds, LocksWere, IsFreeName, without_transaction}
+use Rattle.wp_names.specs.Turns.{IsApartFrom}
+use Rattle.wp_names.specs.Txn.{OpenState, PreparedState, HasOpen, HasPrepared}
 
 -- ---- any entries
 

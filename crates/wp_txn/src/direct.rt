@@ -6,17 +6,16 @@ ghost use Rattle.wp_model.specs.declared.holder.Holder.TheVariants.{Client};
 ghost use Rattle.wp_shared.specs.Seats.{IsFree};
 ghost use Rattle.wp_shared.specs.Turns.{HoldsTurn};
 ghost use Rattle.wp_txn.specs.Recording.{HoldsDirect, EndsDirect};
-ghost use Rattle.wp_txn.specs.Under.{LocksDirect};
+ghost use Rattle.wp_names.specs.Under.{LocksDirect};
 ghost use Rattle.wp_txn.specs.Writes.{RefusesBeforeLog, WritesDirect, writing_direct};
 
-use crate::error::TxnError;
-use crate::locking::lock_for;
 use crate::recording::record_write;
 use crate::steps::{free_direct, lock_direct};
 use std::alloc::Global;
 use std::sync::Wait;
 use wp_locks::Locks;
 use wp_model::{Batch, Change, Holder, Key, Seq};
+use wp_names::{TxnError, lock_for};
 use wp_outside::Disk;
 use wp_shared::{Seat, Shared};
 

@@ -1,17 +1,15 @@
 //! An open transaction is prepared, or committed at once.
 ghost use Rattle.std.specs.Prelude.{◌≡◌, IfOk, IfErr};
 ghost use Rattle.wp_shared.specs.Seats.{IsFree};
-ghost use Rattle.wp_txn.specs.Txn.{HasOpen};
+ghost use Rattle.wp_names.specs.Txn.{HasOpen};
 ghost use Rattle.wp_model.specs.declared.entry.Entry.TheVariants.{Write, Prepare};
 ghost use Rattle.wp_txn.specs.Writes.{RefusesBeforeLog, Prepares, CommitsNow, RefusesOpen};
 
-use crate::error::Refused;
-use crate::locking::free;
 use crate::recording::{record_prepare, record_write, shows_batch};
-use crate::txn::{OpenTxn, PreparedTxn};
 use std::alloc::Global;
 use std::sync::Wait;
 use wp_model::Seq;
+use wp_names::{OpenTxn, PreparedTxn, Refused, free};
 use wp_outside::Disk;
 use wp_shared::{Seat, Shared};
 

@@ -13,16 +13,15 @@ ghost use Rattle.wp_records.specs.Writing.{HoldsWrite};
 ghost use Rattle.wp_shared.specs.Seats.{IsFree, SeatState};
 ghost use Rattle.wp_shared.specs.Turns.{Given};
 ghost use Rattle.wp_txn.specs.Recording.{OpensLog, MayNote, notes_of, PutsNoting, Records, HadPrior, answer_of};
-ghost use Rattle.wp_txn.specs.Txn.{HasOpen, HasPrepared};
+ghost use Rattle.wp_names.specs.Txn.{HasOpen, HasPrepared};
 ghost use Rattle.wp_txn.specs.Writes.{Refuses, MayLeaveDevice};
 
-use crate::error::TxnError;
 use crate::steps::{find_log_closed, note_undecided, note_unprepared};
-use crate::txn::{OpenTxn, PreparedTxn};
 use std::alloc::Global;
 use std::sync::Wait;
 use wp_fields::Format;
 use wp_model::{Batch, Name, Seq};
+use wp_names::{OpenTxn, PreparedTxn, TxnError};
 use wp_outside::Disk;
 use wp_read::laws::held_keys_keep_their_values;
 use wp_records::{Record, WriteError, put};

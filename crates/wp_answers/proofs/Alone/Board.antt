@@ -14,7 +14,7 @@ use Rattle.wp_core.proofs.Keyed.{is_word_same, at_inserted, else_inserted, some_
 use Rattle.wp_core.proofs.PastsGrow.{in_front, in_last}
 use Rattle.wp_core.proofs.Tests.{some_there}
 use Rattle.wp_shared.specs.Seats.{SharedState, SeatState, Stands}
-use Rattle.wp_txn.specs.declared.error.TxnError.TheVariants.{Silent}
+use Rattle.wp_names.specs.declared.error.TxnError.TheVariants.{Silent}
 use Rattle.wp_txn.specs.Calls.{Tells, Hears}
 use Rattle.wp_replies.specs.Client.{Client}
 use Rattle.wp_replies.specs.Due.{Store, store_after}

@@ -19,7 +19,7 @@ use Rattle.wp_core.specs.Sound.Views.{guarded_by}
 use Rattle.wp_txn.specs.Writing.{FoundLog}
 use Rattle.wp_rule.specs.Accounts.{account_of}
 use Rattle.wp_shared.specs.Seats.{SharedState, SeatState, Stands}
-use Rattle.wp_txn.specs.declared.error.TxnError.TheVariants.{Busy, NumbersFull, LogFault, Stopped}
+use Rattle.wp_names.specs.declared.error.TxnError.TheVariants.{Busy, NumbersFull, LogFault, Stopped}
 use Rattle.wp_txn.specs.Writes.{wrote_direct, writing_direct, WritesDirect}
 use Rattle.wp_replies.specs.declared.client.LabelledSnapshot.{LabelledSnapshot}
 use Rattle.wp_replies.specs.declared.client.Txn.TheVariants.{Idle}

@@ -3,7 +3,7 @@ use Rattle.wp_model.specs.LockTables.{LockTables}
 use Rattle.wp_core.specs.Changes.{without_key}
 use Rattle.wp_shared.proofs.Onward.{holds_alone}
 use Rattle.wp_txn.proofs.DirectWrites.{ended_holds, ended_direct}
-use Rattle.wp_txn.proofs.GoesOn.{lent_as, held_last}
+use Rattle.wp_names.proofs.GoesOn.{lent_as, held_last}
 use Rattle.wp_txn.proofs.direct.give_back.Goals as goal
 
 pub free_direct-requires-clause-held : goal.free_direct-requires-clause-held

@@ -2,7 +2,7 @@ use Rattle.std.proofs.Common.{[], length, min, sym, subst, ap, ◌∙◌}
 use Rattle.wp_entry.specs.Record.{last_number}
 use Rattle.wp_shared.specs.Log.{LogState, IsLog}
 use Rattle.wp_shared.specs.Notes.{seat_of}
-use Rattle.wp_txn.specs.Actors.{with_stopped}
+use Rattle.wp_names.specs.Actors.{with_stopped}
 use Rattle.wp_txn.proofs.UnderLog.{alone, alone_still, stopped_back, full_back, opened}
 use Rattle.wp_txn.proofs.recording.open_log.Goals as goal
 
