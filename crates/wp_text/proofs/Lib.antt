@@ -2,6 +2,6 @@ pub mod StatementLaws
 pub mod LineLaws
 pub mod Placing
 pub mod ScriptLaws
-pub mod Answered
+pub mod AsRead
 pub mod CommandCount
 pub mod Loop

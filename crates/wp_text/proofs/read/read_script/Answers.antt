@@ -2,7 +2,7 @@ use Rattle.std.proofs.Common.{◌≤◌, length, subst}
 use Rattle.wp_fields.specs.Reading.{Gives}
 use Rattle.wp_text.specs.Grammar.{IsScript, commands_of}
 use Rattle.wp_text.specs.Reading.{script_fault}
-use Rattle.wp_text.proofs.Answered.{script_given, error_given}
+use Rattle.wp_text.proofs.AsRead.{script_given, error_given}
 use Rattle.wp_text.proofs.CommandCount.{few_commands}
 use Rattle.wp_text.proofs.ScriptLaws.{is_script_again, is_fault_again}
 use Rattle.wp_text.proofs.read.read_script.Goals as goal
