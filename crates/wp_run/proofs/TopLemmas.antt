@@ -35,7 +35,7 @@ use Rattle.wp_args.specs.declared.choice.Action.TheVariants as action
 use Rattle.wp_args.specs.declared.choice.Choice.{Choice}
 use Rattle.wp_transcript.specs.declared.status.Status.{Status}
 use Rattle.wp_transcript.specs.declared.status.Status.TheVariants as status
-use Rattle.wp_run.specs.Run.{Call, CanMake, IsChosen, IsUnread, IsReadAs, IsServed, Ends}
+use Rattle.wp_run.specs.Run.{Call, CanMake, IsChoiceOf, IsChosen, IsUnread, IsReadAs, IsServed, Ends}
 use Rattle.wp_run.specs.Seating.{IsFirstClient}
 use Rattle.wp_run.specs.Headline.{Serving, Headline}
 use Rattle.wp_run.specs.Met.{SharesWords}
@@ -251,6 +251,13 @@ can_make words choice is = by _ is.entered
     by : (entered : Option (List ℕ × List _)) → IsEntered entered choice → CanMake choice.action
     by None none = absurd none
     by (Some x) has = of x.1 choice.action has.numbers
+
+-- ---- no choice
+
+pub wordless_ends : (call : Call) (end : Status) → AreUncalled call.disks → IsChoiceOf call.words (Err end) → Ends ServesExactly call end
+wordless_ends call status.Words same why = why
+wordless_ends call status.Memory same why = inl same
+wordless_ends call other same why = absurd why
 
 -- ---- no script
 

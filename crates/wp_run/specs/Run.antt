@@ -21,6 +21,13 @@ use Rattle.wp_run.specs.Use.{DisksUse, SourceUse, SinkUse, AreUncalled}
 abbrev pub IsChosen : List (List ℕ) → Action → Type 0
 IsChosen words chosen = (choice : Choice) × IsChoice words choice × (choice.action ≡ chosen)
 
+-- what the words choose, or why they choose nothing
+abbrev pub IsChoiceOf : List (List ℕ) → Result Choice Status → Type 0
+IsChoiceOf words (Ok choice) = IsChoice words choice
+IsChoiceOf words (Err status.Words) = ¬ IsTaken words
+IsChoiceOf words (Err status.Memory) = Unit {0}
+IsChoiceOf words (Err other) = ⊥
+
 -- how many bytes are read at most: one more than a script may have, so that a longer one is named
 abbrev pub most_read : ℕ
 most_read = MOST_BYTES + 1

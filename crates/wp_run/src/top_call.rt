@@ -1,7 +1,7 @@
 ghost use Rattle.std.specs.Prelude.{◌≡◌, ◌≤◌, ℕ, map};
 ghost use Rattle.std.specs.String.{string_bytes};
 ghost use Rattle.wp_run.specs.Limits.{LimitsAre};
-ghost use Rattle.wp_run.specs.Run.{call_of, CanMake, Ends, IsChosen, IsReadAs};
+ghost use Rattle.wp_run.specs.Run.{call_of, CanMake, Ends, IsChoiceOf, IsChosen, IsReadAs};
 ghost use Rattle.wp_run.specs.Serving.{Serves, ServesExactly};
 ghost use Rattle.wp_run.specs.Use.{IsDurable, disks_use, source_use, sink_use};
 ghost use Rattle.wp_transcript.specs.Status.{LeavesUncalled, stage_of};
@@ -11,7 +11,7 @@ use crate::serve::{Served, serve};
 use std::alloc::{AllocError, Global};
 use std::sync::Wait;
 use std::thread::Threads;
-use wp_args::{Action, choice_of, words_choose_once};
+use wp_args::{Action, Choice, choice_of, words_choose_once};
 use wp_make::make_script;
 use wp_outside::{Disk, Disks, Gate, ReadError, Sink, Source, read_all};
 use wp_text::{MOST_BYTES, Script, ScriptError, read_script};
@@ -22,6 +22,17 @@ use wp_transcript::Status;
 pub struct Ended<D> {
     pub status: Status,
     pub disks: Disks<D>,
+}
+
+/// What the words choose.
+fn choice_in(alloc: Global, words: &[String]) -> Result<Choice, Status>
+    ensures { IsChoiceOf (map string_bytes words.now) result }
+{
+    match choice_of(alloc, words) {
+        Ok(Some(choice)) => Ok(choice),
+        Ok(None) => Err(Status::Words),
+        Err(AllocError) => Err(Status::Memory),
+    }
 }
 
 /// The script that the source holds.
@@ -83,16 +94,9 @@ pub fn run<R: Threads + Wait + Sync, D: Disk + Drop + Send, S: Source, K: Sink, 
     ensures limits { LimitsAre }
 {
     words_choose_once();
-    let choice = match choice_of(alloc, words) {
-        Ok(Some(choice)) => choice,
-        Ok(None) => {
-            let status = Status::Words;
-            return Ended { status, disks };
-        }
-        Err(AllocError) => {
-            let status = Status::Memory;
-            return Ended { status, disks };
-        }
+    let choice = match choice_in(alloc, words) {
+        Ok(choice) => choice,
+        Err(status) => return Ended { status, disks },
     };
     let script = match script_of(alloc, choice.action, source) {
         Ok(script) => script,

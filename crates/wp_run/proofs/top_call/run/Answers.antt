@@ -1,31 +1,32 @@
 use Rattle.std.proofs.Common.{refl}
-use Rattle.wp_run.proofs.TopLemmas.{scriptless_ends, served_ends, ends_only, in_ranges, can_make}
+use Rattle.wp_run.proofs.TopLemmas.{wordless_ends, scriptless_ends, served_ends, ends_only, in_ranges, can_make}
 use Rattle.wp_run.proofs.top_call.run.Goals as goal
 
+pub returns-in-Err-clause-alone : goal.returns-in-Err-clause-alone
+returns-in-Err-clause-alone g c = wordless_ends _ _ (refl, refl, refl) (rw c.in-Err.is at c.choice_in.ensures)
+
+pub returns-in-Err-clause-ends : goal.returns-in-Err-clause-ends
+returns-in-Err-clause-ends g c = ends_only _ _ (returns-in-Err-clause-alone g c)
+
 pub returns-in-Err-script_of-clause-alone : goal.returns-in-Err-script_of-clause-alone
-returns-in-Err-script_of-clause-alone g c =
-    let choice = c.in-Ok-Some.choice in
-    let is = rw c.in-Ok-Some.field-0-is at c.in-Ok-Some.ensures.taken in
-    scriptless_ends _ choice.action _ (choice, is, refl) (refl, refl, refl) (rw c.in-Err-script_of.is at c.script_of.ensures.read)
+returns-in-Err-script_of-clause-alone g c = scriptless_ends _ c.in-Ok.choice.action _ (c.in-Ok.choice, c.in-Ok.ensures, refl) (refl, refl, refl) (rw c.in-Err-script_of.is at c.script_of.ensures.read)
 
 pub returns-in-Err-script_of-clause-ends : goal.returns-in-Err-script_of-clause-ends
 returns-in-Err-script_of-clause-ends g c = ends_only _ _ (returns-in-Err-script_of-clause-alone g c)
 
 pub script_of-requires : goal.script_of-requires
-script_of-requires g c = let is = rw c.in-Ok-Some.field-0-is at c.in-Ok-Some.ensures.taken in can_make _ c.in-Ok-Some.choice is
+script_of-requires g c = can_make _ c.in-Ok.choice c.in-Ok.ensures
 
 pub serve-status-requires-clause-ranges : goal.serve-status-requires-clause-ranges
-serve-status-requires-clause-ranges g c κs within = let is = rw c.in-Ok-Some.field-0-is at c.in-Ok-Some.ensures.taken in in_ranges _ c.in-Ok-Some.choice is
+serve-status-requires-clause-ranges g c κs within = in_ranges _ c.in-Ok.choice c.in-Ok.ensures
 
 pub returns-clause-alone : goal.returns-clause-alone
 returns-clause-alone g c =
-    let choice = c.in-Ok-Some.choice in
-    let is = rw c.in-Ok-Some.field-0-is at c.in-Ok-Some.ensures.taken in
     served_ends _ c.serve-status.result.status (record {
-      choice = choice;
-      chosen = is;
-      script = c.in-Ok.script;
-      read = c.in-Ok.ensures.read;
+      choice = c.in-Ok.choice;
+      chosen = c.in-Ok.ensures;
+      script = c.in-Ok-script_of.script;
+      read = c.in-Ok-script_of.ensures.read;
       served = rw c.as_slice-parts.ensures at c.serve-status.ensures.serves;
     })
 
