@@ -7,7 +7,7 @@ use Rattle.wp_model.specs.Flushed.{InstalledEdit}
 use Rattle.wp_replies.specs.Replies.{IsCompactionCount}
 use Rattle.wp_replies.specs.Tables.{listed, retained, after_compaction}
 use Rattle.wp_core.specs.Sound.Actors.{StartsWith}
-use Rattle.wp_core.specs.Tables.{Installed, store, installed, writes}
+use Rattle.wp_core.specs.Tables.{Installed, store, writes}
 use Rattle.wp_core.specs.Views.{Event, tables_failed}
 use Rattle.wp_core.specs.Views as event
 use Rattle.wp_core.specs.World.{Participant}

@@ -1,4 +1,4 @@
-use Rattle.std.proofs.Common.{◌≡◌, ◌≤◌, ◌^◌, ◌∙◌, ℕ, Some, true, false, sym, subst, ap, true≢false}
+use Rattle.std.proofs.Common.{◌≡◌, ◌≤◌, ◌^◌, ◌∙◌, ℕ, Some, false, sym, subst, ap, true≢false}
 use Rattle.wp_judge.specs.Words.{CommitPair, fits}
 use Rattle.wp_model.specs.Decision.{decision_of}
 use Rattle.wp_core.specs.Lists.{IsIn}
