@@ -114,5 +114,5 @@ pub fn build(alloc: Global, id: u32, versions: &Versions) -> Result<Built, Alloc
     ensures table { OnOk result ((flushed : ℕ) → list_all (is_flushed flushed) versions.now ≡ true → SpellsTable id flushed versions.now (written_bytes id versions.now)) }
 {
     let (bytes, index) = spell(alloc, id, versions)?;
-    Ok(Built::of(bytes, versions.as_slice().len() as u64, index))
+    Built::of(alloc, bytes, versions.as_slice().len() as u64, index)
 }

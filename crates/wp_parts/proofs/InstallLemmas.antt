@@ -21,7 +21,7 @@ use Rattle.wp_merge.proofs.Sorted.{at_append, at_sorted, in_order_sorted, in_ord
 use Rattle.wp_devices.specs.Opens.{installed_of}
 use Rattle.wp_store.specs.Store.{with_newest}
 use Rattle.wp_table.specs.Table.{is_flushed}
-use Rattle.wp_tableset.specs.Changes.{compacted_parts, compacted_places, moved_edit, one_part, NewestIsWritten, NextInstalled, NextRefused, LosesNoTable}
+use Rattle.wp_tableset.specs.Changes.{compacted_parts, compacted_places, moved_edit, one_part, NewestIsWritten, NextInstalled, NextRefused, TablesFailed, LosesNoTable}
 use Rattle.wp_tableset.specs.Device.{KeepsFronts}
 use Rattle.wp_tableset.specs.Install.{InstallsEdit, InstallStopped, ReadyState, IsReadyEdit, TableWritten, NotWritten}
 use Rattle.wp_tableset.specs.Set.{TableSetState, LeavesTables, RestsWith, StoresTables}
@@ -34,7 +34,7 @@ use Rattle.wp_core.specs.Tables.{Installed}
 use Rattle.wp_parts.specs.declared.edits.FailedInstall.{FailedInstall}
 use Rattle.wp_parts.specs.Edits.{EditsState, edits_state, asked_for, failed_edit, IsEdits}
 use Rattle.wp_parts.specs.Installs.{with_table, in_one_table, in_segment, HadCause, HasHalted, IsRefused, SurvivesInstall}
-use Rattle.wp_parts.specs.Renewal.{SegmentState, IsBehind, IsWritten, MatchWritten}
+use Rattle.wp_parts.specs.Renewal.{SegmentState, IsBehind, IsWritten}
 use Rattle.wp_parts.proofs.FlushedVersions.{both_flushed, later_flushed}
 use Rattle.wp_parts.proofs.LogLemmas.{rose_since}
 use Rattle.wp_parts.proofs.StockLemmas.{at_parts}
@@ -176,12 +176,8 @@ module _ (set first : TableSetState) (base : ℕ) (parts : List (List Version)) 
       let w = written versions flushed is in
       let halted : new.halted ≡ set.halted = ap (λ (s : TableSetState). s.halted) w.1.changed in
       kept_edits (ap (λ (s : TableSetState). s.manifest) w.1.changed) (w.1.stores k.edits parts stored) (λ stopped. absurd cc)
-  stage_edits asked ready (Err Memory) written refused versions flushed is =
-      let halted : new.halted ≡ set.halted = ap (λ (s : TableSetState). s.halted) refused.0 in
-      kept_edits (ap (λ (s : TableSetState). s.manifest) refused.0) (refused.1 k.edits parts stored) (λ stopped. absurd cc)
-  stage_edits asked ready (Err Fault) written refused versions flushed is =
-      kept_edits refused.1.manifest (refused.1.stores k.edits parts stored) (λ _. inr (rose_since first.faults set.faults new.faults k.later refused.1.rose))
-  stage_edits asked ready (Err Halted) written refused versions flushed is = absurd refused
+  stage_edits asked ready (Err why) written refused versions flushed is =
+      kept_edits refused.2.manifest (refused.2.stores k.edits parts stored) (λ _. inr (rose_since first.faults set.faults new.faults k.later refused.2.rose))
 
   -- the table of the machine is as it was, or halted
   same_table : new ≡ record set { moments = new.moments; faults = new.faults } → (edits_state new first base parts failed).table ≡ (edits_state set first base parts failed).table
@@ -207,19 +203,18 @@ module _ (set first : TableSetState) (base : ℕ) (parts : List (List Version)) 
     },
   )
 
-  table_refused : (why : TableSetError) → NotWritten set new why → MatchWritten (edits_state set first base parts failed).table (edits_state new first base parts failed).table why
-  table_refused Memory refused = same_table refused.0
-  table_refused Fault refused =
-      let same = refused.1.manifest in
+  table_refused : new.halted ≡ true → TablesFailed set new → (edits_state new first base parts failed).table ≡ with_failed (edits_state set first base parts failed).table None
+  table_refused halted stopped =
+      let same = stopped.manifest in
       let none = open_asked new.manifest.log.closed failed parts (ap (λ (m : ManifestState). m.log.closed) same ∙ open_before) ∙ sym none_before in
       let last = ap (λ (m : ManifestState). installed_of base m.edit parts) same in
       let none_failed : failed_edit new.manifest.log.closed failed parts ≡ failed_edit set.manifest.log.closed failed parts = none in
-      λ i. record { last = last i; failed = none_failed i; halted = refused.0 i }
-  table_refused Halted refused = absurd refused
+      λ i. record { last = last i; failed = none_failed i; halted = halted i }
 
-  pub stage_refused : {T : Type 0} (result : Result T TableSetError) → IfErr result (NotWritten set new) → IfErr result (MatchWritten (edits_state set first base parts failed).table (edits_state new first base parts failed).table)
+  pub stage_refused : {T : Type 0} (result : Result T TableSetError) → IfErr result (NotWritten set new)
+      → IfErr result (λ why. (why ≡ Fault) × ((edits_state new first base parts failed).table ≡ with_failed (edits_state set first base parts failed).table None))
   stage_refused (Ok table) refused = tt
-  stage_refused (Err why) refused = table_refused why refused
+  stage_refused (Err why) refused = (refused.0, table_refused refused.1 refused.2)
 
   -- whatever the edit is to be, a crash leaves those that there are
   pub survives_write : new.manifest ≡ set.manifest → (versions : List Version) (flushed : ℕ) (segment : Segment) (now : EditsState) → now.set ≡ new → SurvivesInstall (edits_state set first base parts failed) now (in_segment versions flushed segment (installed_of base set.manifest.edit parts))
@@ -478,26 +473,16 @@ put_first [] others = refl
 put_first (v ∷ versions) others = refl
 
 -- the table of an edit was not written
-why_stopped : (old new : TableSetState) (why : TableSetError) → NotWritten old new why → HadCause old new why
-why_stopped old new Memory refused = tt
-why_stopped old new Fault refused = inr refused.1.rose
-why_stopped old new Halted refused = tt
-
 pub stage_cause : {T : Type 0} (old new : TableSetState) (result : Result T TableSetError) → IfErr result (NotWritten old new) → IfErr result (HadCause old new)
 stage_cause old new (Ok table) refused = tt
-stage_cause old new (Err why) refused = why_stopped old new why refused
-
-not_called : (old new : TableSetState) (why : TableSetError) → NotWritten old new why → new.manifest ≡ old.manifest
-not_called old new Memory refused = ap (λ (s : TableSetState). s.manifest) refused.0
-not_called old new Fault refused = refused.1.manifest
-not_called old new Halted refused = absurd refused
+stage_cause old new (Err why) refused = subst (HadCause old new) (sym refused.0) (inr refused.2.rose)
 
 -- the manifest is not called before the install
 pub stage_manifest : {T : Type 0} (old new : TableSetState) (asked ready : ReadyState) (result : Result T TableSetError)
     → OnOk result ((versions : List Version) (flushed : ℕ) → IsReadyEdit old versions flushed asked → (place : ℕ) × TableWritten old new versions flushed place × (ready.edit ≡ moved_edit old versions flushed 0 place))
     → IfErr result (NotWritten old new) → (versions : List Version) (flushed : ℕ) → IsReadyEdit old versions flushed asked → new.manifest ≡ old.manifest
 stage_manifest old new asked ready (Ok table) written refused versions flushed is = ap (λ (s : TableSetState). s.manifest) (written versions flushed is).1.changed
-stage_manifest old new asked ready (Err why) written refused versions flushed is = not_called old new why refused
+stage_manifest old new asked ready (Err why) written refused versions flushed is = refused.2.manifest
 
 -- an install that called no device
 pub nothing_called : (set first : TableSetState) (base : ℕ) (parts : List (List Version)) (failed : Option FailedInstall) → IsEdits (edits_state set first base parts failed) → set.halted ≡ false → (next : Edit) (after : List (List Version) → List (List Version)) (edit : InstalledEdit) (now : EditsState)

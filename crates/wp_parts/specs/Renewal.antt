@@ -1,13 +1,9 @@
 -- An edit that names another segment of the log, between the stages of its install.
-use Rattle.std.specs.Prelude.{◌≡◌, ℕ, ◌<◌, List, length, None}
+use Rattle.std.specs.Prelude.{◌≡◌, ℕ, ◌<◌, List, length}
 use Rattle.wp_model.specs.declared.segment.Segment.{Segment}
 use Rattle.wp_model.specs.declared.version.Version.{Version}
-use Rattle.wp_core.specs.Effects.{with_failed}
-use Rattle.wp_core.specs.Tables.{Installed}
 use Rattle.wp_tableset.specs.Changes.{moved_edit}
 use Rattle.wp_tableset.specs.Install.{ReadyState, MayMove, IsReadyEdit, TableWritten}
-use Rattle.wp_tableset.specs.declared.error.TableSetError.{TableSetError}
-use Rattle.wp_tableset.specs.declared.error.TableSetError.TheVariants.{Memory, Fault, Halted}
 use Rattle.wp_parts.specs.Edits.{EditsState, IsEdits}
 use Rattle.wp_parts.specs.Installs.{SurvivesInstall, in_segment}
 
@@ -36,9 +32,3 @@ IsWritten before now asked ready = (versions : List Version) (flushed : ℕ) →
 -- What a crash leaves while the table is being written, which the edit was made ready with: the edits as they were, and their tables.
 abbrev pub SurvivesWrite : EditsState → EditsState → SegmentState → Type 0
 SurvivesWrite before now asked = (versions : List Version) (flushed : ℕ) → IsReadyEdit before.set versions flushed asked.edit → (segment : Segment) → SurvivesInstall before now (in_segment versions flushed segment before.table.last)
-
--- the table is not written: for want of memory, which leaves what there was, or the device failed
-abbrev pub MatchWritten : Installed → Installed → TableSetError → Type 0
-MatchWritten old new Memory = new ≡ old
-MatchWritten old new Fault = new ≡ with_failed old None
-MatchWritten old new Halted = ⊥

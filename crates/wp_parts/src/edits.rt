@@ -17,7 +17,7 @@ ghost use Rattle.wp_tableset.specs.declared.error.TableSetError.TheVariants.{Fau
 ghost use Rattle.wp_core.specs.Effects.{with_failed};
 ghost use Rattle.wp_core.specs.Images.{ManifestTells, TablesTell};
 ghost use Rattle.wp_parts.specs.Edits.{EditsState, IsEdits, IsNamed, HasTablesOf, edits_state};
-ghost use Rattle.wp_parts.specs.Renewal.{IsBehind, IsWritten, MatchWritten, SurvivesWrite};
+ghost use Rattle.wp_parts.specs.Renewal.{IsBehind, IsWritten, SurvivesWrite};
 ghost use Rattle.wp_parts.specs.Installs.{with_table, in_one_table, in_segment, HadCause, IsRefused, SurvivesInstall};
 
 use crate::gone::Gone;
@@ -251,7 +251,7 @@ impl<D: Disk> Edits<D> {
     }
 
     /// Takes the memory of an edit that names another segment of the log: all entries up to `flushed` are in the tables then, these
-    /// versions in one more, if there are any. What readers share of that table is taken as it is written.
+    /// versions in one more, if there are any.
     pub fn ready(&self, versions: &Versions, flushed: Seq) -> Result<ReadySegment, AllocError>
         requires numbered { list_all is_numbered versions.now ≡ true }
         requires flushed { list_all (is_flushed flushed) versions.now ≡ true }
@@ -265,6 +265,7 @@ impl<D: Disk> Edits<D> {
     }
 
     /// Writes the table of a ready edit, if it has one. The table is for readers. After a fault of the device the tables are halted.
+    /// It takes no memory.
     pub fn write_table(
         &mut self,
         ready: &mut ReadySegment,
@@ -276,7 +277,7 @@ impl<D: Disk> Edits<D> {
         ensures written { OnOk result ((self.new.table ≡ self.old.table) × IsWritten self.old self.new ready.old ready.new) }
         ensures parts { self.new.parts ≡ self.old.parts }
         ensures uncalled { ready.old.edit.built ≡ None → self.new ≡ self.old }
-        ensures refused { IfErr result (λ why. MatchWritten self.old.table self.new.table why) }
+        ensures refused { IfErr result (λ why. (why ≡ Fault) × (self.new.table ≡ with_failed self.old.table None)) }
         ensures cause { IfErr result (HadCause self.old.set self.new.set) }
         ensures survives { SurvivesWrite self.old self.new ready.old }
         ensures manifest { self.new.set.manifest ≡ self.old.set.manifest }

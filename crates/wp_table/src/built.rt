@@ -1,44 +1,49 @@
-ghost use Rattle.std.specs.Prelude.{◌≡◌};
+ghost use Rattle.std.specs.Prelude.{◌≡◌, IfOk};
+ghost use Rattle.std.specs.Arc.{arc_value};
 ghost use Rattle.wp_fields.specs.declared.format.Format.TheVariants.{Two};
 ghost use Rattle.wp_table.specs.Walk.{stored_versions, IsIndexed};
 
 use crate::table::Table;
+use std::alloc::{AllocError, Global};
 use std::marker::Model;
+use std::sync::Arc;
 use wp_fields::Format;
 
-/// A table as it was built, in the second version of the format, for a device and then for readers: the bytes, and eight
-/// more for each block. Clauses see the bytes and the versions that they have.
+/// A table as it was built, in the second version of the format, for a device and then for readers: both have the same bytes.
+/// Clauses see the bytes and the versions that they have.
 #[derive(Drop)]
 pub struct Built {
-    bytes: Vec<u8>,
-    /// How many versions it has.
-    count: u64,
-    /// Where each block begins.
-    index: Vec<u64>,
+    bytes: Arc<Vec<u8>>,
+    table: Arc<Table>,
 }
 
 impl Model for Built {
-    ghost use Rattle.wp_fields.specs.declared.format.Format.TheVariants.{Two};
-    ghost use Rattle.wp_table.specs.Walk.{BuiltTable, stored_versions, IsIndexed};
+    ghost use Rattle.std.specs.Arc.{arc_value};
+    ghost use Rattle.wp_table.specs.Walk.{BuiltTable};
 
     ghost Value = { BuiltTable };
 
-    ghost view = { λ b. record { bytes = b.bytes.items; versions = stored_versions Two b.bytes.items b.count } };
-
-    ghost invariant = { λ b. IsIndexed Two b.bytes.items b.count b.index.items };
+    ghost view = { λ b. record { bytes = (arc_value b.bytes).items; versions = arc_value b.table } };
 }
 
 impl Built {
-    /// The table of so many versions that the bytes spell, whose blocks begin at these places.
-    pub fn of(bytes: Vec<u8>, count: u64, index: Vec<u64>) -> Built
+    /// The table of so many versions that the bytes spell, whose blocks begin at these places. It takes the memory that readers
+    /// share.
+    pub fn of(
+        alloc: Global,
+        bytes: Vec<u8>,
+        count: u64,
+        index: Vec<u64>,
+    ) -> Result<Built, AllocError>
         requires { IsIndexed Two bytes.items count index.items }
-        ensures { result ≡ record { bytes = bytes.items; versions = stored_versions Two bytes.items count } }
+        ensures { IfOk result (λ built. built ≡ record { bytes = bytes.items; versions = stored_versions Two bytes.items count }) }
     {
-        Built {
+        let bytes = Arc::new(alloc, bytes)?;
+        let table = Table::new(Arc::clone(&bytes)?, Format::Two, count, index);
+        Ok(Built {
             bytes,
-            count,
-            index,
-        }
+            table: Arc::new(alloc, table)?,
+        })
     }
 
     /// Its bytes.
@@ -48,15 +53,14 @@ impl Built {
         &self.bytes
     }
 
-    /// The table for readers, in the memory that it has.
-    pub fn into_table(self) -> Table
-        ensures { result ≡ self.versions }
+    /// The table for readers, who share it.
+    pub fn into_table(self) -> Arc<Table>
+        ensures { arc_value result ≡ self.versions }
     {
         let Built {
-            bytes,
-            count,
-            index,
+            bytes: _bytes,
+            table,
         } = self;
-        Table::new(bytes, Format::Two, count, index)
+        table
     }
 }

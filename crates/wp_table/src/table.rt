@@ -1,4 +1,5 @@
 ghost use Rattle.std.specs.Prelude.{◌≡◌, ◌+◌, ◌-◌, ◌*◌, ◌^◌, ◌≤◌, ◌<◌, true, false, List, length, drop, IfOk, IfErr, IfSome, Ok, Err, filter};
+ghost use Rattle.std.specs.Arc.{arc_value};
 ghost use Rattle.std.specs.List.{list_all};
 ghost use Rattle.std.specs.Str.{bytes_eq};
 ghost use Rattle.wp_model.specs.declared.version.Version.{Version};
@@ -21,13 +22,14 @@ use crate::reading::judge;
 use crate::steps::Steps;
 use std::alloc::Global;
 use std::marker::{Brand, Model};
+use std::sync::Arc;
 use std::sync::ledger::{Blank, Ledger};
 use wp_fields::Format;
 use wp_model::{Key, Seq};
 
 /// A table that was judged or built: its bytes, and eight for each block. Threads may share it.
 pub struct Table {
-    bytes: Vec<u8>,
+    bytes: Arc<Vec<u8>>,
     format: Format,
     /// How many versions it has.
     count: u64,
@@ -37,21 +39,22 @@ pub struct Table {
 
 impl Model for Table {
     ghost use Rattle.std.specs.Prelude.{List};
+    ghost use Rattle.std.specs.Arc.{arc_value};
     ghost use Rattle.wp_model.specs.declared.version.Version.{Version};
     ghost use Rattle.wp_table.specs.Walk.{stored_versions, IsIndexed};
 
     ghost Value = { List Version };
 
-    ghost view = { λ t. stored_versions t.format t.bytes.items t.count };
+    ghost view = { λ t. stored_versions t.format (arc_value t.bytes).items t.count };
 
-    ghost invariant = { λ t. IsIndexed t.format t.bytes.items t.count t.index.items };
+    ghost invariant = { λ t. IsIndexed t.format (arc_value t.bytes).items t.count t.index.items };
 }
 
 impl Table {
     /// The table of so many versions that the bytes are, whose blocks begin at these places.
-    pub(crate) fn new(bytes: Vec<u8>, format: Format, count: u64, index: Vec<u64>) -> Table
-        requires { IsIndexed format bytes.items count index.items }
-        ensures { result ≡ stored_versions format bytes.items count }
+    pub(crate) fn new(bytes: Arc<Vec<u8>>, format: Format, count: u64, index: Vec<u64>) -> Table
+        requires { IsIndexed format (arc_value bytes).items count index.items }
+        ensures { result ≡ stored_versions format (arc_value bytes).items count }
     {
         Table {
             bytes,
@@ -76,12 +79,8 @@ impl Table {
         ensures exact { Gives table_fault (λ table. table) result (table_at id flushed bytes.items) }
     {
         let (format, count, index) = judge(alloc, &bytes, id, flushed)?;
-        Ok(Table {
-            bytes,
-            format,
-            count,
-            index,
-        })
+        let bytes = Arc::new(alloc, bytes)?;
+        Ok(Table::new(bytes, format, count, index))
     }
 
     /// How many versions it has.

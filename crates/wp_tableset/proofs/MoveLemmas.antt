@@ -74,7 +74,7 @@ module _ (old : TableSetState) (running : old.halted ≡ false) where
 
   module _ (mid : List Moment) (faults : ℕ) (grows : Grows old.moments mid) where
     -- nothing names it yet
-    pub stores_behind : (bytes : List ℕ) → SyncsBehind old.moments mid bytes → (edits : List Edit) (parts : List (List Version)) → StoresTables old edits no_edit parts [] → StoresTables (record old { moments = mid; faults = faults }) edits no_edit parts []
+    stores_behind : (bytes : List ℕ) → SyncsBehind old.moments mid bytes → (edits : List Edit) (parts : List (List Version)) → StoresTables old edits no_edit parts [] → StoresTables (record old { moments = mid; faults = faults }) edits no_edit parts []
     stores_behind bytes syncs edits parts stores =
         let rests : IfKnown mid (RestsWith old.manifest.log.id old.manifest.edit parts) = rests_grown old.manifest.log.id old.manifest.edit parts bytes old.moments mid grows syncs (stores.rests running) in
         record { manifest = stores.manifest; rests = λ _. rests; left = left_of old.manifest.log.id old.manifest.edit parts mid rests; left_next = none_left old.manifest.log.id mid }

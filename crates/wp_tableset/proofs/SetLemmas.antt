@@ -1,5 +1,5 @@
 -- What the two devices store while a table is written and an edit is installed.
-use Rattle.std.proofs.Common.{◌≡◌, ◌⊎◌, inl, inr, ℕ, ◌≤◌, Bool, true, false, List, [], ◌∷◌, ◌++◌, length, Some, Result, Ok, Err, refl, sym, ◌∙◌, ap, subst, le_refl, arith}
+use Rattle.std.proofs.Common.{◌≡◌, ◌⊎◌, inl, inr, ℕ, ◌≤◌, Bool, true, false, List, [], ◌∷◌, ◌++◌, length, Some, Result, Ok, Err, refl, sym, ◌∙◌, ap, subst, arith}
 use Rattle.wp_model.specs.declared.version.Version.{Version}
 use Rattle.wp_outside.specs.Disk.{Moment, IsImage, IfKnown, Each, Passes, synced, added, after_write, after_sync}
 use Rattle.wp_outside.specs.Faults.{Rose}
@@ -269,19 +269,6 @@ loses_none moments log records = ([], refl, tt)
 pub keeps_installed : {T : Type 0} (old new : TableSetState) (mid : List Moment) (faults : ℕ) (edit : Edit) (result : Result T TableSetError) → Grows old.moments mid → old.halted ≡ false → old.faults ≤ faults → InstallsEdit (record old { moments = mid; faults = faults }) new edit result → LosesNoTable old new
 keeps_installed old new mid faults edit result grows running later installs =
     keeps_all old new (rw installs.moments grows) running installs.durable installs.id (rw installs.faults later) installs.later
-
--- memory was wanting before the manifest was called
-pub not_asked : {T : Type 0} (set : TableSetState) (edit : Edit) → InstallsEdit {T = T} set set edit (Err Memory)
-not_asked set edit = record {
-  moments = refl;
-  faults = refl;
-  passed = λ edits stores running. ([], refl, tt);
-  durable = λ edits next stores. loses_none set.manifest.log.moments;
-  id = refl;
-  later = le_refl set.manifest.log.faults;
-  installed = tt;
-  refused = refl;
-}
 
 -- ---- the set as it is made
 

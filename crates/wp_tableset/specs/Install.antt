@@ -105,9 +105,6 @@ pub record TableWritten (old set : TableSetState) (versions : List Version) (flu
   pub stores : (edits : List Edit) (parts : List (List Version)) → StoresTables old edits no_edit parts [] → StoresTables set edits no_edit parts []
   pub there : (log : ℕ) (edits : List Edit) (parts : List (List Version)) → StoresTables old edits no_edit parts [] → IfKnown set.moments (RestsWith old.manifest.log.id (moved_edit old versions flushed log place) (compacted_parts versions ++ parts))
 
--- Its table was not written. For want of memory it may be on the device, and nothing names it; else the device failed.
+-- Its table was not written: the device failed.
 abbrev pub NotWritten : TableSetState → TableSetState → TableSetError → Type 0
-NotWritten old new Memory = (new ≡ record old { moments = new.moments; faults = new.faults })
-    × ((edits : List Edit) (parts : List (List Version)) → StoresTables old edits no_edit parts [] → StoresTables new edits no_edit parts [])
-NotWritten old new Fault = (new.halted ≡ true) × TablesFailed old new
-NotWritten old new Halted = ⊥
+NotWritten old new why = (why ≡ Fault) × (new.halted ≡ true) × TablesFailed old new

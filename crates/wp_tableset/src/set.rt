@@ -79,13 +79,6 @@ fn edit_of(flushed: Seq, log_place: u64, table: (u64, u64), mut others: Vec<(u64
     }
 }
 
-/// The table for readers, who share it.
-fn share(alloc: Global, built: Built) -> Result<Arc<Table>, AllocError>
-    ensures { IfOk result (λ table. arc_value table ≡ built.versions) }
-{
-    Ok(Arc::new(alloc, built.into_table())?)
-}
-
 /// These versions as a table, if there are any.
 fn build_some(alloc: Global, id: u32, versions: &Versions) -> Result<Option<Built>, AllocError>
     requires { list_all is_numbered versions.now ≡ true }
@@ -234,9 +227,8 @@ impl<D: Disk> TableSet<D> {
                 return Err(TableSetError::Fault);
             }
         };
-        let table = share(self.alloc, built)?;
         self.install(edit_of(flushed, self.log_place(), (place, size), places))?;
-        Ok(table)
+        Ok(built.into_table())
     }
 
     /// Takes the memory of an edit that moves the log: it names the tables that there are and, before them, one of these versions, if
@@ -257,7 +249,7 @@ impl<D: Disk> TableSet<D> {
         Ok(ReadyEdit { room, built })
     }
 
-    /// Writes the table of a ready edit, if it has one. The table is for readers.
+    /// Writes the table of a ready edit, if it has one. The table is for readers. It takes no memory.
     pub fn write_table(
         &mut self,
         ready: &mut ReadyEdit,
@@ -282,8 +274,7 @@ impl<D: Disk> TableSet<D> {
             }
         };
         ready.room.set_newest_place(place);
-        let table = share(self.alloc, built)?;
-        Ok(Some(table))
+        Ok(Some(built.into_table()))
     }
 
     /// Makes a ready edit the last one, whose table was written, and by which the log begins at this place of its device. It takes no

@@ -1,20 +1,20 @@
-use Rattle.std.proofs.Common.{◌≡◌, ◌≤◌, true, length, drop, subst, sym, ap, ◌∙◌}
+use Rattle.std.proofs.Common.{◌≡◌, true, subst, ◌∙◌}
+use Rattle.std.specs.Arc.{arc_value}
 use Rattle.std.specs.List.{list_all}
 use Rattle.wp_model.specs.Versions.{AreInOrder}
 use Rattle.wp_table.specs.Table.{has_words}
-use Rattle.wp_table.specs.Walk.{versions_in}
 use Rattle.wp_table.proofs.WalkLemmas.{has_head, indexed_in_order, indexed_in_range}
 use Rattle.wp_table.proofs.table.Table.all.Goals as goal
 
 pub at-requires : goal.at-requires
-at-requires c = subst (λ bytes. 25 ≤ length bytes) (sym c.deref.ensures.value) (has_head c.self.inside.format c.self.inside.bytes.items c.self.inside.count c.self.inside.index.items c.self.invariant).0
+at-requires c = rw (c.deref-2.ensures.value, c.deref.ensures) (has_head c.self.inside.format (arc_value c.self.inside.bytes).items c.self.inside.count c.self.inside.index.items c.self.invariant).0
 
 pub returns-clause-all : goal.returns-clause-all
-returns-clause-all c = c.at.ensures ∙ ap (λ bytes. versions_in c.self.inside.format c.self.inside.count 0 (drop 25 bytes)) c.deref.ensures.value ∙ c.self.view_is
+returns-clause-all c = (rw (c.deref-2.ensures.value, c.deref.ensures) at c.at.ensures) ∙ c.self.view_is
 
 pub returns-clause-in_range : goal.returns-clause-in_range
 returns-clause-in_range c =
-    subst (λ vs. list_all has_words vs ≡ true) c.self.view_is (indexed_in_range c.self.inside.format c.self.inside.bytes.items c.self.inside.count c.self.inside.index.items c.self.invariant)
+    subst (λ vs. list_all has_words vs ≡ true) c.self.view_is (indexed_in_range c.self.inside.format (arc_value c.self.inside.bytes).items c.self.inside.count c.self.inside.index.items c.self.invariant)
 
 pub returns-clause-in_order : goal.returns-clause-in_order
-returns-clause-in_order c = subst AreInOrder c.self.view_is (indexed_in_order c.self.inside.format c.self.inside.bytes.items c.self.inside.count c.self.inside.index.items c.self.invariant)
+returns-clause-in_order c = subst AreInOrder c.self.view_is (indexed_in_order c.self.inside.format (arc_value c.self.inside.bytes).items c.self.inside.count c.self.inside.index.items c.self.invariant)

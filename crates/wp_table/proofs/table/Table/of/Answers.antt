@@ -18,4 +18,17 @@ returns-clause-each_fault c = λ fault is.
 
 pub returns-clause-only : goal.returns-clause-only
 returns-clause-only c = λ versions spells.
-    c.in_ok-format.ensures.only versions (subst (SpellsTable c.args.id c.args.flushed versions) (sym c.deref.ensures.value) spells) ∙ ap (λ bytes. done TableError (stored_versions c.in_ok-format.format bytes c.in_ok-format.count)) c.deref.ensures.value
+    rw (c.new-2.ensures, c.in_ok-bytes.ensures.ok)
+    (c.in_ok-format.ensures.only versions (subst (SpellsTable c.args.id c.args.flushed versions) (sym c.deref.ensures.value) spells) ∙ ap (λ bytes. done TableError (stored_versions c.in_ok-format.format bytes c.in_ok-format.count)) c.deref.ensures.value)
+
+-- there was no memory for what readers share of it
+
+pub returns-in_err-bytes-clause-only : goal.returns-in_err-bytes-clause-only
+returns-in_err-bytes-clause-only c = λ versions spells.
+    let p = err_from_is_err_and c.from_residual-in_err-bytes.result c.from_residual-in_err-bytes.ensures.1 in
+    rw (p.1, p.2) tt
+
+pub returns-in_err-bytes-clause-each_fault : goal.returns-in_err-bytes-clause-each_fault
+returns-in_err-bytes-clause-each_fault c = λ fault is.
+    let p = err_from_is_err_and c.from_residual-in_err-bytes.result c.from_residual-in_err-bytes.ensures.1 in
+    rw (p.1, p.2) tt

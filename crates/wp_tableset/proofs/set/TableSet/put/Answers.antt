@@ -6,32 +6,14 @@ use Rattle.wp_table.specs.Table.{written_bytes}
 use Rattle.wp_tableset.specs.Changes.{placed}
 use Rattle.wp_tableset.specs.Install.{Remain}
 use Rattle.wp_tableset.specs.Set.{TableSetState}
-use Rattle.wp_tableset.specs.declared.error.TableSetError.TheVariants.{Memory}
-use Rattle.wp_tableset.proofs.SetLemmas.{tables_failed, loses_none, keeps_all, keeps_installed, table_ready, table_next, ready_installed, ready_refused, not_asked, edit_placed}
+use Rattle.wp_tableset.proofs.SetLemmas.{tables_failed, loses_none, keeps_all, keeps_installed, table_ready, table_next, ready_installed, ready_refused, edit_placed}
 use Rattle.wp_tableset.proofs.set.TableSet.put.Goals as goal
-
-pub invariant_of-self : goal.invariant_of-self
-invariant_of-self g c = record { running = λ running. absurd cc; count = c.self.invariant.count }
 
 pub returns-in-Err-clause-puts : goal.returns-in-Err-clause-puts
 returns-in-Err-clause-puts g c = rw (← c.self.view_is) (0, λ after remain. tables_failed _ _ _ _ _ (ap (λ (s : TableSetState). s.halted) c.self.view_is ∙ c.requires.running) c.write_behind.ensures.grows c.in-Err.ensures.cause.failed, inl (refl, c.in-Err.ensures.cause.failed))
 
 pub returns-in-Err-clause-keeps : goal.returns-in-Err-clause-keeps
 returns-in-Err-clause-keeps g c = rw (← c.self.view_is) (keeps_all _ _ c.write_behind.ensures.grows (ap (λ (s : TableSetState). s.halted) c.self.view_is ∙ c.requires.running) (λ edits next stores. loses_none _) refl c.write_behind.ensures.cause.later (le_refl _))
-
--- memory was wanting for the table, which is written: nothing names it
-pub returns-in_err-table-clause-puts : goal.returns-in_err-table-clause-puts
-returns-in_err-table-clause-puts g c =
-    let p = err_from_is_err_and c.from_residual-in_err-table.result c.from_residual-in_err-table.ensures.1 in
-    rw (p.1, p.2, ← c.self.view_is) (
-      c.in-Ok.place,
-      λ after remain. ready_refused _ _ _ _ _ _ (table_ready _ _ c.args.versions.now c.args.flushed (place_of c.self.inside.manifest.edit) c.in-Ok.place c.args.places.items (ap (λ (s : TableSetState). s.halted) c.self.view_is ∙ c.requires.running) c.write_behind.ensures.grows c.in-Ok.ensures.place
-          (rw (← c.id.ensures, ← c.in_ok-built.ensures.bytes, ← c.bytes-spelling.ensures) c.in-Ok.ensures.synced) (rw (← c.id.ensures, ← c.in_ok-built.ensures.bytes, ← c.bytes-spelling.ensures) c.in-Ok.ensures.calls) (rw (← c.id.ensures) (c.in_ok-built.ensures.table c.args.flushed c.requires.flushed)) after remain) Memory (not_asked _ _),
-      inl (refl, tt),
-    )
-
-pub returns-in_err-table-clause-keeps : goal.returns-in_err-table-clause-keeps
-returns-in_err-table-clause-keeps g c = rw (← c.self.view_is) (keeps_all _ _ c.write_behind.ensures.grows (ap (λ (s : TableSetState). s.halted) c.self.view_is ∙ c.requires.running) (λ edits next stores. loses_none _) refl c.write_behind.ensures.cause.later (le_refl _))
 
 pub install-requires-clause-there : goal.install-requires-clause-there
 install-requires-clause-there g c =
@@ -66,7 +48,7 @@ returns-clause-puts g c =
     rw (← c.self.view_is) (
       c.in-Ok.place,
       λ after remain. ready_installed _ _ _ _ _ _ (table_ready _ _ c.args.versions.now c.args.flushed (place_of c.self.inside.manifest.edit) c.in-Ok.place c.args.places.items (ap (λ (s : TableSetState). s.halted) c.self.view_is ∙ c.requires.running) c.write_behind.ensures.grows c.in-Ok.ensures.place
-          (rw (← c.id.ensures, ← c.in_ok-built.ensures.bytes, ← c.bytes-spelling.ensures) c.in-Ok.ensures.synced) (rw (← c.id.ensures, ← c.in_ok-built.ensures.bytes, ← c.bytes-spelling.ensures) c.in-Ok.ensures.calls) (rw (← c.id.ensures) (c.in_ok-built.ensures.table c.args.flushed c.requires.flushed)) after remain) c.in_ok-table.table (rw e at c.in_ok-install.ensures),
+          (rw (← c.id.ensures, ← c.in_ok-built.ensures.bytes, ← c.bytes-spelling.ensures) c.in-Ok.ensures.synced) (rw (← c.id.ensures, ← c.in_ok-built.ensures.bytes, ← c.bytes-spelling.ensures) c.in-Ok.ensures.calls) (rw (← c.id.ensures) (c.in_ok-built.ensures.table c.args.flushed c.requires.flushed)) after remain) c.into_table.result (rw e at c.in_ok-install.ensures),
       rw c.in_ok-install.ensures.moments (c.in-Ok.ensures.place, (written_bytes c.self.inside.manifest.log.id c.args.versions.now, refl, rw (← c.id.ensures, ← c.in_ok-built.ensures.bytes, ← c.bytes-spelling.ensures) c.in-Ok.ensures.calls)),
     )
 

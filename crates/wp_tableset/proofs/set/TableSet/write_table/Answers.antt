@@ -1,9 +1,8 @@
 use Rattle.std.proofs.Common.{Option, refl, sym, ap, ◌∙◌, subst, le_refl}
-use Rattle.std.proofs.lemmas.Result.{err_from_is_err_and}
 use Rattle.wp_table.specs.Walk.{BuiltTable}
 use Rattle.wp_tableset.specs.Install.{IsReadyEdit, ReadyState}
 use Rattle.wp_tableset.specs.Set.{TableSetState}
-use Rattle.wp_tableset.proofs.MoveLemmas.{none_written, not_written, ready_names, some_written, stores_behind}
+use Rattle.wp_tableset.proofs.MoveLemmas.{none_written, not_written, ready_names, some_written}
 use Rattle.wp_tableset.proofs.SetLemmas.{keeps_all, loses_none}
 use Rattle.wp_tableset.proofs.set.TableSet.write_table.Goals as goal
 
@@ -13,11 +12,8 @@ returns-in_default-clause-written g c = λ versions flushed ready.
     let none = subst (λ (r : ReadyState). IsReadyEdit c.args.self.now versions flushed r) (sym c.ready.view_is ∙ ap (λ (b : Option BuiltTable). record { edit = c.ready.inside.room; built = b }) taken) ready in
     none_written c.args.self.now c.requires.running versions flushed c.ready.inside.room none
 
-pub invariant_of-self : goal.invariant_of-self
-invariant_of-self g c = record { running = λ running. absurd cc; count = c.self.invariant.count }
-
 pub returns-in-Err-clause-refused : goal.returns-in-Err-clause-refused
-returns-in-Err-clause-refused g c = rw (← c.self.view_is) (refl, not_written _ (ap (λ (s : TableSetState). s.halted) c.self.view_is ∙ c.requires.running) _ _ c.write_behind.ensures.grows c.in-Err.ensures.cause.failed)
+returns-in-Err-clause-refused g c = rw (← c.self.view_is) (refl, refl, not_written _ (ap (λ (s : TableSetState). s.halted) c.self.view_is ∙ c.requires.running) _ _ c.write_behind.ensures.grows c.in-Err.ensures.cause.failed)
 
 pub returns-in-Err-clause-keeps : goal.returns-in-Err-clause-keeps
 returns-in-Err-clause-keeps g c = rw (← c.self.view_is) (keeps_all _ _ c.write_behind.ensures.grows (ap (λ (s : TableSetState). s.halted) c.self.view_is ∙ c.requires.running) (λ edits next stores. loses_none _) refl c.write_behind.ensures.cause.later (le_refl _))
@@ -28,15 +24,6 @@ set_newest_place-requires g c =
     let asked = c.requires.ready in
     let some = subst (λ (r : ReadyState). IsReadyEdit c.args.self.now asked.0 asked.1 r) (sym c.ready.view_is ∙ ap (λ (b : Option BuiltTable). record { edit = c.ready.inside.room; built = b }) taken) asked.2 in
     ready_names c.args.self.now asked.0 asked.1 c.ready.inside.room c.in-Some.built some
-
--- memory was wanting for what readers share of the table, which is written: nothing names it
-pub returns-in_err-table-clause-refused : goal.returns-in_err-table-clause-refused
-returns-in_err-table-clause-refused g c =
-    let p = err_from_is_err_and c.from_residual.result c.from_residual.ensures.1 in
-    rw (p.1, p.2, ← c.self.view_is) (refl, stores_behind _ (ap (λ (s : TableSetState). s.halted) c.self.view_is ∙ c.requires.running) _ _ c.write_behind.ensures.grows c.bytes.result.now c.in-Ok.ensures.synced)
-
-pub returns-in_err-table-clause-keeps : goal.returns-in_err-table-clause-keeps
-returns-in_err-table-clause-keeps g c = rw (← c.self.view_is) (keeps_all _ _ c.write_behind.ensures.grows (ap (λ (s : TableSetState). s.halted) c.self.view_is ∙ c.requires.running) (λ edits next stores. loses_none _) refl c.write_behind.ensures.cause.later (le_refl _))
 
 pub returns-clause-written : goal.returns-clause-written
 returns-clause-written g c =
