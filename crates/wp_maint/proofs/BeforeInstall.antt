@@ -24,7 +24,7 @@ use Rattle.wp_maint.specs.declared.renewed.RenewError.{RenewError}
 use Rattle.wp_maint.specs.declared.renewed.RenewError.TheVariants as renewal
 use Rattle.wp_maint.specs.Calls.{Finds, Flushes, is_of_install, installs_of, LeavesManifest, LeavesOnce, LeavesEach, MadeNoInstall, FailedOnce, UnlessFault, RefusesBeforeInstall, found_by}
 use Rattle.wp_maint.specs.Installs.{AreLeft, HasBroken, NotInstalled}
-use Rattle.wp_maint.specs.Renewal.{IsRefusedBefore, Renews, UnlessDeviceFault}
+use Rattle.wp_maint.specs.Renewal.{BeforeDevices, IsRefusedBefore, KeepsOnce, Renews, UnlessDeviceFault}
 use Rattle.wp_maint.proofs.Onward.{IsSeat}
 
 -- ---- unless a device failed
@@ -49,6 +49,16 @@ renewal_more f (Err (renewal.Stopped n)) k = f k
 renewal_more f (Err renewal.Nothing) k = f k
 renewal_more f (Err renewal.LogFault) k = f k
 
+-- ... of what a renewal refuses before the first call of a device
+pub devices_more : {A B : Type 0} → (A → B) → (result : Result Renewed RenewError) → IfErr result (BeforeDevices A) → IfErr result (BeforeDevices B)
+devices_more f (Ok done) k = tt
+devices_more f (Err renewal.TableFault) k = tt
+devices_more f (Err renewal.LogFault) k = tt
+devices_more f (Err renewal.Memory) k = f k
+devices_more f (Err (renewal.TablesStopped flushed)) k = f k
+devices_more f (Err (renewal.Stopped n)) k = f k
+devices_more f (Err renewal.Nothing) k = f k
+
 -- ---- the tables were given back with the manifest's device uncalled
 
 -- a seat took them, which had seen no more than the one before, and gave them back
@@ -72,6 +82,14 @@ module _ {D : Type 0} (z : SharedState D) (s t v : SeatState) (before after : Ed
 
   pub left_once : AreLeft before after → LeavesOnce z s v
   left_once k = (before.table, left k)
+
+  -- ... as they were
+  pub kept_once : after ≡ before → KeepsOnce z s v
+  kept_once same = (
+    before.table,
+    found,
+    record { before = before; after = after; of_store = of_store; still_of_store = still_of_store; before_is = refl; after_is = ap (λ (e : EditsState). e.table) same; edits = edits; still_edits = still_edits; so = same },
+  )
 
   pub left_each : AreLeft before after → LeavesEach z s v
   left_each k = (

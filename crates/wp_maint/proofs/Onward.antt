@@ -144,7 +144,7 @@ found_later z s u v e grown k = held_between z s s u v s.knows.participant.past 
 
 -- ... any turn, where nothing was remembered before
 module _ {D : Type 0} (z : SharedState D) (s t u v : SeatState) (same : IsSeat s t) (past : t.knows.participant.past ≡ s.knows.participant.past) (starts : StartsWith t.knows.participant.seen s.knows.participant.seen) (grown : StartsWith v.knows.participant.seen u.knows.participant.seen) where
-  pub had_between : (table : Content) → HeldContent z t u t.knows.participant.past table → HeldContent z s v s.knows.participant.past table
+  abbrev pub had_between : (table : Content) → HeldContent z t u t.knows.participant.past table → HeldContent z s v s.knows.participant.past table
   had_between table k = held_between z s t u v t.knows.participant.past s.knows.participant.past table same starts grown past k
 
 -- the seat before it saw the whole history too
@@ -288,6 +288,7 @@ module _ {D : Type 0} (First Last : Participant → Type 0) (z : SharedState D) 
     running = k.running;
     whole = saw_whole seen k.whole;
     closed = (k.closed.0, had_between z s t u v same same_past starts grown (writes k.closed.0) k.closed.1, k.closed.2);
+    log = k.log;
     number = k.number ∙ ap (λ (h : List Entry). length h) seen;
     goes_on = remembers_so k.found (stopped n ∷ []) k.goes_on;
   }
@@ -296,6 +297,7 @@ module _ {D : Type 0} (First Last : Participant → Type 0) (z : SharedState D) 
     running = k.running;
     whole = saw_whole seen k.whole;
     unclosed = (k.unclosed.0, had_between z s t u v same same_past starts grown (writes k.unclosed.0) k.unclosed.1, k.unclosed.2);
+    log = k.log;
     based = k.based ∙ ap (λ (h : List Entry). length h) seen;
     goes_on = remembers_so k.found [] k.goes_on;
   }

@@ -131,21 +131,31 @@ OpensInRenewal old new log moved asked =
 
 -- ---- refusals
 
--- the log was closed before, at this published number; no device of the tables had failed
+-- the tables, and what their devices show of themselves, are as they were
+abbrev pub AreSameTables : EditsState → EditsState → Type 0
+AreSameTables before after = after ≡ before
+
+-- ... of the log
+abbrev pub IsSameLog : LogState → LogState → Type 0
+IsSameLog before after = after ≡ before
+
+-- The log was closed before, at this published number; no device of the tables had failed. It is as it was.
 pub record IsClosed {D : Type 0} (Goes : Participant → Type 0) (z : SharedState D) (old new : SeatState) (e : Installed) (n : ℕ) : Type 0 where
   pub found : Finds z old new e
   pub running : e.halted ≡ false
   pub whole : SawWhole z old new.knows.participant.seen
   pub closed : (t : WriteTable) × HeldContent z old new old.knows.participant.past (writes t) × (t.closed ≡ true)
+  pub log : LogBecame z closed.0 closed.0 IsSameLog
   pub number : n ≡ length new.knows.participant.seen
   pub goes_on : Goes (remembering (found_by z old new e found ∷ stopped n ∷ []) old.knows.participant)
 
--- the log was not closed, and has the base already at which it would be renewed
+-- The log was not closed, and has the base already at which it would be renewed. It is as it was.
 pub record IsRenewed {D : Type 0} (Goes : Participant → Type 0) (z : SharedState D) (old new : SeatState) (e : Installed) : Type 0 where
   pub found : Finds z old new e
   pub running : e.halted ≡ false
   pub whole : SawWhole z old new.knows.participant.seen
   pub unclosed : (t : WriteTable) × HeldContent z old new old.knows.participant.past (writes t) × (t.closed ≡ false)
+  pub log : LogBecame z unclosed.0 unclosed.0 IsSameLog
   pub based : e.last.segment.base ≡ length new.knows.participant.seen
   pub goes_on : Goes (remembering (found_by z old new e found ∷ []) old.knows.participant)
 
@@ -187,12 +197,12 @@ pub record HasLogFault {D : Type 0} (Goes : Participant → Type 0) (z : SharedS
       (λ before after. Rose before.wal.faults after.wal.faults × SurvivesBeside before after None × NamesItsSegment tables.before tables.after before after None)
   pub goes_on : Goes (remembering (found_by z old new e found ∷ log_failed [] ∷ []) old.knows.participant)
 
--- Memory ran out. Tables, manifest and log are as they were, but that the tables' device may have bytes that nothing names. At each moment
--- meanwhile a crash left the last edit, with its tables, and the history at the place that it names.
+-- Memory ran out before the first call of a device: tables, manifest and log are as they were. A crash left the last edit, with its
+-- tables, and the history at the place that it names.
 pub record HasNoMemory {D : Type 0} (Goes : Participant → Type 0) (z : SharedState D) (old new : SeatState) (e : Installed) : Type 0 where
   pub busy : IsBusy z old new e
-  pub tables : TablesBecame z e e IsUncalled
-  pub log : LogBecame z busy.unclosed.0 busy.unclosed.0 (λ before after. (after ≡ before) × NamesItsSegment tables.before tables.after before after None)
+  pub tables : TablesBecame z e e AreSameTables
+  pub log : LogBecame z busy.unclosed.0 busy.unclosed.0 (λ before after. IsSameLog before after × NamesItsSegment tables.before tables.after before after None)
   pub goes_on : Goes old.knows.participant
 
 -- ---- the renewal
@@ -235,6 +245,16 @@ Renews z old result new = (e : Installed) × RenewsFrom (Continues z old new) z 
 abbrev pub UnlessDeviceFault : Type 0 → RenewError → Type 0
 UnlessDeviceFault So TableFault = Unit {0}
 UnlessDeviceFault So other = So
+
+-- this is so of the refusals that come before the first call of a device: all but those that a device gives
+abbrev pub BeforeDevices : Type 0 → RenewError → Type 0
+BeforeDevices So TableFault = Unit {0}
+BeforeDevices So LogFault = Unit {0}
+BeforeDevices So other = So
+
+-- The call took these tables from behind the turn, and gave them back as they were.
+abbrev pub KeepsOnce : {D : Type 0} → SharedState D → SeatState → SeatState → Type 0
+KeepsOnce z old new = (e : Installed) × Finds z old new e × TablesBecame z e e AreSameTables
 
 -- What a refused renewal did with the manifest's device: as a refused flush, also where the log's device failed.
 abbrev pub IsRefusedBefore : (Leaves : Type 0) → SeatState → RenewError → SeatState → Type 0

@@ -28,12 +28,12 @@ use Rattle.wp_shared.specs.Seats.{SharedState, SeatState, Stands}
 use Rattle.wp_maint.specs.declared.frozen.Frozen.{Frozen}
 use Rattle.wp_maint.specs.declared.renewed.Renewed.{Renewed}
 use Rattle.wp_maint.specs.declared.renewed.RenewError.{RenewError}
-use Rattle.wp_maint.specs.declared.renewed.RenewError.TheVariants.{Memory, TableFault, LogFault}
+use Rattle.wp_maint.specs.declared.renewed.RenewError.TheVariants.{TableFault, LogFault}
 use Rattle.wp_maint.specs.Calls.{Finds, found_by, HasFault, IsUncalled}
 use Rattle.wp_maint.specs.Flush.{versions_of}
 use Rattle.wp_maint.specs.Holding.{is_of_flushed}
 use Rattle.wp_maint.specs.Installs.{AreLeft}
-use Rattle.wp_maint.specs.Renewal.{HasFrozenAll, HoldsBoth, RenewsFrom, SurvivesBeside, UnlessDeviceFault, segment_of}
+use Rattle.wp_maint.specs.Renewal.{BeforeDevices, HasFrozenAll, HoldsBoth, RenewsFrom, SurvivesBeside, UnlessDeviceFault, segment_of}
 
 -- ---- memory
 
@@ -73,11 +73,9 @@ pub record HasStopped {D : Type 0} (z : SharedState D) (Survives : EditsState �
 
 -- ---- the table
 
--- What the write of the table leaves: the edit behind it; or for want of memory what there was; or a stopped store. A crash meanwhile left
--- the tables that there were.
+-- What the write of the table leaves: the edit behind it, or a stopped store. A crash meanwhile left the tables that there were.
 abbrev pub WritesTable : {D T : Type 0} → SharedState D → SeatState → EditsState → LogState → SegmentState → Result T RenewError → SeatState → EditsState → LogState → SegmentState → Type 0
 WritesTable z old e log edit (Ok table) new left now ready = (new ≡ old) × (now ≡ log) × (left.table ≡ e.table) × HoldsBoth z new left now now.table × IsWritten e left edit ready × SurvivesWrite e left edit
-WritesTable z old e log edit (Err Memory) new left now ready = (new ≡ old) × (now ≡ log) × AreLeft e left × (left.first ≡ e.first) × SurvivesWrite e left edit × IsEdits left
 WritesTable z old e log edit (Err TableFault) new left now ready = HasStopped z (λ before after. SurvivesWrite before after edit × IsUncalled before after) old e log None new left now
 WritesTable z old e log edit (Err other) new left now ready = ⊥
 
@@ -174,10 +172,12 @@ pub record MayPutAll (a : Actor) (e : Installed) (f : Frozen) (table : Option (L
 
 -- ---- all of it
 
--- what the renewal answers, and that both turns may be given
+-- What the renewal answers, and that both turns may be given. Where it was refused before the first call of a device, the tables and the
+-- log are the very values that it had.
 pub record RenewsHolding {D : Type 0} (Goes : Participant → Type 0) (z : SharedState D) (old : SeatState) (e : EditsState) (log : LogState) (result : Result Renewed RenewError) (new : SeatState) (left : EditsState) (now : LogState) : Type 0 where
   pub holds : HoldsBoth z new left now now.table
   pub nothing : now.table.pending ≡ []
   pub settled : KnowsTables new.knows left.table.last
   pub says : RenewsFrom Goes z old e.table result new
   pub manifest : IfErr result (UnlessDeviceFault (AreLeft e left))
+  pub untouched : IfErr result (BeforeDevices ((left ≡ e) × (now ≡ log)))

@@ -16,7 +16,7 @@ pub struct Renewed {
 /// Why the log was not renewed. The refusals are in the order in which they are looked for.
 #[derive(Clone, Copy)]
 pub enum RenewError {
-    /// No device was called, or the tables' alone, which may have bytes that nothing names. The store is as it was.
+    /// No device was called. The store is as it was.
     Memory,
     /// A device of the tables failed before. The last edit flushed the entries up to this number.
     TablesStopped(Seq),

@@ -48,7 +48,7 @@ use Rattle.wp_maint.specs.Calls.{Finds, found_by, HasFault, HeldContent, IsUncal
 use Rattle.wp_maint.specs.Finding.{Remembers}
 use Rattle.wp_maint.specs.Flush.{versions_of}
 use Rattle.wp_maint.specs.Holding.{is_of_flushed, is_of_tables}
-use Rattle.wp_maint.specs.Renewal.{HasFrozenAll, HoldsBoth, IsBusy, HasBrokenOff, HasLogFault, HasNoMemory, HasRenewed, NamesItsSegment, SurvivesBeside, segment_of}
+use Rattle.wp_maint.specs.Renewal.{HasFrozenAll, HoldsBoth, IsBusy, HasBrokenOff, HasLogFault, HasNoMemory, HasRenewed, IsSameLog, LogBecame, NamesItsSegment, SurvivesBeside, segment_of}
 use Rattle.wp_maint.specs.Renewing.{HasClosed, HasMoved, HasStopped, MayPutAll, RenewsHolding}
 use Rattle.wp_maint.proofs.Found.{failed_last}
 use Rattle.wp_maint.proofs.Made.{first_held, second_held}
@@ -163,12 +163,10 @@ module _ {D : Type 0} (z : SharedState D) (s0 s1 : SeatState) (e0 e1 : EditsStat
 
   -- ---- memory ran out
 
-  -- the edits are as they were, but for what their device may have
-  pub no_memory : (u : SeatState) (left : EditsState) → GoesOnAs s0 u s0.knows.participant → u.knows.participant.seen ≡ s0.knows.participant.seen → left.table ≡ e0.table → left.first ≡ e0.first → IsEdits left → IsUncalled e0 left
-      → NamesItsSegment e0 left log0 log0 None → HasNoMemory (GoesOnAs s0 u) z s0 u e0.table
-  no_memory u left goes same table_is first_is is_left uncalled named = record {
+  pub no_memory : (u : SeatState) → GoesOnAs s0 u s0.knows.participant → u.knows.participant.seen ≡ s0.knows.participant.seen → NamesItsSegment e0 e0 log0 log0 None → HasNoMemory (GoesOnAs s0 u) z s0 u e0.table
+  no_memory u goes same named = record {
     busy = busy u same;
-    tables = record { before = e0; after = left; of_store = holds.edits_of_store; still_of_store = holds.edits_of_store ∙ ap Some (sym first_is); before_is = refl; after_is = table_is; edits = is_edits; still_edits = is_left; so = uncalled };
+    tables = record { before = e0; after = e0; of_store = holds.edits_of_store; still_of_store = holds.edits_of_store; before_is = refl; after_is = refl; edits = is_edits; still_edits = is_edits; so = refl };
     log = record { before = log0; after = log0; of_store = holds.log_of_store; still_of_store = holds.log_of_store; before_is = refl; after_is = refl; log = is_log; still_log = is_log; so = (refl, named) };
     goes_on = goes;
   }
@@ -246,6 +244,7 @@ module _ {D : Type 0} (z : SharedState D) (s0 s1 : SeatState) (e0 e1 : EditsStat
           (settled_on (being (remembering (found_by z s1 u e1.table k.found ∷ tables_failed e1.table.last asked ∷ log_stopped ∷ []) s1.knows.participant) s1) u no_fact (writes now.table ∷ installed left.table ∷ []) s1.turns refl (λ versions floor. refl) k.goes e1.table.last settled);
       says = broken_off;
       manifest = tt;
+      untouched = tt;
     }
 
   -- ---- the edit is installed
@@ -371,6 +370,7 @@ module _ {D : Type 0} (z : SharedState D) (s0 s1 : SeatState) (e0 e1 : EditsStat
           settled = settled;
           says = renewed;
           manifest = tt;
+          untouched = tt;
         }
 
   -- ---- the log's device failed
@@ -402,11 +402,15 @@ module _ {D : Type 0} (z : SharedState D) (s0 s1 : SeatState) (e0 e1 : EditsStat
       settled = settled_on (being (remembering (found_by z s1 u e1.table k.found ∷ log_failed [] ∷ []) s1.knows.participant) s1) u no_fact (writes now.table ∷ installed e1.table ∷ []) s1.turns refl (λ versions floor. refl) k.goes e1.table.last settled;
       says = log_fault;
       manifest = (same_table, manifest);
+      untouched = tt;
     }
 
 -- ---- there was nothing to renew, or the log was closed before
 
-module _ {D : Type 0} (z : SharedState D) (s : SeatState) (e : EditsState) (log : LogState) (holds : HoldsBoth z s e log log.table) (running : e.table.halted ≡ false) (seen : s.knows.participant.seen ≡ log.table.history) (nothing : log.table.pending ≡ []) (settled : KnowsTables s.knows e.table.last) (w0 : (w : World) × Stands z s w) where
+module _ {D : Type 0} (z : SharedState D) (s : SeatState) (e : EditsState) (log : LogState) (holds : HoldsBoth z s e log log.table) (running : e.table.halted ≡ false) (seen : s.knows.participant.seen ≡ log.table.history) (nothing : log.table.pending ≡ []) (settled : KnowsTables s.knows e.table.last) (w0 : (w : World) × Stands z s w) (is_log : IsLog log) where
+  log_stays : LogBecame z log.table log.table IsSameLog
+  log_stays = record { before = log; after = log; of_store = holds.log_of_store; still_of_store = holds.log_of_store; before_is = refl; after_is = refl; log = is_log; still_log = is_log; so = refl }
+
   log_there : IsIn (writes log.table) s.knows.held
   log_there = first_held s.knows (writes log.table) (installed e.table ∷ []) holds.turn.held
 
@@ -459,10 +463,12 @@ module _ {D : Type 0} (z : SharedState D) (s : SeatState) (e : EditsState) (log 
           running = running;
           whole = subst (SawWhole z s) (sym (seen_now u events k.is)) saw_all;
           unclosed = (log.table, held_now u events k.is, open_);
+          log = log_stays;
           based = based ∙ ap (λ (h : List Entry). length h) (sym seen ∙ sym (seen_now u events k.is));
           goes_on = goes_is z s u events k.is;
         };
         manifest = (refl, refl);
+        untouched = (refl, refl);
       }
 
   pub closed_before : (t u : SeatState) (n : ℕ) → Remembers z s e.table t → n ≡ length log.table.history → u ≡ being (remembering (stopped n ∷ []) t.knows.participant) t → log.table.closed ≡ true → RenewsHolding (GoesOnAs s u) z s e log (Err (Stopped n)) u e log
@@ -481,8 +487,10 @@ module _ {D : Type 0} (z : SharedState D) (s : SeatState) (e : EditsState) (log 
           running = running;
           whole = subst (SawWhole z s) (sym (seen_now u events both)) saw_all;
           closed = (log.table, held_now u events both, closed);
+          log = log_stays;
           number = counted ∙ ap (λ (h : List Entry). length h) (sym seen ∙ sym (seen_now u events both));
           goes_on = goes_is z s u events both;
         };
         manifest = (refl, refl);
+        untouched = (refl, refl);
       }

@@ -28,7 +28,6 @@ use Rattle.wp_shared.specs.Renewal.{SegmentState, IsBehind, IsWritten, SurvivesW
 use Rattle.wp_shared.specs.Calls.{GoesOnAs}
 use Rattle.wp_shared.specs.Notes.{GoesOn, no_fact}
 use Rattle.wp_shared.specs.Seats.{SharedState, SeatState, Stands}
-use Rattle.wp_shared.specs.Turns.{HoldsTurn}
 use Rattle.wp_shared.proofs.Onward.{goes_none, goes_same, goes_still, loose_none, starts_same}
 use Rattle.wp_maint.specs.declared.frozen.Frozen.{Frozen}
 use Rattle.wp_maint.specs.declared.renewed.Renewed.{Renewed}
@@ -37,10 +36,10 @@ use Rattle.wp_maint.specs.declared.renewed.RenewError.TheVariants.{Memory, Table
 use Rattle.wp_maint.specs.Calls.{IsUncalled}
 use Rattle.wp_maint.specs.Flush.{versions_of}
 use Rattle.wp_maint.specs.Holding.{is_of_tables}
-use Rattle.wp_maint.specs.Renewal.{HasFrozenAll, HasNoMemory, HoldsBoth}
+use Rattle.wp_maint.specs.Renewal.{HasFrozenAll, HoldsBoth}
 use Rattle.wp_maint.specs.Renewing.{HasMoved, HasPlace, HasSegment, IsTold, LeavesSegment, MayPutAll, RenewsHolding, SurvivesEdit, WritesTable}
 use Rattle.wp_maint.proofs.Onward.{goes_more, renews_so, settled_on}
-use Rattle.wp_maint.proofs.Throughout.{names_its_segment, names_still}
+use Rattle.wp_maint.proofs.Throughout.{names_still}
 use Rattle.wp_renew.proofs.Renewed.{beside_still, broken_holding, closed_holding, covered_next, is_next, may_put_all, no_memory, renewed_holding, same_renewal}
 use Rattle.wp_renew.proofs.Stages.{beside_same}
 
@@ -69,13 +68,6 @@ module _ {D : Type 0} (z : SharedState D) (s0 : SeatState) (e0 : EditsState) (lo
 
   -- ---- the table was not written
 
-  unwritten : (u : SeatState) (left : EditsState) (now : LogState) → u ≡ s0 → now ≡ log0 → left.table ≡ e0.table → left.first ≡ e0.first → HoldsBoth z u left now now.table
-  unwritten u left now same same_log same_table first = record {
-    turn = subst (λ (x : SeatState × LogState × Installed). HoldsTurn z x.0 (writes x.1.table) (installed x.2 ∷ []) (5 ∷ [])) (λ i. (sym same i, sym same_log i, sym same_table i)) holds.turn;
-    edits_of_store = holds.edits_of_store ∙ ap Some (sym first);
-    log_of_store = holds.log_of_store ∙ ap (λ (l : LogState). Some l.first) (sym same_log);
-  }
-
   -- a crash meanwhile left the tables that there were
   while_written : (left : EditsState) → SurvivesWrite e0 left ready → SurvivesInstall e0 left (after_renewal s0.knows.participant.seen 0 e0.table.last)
   while_written left survives =
@@ -83,15 +75,7 @@ module _ {D : Type 0} (z : SharedState D) (s0 : SeatState) (e0 : EditsState) (lo
       subst (SurvivesInstall e0 left) (same_renewal s0.knows.participant.seen e0.table.last versions segment (versions_are ∙ frozen.versions) frozen.at) (survives versions f.at is_ready segment)
 
   pub not_written : (T : Type 0) (why : RenewError) (u : SeatState) (left : EditsState) (now : LogState) (behind : SegmentState) → WritesTable {T = T} z s0 e0 log0 ready (Err why) u left now behind → RenewsHolding (GoesOnAs s0 u) z s0 e0 log0 (Err why) u left now
-  not_written T Memory u left now behind (same, same_log, are_left, first, survives, is_left) = record {
-    holds = unwritten u left now same same_log are_left.0 first;
-    nothing = ap (λ (l : LogState). l.table.pending) same_log ∙ nothing;
-    settled = subst (λ (x : SeatState × Installed). KnowsTables x.0.knows x.1.last) (λ i. (sym same i, sym are_left.0 i)) settled;
-    says = subst (λ (x : SeatState). HasNoMemory (GoesOnAs s0 x) z s0 x e0.table) (sym same)
-        (no_memory z s0 s0 e0 e0 log0 log0 holds running open_ nothing (sym coupled) below seen whole w0 is_edits is_log begun refl refl refl s0 left begun refl are_left.0 first is_left are_left.1
-        (names_its_segment e0 left (after_renewal s0.knows.participant.seen 0 e0.table.last) is_edits running (while_written left survives) log0 log0 is_log open_ whole (sym coupled) None tt (λ none. are_left.1) (beside_same log0 log0 refl)));
-    manifest = are_left;
-  }
+  not_written T Memory u left now behind wrong = absurd wrong
   not_written T (TablesStopped n) u left now behind wrong = absurd wrong
   not_written T (Stopped n) u left now behind wrong = absurd wrong
   not_written T Nothing u left now behind wrong = absurd wrong
@@ -214,6 +198,7 @@ module _ {D : Type 0} (z : SharedState D) (s t u : SeatState) (e : EditsState) (
     says = renews_so (GoesOnAs t u) (GoesOnAs s u) z s t u u e.table (so_far.same_by, so_far.made, so_far.joined) (ap (λ (p : Participant). p.past) so_far.participant) so_far.seen refl (starts_same u.knows.participant.seen)
         (λ events h. goes_more s t u s.knows.participant so_far events h) (λ h. goes_still s t u s.knows.participant so_far h) refl result k.says;
     manifest = k.manifest;
+    untouched = k.untouched;
   }
 
   -- both turns are held as before
@@ -239,7 +224,8 @@ module _ {D : Type 0} (z : SharedState D) (s t u : SeatState) (e : EditsState) (
     holds = holds_both_still holds;
     nothing = nothing;
     settled = settled_still settled;
-    says = no_memory z s s e e log log holds running open_ nothing (sym coupled) below seen whole w0 is_edits is_log (goes_none s) refl refl refl t e so_far (ap (λ (x : SeatState). x.knows.participant.seen) goes.same) refl refl is_edits refl
+    says = no_memory z s s e e log log holds running open_ nothing (sym coupled) below seen whole w0 is_edits is_log (goes_none s) refl refl refl t so_far (ap (λ (x : SeatState). x.knows.participant.seen) goes.same)
         (names_still e log (is_edits.none_failed (is_edits.running running)) open_ whole (sym coupled) edits_tell log_tells);
     manifest = (refl, refl);
+    untouched = (refl, refl);
   }

@@ -20,7 +20,7 @@ ghost use Rattle.wp_shared.specs.Turns.{HoldsTurn};
 ghost use Rattle.wp_maint.specs.Calls.{LeavesOnce};
 ghost use Rattle.wp_maint.specs.Holding.{is_of_tables, HoldsEdits};
 ghost use Rattle.wp_maint.specs.Installs.{AreLeft};
-ghost use Rattle.wp_maint.specs.Renewal.{HasFrozenAll, HoldsBoth, IsRefusedBefore, Renews, RenewsFrom, UnlessDeviceFault};
+ghost use Rattle.wp_maint.specs.Renewal.{BeforeDevices, HasFrozenAll, HoldsBoth, IsRefusedBefore, KeepsOnce, Renews, RenewsFrom, UnlessDeviceFault};
 ghost use Rattle.wp_maint.specs.Renewing.{HasCopiedAll, HasPlace, HasRoom, IsTold, LeavesSegment, MayPutAll, RenewsHolding, WritesTable};
 
 use crate::steps::{
@@ -34,7 +34,6 @@ use wp_model::{Seq, Versions};
 use wp_outside::Disk;
 use wp_shared::{Edits, Log, ReadySegment, Seat, Shared, Stock};
 use wp_table::Table;
-use wp_tableset::TableSetError;
 use wp_wal::{NewSegment, Written};
 
 /// All the memory that a renewal takes, before a device is called for it.
@@ -185,11 +184,7 @@ fn write_table<D: Disk + Drop>(
     log.shows_told();
     match edits.write_table(edit) {
         Ok(table) => Ok(table),
-        Err(TableSetError::Memory) => {
-            edits.shows_told();
-            Err(RenewError::Memory)
-        }
-        Err(TableSetError::Fault) => {
+        Err(_) => {
             edits.shows_told();
             find_edits(store, seat);
             remember_tables_fault(store, seat, edits);
@@ -198,7 +193,6 @@ fn write_table<D: Disk + Drop>(
             remember_stop(store, seat, edits, log);
             Err(RenewError::TableFault)
         }
-        Err(TableSetError::Halted) => unreachable!(),
     }
 }
 
@@ -345,12 +339,12 @@ fn renew_held<D: Disk + Drop, R: Wait>(
     requires stands { (w : World) × Stands store.now seat.old w }
     ensures { RenewsHolding (GoesOnAs seat.old seat.new) store.now seat.old edits.old log.old result seat.new edits.new log.new }
 {
+    log.shows_told();
     if log.is_closed() {
         find_edits(store, seat);
         find_closed(store, seat, log);
         return Err(RenewError::Stopped(log.published()));
     }
-    log.shows_told();
     shows_segment(store, seat, edits, log);
     if log.base() == log.published() {
         find_edits(store, seat);
@@ -374,6 +368,7 @@ fn renew_tables<D: Disk + Drop, R: Wait>(
     ensures settled { KnowsTables seat.new.knows edits.new.table.last }
     ensures says { RenewsFrom (GoesOnAs seat.old seat.new) store.now seat.old edits.old.table result seat.new }
     ensures manifest { IfErr result (UnlessDeviceFault (AreLeft edits.old edits.new)) }
+    ensures untouched { IfErr result (BeforeDevices (edits.new ≡ edits.old)) }
 {
     if edits.is_halted() {
         find_edits(store, seat);
@@ -390,9 +385,9 @@ fn renew_tables<D: Disk + Drop, R: Wait>(
 /// undecided prepares, beside the log or over what is dead of it; and installs an edit that names both. Writers wait meanwhile, readers
 /// do not. What is in the log before is dead from then on, and opening reads no entry up to the base.
 ///
-/// All memory is taken before the first call of a device, but what readers share of the table. With versions in memory the tables'
-/// device is asked for its length, written and synced. Unless the segment goes to the beginning of the log's device, that is asked for
-/// its length; it is written once and synced. Last the manifest's is called as for any edit.
+/// All memory is taken before the first call of a device. With versions in memory the tables' device is asked for its length, written
+/// and synced. Unless the segment goes to the beginning of the log's device, that is asked for its length; it is written once and
+/// synced. Last the manifest's is called as for any edit.
 ///
 /// After a fault of a device of the tables the store is halted, and the log is stopped. After one of the log's device that is stopped
 /// alone: a flush and a compaction go on with the segment in use.
@@ -404,6 +399,7 @@ pub fn renew<D: Disk + Drop, R: Wait>(
     requires { IsFree store.now.table seat.old }
     ensures answers { Renews store.now seat.old result seat.new }
     ensures before_install { IfErr result (λ why. IsRefusedBefore (LeavesOnce store.now seat.old seat.new) seat.old why seat.new) }
+    ensures untouched { IfErr result (BeforeDevices (KeepsOnce store.now seat.old seat.new)) }
 {
     let mut edits = store.take_turn::<Edits<D>, R>(rt, seat);
     edits.shows_told();

@@ -10,7 +10,7 @@ use Rattle.wp_shared.specs.Seats.{SeatState}
 use Rattle.wp_shared.proofs.Onward.{loose_none, loose_under, goes_same, goes_still, goes_free, holds_alone}
 use Rattle.wp_maint.specs.Calls.{LeavesOnce}
 use Rattle.wp_maint.specs.Holding.{HoldsEdits}
-use Rattle.wp_maint.proofs.BeforeInstall.{renewal_more, renewed_before, renewed_grown, left_once}
+use Rattle.wp_maint.proofs.BeforeInstall.{devices_more, kept_once, renewal_more, renewed_before, renewed_grown, left_once}
 use Rattle.wp_maint.proofs.Found.{held_first}
 use Rattle.wp_maint.proofs.Onward.{goes_more, renews_so}
 use Rattle.wp_renew.proofs.renewing.renew.Goals as goal
@@ -48,3 +48,13 @@ returns-clause-before_install g c =
     (left_once z s t v before after taken.stands (ap (λ (x : SeatState). x.by) same, ap (λ (x : SeatState). x.knows.made) same, ap (λ (x : SeatState). x.knows.joined) same) (ap (λ (x : SeatState). x.knows.participant) same) (held_first t before.table holds.turn.held) holds.of_store c.renew_tables-result.ensures.holds.of_store
     (subst IsEdits (sym c.deref_mut.ensures.value) (subst IsEdits c.deref.ensures c.shows_told.ensures.edits)) (subst IsEdits c.deref-2.ensures c.shows_told-2.ensures.edits) (renewed_grown z s v result answers))
     result c.renew_tables-result.ensures.manifest)
+
+pub returns-clause-untouched : goal.returns-clause-untouched
+returns-clause-untouched g c =
+    let z = c.args.store.now in let s = c.args.seat.now in let t = c.take_turn-edits.new.seat in let v = c.give_turn.new.seat in
+    let before = c.deref_mut.result.now in let after = c.renew_tables-result.new.edits in let result = c.renew_tables-result.result in
+    let taken = c.take_turn-edits.ensures.taken in let same = taken.goes.same in let holds = subst (HoldsEdits z t) (sym c.deref_mut.ensures.value) (record { turn = holds_alone c.requires taken; of_store = c.take_turn-edits.ensures.of_store }) in
+    devices_more
+    (kept_once z s t v before after taken.stands (ap (λ (x : SeatState). x.by) same, ap (λ (x : SeatState). x.knows.made) same, ap (λ (x : SeatState). x.knows.joined) same) (ap (λ (x : SeatState). x.knows.participant) same) (held_first t before.table holds.turn.held) holds.of_store c.renew_tables-result.ensures.holds.of_store
+    (subst IsEdits (sym c.deref_mut.ensures.value) (subst IsEdits c.deref.ensures c.shows_told.ensures.edits)) (subst IsEdits c.deref-2.ensures c.shows_told-2.ensures.edits) (renewed_grown z s v result (returns-clause-answers g c)))
+    result c.renew_tables-result.ensures.untouched

@@ -28,7 +28,7 @@ pub returns-then-is_closed : goal.returns-then-is_closed
 returns-then-is_closed g c =
     let z = c.args.store.now in let s = c.args.seat.now in let e = c.args.edits.now in let log = c.args.log.now in
     let k = c.find_edits.ensures e.table (second_held s.knows (writes log.table) (installed e.table) c.requires.holds.turn.held) in
-    closed_before z s e log c.requires.holds c.requires.running c.requires.seen.0 c.requires.seen.1 c.requires.settled c.requires.stands c.find_edits.new.seat c.find_closed.new.seat c.published.result k c.published.ensures.value
+    closed_before z s e log c.requires.holds c.requires.running c.requires.seen.0 c.requires.seen.1 c.requires.settled c.requires.stands c.shows_told.ensures.log c.find_edits.new.seat c.find_closed.new.seat c.published.result k c.published.ensures.value
     (c.find_closed.ensures ∙ ap (λ (n : ℕ). being (remembering (stopped n ∷ []) c.find_edits.new.seat.knows.participant) c.find_edits.new.seat) (sym c.published.ensures.value)) (sym c.is_closed.ensures ∙ c.if-is_closed.true)
 
 -- the log has this base already
@@ -37,7 +37,7 @@ returns-then-base-published g c =
     let z = c.args.store.now in let s = c.args.seat.now in let e = c.args.edits.now in let log = c.args.log.now in
     let t = c.shows_segment.new.seat in let u = c.find_edits-then-base-published.new.seat in
     let k = c.find_edits-then-base-published.ensures e.table (second_held t.knows (writes log.table) (installed e.table) (ap (λ (x : SeatState). x.knows.held) c.shows_segment.ensures.same ∙ c.requires.holds.turn.held)) in
-    nothing_to_renew z s e log c.requires.holds c.requires.running c.requires.seen.0 c.requires.seen.1 c.requires.settled c.requires.stands u (subst (λ (x : SeatState). Remembers z x e.table u) c.shows_segment.ensures.same k) (sym c.is_closed.ensures ∙ c.if-is_closed.false)
+    nothing_to_renew z s e log c.requires.holds c.requires.running c.requires.seen.0 c.requires.seen.1 c.requires.settled c.requires.stands c.shows_told.ensures.log u (subst (λ (x : SeatState). Remembers z x e.table u) c.shows_segment.ensures.same k) (sym c.is_closed.ensures ∙ c.if-is_closed.false)
     (ap (λ (x : Segment). x.base) c.shows_segment.ensures.segment ∙ sym c.base.ensures ∙ c.if-base-published.true ∙ c.published-2.ensures.value)
 
 pub find_closed-requires-clause-seat : goal.find_closed-requires-clause-seat

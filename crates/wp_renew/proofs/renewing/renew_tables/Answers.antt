@@ -6,6 +6,7 @@ use Rattle.wp_shared.specs.Calls.{GoesOnAs, remembering}
 use Rattle.wp_shared.specs.Notes.{no_fact, is_under, seeing}
 use Rattle.wp_shared.specs.Seats.{SeatState}
 use Rattle.wp_shared.proofs.Onward.{goes_none, goes_same, goes_seeing, goes_still, holds_next, loose_none, loose_under}
+use Rattle.wp_maint.proofs.BeforeInstall.{devices_more}
 use Rattle.wp_maint.proofs.Found.{held_first}
 use Rattle.wp_maint.proofs.Onward.{found_halted, goes_more, holds_being, renews_so, settled_being, settled_on}
 use Rattle.wp_renew.proofs.renewing.renew_tables.Goals as goal
@@ -49,3 +50,6 @@ returns-clause-says g c =
     let last : GoesOnAs u v u.knows.participant = goes_same u v (is_under write_turn) _ _ (loose_under write_turn) gave.goes in let same = gave.goes.same in
     renews_so (GoesOnAs t u) (GoesOnAs s v) z s t u v e.table (first.same_by, first.made, first.joined) (ap (λ (x : Participant). x.past) first.participant) first.seen (sym (ap (λ (x : SeatState). x.knows.participant.past) same)) last.seen
     (λ events x. goes_still s u v (remembering events p) (goes_more s t u p first events x) last) (λ x. goes_still s u v p (goes_still s t u p first x) last) (sym (ap (λ (x : SeatState). x.knows.participant.seen) same)) c.renew_held-result.result k.says
+
+pub returns-clause-untouched : goal.returns-clause-untouched
+returns-clause-untouched g c = devices_more (λ same. same.0) c.renew_held-result.result c.renew_held-result.ensures.untouched

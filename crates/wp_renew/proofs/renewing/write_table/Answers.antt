@@ -10,7 +10,6 @@ use Rattle.wp_shared.specs.Installs.{HadCause}
 use Rattle.wp_shared.specs.Log.{LogState}
 use Rattle.wp_shared.specs.Calls.{remembering}
 use Rattle.wp_shared.specs.Notes.{being, no_fact, GoesOn}
-use Rattle.wp_shared.specs.Renewal.{MatchWritten}
 use Rattle.wp_shared.specs.Seats.{SeatState}
 use Rattle.wp_shared.specs.Turns.{HoldsTurn}
 use Rattle.wp_maint.proofs.Made.{second_held}
@@ -32,10 +31,6 @@ returns-in-Ok-clause-writes g c =
       c.in-Ok.ensures.survives,
     )
 
-pub returns-in-Err-Memory-clause-writes : goal.returns-in-Err-Memory-clause-writes
-returns-in-Err-Memory-clause-writes g c =
-    (refl, refl, (subst (MatchWritten c.args.edits.now.table c.write_table.new.self.table) c.in-Err-Memory.field-0-is c.in-Err-Memory.ensures.refused, c.in-Err-Memory.ensures.manifest), c.in-Err-Memory.ensures.first, c.in-Err-Memory.ensures.survives, c.shows_told-in-Err-Memory.ensures.edits)
-
 pub find_edits-requires-clause-held : goal.find_edits-requires-clause-held
 find_edits-requires-clause-held g c = let e = c.args.edits.now.table in (e, second_held c.args.seat.now.knows (writes c.args.log.now.table) (installed e) c.requires.holds.turn.held)
 
@@ -43,7 +38,7 @@ pub remember_tables_fault-requires-clause-held : goal.remember_tables_fault-requ
 remember_tables_fault-requires-clause-held g c =
     let e = c.args.edits.now.table in let d = c.args.log.now.table in let left = c.write_table.new.self.table in
     let k = c.find_edits.ensures e (second_held c.args.seat.now.knows (writes d) (installed e) c.requires.holds.turn.held) in
-    let halted = subst (MatchWritten e left) c.in-Err-Fault.field-0-is c.in-Err-Fault.ensures.refused in
+    let halted = c.in-Err.ensures.refused.1 in
     let none : left.failed ≡ None = ap (λ (t : Installed). t.failed) halted ∙ c.shows_told.ensures.edits.none_failed (c.shows_told.ensures.edits.running c.requires.running.0) in (
       e,
       d,
@@ -57,7 +52,7 @@ pub remember_stop-requires-clause-held : goal.remember_stop-requires-clause-held
 remember_stop-requires-clause-held g c =
     let e = c.args.edits.now.table in let d = c.args.log.now.table in let left = c.write_table.new.self.table in
     let k = c.find_edits.ensures e (second_held c.args.seat.now.knows (writes d) (installed e) c.requires.holds.turn.held) in
-    let halted = subst (MatchWritten e left) c.in-Err-Fault.field-0-is c.in-Err-Fault.ensures.refused in
+    let halted = c.in-Err.ensures.refused.1 in
     let goes = c.remember_tables_fault.ensures.goes d e (ap (λ (x : SeatState). x.knows.held) k.is ∙ c.requires.holds.turn.held) in (
       d,
       ap (λ (x : SeatState). x.knows.held) goes.same,
@@ -68,12 +63,12 @@ remember_stop-requires-clause-held g c =
       ap (λ (t : Installed). t.halted) halted,
     )
 
-pub returns-in-Err-Fault-clause-writes : goal.returns-in-Err-Fault-clause-writes
-returns-in-Err-Fault-clause-writes g c =
+pub returns-in-Err-clause-writes : goal.returns-in-Err-clause-writes
+returns-in-Err-clause-writes g c =
     let z = c.args.store.now in let s = c.args.seat.now in let t = c.find_edits.new.seat in let u = c.remember_tables_fault.new.seat in let v = c.remember_stop.new.seat in
     let e = c.args.edits.now in let left = c.write_table.new.self in let log = c.args.log.now in let now = c.stop.new.self in
     let k = c.find_edits.ensures e.table (second_held s.knows (writes log.table) (installed e.table) c.requires.holds.turn.held) in
-    let halted = subst (MatchWritten e.table left.table) c.in-Err-Fault.field-0-is c.in-Err-Fault.ensures.refused in
+    let halted = c.in-Err.ensures.refused.1 in
     let none : left.table.failed ≡ None = ap (λ (x : Installed). x.failed) halted ∙ c.shows_told.ensures.edits.none_failed (c.shows_told.ensures.edits.running c.requires.running.0) in
     let first = c.remember_tables_fault.ensures.goes log.table e.table (ap (λ (x : SeatState). x.knows.held) k.is ∙ c.requires.holds.turn.held) in
     let one : List Event = tables_failed e.table.last None ∷ [] in let two : List Event = log_stopped ∷ [] in
@@ -92,17 +87,17 @@ returns-in-Err-Fault-clause-writes g c =
           held = ap (λ (x : SeatState). x.knows.held) more.same;
           turns = ap (λ (x : SeatState). x.turns) more.same ∙ c.requires.holds.turn.turns;
         };
-        edits_of_store = c.requires.holds.edits_of_store ∙ ap Some (sym c.in-Err-Fault.ensures.first);
+        edits_of_store = c.requires.holds.edits_of_store ∙ ap Some (sym c.in-Err.ensures.first);
         log_of_store = c.requires.holds.log_of_store ∙ ap (λ (l : LogState). Some l.first) (sym c.stop.ensures);
       };
       found = found_then z s t v e.table k held no_fact (tables_failed e.table.last None ∷ log_stopped ∷ []) all;
       goes = more;
-      fault = subst (HadCause e.set left.set) c.in-Err-Fault.field-0-is c.in-Err-Fault.ensures.cause;
-      survives = (c.in-Err-Fault.ensures.survives, c.in-Err-Fault.ensures.manifest);
+      fault = subst (HadCause e.set left.set) c.in-Err.ensures.refused.0 c.in-Err.ensures.cause;
+      survives = (c.in-Err.ensures.survives, c.in-Err.ensures.manifest);
       edits = c.shows_told.ensures.edits;
-      still_edits = c.shows_told-in-Err-Fault.ensures.edits;
+      still_edits = c.shows_told-in-Err.ensures.edits;
       log_is = c.shows_told-2.ensures.log;
-      still_log = c.shows_told-in-Err-Fault-2.ensures.log;
+      still_log = c.shows_told-in-Err-2.ensures.log;
       stands = c.remember_stop.ensures.stands;
     }
 
