@@ -6,20 +6,21 @@ use Rattle.std.proofs.lemmas.List.{set-set}
 use Rattle.wp_core.specs.World.{World, Actor, new_actor}
 use Rattle.wp_core.specs.Changes.{with_actor, joined_actor, made_one}
 use Rattle.wp_core.specs.Effects.{done}
-use Rattle.wp_core.specs.Notes.{forgets}
+use Rattle.wp_core.specs.Notes.{forgets, gives_guard}
+use Rattle.wp_core.specs.Turns.{Turn}
+use Rattle.wp_model.specs.declared.entry.Entry.{Entry}
 use Rattle.wp_core.specs.Steps as step
 use Rattle.wp_core.specs.Steps.{Step}
 use Rattle.wp_machine.specs.declared.step.Kind.{Kind}
 use Rattle.wp_machine.specs.declared.step.Kind.TheVariants as kind
 use Rattle.wp_machine.specs.declared.step.ActorsStep.{ActorsStep}
-use Rattle.wp_machine.proofs.StayNoted.{all_stay}
-use Rattle.wp_machine.specs.declared.ending.Ending.{Ending}
-use Rattle.wp_machine.specs.Machine.{step_of, MayMake, Makes}
+use Rattle.wp_machine.specs.declared.step.ActorsStep.TheVariants as actors
+use Rattle.wp_machine.proofs.StayNoted.{EndsNothing, all_stay}
+use Rattle.wp_machine.specs.Machine.{actors_step, step_of, MayMake, Makes}
 use Rattle.wp_machine.specs.Effect.{IsEffect}
-use Rattle.wp_machine.specs.Endings.{ending_of, ends_fact}
+use Rattle.wp_machine.specs.Marks.{apart_step, left_by}
 use Rattle.wp_machine.specs.Apart.{IsApart}
-use Rattle.wp_machine.proofs.Ends.{left_as}
-use Rattle.wp_machine.proofs.Apart.{acts, again, step_same}
+use Rattle.wp_machine.proofs.Apart.{acts, again, apart_same, step_same}
 use mathlib.Core.Option.{some}
 use lib.ListN.{get_elem?}
 use Rattle.std.specs.declared.alloc.AllocError.{AllocError}
@@ -60,12 +61,12 @@ seated next w we w2 by a first actor more seat at at1 at2 is out one back n =
     ∙ ap (λ (z : Actor). record w { actors = set w.actors by z ++ seat ∷ [] }) (one ∙ ap made_one (same_actor w by a actor at at2))
     ∙ ap (λ (z : Actor). record w { actors = set w.actors by (made_one a) ++ z ∷ [] }) (is ∙ ap (λ z. new_actor true z.participant.client z.participant.seen) (same_actor w by a first at at1))
 
-pub acted : (w we w2 next : World) (by : ℕ) (k : Kind) (en : Ending) (a actor left left2 : Actor) (s : Step) (i : IsApart k) → en ≡ ending_of w k → get_elem? w.actors by ≡ some a → get_elem? w.actors by ≡ some actor → we ≡ with_actor w by joined_actor → left ≡ record actor { notes = filter (λ x. not (ends_fact en x)) actor.notes } → step_of w a.participant k ≡ Some s → (step_of we left.participant k ≡ Some s → IsEffect by we left s w2 left2) → next ≡ with_actor w2 by left2 → next ≡ done w by (forgets w.writes.history (length w.cache) s a) s
-acted w we w2 next by k en a actor left left2 s i ends at at2 out forgot e made back =
+pub acted : (w we w2 next : World) (by : ℕ) (k : Kind) (a actor left left2 : Actor) (s : Step) (i : IsApart k) → get_elem? w.actors by ≡ some a → get_elem? w.actors by ≡ some actor → we ≡ with_actor w by joined_actor → left ≡ record actor { notes = left_by (apart_step we.writes we.store we.locks actor.participant k) we.writes.history (length we.cache) actor.notes } → step_of w a.participant k ≡ Some s → (step_of we left.participant k ≡ Some s → IsEffect by we left s w2 left2) → next ≡ with_actor w2 by left2 → next ≡ done w by (forgets w.writes.history (length w.cache) s a) s
+acted w we w2 next by k a actor left left2 s i at at2 out marked e made back =
     let same = same_actor w by a actor at at2 in
     let first : step_of w actor.participant k ≡ Some s = ap (λ z. step_of w z.participant k) same ∙ e in
-    let here : step_of we left.participant k ≡ Some s = ap (λ z. step_of we z.participant k) forgot ∙ ap (λ z. step_of z actor.participant k) out ∙ step_same w by joined_actor actor.participant k i ∙ first in
-    let noted : left ≡ forgets w.writes.history (length w.cache) s actor = forgot ∙ ap (λ z. record actor { notes = filter (λ x. not (ends_fact z x)) actor.notes }) ends ∙ ap (λ xs. record actor { notes = xs }) (left_as w actor.participant k s first actor.notes) in
+    let here : step_of we left.participant k ≡ Some s = ap (λ z. step_of we z.participant k) marked ∙ ap (λ z. step_of z actor.participant k) out ∙ step_same w by joined_actor actor.participant k i ∙ first in
+    let noted : left ≡ forgets w.writes.history (length w.cache) s actor = marked ∙ ap (λ (z : World). record actor { notes = left_by (apart_step z.writes z.store z.locks actor.participant k) z.writes.history (length z.cache) actor.notes }) out ∙ ap (λ o. record actor { notes = left_by o w.writes.history (length w.cache) actor.notes }) (apart_same w actor.participant k i ∙ first) in
     back ∙ made here ∙ ap (λ z. done z by left s) out ∙ again w by joined_actor left s (acts w actor.participant k s i first) ∙ ap (λ z. done w by z s) (noted ∙ ap (forgets w.writes.history (length w.cache) s) same)
 
 -- ---- joins
@@ -111,8 +112,37 @@ is_with w other f s e = by (slice_get w.actors other) refl e
     by None at e = absurd cc
     by (Some b) at e = record { actor = b; there = got w.actors other b at; is = ap (λ o. unwrap_or o s) e }
 
+only : (x s : Step) → Some x ≡ Some s → x ≡ s
+only x s e = ap (λ o. unwrap_or o x) e
+
+no_guard : (s : Step) → ((turn : Turn) → gives_guard (Some turn) s ≡ false) → (turn : Option Turn) → gives_guard turn s ≡ false
+no_guard s given None = refl
+no_guard s given (Some turn) = given turn
+
+note_ends_nothing : (h : List Entry) (n : ℕ) → EndsNothing h n step.make_note
+note_ends_nothing h n = record { guard = no_guard step.make_note (λ turn. refl); place = λ at. refl; words = refl; pending = refl; transaction = λ name. refl; delayed_flag = refl; old_flag = refl; add_prepared = refl; take_prepared = refl; delays = refl; add_versions = refl; take_versions = refl; moves = refl; replaces = refl; installs = refl; direct = refl }
+
+seat_ends_nothing : (h : List Entry) (n : ℕ) → EndsNothing h n step.make_seat
+seat_ends_nothing h n = record { guard = no_guard step.make_seat (λ turn. refl); place = λ at. refl; words = refl; pending = refl; transaction = λ name. refl; delayed_flag = refl; old_flag = refl; add_prepared = refl; take_prepared = refl; delays = refl; add_versions = refl; take_versions = refl; moves = refl; replaces = refl; installs = refl; direct = refl }
+
+learning_ends_nothing : (h : List Entry) (n place : ℕ) (note : Actor) → EndsNothing h n (step.learn place note)
+learning_ends_nothing h n place note = record { guard = no_guard (step.learn place note) (λ turn. refl); place = λ at. refl; words = refl; pending = refl; transaction = λ name. refl; delayed_flag = refl; old_flag = refl; add_prepared = refl; take_prepared = refl; delays = refl; add_versions = refl; take_versions = refl; moves = refl; replaces = refl; installs = refl; direct = refl }
+
+joining_ends_nothing : (h : List Entry) (n place : ℕ) (seat : Actor) → EndsNothing h n (step.join_seat place seat)
+joining_ends_nothing h n place seat = record { guard = no_guard (step.join_seat place seat) (λ turn. refl); place = λ at. refl; words = refl; pending = refl; transaction = λ name. refl; delayed_flag = refl; old_flag = refl; add_prepared = refl; take_prepared = refl; delays = refl; add_versions = refl; take_versions = refl; moves = refl; replaces = refl; installs = refl; direct = refl }
+
+ends_nothing : (w : World) (k : ActorsStep) (s : Step) → actors_step w k ≡ Some s → EndsNothing w.writes.history (length w.cache) s
+ends_nothing w actors.MakeNote s e = subst (EndsNothing w.writes.history (length w.cache)) (only step.make_note s e) (note_ends_nothing _ _)
+ends_nothing w actors.MakeSeat s e = subst (EndsNothing w.writes.history (length w.cache)) (only step.make_seat s e) (seat_ends_nothing _ _)
+ends_nothing w (actors.Learn other) s e =
+    let k = is_with w other (step.learn other) s e in
+    subst (EndsNothing w.writes.history (length w.cache)) k.is (learning_ends_nothing _ _ other k.actor)
+ends_nothing w (actors.JoinSeat other) s e =
+    let k = is_with w other (step.join_seat other) s e in
+    subst (EndsNothing w.writes.history (length w.cache)) k.is (joining_ends_nothing _ _ other k.actor)
+
 made_actor : (w next : World) (by : ℕ) (k : ActorsStep) (a : Actor) (s : Step) → step_of w a.participant (kind.Actors k) ≡ Some s → next ≡ done w by a s → next ≡ done w by (forgets w.writes.history (length w.cache) s a) s
-made_actor w next by k a s e n = n ∙ ap (λ (z : Actor). done w by z s) (ap (λ xs. record a { notes = xs }) (sym (all_stay a.notes) ∙ left_as w a.participant (kind.Actors k) s e a.notes))
+made_actor w next by k a s e n = n ∙ ap (λ xs. done w by (record a { notes = xs }) s) (sym (all_stay w.writes.history (length w.cache) s (ends_nothing w k s e) a.notes))
 
 pub on_ok : (r : Result (Unit {0}) AllocError) (P Q : Type 0) → (P → Q) → OnOk r P → OnOk r Q
 on_ok (Ok x) P Q f p = f p

@@ -1,11 +1,12 @@
 -- Where the actor is apart from the world, a step makes the same of the world.
-use Rattle.std.proofs.Common.{◌≡◌, ℕ, suc, List, [], ◌∷◌, length, take, drop, Option, Some, None, option_map, unwrap_or, refl, ap, subst}
+use Rattle.std.proofs.Common.{◌≡◌, ℕ, suc, List, [], ◌∷◌, length, take, drop, Option, Some, None, option_map, unwrap_or, refl, ap, sym, ◌∙◌, subst}
 use Rattle.std.specs.Prelude.{slice_get}
 use Rattle.std.specs.FinMap as finite
 use Rattle.wp_model.specs.declared.entry.Entry.{Entry}
 use Rattle.wp_judge.specs.Words.{CommitPair}
 use Rattle.wp_core.specs.World.{World, Participant, Actor}
 use Rattle.wp_core.specs.Tables.{WriteTable, StoreTable}
+use Rattle.wp_model.specs.LockTables.{LockTables}
 use Rattle.wp_core.specs.Reading.{Registration}
 use Rattle.wp_core.specs.Entries.{pending_pair}
 use Rattle.std.proofs.lemmas.List.{set-set}
@@ -38,6 +39,7 @@ use Rattle.wp_machine.specs.declared.step.LocksStep.TheVariants as locks
 use Rattle.wp_machine.specs.declared.step.OwnStep.{OwnStep}
 use Rattle.wp_machine.specs.declared.step.OwnStep.TheVariants as own
 use Rattle.wp_machine.specs.Apart.{IsApart}
+use Rattle.wp_machine.specs.Marks.{apart_step}
 use Rattle.wp_machine.specs.Machine.{reader_step, published_step, word_step, turn_step, write_step, prepared_step, released_step, snapshots_step, without_number, memory_with, store_step, tables_step, locks_step, own_step, step_of}
 
 -- it is a step of an actor that makes and joins none
@@ -119,18 +121,18 @@ of_tabless (tables.Renew edit) s e = subst Acts (only (step.renew edit) _ e) tt
 of_tabless (tables.Halt edit) s e = subst Acts (only (step.halt edit) _ e) tt
 of_tabless tables.FindEdit s e = subst Acts (only (step.find_edit) _ e) tt
 
-of_lockss : (w : World) (p : Participant) (k : LocksStep) (s : Step) → locks_step w p k ≡ Some s → Acts s
-of_lockss w p (locks.ClaimName name) s e = subst Acts (only (step.claim_name name) _ e) tt
-of_lockss w p (locks.TakeName name number) s e = subst Acts (only (step.take_name name number) _ e) tt
-of_lockss w p (locks.LeaveName name) s e = subst Acts (only (step.leave_name name) _ e) tt
-of_lockss w p (locks.FreeTransaction name) s e = subst Acts (only (step.free_transaction name) _ e) tt
-of_lockss w p (locks.LockDirect key) s e = subst Acts (only (step.lock_direct key) _ e) tt
-of_lockss w p (locks.FreeDirect key) s e = subst Acts (only (step.free_direct key) _ e) tt
-of_lockss w p (locks.FindHolder key holder account) s e = subst Acts (only (step.find_holder key holder (account_of account)) _ e) tt
-of_lockss w p (locks.Tell label) s e = subst Acts (only (step.tell label) _ e) tt
-of_lockss w p (locks.LockKey name key) s e = mapped Acts (λ t. step.lock_key name t key) (finite.get p.transactions name) _ e (λ x. tt)
-of_lockss w p (locks.FreeKey name key) s e = mapped Acts (λ t. step.free_key name t key) (finite.get p.transactions name) _ e (λ x. tt)
-of_lockss w p (locks.Hear label) s e = mapped Acts (step.hear label) (finite.get w.locks.labels label) _ e (λ x. tt)
+of_lockss : (t : LockTables) (p : Participant) (k : LocksStep) (s : Step) → locks_step t p k ≡ Some s → Acts s
+of_lockss t p (locks.ClaimName name) s e = subst Acts (only (step.claim_name name) _ e) tt
+of_lockss t p (locks.TakeName name number) s e = subst Acts (only (step.take_name name number) _ e) tt
+of_lockss t p (locks.LeaveName name) s e = subst Acts (only (step.leave_name name) _ e) tt
+of_lockss t p (locks.FreeTransaction name) s e = subst Acts (only (step.free_transaction name) _ e) tt
+of_lockss t p (locks.LockDirect key) s e = subst Acts (only (step.lock_direct key) _ e) tt
+of_lockss t p (locks.FreeDirect key) s e = subst Acts (only (step.free_direct key) _ e) tt
+of_lockss t p (locks.FindHolder key holder account) s e = subst Acts (only (step.find_holder key holder (account_of account)) _ e) tt
+of_lockss t p (locks.Tell label) s e = subst Acts (only (step.tell label) _ e) tt
+of_lockss t p (locks.LockKey name key) s e = mapped Acts (λ t. step.lock_key name t key) (finite.get p.transactions name) _ e (λ x. tt)
+of_lockss t p (locks.FreeKey name key) s e = mapped Acts (λ t. step.free_key name t key) (finite.get p.transactions name) _ e (λ x. tt)
+of_lockss t p (locks.Hear label) s e = mapped Acts (step.hear label) (finite.get t.labels label) _ e (λ x. tt)
 
 of_own : (p : Participant) (k : OwnStep) (s : Step) → own_step p k ≡ Some s → Acts s
 of_own p (own.SetBatch name batch) s e = mapped Acts (λ t. step.set_batch name t batch) (finite.get p.transactions name) _ e (λ x. tt)
@@ -146,22 +148,26 @@ acts w p (kind.Prepared k) s i e = of_prepareds k s e
 acts w p (kind.Snapshots k) s i e = of_snapshots p k s e
 acts w p (kind.Store k) s i e = of_stores w.writes w.store k s e
 acts w p (kind.Tables k) s i e = of_tabless k s e
-acts w p (kind.Locks k) s i e = of_lockss w p k s e
+acts w p (kind.Locks k) s i e = of_lockss w.locks p k s e
 acts w p (kind.Own k) s i e = of_own p k s e
 acts w p (kind.Actors k) s i e = absurd i
 
+-- it is told by the tables alone
+pub apart_same : (w : World) (p : Participant) (k : Kind) → IsApart k → apart_step w.writes w.store w.locks p k ≡ step_of w p k
+apart_same w p (kind.Reader k) i = refl
+apart_same w p (kind.Word k) i = refl
+apart_same w p (kind.Turn k) i = refl
+apart_same w p (kind.Write k) i = refl
+apart_same w p (kind.Prepared k) i = refl
+apart_same w p (kind.Snapshots k) i = refl
+apart_same w p (kind.Store k) i = refl
+apart_same w p (kind.Tables k) i = refl
+apart_same w p (kind.Locks k) i = refl
+apart_same w p (kind.Own k) i = refl
+apart_same w p (kind.Actors k) i = absurd i
+
 pub step_same : (w : World) (by : ℕ) (x : Actor) (p : Participant) (k : Kind) → IsApart k → step_of (with_actor w by x) p k ≡ step_of w p k
-step_same w by x p (kind.Reader k) i = refl
-step_same w by x p (kind.Word k) i = refl
-step_same w by x p (kind.Turn k) i = refl
-step_same w by x p (kind.Write k) i = refl
-step_same w by x p (kind.Prepared k) i = refl
-step_same w by x p (kind.Snapshots k) i = refl
-step_same w by x p (kind.Store k) i = refl
-step_same w by x p (kind.Tables k) i = refl
-step_same w by x p (kind.Locks k) i = refl
-step_same w by x p (kind.Own k) i = refl
-step_same w by x p (kind.Actors k) i = absurd i
+step_same w by x p k i = sym (apart_same (with_actor w by x) p k i) ∙ apart_same w p k i
 
 -- the actor's own place is all that the step changes among the actors
 pub again : (w : World) (by : ℕ) (x a : Actor) (s : Step) → Acts s → done (with_actor w by x) by a s ≡ done w by a s

@@ -1,7 +1,6 @@
 pub mod Maps
 pub mod NameMaps
 pub mod Held
-pub mod Ends
 pub mod Bits
 pub mod Apart
 pub mod StayNoted

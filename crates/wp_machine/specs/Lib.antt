@@ -4,5 +4,5 @@ pub mod Machine
 pub mod Effect
 pub mod Pairs
 pub mod HeldTables
-pub mod Endings
+pub mod Marks
 pub mod Apart

@@ -5,6 +5,7 @@ use mathlib.Core.Option.{some}
 use lib.ListN.{get_elem?}
 use Rattle.wp_model.specs.declared.entry.Entry.{Entry}
 use Rattle.wp_model.specs.declared.version.Version.{Version}
+use Rattle.wp_model.specs.LockTables.{LockTables}
 use Rattle.wp_model.specs.Legal.{changes_in}
 use Rattle.wp_core.specs.World.{Participant, Actor, World}
 use Rattle.wp_core.specs.Tables.{WriteTable, StoreTable}
@@ -123,18 +124,18 @@ tables_step (tables.Renew edit) = Some (step.renew edit)
 tables_step (tables.Halt edit) = Some (step.halt edit)
 tables_step tables.FindEdit = Some step.find_edit
 
-abbrev pub locks_step : World → Participant → LocksStep → Option Step
-locks_step w p (locks.ClaimName name) = Some (step.claim_name name)
-locks_step w p (locks.TakeName name n) = Some (step.take_name name n)
-locks_step w p (locks.LeaveName name) = Some (step.leave_name name)
-locks_step w p (locks.FreeTransaction name) = Some (step.free_transaction name)
-locks_step w p (locks.LockKey name key) = option_map (λ t. step.lock_key name t key) (finite.get p.transactions name)
-locks_step w p (locks.FreeKey name key) = option_map (λ t. step.free_key name t key) (finite.get p.transactions name)
-locks_step w p (locks.LockDirect key) = Some (step.lock_direct key)
-locks_step w p (locks.FreeDirect key) = Some (step.free_direct key)
-locks_step w p (locks.FindHolder key holder account) = Some (step.find_holder key holder (account_of account))
-locks_step w p (locks.Tell label) = Some (step.tell label)
-locks_step w p (locks.Hear label) = option_map (step.hear label) (finite.get w.locks.labels label)
+abbrev pub locks_step : LockTables → Participant → LocksStep → Option Step
+locks_step t p (locks.ClaimName name) = Some (step.claim_name name)
+locks_step t p (locks.TakeName name n) = Some (step.take_name name n)
+locks_step t p (locks.LeaveName name) = Some (step.leave_name name)
+locks_step t p (locks.FreeTransaction name) = Some (step.free_transaction name)
+locks_step t p (locks.LockKey name key) = option_map (λ t. step.lock_key name t key) (finite.get p.transactions name)
+locks_step t p (locks.FreeKey name key) = option_map (λ t. step.free_key name t key) (finite.get p.transactions name)
+locks_step t p (locks.LockDirect key) = Some (step.lock_direct key)
+locks_step t p (locks.FreeDirect key) = Some (step.free_direct key)
+locks_step t p (locks.FindHolder key holder account) = Some (step.find_holder key holder (account_of account))
+locks_step t p (locks.Tell label) = Some (step.tell label)
+locks_step t p (locks.Hear label) = option_map (step.hear label) (finite.get t.labels label)
 
 abbrev pub own_step : Participant → OwnStep → Option Step
 own_step p (own.SetBatch name batch) = option_map (λ t. step.set_batch name t batch) (finite.get p.transactions name)
@@ -157,7 +158,7 @@ step_of w p (kind.Prepared k) = prepared_step k
 step_of w p (kind.Snapshots k) = snapshots_step p k
 step_of w p (kind.Store k) = store_step w.writes w.store k
 step_of w p (kind.Tables k) = tables_step k
-step_of w p (kind.Locks k) = locks_step w p k
+step_of w p (kind.Locks k) = locks_step w.locks p k
 step_of w p (kind.Own k) = own_step p k
 step_of w p (kind.Actors k) = actors_step w k
 

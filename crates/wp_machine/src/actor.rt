@@ -1,8 +1,6 @@
 ghost use Rattle.std.specs.Prelude.{◌≡◌, [], ◌∷◌, ◌++◌, None, Some, true, false, OnOk, IfOk, IfSome, ◌==◌, ◌<◌, length, slice_set};
 ghost use Rattle.std.specs.Prelude.{List, take, drop, if◌then◌else◌};
 ghost use Rattle.std.specs.List.{list_any};
-ghost use Rattle.std.specs.Prelude.{not, filter};
-ghost use Rattle.wp_machine.specs.Endings.{ends_fact};
 ghost use Rattle.std.specs.Option.{option_copied};
 ghost use Rattle.std.specs.FinSet as set;
 ghost use Rattle.std.specs.FinMap as finite;
@@ -19,11 +17,15 @@ ghost use Rattle.wp_machine.specs.HeldTables.{place_from};
 
 use crate::content::Content;
 use crate::copies::copy_entries;
-use crate::ending::Ending;
-use crate::pairs::newest_under;
+use crate::lists::{add, add_first};
+use crate::marks::Mark;
+use crate::pairs::{newest_under, take_named};
+use crate::step::Kind;
 use crate::views::{Event, Fact};
+use crate::world::World;
 use std::alloc::{AllocError, Global};
 use std::marker::Model;
+use std::snapshot::Snapshot;
 use wp_actor::Turn;
 use wp_judge::Observed;
 use wp_model::{Batch, Entry, Key, Name, Seq};
@@ -97,7 +99,8 @@ pub struct Actor {
     pub learned: Vec<Entry>,
     pub held: Vec<Content>,
     pub reading: Option<Observed>,
-    pub notes: Vec<Fact>,
+    /// The newest first.
+    pub notes: Vec<Mark>,
     pub live: bool,
     pub made: u64,
     pub joined: Vec<Participant>,
@@ -106,6 +109,7 @@ pub struct Actor {
 impl Model for Actor {
     ghost use Rattle.std.specs.Coded.{codes};
     ghost use Rattle.wp_core.specs.World.{Actor};
+    ghost use Rattle.wp_machine.specs.Marks.{notes_of};
     ghost use Rattle.wp_model.specs.PreparedTables.{prepared_tables_code};
     ghost use Rattle.wp_model.specs.Snapshots.{snapshots_code};
     ghost use Rattle.wp_model.specs.LockTables.{lock_tables_code};
@@ -115,7 +119,7 @@ impl Model for Actor {
 
     ghost coded = { Prim.hlevel (codes, prepared_tables_code, snapshots_code, lock_tables_code, transactions_code) };
 
-    ghost view = { λ a. record { participant = a.participant; learned = a.learned.items; held = a.held.items; reading = a.reading; notes = a.notes.items; live = a.live; made = a.made; joined = a.joined.items } };
+    ghost view = { λ a. record { participant = a.participant; learned = a.learned.items; held = a.held.items; reading = a.reading; notes = notes_of a.notes.items; live = a.live; made = a.made; joined = a.joined.items } };
 }
 
 impl Participant {
@@ -168,12 +172,6 @@ fn take_locked(locked: &mut Vec<Key>, key: &Key)
     ensures { set.from_list {R = key_cmp} locked.new.items ≡ set.remove (set.from_list locked.old.items) key.now }
 {
     locked.retain(|other| other != key);
-}
-
-fn take_transaction(transactions: &mut Vec<(Name, Transaction)>, name: &Name)
-    ensures { finite.from_entries {R = key_cmp} transactions.new.items ≡ finite.remove (finite.from_entries transactions.old.items) name.now }
-{
-    transactions.retain(|pair| &pair.0 != name);
 }
 
 impl Transaction {
@@ -277,12 +275,6 @@ fn hold(held: &mut Vec<Content>, content: Content)
     }
 }
 
-fn forget(notes: &mut Vec<Fact>, ending: &Ending)
-    ensures { notes.new.items ≡ filter (λ fact. not (ends_fact ending.now fact)) notes.old.items }
-{
-    notes.retain(|fact| !ending.ends(fact));
-}
-
 fn let_go(held: &mut Vec<Content>, turn: Turn)
     ensures { held.new.items ≡ held_without held.old.items (turn_of turn) }
 {
@@ -290,6 +282,8 @@ fn let_go(held: &mut Vec<Content>, turn: Turn)
 }
 
 impl Actor {
+    ghost use Rattle.wp_machine.specs.Marks.{left_by, apart_step};
+
     pub fn new(alloc: Global, live: bool, client: Option<Name>, seen: Vec<Entry>) -> Actor
         ensures { result ≡ new_actor live (client_of client) seen.items }
     {
@@ -335,8 +329,7 @@ impl Actor {
     pub fn register(&mut self, registration: Registration) -> Result<(), AllocError>
         ensures { OnOk result (self.new ≡ registers self.old registration) }
     {
-        self.participant.registered.push(registration)?;
-        Ok(())
+        add(&mut self.participant.registered, registration)
     }
 
     pub fn put_transaction(
@@ -348,10 +341,7 @@ impl Actor {
         ensures { OnOk result (self.new ≡ has_transaction self.old name.now transaction) }
     {
         let name = name.copy(alloc)?;
-        self.participant
-            .transactions
-            .insert(0, (name, transaction))?;
-        Ok(())
+        add_first(&mut self.participant.transactions, (name, transaction))
     }
 
     /// What follows from a store of the published number: the history is one longer, by an entry of the actor's.
@@ -359,8 +349,7 @@ impl Actor {
         ensures { OnOk result (self.new ≡ has_published history.now self.old) }
     {
         self.see(history, alloc)?;
-        self.participant.own.push(history.len() as Seq)?;
-        Ok(())
+        add(&mut self.participant.own, history.len() as Seq)
     }
 
     /// Its registration at that place goes, with a reading of it. The number of the registration, if there is one.
@@ -412,28 +401,27 @@ impl Actor {
     pub fn join(&mut self, seat: Actor) -> Result<(), AllocError>
         ensures { OnOk result (self.new ≡ joins self.old seat) }
     {
-        self.joined.insert(0, seat.into_participant())?;
-        Ok(())
+        add_first(&mut self.joined, seat.into_participant())
     }
 
-    /// It forgets what the step ends.
-    pub fn forget(&mut self, ending: Ending)
-        ensures { self.new ≡ record self.old { notes = filter (λ fact. not (ends_fact ending fact)) self.old.notes } }
+    /// It makes a step of this kind, which may end what it noted.
+    pub fn mark(&mut self, world: &World, kind: &Kind) -> Result<(), AllocError>
+        ensures { OnOk result (self.new ≡ record self.old { notes = left_by (apart_step world.now.writes world.now.store world.now.locks self.old.participant kind.now) world.now.writes.history (length world.now.cache) self.old.notes }) }
     {
-        forget(&mut self.notes, &ending);
+        let mark = Mark::of(world, &self.participant, kind);
+        add_first(&mut self.notes, mark)
     }
 
     pub fn note(&mut self, fact: Fact) -> Result<(), AllocError>
         ensures { OnOk result (self.new ≡ record self.old { notes = fact ∷ self.old.notes }) }
     {
-        self.notes.insert(0, fact)?;
-        Ok(())
+        add_first(&mut self.notes, Mark::Noted(Snapshot::of(&fact)))
     }
 
     pub fn take_transaction(&mut self, name: &Name)
         ensures { self.new ≡ has_no_transaction self.old name.now }
     {
-        take_transaction(&mut self.participant.transactions, name);
+        take_named(&mut self.participant.transactions, name);
     }
 
     pub fn set_direct(&mut self, key: Option<Key>)
@@ -452,15 +440,13 @@ impl Actor {
     pub fn take(&mut self, content: Content) -> Result<(), AllocError>
         ensures { OnOk result (self.new ≡ record self.old { held = content ∷ self.old.held }) }
     {
-        self.held.insert(0, content)?;
-        Ok(())
+        add_first(&mut self.held, content)
     }
 
     pub fn remember(&mut self, event: Event) -> Result<(), AllocError>
         ensures { OnOk result (self.new ≡ remembers self.old event) }
     {
-        self.participant.past.push(event)?;
-        Ok(())
+        add(&mut self.participant.past, event)
     }
 }
 

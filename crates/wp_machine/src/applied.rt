@@ -16,7 +16,7 @@ ghost use Rattle.wp_machine.specs.declared.step.Kind.TheVariants.{Actors};
 use crate::actor::Actor;
 use crate::copies::copy_entries;
 use crate::effects;
-use crate::ending::ending_of;
+use crate::lists::add;
 use crate::locks::copy_client;
 use crate::step::{ActorsStep, Kind, Step};
 use crate::world::World;
@@ -53,8 +53,7 @@ pub fn actor_at(world: &World, by: usize) -> &Actor
 fn push_actor(world: &mut World, actor: Actor) -> Result<(), AllocError>
     ensures { OnOk result (world.new ≡ record world.old { actors = world.old.actors ++ actor ∷ [] }) }
 {
-    world.actors.push(actor)?;
-    Ok(())
+    add(&mut world.actors, actor)
 }
 
 /// A note of the actor, or a seat of its client.
@@ -142,9 +141,8 @@ fn act(world: &mut World, by: usize, kind: Kind) -> Result<(), AllocError>
     ensures { (a : Actor) (s : step.Step) → IsApart kind → get_elem? world.old.actors by ≡ some a → step_of world.old a.participant kind ≡ Some s
         → OnOk result (world.new ≡ done world.old by (forgets world.old.writes.history (length world.old.cache) s a) s) }
 {
-    let ending = ending_of(world, &kind)?;
     let mut actor = take_actor(world, by);
-    actor.forget(ending);
+    actor.mark(world, &kind)?;
     effect(world, by, &mut actor, kind)?;
     put_actor(world, by, actor);
     Ok(())

@@ -3,7 +3,7 @@
 //! A `World` shows the machine's own world, and so do its parts. `apply` makes one step of one actor: of a step that may be
 //! made, the new world is what the machine's step makes of the old one, a sound world stays sound, and a reached one stays
 //! reached. What the world has already is named in a step by a number, a name or a place alone. While an actor makes its
-//! step it is apart from the world: first it forgets the notes that its step ends, then the step changes the world and
+//! step it is apart from the world: first the step is marked, which may end what it noted, then the step changes the world and
 //! the actor, and then it is put back.
 //!
 //! A step that makes or joins an actor changes two places, and ends no notes: a joined actor is taken out of the world first.
@@ -24,9 +24,10 @@ mod content;
 mod copies;
 mod due;
 mod effects;
-mod ending;
 mod left;
+mod lists;
 mod locks;
+mod marks;
 mod pairs;
 mod prepared;
 mod snapshots;
@@ -44,6 +45,7 @@ pub use cache::Cache;
 pub use content::Content;
 pub use copies::copy_versions;
 pub use locks::LockTables;
+pub use marks::Mark;
 pub use prepared::PreparedTables;
 pub use snapshots::{Snapshot, Snapshots};
 pub use step::{

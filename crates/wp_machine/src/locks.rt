@@ -8,7 +8,8 @@ ghost use Rattle.wp_core.specs.Changes.{with_name, with_key, without_key, withou
 ghost use Rattle.wp_history.proofs.Opened.{names_of, keys_of};
 
 use crate::left::{keys_left, names_left};
-use crate::pairs::newest_under;
+use crate::lists::add_first;
+use crate::pairs::{newest_under, take_named};
 use std::alloc::{AllocError, Global};
 use std::marker::Model;
 use wp_ledger::History;
@@ -40,12 +41,6 @@ pub fn copy_client(client: &Option<Name>, alloc: Global) -> Result<Option<Name>,
         Some(client) => Ok(Some(client.copy(alloc)?)),
         None => Ok(None),
     }
-}
-
-fn take_name(names: &mut Vec<(Name, Option<Name>)>, name: &Name)
-    ensures { finite.from_entries {R = key_cmp} names.new.items ≡ finite.remove (finite.from_entries names.old.items) name.now }
-{
-    names.retain(|pair| &pair.0 != name);
 }
 
 fn take_key(keys: &mut Vec<(Key, Holder)>, key: &Key)
@@ -133,24 +128,21 @@ impl LockTables {
         ensures { OnOk result (self.new ≡ with_name self.old name.now client) }
     {
         let name = name.copy(alloc)?;
-        self.names.insert(0, (name, client))?;
-        Ok(())
+        add_first(&mut self.names, (name, client))
     }
 
     pub fn put_key(&mut self, key: &Key, holder: Holder, alloc: Global) -> Result<(), AllocError>
         ensures { OnOk result (self.new ≡ with_key self.old key.now holder) }
     {
         let key = key.copy(alloc)?;
-        self.keys.insert(0, (key, holder))?;
-        Ok(())
+        add_first(&mut self.keys, (key, holder))
     }
 
     pub fn put_label(&mut self, label: &Name, n: Seq, alloc: Global) -> Result<(), AllocError>
         ensures { OnOk result (self.new ≡ with_label self.old label.now n) }
     {
         let label = label.copy(alloc)?;
-        self.labels.insert(0, (label, n))?;
-        Ok(())
+        add_first(&mut self.labels, (label, n))
     }
 
     pub fn take_key(&mut self, key: &Key)
@@ -188,7 +180,7 @@ impl LockTables {
     pub fn free_transaction(&mut self, name: &Name, alloc: Global) -> Result<(), AllocError>
         ensures { OnOk result (self.new ≡ without_transaction self.old name.now) }
     {
-        take_name(&mut self.names, name);
+        take_named(&mut self.names, name);
         self.keys = self.keys_but(&Holder::Txn(name.copy(alloc)?), alloc)?;
         Ok(())
     }

@@ -7,7 +7,8 @@ ghost use Rattle.wp_core.specs.Changes.{found_in};
 ghost use Rattle.wp_model.specs.PreparedTables.{is_prepared};
 ghost use Rattle.wp_model.specs.History.{undecided};
 
-use crate::pairs::newest_of;
+use crate::lists::add_first;
+use crate::pairs::{newest_of, take_of};
 use std::alloc::{AllocError, Global};
 use std::marker::Model;
 use wp_judge::InPrepared;
@@ -80,12 +81,6 @@ fn take_from(numbers: &mut Vec<Seq>, p: Seq)
     numbers.retain(|q| *q != p);
 }
 
-fn take_pair(pairs: &mut Vec<(Seq, Seq)>, p: Seq)
-    ensures { finite.from_entries {R = nat_cmp} pairs.new.items ≡ finite.remove (finite.from_entries pairs.old.items) p }
-{
-    pairs.retain(|pair| pair.0 != p);
-}
-
 /// Those of the first that are at most `m` go to the second.
 fn move_up_to(heap: &mut Vec<Seq>, delayed: &mut Vec<Seq>, m: Seq) -> Result<(), AllocError>
     ensures heap { OnOk result (set.from_list {R = nat_cmp} heap.new.items ≡ set.retain (set.from_list heap.old.items) (λ p. not (nat_le p m))) }
@@ -104,8 +99,7 @@ impl PreparedTables {
     pub fn add(&mut self, p: Seq) -> Result<(), AllocError>
         ensures { OnOk result (self.new ≡ record self.old { heap = set.insert self.old.heap p }) }
     {
-        self.heap.insert(0, p)?;
-        Ok(())
+        add_first(&mut self.heap, p)
     }
 
     pub fn take_from_heap(&mut self, p: Seq)
@@ -117,8 +111,7 @@ impl PreparedTables {
     pub fn commit(&mut self, p: Seq, c: Seq) -> Result<(), AllocError>
         ensures { OnOk result (self.new ≡ record self.old { delayed_commits = finite.insert self.old.delayed_commits p c }) }
     {
-        self.delayed_commits.insert(0, (p, c))?;
-        Ok(())
+        add_first(&mut self.delayed_commits, (p, c))
     }
 
     pub fn take_out(&mut self, p: Seq)
@@ -126,7 +119,7 @@ impl PreparedTables {
     {
         take_from(&mut self.heap, p);
         take_from(&mut self.delayed, p);
-        take_pair(&mut self.delayed_commits, p);
+        take_of(&mut self.delayed_commits, p);
     }
 
     pub fn move_up_to(&mut self, m: Seq) -> Result<(), AllocError>

@@ -5,9 +5,9 @@ ghost use Rattle.std.specs.FinMap as finite;
 ghost use Rattle.wp_model.specs.Snapshots.{is_old_commit, after_register, after_keep, after_release};
 ghost use Rattle.std.specs.FinSet as set;
 ghost use Rattle.wp_core.specs.Changes.{with_registered, with_old_commit, with_released};
-ghost use Rattle.std.specs.Ordering.{nat_cmp};
 
-use crate::pairs::newest_of;
+use crate::lists::add_first;
+use crate::pairs::{newest_of, take_of};
 use std::alloc::{AllocError, Global};
 use std::marker::Model;
 use wp_model::Seq;
@@ -119,8 +119,7 @@ impl Snapshots {
                 old_commits: Vec::new(alloc),
             },
         };
-        self.live.insert(0, (s, snapshot))?;
-        Ok(())
+        add_first(&mut self.live, (s, snapshot))
     }
 
     /// `p` under a live number.
@@ -136,12 +135,6 @@ impl Snapshots {
     }
 }
 
-fn take_number(pairs: &mut Vec<(Seq, Snapshot)>, s: Seq)
-    ensures { finite.from_entries {R = nat_cmp} pairs.new.items ≡ finite.remove (finite.from_entries pairs.old.items) s }
-{
-    pairs.retain(|pair| pair.0 != s);
-}
-
 impl Snapshots {
     /// One registration less. With the last goes what is under the number.
     #[tactic(auto, using(crate::proofs::Maps::remove_missing))]
@@ -152,12 +145,11 @@ impl Snapshots {
             return Ok(());
         };
         if snapshot.registrations <= 1 {
-            take_number(&mut self.live, s);
+            take_of(&mut self.live, s);
             return Ok(());
         }
         let less = snapshot.released(alloc)?;
-        self.live.insert(0, (s, less))?;
-        Ok(())
+        add_first(&mut self.live, (s, less))
     }
 
     pub fn release_any(&mut self, number: Option<Seq>, alloc: Global) -> Result<(), AllocError>

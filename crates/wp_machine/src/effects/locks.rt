@@ -220,7 +220,7 @@ pub(crate) fn locks(
     actor: &mut Actor,
     kind: &LocksStep,
 ) -> Result<(), AllocError>
-    ensures { (s : step.Step) → locks_step world.old actor.old.participant kind.now ≡ Some s
+    ensures { (s : step.Step) → locks_step world.old.locks actor.old.participant kind.now ≡ Some s
         → OnOk result ((by : ℕ) → IsEffect by world.old actor.old s world.new actor.new) }
 {
     match kind {

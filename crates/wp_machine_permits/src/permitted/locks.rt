@@ -124,7 +124,7 @@ pub(super) fn locks(
     actor: &Actor,
     kind: &LocksStep,
 ) -> Result<bool, AllocError>
-    ensures { IfOk result (λ yes. yes ≡ true → IsOffered world.now by actor.now (locks_step world.now actor.now.participant kind.now)) }
+    ensures { IfOk result (λ yes. yes ≡ true → IsOffered world.now by actor.now (locks_step world.now.locks actor.now.participant kind.now)) }
 {
     match kind {
         LocksStep::TakeName(name, p) => may_take_name(world, by, name, *p),
@@ -137,7 +137,7 @@ pub(super) fn locks(
 
 /// The steps that ask no history.
 fn claims(world: &World, by: usize, actor: &Actor, kind: &LocksStep) -> bool
-    ensures { result ≡ true → IsOffered world.now by actor.now (locks_step world.now actor.now.participant kind.now) }
+    ensures { result ≡ true → IsOffered world.now by actor.now (locks_step world.now.locks actor.now.participant kind.now) }
 {
     if !world.holders.holds(Turn::Locks, by) {
         return false;
