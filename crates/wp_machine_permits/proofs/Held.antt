@@ -20,10 +20,10 @@ use Rattle.wp_core.specs.Entries.{changes_under, transaction_of, pending_pair}
 use Rattle.wp_core.specs.Reading.{Registration}
 use Rattle.wp_core.specs.Lists.{IsIn}
 use Rattle.wp_core.specs.Sound.Snapshots.{has_versions_at}
-use Rattle.wp_machine_needs.specs.Each.{Each}
-use Rattle.wp_machine_needs.specs.Offered.{IsOffered}
+use Rattle.wp_machine_permits.specs.Each.{Each}
+use Rattle.wp_machine_permits.specs.Offered.{IsOffered}
 use Rattle.wp_machine.proofs.NameMaps.{set_of}
-use Rattle.wp_machine_needs.proofs.LiveNumbers.{each_locked}
+use Rattle.wp_machine_permits.proofs.LiveNumbers.{each_locked}
 use Rattle.wp_machine_permits.specs.Permits.{MayFollow, IsOwner, IsOwned, IsEntitled, IsMade, MayBeLeft}
 
 pub owned : (a : Actor) (name : List ℕ) → is_some (finite.get a.participant.transactions name) ≡ true → IsOwned a name

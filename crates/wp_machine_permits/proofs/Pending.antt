@@ -13,7 +13,7 @@ use Rattle.wp_model.specs.Versions.{version_at}
 use Rattle.wp_core.specs.Entries.{next_of, HasVersionsAt}
 use Rattle.wp_model.specs.Flushed.{versions_under}
 use Rattle.wp_machine.specs.Machine.{without_number, versions_of_next}
-use Rattle.wp_machine_needs.specs.Each.{Each}
+use Rattle.wp_machine_permits.specs.Each.{Each}
 
 -- ---- without a number
 

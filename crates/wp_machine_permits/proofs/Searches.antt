@@ -13,7 +13,7 @@ use Rattle.std.proofs.lemmas.Bool.{eqb-true, eq-eqb}
 use Rattle.wp_model.specs.PreparedTables.{PreparedTables, NoneDelayed}
 use Rattle.wp_model.specs.Snapshots.{Snapshot, is_old_commit, NoOldCommits}
 use Rattle.wp_model.specs.Batch.{key_cmp}
-use Rattle.wp_machine_needs.specs.Each.{Each}
+use Rattle.wp_machine_permits.specs.Each.{Each}
 
 -- ---- one item more
 

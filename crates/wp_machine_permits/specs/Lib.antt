@@ -1,1 +1,10 @@
 pub mod Permits
+pub mod Offered
+pub mod Each
+pub mod Said
+pub mod Holding
+pub mod VersionLists
+pub mod Waiting
+pub mod Leads
+pub mod Runs
+pub mod Ends

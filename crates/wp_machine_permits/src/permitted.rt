@@ -5,7 +5,7 @@ ghost use Rattle.wp_core.specs.Steps as step;
 ghost use Rattle.wp_core.specs.World.{World, Actor};
 ghost use Rattle.wp_machine.specs.Machine.{MayMake, step_of, own_step, tables_step, actors_step};
 ghost use Rattle.wp_machine.specs.declared.step.ActorsStep.TheVariants.{Learn, JoinSeat};
-ghost use Rattle.wp_machine_needs.specs.Offered.{IsOffered};
+ghost use Rattle.wp_machine_permits.specs.Offered.{IsOffered};
 
 mod empty;
 mod evicting;
@@ -20,21 +20,22 @@ mod turn;
 mod word;
 mod write;
 
+use crate::needs::{may_halt, may_install, may_note, may_renew};
 use std::alloc::AllocError;
 use wp_machine::{Actor, ActorsStep, Kind, OwnStep, Step, TablesStep, Turn, World, actor_at};
 use wp_model::{Batch, Name};
 
-fn own(actor: &Actor, kind: &OwnStep) -> bool
-    ensures { result ≡ true → (w : World) (by : ℕ) → IsOffered w by actor.now (own_step actor.now.participant kind.now) }
+fn own(world: &World, by: usize, actor: &Actor, kind: &OwnStep) -> Result<bool, AllocError>
+    ensures { IfOk result (λ yes. yes ≡ true → IsOffered world.now by actor.now (own_step actor.now.participant kind.now)) }
 {
     match kind {
-        OwnStep::Note(_) => false,
-        OwnStep::SetBatch(name, batch) => may_set_batch(actor, name, batch),
-        OwnStep::SetClient(_) => {
+        OwnStep::Note(fact) => may_note(world, by, actor, fact),
+        OwnStep::SetBatch(name, batch) => Ok(may_set_batch(actor, name, batch)),
+        OwnStep::SetClient(_) => Ok(
             actor.live
                 && actor.participant.transactions.is_empty()
-                && actor.participant.direct.is_none()
-        }
+                && actor.participant.direct.is_none(),
+        ),
     }
 }
 
@@ -45,12 +46,14 @@ fn may_set_batch(actor: &Actor, name: &Name, batch: &Batch) -> bool
     actor.participant.transaction(name).is_some()
 }
 
-fn tables(world: &World, by: usize, kind: &TablesStep) -> bool
-    ensures { result ≡ true → (a : Actor) → IsOffered world.now by a (tables_step kind.now) }
+fn tables(world: &World, by: usize, actor: &Actor, kind: &TablesStep) -> Result<bool, AllocError>
+    ensures { IfOk result (λ yes. yes ≡ true → IsOffered world.now by actor.now (tables_step kind.now)) }
 {
     match kind {
-        TablesStep::FindEdit => world.holders.holds(Turn::Tables, by),
-        TablesStep::Install(_, _) | TablesStep::Renew(_) | TablesStep::Halt(_) => false,
+        TablesStep::Install(edit, compacts) => may_install(world, by, edit, *compacts),
+        TablesStep::Renew(edit) => may_renew(world, by, edit),
+        TablesStep::Halt(edit) => may_halt(world, by, edit),
+        TablesStep::FindEdit => Ok(world.holders.holds(Turn::Tables, by)),
     }
 }
 
@@ -122,10 +125,10 @@ fn offers(world: &World, by: usize, actor: &Actor, kind: &Kind) -> Result<bool, 
         Kind::Write(kind) => write::write(world, by, kind),
         Kind::Prepared(kind) => prepared::prepared(world, by, kind),
         Kind::Snapshots(kind) => snapshots::snapshots(world, by, actor, kind),
-        Kind::Store(kind) => Ok(store::store(world, by, kind)),
-        Kind::Tables(kind) => Ok(tables(world, by, kind)),
+        Kind::Store(kind) => store::store(world, by, actor, kind),
+        Kind::Tables(kind) => tables(world, by, actor, kind),
         Kind::Locks(kind) => locks::locks(world, by, actor, kind),
-        Kind::Own(kind) => Ok(own(actor, kind)),
+        Kind::Own(kind) => own(world, by, actor, kind),
         Kind::Actors(kind) => Ok(actors(world, by, kind)),
     }
 }
@@ -138,10 +141,6 @@ pub fn permits(world: &World, step: &Step) -> Result<bool, AllocError>
         return Ok(false);
     }
     let actor = actor_at(world, step.by);
-    let light = offers(world, step.by, actor, &step.kind)?;
-    if light {
-        return Ok(true);
-    }
-    let heavy = wp_machine_needs::offers(world, step.by, actor, &step.kind)?;
-    Ok(heavy)
+    let yes = offers(world, step.by, actor, &step.kind)?;
+    Ok(yes)
 }

@@ -3,7 +3,7 @@ ghost use Rattle.std.specs.Prelude.{◌≡◌, ◌↔◌, ◌≤◌, true, false
 ghost use Rattle.std.specs.FinSet as set;
 ghost use Rattle.wp_model.specs.Snapshots.{is_old_commit, NoOldCommits};
 ghost use Rattle.wp_model.specs.PreparedTables.{NoneDelayed};
-ghost use Rattle.wp_machine_needs.specs.Each.{Each};
+ghost use Rattle.wp_machine_permits.specs.Each.{Each};
 
 use wp_machine::{PreparedTables, Snapshot, Snapshots};
 use wp_model::Seq;

@@ -4,10 +4,10 @@ ghost use Rattle.wp_judge.specs.Words.{CommitPair, fits};
 ghost use Rattle.wp_core.specs.Cache.{pair_at, cache_place};
 ghost use Rattle.wp_core.specs.Conditions.{MayBeEvicted};
 
+use crate::needs::{is_apart, is_in_old_commits, pair_at};
 use std::alloc::AllocError;
 use wp_judge::{LAST_SEQ, fits};
 use wp_machine::{Cache, World};
-use wp_machine_needs::{is_apart, is_in_old_commits, pair_at};
 use wp_model::Seq;
 
 /// Whether the pair fits a word of the cache.

@@ -2,6 +2,7 @@
 ghost use Rattle.std.specs.Prelude.{◌≡◌, true, [], ◌∷◌, ◌++◌, IfOk, IfSome};
 ghost use Rattle.wp_machine_permits.specs.Permits.{MayFollow};
 
+use crate::needs;
 use std::alloc::{AllocError, Global};
 use wp_history::laws::legal_grows;
 use wp_ledger::History;
@@ -52,5 +53,5 @@ pub(super) fn add_all(
 pub(super) fn history_of(world: &World) -> Result<Option<History>, AllocError>
     ensures { IfOk result (λ history. IfSome history (λ h. h.entries ≡ world.now.writes.history)) }
 {
-    wp_machine_needs::history_of(world.writes.entries(), world.alloc)
+    needs::history_of(world.writes.entries(), world.alloc)
 }

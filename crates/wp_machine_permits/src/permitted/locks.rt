@@ -5,10 +5,11 @@ ghost use Rattle.wp_core.specs.World.{Actor};
 ghost use Rattle.wp_core.specs.Steps as step;
 ghost use Rattle.wp_model.specs.History.{named, holder_of};
 ghost use Rattle.wp_machine.specs.Machine.{locks_step};
-ghost use Rattle.wp_machine_needs.specs.Each.{Each};
-ghost use Rattle.wp_machine_needs.specs.Offered.{IsOffered};
+ghost use Rattle.wp_machine_permits.specs.Each.{Each};
+ghost use Rattle.wp_machine_permits.specs.Offered.{IsOffered};
 ghost use Rattle.wp_machine_permits.specs.Permits.{MayBeLeft};
 
+use crate::needs::may_find;
 use crate::permitted::history::history_of;
 use crate::permitted::publishing::{has_locked, has_transaction};
 use std::alloc::AllocError;
@@ -131,11 +132,14 @@ pub(super) fn locks(
         LocksStep::LeaveName(name) => may_leave_name(world, by, actor, name),
         LocksStep::FreeTransaction(name) => may_free_transaction(world, by, actor, name),
         LocksStep::FreeKey(name, key) => may_free_key(world, by, actor, name, key),
+        LocksStep::FindHolder(key, holder, account) => {
+            Ok(may_find(world, by, actor, key, holder, *account))
+        }
         _ => Ok(claims(world, by, actor, kind)),
     }
 }
 
-/// The steps that ask no history.
+/// The others: they ask no history.
 fn claims(world: &World, by: usize, actor: &Actor, kind: &LocksStep) -> bool
     ensures { result ≡ true → IsOffered world.now by actor.now (locks_step world.now.locks actor.now.participant kind.now) }
 {

@@ -5,11 +5,11 @@ ghost use Rattle.wp_core.specs.Conditions.{IsPreparePending};
 ghost use Rattle.wp_core.specs.Sound.Prepared.{IsPassed};
 ghost use Rattle.wp_core.specs.Steps as step;
 ghost use Rattle.wp_machine.specs.Machine.{prepared_step};
-ghost use Rattle.wp_machine_needs.specs.Offered.{IsOffered};
+ghost use Rattle.wp_machine_permits.specs.Offered.{IsOffered};
 
+use crate::needs::{cached, decision_in, is_in_old_commits};
 use std::alloc::AllocError;
 use wp_machine::{PreparedStep, Turn, World};
-use wp_machine_needs::{cached, decision_in, is_in_old_commits};
 use wp_model::{Entry, Seq};
 
 fn is_prepare_pending(world: &World, by: usize) -> bool

@@ -13,16 +13,16 @@ ghost use Rattle.wp_core.specs.Sound.Prepared.{IsWide, IsEntered};
 ghost use Rattle.wp_core.specs.Conditions.{IsHeldFor, IsPrepare};
 ghost use Rattle.wp_core.specs.Entries.{changes_under, transaction_of, pair_by};
 ghost use Rattle.wp_machine.specs.Machine.{published_step};
-ghost use Rattle.wp_machine_needs.specs.Offered.{IsOffered};
-ghost use Rattle.wp_machine_needs.specs.Each.{Each};
+ghost use Rattle.wp_machine_permits.specs.Offered.{IsOffered};
+ghost use Rattle.wp_machine_permits.specs.Each.{Each};
 ghost use Rattle.wp_machine_permits.specs.Permits.{IsEntitled, IsHeldKey, IsLocked, IsMade, IsOwned, IsOwner};
 
+use crate::needs::{cached, has_versions_of};
 use crate::permitted::evicting::fits_no_word;
 use crate::permitted::history::{history_of, may_follow};
 use std::alloc::AllocError;
 use wp_ledger::History;
 use wp_machine::{Actor, Transaction, Turn, World};
-use wp_machine_needs::{cached, has_versions_of};
 use wp_model::{Batch, Change, Entry, Holder, Key, Name, Seq};
 
 /// The changes whose keys the entry needs.

@@ -7,7 +7,7 @@ ghost use Rattle.wp_core.specs.Steps as step;
 ghost use Rattle.wp_core.specs.Sound.Snapshots.{has_versions_at};
 ghost use Rattle.wp_model.specs.PreparedTables.{is_prepared};
 ghost use Rattle.wp_machine.specs.Machine.{reader_step};
-ghost use Rattle.wp_machine_needs.specs.Offered.{IsOffered};
+ghost use Rattle.wp_machine_permits.specs.Offered.{IsOffered};
 
 use crate::permitted::empty::{delayed_is_from, heap_is_from};
 use wp_judge::{Asked, Load, ask};

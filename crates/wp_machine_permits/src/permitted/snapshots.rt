@@ -4,11 +4,11 @@ ghost use Rattle.wp_core.specs.World.{Actor};
 ghost use Rattle.wp_core.specs.Needs.{Needs};
 ghost use Rattle.wp_core.specs.Steps as step;
 ghost use Rattle.wp_machine.specs.Machine.{snapshots_step, released_step};
-ghost use Rattle.wp_machine_needs.specs.Offered.{IsOffered};
+ghost use Rattle.wp_machine_permits.specs.Offered.{IsOffered};
 
+use crate::needs::decision_in;
 use std::alloc::AllocError;
 use wp_machine::{Actor, SnapshotsStep, Turn, World};
-use wp_machine_needs::decision_in;
 use wp_model::Seq;
 
 fn may_register_again(world: &World, by: usize, actor: &Actor, s: Seq) -> bool

@@ -5,11 +5,11 @@ ghost use Rattle.wp_model.specs.PreparedTables.{NoneDelayed};
 ghost use Rattle.wp_model.specs.Snapshots.{NoOldCommits};
 ghost use Rattle.wp_actor.specs.Turns.{turn_of};
 ghost use Rattle.wp_machine.specs.Machine.{turn_step};
-ghost use Rattle.wp_machine_needs.specs.Offered.{IsOffered};
+ghost use Rattle.wp_machine_permits.specs.Offered.{IsOffered};
 
+use crate::needs::has_last_tables;
 use crate::permitted::empty::{has_no_old_commits, none_delayed};
 use wp_machine::{Actor, Turn, TurnStep, World};
-use wp_machine_needs::has_last_tables;
 
 /// With nothing delayed the flag is down.
 fn delayed_flag_is_right(world: &World) -> bool

@@ -7,7 +7,7 @@ ghost use Rattle.wp_model.specs.PreparedTables.{NoneDelayed};
 ghost use Rattle.wp_model.specs.Snapshots.{NoOldCommits};
 ghost use Rattle.wp_core.specs.Steps as step;
 ghost use Rattle.wp_machine.specs.Machine.{word_step};
-ghost use Rattle.wp_machine_needs.specs.Offered.{IsOffered};
+ghost use Rattle.wp_machine_permits.specs.Offered.{IsOffered};
 
 use crate::permitted::empty::{has_no_old_commits, heap_is_from, none_delayed};
 use crate::permitted::evicting::{fits_word, may_clear};

@@ -8,12 +8,12 @@ ghost use Rattle.wp_core.specs.Steps as step;
 ghost use Rattle.wp_model.specs.Legal.{IsLegal};
 ghost use Rattle.wp_judge.specs.Words.{CommitPair};
 ghost use Rattle.wp_machine.specs.Machine.{write_step};
-ghost use Rattle.wp_machine_needs.specs.Offered.{IsOffered};
+ghost use Rattle.wp_machine_permits.specs.Offered.{IsOffered};
 
+use crate::needs::{cached, is_next_segment, is_undelayed, none_at};
 use crate::permitted::history::{add_all, history_of};
 use std::alloc::AllocError;
 use wp_machine::{Turn, World, WriteStep};
-use wp_machine_needs::{cached, is_next_segment, is_undelayed, none_at};
 use wp_model::Entry;
 
 fn may_log(world: &World, by: usize) -> bool

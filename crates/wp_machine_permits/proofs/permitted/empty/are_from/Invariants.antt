@@ -1,5 +1,5 @@
 use Rattle.std.proofs.Common.{◌≤◌, drop}
-use Rattle.wp_machine_needs.specs.Each.{Each}
+use Rattle.wp_machine_permits.specs.Each.{Each}
 use Rattle.wp_machine_permits.proofs.permitted.empty.are_from.Given as goal
 
 abbrev pub invariant-loop-number : goal.invariant-loop-number

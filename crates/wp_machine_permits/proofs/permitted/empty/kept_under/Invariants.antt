@@ -1,6 +1,6 @@
 use Rattle.std.proofs.Common.{◌≡◌, ℕ, false, drop}
 use Rattle.wp_model.specs.Snapshots.{is_old_commit}
-use Rattle.wp_machine_needs.specs.Each.{Each}
+use Rattle.wp_machine_permits.specs.Each.{Each}
 use Rattle.wp_machine_permits.proofs.permitted.empty.kept_under.Given as goal
 
 abbrev pub invariant-loop-pair : goal.invariant-loop-pair

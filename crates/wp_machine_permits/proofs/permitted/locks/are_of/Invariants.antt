@@ -1,6 +1,6 @@
 use Rattle.std.proofs.Common.{◌≡◌, Some, drop}
 use Rattle.wp_model.specs.History.{holder_of}
-use Rattle.wp_machine_needs.specs.Each.{Each}
+use Rattle.wp_machine_permits.specs.Each.{Each}
 use Rattle.wp_machine_permits.proofs.permitted.locks.are_of.Given as goal
 
 abbrev pub invariant-loop-key : goal.invariant-loop-key

@@ -1,6 +1,6 @@
 use Rattle.std.proofs.Common.{drop}
 use Rattle.wp_model.specs.Batch.{key_of}
-use Rattle.wp_machine_needs.specs.Each.{Each}
+use Rattle.wp_machine_permits.specs.Each.{Each}
 use Rattle.wp_machine_permits.specs.Permits.{IsLocked}
 use Rattle.wp_machine_permits.proofs.permitted.publishing.are_locked.Given as goal
 

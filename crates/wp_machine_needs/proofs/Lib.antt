@@ -1,8 +1,0 @@
-pub mod Changes
-pub mod ListFacts
-pub mod OfferedSteps
-pub mod Owning
-pub mod Places
-pub mod NoneWaits
-pub mod Stores
-pub mod LiveNumbers

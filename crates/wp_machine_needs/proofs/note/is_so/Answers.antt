@@ -1,8 +1,0 @@
-use Rattle.std.proofs.Common.{rules, ◌≡◌}
-use Rattle.wp_core.specs.Views.{none_waits}
-use Rattle.wp_machine_needs.proofs.note.is_so.Goals as goal
-
-pub returns-in-NoneWaits : goal.returns-in-NoneWaits
-returns-in-NoneWaits c =
-    let says : c.args.fact.now ≡ none_waits = search rules in
-    rw says c.none_waits.ensures

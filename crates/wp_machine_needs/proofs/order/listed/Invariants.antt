@@ -1,8 +1,0 @@
-use Rattle.std.proofs.Common.{◌≡◌, ◌++◌, length}
-use Rattle.wp_machine_needs.proofs.order.listed.Given as goal
-
-abbrev pub invariant-loop-version : goal.invariant-loop-version
-invariant-loop-version l = l.list.items ++ l.merge ≡ l.fn.merge
-
-abbrev pub decreases-loop-version : goal.decreases-loop-version
-decreases-loop-version l = length l.merge

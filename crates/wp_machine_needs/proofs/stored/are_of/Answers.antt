@@ -1,5 +1,0 @@
-use Rattle.wp_machine_needs.proofs.Stores.{each_of, of_each}
-use Rattle.wp_machine_needs.proofs.stored.are_of.Goals as goal
-
-pub returns : goal.returns
-returns c = (λ e. each_of _ _ (c.each_is_of.ensures.0 e), λ h. c.each_is_of.ensures.1 (of_each _ _ h))

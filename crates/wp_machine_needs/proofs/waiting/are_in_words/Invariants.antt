@@ -1,7 +1,0 @@
-use Rattle.std.proofs.Common.{drop}
-use Rattle.wp_machine_needs.specs.Each.{Each}
-use Rattle.wp_machine_needs.specs.Waiting.{IsInWord}
-use Rattle.wp_machine_needs.proofs.waiting.are_in_words.Given as goal
-
-abbrev pub invariant-loop-p : goal.invariant-loop-p
-invariant-loop-p l = Each (IsInWord l.history.entries l.world.cache l.world.max_evicted) (drop l.p-index l.numbers) → Each (IsInWord l.history.entries l.world.cache l.world.max_evicted) l.numbers

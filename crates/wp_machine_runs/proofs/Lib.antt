@@ -1,5 +1,0 @@
-mod Leading
-mod Legal
-mod Tables
-mod Writers
-mod Runs

@@ -1,5 +1,0 @@
-use Rattle.wp_machine_runs.proofs.Runs.{rolls_back}
-use Rattle.wp_machine_runs.proofs.transactions_can_be_rolled_back.Goals as goal
-
-pub returns : goal.returns
-returns c = rolls_back
