@@ -4,16 +4,15 @@
 //! It stands apart from the program `wp_machine_tests`, which only calls it, as `wp_case_player` does from `wp_cases`.
 #![tactic(auto)]
 
-mod case;
 mod entry;
 mod group;
-mod line;
 mod play;
+mod player;
 mod so;
 mod step;
 mod trouble;
 
-use crate::line::Player;
+use crate::player::Player;
 use std::alloc::AllocGlobal;
 use std::env::{self, Env};
 use std::rt::Files;

@@ -1,8 +1,8 @@
 //! The steps of the client.
 use crate::so::is_so;
-use crate::step::kind_of;
+use crate::step::step_of;
 use crate::trouble::{Tried, Trouble};
-use wp_machine::{Step, World, apply};
+use wp_machine::{World, apply};
 use wp_machine_permits::permits;
 
 /// The one client, which writes and reads.
@@ -10,8 +10,7 @@ const SEAT: usize = 0;
 
 /// The world after the step of the line, which has to be permitted.
 fn stepped(world: World, line: &str) -> Tried<World> {
-    let kind = kind_of(world.alloc, line)?;
-    let step = Step { by: SEAT, kind };
+    let step = step_of(world.alloc, SEAT, line)?;
     if !permits(&world, &step)? {
         return Err(Trouble::Wrong);
     }

@@ -1,8 +1,8 @@
 //! What is said of a world.
-use crate::step::{first_word, kind_of};
+use crate::step::{first_word, step_of};
 use crate::trouble::{Tried, Trouble, number};
 use wp_judge::{Asked, ask};
-use wp_machine::{Step, World};
+use wp_machine::World;
 use wp_machine_permits::permits;
 
 /// The most bits that the place of a word has.
@@ -11,9 +11,8 @@ const MOST_BITS: u32 = 16;
 /// Reads `0 STEP`: whether the step is permitted to the actor at that place.
 fn is_permitted(world: &World, words: &str) -> Tried<bool> {
     let (by, line) = first_word(words);
-    let by = number(by)? as usize;
-    let kind = kind_of(world.alloc, line)?;
-    Ok(permits(world, &Step { by, kind })?)
+    let step = step_of(world.alloc, number(by)? as usize, line)?;
+    Ok(permits(world, &step)?)
 }
 
 /// The client's answer as a reader, where it has one.

@@ -5,44 +5,55 @@ use std::alloc::Global;
 use wp_judge::Load;
 use wp_machine::{
     ActorsStep, Fact, InstalledEdit, Kind, LocksStep, Noted, OwnStep, PreparedStep, ReaderStep,
-    SnapshotsStep, StoreStep, TablesStep, Turn, TurnStep, WordStep, WriteStep,
+    SnapshotsStep, Step, StoreStep, TablesStep, Turn, TurnStep, WordStep, WriteStep,
 };
-use wp_model::{Segment, Seq};
+use wp_model::{Name, Segment, Seq};
 
 /// The first word of a line, and what is after it.
 pub(crate) fn first_word(line: &str) -> (&str, &str) {
     line.split_once(' ').unwrap_or((line, ""))
 }
 
-fn turn_of(word: &str) -> Tried<Turn> {
-    match word {
-        "write" => Ok(Turn::Write),
-        "prepared" => Ok(Turn::Prepared),
-        "snapshots" => Ok(Turn::Snapshots),
-        "store" => Ok(Turn::Store),
-        "locks" => Ok(Turn::Locks),
-        "tables" => Ok(Turn::Tables),
-        _ => Err(Trouble::Unclear),
-    }
+/// Reads the turn of `take TURN` or `give TURN`.
+fn turn_step(by: usize, verb: &str, word: &str) -> Tried<Step> {
+    let turn = match word {
+        "write" => Turn::Write,
+        "prepared" => Turn::Prepared,
+        "snapshots" => Turn::Snapshots,
+        "store" => Turn::Store,
+        "locks" => Turn::Locks,
+        "tables" => Turn::Tables,
+        _ => return Err(Trouble::Unclear),
+    };
+    let step = if verb == "take" {
+        TurnStep::Take(turn)
+    } else {
+        TurnStep::Give(turn)
+    };
+    let kind = Kind::Turn(step);
+    Ok(Step { by, kind })
 }
 
-fn load_of(word: &str) -> Tried<Load> {
-    match word {
-        "first-word" => Ok(Load::FirstWord),
-        "first-max" => Ok(Load::FirstMax),
-        "delayed-flag" => Ok(Load::DelayedFlag),
-        "in-prepared" => Ok(Load::InPrepared),
-        "second-word" => Ok(Load::SecondWord),
-        "second-max" => Ok(Load::SecondMax),
-        "old-flag" => Ok(Load::OldFlag),
-        "is-old-commit" => Ok(Load::IsOldCommit),
-        _ => Err(Trouble::Unclear),
-    }
+/// Reads what `load` loads.
+fn load_step(by: usize, word: &str) -> Tried<Step> {
+    let load = match word {
+        "first-word" => Load::FirstWord,
+        "first-max" => Load::FirstMax,
+        "delayed-flag" => Load::DelayedFlag,
+        "in-prepared" => Load::InPrepared,
+        "second-word" => Load::SecondWord,
+        "second-max" => Load::SecondMax,
+        "old-flag" => Load::OldFlag,
+        "is-old-commit" => Load::IsOldCommit,
+        _ => return Err(Trouble::Unclear),
+    };
+    let kind = Kind::Reader(ReaderStep::Load(load));
+    Ok(Step { by, kind })
 }
 
 /// Steps with words, the prepared turn or the snapshots turn, of up to two numbers.
-fn shared_step(verb: &str, first: Seq, second: Seq) -> Option<Kind> {
-    Some(match verb {
+fn shared_step(by: usize, verb: &str, first: Seq, second: Seq) -> Option<Step> {
+    let kind = match verb {
         "word-store" => Kind::Word(WordStep::StoreWord),
         "word-publish" => Kind::Word(WordStep::StorePublished),
         "word-raise" => Kind::Word(WordStep::StoreMaxEvicted(first)),
@@ -57,13 +68,24 @@ fn shared_step(verb: &str, first: Seq, second: Seq) -> Option<Kind> {
         "snapshots-register" => Kind::Snapshots(SnapshotsStep::RegisterAgain(first)),
         "snapshots-release" => Kind::Snapshots(SnapshotsStep::Release(first as usize)),
         _ => return None,
-    })
+    };
+    Some(Step { by, kind })
 }
 
-/// Steps of actors, with the store turn or the write turn, or of a reader, of up to one number. A version is read at the first
-/// snapshot, in a cache of one word.
-fn other_step(verb: &str, n: Seq) -> Option<Kind> {
-    Some(match verb {
+/// An edit of the empty history, with the segment at that place.
+fn edit_at(alloc: Global, place: u64) -> InstalledEdit {
+    InstalledEdit {
+        segment: Segment { place, base: 0 },
+        flushed: 0,
+        versions: Vec::new(alloc),
+        tables: 0,
+    }
+}
+
+/// Steps of actors, of a reader, with the store turn, the tables turn or the write turn, and notes, of up to one number. A version is
+/// read at the first snapshot, in a cache of one word.
+fn other_step(alloc: Global, by: usize, verb: &str, n: Seq) -> Tried<Step> {
+    let kind = match verb {
         "actors-note" => Kind::Actors(ActorsStep::MakeNote),
         "actors-seat" => Kind::Actors(ActorsStep::MakeSeat),
         "actors-learn" => Kind::Actors(ActorsStep::Learn(n as usize)),
@@ -79,8 +101,12 @@ fn other_step(verb: &str, n: Seq) -> Option<Kind> {
         "write-segment" => Kind::Write(WriteStep::WriteSegment(n)),
         "write-use" => Kind::Write(WriteStep::UseSegment),
         "write-stop" => Kind::Write(WriteStep::StopLog),
-        _ => return None,
-    })
+        "tables-renew" => Kind::Tables(TablesStep::Renew(edit_at(alloc, n))),
+        "tables-halt" => Kind::Tables(TablesStep::Halt(None)),
+        "note-left" => Kind::Own(OwnStep::Note(Fact::of(Noted::HasLeft(n)))),
+        _ => return Err(Trouble::Unclear),
+    };
+    Ok(Step { by, kind })
 }
 
 /// A number that a step lacks is 0.
@@ -89,68 +115,67 @@ fn number_or_none(word: &str) -> Tried<Seq> {
 }
 
 /// A step that is of numbers alone.
-fn step_of_numbers(verb: &str, rest: &str) -> Tried<Kind> {
+fn step_of_numbers(alloc: Global, by: usize, verb: &str, rest: &str) -> Tried<Step> {
     let (first, second) = first_word(rest);
     let (first, second) = (number_or_none(first)?, number_or_none(second)?);
-    match shared_step(verb, first, second) {
-        Some(kind) => Ok(kind),
-        None => other_step(verb, first).ok_or(Trouble::Unclear),
+    match shared_step(by, verb, first, second) {
+        Some(step) => Ok(step),
+        None => other_step(alloc, by, verb, first),
     }
+}
+
+/// A step with a name, and with the number or the key that is last.
+fn name_step(alloc: Global, by: usize, verb: &str, name: Name, last: &str) -> Tried<Step> {
+    let step = match verb {
+        "locks-claim" => LocksStep::ClaimName(name),
+        "locks-leave" => LocksStep::LeaveName(name),
+        "locks-free" => LocksStep::FreeTransaction(name),
+        "locks-take" => LocksStep::TakeName(name, number(last)?),
+        "locks-lock-key" => LocksStep::LockKey(name, word_of(alloc, last)?),
+        "locks-free-key" => LocksStep::FreeKey(name, word_of(alloc, last)?),
+        _ => return Err(Trouble::Unclear),
+    };
+    let kind = Kind::Locks(step);
+    Ok(Step { by, kind })
 }
 
 /// Reads `locks-lock-key NAME KEY`, `locks-claim NAME` or the like.
-fn locks_step(alloc: Global, verb: &str, rest: &str) -> Tried<LocksStep> {
+fn locks_step(alloc: Global, by: usize, verb: &str, rest: &str) -> Tried<Step> {
     let (name, last) = first_word(rest);
-    match verb {
-        "locks-claim" => Ok(LocksStep::ClaimName(word_of(alloc, name)?)),
-        "locks-leave" => Ok(LocksStep::LeaveName(word_of(alloc, name)?)),
-        "locks-free" => Ok(LocksStep::FreeTransaction(word_of(alloc, name)?)),
-        "locks-take" => Ok(LocksStep::TakeName(word_of(alloc, name)?, number(last)?)),
-        "locks-lock-key" => Ok(LocksStep::LockKey(word_of(alloc, name)?, word_of(alloc, last)?)),
-        "locks-free-key" => Ok(LocksStep::FreeKey(word_of(alloc, name)?, word_of(alloc, last)?)),
-        "locks-lock-direct" => Ok(LocksStep::LockDirect(word_of(alloc, name)?)),
-        "locks-free-direct" => Ok(LocksStep::FreeDirect(word_of(alloc, name)?)),
-        _ => Err(Trouble::Unclear),
-    }
-}
-
-/// An edit of the empty history, with the segment at that place.
-fn edit_at(alloc: Global, place: u64) -> InstalledEdit {
-    InstalledEdit {
-        segment: Segment { place, base: 0 },
-        flushed: 0,
-        versions: Vec::new(alloc),
-        tables: 0,
-    }
+    let step = match verb {
+        "locks-lock-direct" => LocksStep::LockDirect(word_of(alloc, name)?),
+        "locks-free-direct" => LocksStep::FreeDirect(word_of(alloc, name)?),
+        _ => return name_step(alloc, by, verb, word_of(alloc, name)?, last),
+    };
+    let kind = Kind::Locks(step);
+    Ok(Step { by, kind })
 }
 
 /// Reads `set-batch NAME KEY VALUE`.
-fn batch_step(alloc: Global, rest: &str) -> Tried<OwnStep> {
+fn batch_step(alloc: Global, by: usize, rest: &str) -> Tried<Step> {
     let (name, change) = first_word(rest);
     let batch = batch_of(alloc, change)?;
-    Ok(OwnStep::SetBatch(word_of(alloc, name)?, batch))
+    let kind = Kind::Own(OwnStep::SetBatch(word_of(alloc, name)?, batch));
+    Ok(Step { by, kind })
 }
 
 /// Reads `write-pend ENTRY`.
-fn pending_step(alloc: Global, rest: &str) -> Tried<WriteStep> {
+fn pending_step(alloc: Global, by: usize, rest: &str) -> Tried<Step> {
     let mut entries = Vec::with_capacity(alloc, 1)?;
     entries.push(entry_of(alloc, rest)?)?;
-    Ok(WriteStep::MakePending(entries))
+    let kind = Kind::Write(WriteStep::MakePending(entries));
+    Ok(Step { by, kind })
 }
 
-/// The step that the line says.
-pub(crate) fn kind_of(alloc: Global, line: &str) -> Tried<Kind> {
+/// The step that the line says, of the actor at that place.
+pub(crate) fn step_of(alloc: Global, by: usize, line: &str) -> Tried<Step> {
     let (verb, rest) = first_word(line);
     match verb {
-        "take" => Ok(Kind::Turn(TurnStep::Take(turn_of(rest)?))),
-        "give" => Ok(Kind::Turn(TurnStep::Give(turn_of(rest)?))),
-        "load" => Ok(Kind::Reader(ReaderStep::Load(load_of(rest)?))),
-        "write-pend" => Ok(Kind::Write(pending_step(alloc, rest)?)),
-        "set-batch" => Ok(Kind::Own(batch_step(alloc, rest)?)),
-        "note-left" => Ok(Kind::Own(OwnStep::Note(Fact::of(Noted::HasLeft(number(rest)?))))),
-        "tables-renew" => Ok(Kind::Tables(TablesStep::Renew(edit_at(alloc, number(rest)?)))),
-        "tables-halt" => Ok(Kind::Tables(TablesStep::Halt(None))),
-        _ if verb.starts_with("locks-") => Ok(Kind::Locks(locks_step(alloc, verb, rest)?)),
-        _ => step_of_numbers(verb, rest),
+        "take" | "give" => turn_step(by, verb, rest),
+        "load" => load_step(by, rest),
+        "write-pend" => pending_step(alloc, by, rest),
+        "set-batch" => batch_step(alloc, by, rest),
+        _ if verb.starts_with("locks-") => locks_step(alloc, by, verb, rest),
+        _ => step_of_numbers(alloc, by, verb, rest),
     }
 }
