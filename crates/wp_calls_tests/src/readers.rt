@@ -3,254 +3,148 @@
 //! The second client reads at one snapshot. Between its look, its loads without a turn and the whole decision the first one
 //! evicts, commits, rolls back and cleans up. What is decided is whether the version stands at the snapshot, and the value that is
 //! read there stays the same.
-use crate::calls::Call;
-use crate::outcomes::{Next, Said};
-use crate::reads::Deciding;
-use crate::scripts::{Line, Step, played};
+use crate::reader::{Deciding, Reading};
+use crate::scripts::{Step, play};
+use crate::writer::Writing;
 use std::test::*;
 
-const PREPARE_AT_3: &[Line] = &[
-    (Step::One(Call::Begin(b"t")), Said::Done),
-    (Step::One(Call::Put(b"k", b"1")), Said::Done),
-    (Step::One(Call::Prepare), Said::At(1)),
-    (Step::TwoLearns, Said::At(1)),
-    (Step::One(Call::Write(b"x", b"1")), Said::At(2)),
-    (Step::One(Call::Write(b"x", b"2")), Said::At(3)),
-    (Step::Two(Call::Snap), Said::At(3)),
-    (
-        Step::Two(Call::Decide(Deciding::Look)),
-        Said::Asks(Next::DelayedFlag),
-    ),
-    (
-        Step::Two(Call::Decide(Deciding::Free)),
-        Said::Asks(Next::Prepared),
-    ),
-    (Step::One(Call::Commit), Said::At(4)),
-    (
-        Step::Two(Call::Decide(Deciding::Look)),
-        Said::Decided(false),
-    ),
-    (
-        Step::Two(Call::Decide(Deciding::Free)),
-        Said::Decided(false),
-    ),
-    (Step::OneLearns, Said::At(4)),
-    (Step::One(Call::Snap), Said::At(4)),
-    (Step::One(Call::Decide(Deciding::Look)), Said::Decided(true)),
-    (Step::One(Call::Release), Said::Done),
-    (Step::One(Call::Write(b"x", b"3")), Said::At(5)),
-    (
-        Step::Two(Call::Decide(Deciding::Look)),
-        Said::Asks(Next::DelayedFlag),
-    ),
-    (
-        Step::Two(Call::Decide(Deciding::Free)),
-        Said::Asks(Next::OldCommits),
-    ),
-    (
-        Step::Two(Call::Decide(Deciding::Whole)),
-        Said::Decided(false),
-    ),
-    (Step::Two(Call::Get(b"k")), Said::Missing),
+const PREPARE_AT_3: &[Step] = &[
+    Step::One(Writing::Begin),
+    Step::One(Writing::Put(b"k", b"1")),
+    Step::One(Writing::Prepare(1)),
+    Step::TwoLearns(1),
+    Step::One(Writing::Direct(b"x", b"1", 2)),
+    Step::One(Writing::Direct(b"x", b"2", 3)),
+    Step::Two(Reading::Snap(3)),
+    Step::Two(Reading::Decide(Deciding::Look, "delayed flag")),
+    Step::Two(Reading::Decide(Deciding::Free, "prepared tables")),
+    Step::One(Writing::Commit(4)),
+    Step::Two(Reading::Decide(Deciding::Look, "hidden")),
+    Step::Two(Reading::Decide(Deciding::Free, "hidden")),
+    Step::OneLooks(4, "visible"),
+    Step::One(Writing::Direct(b"x", b"3", 5)),
+    Step::Two(Reading::Decide(Deciding::Look, "delayed flag")),
+    Step::Two(Reading::Decide(Deciding::Free, "old commits")),
+    Step::Two(Reading::Decide(Deciding::Whole, "hidden")),
+    Step::Two(Reading::Get(b"k", None)),
+    Step::Two(Reading::Release),
 ];
 
-const WRITE_AT_3: &[Line] = &[
-    (Step::One(Call::Begin(b"t")), Said::Done),
-    (Step::One(Call::Put(b"k", b"1")), Said::Done),
-    (Step::One(Call::Prepare), Said::At(1)),
-    (Step::One(Call::Write(b"x", b"1")), Said::At(2)),
-    (Step::TwoLearns, Said::At(2)),
-    (Step::One(Call::Write(b"x", b"2")), Said::At(3)),
-    (Step::Two(Call::Snap), Said::At(3)),
-    (
-        Step::Two(Call::Decide(Deciding::Look)),
-        Said::Asks(Next::DelayedFlag),
-    ),
-    (
-        Step::Two(Call::Decide(Deciding::Free)),
-        Said::Asks(Next::Prepared),
-    ),
-    (
-        Step::Two(Call::Decide(Deciding::Whole)),
-        Said::Decided(true),
-    ),
-    (Step::One(Call::Commit), Said::At(4)),
-    (Step::Two(Call::Decide(Deciding::Free)), Said::Decided(true)),
-    (Step::One(Call::Write(b"x", b"3")), Said::At(5)),
-    (
-        Step::Two(Call::Decide(Deciding::Look)),
-        Said::Asks(Next::DelayedFlag),
-    ),
-    (
-        Step::Two(Call::Decide(Deciding::Free)),
-        Said::Asks(Next::OldCommits),
-    ),
-    (
-        Step::Two(Call::Decide(Deciding::Whole)),
-        Said::Decided(true),
-    ),
-    (Step::Two(Call::Get(b"x")), Said::Value(b"2")),
+const WRITE_AT_3: &[Step] = &[
+    Step::One(Writing::Begin),
+    Step::One(Writing::Put(b"k", b"1")),
+    Step::One(Writing::Prepare(1)),
+    Step::One(Writing::Direct(b"x", b"1", 2)),
+    Step::TwoLearns(2),
+    Step::One(Writing::Direct(b"x", b"2", 3)),
+    Step::Two(Reading::Snap(3)),
+    Step::Two(Reading::Decide(Deciding::Look, "delayed flag")),
+    Step::Two(Reading::Decide(Deciding::Free, "prepared tables")),
+    Step::Two(Reading::Decide(Deciding::Whole, "visible")),
+    Step::One(Writing::Commit(4)),
+    Step::Two(Reading::Decide(Deciding::Free, "visible")),
+    Step::One(Writing::Direct(b"x", b"3", 5)),
+    Step::Two(Reading::Decide(Deciding::Look, "delayed flag")),
+    Step::Two(Reading::Decide(Deciding::Free, "old commits")),
+    Step::Two(Reading::Decide(Deciding::Whole, "visible")),
+    Step::Two(Reading::Get(b"x", Some(b"2"))),
+    Step::Two(Reading::Release),
 ];
 
-const PAIR_GOES: &[Line] = &[
-    (Step::One(Call::Begin(b"t")), Said::Done),
-    (Step::One(Call::Put(b"z", b"0")), Said::Done),
-    (Step::One(Call::Prepare), Said::At(1)),
-    (Step::One(Call::Leave), Said::Done),
-    (Step::One(Call::Write(b"k", b"1")), Said::At(2)),
-    (Step::TwoLearns, Said::At(2)),
-    (Step::Two(Call::Snap), Said::At(2)),
-    (Step::Two(Call::Decide(Deciding::Look)), Said::Decided(true)),
-    (Step::One(Call::Write(b"k", b"2")), Said::At(3)),
-    (
-        Step::Two(Call::Decide(Deciding::Look)),
-        Said::Asks(Next::DelayedFlag),
-    ),
-    (
-        Step::Two(Call::Decide(Deciding::Free)),
-        Said::Asks(Next::Prepared),
-    ),
-    (
-        Step::Two(Call::Decide(Deciding::Whole)),
-        Said::Decided(true),
-    ),
-    (Step::Two(Call::Get(b"k")), Said::Value(b"1")),
-    (Step::One(Call::Take(b"t")), Said::Done),
-    (Step::One(Call::Commit), Said::At(4)),
-    (Step::Two(Call::Decide(Deciding::Free)), Said::Decided(true)),
-    (
-        Step::Two(Call::Decide(Deciding::Whole)),
-        Said::Decided(true),
-    ),
-    (Step::Two(Call::Get(b"k")), Said::Value(b"1")),
+const PAIR_GOES: &[Step] = &[
+    Step::One(Writing::Begin),
+    Step::One(Writing::Put(b"z", b"0")),
+    Step::One(Writing::Prepare(1)),
+    Step::One(Writing::Leave),
+    Step::One(Writing::Direct(b"k", b"1", 2)),
+    Step::TwoLearns(2),
+    Step::Two(Reading::Snap(2)),
+    Step::Two(Reading::Decide(Deciding::Look, "visible")),
+    Step::One(Writing::Direct(b"k", b"2", 3)),
+    Step::Two(Reading::Decide(Deciding::Look, "delayed flag")),
+    Step::Two(Reading::Decide(Deciding::Free, "prepared tables")),
+    Step::Two(Reading::Decide(Deciding::Whole, "visible")),
+    Step::Two(Reading::Get(b"k", Some(b"1"))),
+    Step::One(Writing::Take),
+    Step::One(Writing::Commit(4)),
+    Step::Two(Reading::Decide(Deciding::Free, "visible")),
+    Step::Two(Reading::Decide(Deciding::Whole, "visible")),
+    Step::Two(Reading::Get(b"k", Some(b"1"))),
+    Step::Two(Reading::Release),
 ];
 
-const COMMIT_BEHIND: &[Line] = &[
-    (Step::One(Call::Begin(b"t")), Said::Done),
-    (Step::One(Call::Put(b"k", b"5")), Said::Done),
-    (Step::One(Call::Prepare), Said::At(1)),
-    (Step::TwoLearns, Said::At(1)),
-    (Step::Two(Call::Snap), Said::At(1)),
-    (
-        Step::Two(Call::Decide(Deciding::Look)),
-        Said::Decided(false),
-    ),
-    (Step::One(Call::Commit), Said::At(2)),
-    (
-        Step::Two(Call::Decide(Deciding::Look)),
-        Said::Decided(false),
-    ),
-    (Step::One(Call::Write(b"x", b"1")), Said::At(3)),
-    (
-        Step::Two(Call::Decide(Deciding::Look)),
-        Said::Asks(Next::DelayedFlag),
-    ),
-    (
-        Step::Two(Call::Decide(Deciding::Free)),
-        Said::Asks(Next::OldCommits),
-    ),
-    (
-        Step::Two(Call::Decide(Deciding::Whole)),
-        Said::Decided(false),
-    ),
-    (Step::Two(Call::Get(b"k")), Said::Missing),
-    (Step::Two(Call::Release), Said::Done),
-    (Step::Two(Call::Snap), Said::At(3)),
-    (Step::Two(Call::Decide(Deciding::Look)), Said::Decided(true)),
-    (Step::Two(Call::Get(b"k")), Said::Value(b"5")),
+const COMMIT_BEHIND: &[Step] = &[
+    Step::One(Writing::Begin),
+    Step::One(Writing::Put(b"k", b"5")),
+    Step::One(Writing::Prepare(1)),
+    Step::TwoLearns(1),
+    Step::Two(Reading::Snap(1)),
+    Step::Two(Reading::Decide(Deciding::Look, "hidden")),
+    Step::One(Writing::Commit(2)),
+    Step::Two(Reading::Decide(Deciding::Look, "hidden")),
+    Step::One(Writing::Direct(b"x", b"1", 3)),
+    Step::Two(Reading::Decide(Deciding::Look, "delayed flag")),
+    Step::Two(Reading::Decide(Deciding::Free, "old commits")),
+    Step::Two(Reading::Decide(Deciding::Whole, "hidden")),
+    Step::Two(Reading::Get(b"k", None)),
+    Step::Two(Reading::Release),
+    Step::Two(Reading::Snap(3)),
+    Step::Two(Reading::Decide(Deciding::Look, "visible")),
+    Step::Two(Reading::Get(b"k", Some(b"5"))),
+    Step::Two(Reading::Release),
 ];
 
-const DELAYED: &[Line] = &[
-    (Step::One(Call::Begin(b"t")), Said::Done),
-    (Step::One(Call::Put(b"k", b"5")), Said::Done),
-    (Step::One(Call::Prepare), Said::At(1)),
-    (Step::TwoLearns, Said::At(1)),
-    (Step::Two(Call::Snap), Said::At(1)),
-    (Step::One(Call::Leave), Said::Done),
-    (Step::One(Call::Write(b"x", b"1")), Said::At(2)),
-    (Step::One(Call::Write(b"x", b"2")), Said::At(3)),
-    (
-        Step::Two(Call::Decide(Deciding::Look)),
-        Said::Asks(Next::DelayedFlag),
-    ),
-    (
-        Step::Two(Call::Decide(Deciding::Free)),
-        Said::Asks(Next::Prepared),
-    ),
-    (
-        Step::Two(Call::Decide(Deciding::Whole)),
-        Said::Decided(false),
-    ),
-    (Step::One(Call::Take(b"t")), Said::Done),
-    (Step::One(Call::Commit), Said::At(4)),
-    (
-        Step::Two(Call::Decide(Deciding::Look)),
-        Said::Decided(false),
-    ),
-    (Step::One(Call::Write(b"x", b"3")), Said::At(5)),
-    (
-        Step::Two(Call::Decide(Deciding::Look)),
-        Said::Asks(Next::DelayedFlag),
-    ),
-    (
-        Step::Two(Call::Decide(Deciding::Free)),
-        Said::Asks(Next::OldCommits),
-    ),
-    (
-        Step::Two(Call::Decide(Deciding::Whole)),
-        Said::Decided(false),
-    ),
-    (Step::Two(Call::Get(b"k")), Said::Missing),
-    (Step::Two(Call::Release), Said::Done),
-    (Step::Two(Call::Snap), Said::At(5)),
-    (
-        Step::Two(Call::Decide(Deciding::Whole)),
-        Said::Decided(true),
-    ),
-    (Step::Two(Call::Get(b"k")), Said::Value(b"5")),
+const DELAYED: &[Step] = &[
+    Step::One(Writing::Begin),
+    Step::One(Writing::Put(b"k", b"5")),
+    Step::One(Writing::Prepare(1)),
+    Step::TwoLearns(1),
+    Step::Two(Reading::Snap(1)),
+    Step::One(Writing::Leave),
+    Step::One(Writing::Direct(b"x", b"1", 2)),
+    Step::One(Writing::Direct(b"x", b"2", 3)),
+    Step::Two(Reading::Decide(Deciding::Look, "delayed flag")),
+    Step::Two(Reading::Decide(Deciding::Free, "prepared tables")),
+    Step::Two(Reading::Decide(Deciding::Whole, "hidden")),
+    Step::One(Writing::Take),
+    Step::One(Writing::Commit(4)),
+    Step::Two(Reading::Decide(Deciding::Look, "hidden")),
+    Step::One(Writing::Direct(b"x", b"3", 5)),
+    Step::Two(Reading::Decide(Deciding::Look, "delayed flag")),
+    Step::Two(Reading::Decide(Deciding::Free, "old commits")),
+    Step::Two(Reading::Decide(Deciding::Whole, "hidden")),
+    Step::Two(Reading::Get(b"k", None)),
+    Step::Two(Reading::Release),
+    Step::Two(Reading::Snap(5)),
+    Step::Two(Reading::Decide(Deciding::Whole, "visible")),
+    Step::Two(Reading::Get(b"k", Some(b"5"))),
+    Step::Two(Reading::Release),
 ];
 
-const ROLLBACK_BEHIND: &[Line] = &[
-    (Step::One(Call::Write(b"k", b"1")), Said::At(1)),
-    (Step::One(Call::Begin(b"t")), Said::Done),
-    (Step::One(Call::Put(b"k", b"2")), Said::Done),
-    (Step::One(Call::Prepare), Said::At(2)),
-    (Step::TwoLearns, Said::At(2)),
-    (Step::Two(Call::Snap), Said::At(2)),
-    (
-        Step::Two(Call::Decide(Deciding::Look)),
-        Said::Decided(false),
-    ),
-    (Step::One(Call::Rollback), Said::At(4)),
-    (
-        Step::Two(Call::Decide(Deciding::Look)),
-        Said::Decided(false),
-    ),
-    (Step::Two(Call::Get(b"k")), Said::Value(b"1")),
-    (Step::One(Call::Write(b"x", b"1")), Said::At(5)),
-    (
-        Step::Two(Call::Decide(Deciding::Look)),
-        Said::Asks(Next::DelayedFlag),
-    ),
-    (
-        Step::Two(Call::Decide(Deciding::Free)),
-        Said::Asks(Next::OldCommits),
-    ),
-    (
-        Step::Two(Call::Decide(Deciding::Whole)),
-        Said::Decided(false),
-    ),
-    (Step::Two(Call::Get(b"k")), Said::Value(b"1")),
-    (Step::Two(Call::Release), Said::Done),
-    (Step::Two(Call::Snap), Said::At(5)),
-    (
-        Step::Two(Call::Decide(Deciding::Whole)),
-        Said::Decided(true),
-    ),
-    (Step::Two(Call::Get(b"k")), Said::Value(b"1")),
+const ROLLBACK_BEHIND: &[Step] = &[
+    Step::One(Writing::Direct(b"k", b"1", 1)),
+    Step::One(Writing::Begin),
+    Step::One(Writing::Put(b"k", b"2")),
+    Step::One(Writing::Prepare(2)),
+    Step::TwoLearns(2),
+    Step::Two(Reading::Snap(2)),
+    Step::Two(Reading::Decide(Deciding::Look, "hidden")),
+    Step::One(Writing::Rollback(4)),
+    Step::Two(Reading::Decide(Deciding::Look, "hidden")),
+    Step::Two(Reading::Get(b"k", Some(b"1"))),
+    Step::One(Writing::Direct(b"x", b"1", 5)),
+    Step::Two(Reading::Decide(Deciding::Look, "delayed flag")),
+    Step::Two(Reading::Decide(Deciding::Free, "old commits")),
+    Step::Two(Reading::Decide(Deciding::Whole, "hidden")),
+    Step::Two(Reading::Get(b"k", Some(b"1"))),
+    Step::Two(Reading::Release),
+    Step::Two(Reading::Snap(5)),
+    Step::Two(Reading::Decide(Deciding::Whole, "visible")),
+    Step::Two(Reading::Get(b"k", Some(b"1"))),
+    Step::Two(Reading::Release),
 ];
 
-const CASES: [(&str, &[Line]); 6] = [
+const CASES: [(&str, &[Step]); 6] = [
     ("the prepared tables, for a prepare", PREPARE_AT_3),
     ("the prepared tables, for a write", WRITE_AT_3),
     ("a write whose pair goes", PAIR_GOES),
@@ -260,9 +154,8 @@ const CASES: [(&str, &[Line]); 6] = [
 ];
 
 #[test]
-fn a_split_reader_decides_as_at_once(rt: HostRuntime) -> Result<(), Fail> {
-    for (name, lines) in CASES {
-        assert_eq!(rt; played(&rt, rt.alloc(), lines)?, None, "{name}");
+fn a_split_reader_decides_as_at_once(rt: HostRuntime) {
+    for (name, steps) in CASES {
+        play(&rt, rt.alloc(), name, steps);
     }
-    Ok(())
 }

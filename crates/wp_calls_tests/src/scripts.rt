@@ -1,105 +1,168 @@
-//! Scripts: what two clients of a store do, and what it says, line by line.
-ghost use Rattle.wp_calls_tests.specs.Ready.{IsReady, GoesOn};
+//! Scripts: what two clients of a store do, and what it says, step by step.
+ghost use Rattle.std.specs.Prelude.{◌≡◌, true, IfSome};
+ghost use Rattle.wp_core.specs.Sound.Snapshots.{has_versions_at};
+ghost use Rattle.wp_calls_tests.specs.Ready.{IsReader, IsWriter};
 
-use crate::calls::{Call, make_call};
-use crate::clients::{Client, let_go};
-use crate::outcomes::{Outcome, Said, is_so};
-use crate::reads::{learn, noted};
-use crate::stores::{ended, opened};
+use crate::reader::{Reading, glance, learn, read};
+use crate::stores::{Seats, end, opened};
+use crate::writer::{Writing, write};
 use std::alloc::Global;
+use std::process::Abort;
 use std::sync::Wait;
-use std::test::Fail;
+use std::test::*;
 use wp_memory::MemDisk;
-use wp_shared::Shared;
+use wp_model::Seq;
+use wp_read::Snapshot;
+use wp_shared::{Seat, Shared};
+use wp_txn::{OpenTxn, PreparedTxn};
 
-/// What comes next.
+/// What comes next, and what is said.
 #[derive(Clone, Copy)]
 pub(super) enum Step {
-    /// A call of the first client.
-    One(Call),
-    Two(Call),
-    /// The first client learns what the second one has seen, with its version.
-    OneLearns,
-    TwoLearns,
+    /// A call of the first client, which writes.
+    One(Writing),
+    /// A call of the second one, which reads.
+    Two(Reading),
+    /// The second client learns what the first one has seen, with its version, and the published number.
+    TwoLearns(Seq),
+    /// The first client, which has no transaction, learns what the second one has seen, and looks at its version as of now: at a
+    /// snapshot with this number.
+    OneLooks(Seq, &'static str),
 }
 
-/// What is done, and what it says.
-pub(super) type Line = (Step, Said);
+/// What the clients have. It has to be let go.
+struct Held {
+    begun: Option<OpenTxn>,
+    prepared: Option<PreparedTxn>,
+    /// The number of the entry with versions that the first client's last step made or took.
+    made: Option<Seq>,
+    snapshot: Option<Snapshot>,
+    /// The number of an entry with versions, which the second client has seen.
+    version: Option<Seq>,
+}
 
-fn make_step<R: Wait>(
+/// Takes the step. Whether it says what it has to, where memory is not wanting.
+fn take_once<R: Abort + Wait>(
     store: &Shared<MemDisk>,
     rt: &R,
     alloc: Global,
-    first: Client,
-    second: Client,
+    one: &mut Seat<MemDisk>,
+    two: &mut Seat<MemDisk>,
+    held: Held,
     step: Step,
-) -> (Client, Client, Outcome)
-    requires first { IsReady store.now first.seat first.begun first.prepared first.snapshot first.version }
-    requires second { IsReady store.now second.seat second.begun second.prepared second.snapshot second.version }
-    ensures first { GoesOn store.now first.seat result.0.seat result.0.begun result.0.prepared result.0.snapshot result.0.version }
-    ensures second { GoesOn store.now second.seat result.1.seat result.1.begun result.1.prepared result.1.snapshot result.1.version }
+) -> (Held, Option<bool>)
+    requires one { IsWriter store.now one.old held.begun held.prepared }
+    requires made { IfSome held.made (λ p. has_versions_at one.old.knows.participant.seen p ≡ true) }
+    requires two { IsReader store.now two.old held.snapshot held.version }
+    ensures one { IsWriter store.now one.new result.0.begun result.0.prepared }
+    ensures made { IfSome result.0.made (λ p. has_versions_at one.new.knows.participant.seen p ≡ true) }
+    ensures two { IsReader store.now two.new result.0.snapshot result.0.version }
 {
+    let Held {
+        begun,
+        prepared,
+        made,
+        snapshot,
+        version,
+    } = held;
     match step {
         Step::One(what) => {
-            let (first, outcome) = make_call(store, rt, alloc, first, what);
-            (first, second, outcome)
+            let (begun, prepared, made, outcome) = write(
+                store, rt, alloc, one, begun, prepared, what,
+            );
+            let held = Held {
+                begun,
+                prepared,
+                made,
+                snapshot,
+                version,
+            };
+            (held, outcome)
         }
         Step::Two(what) => {
-            let (second, outcome) = make_call(store, rt, alloc, second, what);
-            (first, second, outcome)
+            let (snapshot, outcome) = read(store, rt, alloc, two, snapshot, version, what);
+            let held = Held {
+                begun,
+                prepared,
+                made,
+                snapshot,
+                version,
+            };
+            (held, outcome)
         }
-        Step::OneLearns => {
-            let version = second.version;
-            let (second, note) = noted(store, second);
-            let (first, outcome) = learn(store, first, note, version);
-            (first, second, outcome)
+        Step::TwoLearns(at) => {
+            let published = learn(store, two, one);
+            let held = Held {
+                begun,
+                prepared,
+                made,
+                snapshot,
+                version: made,
+            };
+            (held, Some(published == at))
         }
-        Step::TwoLearns => {
-            let version = first.version;
-            let (first, note) = noted(store, first);
-            let (second, outcome) = learn(store, second, note, version);
-            (first, second, outcome)
-        }
+        Step::OneLooks(at, said) => match (begun, prepared, version) {
+            (None, None, Some(p)) => {
+                let published = learn(store, one, two);
+                let outcome = match glance(store, rt, one, p, at, said) {
+                    Some(is_so) => Some(is_so && published == at),
+                    None => None,
+                };
+                let held = Held {
+                    begun: None,
+                    prepared: None,
+                    made: None,
+                    snapshot,
+                    version: Some(p),
+                };
+                (held, outcome)
+            }
+            (_begun, _prepared, _version) => panic!(rt; "the first client can't look now"),
+        },
     }
 }
 
-/// Plays the lines up to the first that says something else, and gives its place.
-fn play<R: Wait>(
-    store: &Shared<MemDisk>,
-    rt: &R,
-    alloc: Global,
-    first: Client,
-    second: Client,
-    lines: &[Line],
-) -> (Client, Client, Option<usize>)
-    requires first { IsReady store.now first.seat first.begun first.prepared first.snapshot first.version }
-    requires second { IsReady store.now second.seat second.begun second.prepared second.snapshot second.version }
-    ensures first { GoesOn store.now first.seat result.0.seat result.0.begun result.0.prepared result.0.snapshot result.0.version }
-    ensures second { GoesOn store.now second.seat result.1.seat result.1.begun result.1.prepared result.1.snapshot result.1.version }
-{
-    let mut one = first;
-    let mut two = second;
-    for (place, line) in lines.iter().enumerate() {
-        let (next_one, next_two, outcome) = make_step(store, rt, alloc, one, two, line.0);
-        one = next_one;
-        two = next_two;
-        if !is_so(&outcome, line.1) {
-            return (one, two, Some(place));
-        }
+/// Opens a store with one word in its cache, takes the steps and ends it. A step that wants memory is taken once more.
+pub(super) fn play<R: Abort + Wait>(rt: &R, alloc: Global, name: &str, steps: &[Step]) {
+    let Seats {
+        store,
+        first,
+        mut writing,
+        mut reading,
+    } = opened(rt, alloc, 0);
+    let mut held = Held {
+        begun: None,
+        prepared: None,
+        made: None,
+        snapshot: None,
+        version: None,
+    };
+    for (place, step) in steps.iter().enumerate() {
+        let (next, outcome) = take_once(&store, rt, alloc, &mut writing, &mut reading, held, *step);
+        let (next, outcome) = match outcome {
+            None => take_once(&store, rt, alloc, &mut writing, &mut reading, next, *step),
+            Some(is_so) => (next, Some(is_so)),
+        };
+        assert!(rt; matches!(outcome, Some(true)), "{name}, step {place}");
+        held = next;
     }
-    (one, two, None)
-}
-
-/// Opens a store with one word in its cache, plays the lines and ends it. The answer is the place of the first line that says something else.
-pub(super) fn played<R: Wait>(
-    rt: &R,
-    alloc: Global,
-    lines: &[Line],
-) -> Result<Option<usize>, Fail> {
-    let (store, first, second) = opened(alloc, 0)?;
-    let (first, second, wrong) = play(&store, rt, alloc, first, second, lines);
-    let first = let_go(&store, rt, first);
-    let second = let_go(&store, rt, second);
-    ended(alloc, store, first, second)?;
-    Ok(wrong)
+    let Held {
+        begun,
+        prepared,
+        made: _made,
+        snapshot,
+        version: _version,
+    } = held;
+    match (begun, prepared, snapshot) {
+        (None, None, None) => {
+            let seats = Seats {
+                store,
+                first,
+                writing,
+                reading,
+            };
+            end(rt, alloc, seats);
+        }
+        (_begun, _prepared, _snapshot) => panic!(rt; "{name}: a client has something left"),
+    }
 }

@@ -1,105 +1,81 @@
-//! Stores over devices in memory, each with two clients.
-ghost use Rattle.std.specs.Prelude.{◌≡◌, ◌≤◌, [], ℕ, List, None, IfOk};
-ghost use Rattle.wp_outside.specs.Disk.{Moment};
-ghost use Rattle.wp_open.specs.Parts.{PartsOpened};
+//! Stores over devices in memory, each with a seat for each of two clients.
+ghost use Rattle.std.specs.Prelude.{◌≡◌, ◌≤◌, [], None};
 ghost use Rattle.wp_shared.specs.Seats.{IsFree};
-ghost use Rattle.wp_calls_tests.specs.Ready.{IsReady};
 
-use crate::clients::Client;
 use std::alloc::Global;
-use std::test::Fail;
+use std::process::Abort;
 use wp_memory::MemDisk;
-use wp_model::{Name, Seq};
-use wp_open::{Parts, open_parts};
-use wp_opened::share;
-use wp_outside::{Disks, Peek};
+use wp_model::Name;
+use wp_opened::open_shared;
+use wp_outside::Disks;
 use wp_shared::{Seat, Shared};
 
 /// The greatest number that an entry may get.
-const MOST: Seq = 4_294_967_295;
-
-/// What is said where a store can't be opened: its devices answer all calls.
-const NO_MEMORY: &str = "no memory for the store";
+const MOST: u64 = 4_294_967_295;
 
 /// A new device.
-fn device(alloc: Global) -> Result<MemDisk, Fail> {
-    Ok(MemDisk::new(alloc, Vec::new(alloc), 1 << 16, 1 << 14, Vec::new(alloc))?)
+fn device<R: Abort>(rt: &R, alloc: Global) -> MemDisk {
+    let Ok(disk) = MemDisk::new(alloc, Vec::new(alloc), 1 << 16, 1 << 14, Vec::new(alloc)) else {
+        panic!(rt; "no memory for a device");
+    };
+    disk
 }
 
-fn parts(alloc: Global) -> Result<Parts<MemDisk>, Fail>
-    ensures base { IfOk result (λ parts. parts.history.base ≡ parts.wal.segment.base) }
-    ensures opened { IfOk result (λ parts. (asked : ℕ) × (log : List Moment) × (manifest : List Moment) × (tables : List Moment)
-        × PartsOpened asked log manifest tables parts.wal parts.history.entries parts.manifest (⟦<MemDisk as Peek>⟧.moments parts.tables) parts.store) }
+pub(super) fn name<R: Abort>(rt: &R, alloc: Global, bytes: &[u8]) -> Name {
+    let Ok(name) = Name::read(alloc, bytes) else {
+        panic!(rt; "no memory for a name");
+    };
+    name
+}
+
+/// A new store: its first seat, and two that this one made.
+pub(super) struct Seats {
+    pub(super) store: Shared<MemDisk>,
+    pub(super) first: Seat<MemDisk>,
+    pub(super) writing: Seat<MemDisk>,
+    pub(super) reading: Seat<MemDisk>,
+}
+
+/// Opens such a store with a commit cache of so many bits, at most 16.
+pub(super) fn opened<R: Abort>(rt: &R, alloc: Global, bits: u32) -> Seats
+    requires { bits ≤ 16 }
+    ensures first { IsFree result.store.table result.first × (result.first.by ≡ 0) × (result.first.knows.joined ≡ []) × (result.first.knows.made ≡ 2) }
+    ensures writing { IsFree result.store.table result.writing × (result.writing.knows.participant.direct ≡ None) }
+    ensures reading { IsFree result.store.table result.reading }
 {
     let disks = Disks {
-        log: device(alloc)?,
-        manifest: device(alloc)?,
-        tables: device(alloc)?,
+        log: device(rt, alloc),
+        manifest: device(rt, alloc),
+        tables: device(rt, alloc),
     };
-    match open_parts(alloc, disks, 1) {
-        Ok(parts) => Ok(parts),
-        Err(_) => Err(Fail::from(NO_MEMORY)),
-    }
-}
-
-fn name(alloc: Global, bytes: &[u8]) -> Result<Name, Fail> {
-    match Name::read(alloc, bytes) {
-        Ok(name) => Ok(name),
-        Err(_) => Err(Fail::from(NO_MEMORY)),
-    }
-}
-
-/// A new store with a commit cache of so many bits, at most 16, and its first seat.
-fn shared(alloc: Global, bits: u32) -> Result<(Shared<MemDisk>, Seat<MemDisk>), Fail>
-    requires { bits ≤ 16 }
-    ensures free { IfOk result (λ r. IsFree r.0.table r.1) }
-    ensures first { IfOk result (λ r. (r.1.by ≡ 0) × (r.1.knows.joined ≡ []) × (r.1.knows.made ≡ 0) × (r.1.knows.participant.direct ≡ None)) }
-{
-    match share(alloc, name(alloc, b"a")?, parts(alloc)?, bits, MOST) {
-        Ok((store, seat)) => Ok((store, seat)),
-        Err(_) => Err(Fail::from(NO_MEMORY)),
-    }
-}
-
-/// Such a store with its two clients, `a` and `b`. The seat of the first one made the other's.
-pub(super) fn opened(alloc: Global, bits: u32) -> Result<(Shared<MemDisk>, Client, Client), Fail>
-    requires { bits ≤ 16 }
-    ensures first { IfOk result (λ r. IsReady r.0 r.1.seat r.1.begun r.1.prepared r.1.snapshot r.1.version) }
-    ensures second { IfOk result (λ r. IsReady r.0 r.2.seat r.2.begun r.2.prepared r.2.snapshot r.2.version) }
-    ensures made { IfOk result (λ r. (r.1.seat.by ≡ 0) × (r.1.seat.knows.joined ≡ []) × (r.1.seat.knows.made ≡ 1)) }
-{
-    let (store, mut seat) = shared(alloc, bits)?;
-    let other = store.seat(&mut seat, name(alloc, b"b")?);
-    let first = Client {
-        seat,
-        begun: None,
-        prepared: None,
-        snapshot: None,
-        version: None,
+    let Ok((store, mut first)) = open_shared(alloc, name(rt, alloc, b"a"), disks, bits, MOST, 1)
+    else {
+        panic!(rt; "no memory for the store");
     };
-    let second = Client {
-        seat: other,
-        begun: None,
-        prepared: None,
-        snapshot: None,
-        version: None,
-    };
-    Ok((store, first, second))
+    let writing = store.seat(&mut first, name(rt, alloc, b"b"));
+    let reading = store.seat(&mut first, name(rt, alloc, b"c"));
+    Seats {
+        store,
+        first,
+        writing,
+        reading,
+    }
 }
 
 /// Ends the store.
-pub(super) fn ended(
-    alloc: Global,
-    store: Shared<MemDisk>,
-    first: Seat<MemDisk>,
-    second: Seat<MemDisk>,
-) -> Result<(), Fail>
-    requires free { IsFree store.table first × IsFree store.table second }
-    requires all { (first.by ≡ 0) × (first.knows.joined ≡ []) × (first.knows.made ≡ 1) }
+pub(super) fn end<R: Abort>(rt: &R, alloc: Global, seats: Seats)
+    requires first { IsFree seats.store.table seats.first × (seats.first.by ≡ 0) × (seats.first.knows.joined ≡ []) × (seats.first.knows.made ≡ 2) }
+    requires writing { IsFree seats.store.table seats.writing }
+    requires reading { IsFree seats.store.table seats.reading }
 {
-    let mut seats = Vec::with_capacity(alloc, 2)?;
-    seats.push(first)?;
-    seats.push(second)?;
-    store.finish(seats);
-    Ok(())
+    let Seats {
+        store,
+        first,
+        writing,
+        reading,
+    } = seats;
+    let Ok(all) = Vec::from_array(alloc, [first, writing, reading]) else {
+        panic!(rt; "no memory for the seats");
+    };
+    store.finish(all);
 }

@@ -1,8 +1,11 @@
-use Rattle.wp_calls_tests.specs.Ready.{GoesOn}
+use Rattle.std.specs.Prelude.{◌≡◌, true, IfSome}
+use Rattle.wp_core.specs.Sound.Snapshots.{has_versions_at}
+use Rattle.wp_calls_tests.specs.Ready.{IsReader, IsWriter}
 use Rattle.wp_calls_tests.proofs.scripts.play.Given as goal
 
--- both clients went on from what they were at the first line
+-- both clients are ready
 abbrev pub invariant-loop-place : goal.invariant-loop-place
 invariant-loop-place g l =
-    GoesOn l.store l.fn.first.seat l.one.seat l.one.begun l.one.prepared l.one.snapshot l.one.version
-    × GoesOn l.store l.fn.second.seat l.two.seat l.two.begun l.two.prepared l.two.snapshot l.two.version
+    IsWriter l.store l.writing l.held.begun l.held.prepared
+    × IfSome l.held.made (λ p. has_versions_at l.writing.knows.participant.seen p ≡ true)
+    × IsReader l.store l.reading l.held.snapshot l.held.version

@@ -1,0 +1,130 @@
+//! The client that writes: its calls on transactions.
+ghost use Rattle.std.specs.Prelude.{◌≡◌, true, IfSome};
+ghost use Rattle.wp_core.specs.Sound.Snapshots.{has_versions_at};
+ghost use Rattle.wp_calls_tests.specs.Ready.{IsWriter};
+
+use crate::stores::name;
+use std::alloc::Global;
+use std::process::Abort;
+use std::sync::Wait;
+use wp_memory::MemDisk;
+use wp_model::{Change, Key, Seq, Value};
+use wp_shared::{Seat, Shared};
+use wp_txn::{OpenTxn, PreparedTxn, Refused, TxnError};
+
+/// What the client does. Its transaction has the name `t`, and a number is the one that the call has to answer.
+#[derive(Clone, Copy)]
+pub(super) enum Writing {
+    Begin,
+    Put(&'static [u8], &'static [u8]),
+    Prepare(Seq),
+    Commit(Seq),
+    Rollback(Seq),
+    /// It leaves the prepared transaction.
+    Leave,
+    Take,
+    /// It puts a value under a key at once.
+    Direct(&'static [u8], &'static [u8], Seq),
+}
+
+/// What the client has behind a step: an open transaction, a prepared one, and the number of the entry with versions that the step
+/// made or took. And whether the step said what it has to, where memory was not wanting.
+pub(super) type Written = (
+    Option<OpenTxn>,
+    Option<PreparedTxn>,
+    Option<Seq>,
+    Option<bool>,
+);
+
+pub(super) fn key<R: Abort>(rt: &R, alloc: Global, bytes: &[u8]) -> Key {
+    let Ok(key) = Key::read(alloc, bytes) else {
+        panic!(rt; "no memory for a key");
+    };
+    key
+}
+
+fn value<R: Abort>(rt: &R, alloc: Global, bytes: &[u8]) -> Value {
+    let Ok(value) = Value::read(alloc, bytes) else {
+        panic!(rt; "no memory for a value");
+    };
+    value
+}
+
+/// No answer for want of memory, and else a wrong one.
+fn refused(why: TxnError) -> Option<bool> {
+    match why {
+        TxnError::Memory => None,
+        _ => Some(false),
+    }
+}
+
+/// Takes the step.
+pub(super) fn write<R: Abort + Wait>(
+    store: &Shared<MemDisk>,
+    rt: &R,
+    alloc: Global,
+    seat: &mut Seat<MemDisk>,
+    begun: Option<OpenTxn>,
+    prepared: Option<PreparedTxn>,
+    step: Writing,
+) -> Written
+    requires { IsWriter store.now seat.old begun prepared }
+    ensures ready { IsWriter store.now seat.new result.0 result.1 }
+    ensures version { IfSome result.2 (λ p. has_versions_at seat.new.knows.participant.seen p ≡ true) }
+{
+    match (step, begun, prepared) {
+        (Writing::Begin, None, None) => {
+            match wp_txn::begin(store, rt, alloc, seat, name(rt, alloc, b"t")) {
+                Ok(txn) => (Some(txn), None, None, Some(true)),
+                Err(why) => (None, None, None, refused(why)),
+            }
+        }
+        (Writing::Put(k, v), Some(mut txn), None) => {
+            let (k, v) = (key(rt, alloc, k), value(rt, alloc, v));
+            let outcome = match wp_txn::put(store, rt, alloc, seat, &mut txn, &k, &v) {
+                Ok(()) => Some(true),
+                Err(why) => refused(why),
+            };
+            (Some(txn), None, None, outcome)
+        }
+        (Writing::Prepare(at), Some(txn), None) => {
+            match wp_txn::prepare(store, rt, alloc, seat, txn) {
+                Ok((txn, n)) => (None, Some(txn), Some(n), Some(n == at)),
+                Err(Refused { txn, why }) => (Some(txn), None, None, refused(why)),
+            }
+        }
+        (Writing::Commit(at), None, Some(txn)) => {
+            match wp_txn::commit(store, rt, alloc, seat, txn) {
+                Ok(n) => (None, None, None, Some(n == at)),
+                Err(Refused { txn, why }) => (None, Some(txn), None, refused(why)),
+            }
+        }
+        (Writing::Rollback(at), None, Some(txn)) => {
+            match wp_txn::rollback(store, rt, alloc, seat, txn) {
+                Ok(n) => (None, None, None, Some(n == at)),
+                Err(Refused { txn, why }) => (None, Some(txn), None, refused(why)),
+            }
+        }
+        (Writing::Leave, None, Some(txn)) => {
+            wp_txn::leave(store, rt, seat, txn);
+            (None, None, None, Some(true))
+        }
+        (Writing::Take, None, None) => {
+            match wp_txn::take_prepared(store, rt, alloc, seat, &name(rt, alloc, b"t")) {
+                Ok(txn) => {
+                    let n = txn.number();
+                    (None, Some(txn), Some(n), Some(true))
+                }
+                Err(why) => (None, None, None, refused(why)),
+            }
+        }
+        (Writing::Direct(k, v, at), None, prepared) => {
+            let change = Change::Put(key(rt, alloc, k), value(rt, alloc, v));
+            match wp_txn::write(store, rt, alloc, seat, change) {
+                Ok(n) => (None, prepared, Some(n), Some(n == at)),
+                Err(why) => (None, prepared, None, refused(why)),
+            }
+        }
+        (_step, _begun, _prepared) => panic!(rt; "the writer can't take this step"),
+    }
+}
