@@ -13,9 +13,9 @@ use Rattle.wp_core.specs.Views.{Fact}
 use Rattle.wp_core.specs.World.{Participant}
 use Rattle.wp_shared.specs.Calls.{IsLoose, GoesOnWith, Continues}
 use Rattle.wp_shared.specs.Notes.{is_under, GoesOn}
-use Rattle.wp_shared.specs.Seats.{SharedState, SeatState}
+use Rattle.wp_shared.specs.Seats.{SharedState, SeatState, IsFree}
 use Rattle.wp_shared.specs.Turns.{HoldsTurn, Taken}
-use Rattle.wp_shared.proofs.Onward.{starts_equal, loose_under, goes_fewer, goes_then, goes_still}
+use Rattle.wp_shared.proofs.Onward.{starts_equal, loose_under, goes_same, goes_fewer, goes_then, goes_still, goes_free}
 use Rattle.wp_read.specs.declared.at_once.Begun.{Begun}
 use Rattle.wp_read.specs.declared.at_once.Begun.TheVariants.{Read, Registered}
 use Rattle.wp_read.specs.AtOnce.{IsNotOfStore, ReadsOn, IsBegun, BeginsRead, kept_by}
@@ -29,6 +29,16 @@ use Rattle.wp_read.proofs.Seated.{changed_so, number_seen, was_taken, released_o
 module _ {s t : SeatState} (k : GoesOn (is_under store_turn) s.knows.held s.turns s t) where
   pub same_client : t.knows.participant ≡ s.knows.participant
   same_client = ap (λ (x : SeatState). x.knows.participant) k.same
+
+  pub free_client : {D : Type 0} (z : SharedState D) → IsFree z.table s → Continues z s t s.knows.participant
+  free_client z free =
+      let still : IsFree z.table t = record {
+        same_table = ap (λ (x : SeatState). x.table) k.same ∙ free.same_table;
+        live = ap (λ (x : SeatState). x.knows.live) k.same ∙ free.live;
+        turns = ap (λ (x : SeatState). x.turns) k.same ∙ free.turns;
+        held = ap (λ (x : SeatState). x.knows.held) k.same ∙ free.held;
+      } in
+      goes_free z s t s.knows.participant still (goes_same s t (is_under store_turn) s.knows.held s.turns (loose_under store_turn) k)
 
 pub loose_not : (fact : Fact) → IsLoose fact → IsNotOfStore fact
 loose_not fact loose = loose_under store_turn fact loose

@@ -1,23 +1,27 @@
 -- What a version's number decides, and that a reading has fewer loads left after each.
-use Rattle.std.proofs.Common.{◌≡◌, ℕ, ◌+◌, ◌<◌, Bool, true, false, refl, sym, subst, ap, ◌∙◌, Option, Some, None, arith}
-use Rattle.std.specs.Prelude.{nat_lt, if◌then◌else◌}
+use Rattle.std.proofs.Common.{◌≡◌, ℕ, ◌+◌, ◌<◌, ◌≤◌, Bool, true, false, refl, sym, subst, ap, ◌∙◌, Option, Some, None, is_some, arith}
+use Rattle.std.specs.Prelude.{IsSome, nat_lt, if◌then◌else◌}
 use Rattle.std.proofs.lemmas.Bool.{lt-ltb}
 use Rattle.wp_judge.specs.declared.observed.Observed.{Observed}
 use Rattle.wp_judge.specs.declared.observed.Load as loads
 use Rattle.wp_judge.specs.declared.observed.Load.TheVariants.{FirstWord, FirstMax, DelayedFlag, InPrepared, SecondWord, SecondMax, OldFlag, IsOldCommit}
 use Rattle.wp_judge.specs.declared.observed.Asked.TheVariants.{Load, Answer}
-use Rattle.wp_judge.specs.Order.{ask, ask_first_word}
+use Rattle.wp_judge.specs.Order.{answer_of, ask, ask_first_word}
 use Rattle.wp_core.specs.Cache.{cached_word}
 use Rattle.wp_core.specs.Changes.{loaded}
 use Rattle.wp_core.specs.Lists.{IsIn}
 use Rattle.wp_core.specs.Reading.{Registration, reads}
+use Rattle.wp_core.specs.Sound.Reader.{IsRight}
 use Rattle.wp_core.specs.World.{World}
 use Rattle.wp_core.proofs.ReaderOrder.{At, asked}
 use Rattle.wp_core.proofs.Tests.{none_some}
+use Rattle.wp_shared.specs.Calls.{Continues}
 use Rattle.wp_shared.specs.Notes.{noting_only}
-use Rattle.wp_shared.specs.Seats.{SharedState, SeatState}
-use Rattle.wp_read.specs.Decides.{reads_first}
-use Rattle.wp_read.specs.Reads.{KeepsNotes, Loads, IsOf}
+use Rattle.wp_shared.specs.Seats.{SharedState, SeatState, IsFree}
+use Rattle.wp_shared.proofs.Onward.{starts_same}
+use Rattle.wp_read.specs.declared.answers.Look.TheVariants as look
+use Rattle.wp_read.specs.Decides.{IsFirstLook, Looks, reads_first}
+use Rattle.wp_read.specs.Reads.{reading, KeepsNotes, Reads, Loads, IsNext, IsOf, IsOfWord}
 
 -- ---- a version above the snapshot
 
@@ -78,29 +82,97 @@ module _ (bits p : ℕ) (snapshot : Registration) where
   flag_third word max IsOldCommit k = let m = k.0.bounded_again.missed_again.not_delayed in absurd (none_some None m.flag refl m.loaded)
 
   -- two loads that were asked for, the first of all
-  module _ (w w' : World) (a b : loads.Load) (r r' : Observed) (first : ask (reads bits p snapshot) ≡ Load a) (is : r ≡ loaded w a (reads bits p snapshot)) (second : ask r ≡ Load b) (then_is : r' ≡ loaded w' b r) where
-    abbrev word_there : ℕ
-    word_there = cached_word w.cache p
+  pub none_looked : (none : Observed) → none ≡ reads bits p snapshot → IsFirstLook p snapshot none
+  none_looked none nothing = subst (IsFirstLook p snapshot) (sym nothing) refl
 
-    with_word : r ≡ has_word word_there
-    with_word = is ∙ ap (λ x. loaded w x (reads bits p snapshot)) (word_first a (asked (reads bits p snapshot) a first))
+  module _ (a : loads.Load) (none : Observed) (nothing : none ≡ reads bits p snapshot) (first : Load a ≡ ask none) where
+    is_word : a ≡ FirstWord
+    is_word = word_first a (asked (reads bits p snapshot) a (sym (first ∙ ap ask nothing)))
 
-    with_max : r' ≡ reads_first bits p snapshot word_there w'.max_evicted
-    with_max =
-        let e : ask (has_word word_there) ≡ Load b = subst (λ (x : Observed). ask x ≡ Load b) with_word second in
-        then_is ∙ (ap (loaded w' b) with_word ∙ ap (λ x. loaded w' x (has_word word_there)) (max_second word_there b (asked (has_word word_there) b e)))
+    pub first_of_word : IsOfWord a
+    first_of_word = subst IsOfWord (sym is_word) (λ (e : FirstWord ≡ InPrepared). cc, λ (e : FirstWord ≡ IsOldCommit). cc)
 
-    pub looked : (word max : ℕ) → r'.first_word ≡ Some word → r'.first_max ≡ Some max → r' ≡ reads_first r'.bits p snapshot word max
-    looked word max word_is max_is =
-        with_max ∙ (λ i. record (reads ((sym (ap (λ (x : Observed). x.bits) with_max)) i) p snapshot) {
-          first_word = (sym (ap (λ (x : Observed). x.first_word) with_max) ∙ word_is) i;
-          first_max = (sym (ap (λ (x : Observed). x.first_max) with_max) ∙ max_is) i;
-        })
+    module _ (w : World) (r : Observed) (is : r ≡ loaded w a none) where
+      abbrev word_there : ℕ
+      word_there = cached_word w.cache p
 
-    pub flag_next : (which : loads.Load) → ask r' ≡ Load which → ask r' ≡ Load DelayedFlag
-    flag_next which third =
-        let e : ask (reads_first bits p snapshot word_there w'.max_evicted) ≡ Load which = subst (λ (x : Observed). ask x ≡ Load which) with_max third in
-        third ∙ ap (λ x. Load x) (flag_third word_there w'.max_evicted which (asked (reads_first bits p snapshot word_there w'.max_evicted) which e))
+      with_word : r ≡ has_word word_there
+      with_word = is ∙ (λ i. loaded w (is_word i) (nothing i))
+
+      pub first_bits : bits ≤ 16 → r.bits ≤ 16
+      first_bits few = subst (λ (x : Observed). x.bits ≤ 16) (sym with_word) few
+
+      pub first_looked : IsFirstLook p snapshot r
+      first_looked = subst (IsFirstLook p snapshot) (sym with_word) refl
+
+      module _ (b : loads.Load) (second : Load b ≡ ask r) where
+        is_max : b ≡ FirstMax
+        is_max = max_second word_there b (asked (has_word word_there) b (sym (second ∙ ap ask with_word)))
+
+        pub second_of_word : IsOfWord b
+        second_of_word = subst IsOfWord (sym is_max) (λ (e : FirstMax ≡ InPrepared). cc, λ (e : FirstMax ≡ IsOldCommit). cc)
+
+        module _ (w' : World) (r' : Observed) (then_is : r' ≡ loaded w' b r) where
+          with_max : r' ≡ reads_first bits p snapshot word_there w'.max_evicted
+          with_max = then_is ∙ (λ i. loaded w' (is_max i) (with_word i))
+
+          pub second_bits : bits ≤ 16 → r'.bits ≤ 16
+          second_bits few = subst (λ (x : Observed). x.bits ≤ 16) (sym with_max) few
+
+          pub second_looked : IsFirstLook p snapshot r'
+          second_looked = subst (IsFirstLook p snapshot) (sym with_max) refl
+
+          pub has_first_word : IsSome r'.first_word
+          has_first_word = ap (λ (x : Observed). is_some x.first_word) with_max
+
+          pub has_first_max : IsSome r'.first_max
+          has_first_max = ap (λ (x : Observed). is_some x.first_max) with_max
+
+          pub looked : (word max : ℕ) → r'.first_word ≡ Some word → r'.first_max ≡ Some max → r' ≡ reads_first r'.bits p snapshot word max
+          looked word max word_is max_is =
+              with_max ∙ (λ i. record (reads ((sym (ap (λ (x : Observed). x.bits) with_max)) i) p snapshot) {
+                first_word = (sym (ap (λ (x : Observed). x.first_word) with_max) ∙ word_is) i;
+                first_max = (sym (ap (λ (x : Observed). x.first_max) with_max) ∙ max_is) i;
+              })
+
+          pub flag_next : (which : loads.Load) → Load which ≡ ask r' → ask r' ≡ Load DelayedFlag
+          flag_next which third =
+              sym third ∙ ap (λ x. Load x) (flag_third word_there w'.max_evicted which (asked (reads_first bits p snapshot word_there w'.max_evicted) which (sym (third ∙ ap ask with_max))))
+
+-- ---- what is read is kept
+
+-- a look that decides the version
+pub look_decides : {D : Type 0} (z : SharedState D) (s t : SeatState) (p : ℕ) (snapshot : Registration) (r : Observed) (visible : Bool) → Reads z s t r → IsFirstLook p snapshot r → Answer visible ≡ ask r → Looks z s t p snapshot (look.Decided visible)
+look_decides z s t p snapshot r visible k first is =
+    (r, k, first, sym is, subst (λ (x : Observed). IsRight s.knows.participant.seen x.version x.snapshot visible) first (k.right visible (ap answer_of (sym is))))
+
+module _ {D : Type 0} {z : SharedState D} {s t : SeatState} {r : Observed} (k : Reads z s t r) where
+  pub reads_next : (which : loads.Load) → Load which ≡ ask r → IsNext t r which
+  reads_next which is = (ap (λ (x : SeatState). x.knows.reading) k.seat, sym is)
+
+  pub reads_same : t.knows.participant ≡ s.knows.participant
+  reads_same = ap (λ (x : SeatState). x.knows.participant) k.seat
+
+  pub reads_continues : IsFree z.table s → Continues z s t s.knows.participant
+  reads_continues free =
+      subst (λ (x : SeatState). Continues z s x s.knows.participant) (sym k.seat)
+      (record {
+        free = record { same_table = free.same_table; live = free.live; turns = free.turns; held = free.held };
+        same_by = refl;
+        seen = starts_same s.knows.participant.seen;
+        participant = refl;
+        notes = λ fact loose there. there;
+        made = refl;
+        joined = refl;
+      })
+
+  -- one reading after another
+  pub reads_then : {u : SeatState} {r' : Observed} → Reads z t u r' → Reads z s u r'
+  reads_then {u = u} {r' = r'} next = record {
+    seat = next.seat ∙ ap (λ (x : SeatState). reading x r') k.seat;
+    right = λ visible judged. subst (λ (x : SeatState). IsRight x.knows.participant.seen r'.version r'.snapshot visible) k.seat (next.right visible judged);
+    cells = next.cells;
+  }
 
 -- ---- how many loads are left
 

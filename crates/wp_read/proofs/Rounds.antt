@@ -1,5 +1,5 @@
 -- Versions are decided one after another, and copied in rounds.
-use Rattle.std.proofs.Common.{◌≡◌, inl, inr, ⊎_elim, ℕ, zero, suc, ◌+◌, ◌<◌, ◌==◌, true, List, [], ◌∷◌, ◌++◌, length, take, drop, get_or, refl, sym, subst, ap, ◌∙◌, arith}
+use Rattle.std.proofs.Common.{◌≡◌, inl, inr, ⊎_elim, ℕ, zero, suc, ◌+◌, ◌<◌, ◌==◌, true, List, [], ◌∷◌, ◌++◌, length, take, drop, get_or, refl, sym, subst, ap, ◌∙◌, length-append, arith}
 use Rattle.std.specs.List.{list_any}
 use Rattle.std.proofs.lemmas.List.{length-take-le}
 use Rattle.wp_model.specs.declared.entry.Entry.{Entry}
@@ -51,3 +51,8 @@ first_is history n xs i x lt is none c = record {
   none_before = none;
   committed = c;
 }
+
+pub first_within : (history : List Entry) (n : ℕ) (xs : List Version) (i : ℕ) → IsFirstCommitted history n xs i → i < length xs
+first_within history n xs i f =
+    let whole : length xs ≡ length f.front + suc (length f.back) = ap length f.are ∙ length-append f.front (f.version ∷ f.back) in
+    let place : length f.front ≡ i = f.place in omega arith

@@ -25,7 +25,7 @@ use Rattle.wp_shared.specs.Seats.{SharedState, SeatState, IsFree, place_at}
 use Rattle.wp_shared.specs.Turns.{HoldsTurn, KnowsToGive, Taken, Given}
 use Rattle.wp_shared.proofs.Goes.{then}
 use Rattle.wp_shared.proofs.Tables.{held_table, knows_to_give}
-use Rattle.wp_shared.proofs.Onward.{IsBlind, starts_equal, loose_none, loose_under, goes_same, goes_fewer, goes_then, goes_still, goes_free, holds_next, holds_alone, holds_two}
+use Rattle.wp_shared.proofs.Onward.{IsBlind, starts_equal, loose_none, loose_under, goes_none, goes_same, goes_fewer, goes_then, goes_still, goes_free, holds_next, holds_alone, holds_two}
 use Rattle.wp_read.specs.Reads.{reading, KeepsNotes, Loads}
 use Rattle.wp_read.specs.Registers.{again, registration_of, with_each, pinned, Registers, Unregisters, ChangesSnapshots, HasLeast, IsTakenAt, registered_by}
 use Rattle.wp_read.proofs.Registers.{registered_and_released, kept_by_register}
@@ -33,6 +33,10 @@ use Rattle.wp_read.proofs.Registers.{registered_and_released, kept_by_register}
 -- ---- the live snapshots that it holds change
 
 module _ {D : Type 0} {z : SharedState D} {others : List Content} {beneath : List ℕ} where
+  -- it is as it was
+  pub changes_none : {s : SeatState} {m : Snapshots} → HoldsTurn z s (snapshots m) others beneath → ChangesSnapshots z s s s.knows.participant m others beneath
+  changes_none {s = s} was = record { goes = goes_none s; holds = was }
+
   -- it is this participant now, with these live snapshots in place of the others
   changes_by : {before : Snapshots} (s t : SeatState) (h learned : List Entry) (read : Option Observed) (rs : List Registration) (m : Snapshots) (notes : List Fact) → HoldsTurn z s (snapshots before) others beneath
       → t ≡ record s { knows = record s.knows { participant = record s.knows.participant { seen = h; registered = rs }; learned = learned; held = snapshots m ∷ others; reading = read; notes = notes } } → StartsWith h s.knows.participant.seen

@@ -11,7 +11,7 @@ use Rattle.wp_shared.specs.Turns.{HoldsTurn}
 use Rattle.wp_read.specs.Registers.{AreCounted, AreLive, IsPinned, MayPin}
 use Rattle.wp_read.proofs.AllPinned.{taken_counted, taken_may_pin, pin_changes, pin_seen, pin_listed, is_pinned, unpinned}
 use Rattle.wp_read.proofs.Counts.{counted_more, kept_each}
-use Rattle.wp_read.proofs.Seated.{changes_then, changes_ok}
+use Rattle.wp_read.proofs.Seated.{changes_none, changes_then, changes_ok}
 use Rattle.wp_read.proofs.pinning.pin_in.Goals as goal
 
 pub register_in-requires-clause-holds : goal.register_in-requires-clause-holds
@@ -85,3 +85,45 @@ returns-clause-kept g c none =
     let m = c.args.snaps.now in let m1 = c.register_in.new.snaps in let floor = c.in_ok-floor.floor in
     let back = c.release_last.ensures.released ∙ ap (λ (x : Snapshots). with_released x floor.number) c.in-Err.ensures.err in
     subst NoOldCommits (unpinned c.args.store.now c.args.seat.now c.register_in.new.seat.knows.participant.seen floor m m1 c.release_last.new.snaps c.in_ok-floor.ensures.taken.0 c.in_ok-floor.ensures.entered back) none
+
+pub returns-in_err-found-clause-changes : goal.returns-in_err-found-clause-changes
+returns-in_err-found-clause-changes g c = let p = err_from_is_err_and c.from_residual.result c.from_residual.ensures.1 in rw p.1 (changes_none c.requires.holds)
+
+pub returns-in_err-found-clause-number : goal.returns-in_err-found-clause-number
+returns-in_err-found-clause-number g c = let p = err_from_is_err_and c.from_residual.result c.from_residual.ensures.1 in rw p.1 tt
+
+pub returns-in_err-found-clause-pinned : goal.returns-in_err-found-clause-pinned
+returns-in_err-found-clause-pinned g c = let p = err_from_is_err_and c.from_residual.result c.from_residual.ensures.1 in rw p.1 tt
+
+pub returns-in_err-found-clause-listed : goal.returns-in_err-found-clause-listed
+returns-in_err-found-clause-listed g c = let p = err_from_is_err_and c.from_residual.result c.from_residual.ensures.1 in rw p.1 tt
+
+pub returns-in_err-floor-clause-number : goal.returns-in_err-floor-clause-number
+returns-in_err-floor-clause-number g c = let p = err_from_is_err_and c.from_residual-in_err-floor.result c.from_residual-in_err-floor.ensures.1 in rw p.1 tt
+
+pub returns-in_err-floor-clause-pinned : goal.returns-in_err-floor-clause-pinned
+returns-in_err-floor-clause-pinned g c = let p = err_from_is_err_and c.from_residual-in_err-floor.result c.from_residual-in_err-floor.ensures.1 in rw p.1 tt
+
+pub returns-in_err-floor-clause-listed : goal.returns-in_err-floor-clause-listed
+returns-in_err-floor-clause-listed g c = let p = err_from_is_err_and c.from_residual-in_err-floor.result c.from_residual-in_err-floor.ensures.1 in rw p.1 tt
+
+pub returns-in_err-found-clause-kept : goal.returns-in_err-found-clause-kept
+returns-in_err-found-clause-kept g c none = none
+
+pub returns-in_err-floor-clause-kept : goal.returns-in_err-floor-clause-kept
+returns-in_err-floor-clause-kept g c = c.register_in.ensures.kept
+
+pub register_again-requires-clause-seat : goal.register_again-requires-clause-seat
+register_again-requires-clause-seat g c = (c.register_in.ensures.changes (prepared c.args.tables.now ∷ []) (1 ∷ []) c.requires.holds).holds.same_table
+
+pub register_again-requires-clause-live : goal.register_again-requires-clause-live
+register_again-requires-clause-live g c = (c.register_in.ensures.changes (prepared c.args.tables.now ∷ []) (1 ∷ []) c.requires.holds).holds.live
+
+pub returns-clause-number : goal.returns-clause-number
+returns-clause-number g c = tt
+
+pub returns-clause-pinned : goal.returns-clause-pinned
+returns-clause-pinned g c = tt
+
+pub returns-clause-listed : goal.returns-clause-listed
+returns-clause-listed g c = tt
