@@ -1,6 +1,7 @@
 -- A key is read under the snapshots turn, at a snapshot that goes before the turn is given.
 use Rattle.std.proofs.Common.{◌≡◌, inl, inr, ℕ, List, [], ◌∷◌, ◌++◌, length, refl, sym, subst, ap, ◌∙◌, Option, append-nil}
 use Rattle.std.specs.Prelude.{Result, Ok, Err, IfOk}
+use Rattle.wp_judge.specs.declared.observed.Observed.{Observed}
 use Rattle.wp_model.specs.declared.entry.Entry.{Entry}
 use Rattle.wp_model.specs.History.{value_at}
 use Rattle.wp_model.specs.Snapshots.{Snapshots}
@@ -19,6 +20,7 @@ use Rattle.wp_shared.proofs.Onward.{starts_equal, loose_under, goes_same, goes_f
 use Rattle.wp_read.specs.declared.at_once.Begun.{Begun}
 use Rattle.wp_read.specs.declared.at_once.Begun.TheVariants.{Read, Registered}
 use Rattle.wp_read.specs.AtOnce.{IsNotOfStore, ReadsOn, IsBegun, BeginsRead, kept_by}
+use Rattle.wp_read.specs.Reads.{reading, Reads}
 use Rattle.wp_read.specs.Registers.{IsTakenAt, Registers, Unregisters, registered_by, registration_of}
 use Rattle.wp_read.proofs.Registers.{registered_and_released}
 use Rattle.wp_read.proofs.Taking.{taken_since}
@@ -42,6 +44,15 @@ module _ {s t : SeatState} (k : GoesOn (is_under store_turn) s.knows.held s.turn
 
 pub loose_not : (fact : Fact) → IsLoose fact → IsNotOfStore fact
 loose_not fact loose = loose_under store_turn fact loose
+
+-- ---- what a read leaves of the seat
+
+module _ {s t : SeatState} (k : GoesOn (is_under store_turn) s.knows.held s.turns s t) where
+  pub reads_on : ReadsOn s t
+  reads_on = subst (ReadsOn s) (sym k.same) (record { same = refl; noted = λ fact not there. k.noted fact not there })
+
+  pub reads_on_then : {D : Type 0} {z : SharedState D} {u : SeatState} {r : Observed} → Reads z t u r → ReadsOn s u
+  reads_on_then {u = u} {r = r} next = subst (ReadsOn s) (sym (next.seat ∙ ap (λ (x : SeatState). reading x r) k.same)) (record { same = refl; noted = λ fact not there. k.noted fact not there })
 
 -- ---- a snapshot is registered, the key is read, and it may be given back
 

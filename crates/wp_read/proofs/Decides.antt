@@ -20,7 +20,9 @@ use Rattle.wp_shared.specs.Notes.{noting_only}
 use Rattle.wp_shared.specs.Seats.{SharedState, SeatState, IsFree}
 use Rattle.wp_shared.proofs.Onward.{starts_same}
 use Rattle.wp_read.specs.declared.answers.Look.TheVariants as look
-use Rattle.wp_read.specs.Decides.{IsFirstLook, Looks, reads_first}
+use Rattle.wp_read.specs.declared.answers.Free.{Free}
+use Rattle.wp_read.specs.declared.answers.Free.TheVariants as free
+use Rattle.wp_read.specs.Decides.{DecidesFree, IsFirstLook, Looks, reads_first}
 use Rattle.wp_read.specs.Reads.{reading, KeepsNotes, Reads, Loads, IsNext, IsOf, IsOfWord}
 
 -- ---- a version above the snapshot
@@ -154,10 +156,10 @@ module _ {D : Type 0} {z : SharedState D} {s t : SeatState} {r : Observed} (k : 
   reads_same = ap (λ (x : SeatState). x.knows.participant) k.seat
 
   pub reads_continues : IsFree z.table s → Continues z s t s.knows.participant
-  reads_continues free =
+  reads_continues was =
       subst (λ (x : SeatState). Continues z s x s.knows.participant) (sym k.seat)
       (record {
-        free = record { same_table = free.same_table; live = free.live; turns = free.turns; held = free.held };
+        free = record { same_table = was.same_table; live = was.live; turns = was.turns; held = was.held };
         same_by = refl;
         seen = starts_same s.knows.participant.seen;
         participant = refl;
@@ -173,6 +175,18 @@ module _ {D : Type 0} {z : SharedState D} {s t : SeatState} {r : Observed} (k : 
     right = λ visible judged. subst (λ (x : SeatState). IsRight x.knows.participant.seen r'.version r'.snapshot visible) k.seat (next.right visible judged);
     cells = next.cells;
   }
+
+-- where it noted more besides
+pub noted_continues : {D : Type 0} {z : SharedState D} {s t : SeatState} {r : Observed} → Reads z (noting_only t.knows.notes s) t r → KeepsNotes s.knows.notes t.knows.notes → IsFree z.table s → Continues z s t s.knows.participant
+noted_continues k keeps was =
+    let on = reads_continues k (record { same_table = was.same_table; live = was.live; turns = was.turns; held = was.held }) in
+    record { free = on.free; same_by = on.same_by; seen = on.seen; participant = on.participant; notes = keeps; made = on.made; joined = on.joined }
+
+-- what it has loaded, whatever that decides
+pub reading_of : {D : Type 0} (z : SharedState D) (s t : SeatState) (p : ℕ) (snapshot : Registration) (f : Free) → DecidesFree z s t p snapshot f → (r : Observed) × Reads z s t r
+reading_of z s t p snapshot (free.Decided visible) k = (k.0, k.1)
+reading_of z s t p snapshot (free.Prepared r) k = (r, k.0)
+reading_of z s t p snapshot (free.Snapshots r) k = (r, k.0)
 
 -- ---- how many loads are left
 

@@ -64,11 +64,10 @@ fn snapshots_at(alloc: Global, numbers: &[Seq]) -> Result<Vec<Snapshot>, AllocEr
 {
     let mut live = Vec::with_capacity(alloc, numbers.len())?;
     for number in numbers {
-        live.push(Snapshot {
+        live.push_reserved(Snapshot {
             number: *number,
             smallest: NOTHING_KNOWN,
-        })
-        .unwrap();
+        });
     }
     Ok(live)
 }

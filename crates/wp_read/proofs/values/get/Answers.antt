@@ -1,9 +1,18 @@
-use Rattle.std.proofs.Common.{List, sym, subst, ◌∙◌, rules}
+use Rattle.std.proofs.Common.{◌≡◌, List, sym, subst, ◌∙◌, rules}
+use Rattle.std.proofs.lemmas.Result.{err_from_is_err_and}
 use Rattle.wp_model.specs.declared.version.Version.{Version}
+use Rattle.wp_model.specs.History.{value_at}
+use Rattle.wp_core.specs.Lists.{IsIn}
 use Rattle.wp_core.specs.World.{Participant}
 use Rattle.wp_shared.proofs.Onward.{continues_still}
 use Rattle.wp_read.specs.Values.{NoneCommitted, Says}
 use Rattle.wp_read.proofs.values.get.Goals as goal
+
+pub look_through-requires-clause-free : goal.look_through-requires-clause-free
+look_through-requires-clause-free g c = c.requires.free
+
+pub look_through-requires-clause-registered : goal.look_through-requires-clause-registered
+look_through-requires-clause-registered g c = c.requires.registered
 
 pub look_through-requires-in-rounds-clause-earlier : goal.look_through-requires-in-rounds-clause-earlier
 look_through-requires-in-rounds-clause-earlier g c =
@@ -17,3 +26,68 @@ rounds-preserved g c =
       none = subst (λ (p : Participant). NoneCommitted p.seen c.args.snapshot.now.number c.in-More-2.found) k.same (subst (Says c.rounds.seat.knows.participant.seen c.args.key.now c.args.snapshot.now.number) c.in-More-2.is c.in_ok-value-2.ensures.says);
       some = search rules;
     }
+
+pub returns-in_err-value-clause-continues : goal.returns-in_err-value-clause-continues
+returns-in_err-value-clause-continues g c = c.look_through.ensures.continues
+
+pub returns-in_err-value-clause-same : goal.returns-in_err-value-clause-same
+returns-in_err-value-clause-same g c = c.look_through.ensures.same
+
+pub returns-in-Done-clause-continues : goal.returns-in-Done-clause-continues
+returns-in-Done-clause-continues g c = c.look_through.ensures.continues
+
+pub returns-in-Done-clause-same : goal.returns-in-Done-clause-same
+returns-in-Done-clause-same g c = c.look_through.ensures.same
+
+pub returns-in_err-value-clause-value : goal.returns-in_err-value-clause-value
+returns-in_err-value-clause-value g c = let p = err_from_is_err_and c.from_residual.result c.from_residual.ensures.1 in rw p.1 tt
+
+pub returns-in-Done-clause-value : goal.returns-in-Done-clause-value
+returns-in-Done-clause-value g c =
+    subst (λ (p : Participant). c.in-Done.value ≡ value_at p.seen c.args.key.now c.args.snapshot.now.number) (sym c.look_through.ensures.same)
+    (subst (Says c.args.seat.now.knows.participant.seen c.args.key.now c.args.snapshot.now.number) c.in-Done.is c.in_ok-value.ensures.says)
+
+pub rounds-init : goal.rounds-init
+rounds-init g c = record {
+  continues = c.look_through.ensures.continues;
+  same = c.look_through.ensures.same;
+  none = subst (Says c.args.seat.now.knows.participant.seen c.args.key.now c.args.snapshot.now.number) c.in-More.is c.in_ok-value.ensures.says;
+  some = search rules;
+}
+
+pub returns-in_err-most-clause-continues : goal.returns-in_err-most-clause-continues
+returns-in_err-most-clause-continues g c = c.rounds.invariant.continues
+
+pub returns-in_err-most-clause-same : goal.returns-in_err-most-clause-same
+returns-in_err-most-clause-same g c = c.rounds.invariant.same
+
+pub returns-in_err-most-clause-value : goal.returns-in_err-most-clause-value
+returns-in_err-most-clause-value g c = let p = err_from_is_err_and c.from_residual-in_err-most.result c.from_residual-in_err-most.ensures.1 in rw p.1 tt
+
+pub look_through-requires-in-rounds-clause-free : goal.look_through-requires-in-rounds-clause-free
+look_through-requires-in-rounds-clause-free g c = c.rounds.invariant.continues.free
+
+pub look_through-requires-in-rounds-clause-registered : goal.look_through-requires-in-rounds-clause-registered
+look_through-requires-in-rounds-clause-registered g c = subst (λ (p : Participant). IsIn c.args.snapshot.now p.registered) (sym c.rounds.invariant.same) c.requires.registered
+
+pub returns-in_err-value-2-clause-continues : goal.returns-in_err-value-2-clause-continues
+returns-in_err-value-2-clause-continues g c =
+    continues_still c.args.store.now c.args.seat.now c.rounds.seat c.look_through-in-rounds.new.seat c.args.seat.now.knows.participant c.rounds.invariant.continues c.look_through-in-rounds.ensures.continues
+
+pub returns-in_err-value-2-clause-same : goal.returns-in_err-value-2-clause-same
+returns-in_err-value-2-clause-same g c = c.look_through-in-rounds.ensures.same ∙ c.rounds.invariant.same
+
+pub returns-in-Done-2-clause-continues : goal.returns-in-Done-2-clause-continues
+returns-in-Done-2-clause-continues g c =
+    continues_still c.args.store.now c.args.seat.now c.rounds.seat c.look_through-in-rounds.new.seat c.args.seat.now.knows.participant c.rounds.invariant.continues c.look_through-in-rounds.ensures.continues
+
+pub returns-in-Done-2-clause-same : goal.returns-in-Done-2-clause-same
+returns-in-Done-2-clause-same g c = c.look_through-in-rounds.ensures.same ∙ c.rounds.invariant.same
+
+pub returns-in_err-value-2-clause-value : goal.returns-in_err-value-2-clause-value
+returns-in_err-value-2-clause-value g c = let p = err_from_is_err_and c.from_residual-in_err-value-2.result c.from_residual-in_err-value-2.ensures.1 in rw p.1 tt
+
+pub returns-in-Done-2-clause-value : goal.returns-in-Done-2-clause-value
+returns-in-Done-2-clause-value g c =
+    subst (λ (p : Participant). c.in-Done-2.value ≡ value_at p.seen c.args.key.now c.args.snapshot.now.number) (sym c.look_through-in-rounds.ensures.same)
+    (subst (Says c.rounds.seat.knows.participant.seen c.args.key.now c.args.snapshot.now.number) c.in-Done-2.is c.in_ok-value-2.ensures.says)
