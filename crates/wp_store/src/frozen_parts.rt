@@ -1,4 +1,4 @@
-ghost use Rattle.std.specs.Prelude.{◌≡◌, IfOk};
+ghost use Rattle.std.specs.Prelude.{◌≡◌, ◌++◌, IfOk, OnOk};
 ghost use Rattle.wp_merge.specs.Merge.{AreMerged};
 
 use crate::sources::{merged, push_frozen};
@@ -25,14 +25,25 @@ impl Model for FrozenParts {
     ghost view = { λ f. f.parts.items };
 }
 
+/// Shares each part, and puts it at the end.
+fn push_shares(
+    shared: &mut VecDeque<FrozenPart>,
+    parts: &VecDeque<FrozenPart>,
+) -> Result<(), AllocError>
+    ensures { OnOk result (shared.new.items ≡ shared.old.items ++ parts.now.items) }
+{
+    for part in parts {
+        shared.push_back(part.share()?)?;
+    }
+    Ok(())
+}
+
 impl FrozenParts {
     pub(crate) fn of(alloc: Global, parts: &VecDeque<FrozenPart>) -> Result<FrozenParts, AllocError>
         ensures { IfOk result (λ shared. shared ≡ parts.now.items) }
     {
         let mut shared = VecDeque::with_capacity(alloc, parts.len())?;
-        for part in parts {
-            shared.push_back(part.share()?)?;
-        }
+        push_shares(&mut shared, parts)?;
         Ok(FrozenParts {
             alloc,
             parts: shared,

@@ -1,13 +1,30 @@
 //! The newest versions of one key in one part.
 ghost use Rattle.std.specs.Prelude.{◌≡◌, take, IfOk};
+ghost use Rattle.std.specs.Option.{option_copied};
 ghost use Rattle.wp_model.specs.Versions.{AreInOrder};
 ghost use Rattle.wp_memtable.specs.Memtable.{under};
 ghost use Rattle.wp_store.specs.Store.{newest_of};
 
 use std::alloc::{AllocError, Global};
 use wp_memtable::{Found, FrozenPart, Memtable};
-use wp_model::{Key, Version, Versions, copy_value};
+use wp_model::{Key, Seq, Value, Version, Versions, copy_value};
 use wp_table::Table;
+
+/// A version of the key, with a copy of this value or none.
+fn copied_version(
+    alloc: Global,
+    key: &Key,
+    number: Seq,
+    value: Option<&Value>,
+) -> Result<Version, AllocError>
+    ensures { IfOk result (λ version. version ≡ record { key = key.now; number = number; value = option_copied value.entry }) }
+{
+    Ok(Version {
+        key: key.copy(alloc)?,
+        number,
+        value: copy_value(value, alloc)?,
+    })
+}
 
 /// A copy of at most `n` of the versions that were found under the key.
 fn copied(alloc: Global, key: &Key, found: Found<'_>, n: usize) -> Result<Versions, AllocError>
@@ -16,11 +33,7 @@ fn copied(alloc: Global, key: &Key, found: Found<'_>, n: usize) -> Result<Versio
 {
     let mut list = Vec::new(alloc);
     for (number, value) in found.take(n) {
-        list.push(Version {
-            key: key.copy(alloc)?,
-            number,
-            value: copy_value(value, alloc)?,
-        })?;
+        list.push(copied_version(alloc, key, number, value)?)?;
     }
     Ok(Versions::of(list))
 }

@@ -1,5 +1,6 @@
 use Rattle.std.proofs.Common.{sym, ap, subst, ◌∷◌, take, ◌∙◌}
 use Rattle.std.specs.Iterator.Adapters.{take_source, take_count}
+use Rattle.wp_model.specs.declared.version.Version.{Version}
 use Rattle.wp_model.specs.Versions.{AreInOrder}
 use Rattle.wp_memtable.specs.Memtable.{under}
 use Rattle.wp_store.proofs.NewestOfKey.{in_order-take}
@@ -18,7 +19,7 @@ pub loop-number-preserved : goal.loop-number-preserved
 loop-number-preserved c =
     let key = c.args.key.now in
     let step = c.in-Some.ensures.steps in
-    let more = ap (under key) step.0 ∙ (λ i. record { key = sym c.in_ok-copy.ensures i; number = c.in-Some.number; value = sym c.in_ok-copy_value.ensures i } ∷ under key (take_source c.next.new.self)) in
+    let more = ap (under key) step.0 ∙ ap (λ (version : Version). version ∷ under key (take_source c.next.new.self)) (sym c.in_ok-copied_version.ensures) in
     taken_next c.loop-number.list.items _ _ _ _ _ _ _ c.in_ok-push.ensures.items more step.1 c.loop-number.invariant
 
 pub of-requires : goal.of-requires
