@@ -1,14 +1,30 @@
 -- The bytes that are written one after another are those of a table, with the places where its blocks begin.
-use Rattle.std.proofs.Common.{◌≡◌, ℕ, ◌^◌, true, nat_le, nat_lt, List, [], ◌∷◌, ◌++◌, length, refl, ap, ◌∙◌, append_assoc, arith}
-use Rattle.std.specs.Int.{w64, to_be_bytes}
+use Rattle.std.proofs.Common.{◌≡◌, ℕ, ◌^◌, true, nat_le, nat_lt, List, [], ◌∷◌, ◌++◌, codes, length, refl, ap, ◌∙◌, append_assoc, arith}
+use Rattle.std.specs.Int.{w32, w64, to_be_bytes}
 use Rattle.std.specs.List.{flat_map, list_all}
 use Rattle.std.proofs.lemmas.Bool.{and_parts, and_from, le-leb, ltb-true, lt-ltb}
 use Rattle.std.proofs.lemmas.List.{flat_map_more}
 use Rattle.wp_model.specs.declared.version.Version.{Version}
 use Rattle.wp_fields.specs.declared.format.Format.{Format}
 use Rattle.wp_fields.specs.declared.format.Format.TheVariants.{Two}
-use Rattle.wp_table.specs.Table.{block_bytes, blocks_of, places_from, head_bytes, table_bytes, is_numbered, has_number, is_flushed, IsTableIn}
+use Rattle.wp_fields.specs.Format.{format_byte}
+use Rattle.wp_table.specs.Table.{block_bytes, block_count, blocks_of, places_from, head_bytes, table_bytes, is_numbered, has_number, is_flushed, IsTableIn}
 use Rattle.wp_table.specs.Walk.{IsIndexed}
+
+-- the fields of a head, one after another
+pub head_pushed : (format : Format) (id count : ℕ) (start a b c d e : List ℕ) → a ≡ start ++ codes "WPTB" → b ≡ a ++ format_byte format ∷ [] → c ≡ b ++ to_be_bytes w32 id → d ≡ c ++ to_be_bytes w64 count → e ≡ d ++ to_be_bytes w64 (block_count count) → e ≡ start ++ head_bytes format id count
+head_pushed format id count start a b c d e magic version named counted blocks =
+    let numbers = to_be_bytes w64 count ++ to_be_bytes w64 (block_count count) in
+    let behind = format_byte format ∷ (to_be_bytes w32 id ++ numbers) in
+    blocks
+    ∙ ap (λ (bs : List ℕ). bs ++ to_be_bytes w64 (block_count count)) counted
+    ∙ append_assoc c (to_be_bytes w64 count) (to_be_bytes w64 (block_count count))
+    ∙ ap (λ (bs : List ℕ). bs ++ numbers) named
+    ∙ append_assoc b (to_be_bytes w32 id) numbers
+    ∙ ap (λ (bs : List ℕ). bs ++ (to_be_bytes w32 id ++ numbers)) version
+    ∙ append_assoc a (format_byte format ∷ []) (to_be_bytes w32 id ++ numbers)
+    ∙ ap (λ (bs : List ℕ). bs ++ behind) magic
+    ∙ append_assoc start (codes "WPTB") behind
 
 -- the head is 25 bytes, behind which the first block begins
 pub from_head : (format : Format) (id count : ℕ) (nothing none head places : List ℕ) (end behind : ℕ) (blocks : List (List Version)) → nothing ≡ [] → none ≡ [] → end ≡ behind → head ≡ nothing ++ head_bytes format id count → places ++ behind ∷ [] ≡ none ++ places_from format (length head) blocks → places ++ end ∷ [] ≡ places_from format 25 blocks
