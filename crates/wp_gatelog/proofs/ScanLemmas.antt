@@ -87,7 +87,7 @@ whole_read m buf bytes at n size room is short read =
     )
 
 -- the record is what stands behind the gate and the length
-pub record_found : (bytes found rest : List ℕ) (gate len : ℕ) → bytes ≡ gate ∷ (framed found ++ rest) → len ≡ length found → take len (drop 9 bytes) ≡ found
+record_found : (bytes found rest : List ℕ) (gate len : ℕ) → bytes ≡ gate ∷ (framed found ++ rest) → len ≡ length found → take len (drop 9 bytes) ≡ found
 unfolding framed
 record_found bytes found rest gate len is size =
     ap (λ (l : List ℕ). take len (drop 9 l)) is
@@ -98,10 +98,6 @@ record_found bytes found rest gate len is size =
 -- a whole record and a further gate are more than the gate and the length before them
 pub next_long : (bytes : List ℕ) (gate len : ℕ) → IsNext bytes (next.Open gate len) → 9 + len ≤ length bytes
 next_long bytes gate len next = omega (arith, ap length next.5, length-append (framed next.0) next.1, length-framed next.0, next.2)
-
--- the record that is taken of them is as long as they say
-pub record_long : (bytes found : List ℕ) (gate len : ℕ) → found ≡ take len (drop 9 bytes) → IsNext bytes (next.Open gate len) → length found ≡ len
-record_long bytes found gate len is next = ap length (is ∙ record_found bytes next.0 next.1 gate len next.5 next.2) ∙ sym next.2
 
 -- ---- record after record
 

@@ -7,7 +7,7 @@ use std::alloc::{AllocError, AllocFailed};
 use wp_outside::Failed;
 
 /// Why a log could not be opened.
-#[derive(Clone, Copy, PartialEq, Eq)]
+#[derive(Clone, Copy)]
 pub enum LogError {
     Memory,
     DiskFault,

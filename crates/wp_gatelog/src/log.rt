@@ -4,7 +4,7 @@ ghost use Rattle.std.specs.Prelude.{◌≡◌, ℕ, ◌+◌, ◌≤◌, ◌^◌,
 ghost use Rattle.wp_outside.specs.Disk.{IfKnown, added, after_write, after_sync, write_end};
 ghost use Rattle.wp_outside.specs.Faults.{HasCause};
 ghost use Rattle.wp_gatelog.specs.Append.{Appends, FrameAppended, FrameRefused};
-ghost use Rattle.wp_gatelog.specs.Beside.{BringsBoth, Writes};
+ghost use Rattle.wp_gatelog.specs.Beside.{Writes};
 ghost use Rattle.wp_gatelog.specs.Changes.{BringsTo};
 ghost use Rattle.wp_gatelog.specs.Log.{BeforeOrAfter, IsAtRest};
 ghost use Rattle.wp_gatelog.specs.Opening.{IsOpened, IsUnopened, KeepsLogAt};
@@ -22,7 +22,7 @@ use wp_fields::Format;
 use wp_outside::{Disk, Failed, own_len};
 
 /// Why a record was not acknowledged.
-#[derive(Clone, Copy, PartialEq, Eq)]
+#[derive(Clone, Copy)]
 pub enum AppendError {
     /// The disk failed, so the record may be in the log or not. The log is closed from now on: open it again.
     DiskFault,
@@ -164,7 +164,7 @@ impl<D: Disk> GateLog<D> {
         if self.closed {
             return Err(AppendError::Closed(self.count));
         }
-        match write_aside(&mut self.disk, place, bytes) {
+        match write_synced(&mut self.disk, place, bytes) {
             Ok(()) => Ok(()),
             Err(Failed) => {
                 self.closed = true;
@@ -221,18 +221,6 @@ impl<D: Disk> GateLog<D> {
         } = self;
         disk
     }
-}
-
-/// Writes these bytes from `place` on, and puts them on the disk for good.
-fn write_aside<D: Disk>(disk: &mut D, place: u64, bytes: &[u8]) -> Result<(), Failed>
-    ensures brings { (end : ℕ) → BringsBoth place bytes.now end (D.moments disk.old) (D.moments disk.new) result }
-    ensures calls { OnOk result
-        (D.moments disk.new ≡ added after_sync (added (after_write place bytes.now) (D.moments disk.old))) }
-    ensures bounded { OnOk result (write_end place bytes.now ≤ 2 ^ 62) }
-    ensures cause { HasCause (D.faults disk.old) (D.faults disk.new) result }
-{
-    disk.write_at(place, bytes)?;
-    disk.sync()
 }
 
 /// Writes the frame after the closed gate at `end`, and then opens that gate. Each of the two is on the disk for good

@@ -4,7 +4,7 @@
 //! with the head, each other one with the record before it. A record is read whole in one read, with the gate behind it,
 //! and where it isn't there whole, that read saw the device's end.
 
-ghost use Rattle.std.specs.Prelude.{◌≡◌, ◌⊎◌, ℕ, ◌+◌, ◌<◌, ◌≤◌, ◌^◌, [], ◌∷◌, List, length, take, drop, vec_len, IfOk, IfErr};
+ghost use Rattle.std.specs.Prelude.{◌≡◌, ◌⊎◌, ℕ, ◌+◌, ◌<◌, ◌≤◌, ◌^◌, [], ◌∷◌, ◌++◌, List, length, take, drop, vec_len, IfOk, IfErr, OnOk};
 ghost use Rattle.wp_outside.specs.Disk.{IfKnown, Looks};
 ghost use Rattle.wp_gatelog.specs.Errors.{FaultRose, IsOutside};
 ghost use Rattle.wp_gatelog.specs.Patched.{Shows, ReadsTo};
@@ -85,9 +85,7 @@ pub fn read_records<P: Peek>(
                 id,
             }),
             Next::Open { gate, len } => {
-                let record = record_in(alloc, piece.rest(), len)?;
-                let size = span_of(&record);
-                records.push(record)?;
+                let size = take_record(alloc, &mut records, piece.rest(), len)?;
                 last = Some(GateByte {
                     at: end,
                     byte: gate,
@@ -199,20 +197,23 @@ fn next_in(bytes: &[u8]) -> Next
     Next::Open { gate, len }
 }
 
-/// The record of so many bytes behind the gate and the length that begin these.
-fn record_in(alloc: Global, bytes: &[u8], len: u64) -> Result<Record, AllocError>
+/// Puts the record of so many bytes, behind the gate and the length that begin these, at the end. Returns how many bytes
+/// it takes in a log, with its gate and its length.
+fn take_record(
+    alloc: Global,
+    records: &mut Vec<Record>,
+    bytes: &[u8],
+    len: u64,
+) -> Result<u64, AllocError>
     requires { 9 + len ≤ length bytes.now }
-    ensures { IfOk result (λ found. found ≡ take len (drop 9 bytes.now)) }
+    ensures taken { OnOk result (records.new.items ≡ records.old.items ++ take len (drop 9 bytes.now) ∷ []) }
+    ensures count { OnOk result (vec_len records.new ≡ vec_len records.old + 1) }
+    ensures size { IfOk result (λ size. size ≡ 9 + len) }
+    ensures small { IfOk result (λ size. size < 2 ^ 63 + 9) }
 {
     let start = START_LEN as usize;
-    let bytes = bytes[start..start + len as usize].to_vec(alloc)?;
-    Ok(Record::of(bytes))
-}
-
-/// How many bytes a record takes in a log, with its gate and its length.
-fn span_of(found: &Record) -> u64
-    ensures size { result ≡ 9 + length found.now }
-    ensures small { result < 2 ^ 63 + 9 }
-{
-    START_LEN + found.bytes().len() as u64
+    let record = bytes[start..start + len as usize].to_vec(alloc)?;
+    let size = START_LEN + record.len() as u64;
+    records.push(Record::of(record))?;
+    Ok(size)
 }
