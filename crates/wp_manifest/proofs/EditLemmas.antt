@@ -22,6 +22,9 @@ places-read all rest new tables table so_far here =
     so_far ∙ ap (λ (xs : List ℕ). places_bytes tables ++ xs) here ∙ sym (append_assoc (places_bytes tables) (place_bytes table) new) ∙ ap (λ (xs : List ℕ). xs ++ new) (sym (places-push tables table))
 
 -- one table more was written
+pub place_pushed : (start a b : List ℕ) (table : ℕ × ℕ) → a ≡ start ++ to_be_bytes w64 table.0 → b ≡ a ++ to_be_bytes w64 table.1 → b ≡ start ++ place_bytes table
+place_pushed start a b table first last = last ∙ ap (λ (xs : List ℕ). xs ++ to_be_bytes w64 table.1) first ∙ append_assoc start (to_be_bytes w64 table.0) (to_be_bytes w64 table.1)
+
 pub places-written : (front bytes new : List ℕ) (tables : List (ℕ × ℕ)) (i : ℕ) (d : ℕ × ℕ) → i < length tables → bytes ≡ front ++ places_bytes (take i tables) → new ≡ bytes ++ place_bytes (get_or tables i d) → new ≡ front ++ places_bytes (take (i + 1) tables)
 places-written front bytes new tables i d lt so_far here =
     let table = get_or tables i d in

@@ -9,7 +9,7 @@ use std::alloc::AllocError;
 use wp_gatelog::AppendError;
 
 /// Why a manifest could not be opened.
-#[derive(Clone, Copy, PartialEq, Eq)]
+#[derive(Clone, Copy)]
 pub enum ManifestError {
     /// Out of memory.
     Memory,
@@ -22,7 +22,7 @@ pub enum ManifestError {
 }
 
 /// Why an edit was not installed. The last edit is still the one that was installed before.
-#[derive(Clone, Copy, PartialEq, Eq)]
+#[derive(Clone, Copy)]
 pub enum InstallError {
     /// Out of memory. The device was not called.
     Memory,

@@ -1,3 +1,4 @@
+use Rattle.std.proofs.lemmas.Grind.{common_steps}
 use Rattle.std.proofs.Common.{arith, length-append, ◌∷◌, []}
 use Rattle.wp_manifest.proofs.EditLemmas.{places-read, ArePlaces-push}
 use Rattle.wp_manifest.proofs.read.read_places.Goals as goal
@@ -11,3 +12,6 @@ loop-preserved c =
       left = omega (arith, c.loop.invariant.left, taken.1, c.loop-test.true);
       places = ArePlaces-push c.loop.tables.items c.in-Some.table c.loop.invariant.places taken.2 taken.3;
     })
+
+pub returns-clause-spelling : goal.returns-clause-spelling
+returns-clause-spelling c = grind (arith, common_steps)
