@@ -1,7 +1,7 @@
 use wp_model::Seq;
 
 /// A number that is committed, and the number that committed it.
-#[derive(Clone, Copy, PartialEq, Eq)]
+#[derive(Clone, Copy)]
 pub struct Pair {
     pub number: Seq,
     pub commit: Seq,
