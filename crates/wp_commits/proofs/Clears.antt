@@ -17,8 +17,9 @@ use Rattle.wp_rule.proofs.Bound.{past_reaches}
 use Rattle.wp_commits.specs.Bound.{raised}
 use Rattle.wp_commits.specs.Cleared.{IsThere, IsCleared}
 use Rattle.wp_shared.specs.Notes.{is_flag, is_under, noting, GoesOn}
+use Rattle.wp_commits.specs.Making.{noted_all}
 use Rattle.wp_commits.specs.Notes.{is_of_words, is_of_place}
-use Rattle.wp_shared.proofs.Goes.{holds_now, notes, then, wider}
+use Rattle.wp_shared.proofs.Goes.{holds_now, notes, stays, then, wider}
 
 -- ---- the bound
 
@@ -34,6 +35,9 @@ raised_reaches cells published bound decision = by_test (nat_le decision bound) 
     by_test : (b : Bool) → nat_le decision bound ≡ b → decision ≤ cond b bound (bound_past cells published decision)
     by_test true e = grind (arith, nat_tests)
     by_test false e = past_reaches cells published decision
+
+pub number_reached : (cells published bound p decision : ℕ) → p ≤ decision → p ≤ raised cells published bound decision
+number_reached cells published bound p decision low = let high = raised_reaches cells published bound decision in omega (arith, low, high)
 
 pub raised_keeps : (cells published bound decision : ℕ) → bound ≤ raised cells published bound decision
 raised_keeps cells published bound decision = by_test (nat_le decision bound) refl
@@ -126,6 +130,19 @@ module _ (s t u v : SeatState) where
   then_flags h k m first second =
       then is_of_words s t u h k m m first
       (subst (λ (n : List ℕ). GoesOn is_of_words k n t u) (ap (λ (y : SeatState). y.turns) first.same) (wider is_flag t u u is_of_words k t.turns flags_too second))
+
+  -- a seat that was found as it was before
+  pub goes_from : (test : Fact → Bool) (h : List Content) → t ≡ s → GoesOn test h t.turns t u → GoesOn test h s.turns s u
+  goes_from test h same second = subst (λ (x : SeatState). GoesOn test h x.turns x u) same second
+
+  pub stays_at : (test : Fact → Bool) (h : List Content) → t ≡ s → s.knows.held ≡ h → GoesOn test h s.turns s t
+  stays_at test h same held = subst (λ (x : SeatState). GoesOn test h s.turns s x) (sym same) (subst (λ (x : List Content). GoesOn test x s.turns s s) held (stays test s s s))
+
+pub then_own : (s t u : SeatState) (test : Fact → Bool) (place : ℕ) (pair : CommitPair) (h : List Content) (m : List ℕ) → GoesOn test h m s t → u ≡ noted_all place pair t → GoesOn test h m s u
+then_own s t u test place pair h m first is =
+    let a : SeatState = noting (passed place pair) t in
+    let b : SeatState = noting (in_old_commits place pair) a in
+    then_noted s b u u test (apart place pair) h m (then_noted s a b u test (in_old_commits place pair) h m (then_noted s t a u test (passed place pair) h m first refl) refl) is
 
 pub still_noted : (s t : SeatState) (new fact : Fact) → t ≡ noting new s → Noted s.knows fact → Noted t.knows fact
 still_noted s t new fact is there = subst (λ (x : SeatState). Noted x.knows fact) (sym is) (inr there)

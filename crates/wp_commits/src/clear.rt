@@ -16,6 +16,7 @@ ghost use Rattle.wp_commits.specs.declared.way.Way.{Way};
 ghost use Rattle.wp_commits.specs.declared.way.Way.TheVariants.{Delayed};
 
 use crate::bound::bound_past;
+use crate::pair_note::PairNote;
 use crate::passing::pass;
 use crate::steps;
 use crate::way::Way;
@@ -47,7 +48,7 @@ fn raise_past<D: Disk + Drop>(
     ensures bound { (bound : ℕ) (words : List ℕ) → Noted seat.old.knows (words_stay bound words)
         → Noted seat.new.knows (words_stay (raised store.now.cells (length log.now.table.history) bound c) words) }
 {
-    let bound = steps::bound(store, seat);
+    let bound = store.max(seat);
     if c <= bound {
         return;
     }
@@ -78,9 +79,9 @@ fn ready_prepared<D: Disk + Drop>(
     ensures ready { Noted seat.new.knows (passed place (record { number = p; decision = c })) × Noted seat.new.knows (apart place (record { number = p; decision = c })) }
 {
     raise_past(store, seat, log, tables, place, p, c);
-    steps::note_passed(store, seat, log, place, p, c);
+    steps::note(store, seat, PairNote::Passed(place, p, c));
     steps::delay(store, seat, log, tables, p, c);
-    steps::note_apart(store, seat, log, tables, place, p, c);
+    steps::note(store, seat, PairNote::Apart(place, p, c));
 }
 
 /// Under the snapshots turn: the pair's number is kept under each live number that overlaps it.
@@ -102,7 +103,7 @@ fn ready_snaps<D: Disk + Drop>(
     ensures ready { OnOk result (Noted seat.new.knows (in_old_commits place (record { number = p; decision = c }))) }
 {
     steps::keep(store, seat, log, snaps, p, c)?;
-    steps::note_in_old_commits(store, seat, log, snaps, place, p, c);
+    steps::note(store, seat, PairNote::InOldCommits(place, p, c));
     Ok(())
 }
 
@@ -170,7 +171,7 @@ fn let_pass<D: Disk + Drop, R: Wait>(
     ensures bound { (bound : ℕ) (words : List ℕ) → Noted seat.old.knows (words_stay bound words)
         → Noted seat.new.knows (words_stay (raised store.now.cells (length log.now.table.history) bound c) words) }
 {
-    let bound = steps::bound(store, seat);
+    let bound = store.max(seat);
     if c <= bound {
         return;
     }
@@ -279,7 +280,7 @@ fn reach<D: Disk + Drop, R: Wait>(
     ensures bound { (bound : ℕ) (words : List ℕ) → Noted seat.old.knows (words_stay bound words)
         → Noted seat.new.knows (words_stay (bound_with store.now.cells (length log.now.table.history) bound words (Delayed p c)) words) }
 {
-    let bound = steps::bound(store, seat);
+    let bound = store.max(seat);
     if p <= bound {
         return;
     }

@@ -5,6 +5,7 @@ ghost use Rattle.wp_core.specs.Views.{words_stay, none_waits};
 ghost use Rattle.wp_rule.specs.Knows.{Noted};
 ghost use Rattle.wp_shared.specs.Notes.{is_flag, GoesOn, DelayedFlagTells, OldFlagTells};
 
+use crate::pair_note::PairNote;
 use crate::steps;
 use std::alloc::AllocError;
 use std::sync::Wait;
@@ -36,7 +37,7 @@ fn pass_all<D: Disk + Drop>(
         steps::keep(store, seat, log, snaps, p, c)?;
         steps::let_go(store, seat, log, tables, snaps, p, c);
     }
-    steps::note_none_waits(store, seat, log, tables);
+    steps::note(store, seat, PairNote::NoneWaits);
     Ok(())
 }
 

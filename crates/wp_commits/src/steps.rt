@@ -1,25 +1,21 @@
 //! The steps of the machine that the calls make, each as what it leaves of the seat.
 ghost use Rattle.std.specs.Prelude.{◌≡◌, ◌≢◌, ◌⊎◌, ◌≤◌, ◌<◌, ℕ, true, false, List, [], ◌∷◌, length, Some, IfSome, OnOk, MatchBool, MatchOption};
-ghost use Rattle.std.specs.FinSet as set;
-ghost use Rattle.std.specs.FinMap as map;
 ghost use Rattle.std.specs.Option.{option_map};
 ghost use Rattle.wp_judge.specs.Words.{numbers_of, fits};
 ghost use Rattle.wp_model.specs.Decision.{decision_of};
-ghost use Rattle.wp_model.specs.PreparedTables.{PreparedTables, commits_with, NoneDelayed};
-ghost use Rattle.wp_model.specs.Snapshots.{Snapshots, ChangesWhere, overlaps, after_keep, NoOldCommits};
+ghost use Rattle.wp_model.specs.PreparedTables.{NoneDelayed};
+ghost use Rattle.wp_model.specs.Snapshots.{overlaps, NoOldCommits};
 ghost use Rattle.wp_core.specs.Cache.{cache_place, pair_at, with_pair};
 ghost use Rattle.wp_core.specs.Entries.{pending_pair};
 ghost use Rattle.wp_core.specs.Lists.{IsIn};
-ghost use Rattle.wp_core.specs.Tables.{Content, writes, prepared, snapshots, without_prepared, with_moved};
+ghost use Rattle.wp_core.specs.Tables.{Content, writes, prepared, snapshots, without_prepared};
 ghost use Rattle.wp_core.specs.Sound.Prepared.{IsInOldCommits};
 ghost use Rattle.wp_core.specs.Sound.Views.{IsApart};
-ghost use Rattle.wp_core.specs.Steps as step;
-ghost use Rattle.wp_core.specs.Views.{passed, in_old_commits, apart, words_stay, has_left, pair_delayed, none_waits, delayed_flag_stays, old_flag_stays};
+ghost use Rattle.wp_core.specs.Views.{passed, apart, words_stay, has_left, pair_delayed, none_waits, delayed_flag_stays, old_flag_stays};
 ghost use Rattle.wp_rule.specs.Knows.{Holding, Noted, KnowsFact, IsRise};
-ghost use Rattle.wp_shared.specs.Seats.{place_at};
 ghost use Rattle.wp_commits.specs.Cleared.{IsThere, IsCleared, IsReadyAt, IsUnentered};
 ghost use Rattle.wp_commits.specs.PairNotes.{fact_of};
-ghost use Rattle.wp_commits.specs.Making.{noting_all, noted_all, noting_none_waits, delaying, keeping};
+ghost use Rattle.wp_commits.specs.Making.{noted_all};
 ghost use Rattle.wp_commits.specs.Passing.{NoneReached, IsReachedCommit};
 ghost use Rattle.wp_commits.specs.Ways.{IsReached};
 ghost use Rattle.wp_shared.specs.Notes.{noting, is_flag, GoesOn, FlagTells, DelayedFlagTells, OldFlagTells};
@@ -32,20 +28,10 @@ use wp_judge::{pack, unpack};
 use wp_model::Seq;
 use wp_outside::Disk;
 use wp_prepared::Prepared;
-use wp_rule::Moves;
 use wp_shared::{Log, Seat, Shared};
 use wp_snaps::Snaps;
 
 // ---- what the words are
-
-/// The evicted bound, which nobody else changes while the seat holds the write turn.
-pub fn bound<D: Disk + Drop>(store: &Shared<D>, seat: &mut Seat<D>) -> Seq
-    requires { seat.old.table ≡ store.now.table }
-    ensures same { seat.new ≡ seat.old }
-    ensures bound { (bound : ℕ) (words : List ℕ) → Noted seat.old.knows (words_stay bound words) → result ≡ bound }
-{
-    store.max(seat)
-}
 
 /// The pair of the word at this place, if it has one. It is published.
 pub fn pair<D: Disk + Drop>(
@@ -69,96 +55,13 @@ pub fn pair<D: Disk + Drop>(
 
 // ---- notes
 
-/// Notes this of a pair, which the seat knows, as the steps that are picked say.
-fn note_by<D: Disk + Drop, J: Moves>(store: &Shared<D>, seat: &mut Seat<D>, what: PairNote)
-    requires seat { (seat.old.table ≡ store.now.table) × (seat.old.knows.live ≡ true) }
-    requires place { J.place ≡ place_at store.now seat.old.by }
-    requires steps { J.steps ≡ (λ w. step.note (fact_of what) ∷ []) }
-    requires known { KnowsFact seat.old.knows (fact_of what) }
-    ensures { seat.new ≡ noting (fact_of what) seat.old }
-{
-    store.make::<J>(seat);
-}
-
 /// Notes this of a pair, which the seat knows.
-fn note<D: Disk + Drop>(store: &Shared<D>, seat: &mut Seat<D>, what: PairNote)
+pub fn note<D: Disk + Drop>(store: &Shared<D>, seat: &mut Seat<D>, what: PairNote)
     requires seat { (seat.old.table ≡ store.now.table) × (seat.old.knows.live ≡ true) }
     requires known { KnowsFact seat.old.knows (fact_of what) }
     ensures { seat.new ≡ noting (fact_of what) seat.old }
 {
-    note_by::<D, Brand>(store, seat, what);
-}
-
-/// Notes that the bound has come to the decision of the pair of the word at this place.
-pub fn note_passed<D: Disk + Drop>(
-    store: &Shared<D>,
-    seat: &mut Seat<D>,
-    log: &Log<D>,
-    place: usize,
-    p: Seq,
-    c: Seq,
-)
-    requires seat { (seat.old.table ≡ store.now.table) × (seat.old.knows.live ≡ true) }
-    requires held { IsIn (writes log.now.table) seat.old.knows.held }
-    requires passed { (k : IsThere seat.old.knows log.now.table.history place p c) × (c ≤ k.bound) }
-    ensures { seat.new ≡ noting (passed place (record { number = p; decision = c })) seat.old }
-{
-    note(store, seat, PairNote::Passed(place, p, c));
-}
-
-/// Notes that no prepared table needs the pair of the word at this place any more.
-pub fn note_apart<D: Disk + Drop>(
-    store: &Shared<D>,
-    seat: &mut Seat<D>,
-    log: &Log<D>,
-    tables: &Prepared,
-    place: usize,
-    p: Seq,
-    c: Seq,
-)
-    requires seat { (seat.old.table ≡ store.now.table) × (seat.old.knows.live ≡ true) }
-    requires held { seat.old.knows.held ≡ prepared tables.now ∷ writes log.now.table ∷ [] }
-    requires there { IsThere seat.old.knows log.now.table.history place p c }
-    requires apart { IsApart tables.now (record { number = p; decision = c }) }
-    ensures { seat.new ≡ noting (apart place (record { number = p; decision = c })) seat.old }
-{
-    note(store, seat, PairNote::Apart(place, p, c));
-}
-
-/// Notes that the old commit map has the pair of the word at this place under each live number that overlaps it.
-pub fn note_in_old_commits<D: Disk + Drop>(
-    store: &Shared<D>,
-    seat: &mut Seat<D>,
-    log: &Log<D>,
-    snaps: &Snaps,
-    place: usize,
-    p: Seq,
-    c: Seq,
-)
-    requires seat { (seat.old.table ≡ store.now.table) × (seat.old.knows.live ≡ true) }
-    requires held { seat.old.knows.held ≡ snapshots snaps.now ∷ writes log.now.table ∷ [] }
-    requires there { IsThere seat.old.knows log.now.table.history place p c }
-    requires kept { IsInOldCommits snaps.now p c }
-    ensures { seat.new ≡ noting (in_old_commits place (record { number = p; decision = c })) seat.old }
-{
-    note(store, seat, PairNote::InOldCommits(place, p, c));
-}
-
-fn note_own_by<D: Disk + Drop, J: Moves>(
-    store: &Shared<D>,
-    seat: &mut Seat<D>,
-    log: &Log<D>,
-    place: usize,
-    n: Seq,
-)
-    requires seat { (seat.old.table ≡ store.now.table) × (seat.old.knows.live ≡ true) }
-    requires place { J.place ≡ place_at store.now seat.old.by }
-    requires steps { J.steps ≡ (λ w. noting_all place (record { number = n; decision = n })) }
-    requires held { IsIn (writes log.now.table) seat.old.knows.held }
-    requires passed { (k : IsThere seat.old.knows log.now.table.history place n n) × (n ≤ k.bound) }
-    ensures { seat.new ≡ noted_all place (record { number = n; decision = n }) seat.old }
-{
-    store.make::<J>(seat);
+    store.make_about::<Brand, PairNote>(seat, &what);
 }
 
 /// Notes that the pair of the word at this place may go, which is that of a version that decided itself: it overlaps no
@@ -175,7 +78,7 @@ pub fn note_own<D: Disk + Drop>(
     requires passed { (k : IsThere seat.old.knows log.now.table.history place n n) × (n ≤ k.bound) }
     ensures { seat.new ≡ noted_all place (record { number = n; decision = n }) seat.old }
 {
-    note_own_by::<D, Brand>(store, seat, log, place, n);
+    store.make_about::<Brand, (usize, Seq)>(seat, &(place, n));
 }
 
 // ---- a word
@@ -207,17 +110,6 @@ pub fn put_word<D: Disk + Drop>(
 
 // ---- under the prepared turn
 
-/// Says by the delayed flag whether nothing is delayed.
-fn put_delayed_flag<D: Disk + Drop>(store: &Shared<D>, seat: &mut Seat<D>, none: bool)
-    requires seat { seat.old.table ≡ store.now.table }
-    requires none { Holding seat.old.knows prepared (λ t. none ≡ true → NoneDelayed t) }
-    ensures seat { GoesOn is_flag seat.old.knows.held seat.old.turns seat.old seat.new }
-    ensures flag { FlagTells seat.new.knows delayed_flag_stays (none ≡ true) }
-    ensures other { (value : ℕ) → Noted seat.old.knows (old_flag_stays value) → Noted seat.new.knows (old_flag_stays value) }
-{
-    store.store_delayed_flag(seat, u64::from(!none));
-}
-
 /// Puts the delayed flag up where something is delayed, and down where nothing is.
 fn fit_delayed_flag<D: Disk + Drop>(
     store: &Shared<D>,
@@ -236,46 +128,7 @@ fn fit_delayed_flag<D: Disk + Drop>(
     if none == was_none {
         return;
     }
-    put_delayed_flag(store, seat, none);
-}
-
-/// Raises the evicted bound, in step with the tables: the numbers of the heap up to it are delayed ones there.
-fn raise_bound<D: Disk + Drop>(
-    store: &Shared<D>,
-    seat: &mut Seat<D>,
-    log: &Log<D>,
-    tables: &Prepared,
-    m: Seq,
-)
-    requires seat { seat.old.table ≡ store.now.table }
-    requires held { (t : PreparedTables) × (seat.old.knows.held ≡ prepared t ∷ writes log.now.table ∷ []) × (tables.now ≡ with_moved t m) }
-    requires rises { IsRise seat.old.knows store.now.cells log.now.table m }
-    requires flag { DelayedFlagTells seat.old.knows tables.now }
-    ensures seat { GoesOn is_of_words (prepared tables.now ∷ writes log.now.table ∷ []) seat.old.turns seat.old seat.new }
-    ensures flag { DelayedFlagTells seat.new.knows tables.now }
-    ensures bound { (bound : ℕ) (words : List ℕ) → Noted seat.old.knows (words_stay bound words) → Noted seat.new.knows (words_stay m words) }
-{
-    store.store_max(seat, m);
-}
-
-/// Makes the pair a delayed commit, in step with the tables, where its number is prepared.
-fn add_delayed_commit<D: Disk + Drop, J: Moves>(
-    store: &Shared<D>,
-    seat: &mut Seat<D>,
-    log: &Log<D>,
-    tables: &Prepared,
-    p: Seq,
-    c: Seq,
-)
-    requires seat { seat.old.table ≡ store.now.table }
-    requires place { J.place ≡ place_at store.now seat.old.by }
-    requires steps { J.steps ≡ delaying (record { number = p; decision = c }) }
-    requires held { (t : PreparedTables) × (seat.old.knows.held ≡ prepared t ∷ writes log.now.table ∷ []) × (tables.now ≡ record t { delayed_commits = commits_with t p c }) }
-    requires decided { decision_of log.now.table.history p ≡ Some c }
-    requires flag { DelayedFlagTells seat.old.knows tables.now }
-    ensures { seat.new ≡ record seat.old { knows = record seat.old.knows { held = prepared tables.now ∷ writes log.now.table ∷ [] } } }
-{
-    store.make::<J>(seat);
+    store.store_delayed_flag(seat, u64::from(!none));
 }
 
 /// Raises the evicted bound to this number. Those of the heap that it reaches become delayed ones, with the flag up.
@@ -297,18 +150,7 @@ pub fn raise<D: Disk + Drop>(
     let none = tables.none_delayed();
     tables.advance(m);
     fit_delayed_flag(store, seat, tables, none);
-    raise_bound(store, seat, log, tables, m);
-}
-
-/// Tells where a number is that the bound has come to: the heap has it no more.
-fn shows_reached<D: Disk + Drop>(store: &Shared<D>, seat: &mut Seat<D>, tables: &Prepared, p: Seq)
-    requires seat { seat.old.table ≡ store.now.table }
-    requires held { IsIn (prepared tables.now) seat.old.knows.held }
-    requires reached { IsReached seat.old.knows p }
-    ensures same { seat.new ≡ seat.old }
-    ensures left { set.contains tables.now.heap p ≡ false }
-{
-    store.shows_world(seat);
+    store.store_max(seat, m);
 }
 
 /// Makes the pair, to whose decision the bound has come, a delayed commit where its number is prepared, with the flag up. It takes no
@@ -330,53 +172,11 @@ pub fn delay<D: Disk + Drop>(
     ensures flag { DelayedFlagTells seat.new.knows tables.new }
     ensures apart { IsApart tables.new (record { number = p; decision = c }) }
 {
-    shows_reached(store, seat, tables, p);
+    store.shows_world(seat);
     let none = tables.none_delayed();
     tables.note_evicted(p, c);
     fit_delayed_flag(store, seat, tables, none);
-    add_delayed_commit::<D, Brand>(store, seat, log, tables, p, c);
-}
-
-/// Makes the pending entry's pair a delayed commit, in step with the tables.
-fn delay_pending_by<D: Disk + Drop, J: Moves>(
-    store: &Shared<D>,
-    seat: &mut Seat<D>,
-    log: &Log<D>,
-    tables: &Prepared,
-    p: Seq,
-    c: Seq,
-)
-    requires seat { seat.old.table ≡ store.now.table }
-    requires place { J.place ≡ place_at store.now seat.old.by }
-    requires steps { J.steps ≡ (λ w. step.delay_pending (record { number = p; decision = c }) ∷ []) }
-    requires held { (t : PreparedTables) × (seat.old.knows.held ≡ prepared t ∷ writes log.now.table ∷ []) × (tables.now ≡ record t { delayed_commits = map.insert t.delayed_commits p c }) }
-    requires pending { pending_pair log.now.table.history log.now.table.pending ≡ Some (record { number = p; decision = c }) }
-    requires flag { DelayedFlagTells seat.old.knows tables.now }
-    ensures seat { GoesOn is_of_delayed (prepared tables.now ∷ writes log.now.table ∷ []) seat.old.turns seat.old seat.new }
-    ensures flag { DelayedFlagTells seat.new.knows tables.now }
-{
-    store.make::<J>(seat);
-}
-
-/// Tells that a number of the pending entry's pair, to which the bound has come, is delayed.
-fn shows_delayed<D: Disk + Drop>(
-    store: &Shared<D>,
-    seat: &mut Seat<D>,
-    log: &Log<D>,
-    tables: &Prepared,
-    p: Seq,
-    c: Seq,
-)
-    requires seat { seat.old.table ≡ store.now.table }
-    requires held { seat.old.knows.held ≡ prepared tables.now ∷ writes log.now.table ∷ [] }
-    requires pending { pending_pair log.now.table.history log.now.table.pending ≡ Some (record { number = p; decision = c }) }
-    requires wide { fits store.now.cells (record { number = p; decision = c }) ≡ false }
-    requires reached { IsReached seat.old.knows p }
-    ensures same { seat.new ≡ seat.old }
-    ensures delayed { set.contains tables.now.delayed p ≡ true }
-    ensures low { (bound : ℕ) (words : List ℕ) → Noted seat.old.knows (words_stay bound words) → p ≤ bound }
-{
-    store.shows_world(seat);
+    store.make_about::<Brand, (Seq, Seq)>(seat, &(p, c));
 }
 
 /// Makes the pending entry's pair a delayed commit, with the flag up, and notes it. The bound has come to its number. It takes no memory.
@@ -399,28 +199,12 @@ pub fn delay_pending<D: Disk + Drop>(
     ensures there { Noted seat.new.knows pair_delayed }
     ensures low { (bound : ℕ) (words : List ℕ) → Noted seat.old.knows (words_stay bound words) → p ≤ bound }
 {
-    shows_delayed(store, seat, log, tables, p, c);
+    store.shows_world(seat);
     let none = tables.none_delayed();
     tables.add_commit(p, c);
     fit_delayed_flag(store, seat, tables, none);
-    delay_pending_by::<D, Brand>(store, seat, log, tables, p, c);
+    store.make_about::<Brand, (Seq, Seq)>(seat, &(p, c));
     note(store, seat, PairNote::PairDelayed);
-}
-
-fn forget_prepared_by<D: Disk + Drop, J: Moves>(
-    store: &Shared<D>,
-    seat: &mut Seat<D>,
-    tables: &Prepared,
-    p: Seq,
-)
-    requires seat { (seat.old.table ≡ store.now.table) × (seat.old.knows.live ≡ true) }
-    requires place { J.place ≡ place_at store.now seat.old.by }
-    requires steps { J.steps ≡ (λ w. step.take_out p ∷ step.note (has_left p) ∷ []) }
-    requires held { (t : PreparedTables) × (seat.old.knows.held ≡ prepared t ∷ []) × (tables.now ≡ without_prepared t p) }
-    requires decided { (c : ℕ) × (decision_of seat.old.knows.participant.seen p ≡ Some c) × (fits store.now.cells (record { number = p; decision = c }) ≡ true) }
-    ensures { seat.new ≡ noting (has_left p) (record seat.old { knows = record seat.old.knows { held = prepared tables.now ∷ [] } }) }
-{
-    store.make::<J>(seat);
 }
 
 /// Takes the number, which is decided, out of all prepared tables, the delayed commits too, and puts the flag down where nothing
@@ -442,22 +226,11 @@ pub fn forget_prepared<D: Disk + Drop>(
 {
     let none = tables.none_delayed();
     tables.remove(p);
-    forget_prepared_by::<D, Brand>(store, seat, tables, p);
+    store.make_about::<Brand, Seq>(seat, &p);
     fit_delayed_flag(store, seat, tables, none);
 }
 
 // ---- delayed commits that the bound has passed
-
-fn look<D: Disk + Drop, J: Moves>(store: &Shared<D>, seat: &mut Seat<D>, log: &Log<D>) -> u64
-    requires seat { (seat.old.table ≡ store.now.table) × (seat.old.knows.live ≡ true) }
-    requires place { J.place ≡ place_at store.now seat.old.by }
-    requires steps { J.steps ≡ noting_none_waits }
-    requires held { IsIn (writes log.now.table) seat.old.knows.held }
-    ensures none { result ≡ 0 → seat.new ≡ noting none_waits seat.old }
-    ensures some { result ≢ 0 → seat.new ≡ seat.old }
-{
-    store.load_delayed_flag::<J>(seat)
-}
 
 /// Whether nothing is delayed, by the delayed flag alone. Where nothing is, no prepared number waits to be taken out, which is noted.
 pub fn none_delayed<D: Disk + Drop>(store: &Shared<D>, seat: &mut Seat<D>, log: &Log<D>) -> bool
@@ -465,23 +238,7 @@ pub fn none_delayed<D: Disk + Drop>(store: &Shared<D>, seat: &mut Seat<D>, log: 
     requires held { IsIn (writes log.now.table) seat.old.knows.held }
     ensures { MatchBool result (seat.new ≡ noting none_waits seat.old) (seat.new ≡ seat.old) }
 {
-    look::<D, Brand>(store, seat, log) == 0
-}
-
-/// Tells of delayed commits up to the bound that they are decided so.
-fn bound_with_commits<D: Disk + Drop>(
-    store: &Shared<D>,
-    seat: &mut Seat<D>,
-    log: &Log<D>,
-    tables: &Prepared,
-) -> Seq
-    requires seat { seat.old.table ≡ store.now.table }
-    requires held { IsIn (writes log.now.table) seat.old.knows.held × IsIn (prepared tables.now) seat.old.knows.held }
-    ensures same { seat.new ≡ seat.old }
-    ensures bound { (bound : ℕ) (words : List ℕ) → Noted seat.old.knows (words_stay bound words) → result ≡ bound }
-    ensures decided { (q d : ℕ) → map.get tables.now.delayed_commits q ≡ Some d → d ≤ result → (decision_of log.now.table.history q ≡ Some d) × (q ≤ d) }
-{
-    store.max(seat)
+    store.load_delayed_flag::<Brand>(seat) == 0
 }
 
 /// Of the delayed commits to which the bound has come the one of the least number.
@@ -497,45 +254,8 @@ pub fn passed<D: Disk + Drop>(
     ensures same { seat.new ≡ seat.old }
     ensures passed { MatchOption result (NoneReached seat.old.knows tables.now.delayed_commits) (IsReachedCommit seat.old.knows log.now.table.history tables.now.delayed_commits) }
 {
-    let bound = bound_with_commits(store, seat, log, tables);
+    let bound = store.max(seat);
     tables.passed(bound)
-}
-
-/// Notes that no prepared number waits to be taken out: the bound has come to no delayed commit.
-pub fn note_none_waits<D: Disk + Drop>(
-    store: &Shared<D>,
-    seat: &mut Seat<D>,
-    log: &Log<D>,
-    tables: &Prepared,
-)
-    requires seat { (seat.old.table ≡ store.now.table) × (seat.old.knows.live ≡ true) }
-    requires held { IsIn (writes log.now.table) seat.old.knows.held × IsIn (prepared tables.now) seat.old.knows.held }
-    requires none { NoneReached seat.old.knows tables.now.delayed_commits }
-    ensures { seat.new ≡ noting none_waits seat.old }
-{
-    note(store, seat, PairNote::NoneWaits);
-}
-
-/// Takes the number out, in step with the tables.
-fn let_go_by<D: Disk + Drop, J: Moves>(
-    store: &Shared<D>,
-    seat: &mut Seat<D>,
-    log: &Log<D>,
-    tables: &Prepared,
-    snaps: &Snaps,
-    p: Seq,
-    c: Seq,
-)
-    requires seat { seat.old.table ≡ store.now.table }
-    requires place { J.place ≡ place_at store.now seat.old.by }
-    requires steps { J.steps ≡ (λ w. step.take_out p ∷ []) }
-    requires held { (t : PreparedTables) × (seat.old.knows.held ≡ snapshots snaps.now ∷ prepared t ∷ writes log.now.table ∷ []) × (tables.now ≡ without_prepared t p) }
-    requires decided { decision_of log.now.table.history p ≡ Some c }
-    requires reached { IsReached seat.old.knows c }
-    requires kept { IsInOldCommits snaps.now p c }
-    ensures { seat.new ≡ record seat.old { knows = record seat.old.knows { held = snapshots snaps.now ∷ prepared tables.now ∷ writes log.now.table ∷ [] } } }
-{
-    store.make::<J>(seat);
 }
 
 /// Takes the number, to whose decision the bound has come and which is kept for the snapshots, out of all prepared tables, and puts the
@@ -562,22 +282,11 @@ pub fn let_go<D: Disk + Drop>(
 {
     let none = tables.none_delayed();
     tables.remove(p);
-    let_go_by::<D, Brand>(store, seat, log, tables, snaps, p, c);
+    store.make_about::<Brand, Seq>(seat, &p);
     fit_delayed_flag(store, seat, tables, none);
 }
 
 // ---- under the snapshots turn
-
-/// Says by the old-map flag whether the old commit map is empty.
-fn put_old_flag<D: Disk + Drop>(store: &Shared<D>, seat: &mut Seat<D>, none: bool)
-    requires seat { seat.old.table ≡ store.now.table }
-    requires none { Holding seat.old.knows snapshots (λ m. none ≡ true → NoOldCommits m) }
-    ensures seat { GoesOn is_flag seat.old.knows.held seat.old.turns seat.old seat.new }
-    ensures flag { FlagTells seat.new.knows old_flag_stays (none ≡ true) }
-    ensures other { (value : ℕ) → Noted seat.old.knows (delayed_flag_stays value) → Noted seat.new.knows (delayed_flag_stays value) }
-{
-    store.store_old_flag(seat, u64::from(!none));
-}
 
 /// Puts the old-map flag up where the old commit map has something.
 fn fit_old_flag<D: Disk + Drop>(
@@ -597,28 +306,7 @@ fn fit_old_flag<D: Disk + Drop>(
     if none == was_none {
         return;
     }
-    put_old_flag(store, seat, none);
-}
-
-/// Keeps the pair under each live number that overlaps it, in step with the table.
-fn keep_old_commit<D: Disk + Drop, J: Moves>(
-    store: &Shared<D>,
-    seat: &mut Seat<D>,
-    log: &Log<D>,
-    snaps: &Snaps,
-    p: Seq,
-    c: Seq,
-)
-    requires seat { seat.old.table ≡ store.now.table }
-    requires place { J.place ≡ place_at store.now seat.old.by }
-    requires steps { J.steps ≡ keeping p c }
-    requires held { (m : Snapshots) × (others : List Content) × (seat.old.knows.held ≡ snapshots m ∷ others) × IsIn (writes log.now.table) others × ChangesWhere (overlaps p c) (after_keep p) m snaps.now }
-    requires ordered { p ≤ c }
-    requires decided { decision_of log.now.table.history p ≡ Some c }
-    requires flag { OldFlagTells seat.old.knows snaps.now }
-    ensures { (m : Snapshots) (others : List Content) → seat.old.knows.held ≡ snapshots m ∷ others → seat.new ≡ record seat.old { knows = record seat.old.knows { held = snapshots snaps.now ∷ others } } }
-{
-    store.make::<J>(seat);
+    store.store_old_flag(seat, u64::from(!none));
 }
 
 /// Keeps the pair under each live number that overlaps it, with the flag up where there is one.
@@ -643,6 +331,6 @@ pub fn keep<D: Disk + Drop>(
     let none = snaps.none_kept();
     snaps.keep_evicted(p, c)?;
     fit_old_flag(store, seat, snaps, none);
-    keep_old_commit::<D, Brand>(store, seat, log, snaps, p, c);
+    store.make_about::<Brand, (Seq, Seq)>(seat, &(p, c));
     Ok(())
 }

@@ -1,4 +1,7 @@
-use Rattle.std.proofs.Common.{ℕ, List, [], ◌∷◌, refl, sym, ap, subst, ◌∙◌}
+use Rattle.std.proofs.Common.{◌≡◌, ℕ, true, List, [], ◌∷◌, refl, sym, ap, subst, ◌∙◌, Some}
+use Rattle.wp_judge.specs.Words.{fits}
+use Rattle.wp_model.specs.declared.entry.Entry.{Entry}
+use Rattle.wp_model.specs.Decision.{decision_of}
 use Rattle.wp_core.specs.Tables.{prepared}
 use Rattle.wp_core.specs.Turns.{prepared_turn}
 use Rattle.wp_core.specs.Views.{has_left}
@@ -10,11 +13,16 @@ use Rattle.wp_commits.proofs.TakenOut.{continues_by}
 use Rattle.wp_commits.proofs.Through.{held_taken, holds_still, goes_through}
 use Rattle.wp_commits.proofs.cleanup.forget_prepared.Goals as goal
 
-pub forget_prepared-requires-clause-held : goal.forget_prepared-requires-clause-held
-forget_prepared-requires-clause-held g c = let t = c.take_turn-tables in held_taken c.args.store.now c.args.seat.now t.new.seat c.args.seat.now (prepared t.result.value) (prepared t.result.value) [] c.requires.free.held t.ensures.taken ∙ ap (λ x. prepared x ∷ []) (sym c.deref_mut.ensures.value)
+pub take_turn-tables-requires : goal.take_turn-tables-requires
+take_turn-tables-requires g c = (c.requires.free.same_table, c.requires.free.live)
 
-pub forget_prepared-requires-clause-flag : goal.forget_prepared-requires-clause-flag
-forget_prepared-requires-clause-flag g c = let t = c.take_turn-tables in subst (DelayedFlagTells t.new.seat.knows) (sym c.deref_mut.ensures.value) t.ensures.taken.knows
+pub forget_prepared-requires : goal.forget_prepared-requires
+forget_prepared-requires g c = let z = c.args.store.now in let s = c.args.seat.now in let t = c.take_turn-tables in let taken = t.ensures.taken in record {
+  seat = (taken.holds.same_table, taken.holds.live);
+  held = held_taken z s t.new.seat s (prepared t.result.value) (prepared t.result.value) [] c.requires.free.held taken ∙ ap (λ x. prepared x ∷ []) (sym c.deref_mut.ensures.value);
+  decided = subst (λ (h : List Entry). (d : ℕ) × (decision_of h c.args.p ≡ Some d) × (fits z.cells (record { number = c.args.p; decision = d }) ≡ true)) (sym (ap (λ (x : SeatState). x.knows.participant.seen) taken.seat)) c.requires.decided;
+  flag = subst (DelayedFlagTells t.new.seat.knows) (sym c.deref_mut.ensures.value) taken.knows;
+}
 
 pub give_turn-requires-clause-holds : goal.give_turn-requires-clause-holds
 give_turn-requires-clause-holds g c = let s = c.args.seat.now in let t = c.take_turn-tables in let u = c.forget_prepared in

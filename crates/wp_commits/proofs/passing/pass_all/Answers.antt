@@ -11,7 +11,7 @@ use Rattle.wp_shared.proofs.Goes.{stays, then_still}
 use Rattle.wp_commits.specs.Passing.{NoneReached}
 use Rattle.wp_commits.proofs.Clears.{then_noted, just_noted}
 use Rattle.wp_commits.proofs.Flags.{tells_still}
-use Rattle.wp_commits.proofs.Passed.{fewer}
+use Rattle.wp_commits.proofs.Passed.{fewer, knows_none_waits}
 use Rattle.wp_commits.proofs.passing.pass_all.Goals as goal
 
 pub loop-p-init : goal.loop-p-init
@@ -88,27 +88,26 @@ loop-p-preserved g c = let s = c.args.seat.now in let d = c.args.log.now.table i
 pub loop-p-smaller : goal.loop-p-smaller
 loop-p-smaller g c = fewer c.loop-p.tables c.let_go.new.tables c.in-Some.p c.in-Some.c c.in-Some.ensures.passed.there c.let_go.ensures.left
 
-pub note_none_waits-requires-clause-seat : goal.note_none_waits-requires-clause-seat
-note_none_waits-requires-clause-seat g c = let s = c.args.seat.now in let d = c.args.log.now.table in let l = c.loop-p in let t = l.seat in let k = l.invariant in let r = c.passed.new.seat in let same = c.passed.ensures.same in let one = ap (λ (x : SeatState). x.table) (same ∙ k.goes.same) ∙ c.requires.seat.0 in let two = ap (λ (x : SeatState). x.knows.live) (same ∙ k.goes.same) ∙ c.requires.seat.1 in (one, two)
+pub note-requires-clause-seat : goal.note-requires-clause-seat
+note-requires-clause-seat g c = let s = c.args.seat.now in let d = c.args.log.now.table in let l = c.loop-p in let t = l.seat in let k = l.invariant in let r = c.passed.new.seat in let same = c.passed.ensures.same in let one = ap (λ (x : SeatState). x.table) (same ∙ k.goes.same) ∙ c.requires.seat.0 in let two = ap (λ (x : SeatState). x.knows.live) (same ∙ k.goes.same) ∙ c.requires.seat.1 in (one, two)
 
-pub note_none_waits-requires-clause-held : goal.note_none_waits-requires-clause-held
-note_none_waits-requires-clause-held g c = let s = c.args.seat.now in let d = c.args.log.now.table in let l = c.loop-p in let t = l.seat in let k = l.invariant in let r = c.passed.new.seat in let same = c.passed.ensures.same in let held : r.knows.held ≡ snapshots l.snaps ∷ prepared l.tables ∷ writes d ∷ [] = ap (λ (x : SeatState). x.knows.held) (same ∙ k.goes.same) in (subst (IsIn (writes d)) (sym held) (inr (inr (inl refl))), subst (IsIn (prepared l.tables)) (sym held) (inr (inl refl)))
-
-pub note_none_waits-requires-clause-none : goal.note_none_waits-requires-clause-none
-note_none_waits-requires-clause-none g c = subst (λ (x : SeatState). NoneReached x.knows c.loop-p.tables.delayed_commits) (sym c.passed.ensures.same) c.in_default.ensures.passed
+pub note-requires-clause-known : goal.note-requires-clause-known
+note-requires-clause-known g c = let d = c.args.log.now.table in let l = c.loop-p in let r = c.passed.new.seat in let same = c.passed.ensures.same in let held : r.knows.held ≡ snapshots l.snaps ∷ prepared l.tables ∷ writes d ∷ [] = ap (λ (x : SeatState). x.knows.held) (same ∙ l.invariant.goes.same) in
+    knows_none_waits r.knows d l.tables (subst (IsIn (writes d)) (sym held) (inr (inr (inl refl)))) (subst (IsIn (prepared l.tables)) (sym held) (inr (inl refl)))
+    (subst (λ (x : SeatState). NoneReached x.knows l.tables.delayed_commits) (sym same) c.in_default.ensures.passed)
 
 pub returns-clause-seat : goal.returns-clause-seat
-returns-clause-seat g c = let s = c.args.seat.now in let d = c.args.log.now.table in let l = c.loop-p in let t = l.seat in let k = l.invariant in let r = c.passed.new.seat in let same = c.passed.ensures.same in let v = c.note_none_waits.new.seat in
+returns-clause-seat g c = let s = c.args.seat.now in let d = c.args.log.now.table in let l = c.loop-p in let t = l.seat in let k = l.invariant in let r = c.passed.new.seat in let same = c.passed.ensures.same in let v = c.note.new.seat in
     let goes = subst (λ (x : SeatState). GoesOn is_flag (snapshots l.snaps ∷ prepared l.tables ∷ writes d ∷ []) s.turns s x) (sym same) k.goes in
-    then_noted s r v v is_flag none_waits _ _ goes c.note_none_waits.ensures
+    then_noted s r v v is_flag none_waits _ _ goes c.note.ensures
 
 pub returns-clause-delayed_flag : goal.returns-clause-delayed_flag
 returns-clause-delayed_flag g c = let s = c.args.seat.now in let d = c.args.log.now.table in let l = c.loop-p in let t = l.seat in let k = l.invariant in let r = c.passed.new.seat in let same = c.passed.ensures.same in
-    tells_still t.knows c.note_none_waits.new.seat.knows delayed_flag_stays (NoneDelayed l.tables) (λ value there. subst (λ (x : SeatState). Noted x.knows (delayed_flag_stays value)) (sym c.note_none_waits.ensures) (inr (subst (λ (x : SeatState). Noted x.knows (delayed_flag_stays value)) (sym same) there))) k.delayed_flag
+    tells_still t.knows c.note.new.seat.knows delayed_flag_stays (NoneDelayed l.tables) (λ value there. subst (λ (x : SeatState). Noted x.knows (delayed_flag_stays value)) (sym c.note.ensures) (inr (subst (λ (x : SeatState). Noted x.knows (delayed_flag_stays value)) (sym same) there))) k.delayed_flag
 
 pub returns-clause-old_flag : goal.returns-clause-old_flag
 returns-clause-old_flag g c = let s = c.args.seat.now in let d = c.args.log.now.table in let l = c.loop-p in let t = l.seat in let k = l.invariant in let r = c.passed.new.seat in let same = c.passed.ensures.same in
-    tells_still t.knows c.note_none_waits.new.seat.knows old_flag_stays (NoOldCommits l.snaps) (λ value there. subst (λ (x : SeatState). Noted x.knows (old_flag_stays value)) (sym c.note_none_waits.ensures) (inr (subst (λ (x : SeatState). Noted x.knows (old_flag_stays value)) (sym same) there))) k.old_flag
+    tells_still t.knows c.note.new.seat.knows old_flag_stays (NoOldCommits l.snaps) (λ value there. subst (λ (x : SeatState). Noted x.knows (old_flag_stays value)) (sym c.note.ensures) (inr (subst (λ (x : SeatState). Noted x.knows (old_flag_stays value)) (sym same) there))) k.old_flag
 
 pub returns-clause-waits : goal.returns-clause-waits
-returns-clause-waits g c = just_noted c.passed.new.seat c.note_none_waits.new.seat none_waits c.note_none_waits.ensures
+returns-clause-waits g c = just_noted c.passed.new.seat c.note.new.seat none_waits c.note.ensures

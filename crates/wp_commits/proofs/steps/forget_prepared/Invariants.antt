@@ -4,5 +4,5 @@ use Rattle.wp_core.specs.Views.{has_left}
 use Rattle.wp_shared.specs.Seats.{place_at}
 use Rattle.wp_commits.proofs.steps.forget_prepared.Given as goal
 
-abbrev pub ghosts-forget_prepared_by : goal.ghosts-forget_prepared_by
-ghosts-forget_prepared_by g a = record { place = place_at a.store.now a.seat.now.by; steps = λ w. take_out a.p ∷ note (has_left a.p) ∷ [] }
+abbrev pub ghosts-make_about : goal.ghosts-make_about
+ghosts-make_about g a = record { place = place_at a.self.now a.seat.now.by; steps = λ w. take_out a.about.now ∷ note (has_left a.about.now) ∷ [] }

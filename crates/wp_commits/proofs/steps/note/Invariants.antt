@@ -4,5 +4,5 @@ use Rattle.wp_shared.specs.Seats.{place_at}
 use Rattle.wp_commits.specs.PairNotes.{fact_of}
 use Rattle.wp_commits.proofs.steps.note.Given as goal
 
-abbrev pub ghosts-note_by : goal.ghosts-note_by
-ghosts-note_by g a = record { place = place_at a.store.now a.seat.now.by; steps = λ w. note (fact_of a.what) ∷ [] }
+abbrev pub ghosts-make_about : goal.ghosts-make_about
+ghosts-make_about g a = record { place = place_at a.self.now a.seat.now.by; steps = λ w. note (fact_of a.about.now) ∷ [] }
