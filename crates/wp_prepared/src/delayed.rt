@@ -12,7 +12,7 @@ use std::marker::Model;
 use wp_model::Seq;
 
 /// A delayed number, and the number that decides it where that is a delayed commit.
-#[derive(Clone, Copy, PartialEq, Eq)]
+#[derive(Clone, Copy)]
 pub struct Delayed {
     number: Seq,
     commit: Option<Seq>,
