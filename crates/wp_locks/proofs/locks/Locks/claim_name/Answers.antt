@@ -11,10 +11,10 @@ returns-in_err-insert c =
     let p = err_from_is_err_and c.from_residual.result c.from_residual.ensures.1 in
     let none = get_none _ c.args.name _ c.contains_key.ensures c.if-contains_key.false in
     let names = ap map_of c.in_err-insert.ensures.err in
-    rw (p.1, p.2, ← c.self.view_is) (none, cc)
+    rw (p.1, p.2, ← c.self.view_is) (none, λ i. record { names = names i; keys = map_of c.self.inside.keys.entries; labels = map_of c.self.inside.labels.entries })
 
 pub returns : goal.returns
 returns c =
     let none = get_none _ c.args.name _ c.contains_key.ensures c.if-contains_key.false in
     let names = map_of_inserted _ _ c.args.name _ c.in_ok-insert.ensures.updates.0 in
-    rw (← c.self.view_is) (none, cc)
+    rw (← c.self.view_is) (none, λ i. record { names = names i; keys = map_of c.self.inside.keys.entries; labels = map_of c.self.inside.labels.entries })

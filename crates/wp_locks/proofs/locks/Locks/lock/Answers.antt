@@ -1,6 +1,6 @@
 use Rattle.std.proofs.Common.{refl, sym, ap, ◌∙◌}
 use Rattle.wp_locks.specs.Locks.{is_free_for}
-use Rattle.wp_locks.proofs.Maps.{map_of_inserted, get_found}
+use Rattle.wp_locks.proofs.Maps.{map_of, map_of_inserted, get_found}
 use Rattle.wp_locks.proofs.Tables.{locked_again, with_keys}
 use Rattle.wp_locks.proofs.locks.Locks.lock.Goals as goal
 
@@ -20,4 +20,4 @@ returns c =
     let found = get_found _ c.args.key.now _ c.in_default.ensures.value in
     let updated = rw c.in_ok-copy-2.ensures at c.in_ok-insert.ensures.updates in
     let keys = map_of_inserted _ _ c.args.key.now c.args.holder updated.0 in
-    rw (← c.self.view_is) (ap (λ o. is_free_for o c.args.holder) found, cc)
+    rw (← c.self.view_is) (ap (λ o. is_free_for o c.args.holder) found, λ i. record { names = map_of c.self.inside.names.entries; keys = keys i; labels = map_of c.self.inside.labels.entries })
