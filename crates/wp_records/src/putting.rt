@@ -110,7 +110,8 @@ fn publish_next<D: Disk + Drop, R: Wait>(
 {
     let n = log.published() + 1;
     enter(store, rt, seat, log);
-    steps::publish(store, seat, log, n);
+    log.publish();
+    store.store_published(seat, n);
 }
 
 /// Puts the pending entries, which are logged, into the history, one after another.

@@ -1,5 +1,6 @@
-//! The stages of a record before its log call, and how it is taken back from each.
-ghost use Rattle.std.specs.Prelude.{◌≡◌, ◌+◌, ◌≤◌, suc, true, false, [], ◌∷◌, ◌++◌, length, Some, OnOk, OnErr, MatchOption};
+//! The stages of a record before its log call, and how it is taken back from each. Which steps of the machine a stage makes at its
+//! load of the published number is picked in its proof.
+ghost use Rattle.std.specs.Prelude.{◌≡◌, ◌+◌, ◌≤◌, true, false, [], ◌∷◌, ◌++◌, length, Some, OnOk, OnErr, MatchOption};
 ghost use Rattle.wp_model.specs.declared.entry.Entry.{Entry};
 ghost use Rattle.wp_model.specs.History.{is_prepare};
 ghost use Rattle.wp_model.specs.Legal.{IsLegal, changes_in};
@@ -18,6 +19,7 @@ ghost use Rattle.wp_records.specs.Writing.{HoldsWrite};
 use crate::record::Record;
 use crate::steps;
 use std::alloc::AllocError;
+use std::marker::Brand;
 use std::sync::Wait;
 use wp_model::{Batch, Entry};
 use wp_outside::Disk;
@@ -44,7 +46,8 @@ pub(crate) fn make_pending<D: Disk + Drop>(
     let Ok(()) = log.reserve(entries.into_entries()) else {
         return Err(AllocError);
     };
-    steps::begin(store, seat, log);
+    log.shows_told();
+    store.make_about::<Brand, Log<D>>(seat, log);
     Ok(())
 }
 
@@ -60,7 +63,7 @@ fn drop_pending<D: Disk + Drop>(store: &Shared<D>, seat: &mut Seat<D>, log: &mut
     ensures log { log.new ≡ record log.old { table = record log.old.table { pending = [] } } }
 {
     log.drop_pending();
-    steps::drop_pending(store, seat, log);
+    store.make::<Brand>(seat);
 }
 
 // ---- versions
@@ -91,7 +94,7 @@ fn insert_versions<D: Disk + Drop>(
     ensures ok { OnOk result (Noted seat.new.knows versions_in_memory) }
 {
     stock.insert(log.published() + 1, batch)?;
-    steps::add_versions(store, seat, log, stock);
+    store.make_about::<Brand, Stock>(seat, stock);
     Ok(())
 }
 
@@ -133,7 +136,7 @@ fn remove_versions<D: Disk + Drop>(
 {
     store.shows_world(seat);
     stock.remove_from(log.published() + 1);
-    steps::take_versions(store, seat, log, stock);
+    store.make_about::<Brand, Stock>(seat, stock);
 }
 
 /// Takes the versions of the first pending entry out of memory, if they are there.
@@ -185,7 +188,7 @@ fn insert_number<D: Disk + Drop>(
 {
     store.shows_world(seat);
     tables.add(log.published() + 1)?;
-    steps::add_number(store, seat, log, tables);
+    store.make::<Brand>(seat);
     Ok(())
 }
 
@@ -229,7 +232,7 @@ fn remove_number<D: Disk + Drop>(
 {
     store.shows_world(seat);
     tables.remove(log.published() + 1);
-    steps::take_number(store, seat, log, tables);
+    store.make::<Brand>(seat);
 }
 
 /// Takes the number of the first pending entry out of the heap, if it is a Prepare.

@@ -1,7 +1,9 @@
 use Rattle.std.proofs.Common.{◌≡◌, suc, ◌+◌, length, sym, subst, arith}
 use Rattle.std.specs.FinSet as set
 use Rattle.wp_prepared.specs.Least.{AreBelow}
+use Rattle.wp_shared.specs.Seats.{place_at}
 use Rattle.wp_records.proofs.Heap.{heap_below, added_to, not_added, went_on, flag_after}
+use Rattle.wp_records.proofs.Made.{may_put_number, number_put}
 use Rattle.wp_records.proofs.stages.insert_number.Goals as goal
 
 pub add-requires : goal.add-requires
@@ -13,14 +15,22 @@ add-requires g c =
 pub returns-in_err-add-clause-seat : goal.returns-in_err-add-clause-seat
 returns-in_err-add-clause-seat g c = not_added c.args.seat.now c.shows_world.new.seat c.args.log.now.table c.args.tables.now c.add.new.self c.shows_world.ensures.same c.requires.held c.in_err-add.ensures.err
 
-pub add_number-requires-clause-held : goal.add_number-requires-clause-held
-add_number-requires-clause-held g c =
-    let v = c.published.ensures.value in let number : c.published.result + 1 ≡ suc (length c.args.log.now.table.history) = omega (arith, v) in
-    added_to c.args.seat.now c.shows_world.new.seat c.args.log.now.table c.args.tables.now c.add.new.self c.shows_world.ensures.same c.requires.held (c.published.result + 1) number c.in_ok-add.ensures.ok
+pub make-requires-clause-may : goal.make-requires-clause-may
+make-requires-clause-may g c = let s = c.args.seat.now in let r = c.shows_world.new.seat in let d = c.args.log.now.table in
+    let v = c.published.ensures.value in let number : c.published.result + 1 ≡ suc (length d.history) = omega (arith, v) in
+    let h = added_to s r d c.args.tables.now c.add.new.self c.shows_world.ensures.same c.requires.held (c.published.result + 1) number c.in_ok-add.ensures.ok in
+    may_put_number (place_at c.args.store.now r.by) r.knows d h.0 h.1 c.requires.prepare
 
-pub returns-clause-seat : goal.returns-clause-seat
-returns-clause-seat g c = went_on c.args.seat.now c.shows_world.new.seat c.args.log.now.table c.args.tables.now c.add.new.self c.shows_world.ensures.same c.requires.held c.add_number.new.seat c.add_number.ensures.seat
+pub make-requires-clause-client : goal.make-requires-clause-client
+make-requires-clause-client g c w = (tt, (tt, tt))
 
-pub returns-clause-flag : goal.returns-clause-flag
-returns-clause-flag g c =
-    flag_after c.args.seat.now c.shows_world.new.seat c.args.log.now.table c.args.tables.now c.add.new.self c.shows_world.ensures.same c.requires.held c.add_number.new.seat (set.insert c.args.tables.now.heap (c.published.result + 1)) c.in_ok-add.ensures.ok c.add_number.ensures.seat c.requires.flag
+pub returns : goal.returns
+returns g c = let s = c.args.seat.now in let r = c.shows_world.new.seat in let same = c.shows_world.ensures.same in let d = c.args.log.now.table in let old = c.args.tables.now in let new = c.add.new.self in let ok = c.in_ok-add.ensures.ok in let u = c.make.new.seat in
+    let v = c.published.ensures.value in let number : c.published.result + 1 ≡ suc (length d.history) = omega (arith, v) in
+    let h = added_to s r d old new same c.requires.held (c.published.result + 1) number ok in
+    let k = number_put (place_at c.args.store.now r.by) _ r u c.make.ensures.same d h.0 new h.1 h.2 c.make.ensures.moved in
+    record {
+      seat = went_on s r d old new same c.requires.held u k.0;
+      flag = flag_after s r d old new same c.requires.held u (set.insert old.heap (c.published.result + 1)) ok k.0 c.requires.flag;
+      ok = k.1;
+    }

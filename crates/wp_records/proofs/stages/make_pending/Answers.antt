@@ -1,22 +1,23 @@
 use Rattle.std.proofs.Common.{false, List, ap, ◌∙◌}
 use Rattle.wp_model.specs.declared.entry.Entry.{Entry}
+use Rattle.wp_shared.specs.Seats.{place_at}
 use Rattle.wp_records.proofs.Begun.{begins_as, begins_one, begins_legal, begun}
+use Rattle.wp_records.proofs.Made.{may_begin, began}
 use Rattle.wp_records.proofs.stages.make_pending.Goals as goal
 
-pub begin-requires-clause-held : goal.begin-requires-clause-held
-begin-requires-clause-held g c = (c.args.log.now.table, c.requires.holds.turn.held, c.requires.holds.pending, begins_as c.args.log.now c.reserve.new.self c.into_entries.result.items c.in-Ok.ensures.ok)
+pub make_about-requires-clause-may : goal.make_about-requires-clause-may
+make_about-requires-clause-may g c = let s = c.args.seat.now in let log = c.args.log.now in let left = c.reserve.new.self in let ok = c.in-Ok.ensures.ok in
+    may_begin (place_at c.args.store.now s.by) s.knows log.table left.table c.requires.holds.turn.held c.requires.holds.pending
+    (begins_as log left c.into_entries.result.items ok) (begins_one log left c.into_entries.result.items ok c.into_entries.ensures.one)
+    (begins_legal log left c.args.entries (ok ∙ ap (λ (e : List Entry). record log.table { pending = e; logged = false }) c.into_entries.ensures.entries) c.requires.legal) c.shows_told.ensures.next
 
-pub begin-requires-clause-one : goal.begin-requires-clause-one
-begin-requires-clause-one g c = begins_one c.args.log.now c.reserve.new.self c.into_entries.result.items c.in-Ok.ensures.ok c.into_entries.ensures.one
-
-pub begin-requires-clause-legal : goal.begin-requires-clause-legal
-begin-requires-clause-legal g c =
-    begins_legal c.args.log.now c.reserve.new.self c.args.entries (c.in-Ok.ensures.ok ∙ ap (λ (e : List Entry). record c.args.log.now.table { pending = e; logged = false }) c.into_entries.ensures.entries) c.requires.legal
+pub make_about-requires-clause-client : goal.make_about-requires-clause-client
+make_about-requires-clause-client g c w = (tt, (tt, (tt, (tt, tt))))
 
 pub returns-clause-ok : goal.returns-clause-ok
-returns-clause-ok g c =
-    begun c.args.log.now c.reserve.new.self c.args.entries (c.in-Ok.ensures.ok ∙ ap (λ (e : List Entry). record c.args.log.now.table { pending = e; logged = false }) c.into_entries.ensures.entries) c.args.store.now c.args.seat.now c.begin.new.seat c.requires.holds c.reserve.ensures.first
-    c.in-Ok.ensures.reserved c.begin.ensures.seat c.begin.ensures.nowhere c.begin.ensures.below c.begin.ensures.undelayed
+returns-clause-ok g c = let z = c.args.store.now in let s = c.args.seat.now in let u = c.make_about.new.seat in let log = c.args.log.now in let left = c.reserve.new.self in let ok = c.in-Ok.ensures.ok in
+    let k = began (place_at z s.by) _ s u c.make_about.ensures.same log.table left.table c.requires.holds.turn.held (begins_as log left c.into_entries.result.items ok) c.make_about.ensures.moved in
+    begun log left c.args.entries (ok ∙ ap (λ (e : List Entry). record log.table { pending = e; logged = false }) c.into_entries.ensures.entries) z s u c.requires.holds c.reserve.ensures.first c.in-Ok.ensures.reserved k.0 k.1 k.2 k.3
 
 pub returns-clause-one : goal.returns-clause-one
 returns-clause-one g c = begins_one c.args.log.now c.reserve.new.self c.into_entries.result.items c.in-Ok.ensures.ok c.into_entries.ensures.one

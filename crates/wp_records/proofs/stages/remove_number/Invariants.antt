@@ -2,7 +2,7 @@ use Rattle.std.specs.Prelude.{[], ◌∷◌}
 use Rattle.wp_core.specs.Steps.{take_pending_prepared, note}
 use Rattle.wp_core.specs.Views.{number_not_in_heap}
 use Rattle.wp_shared.specs.Seats.{place_at}
-use Rattle.wp_records.proofs.steps.take_number.Given as goal
+use Rattle.wp_records.proofs.stages.remove_number.Given as goal
 
 abbrev pub ghosts-make : goal.ghosts-make
 ghosts-make g a = record { place = place_at a.self.now a.seat.now.by; steps = λ w. take_pending_prepared ∷ note number_not_in_heap ∷ [] }
