@@ -1,13 +1,43 @@
-use Rattle.std.proofs.Common.{◌≡◌, ℕ, List, sym, ap, subst, ◌∙◌}
-use Rattle.atomic_table.specs.Table.{Me}
+use Rattle.std.proofs.Common.{◌≡◌, ℕ, List, ◌∷◌, inl, refl, sym, ap, subst, ◌∙◌}
+use Rattle.atomic_table.specs.Table.{Me, rest}
+use Rattle.wp_core.specs.Changes.{turn_index}
 use Rattle.wp_core.specs.World.{Actor}
 use Rattle.wp_actor.specs.Turns.{turn_of}
 use Rattle.wp_rule.specs.Words.{place_of}
 use Rattle.wp_parts.specs.declared.part.Part.{Part}
 use Rattle.wp_parts.specs.Parts.{content}
-use Rattle.wp_shared.specs.Seats.{SeatState, AllAway}
+use Rattle.wp_shared.specs.Seats.{SharedState, SeatState, AllAway, turns_of}
 use Rattle.wp_shared.proofs.HeldTurns.{still_sits, took}
 use Rattle.wp_shared.proofs.shared.Shared.take_part.Goals as goal
+
+pub loop-init : goal.loop-init
+loop-init g c = (refl, refl, refl, refl)
+
+pub claim-requires : goal.claim-requires
+claim-requires g c = let i = c.loop.invariant in record {
+  seat = i.0 ∙ (ap (λ (s : SeatState). s.table) c.seat.view_is ∙ (c.requires.seat ∙ sym (ap (λ (z : SharedState g.row.D.Denot). z.table) c.self.view_is)));
+  live = ap (λ (m : Me (Part g.row.D.Denot) Actor). m.0.live) i.2 ∙ (ap (λ (s : SeatState). s.knows.live) c.seat.view_is ∙ c.requires.live);
+}
+
+pub exchange-requires : goal.exchange-requires
+exchange-requires g c = let i = c.loop.invariant in let back = c.if-claim.ensures.turn.back in record {
+  seat = c.claim.ensures.same.0 ∙ (i.0 ∙ (ap (λ (s : SeatState). s.table) c.seat.view_is ∙ (c.requires.seat ∙ sym (ap (λ (z : SharedState g.row.D.Denot). z.table) c.self.view_is))));
+  turn = (back.value, back.last_taken);
+  value = inl refl;
+}
+
+pub loop-preserved : goal.loop-preserved
+loop-preserved g c = let i = c.loop.invariant in let same = c.claim.ensures.same in (same.0 ∙ i.0, same.1 ∙ i.1, c.if-claim.ensures.turn.same ∙ i.2, i.3)
+
+pub returns-then-claim-clause-same : goal.returns-then-claim-clause-same
+returns-then-claim-clause-same g c = let i = c.loop.invariant in let claimed = c.claim.ensures.same in let same = c.exchange.ensures.same in (
+  same.0 ∙ (claimed.0 ∙ (i.0 ∙ ap (λ (s : SeatState). s.table) c.seat.view_is)),
+  same.1 ∙ (claimed.1 ∙ (i.1 ∙ ap (λ (s : SeatState). s.by) c.seat.view_is)),
+  ap (λ (m : Me (Part g.row.D.Denot) Actor). turns_of m.1) c.exchange.ensures.home
+      ∙ ap (λ (x : List ℕ). turn_index (turn_of c.args.turn) ∷ x)
+      (ap (λ (m : Me (Part g.row.D.Denot) Actor). turns_of (rest m.1)) c.if-claim.ensures.turn.after
+      ∙ (ap (λ (m : Me (Part g.row.D.Denot) Actor). turns_of m.1) i.2 ∙ ap (λ (s : SeatState). s.turns) c.seat.view_is)),
+)
 
 pub invariant_of-seat : goal.invariant_of-seat
 invariant_of-seat g c = let i = c.loop.invariant in
