@@ -8,9 +8,8 @@ ghost use Rattle.wp_rule.specs.Knows.{Noted};
 ghost use Rattle.wp_shared.specs.Notes.{GoesOn};
 ghost use Rattle.wp_commits.specs.declared.way.Way.{Way};
 ghost use Rattle.wp_commits.specs.Ways.{ways_of, AnyClears, RisesFor, AreApart};
-ghost use Rattle.wp_records.specs.declared.error.WriteError.TheVariants.{Memory};
 ghost use Rattle.wp_records.specs.Writing.{HoldsWrite};
-ghost use Rattle.wp_records.specs.Records.{MayPut, IsPutWith, IsNotPut, IsUncalled, Puts};
+ghost use Rattle.wp_records.specs.Records.{MayPut, IsPutWith, Puts};
 ghost use Rattle.wp_records.specs.Stages.{is_guarded, HoldsPending, IsUnlogged, IsReadied, Logs, AreBehind, MayJoin, HasJoined};
 
 use crate::error::WriteError;
@@ -48,25 +47,6 @@ fn ready<D: Disk + Drop, R: Wait>(
     clear_all(store, rt, seat, log)?;
     put_versions(store, rt, seat, log)?;
     put_number(store, rt, seat, log)
-}
-
-/// Takes the pending record back for want of memory.
-fn give_up<D: Disk + Drop, R: Wait>(
-    store: &Shared<D>,
-    rt: &R,
-    seat: &mut Seat<D>,
-    log: &mut Log<D>,
-) -> WriteError
-    requires holds { HoldsPending store.now seat.old log.old }
-    requires unlogged { log.old.table.logged ≡ false }
-    requires running { log.old.table.closed ≡ false }
-    requires undelayed { Noted seat.old.knows pair_not_delayed }
-    ensures why { result ≡ Memory }
-    ensures back { IsNotPut store.now seat.old log.old [] false seat.old.knows.participant seat.new log.new }
-    ensures uncalled { IsUncalled log.old log.new }
-{
-    take_back(store, rt, seat, log);
-    WriteError::Memory
 }
 
 /// Appends the pending record to the log, while the seat holds no turn but the write turn. Where the device fails the record is
@@ -155,7 +135,8 @@ fn put_pending<D: Disk + Drop, R: Wait>(
     ensures { Puts store.now seat.old log.old log.old.table.pending result seat.new log.new }
 {
     let Ok(()) = ready(store, rt, seat, log) else {
-        return Err(give_up(store, rt, seat, log));
+        take_back(store, rt, seat, log);
+        return Err(WriteError::Memory);
     };
     store.shows_world(seat);
     append(store, rt, seat, log)?;

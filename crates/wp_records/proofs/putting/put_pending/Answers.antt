@@ -2,17 +2,20 @@ use Rattle.std.proofs.Common.{◌≢◌, suc, List, [], length, refl, sym, subst
 use Rattle.std.specs.Prelude.{Result, Err}
 use Rattle.std.proofs.lemmas.Result.{err_from_is_err_and}
 use Rattle.wp_model.specs.declared.entry.Entry.{Entry}
+use Rattle.wp_wal.specs.Wal.{WalState}
 use Rattle.wp_core.specs.Tables.{WriteTable}
 use Rattle.wp_core.specs.Views.{pair_not_delayed}
 use Rattle.wp_rule.specs.Knows.{Noted}
+use Rattle.wp_shared.specs.Log.{LogState}
 use Rattle.wp_shared.specs.Notes.{GoesOn}
 use Rattle.wp_shared.specs.Seats.{SeatState}
 use Rattle.wp_commits.specs.Ways.{ways_of, RisesFor}
 use Rattle.wp_records.specs.declared.error.WriteError.{WriteError}
+use Rattle.wp_records.specs.declared.error.WriteError.TheVariants.{Memory}
 use Rattle.wp_records.specs.Records.{Puts}
 use Rattle.wp_records.specs.Stages.{is_guarded, HoldsPending, IsReadied}
 use Rattle.wp_records.proofs.Joined.{logged_join}
-use Rattle.wp_records.proofs.Puts.{not_ready, not_logged, put_logged, ready_cleared}
+use Rattle.wp_records.proofs.Puts.{not_put, not_ready, not_logged, put_logged, ready_cleared}
 use Rattle.wp_records.proofs.Readied.{may_still}
 use Rattle.wp_records.proofs.putting.put_pending.Goals as goal
 
@@ -52,10 +55,16 @@ returns g c =
     (subst (λ (x : SeatState). RisesFor z.cells (length log.table.history) s.knows x.knows (ways_of z.cells (suc (length log.table.history)) log.table.pending)) (sym same) c.in-Ok.ensures.bound)
     (λ any. ready_cleared z s r t log c.ready.ensures.seat c.ready.ensures.holds same c.shows_world.ensures.stands c.in-Ok.ensures.bound (c.in-Ok.ensures.waits any)) (c.in_ok-append.ensures {u = tt}) c.publish_all.ensures
 
+pub take_back-requires : goal.take_back-requires
+take_back-requires g c = record { holds = c.ready.ensures.holds; unlogged = c.requires.unlogged.unlogged; undelayed = c.ready.ensures.undelayed }
+
 pub returns-in_default : goal.returns-in_default
 returns-in_default g c =
-    let r = c.in_default.ensures.refused in
-    not_ready c.args.store.now c.args.seat.now c.ready.new.seat c.give_up.new.seat c.args.log.now c.give_up.new.log c.ready.ensures.seat r.0 r.3 r.1 r.2 c.give_up.result c.give_up.ensures.why c.give_up.ensures.back c.give_up.ensures.uncalled
+    let z = c.args.store.now in let s = c.args.seat.now in let t = c.ready.new.seat in let u = c.take_back.new.seat in let log = c.args.log.now in let left = c.take_back.new.log in let back = c.take_back.ensures in let r = c.in_default.ensures.refused in
+    let wal = ap (λ (x : LogState). x.wal) back.log in
+    not_ready z s t u log left c.ready.ensures.seat r.0 r.3 r.1 r.2 Memory refl
+    (not_put z t u log left back.holds _ _ back.seat (ap (λ (x : LogState). x.table.history) back.log) (ap (λ (x : LogState). x.table.closed) back.log ∙ c.requires.unlogged.running))
+    (wal ∙ ap (λ (w : WalState). record log.wal { reserved = w.reserved }) (sym wal))
 
 pub returns-in_err-append : goal.returns-in_err-append
 returns-in_err-append g c =

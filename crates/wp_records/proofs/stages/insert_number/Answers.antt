@@ -1,7 +1,8 @@
 use Rattle.std.proofs.Common.{◌≡◌, suc, ◌+◌, length, sym, subst, arith}
 use Rattle.std.specs.FinSet as set
 use Rattle.wp_prepared.specs.Least.{AreBelow}
-use Rattle.wp_shared.specs.Seats.{place_at}
+use Rattle.wp_shared.specs.Notes.{DelayedFlagTells}
+use Rattle.wp_shared.specs.Seats.{SeatState, place_at}
 use Rattle.wp_records.proofs.Heap.{heap_below, added_to, not_added, went_on, flag_after}
 use Rattle.wp_records.proofs.Made.{may_put_number, number_put}
 use Rattle.wp_records.proofs.stages.insert_number.Goals as goal
@@ -14,6 +15,10 @@ add-requires g c =
 
 pub returns-in_err-add-clause-seat : goal.returns-in_err-add-clause-seat
 returns-in_err-add-clause-seat g c = not_added c.args.seat.now c.shows_world.new.seat c.args.log.now.table c.args.tables.now c.add.new.self c.shows_world.ensures.same c.requires.held c.in_err-add.ensures.err
+
+pub returns-in_err-add-clause-flag : goal.returns-in_err-add-clause-flag
+returns-in_err-add-clause-flag g c = let r = c.shows_world.new.seat in
+    subst (DelayedFlagTells r.knows) (sym c.in_err-add.ensures.err) (subst (λ (x : SeatState). DelayedFlagTells x.knows c.args.tables.now) (sym c.shows_world.ensures.same) c.requires.flag)
 
 pub make-requires-clause-may : goal.make-requires-clause-may
 make-requires-clause-may g c = let s = c.args.seat.now in let r = c.shows_world.new.seat in let d = c.args.log.now.table in

@@ -1,14 +1,42 @@
-use Rattle.std.proofs.Common.{List, [], ◌∷◌, refl, sym, subst, ap, ◌∙◌}
+use Rattle.std.proofs.Common.{List, [], ◌∷◌, inl, length, refl, sym, subst, ap, ◌∙◌}
+use Rattle.wp_core.specs.Lists.{IsIn}
 use Rattle.wp_core.specs.Tables.{Content, writes, prepared}
 use Rattle.wp_core.specs.Turns.{prepared_turn}
 use Rattle.wp_core.specs.Views.{number_not_in_heap}
 use Rattle.wp_shared.specs.Notes.{GoesOn, DelayedFlagTells}
+use Rattle.wp_shared.proofs.Goes.{notes}
 use Rattle.wp_shared.proofs.Tables.{knows_to_give}
+use Rattle.wp_commits.proofs.Clears.{just_noted}
 use Rattle.wp_commits.proofs.Through.{held_taken, holds_still, goes_through}
 use Rattle.wp_records.specs.Stages.{is_of_number}
 use Rattle.wp_records.proofs.Facts.{number_under_prepared}
 use Rattle.wp_records.proofs.Holding.{still_holds, words_kept}
 use Rattle.wp_records.proofs.stages.leave_heap.Goals as goal
+
+pub note_no_number-requires : goal.note_no_number-requires
+note_no_number-requires g c = let turn = c.requires.holds.turn in record {
+  seat = (turn.same_table, turn.live);
+  held = subst (IsIn (writes c.args.log.now.table)) (sym turn.held) (inl refl);
+  none = sym c.if-not-prepares.ensures.is;
+}
+
+pub returns-then-not-prepares : goal.returns-then-not-prepares
+returns-then-not-prepares g c = let s = c.args.seat.now in let r = c.note_no_number.new.seat in
+    let goes : GoesOn is_of_number s.knows.held s.turns s r = notes is_of_number s r r number_not_in_heap c.note_no_number.ensures in
+    record {
+      holds = still_holds c.args.store.now s r c.args.log.now is_of_number c.requires.holds goes (words_kept is_of_number s r s.knows.held s.turns (length c.args.log.now.table.history) (λ bound words. refl) goes c.requires.holds.words);
+      seat = goes;
+      below = just_noted s r number_not_in_heap c.note_no_number.ensures;
+    }
+
+pub take_turn-tables-requires : goal.take_turn-tables-requires
+take_turn-tables-requires g c = (c.requires.holds.turn.same_table, c.requires.holds.turn.live)
+
+pub remove_number-requires-clause-seat : goal.remove_number-requires-clause-seat
+remove_number-requires-clause-seat g c = c.take_turn-tables.ensures.taken.holds.same_table
+
+pub remove_number-requires-clause-prepare : goal.remove_number-requires-clause-prepare
+remove_number-requires-clause-prepare g c = c.if-not-prepares.ensures.prepare refl
 
 pub remove_number-requires-clause-held : goal.remove_number-requires-clause-held
 remove_number-requires-clause-held g c = let z = c.args.store.now in let s = c.args.seat.now in let d = c.args.log.now.table in let t = c.take_turn-tables in held_taken z s t.new.seat s (prepared t.result.value) (prepared t.result.value) (writes d ∷ []) c.requires.holds.turn.held t.ensures.taken ∙ ap (λ x. prepared x ∷ writes d ∷ []) (sym c.deref_mut.ensures.value)

@@ -1,4 +1,4 @@
-use Rattle.std.proofs.Common.{◌≡◌, true, List, [], ◌∷◌, refl, sym, subst, ap, ◌∙◌}
+use Rattle.std.proofs.Common.{◌≡◌, true, true≢false, List, [], ◌∷◌, refl, sym, subst, ap, ◌∙◌}
 use Rattle.wp_model.specs.History.{is_prepare}
 use Rattle.wp_core.specs.Entries.{next_of}
 use Rattle.wp_core.specs.Tables.{Content, writes, prepared}
@@ -6,6 +6,7 @@ use Rattle.wp_core.specs.Turns.{prepared_turn}
 use Rattle.wp_core.specs.Views.{number_in_heap, number_not_in_heap}
 use Rattle.wp_rule.specs.Knows.{Noted}
 use Rattle.wp_shared.specs.Notes.{GoesOn, DelayedFlagTells}
+use Rattle.wp_shared.proofs.Goes.{stays}
 use Rattle.wp_shared.proofs.Tables.{knows_to_give}
 use Rattle.wp_commits.proofs.Clears.{on_ok}
 use Rattle.wp_commits.proofs.Through.{held_taken, holds_still, goes_through}
@@ -13,6 +14,22 @@ use Rattle.wp_records.specs.Stages.{is_of_number}
 use Rattle.wp_records.proofs.Facts.{number_under_prepared}
 use Rattle.wp_records.proofs.Holding.{still_holds, words_kept}
 use Rattle.wp_records.proofs.stages.put_number.Goals as goal
+
+pub returns-then-not-prepares : goal.returns-then-not-prepares
+returns-then-not-prepares g c = let s = c.args.seat.now in record {
+  holds = c.requires.holds;
+  seat = stays is_of_number s s s;
+  ok = λ is. absurd (true≢false (sym (c.if-not-prepares.ensures.is ∙ is)));
+}
+
+pub take_turn-tables-requires : goal.take_turn-tables-requires
+take_turn-tables-requires g c = (c.requires.holds.turn.same_table, c.requires.holds.turn.live)
+
+pub insert_number-result-requires-clause-seat : goal.insert_number-result-requires-clause-seat
+insert_number-result-requires-clause-seat g c = c.take_turn-tables.ensures.taken.holds.same_table
+
+pub insert_number-result-requires-clause-prepare : goal.insert_number-result-requires-clause-prepare
+insert_number-result-requires-clause-prepare g c = c.if-not-prepares.ensures.prepare refl
 
 pub insert_number-result-requires-clause-below : goal.insert_number-result-requires-clause-below
 insert_number-result-requires-clause-below g c = c.take_turn-tables.ensures.taken.goes.noted number_not_in_heap refl c.requires.below

@@ -15,6 +15,12 @@ use Rattle.wp_records.proofs.Holding.{still_holds, words_kept}
 use Rattle.wp_records.proofs.Stock.{nowhere_there}
 use Rattle.wp_records.proofs.stages.put_versions.Goals as goal
 
+pub take_turn-stock-requires : goal.take_turn-stock-requires
+take_turn-stock-requires g c = (c.requires.holds.turn.same_table, c.requires.holds.turn.live)
+
+pub insert_versions-result-requires-clause-seat : goal.insert_versions-result-requires-clause-seat
+insert_versions-result-requires-clause-seat g c = c.take_turn-stock.ensures.taken.holds.same_table
+
 pub insert_versions-result-requires-clause-held : goal.insert_versions-result-requires-clause-held
 insert_versions-result-requires-clause-held g c = let z = c.args.store.now in let s = c.args.seat.now in let d = c.args.log.now.table in let t = c.take_turn-stock in
     held_taken z s t.new.seat s (store (store_table t.result.value)) (store (store_table t.result.value)) (writes d ∷ []) c.requires.holds.turn.held t.ensures.taken ∙ ap (λ x. store (store_table x) ∷ writes d ∷ []) (sym c.deref_mut.ensures.value)
