@@ -7,7 +7,6 @@ ghost use Rattle.wp_machine.specs.Effect.{IsEffect};
 
 use crate::actor::Actor;
 use crate::step::OwnStep;
-use crate::views::Fact;
 use crate::world::World;
 use std::alloc::AllocError;
 use wp_model::{Batch, Name};
@@ -28,27 +27,15 @@ fn set_batch(
     actor.put_transaction(&name, changed, world.alloc)
 }
 
-fn note(world: &mut World, actor: &mut Actor, fact: Fact) -> Result<(), AllocError>
-    ensures { OnOk result ((by : ℕ) → IsEffect by world.old actor.old (step.note fact) world.new actor.new) }
-{
-    actor.note(fact)
-}
-
-fn set_client(world: &mut World, actor: &mut Actor, client: Name)
-    ensures { (by : ℕ) → IsEffect by world.old actor.old (step.set_client client) world.new actor.new }
-{
-    actor.set_client(client);
-}
-
 pub(crate) fn own(world: &mut World, actor: &mut Actor, kind: OwnStep) -> Result<(), AllocError>
     ensures { (s : step.Step) → own_step actor.old.participant kind ≡ Some s
         → OnOk result ((by : ℕ) → IsEffect by world.old actor.old s world.new actor.new) }
 {
     match kind {
         OwnStep::SetBatch(name, batch) => set_batch(world, actor, name, batch),
-        OwnStep::Note(fact) => note(world, actor, fact),
+        OwnStep::Note(fact) => actor.note(fact),
         OwnStep::SetClient(client) => {
-            set_client(world, actor, client);
+            actor.set_client(client);
             Ok(())
         }
     }

@@ -11,20 +11,6 @@ use crate::step::SnapshotsStep;
 use crate::world::World;
 use std::alloc::AllocError;
 use wp_actor::Turn;
-use wp_model::Seq;
-
-fn register_again(world: &mut World, actor: &mut Actor, number: Seq) -> Result<(), AllocError>
-    ensures { OnOk result ((by : ℕ) → IsEffect by world.old actor.old (step.register_again number) world.new actor.new) }
-{
-    let alloc = world.alloc;
-    actor.register(Registration {
-        number,
-        smallest: 1,
-    })?;
-    world.snapshots.register(number, alloc)?;
-    hold(world, actor, Turn::Snapshots);
-    Ok(())
-}
 
 fn release(world: &mut World, actor: &mut Actor, place: usize) -> Result<(), AllocError>
     ensures { OnOk result ((by : ℕ) → with_actor world.new by actor.new
@@ -37,15 +23,6 @@ fn release(world: &mut World, actor: &mut Actor, place: usize) -> Result<(), All
     Ok(())
 }
 
-fn add_old_commit(world: &mut World, actor: &mut Actor, s: Seq, p: Seq) -> Result<(), AllocError>
-    ensures { OnOk result ((by : ℕ) → IsEffect by world.old actor.old (step.add_old_commit s p) world.new actor.new) }
-{
-    let alloc = world.alloc;
-    world.snapshots.keep(s, p, alloc)?;
-    hold(world, actor, Turn::Snapshots);
-    Ok(())
-}
-
 pub(crate) fn snapshots(
     world: &mut World,
     actor: &mut Actor,
@@ -54,9 +31,18 @@ pub(crate) fn snapshots(
     ensures { (s : step.Step) → snapshots_step actor.old.participant kind ≡ Some s
         → OnOk result ((by : ℕ) → IsEffect by world.old actor.old s world.new actor.new) }
 {
+    let alloc = world.alloc;
     match kind {
-        SnapshotsStep::RegisterAgain(number) => register_again(world, actor, number),
-        SnapshotsStep::Release(place) => release(world, actor, place),
-        SnapshotsStep::AddOldCommit(s, p) => add_old_commit(world, actor, s, p),
+        SnapshotsStep::RegisterAgain(number) => {
+            actor.register(Registration {
+                number,
+                smallest: 1,
+            })?;
+            world.snapshots.register(number, alloc)?;
+        }
+        SnapshotsStep::Release(place) => return release(world, actor, place),
+        SnapshotsStep::AddOldCommit(s, p) => world.snapshots.keep(s, p, alloc)?,
     }
+    hold(world, actor, Turn::Snapshots);
+    Ok(())
 }

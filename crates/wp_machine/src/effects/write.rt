@@ -12,71 +12,7 @@ use crate::world::World;
 use std::alloc::AllocError;
 use std::snapshot::Snapshot;
 use wp_actor::Turn;
-use wp_model::{Entry, Seq};
-
-fn make_pending(world: &mut World, actor: &mut Actor, entries: Vec<Entry>)
-    ensures { (by : ℕ) → IsEffect by world.old actor.old (step.make_pending entries.items) world.new actor.new }
-{
-    world.writes.pending = entries;
-    world.writes.logged = false;
-    hold(world, actor, Turn::Write);
-}
-
-fn log_pending(world: &mut World, actor: &mut Actor) -> Result<(), AllocError>
-    ensures { OnOk result ((by : ℕ) → IsEffect by world.old actor.old step.log_pending world.new actor.new) }
-{
-    world.writes.log_pending(world.alloc)?;
-    hold(world, actor, Turn::Write);
-    Ok(())
-}
-
-fn close_log(world: &mut World, actor: &mut Actor) -> Result<(), AllocError>
-    ensures { OnOk result ((by : ℕ) → IsEffect by world.old actor.old step.close_log world.new actor.new) }
-{
-    let failed = Snapshot::of(&world.writes.pending);
-    actor.remember(Event::of(Found::LogFailed(failed)))?;
-    world.writes.close_log();
-    hold(world, actor, Turn::Write);
-    Ok(())
-}
-
-fn find_log_closed(world: &mut World, actor: &mut Actor) -> Result<(), AllocError>
-    ensures { OnOk result ((by : ℕ) → IsEffect by world.old actor.old step.find_log_closed world.new actor.new) }
-{
-    let published = world.writes.history.len() as Seq;
-    actor.remember(Event::of(Found::Stopped(published)))
-}
-
-fn drop_pending(world: &mut World, actor: &mut Actor)
-    ensures { (by : ℕ) → IsEffect by world.old actor.old step.drop_pending world.new actor.new }
-{
-    world.writes.pending.clear();
-    hold(world, actor, Turn::Write);
-}
-
-fn write_segment(world: &mut World, actor: &mut Actor, place: u64)
-    ensures { (by : ℕ) → IsEffect by world.old actor.old (step.write_segment place) world.new actor.new }
-{
-    world.writes.write_segment(place);
-    hold(world, actor, Turn::Write);
-}
-
-fn use_segment(world: &mut World, actor: &mut Actor)
-    ensures { (by : ℕ) → IsEffect by world.old actor.old step.use_segment world.new actor.new }
-{
-    world.writes.use_segment();
-    hold(world, actor, Turn::Write);
-}
-
-fn stop_log(world: &mut World, actor: &mut Actor) -> Result<(), AllocError>
-    ensures { OnOk result ((by : ℕ) → IsEffect by world.old actor.old step.stop_log world.new actor.new) }
-{
-    world.writes.closed = true;
-    world.writes.stopped = true;
-    actor.remember(Event::of(Found::LogStopped))?;
-    hold(world, actor, Turn::Write);
-    Ok(())
-}
+use wp_model::Seq;
 
 pub(crate) fn write(world: &mut World, actor: &mut Actor, kind: WriteStep) -> Result<(), AllocError>
     ensures { (s : step.Step) → write_step kind ≡ Some s
@@ -84,24 +20,28 @@ pub(crate) fn write(world: &mut World, actor: &mut Actor, kind: WriteStep) -> Re
 {
     match kind {
         WriteStep::MakePending(entries) => {
-            make_pending(world, actor, entries);
-            Ok(())
+            world.writes.pending = entries;
+            world.writes.logged = false;
         }
-        WriteStep::LogPending => log_pending(world, actor),
-        WriteStep::CloseLog => close_log(world, actor),
-        WriteStep::FindLogClosed => find_log_closed(world, actor),
-        WriteStep::DropPending => {
-            drop_pending(world, actor);
-            Ok(())
+        WriteStep::LogPending => world.writes.log_pending(world.alloc)?,
+        WriteStep::CloseLog => {
+            let failed = Snapshot::of(&world.writes.pending);
+            actor.remember(Event::of(Found::LogFailed(failed)))?;
+            world.writes.close_log();
         }
-        WriteStep::WriteSegment(place) => {
-            write_segment(world, actor, place);
-            Ok(())
+        WriteStep::FindLogClosed => {
+            let published = world.writes.history.len() as Seq;
+            return actor.remember(Event::of(Found::Stopped(published)));
         }
-        WriteStep::UseSegment => {
-            use_segment(world, actor);
-            Ok(())
+        WriteStep::DropPending => world.writes.pending.clear(),
+        WriteStep::WriteSegment(place) => world.writes.write_segment(place),
+        WriteStep::UseSegment => world.writes.use_segment(),
+        WriteStep::StopLog => {
+            world.writes.closed = true;
+            world.writes.stopped = true;
+            actor.remember(Event::of(Found::LogStopped))?;
         }
-        WriteStep::StopLog => stop_log(world, actor),
     }
+    hold(world, actor, Turn::Write);
+    Ok(())
 }
