@@ -10,7 +10,7 @@ ghost use Rattle.wp_core.specs.Changes.{reading_left, is_same_registration};
 ghost use Rattle.wp_machine.specs.Effect.{has_published, released_number, has_released};
 ghost use Rattle.wp_core.specs.Tables as tables;
 ghost use Rattle.wp_core.specs.World.{new_participant, new_actor};
-ghost use Rattle.wp_core.specs.Changes.{sees, remembers, joined_actor, has_direct, held_with, held_without, registers, has_transaction, has_no_transaction, turn_index, made_one, informed, joins};
+ghost use Rattle.wp_core.specs.Changes.{sees, remembers, has_direct, held_with, held_without, registers, has_transaction, has_no_transaction, turn_index, made_one, informed, joins};
 ghost use Rattle.wp_machine.specs.Client.{client_of};
 ghost use Rattle.wp_actor.specs.Turns.{turn_of};
 ghost use Rattle.wp_machine.specs.HeldTables.{place_from};
@@ -299,12 +299,6 @@ impl Actor {
         }
     }
 
-    pub fn joined(alloc: Global) -> Actor
-        ensures { result ≡ joined_actor }
-    {
-        Actor::new(alloc, false, None, Vec::new(alloc))
-    }
-
     pub fn see(&mut self, history: &[Entry], alloc: Global) -> Result<(), AllocError>
         ensures { OnOk result (self.new ≡ sees history.now self.old) }
     {
@@ -382,8 +376,8 @@ impl Actor {
         std::mem::swap(&mut self.learned, &mut note.participant.seen);
     }
 
-    fn into_participant(self) -> Participant
-        ensures { result ≡ self.participant }
+    pub fn join(&mut self, seat: Actor) -> Result<(), AllocError>
+        ensures { OnOk result (self.new ≡ joins self.old seat) }
     {
         let Actor {
             participant,
@@ -394,14 +388,8 @@ impl Actor {
             live: _live,
             made: _made,
             joined: _joined,
-        } = self;
-        participant
-    }
-
-    pub fn join(&mut self, seat: Actor) -> Result<(), AllocError>
-        ensures { OnOk result (self.new ≡ joins self.old seat) }
-    {
-        add_first(&mut self.joined, seat.into_participant())
+        } = seat;
+        add_first(&mut self.joined, participant)
     }
 
     /// It makes a step of this kind, which may end what it noted.
@@ -428,19 +416,6 @@ impl Actor {
         ensures { self.new ≡ has_direct self.old key }
     {
         self.participant.direct = key;
-    }
-
-    pub fn set_client(&mut self, client: Name)
-        ensures { self.new ≡ record self.old { participant = record self.old.participant { client = client } } }
-    {
-        self.participant.client = Some(client);
-    }
-
-    /// It has one more table.
-    pub fn take(&mut self, content: Content) -> Result<(), AllocError>
-        ensures { OnOk result (self.new ≡ record self.old { held = content ∷ self.old.held }) }
-    {
-        add_first(&mut self.held, content)
     }
 
     pub fn remember(&mut self, event: Event) -> Result<(), AllocError>

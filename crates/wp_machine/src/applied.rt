@@ -29,7 +29,8 @@ fn take_actor(world: &mut World, by: usize) -> Actor
     ensures actor { get_elem? world.old.actors by ≡ some result }
     ensures others { world.new ≡ with_actor world.old by joined_actor }
 {
-    let joined = Actor::joined(world.alloc);
+    let alloc = world.alloc;
+    let joined = Actor::new(alloc, false, None, Vec::new(alloc));
     std::mem::replace(&mut world.actors[by], joined)
 }
 

@@ -58,4 +58,4 @@ pub use versions::versions_of_next;
 pub use views::{Account, Event, Fact, Found, Noted};
 pub use world::World;
 pub use wp_actor::Turn;
-pub use writes::WriteTable;
+pub use writes::{WriteTable, entry_at};

@@ -35,7 +35,7 @@ pub(crate) fn own(world: &mut World, actor: &mut Actor, kind: OwnStep) -> Result
         OwnStep::SetBatch(name, batch) => set_batch(world, actor, name, batch),
         OwnStep::Note(fact) => actor.note(fact),
         OwnStep::SetClient(client) => {
-            actor.set_client(client);
+            actor.participant.client = Some(client);
             Ok(())
         }
     }

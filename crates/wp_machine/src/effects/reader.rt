@@ -16,12 +16,6 @@ use wp_actor::Turn;
 use wp_judge::{InPrepared, Load, Observed};
 use wp_model::Seq;
 
-fn load_published(world: &mut World, actor: &mut Actor) -> Result<(), AllocError>
-    ensures { OnOk result ((by : ℕ) → IsEffect by world.old actor.old step.load_published world.new actor.new) }
-{
-    actor.see(&world.writes.history, world.alloc)
-}
-
 fn register(world: &mut World, actor: &mut Actor, smallest: Seq) -> Result<(), AllocError>
     ensures { OnOk result ((by : ℕ) → IsEffect by world.old actor.old (step.register smallest) world.new actor.new) }
 {
@@ -98,7 +92,7 @@ pub(crate) fn reader(
         → OnOk result ((by : ℕ) → IsEffect by world.old actor.old s world.new actor.new) }
 {
     match kind {
-        ReaderStep::LoadPublished => return load_published(world, actor),
+        ReaderStep::LoadPublished => actor.see(&world.writes.history, world.alloc)?,
         ReaderStep::Register(smallest) => return register(world, actor, smallest),
         ReaderStep::BeginReading(bits, version, place) => {
             begin_reading(actor, bits, version, place);

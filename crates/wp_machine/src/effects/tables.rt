@@ -26,40 +26,6 @@ fn installed(edit: &InstalledEdit, compacts: bool) -> Event
     Event::of(Found::Flushed(snapshot))
 }
 
-fn install(
-    world: &mut World,
-    actor: &mut Actor,
-    edit: InstalledEdit,
-    compacts: bool,
-) -> Result<(), AllocError>
-    ensures { OnOk result ((by : ℕ) → IsEffect by world.old actor.old (step.install edit compacts) world.new actor.new) }
-{
-    actor.remember(installed(&edit, compacts))?;
-    world.installed.last = edit;
-    hold(world, actor, Turn::Tables);
-    Ok(())
-}
-
-fn renew(world: &mut World, actor: &mut Actor, edit: InstalledEdit) -> Result<(), AllocError>
-    ensures { OnOk result ((by : ℕ) → IsEffect by world.old actor.old (step.renew edit) world.new actor.new) }
-{
-    actor.remember(Event::of(Found::Renewed(Snapshot::of(&edit))))?;
-    world.installed.last = edit;
-    hold(world, actor, Turn::Tables);
-    Ok(())
-}
-
-fn halt(world: &mut World, actor: &mut Actor, edit: Option<InstalledEdit>) -> Result<(), AllocError>
-    ensures { OnOk result ((by : ℕ) → IsEffect by world.old actor.old (step.halt edit) world.new actor.new) }
-{
-    let last = Snapshot::of(&world.installed.last);
-    let failed = Snapshot::of(&edit);
-    actor.remember(Event::of(Found::TablesFailed(last, failed)))?;
-    world.installed.halt(edit);
-    hold(world, actor, Turn::Tables);
-    Ok(())
-}
-
 fn find_edit(world: &mut World, actor: &mut Actor) -> Result<(), AllocError>
     ensures { OnOk result ((by : ℕ) → IsEffect by world.old actor.old step.find_edit world.new actor.new) }
 {
@@ -85,9 +51,22 @@ pub(crate) fn tables(
         → OnOk result ((by : ℕ) → IsEffect by world.old actor.old s world.new actor.new) }
 {
     match kind {
-        TablesStep::Install(edit, compacts) => install(world, actor, edit, compacts),
-        TablesStep::Renew(edit) => renew(world, actor, edit),
-        TablesStep::Halt(edit) => halt(world, actor, edit),
-        TablesStep::FindEdit => find_edit(world, actor),
+        TablesStep::Install(edit, compacts) => {
+            actor.remember(installed(&edit, compacts))?;
+            world.installed.last = edit;
+        }
+        TablesStep::Renew(edit) => {
+            actor.remember(Event::of(Found::Renewed(Snapshot::of(&edit))))?;
+            world.installed.last = edit;
+        }
+        TablesStep::Halt(edit) => {
+            let last = Snapshot::of(&world.installed.last);
+            let failed = Snapshot::of(&edit);
+            actor.remember(Event::of(Found::TablesFailed(last, failed)))?;
+            world.installed.halt(edit);
+        }
+        TablesStep::FindEdit => return find_edit(world, actor),
     }
+    hold(world, actor, Turn::Tables);
+    Ok(())
 }

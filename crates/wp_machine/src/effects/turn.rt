@@ -9,6 +9,7 @@ ghost use Rattle.wp_machine.specs.Effect.{IsEffect};
 
 use crate::actor::Actor;
 use crate::content::Content;
+use crate::lists::add_first;
 use crate::step::TurnStep;
 use crate::world::World;
 use std::alloc::AllocError;
@@ -32,7 +33,7 @@ pub(crate) fn turn(
 {
     match kind {
         TurnStep::Take(turn) => {
-            actor.take(Content::of(world, turn))?;
+            add_first(&mut actor.held, Content::of(world, turn))?;
             world.holders.set(turn, Some(by));
         }
         TurnStep::Give(turn) => {

@@ -13,7 +13,6 @@ use crate::step::WordStep;
 use crate::world::World;
 use std::alloc::AllocError;
 use wp_actor::Turn;
-use wp_model::Seq;
 
 fn store_published(world: &mut World, actor: &mut Actor) -> Result<(), AllocError>
     ensures { OnOk result ((by : ℕ) → with_actor world.new by actor.new ≡ published_world world.old actor.old by world.old.writes.pending) }
@@ -22,15 +21,6 @@ fn store_published(world: &mut World, actor: &mut Actor) -> Result<(), AllocErro
     world.writes.publish()?;
     actor.publish(&world.writes.history, alloc)?;
     hold(world, actor, Turn::Write);
-    Ok(())
-}
-
-fn store_max_evicted(world: &mut World, actor: &mut Actor, m: Seq) -> Result<(), AllocError>
-    ensures { OnOk result ((by : ℕ) → IsEffect by world.old actor.old (step.store_max_evicted m) world.new actor.new) }
-{
-    world.max_evicted = m;
-    world.prepared.move_up_to(m)?;
-    hold(world, actor, Turn::Prepared);
     Ok(())
 }
 
@@ -50,7 +40,11 @@ pub(crate) fn word(world: &mut World, actor: &mut Actor, kind: WordStep) -> Resu
 {
     match kind {
         WordStep::StorePublished => return store_published(world, actor),
-        WordStep::StoreMaxEvicted(m) => return store_max_evicted(world, actor, m),
+        WordStep::StoreMaxEvicted(m) => {
+            world.max_evicted = m;
+            world.prepared.move_up_to(m)?;
+            hold(world, actor, Turn::Prepared);
+        }
         WordStep::StoreWord => return store_word(world),
         WordStep::StoreDelayedFlag(value) => world.delayed_flag = value,
         WordStep::StoreOldFlag(value) => world.old_flag = value,
