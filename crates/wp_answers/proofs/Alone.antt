@@ -1,21 +1,11 @@
--- A seat that is the only one: what each call then answers is told by the seat's own doings. A file for each outcome of each call.
+-- A seat that is the only one: what each call then answers that makes entries or tables. A file for each kind of call.
 
-pub mod Published
-pub mod Worlds
-pub mod Seated
-pub mod Quiet
+pub mod Putting
 pub mod Logged
-pub mod Names
-pub mod Changing
 pub mod Writes
-pub mod Staged
 pub mod Decisions
-pub mod Board
-pub mod ReadKeys
-pub mod Snapshots
 pub mod TablesFound
 pub mod Flushing
 pub mod Retained
 pub mod Compacting
 pub mod Renewing
-pub mod Stores

@@ -8,12 +8,12 @@ use Rattle.wp_shared.specs.Seats.{SharedState, SeatState}
 use Rattle.wp_names.specs.declared.error.TxnError.{TxnError}
 use Rattle.wp_names.specs.declared.error.TxnError.TheVariants.{Silent}
 use Rattle.wp_txn.specs.Writes.{WritesDirect}
-use Rattle.wp_answers.specs.declared.holdings.HeldTxn.TheVariants as held
-use Rattle.wp_answers.specs.Answers.{AnswersFrom, BreaksOffFrom}
-use Rattle.wp_answers.specs.Holdings.{HoldsTxn, HoldsFrom}
-use Rattle.wp_answers.specs.Replies.{refusal}
-use Rattle.wp_answers.proofs.Clients.{answers_from, holds_from, breaks_from}
-use Rattle.wp_answers.proofs.Alone.Changing.{asking, acknowledging}
+use Rattle.wp_client.specs.declared.holdings.HeldTxn.TheVariants as held
+use Rattle.wp_client.specs.Answers.{AnswersFrom, BreaksOffFrom}
+use Rattle.wp_client.specs.Holdings.{HoldsTxn, HoldsFrom}
+use Rattle.wp_client.specs.Replies.{refusal}
+use Rattle.wp_client.proofs.Clients.{answers_from, holds_from, breaks_from}
+use Rattle.wp_client.proofs.Alone.Changing.{asking, acknowledging}
 use Rattle.wp_answers.proofs.Writes.{written_answers, not_written_answers, not_written_breaks, written_holds}
 
 pub put_same : (k v key value : List ℕ) → k ≡ key → v ≡ value → change.Put k v ≡ change.Put key value

@@ -38,15 +38,15 @@ use Rattle.wp_replies.specs.Tables.{listed, after_compaction}
 use Rattle.wp_replies.proofs.Rows.{compaction_count_more}
 use Rattle.wp_answers.proofs.Alone.Retained.{numbers_in}
 use Rattle.wp_answers.proofs.Alone.Compacting.{compacted_alone, nothing_compacted_alone, compact_failed_alone, compact_halted_alone}
-use Rattle.wp_answers.specs.Agrees.{Agrees}
-use Rattle.wp_answers.specs.Answers.{IsExplained, Answers, BreaksOff, IsDue, IsAnswered}
-use Rattle.wp_answers.specs.declared.holdings.HeldSnapshot.{HeldSnapshot}
-use Rattle.wp_answers.specs.Holdings.{HoldingsState, txn_of, labelled, client_of, snapshot_of, times_registered, Holds}
+use Rattle.wp_client.specs.Agrees.{Agrees}
+use Rattle.wp_client.specs.Answers.{IsExplained, Answers, BreaksOff, IsDue, IsAnswered}
+use Rattle.wp_client.specs.declared.holdings.HeldSnapshot.{HeldSnapshot}
+use Rattle.wp_client.specs.Holdings.{HoldingsState, txn_of, labelled, client_of, snapshot_of, times_registered, Holds}
 use Rattle.wp_answers.specs.Replies.{tables_refusal}
-use Rattle.wp_answers.proofs.Growing.{of_two, taken_old}
-use Rattle.wp_answers.proofs.Labelled.{is_registered, times_there}
+use Rattle.wp_client.proofs.Growing.{of_two, taken_old}
+use Rattle.wp_client.proofs.Labelled.{is_registered, times_there}
 use Rattle.wp_answers.proofs.Maintaining.{compaction_is, tables_answers, halted_answers, nothing_answers, failed_answers}
-use Rattle.wp_answers.proofs.Staying.{holds_still, keeps_holds, broke_off}
+use Rattle.wp_client.proofs.Staying.{holds_still, keeps_holds, broke_off}
 
 -- ---- the client's snapshots are among those that were live
 

@@ -1,9 +1,7 @@
 -- What a client is answered that prepares, commits, rolls back, drops or leaves its transaction.
-use Rattle.std.proofs.Common.{◌≡◌, inl, ℕ, suc, ◌<◌, ◌≤◌, false, List, [], ◌∷◌, ◌++◌, length, Option, Some, None, refl, sym, subst, ap, ◌∙◌, append_assoc, arith}
-use Rattle.std.specs.Prelude.{◌≢◌, ◌-◌, unwrap_or}
-use Rattle.std.specs.Str.{bytes_eq}
+use Rattle.std.proofs.Common.{◌≡◌, inl, ℕ, suc, ◌<◌, ◌≤◌, List, [], ◌∷◌, ◌++◌, length, Some, None, refl, sym, subst, ap, ◌∙◌, append_assoc, arith}
+use Rattle.std.specs.Prelude.{◌≢◌, ◌-◌}
 use Rattle.std.proofs.lemmas.List.{length-append}
-use Rattle.std.specs.FinMap as finite
 use mathlib.Core.List.{append-nil}
 use Rattle.wp_model.specs.declared.entry.Entry.{Entry}
 use Rattle.wp_model.specs.declared.entry.Entry.TheVariants as entry
@@ -15,47 +13,35 @@ use Rattle.wp_text.specs.declared.script.Command.TheVariants as command
 use Rattle.wp_text.specs.declared.reply.Reply.{Reply}
 use Rattle.wp_text.specs.declared.reply.Reply.TheVariants as reply
 use Rattle.wp_core.specs.Sound.Actors.{StartsWith}
-use Rattle.wp_core.specs.Views.{Fact}
-use Rattle.wp_core.specs.World.{Participant, Transactions}
+use Rattle.wp_core.specs.World.{Participant}
 use Rattle.wp_core.proofs.KeepsSeen.{shorter}
 use Rattle.wp_txn.specs.Records.{numbers_behind}
-use Rattle.wp_shared.specs.Calls.{ContinuesWith}
 use Rattle.wp_shared.specs.Seats.{SharedState, SeatState}
 use Rattle.wp_names.specs.declared.error.TxnError.{TxnError}
 use Rattle.wp_names.specs.declared.error.TxnError.TheVariants.{Silent}
-use Rattle.wp_txn.specs.Calls.{Keeps, without_transaction, GivesUp}
+use Rattle.wp_txn.specs.Calls.{without_transaction, GivesUp}
 use Rattle.wp_txn.specs.Txn.{OpenState, PreparedState, HasPrepared}
 use Rattle.wp_txn.specs.Writes.{Prepares, Ends, CommitsNow, Commits, RollsBack, RefusesOpen, RefusesPrepared, AsksCommit, AsksRollback}
 use Rattle.wp_replies.specs.declared.client.LabelledSnapshot.{LabelledSnapshot}
 use Rattle.wp_replies.specs.declared.client.Txn.{Txn}
 use Rattle.wp_replies.specs.declared.client.Txn.TheVariants.{Idle, Open, Prepared}
-use Rattle.wp_replies.specs.Client.{Client}
 use Rattle.wp_replies.specs.After.{after_reply}
-use Rattle.wp_replies.specs.Kind.{acknowledged, fresh_in, last_after}
-use Rattle.wp_replies.specs.Progress.{Progress, heard_after}
-use Rattle.wp_replies.specs.Replies.{Evidence, IsLoggedAt, Row, UnlessRefused, refusal_of, Allows}
+use Rattle.wp_replies.specs.Kind.{acknowledged, last_after}
+use Rattle.wp_replies.specs.Progress.{Progress}
+use Rattle.wp_replies.specs.Replies.{Evidence, IsLoggedAt, refusal_of, Allows}
 use Rattle.wp_replies.specs.Plan.{next}
 use Rattle.wp_answers.proofs.Alone.Decisions.{prepared_alone, committed_now_alone, open_stopped_alone, open_full_alone, open_fault_alone, prepare_asks, commit_now_asks, committed_alone, rolled_back_alone, commit_stopped_alone, commit_full_alone, commit_fault_alone, rollback_stopped_alone, rollback_full_alone, rollback_fault_alone, dropped_alone, left_alone}
-use Rattle.wp_answers.specs.declared.holdings.HeldTxn.{HeldTxn}
-use Rattle.wp_answers.specs.declared.holdings.HeldTxn.TheVariants as held
-use Rattle.wp_answers.specs.Answers.{Answers, BreaksOff, IsDue, IsAnswered}
-use Rattle.wp_answers.specs.Holdings.{HoldsTxn, HoldsFrom}
-use Rattle.wp_answers.specs.Replies.{refusal}
-use Rattle.wp_answers.proofs.Fitting.{Fits, else_answers, one_answers, last_entry, last_within}
-use Rattle.wp_answers.proofs.Clients.{having, holds_from}
-use Rattle.wp_answers.proofs.Growing.{of_two, progress_still}
-use Rattle.wp_answers.proofs.Reading.{keeps_answers}
+use Rattle.wp_client.specs.declared.holdings.HeldTxn.TheVariants as held
+use Rattle.wp_client.specs.Answers.{Answers, BreaksOff, IsDue, IsAnswered}
+use Rattle.wp_client.specs.Holdings.{HoldsTxn, HoldsFrom}
+use Rattle.wp_client.specs.Replies.{refusal}
+use Rattle.wp_answers.proofs.Putting.{one_answers, last_entry, last_within}
+use Rattle.wp_client.proofs.Fitting.{Fits, else_answers}
+use Rattle.wp_client.proofs.Clients.{having, holds_from}
+use Rattle.wp_client.proofs.GivenUp.{gone}
+use Rattle.wp_client.proofs.Growing.{of_two, progress_still}
 use Rattle.wp_answers.proofs.Refused.{IsLogged, none_before, by_refusal, refused_answers, refused_holds, refused_memory}
-use Rattle.wp_answers.proofs.Staying.{in_place, broke_off_after, none_left, has_now, holds_now}
-
--- ---- the state refuses the command
-
-pub state_answers : {D : Type 0} (z : SharedState D) (old new : SeatState) (client : Client) (c : Command) → refusal_of client c ≡ Some reply.State → fresh_in c reply.State ≡ None → ((before : List (List ℕ)) → heard_after before c reply.State ≡ before) → Keeps z old new
-    → Answers z old new client client c reply.State
-state_answers z old new client c refused fresh labels goes =
-    keeps_answers z old new client client c reply.State goes (record { acknowledges = refl; tables = λ before. refl; labels = labels; log_failed = refl; tables_failed = refl; remembered = tt }) refl
-    (λ before low. subst (λ (o : Option ℕ). unwrap_or o before ≤ length new.knows.participant.seen) (sym fresh) low)
-    (λ first is_first before p e agrees. subst (λ (o : Option Reply). UnlessRefused o reply.State (Row e before client 0 c reply.State)) (sym refused) refl)
+use Rattle.wp_client.proofs.Staying.{in_place, broke_off_after, has_now, holds_now}
 
 -- ---- one entry
 
@@ -180,27 +166,14 @@ module _ {D : Type 0} (z : SharedState D) (old new : SeatState) (txn : PreparedS
 -- ---- what the client has then
 
 module _ {D : Type 0} (z : SharedState D) (old new : SeatState) where
-  -- the transaction of this name is gone, which was the only one
-  gone : (Kept : Fact → Type 0) (after : Participant) (t : HeldTxn) (name : List ℕ) → ContinuesWith Kept z old new after → after.transactions ≡ (without_transaction name old.knows.participant).transactions → after.direct ≡ old.knows.participant.direct → after.registered ≡ old.knows.participant.registered
-      → HoldsTxn z old t → ((other : List ℕ) → bytes_eq name other ≡ false → finite.get old.knows.participant.transactions other ≡ None) → HoldsFrom z old new t held.Idle
-  gone Kept after t name goes ts direct registered has others =
-      holds_now Kept z old new after goes t held.Idle registered (has_now Kept z old new after goes t held.Idle direct has tt
-      (λ other free. ap (λ (x : Transactions). finite.get x other) ts ∙ none_left old.knows.participant.transactions name others other))
-
-  pub given_up_open : (txn : OpenState) → HoldsTxn z old (held.Open txn) → GivesUp z old new txn.name → HoldsFrom z old new (held.Open txn) held.Idle
-  given_up_open txn has goes = gone _ (without_transaction txn.name old.knows.participant) (held.Open txn) txn.name goes refl refl refl has has.only
-
-  pub given_up_prepared : (txn : PreparedState) → HoldsTxn z old (held.Prepared txn) → GivesUp z old new txn.name → HoldsFrom z old new (held.Prepared txn) held.Idle
-  given_up_prepared txn has goes = gone _ (without_transaction txn.name old.knows.participant) (held.Prepared txn) txn.name goes refl refl refl has has.only
-
   pub committed_now_holds : (txn : OpenState) (n : ℕ) → HoldsTxn z old (held.Open txn) → CommitsNow z old txn n new → HoldsFrom z old new (held.Open txn) held.Idle
-  committed_now_holds txn n has k = gone _ _ (held.Open txn) txn.name k.1.1.goes_on refl refl refl has has.only
+  committed_now_holds txn n has k = gone z old new _ _ (held.Open txn) txn.name k.1.1.goes_on refl refl refl has has.only
 
   pub committed_holds : (txn : PreparedState) (n : ℕ) → HoldsTxn z old (held.Prepared txn) → Commits z old txn n new → HoldsFrom z old new (held.Prepared txn) held.Idle
-  committed_holds txn n has k = gone _ _ (held.Prepared txn) txn.name k.0.1.1.goes_on refl refl refl has has.only
+  committed_holds txn n has k = gone z old new _ _ (held.Prepared txn) txn.name k.0.1.1.goes_on refl refl refl has has.only
 
   pub rolled_back_holds : (txn : PreparedState) (n : ℕ) → HoldsTxn z old (held.Prepared txn) → RollsBack z old txn n new → HoldsFrom z old new (held.Prepared txn) held.Idle
-  rolled_back_holds txn n has k = gone _ _ (held.Prepared txn) txn.name k.1.1.goes_on refl refl refl has has.only
+  rolled_back_holds txn n has k = gone z old new _ _ (held.Prepared txn) txn.name k.1.1.goes_on refl refl refl has has.only
 
   pub prepared_holds : (txn : OpenState) (prepared : PreparedState) (n : ℕ) → HoldsTxn z old (held.Open txn) → Prepares z old txn prepared n new → HoldsFrom z old new (held.Open txn) (held.Prepared prepared)
   prepared_holds txn prepared n has k = let goes = k.3.1.goes_on in let is : PreparedState = record { name = txn.name; number = n; batch = txn.batch } in

@@ -31,13 +31,13 @@ use Rattle.wp_replies.specs.Replies.{Evidence, WasFlushed, IsKnown, IsHaltedAt, 
 use Rattle.wp_replies.specs.After.{after_reply}
 use Rattle.wp_replies.specs.Tables.{unflushed, after_flush}
 use Rattle.wp_answers.proofs.Alone.Flushing.{flushed_alone, nothing_flushed_alone, flush_failed_alone, flush_halted_alone}
-use Rattle.wp_answers.specs.Agrees.{Agrees, Knows}
-use Rattle.wp_answers.specs.Answers.{IsProgress, IsExplained, Answers, BreaksOff, IsDue, IsAnswered}
-use Rattle.wp_answers.specs.Holdings.{HoldingsState, Holds}
+use Rattle.wp_client.specs.Agrees.{Agrees, Knows}
+use Rattle.wp_client.specs.Answers.{IsProgress, IsExplained, Answers, BreaksOff, IsDue, IsAnswered}
+use Rattle.wp_client.specs.Holdings.{HoldingsState, Holds}
 use Rattle.wp_answers.specs.Replies.{tables_refusal}
-use Rattle.wp_answers.proofs.Fitting.{Fits, else_answers}
-use Rattle.wp_answers.proofs.Growing.{in_back, of_one, of_two, taken_old, seen_taken, last_still}
-use Rattle.wp_answers.proofs.Staying.{holds_still, keeps_holds, broke_off}
+use Rattle.wp_client.proofs.Fitting.{Fits, else_answers}
+use Rattle.wp_client.proofs.Growing.{in_back, of_one, of_two, taken_old, seen_taken, last_still}
+use Rattle.wp_client.proofs.Staying.{holds_still, keeps_holds, broke_off}
 
 -- the command is no other than a flush, a compaction or a renewal, as far as the client is concerned
 pub record IsOfTables (c : Command) : Type 0 where

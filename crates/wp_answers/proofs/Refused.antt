@@ -28,16 +28,16 @@ use Rattle.wp_replies.specs.Client.{Client}
 use Rattle.wp_replies.specs.Kind.{number_in, fresh_in, last_after}
 use Rattle.wp_replies.specs.Progress.{Progress, heard_after}
 use Rattle.wp_replies.specs.Replies.{Limits, IsLimit, Evidence, refusal_of, needed, AsksFor, IsFresh, Row, UnlessRefused, Allows}
-use Rattle.wp_answers.specs.Agrees.{Agrees}
-use Rattle.wp_answers.specs.Alone.{log_faults, device_faults, tables_faults}
-use Rattle.wp_answers.specs.Answers.{IsProgress, IsExplained, is_finding, findings, Answers}
-use Rattle.wp_answers.specs.Holdings.{HoldingsState, Holds}
-use Rattle.wp_answers.specs.Replies.{refusal}
-use Rattle.wp_answers.proofs.Alone.Published.{no_device_fault}
-use Rattle.wp_answers.proofs.Fitting.{else_answers}
-use Rattle.wp_answers.proofs.Growing.{InstallNothing, due_still, last_still}
+use Rattle.wp_client.specs.Agrees.{Agrees}
+use Rattle.wp_client.specs.Alone.{log_faults, device_faults, tables_faults}
+use Rattle.wp_client.specs.Answers.{IsProgress, IsExplained, is_finding, findings, Answers}
+use Rattle.wp_client.specs.Holdings.{HoldingsState, Holds}
+use Rattle.wp_client.specs.Replies.{refusal}
+use Rattle.wp_client.proofs.Alone.Published.{no_device_fault}
+use Rattle.wp_client.proofs.Fitting.{else_answers}
+use Rattle.wp_client.proofs.Growing.{InstallNothing, due_still, last_still}
 use Rattle.wp_answers.proofs.Risen.{base_there, base_between}
-use Rattle.wp_answers.proofs.Staying.{holds_still}
+use Rattle.wp_client.proofs.Staying.{holds_still}
 
 -- the log does not take it: its numbers are full, it fails, or it failed before
 abbrev pub IsOfLog : Reply → Type 0

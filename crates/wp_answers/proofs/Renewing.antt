@@ -30,14 +30,14 @@ use Rattle.wp_replies.specs.Replies.{Evidence, WasBase, IsKnown, IsFresh, HasNot
 use Rattle.wp_replies.specs.Tables.{after_renewal}
 use Rattle.wp_replies.proofs.DueTables.{asks_none}
 use Rattle.wp_answers.proofs.Alone.Renewing.{renewed_alone, nothing_renewed_alone, renew_halted_alone, renew_stopped_alone, renew_log_failed_alone, renew_failed_alone}
-use Rattle.wp_answers.specs.Agrees.{Agrees}
-use Rattle.wp_answers.specs.Answers.{HasBase, IsProgress, IsExplained, Answers, BreaksOff, IsDue, IsAnswered}
-use Rattle.wp_answers.specs.Holdings.{HoldingsState, Holds}
+use Rattle.wp_client.specs.Agrees.{Agrees}
+use Rattle.wp_client.specs.Answers.{HasBase, IsProgress, IsExplained, Answers, BreaksOff, IsDue, IsAnswered}
+use Rattle.wp_client.specs.Holdings.{HoldingsState, Holds}
 use Rattle.wp_answers.specs.Replies.{renewal_refusal}
-use Rattle.wp_answers.proofs.Growing.{of_two, of_three, seen_taken, last_still}
+use Rattle.wp_client.proofs.Growing.{of_two, of_three, seen_taken, last_still}
 use Rattle.wp_answers.proofs.Maintaining.{renewal_is, known_of, tables_answers, halted_answers, nothing_answers}
 use Rattle.wp_answers.proofs.Risen.{base_between}
-use Rattle.wp_answers.proofs.Staying.{holds_still, keeps_holds, broke_off}
+use Rattle.wp_client.proofs.Staying.{holds_still, keeps_holds, broke_off}
 
 module _ {D : Type 0} (z : SharedState D) (old new : SeatState) where
   abbrev it : Participant

@@ -16,7 +16,7 @@ use Rattle.wp_core.specs.Steps.{Step, close_log, find_log_closed, stop_log, inst
 use Rattle.wp_core.specs.Views.{Event, claimed, took, locked, told, heard, renewed, log_failed, log_stopped, tables_failed, stopped, found_edit, found}
 use Rattle.wp_core.specs.Views as event
 use Rattle.wp_core.specs.World.{Actor, World, published}
-use Rattle.wp_answers.specs.Answers.{HasBase}
+use Rattle.wp_client.specs.Answers.{HasBase}
 use Rattle.wp_core.proofs.ActorsMove.{front_or_last}
 use Rattle.wp_core.proofs.EachStep.{run_keeps}
 use Rattle.wp_core.proofs.Frames.{each_set}

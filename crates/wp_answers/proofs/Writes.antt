@@ -1,6 +1,6 @@
 -- What a client is answered that writes a change at once.
-use Rattle.std.proofs.Common.{◌≡◌, ⊎_elim, ℕ, ◌≤◌, List, [], ◌∷◌, length, Option, Some, None, refl, sym, subst, ap, arith}
-use Rattle.std.specs.Prelude.{Result, Ok, Err, unwrap_or}
+use Rattle.std.proofs.Common.{◌≡◌, ⊎_elim, ℕ, List, [], ◌∷◌, length, Some, None, refl, sym, subst, ap, arith}
+use Rattle.std.specs.Prelude.{Result, Ok, Err}
 use Rattle.wp_model.specs.declared.change.Change.{Change}
 use Rattle.wp_model.specs.declared.change.Change.TheVariants as change
 use Rattle.wp_model.specs.declared.entry.Entry.{Entry}
@@ -27,34 +27,26 @@ use Rattle.wp_replies.specs.declared.client.LabelledSnapshot.{LabelledSnapshot}
 use Rattle.wp_replies.specs.declared.client.Txn.TheVariants.{Idle}
 use Rattle.wp_replies.specs.Client.{Client}
 use Rattle.wp_replies.specs.After.{after_reply}
-use Rattle.wp_replies.specs.Kind.{number_in, last_after}
-use Rattle.wp_replies.specs.Progress.{Progress, heard_after}
+use Rattle.wp_replies.specs.Kind.{last_after}
+use Rattle.wp_replies.specs.Progress.{Progress}
 use Rattle.wp_replies.specs.Replies.{Evidence, IsLoggedAt, IsBusy, Allows}
-use Rattle.wp_answers.proofs.Alone.Changing.{asking, acknowledging}
+use Rattle.wp_client.proofs.Alone.Changing.{asking, acknowledging}
 use Rattle.wp_answers.proofs.Alone.Writes.{written_alone, busy_alone, stopped_alone, full_alone, fault_alone}
-use Rattle.wp_answers.specs.declared.holdings.HeldTxn.TheVariants as held
-use Rattle.wp_answers.specs.Answers.{IsExplained, Answers, BreaksOff, IsDue, IsAnswered}
-use Rattle.wp_answers.specs.Holdings.{HoldingsState, HoldsTxn, Holds}
-use Rattle.wp_answers.specs.Replies.{refusal}
-use Rattle.wp_answers.proofs.Fitting.{Fits, else_answers, one_answers}
-use Rattle.wp_answers.proofs.Clients.{having}
-use Rattle.wp_answers.proofs.Growing.{of_one}
-use Rattle.wp_answers.proofs.Holders.{found_busy}
-use Rattle.wp_answers.proofs.Labels.{itself}
+use Rattle.wp_client.specs.declared.holdings.HeldTxn.TheVariants as held
+use Rattle.wp_client.specs.Answers.{IsExplained, Answers, BreaksOff, IsDue, IsAnswered}
+use Rattle.wp_client.specs.Holdings.{HoldingsState, HoldsTxn, Holds}
+use Rattle.wp_client.specs.Replies.{refusal}
+use Rattle.wp_answers.proofs.Putting.{one_answers}
+use Rattle.wp_client.proofs.Fitting.{Fits, else_answers}
+use Rattle.wp_client.proofs.Clients.{having}
+use Rattle.wp_client.proofs.Growing.{of_one}
+use Rattle.wp_client.proofs.Holders.{found_busy}
+use Rattle.wp_client.proofs.Labels.{itself}
 use Rattle.wp_answers.proofs.Refused.{IsOfLog, IsLogged, ComesBefore, refused_answers, refused_holds}
-use Rattle.wp_answers.proofs.Staying.{holds_still, keeps_holds, broke_off, broke_off_after}
+use Rattle.wp_client.proofs.Staged.{labels_same, last_same}
+use Rattle.wp_client.proofs.Staying.{holds_still, keeps_holds, broke_off, broke_off_after}
 
--- ---- by the change
-
--- no reply to it has anything of labels
-pub labels_same : (c : Change) (before : List (List ℕ)) (r : Reply) → heard_after before (asking c) r ≡ before
-labels_same (change.Put key value) before r = refl
-labels_same (change.Del key) before r = refl
-
--- a reply without a number leaves the last one
-pub last_same : (c : Change) (r : Reply) (most : ℕ) → number_in r ≡ None → (before : ℕ) → before ≤ most → last_after before (asking c) r ≤ most
-last_same (change.Put key value) r most none before low = subst (λ (o : Option ℕ). unwrap_or o before ≤ most) (sym none) low
-last_same (change.Del key) r most none before low = subst (λ (o : Option ℕ). unwrap_or o before ≤ most) (sym none) low
+-- ---- the row
 
 -- the row of the entry's number
 logged_row : (c : Change) (snapshots : List LabelledSnapshot) (e : Evidence) (before : Progress) (n : ℕ) → IsLoggedAt e.history before.last n (Write (c ∷ [])) → Allows e before (having Idle snapshots) 0 (asking c) (acknowledging c n)

@@ -1,40 +1,15 @@
--- What the calls of the crates below come to as replies.
-use Rattle.std.specs.Prelude.{◌≡◌, ℕ, ◌≤◌, Bool, true, false, List, [], ◌∷◌, ◌++◌, length, map, Option, Some, None}
-use Rattle.wp_model.specs.declared.change.Change.{Change}
-use Rattle.wp_model.specs.History.{value_at}
+-- What the calls on tables come to as replies, and which commands change the transaction that a client has.
+use Rattle.std.specs.Prelude.{Bool, true, false, Option, Some, None}
 use Rattle.wp_text.specs.declared.script.Command.{Command}
 use Rattle.wp_text.specs.declared.script.Command.TheVariants as command
 use Rattle.wp_text.specs.declared.reply.Reply.{Reply}
 use Rattle.wp_text.specs.declared.reply.Reply.TheVariants as reply
-use Rattle.wp_shared.specs.Seats.{SharedState, SeatState}
-use Rattle.wp_txn.specs.Calls.{Keeps}
-use Rattle.wp_names.specs.declared.error.TxnError.{TxnError}
-use Rattle.wp_names.specs.declared.error.TxnError.TheVariants as why
-use Rattle.wp_replies.specs.Client.{number_of}
 use Rattle.wp_maint.specs.declared.renewed.RenewError.{RenewError}
 use Rattle.wp_maint.specs.declared.renewed.RenewError.TheVariants as renewal
 use Rattle.wp_maint.specs.declared.error.MaintError.{MaintError}
 use Rattle.wp_maint.specs.declared.error.MaintError.TheVariants as maint
-use Rattle.wp_answers.specs.declared.holdings.HeldTxn.{HeldTxn}
-use Rattle.wp_answers.specs.declared.holdings.HeldTxn.TheVariants as held
-use Rattle.wp_answers.specs.declared.holdings.HeldSnapshot.{HeldSnapshot}
-use Rattle.wp_answers.specs.Fresh.{WasPublished}
-use Rattle.wp_answers.specs.Holdings.{labelled}
 
--- what a refusal is answered: nothing where memory was wanting; that a label is silent is answered with the label
-abbrev pub refusal : TxnError → Option Reply
-refusal why.Memory = None
-refusal (why.Taken name) = Some (reply.Taken name)
-refusal (why.Busy holder) = Some (reply.Busy holder)
-refusal why.TooMany = Some reply.TooMany
-refusal why.Silent = None
-refusal (why.Unknown name at) = Some (reply.Unknown name at)
-refusal (why.InUse name) = Some (reply.InUse name)
-refusal (why.NumbersFull published limit) = Some (reply.Full published limit)
-refusal why.LogFault = Some reply.FaultLog
-refusal (why.Stopped n) = Some (reply.Stopped n)
-
--- likewise by the tables
+-- what a refusal by the tables is answered: nothing where memory was wanting
 abbrev pub tables_refusal : MaintError → Option Reply
 tables_refusal maint.Memory = None
 tables_refusal maint.Nothing = Some reply.Nothing
@@ -49,42 +24,6 @@ renewal_refusal (renewal.Stopped n) = Some (reply.Stopped n)
 renewal_refusal renewal.Nothing = Some reply.Nothing
 renewal_refusal renewal.TableFault = Some reply.FaultTables
 renewal_refusal renewal.LogFault = Some reply.FaultLog
-
--- ---- reads
-
--- the changes of the client's own transaction
-abbrev pub batch_in : HeldTxn → List Change
-batch_in held.Idle = []
-batch_in (held.Open t) = t.batch
-batch_in (held.Prepared t) = t.batch
-
--- what is answered of a key by what these say of it
-abbrev pub own_reply : Option (Option (List ℕ)) → Option Reply
-own_reply None = None
-own_reply (Some None) = Some reply.MissingOwn
-own_reply (Some (Some value)) = Some (reply.GotOwn value)
-
--- The value of the key at a number that was published while the call ran. The seat is as it was but for what it has seen.
-pub record ReadsFresh {D : Type 0} (z : SharedState D) (old new : SeatState) (key : List ℕ) (value : Option (List ℕ)) (at : ℕ) : Type 0 where
-  pub goes_on : Keeps z old new
-  pub fresh : length old.knows.participant.seen ≤ at
-  pub within : at ≤ length new.knows.participant.seen
-  pub published : WasPublished z old new at
-  pub value_is : value ≡ value_at new.knows.participant.seen key at
-
--- ---- snapshots
-
--- the snapshot with this place is the first one of the label
-pub record IsPlace (snapshots : List HeldSnapshot) (label : List ℕ) (i : ℕ) : Type 0 where
-  pub front : List HeldSnapshot
-  pub found : HeldSnapshot
-  pub back : List HeldSnapshot
-  pub are : snapshots ≡ front ++ found ∷ back
-  pub place : length front ≡ i
-  pub label_is : found.label ≡ label
-  pub none_before : number_of (map labelled front) label ≡ None
-
--- ---- commands
 
 -- the command may change which transaction the client has, where it does not change a key
 abbrev pub is_of_txn : Command → Bool

@@ -1,27 +1,23 @@
 //! One command of a client.
 ghost use Rattle.std.specs.Prelude.{◌≡◌, true, IfOk, OnErr};
-ghost use Rattle.wp_answers.specs.declared.holdings.HeldTxn.TheVariants as held;
+ghost use Rattle.wp_client.specs.declared.holdings.HeldTxn.TheVariants as held;
 ghost use Rattle.wp_model.specs.Flushed.{InstalledEdit};
 ghost use Rattle.wp_rule.specs.Shows.{WasLast};
 ghost use Rattle.wp_shared.specs.Parts.{content};
 ghost use Rattle.wp_replies.specs.Due.{Store};
-ghost use Rattle.wp_answers.specs.Alone.{IsOnly, IsStoreOf, AnswersAlone};
-ghost use Rattle.wp_answers.specs.Answers.{Answers, IsAnswered, AnswersFrom, BreaksOff, BreaksOffFrom};
+ghost use Rattle.wp_client.specs.Alone.{IsOnly, IsStoreOf, AnswersAlone};
+ghost use Rattle.wp_client.specs.Answers.{Answers, IsAnswered, AnswersFrom, BreaksOff, BreaksOffFrom};
 ghost use Rattle.wp_answers.specs.Fresh.{NamesPublished};
-ghost use Rattle.wp_answers.specs.Holdings.{client_of, HoldsTxn, Holds, HoldsFrom};
+ghost use Rattle.wp_client.specs.Holdings.{client_of, HoldsTxn, Holds, HoldsFrom};
 ghost use Rattle.wp_answers.specs.Replies.{is_of_txn};
 
-use crate::board::{hear, tell};
 use crate::changes::{del, put};
 use crate::decisions::{commit, leave, prepare, rollback};
-use crate::holdings::{HeldTxn, Holdings};
 use crate::maintenance::{compact, flush, renew};
-use crate::naming::{begin, take};
-use crate::reads::{get, get_at};
-use crate::snapshots::{free, snap};
 use std::alloc::{AllocError, Global};
 use std::mem;
 use std::sync::Wait;
+use wp_client::{HeldTxn, Holdings, begin, free, get, get_at, hear, snap, take, tell};
 use wp_outside::Disk;
 use wp_shared::{Seat, Shared};
 use wp_text::{Command, Reply};

@@ -1,20 +1,17 @@
 //! Changes. Where no transaction is begun a change is written at once; an open one takes it in.
-ghost use Rattle.std.specs.Prelude.{◌≡◌, true, IfOk, OnErr};
-ghost use Rattle.wp_model.specs.Batch.{is_batch};
+ghost use Rattle.std.specs.Prelude.{IfOk, OnErr};
 ghost use Rattle.wp_text.specs.declared.script.Command.TheVariants.{Put, Del};
-ghost use Rattle.wp_answers.specs.declared.holdings.HeldTxn.TheVariants as held;
-ghost use Rattle.wp_answers.specs.Answers.{AnswersFrom, BreaksOffFrom};
-ghost use Rattle.wp_answers.specs.Holdings.{HoldsTxn, HoldsFrom};
+ghost use Rattle.wp_client.specs.declared.holdings.HeldTxn.TheVariants as held;
+ghost use Rattle.wp_client.specs.Answers.{AnswersFrom, BreaksOffFrom};
+ghost use Rattle.wp_client.specs.Holdings.{HoldsTxn, HoldsFrom};
 
-use crate::holdings::HeldTxn;
-use crate::refusals::refusal;
 use std::alloc::{AllocError, Global};
 use std::sync::Wait;
+use wp_client::{HeldTxn, del_open, put_open, refusal};
 use wp_model::{Change, Key, Value};
 use wp_outside::Disk;
 use wp_shared::{Seat, Shared};
 use wp_text::Reply;
-use wp_txn::OpenTxn;
 
 /// Puts the value under the key at once.
 fn put_now<D: Disk + Drop, R: Wait>(
@@ -53,56 +50,6 @@ fn del_now<D: Disk + Drop, R: Wait>(
     let change = Change::Del(key.copy(alloc)?);
     match wp_txn::write(store, rt, alloc, seat, change) {
         Ok(n) => Ok(Reply::Del(n)),
-        Err(why) => refusal(why),
-    }
-}
-
-/// For the proof alone: no more keys are changed than may be, each once, in order.
-fn shows_batch(txn: &OpenTxn)
-    ensures { is_batch txn.now.batch ≡ true }
-{
-    let _ = txn.batch().changes();
-}
-
-/// Puts the value under the key in the open transaction.
-fn put_open<D: Disk + Drop, R: Wait>(
-    store: &Shared<D>,
-    rt: &R,
-    alloc: Global,
-    seat: &mut Seat<D>,
-    txn: &mut OpenTxn,
-    key: &Key,
-    value: &Value,
-) -> Result<Reply, AllocError>
-    requires { HoldsTxn store.now seat.old (held.Open txn.old) }
-    ensures holds { HoldsFrom store.now seat.old seat.new (held.Open txn.old) (held.Open txn.new) }
-    ensures answered { IfOk result (AnswersFrom store.now seat.old seat.new (held.Open txn.old) (held.Open txn.new) (Put key.now value.now)) }
-    ensures err { OnErr result (BreaksOffFrom seat.old seat.new (held.Open txn.old) (held.Open txn.new) (Put key.now value.now)) }
-{
-    shows_batch(txn);
-    match wp_txn::put(store, rt, alloc, seat, txn, key, value) {
-        Ok(()) => Ok(Reply::Held),
-        Err(why) => refusal(why),
-    }
-}
-
-/// Deletes the key in the open transaction.
-fn del_open<D: Disk + Drop, R: Wait>(
-    store: &Shared<D>,
-    rt: &R,
-    alloc: Global,
-    seat: &mut Seat<D>,
-    txn: &mut OpenTxn,
-    key: &Key,
-) -> Result<Reply, AllocError>
-    requires { HoldsTxn store.now seat.old (held.Open txn.old) }
-    ensures holds { HoldsFrom store.now seat.old seat.new (held.Open txn.old) (held.Open txn.new) }
-    ensures answered { IfOk result (AnswersFrom store.now seat.old seat.new (held.Open txn.old) (held.Open txn.new) (Del key.now)) }
-    ensures err { OnErr result (BreaksOffFrom seat.old seat.new (held.Open txn.old) (held.Open txn.new) (Del key.now)) }
-{
-    shows_batch(txn);
-    match wp_txn::del(store, rt, alloc, seat, txn, key) {
-        Ok(()) => Ok(Reply::Held),
         Err(why) => refusal(why),
     }
 }

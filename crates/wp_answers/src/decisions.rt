@@ -1,14 +1,13 @@
 //! A transaction is prepared, committed, rolled back or left.
 ghost use Rattle.std.specs.Prelude.{IfOk, OnErr};
 ghost use Rattle.wp_text.specs.declared.script.Command.TheVariants.{Prepare, Commit, Rollback, Leave};
-ghost use Rattle.wp_answers.specs.declared.holdings.HeldTxn.TheVariants as held;
-ghost use Rattle.wp_answers.specs.Answers.{AnswersFrom, BreaksOffFrom};
-ghost use Rattle.wp_answers.specs.Holdings.{HoldsTxn, HoldsFrom};
+ghost use Rattle.wp_client.specs.declared.holdings.HeldTxn.TheVariants as held;
+ghost use Rattle.wp_client.specs.Answers.{AnswersFrom, BreaksOffFrom};
+ghost use Rattle.wp_client.specs.Holdings.{HoldsTxn, HoldsFrom};
 
-use crate::holdings::HeldTxn;
-use crate::refusals::refusal;
 use std::alloc::{AllocError, Global};
 use std::sync::Wait;
+use wp_client::{HeldTxn, refusal};
 use wp_outside::Disk;
 use wp_shared::{Seat, Shared};
 use wp_text::Reply;

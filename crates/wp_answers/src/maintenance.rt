@@ -3,9 +3,9 @@ ghost use Rattle.std.specs.Prelude.{◌≡◌, Some, None, IfOk, OnErr};
 ghost use Rattle.wp_text.specs.declared.script.Command.TheVariants.{Flush, Compact, Renew};
 ghost use Rattle.wp_replies.specs.Client.{Client};
 ghost use Rattle.wp_shared.specs.Seats.{IsFree};
-ghost use Rattle.wp_answers.specs.Answers.{BreaksOff, IsAnswered};
+ghost use Rattle.wp_client.specs.Answers.{BreaksOff, IsAnswered};
 ghost use Rattle.wp_answers.specs.Fresh.{NamesPublished};
-ghost use Rattle.wp_answers.specs.Holdings.{HoldingsState, client_of, Holds};
+ghost use Rattle.wp_client.specs.Holdings.{HoldingsState, client_of, Holds};
 ghost use Rattle.wp_answers.specs.Replies.{renewal_refusal, tables_refusal};
 
 use std::alloc::{AllocError, Global};

@@ -31,10 +31,10 @@ use Rattle.wp_replies.specs.Client.{Client, numbers_of}
 use Rattle.wp_replies.specs.Due.{Store, compacted}
 use Rattle.wp_replies.specs.Kind.{is_installed}
 use Rattle.wp_replies.specs.Tables.{listed, retained, after_compaction}
-use Rattle.wp_answers.specs.Alone.{IsOnly, IsStoreOf, AnswersAlone}
-use Rattle.wp_answers.proofs.Alone.Published.{in_both, in_behind}
-use Rattle.wp_answers.proofs.Alone.Worlds.{only_of}
-use Rattle.wp_answers.proofs.Alone.Seated.{follows_on, alone_at, seen_still}
+use Rattle.wp_client.specs.Alone.{IsOnly, IsStoreOf, AnswersAlone}
+use Rattle.wp_client.proofs.Alone.Published.{in_both, in_behind}
+use Rattle.wp_client.proofs.Alone.Worlds.{only_of}
+use Rattle.wp_client.proofs.Alone.Seated.{follows_on, alone_at, seen_still}
 use Rattle.wp_answers.proofs.Alone.TablesFound.{AsksTablesFor, makes_installed, same_base, last_is, halted_answers, nothing_answers, installs_answers, failed_answers}
 use Rattle.wp_answers.proofs.Alone.Retained.{AreSame, retained_same, compaction_same, contained, containing, numbers_in, number_in, of_number, times_in, numbers_same}
 

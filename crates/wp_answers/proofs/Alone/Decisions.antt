@@ -24,9 +24,9 @@ use Rattle.wp_replies.specs.declared.client.Txn.TheVariants.{Idle, Open, Prepare
 use Rattle.wp_replies.specs.Client.{Client}
 use Rattle.wp_replies.specs.Due.{Store, logged, client_after}
 use Rattle.wp_replies.specs.Plan.{next}
-use Rattle.wp_answers.specs.Alone.{IsOnly, IsStoreOf, AnswersAlone}
-use Rattle.wp_answers.proofs.Alone.Seated.{none_quiet, follows_on}
-use Rattle.wp_answers.proofs.Alone.Quiet.{quiet_answers}
+use Rattle.wp_client.specs.Alone.{IsOnly, IsStoreOf, AnswersAlone}
+use Rattle.wp_client.proofs.Alone.Seated.{none_quiet, follows_on}
+use Rattle.wp_client.proofs.Alone.Quiet.{quiet_answers}
 use Rattle.wp_answers.proofs.Alone.Logged.{AsksFor, put_answers, stopped_answers, full_answers, fault_answers}
 
 -- the number of the last entry, where these were put behind a history

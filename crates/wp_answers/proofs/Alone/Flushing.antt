@@ -20,8 +20,8 @@ use Rattle.wp_replies.specs.Client.{Client}
 use Rattle.wp_replies.specs.Due.{Store, flushed}
 use Rattle.wp_replies.specs.Kind.{is_installed}
 use Rattle.wp_replies.specs.Tables.{unflushed, after_flush}
-use Rattle.wp_answers.specs.Alone.{IsOnly, IsStoreOf, AnswersAlone}
-use Rattle.wp_answers.proofs.Alone.Seated.{follows_on, seen_still}
+use Rattle.wp_client.specs.Alone.{IsOnly, IsStoreOf, AnswersAlone}
+use Rattle.wp_client.proofs.Alone.Seated.{follows_on, seen_still}
 use Rattle.wp_answers.proofs.Alone.TablesFound.{AsksTablesFor, makes_installed, same_base, last_is, halted_answers, nothing_answers, installs_answers, failed_answers}
 
 -- some versions are flushed

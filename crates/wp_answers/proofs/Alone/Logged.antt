@@ -28,11 +28,12 @@ use Rattle.wp_replies.specs.Due.{Store, logged, due, edit_of, board_after, store
 use Rattle.wp_replies.specs.Kind.{is_logged, is_fault, is_installed, is_renewed, is_renewal, calls_log}
 use Rattle.wp_replies.specs.Kind as kind
 use Rattle.wp_replies.specs.Plan.{plan, asked_of}
-use Rattle.wp_answers.specs.Alone.{log_faults, IsOnly, IsStoreOf, AnswersAlone}
-use Rattle.wp_answers.proofs.Alone.Published.{total_both, none_if, if_one, in_both, in_behind, not_counted}
-use Rattle.wp_answers.proofs.Alone.Worlds.{has_seen, no_log_fault, only_of, was_stopped}
-use Rattle.wp_answers.proofs.Alone.Seated.{LeaveTables, AreQuiet, one_quiet, one_leaves, both_leave, both_quiet, Follows, alone_at, follows, follows_on, is_alone, last_over, begins_opened, log_now, log_still, past_still, seen_still, few_now, few_put, put_behind}
-use Rattle.wp_answers.proofs.Alone.Quiet.{never_stops, never_renews, LeavesStore, quiet_answers}
+use Rattle.wp_client.specs.Alone.{log_faults, IsOnly, IsStoreOf, AnswersAlone}
+use Rattle.wp_client.proofs.Alone.Published.{total_both, none_if, if_one, in_both, in_behind, not_counted}
+use Rattle.wp_client.proofs.Alone.Worlds.{has_seen, no_log_fault, only_of, was_stopped}
+use Rattle.wp_client.proofs.Alone.Seated.{LeaveTables, AreQuiet, one_quiet, one_leaves, both_leave, both_quiet, Follows, alone_at, follows, follows_on, is_alone, last_over, begins_opened, log_now, log_still, past_still, seen_still, few_now}
+use Rattle.wp_answers.proofs.Alone.Putting.{few_put, put_behind}
+use Rattle.wp_client.proofs.Alone.Quiet.{never_stops, never_renews, LeavesStore, quiet_answers}
 
 -- ---- what is due
 

@@ -26,11 +26,11 @@ use Rattle.wp_replies.specs.Client.{Client}
 use Rattle.wp_replies.specs.Due.{Store, due, renewed, store_after}
 use Rattle.wp_replies.specs.Kind.{is_installed, calls_log}
 use Rattle.wp_replies.specs.Tables.{after_renewal}
-use Rattle.wp_answers.specs.Alone.{log_faults, IsOnly, IsStoreOf, AnswersAlone}
-use Rattle.wp_answers.proofs.Alone.Published.{none_if, if_one, in_behind, not_counted}
-use Rattle.wp_answers.proofs.Alone.Worlds.{no_log_fault, only_of, was_stopped}
-use Rattle.wp_answers.proofs.Alone.Seated.{AreQuiet, one_quiet, both_quiet, follows_on, begins_opened, few_now, log_now, log_still, edit_still, tables_now, board_still, seen_still, is_alone}
-use Rattle.wp_answers.proofs.Alone.Quiet.{quiet_answers}
+use Rattle.wp_client.specs.Alone.{log_faults, IsOnly, IsStoreOf, AnswersAlone}
+use Rattle.wp_client.proofs.Alone.Published.{none_if, if_one, in_behind, not_counted}
+use Rattle.wp_client.proofs.Alone.Worlds.{no_log_fault, only_of, was_stopped}
+use Rattle.wp_client.proofs.Alone.Seated.{AreQuiet, one_quiet, both_quiet, follows_on, begins_opened, few_now, log_now, log_still, edit_still, tables_now, board_still, seen_still, is_alone}
+use Rattle.wp_client.proofs.Alone.Quiet.{quiet_answers}
 use Rattle.wp_answers.proofs.Alone.TablesFound.{AsksTablesFor, makes_renewed, last_is, halted_answers, nothing_answers, installs_answers, store_halted, runs}
 
 module _ {D : Type 0} (z : SharedState D) (first : InstalledEdit) (old new : SeatState) (only : IsOnly old) (store : Store) (is : IsStoreOf z first old.knows.participant store) (stood : (w : World) × Stands z new w) (was_last : WasLast content z.first first) (client : Client) where

@@ -26,11 +26,11 @@ use Rattle.wp_replies.specs.Due.{Store, due, unless_halted, edit_of, board_after
 use Rattle.wp_replies.specs.Kind.{is_logged, is_fault, is_installed, is_renewed, is_renewal}
 use Rattle.wp_replies.specs.Kind as kind
 use Rattle.wp_replies.specs.Plan.{plan, asked_of}
-use Rattle.wp_answers.specs.Alone.{log_faults, tables_faults, IsOnly, IsStoreOf, AnswersAlone}
-use Rattle.wp_answers.proofs.Alone.Published.{none_if, if_one, not_counted}
-use Rattle.wp_answers.proofs.Alone.Worlds.{only_of}
-use Rattle.wp_answers.proofs.Alone.Seated.{last_over, AreQuiet, one_quiet, Follows, follows_on, alone_at, begins_opened, few_now, log_still, edit_still, tables_now, board_still, seen_still}
-use Rattle.wp_answers.proofs.Alone.Quiet.{never_stops, quiet_answers}
+use Rattle.wp_client.specs.Alone.{log_faults, tables_faults, IsOnly, IsStoreOf, AnswersAlone}
+use Rattle.wp_client.proofs.Alone.Published.{none_if, if_one, not_counted}
+use Rattle.wp_client.proofs.Alone.Worlds.{only_of}
+use Rattle.wp_client.proofs.Alone.Seated.{last_over, AreQuiet, one_quiet, Follows, follows_on, alone_at, begins_opened, few_now, log_still, edit_still, tables_now, board_still, seen_still}
+use Rattle.wp_client.proofs.Alone.Quiet.{never_stops, quiet_answers}
 use Rattle.wp_replies.specs.Due.{client_after}
 
 -- where the tables are not halted, the command is answered so, and has the tables take this edit; a renewal puts the log's segment at

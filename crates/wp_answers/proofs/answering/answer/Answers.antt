@@ -1,5 +1,5 @@
-use Rattle.wp_answers.specs.Holdings.{client_of}
-use Rattle.wp_answers.proofs.WholeClients.{beside_others, by_itself}
+use Rattle.wp_client.specs.Holdings.{client_of}
+use Rattle.wp_client.proofs.WholeClients.{beside_others, by_itself}
 use Rattle.wp_answers.proofs.answering.answer.Goals as goal
 
 pub shows_world-requires : goal.shows_world-requires

@@ -1,8 +1,8 @@
 use Rattle.std.proofs.Common.{sym, subst}
 use Rattle.wp_text.specs.declared.script.Command.TheVariants as command
-use Rattle.wp_answers.specs.Holdings.{client_of, Holds}
-use Rattle.wp_answers.proofs.WholeClients.{whole_answers, whole_breaks, any_answers, held_answers, any_breaks, kept_breaks, whole_holds}
-use Rattle.wp_answers.proofs.Staying.{keeps_holds}
+use Rattle.wp_client.specs.Holdings.{client_of, Holds}
+use Rattle.wp_client.proofs.WholeClients.{whole_answers, whole_breaks, any_answers, held_answers, any_breaks, kept_breaks, whole_holds}
+use Rattle.wp_client.proofs.Staying.{keeps_holds}
 use Rattle.wp_answers.proofs.answering.obey.Goals as goal
 
 pub put-requires : goal.put-requires

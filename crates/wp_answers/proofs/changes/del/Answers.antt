@@ -1,6 +1,6 @@
 use Rattle.std.proofs.Common.{refl}
 use Rattle.wp_text.specs.declared.script.Command.TheVariants as command
-use Rattle.wp_answers.proofs.States.{refused_as_it_was}
+use Rattle.wp_client.proofs.States.{refused_as_it_was}
 use Rattle.wp_answers.proofs.changes.del.Goals as goal
 
 pub returns-in-Idle-clause-err : goal.returns-in-Idle-clause-err

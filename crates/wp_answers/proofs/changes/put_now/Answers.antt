@@ -3,9 +3,9 @@ use Rattle.std.proofs.lemmas.Result.{IfOk-weaker, on_err_weaker}
 use Rattle.wp_model.specs.declared.change.Change.{Change}
 use Rattle.wp_model.specs.declared.change.Change.TheVariants as change
 use Rattle.wp_text.specs.declared.script.Command.TheVariants as command
-use Rattle.wp_answers.specs.declared.holdings.HeldTxn.TheVariants as held
-use Rattle.wp_answers.specs.Answers.{AnswersFrom}
-use Rattle.wp_answers.specs.Replies.{refusal}
+use Rattle.wp_client.specs.declared.holdings.HeldTxn.TheVariants as held
+use Rattle.wp_client.specs.Answers.{AnswersFrom}
+use Rattle.wp_client.specs.Replies.{refusal}
 use Rattle.wp_answers.proofs.AtOnce.{at_once_holds, at_once_answers, at_once_refused, at_once_named, at_once_breaks, put_same}
 use Rattle.wp_answers.proofs.changes.put_now.Goals as goal
 

@@ -1,7 +1,7 @@
 use Rattle.std.proofs.Common.{refl}
 use Rattle.wp_text.specs.declared.script.Command.TheVariants as command
-use Rattle.wp_answers.specs.declared.holdings.HeldTxn.TheVariants as held
-use Rattle.wp_answers.proofs.States.{refused_so}
+use Rattle.wp_client.specs.declared.holdings.HeldTxn.TheVariants as held
+use Rattle.wp_client.proofs.States.{refused_so}
 use Rattle.wp_answers.proofs.decisions.commit.Goals as goal
 
 pub returns-in-Idle-clause-answered : goal.returns-in-Idle-clause-answered

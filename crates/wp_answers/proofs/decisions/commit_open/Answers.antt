@@ -3,10 +3,10 @@ use Rattle.std.proofs.lemmas.Result.{IfOk-weaker, on_err_weaker}
 use Rattle.wp_model.specs.declared.entry.Entry.TheVariants as entry
 use Rattle.wp_text.specs.declared.reply.Reply.TheVariants as reply
 use Rattle.wp_text.specs.declared.script.Command.TheVariants as command
-use Rattle.wp_answers.specs.declared.holdings.HeldTxn.TheVariants as held
-use Rattle.wp_answers.specs.Answers.{AnswersFrom}
-use Rattle.wp_answers.specs.Replies.{refusal}
-use Rattle.wp_answers.proofs.Clients.{answers_from, breaks_from}
+use Rattle.wp_client.specs.declared.holdings.HeldTxn.TheVariants as held
+use Rattle.wp_client.specs.Answers.{AnswersFrom}
+use Rattle.wp_client.specs.Replies.{refusal}
+use Rattle.wp_client.proofs.Clients.{answers_from, breaks_from}
 use Rattle.wp_answers.proofs.Decides.{committed_now_answers, committed_now_holds, open_refused_answers, commit_now_refused_due, open_refused_named, open_refused_breaks, open_refused_holds, commit_now_logged}
 use Rattle.wp_answers.proofs.decisions.commit_open.Goals as goal
 

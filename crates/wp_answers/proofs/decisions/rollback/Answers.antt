@@ -1,10 +1,11 @@
 use Rattle.std.proofs.Common.{refl}
 use Rattle.wp_text.specs.declared.reply.Reply.TheVariants as reply
 use Rattle.wp_text.specs.declared.script.Command.TheVariants as command
-use Rattle.wp_answers.specs.declared.holdings.HeldTxn.TheVariants as held
-use Rattle.wp_answers.proofs.Clients.{answers_from}
-use Rattle.wp_answers.proofs.Decides.{dropped_answers, given_up_open}
-use Rattle.wp_answers.proofs.States.{refused_so}
+use Rattle.wp_client.specs.declared.holdings.HeldTxn.TheVariants as held
+use Rattle.wp_client.proofs.Clients.{answers_from}
+use Rattle.wp_client.proofs.GivenUp.{given_up_open}
+use Rattle.wp_answers.proofs.Decides.{dropped_answers}
+use Rattle.wp_client.proofs.States.{refused_so}
 use Rattle.wp_answers.proofs.decisions.rollback.Goals as goal
 
 pub returns-in-Idle-clause-answered : goal.returns-in-Idle-clause-answered

@@ -3,10 +3,10 @@ use Rattle.std.proofs.lemmas.Result.{IfOk-weaker, on_err_weaker}
 use Rattle.wp_text.specs.declared.reply.Reply.TheVariants as reply
 use Rattle.wp_text.specs.declared.script.Command.TheVariants as command
 use Rattle.wp_txn.specs.Writes.{AsksRollback}
-use Rattle.wp_answers.specs.declared.holdings.HeldTxn.TheVariants as held
-use Rattle.wp_answers.specs.Answers.{AnswersFrom}
-use Rattle.wp_answers.specs.Replies.{refusal}
-use Rattle.wp_answers.proofs.Clients.{answers_from, breaks_from}
+use Rattle.wp_client.specs.declared.holdings.HeldTxn.TheVariants as held
+use Rattle.wp_client.specs.Answers.{AnswersFrom}
+use Rattle.wp_client.specs.Replies.{refusal}
+use Rattle.wp_client.proofs.Clients.{answers_from, breaks_from}
 use Rattle.wp_answers.proofs.Decides.{rolled_back_answers, rolled_back_holds, prepared_refused_answers, rollback_refused_due, prepared_refused_named, prepared_refused_breaks, prepared_refused_holds, rollback_logged}
 use Rattle.wp_answers.proofs.decisions.rollback_prepared.Goals as goal
 

@@ -1,12 +1,12 @@
 use Rattle.std.proofs.Common.{◌≡◌, Ok, Err, Some}
 use Rattle.std.proofs.lemmas.Result.{IfOk-weaker, on_err_weaker}
 use Rattle.wp_text.specs.declared.script.Command.TheVariants as command
-use Rattle.wp_answers.specs.Answers.{IsAnswered}
+use Rattle.wp_client.specs.Answers.{IsAnswered}
 use Rattle.wp_answers.specs.Fresh.{NamesPublished}
-use Rattle.wp_answers.specs.Holdings.{HoldingsState, client_of, Holds}
+use Rattle.wp_client.specs.Holdings.{HoldingsState, client_of, Holds}
 use Rattle.wp_answers.specs.Replies.{tables_refusal}
 use Rattle.wp_answers.proofs.Compacting.{compacted_answers, not_compacted_answers, not_compacted_breaks, compaction_holds}
-use Rattle.wp_answers.proofs.Fresh.{tables_refused}
+use Rattle.wp_answers.proofs.Refusals.{tables_refused}
 use Rattle.wp_answers.proofs.maintenance.compact.Goals as goal
 
 pub returns-in-Ok-clause-holds : goal.returns-in-Ok-clause-holds

@@ -2,10 +2,10 @@ use Rattle.std.proofs.Common.{◌≡◌, Ok, Err, Some}
 use Rattle.std.proofs.lemmas.Result.{IfOk-weaker, on_err_weaker}
 use Rattle.wp_text.specs.declared.script.Command.TheVariants as command
 use Rattle.wp_replies.specs.Client.{Client}
-use Rattle.wp_answers.specs.Answers.{IsAnswered}
+use Rattle.wp_client.specs.Answers.{IsAnswered}
 use Rattle.wp_answers.specs.Fresh.{NamesPublished}
 use Rattle.wp_answers.specs.Replies.{tables_refusal}
-use Rattle.wp_answers.proofs.Fresh.{tables_refused}
+use Rattle.wp_answers.proofs.Refusals.{tables_refused}
 use Rattle.wp_answers.proofs.Maintaining.{flushed_answers, not_flushed_answers, not_flushed_breaks, flush_holds}
 use Rattle.wp_answers.proofs.maintenance.flush.Goals as goal
 

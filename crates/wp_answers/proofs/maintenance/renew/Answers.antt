@@ -2,10 +2,10 @@ use Rattle.std.proofs.Common.{◌≡◌, Ok, Err, Some}
 use Rattle.std.proofs.lemmas.Result.{IfOk-weaker, on_err_weaker}
 use Rattle.wp_text.specs.declared.script.Command.TheVariants as command
 use Rattle.wp_replies.specs.Client.{Client}
-use Rattle.wp_answers.specs.Answers.{IsAnswered}
+use Rattle.wp_client.specs.Answers.{IsAnswered}
 use Rattle.wp_answers.specs.Fresh.{NamesPublished}
 use Rattle.wp_answers.specs.Replies.{renewal_refusal}
-use Rattle.wp_answers.proofs.Fresh.{renewal_refused}
+use Rattle.wp_answers.proofs.Refusals.{renewal_refused}
 use Rattle.wp_answers.proofs.Renewing.{renewed_answers, not_renewed_answers, not_renewed_breaks, renewal_holds}
 use Rattle.wp_answers.proofs.maintenance.renew.Goals as goal
 

@@ -1,5 +1,0 @@
-use Rattle.wp_answers.proofs.Placing.{NoneAmong}
-use Rattle.wp_answers.proofs.holdings.Holdings.place_of.Given as goal
-
-abbrev pub invariant-loop-i : goal.invariant-loop-i
-invariant-loop-i l = NoneAmong l.self-inside.snapshots.items l.label l.i

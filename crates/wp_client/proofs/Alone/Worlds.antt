@@ -1,0 +1,107 @@
+-- What is so in a reached world of an actor that is alone there.
+use Rattle.std.proofs.Common.{◌≡◌, inr, ℕ, ◌≤◌, true, false, true≢false, List, length, refl, sym, subst, ap, ◌∙◌, Option, Some, None, is_some, arith}
+use Rattle.std.specs.Prelude.{unwrap_or}
+use mathlib.Core.Option.{some}
+use lib.ListN.{get_elem?}
+use Rattle.std.specs.FinSet as set
+use Rattle.std.specs.FinMap as finite
+use Rattle.std.proofs.lemmas.Slice.Eq.{bytes_eq-Decides}
+use Rattle.wp_model.specs.declared.holder.Holder.{Holder}
+use Rattle.wp_model.specs.declared.holder.Holder.TheVariants.{Txn, Client}
+use Rattle.wp_model.specs.History.{is_changed, name_at, batch_at, named, holder_of}
+use Rattle.wp_model.proofs.Found.{found_holder, found_named}
+use Rattle.wp_core.specs.Alone.{IsAlone, IsOnlyOf}
+use Rattle.wp_core.specs.Lists.{IsIn, one_if, total}
+use Rattle.wp_core.specs.Runs.{Reaches}
+use Rattle.wp_core.specs.World.{Transaction, Actor, World}
+use Rattle.wp_core.specs.IsSound.{IsSound, participants}
+use Rattle.wp_core.specs.Sound.Actors.{StartsWith, participants_of, seen_of}
+use Rattle.wp_core.specs.Sound.Locks.{owner_of}
+use Rattle.wp_core.specs.Sound.Pasts.{past_of, closes_log}
+use Rattle.wp_core.specs.Sound.Views.{noter_of}
+use Rattle.wp_core.specs.Views.{Event, unprepared, told, heard, stopped}
+use Rattle.wp_core.proofs.AllParticipants.{mine}
+use Rattle.wp_core.proofs.EachStep.{reached_is_sound}
+use Rattle.wp_core.proofs.Frames.{at_map}
+use Rattle.wp_core.proofs.OneActor.{tells}
+use Rattle.wp_core.proofs.OneHolder.{holder_is}
+use Rattle.wp_core.proofs.Registered.{total_at}
+use Rattle.wp_core.proofs.Tests.{some_there, none_some}
+use Rattle.wp_client.proofs.Alone.Published.{whole_seen}
+
+-- ---- in any reached world
+
+module _ (w : World) (reached : Reaches w) (j : ℕ) (a : Actor) (there : get_elem? w.actors j ≡ some a) where
+  abbrev sound : IsSound w
+  sound = reached_is_sound w reached
+
+  -- the history begins with what an actor has seen
+  pub has_seen : StartsWith w.writes.history a.participant.seen
+  has_seen = sound.seen j 0 a.participant.seen (mine seen_of w.actors j a a there refl)
+
+  -- where the log is not closed, the actor met no fault of it
+  pub no_log_fault : w.writes.closed ≡ false → total (λ e. one_if (closes_log e)) a.participant.past ≡ 0
+  no_log_fault running =
+      let most = total_at (total (total (λ (e : Event). one_if (closes_log e)))) (participants past_of w) j (participants_of past_of a) (at_map (participants_of past_of) w.actors j a there) in
+      let all = sound.faults.log in let none : one_if w.writes.closed ≡ 0 = ap one_if running in omega (arith, most, all, none)
+
+  -- no undecided prepare has the key that it writes at once
+  pub direct_is_free : (key : List ℕ) → a.participant.direct ≡ Some key → holder_of w.writes.history key ≡ None
+  direct_is_free key direct = by (holder_of w.writes.history key) refl
+    where
+      by : (o : Option ℕ) → holder_of w.writes.history key ≡ o → holder_of w.writes.history key ≡ None
+      by None e = e
+      by (Some p) e =
+          let h = found_holder w.writes.history key p e in
+          let held = sound.locks.prepared_keys p key h.0 h.1 in
+          let mine_is = (sound.locks.had j 0 (owner_of a.participant) (mine owner_of w.actors j a a there refl)).direct key direct in
+          let both : Some (Txn (name_at w.writes.history p)) ≡ Some (Client a.participant.client) = sym held ∙ mine_is in absurd cc
+
+-- ---- where it is alone
+
+module _ (w : World) (reached : Reaches w) (a : Actor) (alone : IsAlone w a) where
+  abbrev sound_there : IsSound w
+  sound_there = reached_is_sound w reached
+
+  pub only_of : IsOnlyOf w a.participant
+  only_of = tells w a alone sound_there
+
+  -- it has seen the whole history, where each number that it published is one that it has seen
+  pub seen_whole : StartsWith a.participant.seen w.opened → ((n : ℕ) → IsIn n a.participant.own → n ≤ length a.participant.seen) → w.writes.history ≡ a.participant.seen
+  seen_whole begins few = whole_seen w.opened w.writes.history a.participant.seen a.participant.own (has_seen w reached 0 a alone.there) begins few only_of.owned
+
+  -- a live name of which it has no transaction is that of an undecided prepare, and nobody has it
+  pub left_name : (name : List ℕ) → is_some (finite.get w.locks.names name) ≡ true → finite.get a.participant.transactions name ≡ None → (finite.get w.locks.names name ≡ Some None) × ((p : ℕ) × (named w.writes.history name ≡ Some p))
+  left_name name live none = by (finite.get w.locks.names name) refl
+    where
+      by : (o : Option (Option (List ℕ))) → finite.get w.locks.names name ≡ o → (finite.get w.locks.names name ≡ Some None) × ((p : ℕ) × (named w.writes.history name ≡ Some p))
+      by None e = absurd (true≢false (sym live ∙ ap (λ (o : Option (Option (List ℕ))). is_some o) e))
+      by (Some None) e = (e, some_there (named w.writes.history name) (sound_there.locks.names_left name e))
+      by (Some (Some client)) e = let k = only_of.names name client e in absurd (none_some (finite.get a.participant.transactions name) k.0 none k.1)
+
+  -- who holds a key, where it is not the actor itself, is an undecided prepare
+  pub held_by_prepare : (key : List ℕ) (holder : Holder) → finite.get w.locks.keys key ≡ Some holder → a.participant.direct ≡ None → ((name : List ℕ) → holder ≡ Txn name → finite.get a.participant.transactions name ≡ None)
+      → (p : ℕ) × (holder_of w.writes.history key ≡ Some p) × (holder ≡ Txn (name_at w.writes.history p))
+  held_by_prepare key (Client client) held direct none = absurd (none_some a.participant.direct key direct (only_of.direct key client held))
+  held_by_prepare key (Txn name) held direct none =
+      let h = w.writes.history in
+      let left = left_name name (sound_there.locks.keys_live key name held) (none name refl) in
+      let p = left.1.0 in let is = left.1.1 in
+      let found = found_named h name p is in
+      let changed : is_changed (batch_at h p) key ≡ true = subst (λ (o : Option ℕ). is_changed (batch_at h (unwrap_or o 0)) key ≡ true) is (sound_there.locks.keys_left key name left.0 held) in
+      (p, holder_is h sound_there.history.legal p key found.0 changed, ap Txn (sym ((bytes_eq-Decides (name_at h p) name).0 found.1)))
+
+  -- an open transaction's name is that of no undecided prepare, nor has one a key that it locked
+  pub open_is_free : (name : List ℕ) → IsIn (unprepared name) a.notes → (named w.writes.history name ≡ None)
+      × ((x : Transaction) (key : List ℕ) → finite.get a.participant.transactions name ≡ Some x → set.contains x.locked key ≡ true → holder_of w.writes.history key ≡ None)
+  open_is_free name there = let so = (sound_there.noted 0 (noter_of a) (at_map noter_of w.actors 0 a alone.there) (unprepared name) there).is_so in (so.1, so.2)
+
+  -- where it found the log closed, that was when so many entries were published as are now
+  pub was_stopped : (n : ℕ) → IsIn (stopped n) a.participant.past → (w.writes.closed ≡ true) × (n ≡ length w.writes.history)
+  was_stopped n there = sound_there.faults.stopped n (0, 0, (a.participant.past, mine past_of w.actors 0 a a alone.there refl, there))
+
+  -- what it heard under a label, something was told under that by it
+  pub was_told : (label : List ℕ) (n : ℕ) → IsIn (heard label n) a.participant.past → (m : ℕ) × IsIn (told label m) a.participant.past
+  was_told label n there =
+      let live = sound_there.board.labels label n (inr (0, 0, (a.participant.past, mine past_of w.actors 0 a a alone.there refl, there))) in
+      let some_number = some_there (finite.get w.locks.labels label) live in (some_number.0, only_of.labels label some_number.0 some_number.1)

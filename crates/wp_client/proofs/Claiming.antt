@@ -1,0 +1,215 @@
+-- What a client is answered that begins a transaction, or takes one.
+use Rattle.std.proofs.Common.{◌≡◌, ℕ, false, List, [], ◌∷◌, length, take, Option, Some, None, refl, sym, subst, ap, ◌∙◌, arith}
+use Rattle.std.specs.Prelude.{◌≢◌, Ok, Err, is_some}
+use Rattle.std.specs.Str.{bytes_eq}
+use Rattle.std.specs.FinMap as finite
+use Rattle.std.proofs.lemmas.Slice.Eq.{bytes_eq-Decides}
+use Rattle.wp_model.specs.declared.entry.Entry.{Entry}
+use Rattle.wp_model.specs.declared.holder.Holder.TheVariants as holder
+use Rattle.wp_model.specs.Flushed.{InstalledEdit}
+use Rattle.wp_model.specs.History.{is_undecided, name_at, named}
+use Rattle.wp_model.proofs.Found.{found_named}
+use Rattle.wp_text.specs.declared.script.Command.TheVariants as command
+use Rattle.wp_text.specs.declared.reply.Reply.{Reply}
+use Rattle.wp_text.specs.declared.reply.Reply.TheVariants as reply
+use Rattle.wp_core.specs.Lists.{IsIn}
+use Rattle.wp_core.specs.Views.{Account, another, Event, claimed, took, found}
+use Rattle.wp_core.specs.World.{Transaction, Participant}
+use Rattle.wp_core.proofs.KeepsSeen.{shorter}
+use Rattle.wp_core.proofs.PastsGrow.{in_last}
+use Rattle.wp_core.proofs.Tests.{same_some}
+use Rattle.wp_rule.specs.Accounts.{account_of, account_by}
+use Rattle.wp_shared.specs.Calls.{Continues, remembering}
+use Rattle.wp_shared.specs.Seats.{SharedState, SeatState}
+use Rattle.wp_names.specs.declared.error.TxnError.{TxnError}
+use Rattle.wp_names.specs.declared.error.TxnError.TheVariants.{Memory, Taken, Busy, TooMany, Silent, Unknown, InUse, NumbersFull, LogFault, Stopped}
+use Rattle.wp_names.specs.Actors.{no_changes}
+use Rattle.wp_names.specs.Calls.{Finds, with_transaction, Begins, Takes, TakesPrepared}
+use Rattle.wp_names.specs.Txn.{OpenState, PreparedState, HasPrepared}
+use Rattle.wp_replies.specs.declared.client.LabelledSnapshot.{LabelledSnapshot}
+use Rattle.wp_replies.specs.declared.client.Txn.TheVariants.{Idle, Open, Prepared}
+use Rattle.wp_replies.specs.Client.{Client}
+use Rattle.wp_replies.specs.Progress.{Progress}
+use Rattle.wp_replies.specs.Replies.{Evidence, WasUndecided}
+use Rattle.wp_client.proofs.Alone.Names.{begun_alone, took_alone, taken_alone, unknown_alone, never_in_use}
+use Rattle.wp_client.specs.declared.holdings.HeldTxn.TheVariants as held
+use Rattle.wp_client.specs.Agrees.{Agrees, KnowsHolder}
+use Rattle.wp_client.specs.Answers.{IsProgress, IsExplained, Answers, BreaksOff, IsAnswered}
+use Rattle.wp_client.specs.Holdings.{HoldsTxn, HoldsFrom}
+use Rattle.wp_client.specs.Replies.{refusal}
+use Rattle.wp_client.proofs.Fitting.{else_answers}
+use Rattle.wp_client.proofs.Clients.{having, holds_from}
+use Rattle.wp_client.proofs.Growing.{of_one, seen_taken, last_still}
+use Rattle.wp_client.proofs.Holders.{account_is, found_taken}
+use Rattle.wp_client.proofs.Labels.{itself}
+use Rattle.wp_client.proofs.Reading.{keeps_answers}
+use Rattle.wp_client.proofs.Staying.{holds_still, keeps_holds, broke_off, only_this, has_now, holds_now}
+
+module _ {D : Type 0} (z : SharedState D) (old new : SeatState) (name : List ℕ) (snapshots : List LabelledSnapshot) where
+  abbrev it : Participant
+  it = old.knows.participant
+
+  abbrev me : Client
+  me = having Idle snapshots
+
+  -- the past has what the call found
+  in_past : (event : Event) → Continues z old new (remembering (event ∷ []) it) → IsIn event new.knows.participant.past
+  in_past event goes = subst (IsIn event) (sym (ap (λ (q : Participant). q.past) goes.participant)) (in_last event it.past)
+
+  -- ---- a name is claimed
+
+  pub begun_answers : (txn : OpenState) → Begins z old name (Ok txn) new → IsAnswered z old new me (having (Open txn.name txn.batch) snapshots) (command.Begin name) reply.Begun
+  begun_answers txn k = (
+    else_answers z old new _ (remembering (claimed name ∷ []) (with_transaction name no_changes it)) (claimed name ∷ []) me (having (Open txn.name txn.batch) snapshots) (command.Begin name) reply.Begun 0 k.2 refl refl refl
+        (record { acknowledges = refl; tables = λ before. refl; labels = λ before. refl; log_failed = refl; log_stopped = refl; tables_failed = refl; once = omega arith; remembered = tt; explained = of_one (IsExplained it.client Idle (command.Begin name) (Some reply.Begun)) (claimed name) (itself name) })
+        (ap (λ (x : OpenState). having (Open x.name x.batch) snapshots) k.0) (λ before low. low) (λ first is_first before p e agrees. tt),
+    λ world stands only first is_first store so. begun_alone z first old new only store so (world, stands) snapshots name txn k,
+  )
+
+  -- the name is live
+  taken_answers : HoldsTxn z old held.Idle → (other : List ℕ) → other ≡ name → Finds z old new None (holder.Txn name) → Answers z old new me me (command.Begin name) (reply.Taken other)
+  taken_answers has other same f =
+      let account : Account = account_of it f.world.locks f.published None (holder.Txn name) in let event : Event = found None (holder.Txn name) (length it.seen) account in
+      else_answers z old new _ (remembering (event ∷ []) it) (event ∷ []) me me (command.Begin name) (reply.Taken other) 0 f.goes_on refl refl refl
+      (record { acknowledges = refl; tables = λ before. refl; labels = λ before. refl; log_failed = refl; log_stopped = refl; tables_failed = refl; once = omega arith; remembered = tt; explained = of_one (IsExplained it.client Idle (command.Begin name) (Some (reply.Taken other))) event tt })
+      refl (λ before low. low)
+      (λ first is_first before p e agrees. (same, found_taken e before.last name it f.world.locks f.published p.last has.direct (has.only name refl) (agrees.past event (in_past event f.goes_on))))
+
+  pub not_begun_answers : HoldsTxn z old held.Idle → (why : TxnError) (r : Reply) → refusal why ≡ Some r → Begins z old name (Err why) new → IsAnswered z old new me me (command.Begin name) r
+  not_begun_answers has (Taken other) r is k = subst (IsAnswered z old new me me (command.Begin name)) (same_some (reply.Taken other) r is)
+      (taken_answers has other k.0 k.1, λ world stands only first is_first store so. taken_alone z first old new only store so (world, stands) snapshots (λ own. has.only own refl) name other k)
+  not_begun_answers has Memory r is k = absurd cc
+  not_begun_answers has (Busy by) r is k = absurd k
+  not_begun_answers has TooMany r is k = absurd k
+  not_begun_answers has (NumbersFull published limit) r is k = absurd k
+  not_begun_answers has (Stopped n) r is k = absurd k
+  not_begun_answers has LogFault r is k = absurd k
+  not_begun_answers has Silent r is k = absurd k
+  not_begun_answers has (Unknown other at) r is k = absurd k
+  not_begun_answers has (InUse other) r is k = absurd k
+
+  pub not_begun_named : (why : TxnError) → Begins z old name (Err why) new → why ≢ Silent
+  not_begun_named why k is = subst (λ (w : TxnError). Begins z old name (Err w) new) is k
+
+  pub not_begun_breaks : (why : TxnError) → refusal why ≡ None → Begins z old name (Err why) new → BreaksOff old new me (command.Begin name)
+  not_begun_breaks Memory none k = broke_off z old new me (command.Begin name) k
+  not_begun_breaks (Taken other) none k = absurd cc
+  not_begun_breaks (Busy by) none k = absurd k
+  not_begun_breaks TooMany none k = absurd k
+  not_begun_breaks (NumbersFull published limit) none k = absurd k
+  not_begun_breaks (Stopped n) none k = absurd k
+  not_begun_breaks LogFault none k = absurd k
+  not_begun_breaks Silent none k = absurd k
+  not_begun_breaks (Unknown other at) none k = absurd k
+  not_begun_breaks (InUse other) none k = absurd k
+
+  -- ---- a prepared transaction is taken
+
+  took_beside : (txn : PreparedState) → Takes z old name txn new → Answers z old new me (having (Prepared txn.number) snapshots) (command.Take name) reply.Took
+  took_beside txn k =
+      else_answers z old new _ (remembering (took name ∷ []) (with_transaction name k.has.transaction it)) (took name ∷ []) me (having (Prepared txn.number) snapshots) (command.Take name) reply.Took txn.number k.goes_on refl refl refl
+      (record { acknowledges = refl; tables = λ before. refl; labels = λ before. refl; log_failed = refl; log_stopped = refl; tables_failed = refl; once = omega arith; remembered = tt; explained = of_one (IsExplained it.client Idle (command.Take name) (Some reply.Took)) (took name) (itself name) })
+      refl (λ before low. low)
+      (λ first is_first before p e agrees. was_undecided first before e p agrees)
+    where
+      was_undecided : (first : InstalledEdit) (before : Progress) (e : Evidence) → IsProgress first it before → Agrees e z new.knows.participant → WasUndecided e.history before.last name txn.number
+      was_undecided first before e p agrees =
+          let seen = new.knows.participant.seen in let there = seen_taken e.history seen agrees.seen in let is = found_named seen name txn.number k.number_is in
+          let low = last_still first it new.knows.participant before k.goes_on.seen p in let high = shorter e.history seen agrees.seen in record {
+            at = length seen;
+            fresh = (low, high);
+            undecided = ap (λ (h : List Entry). is_undecided h txn.number) there ∙ is.0;
+            named = ap (λ (h : List Entry). name_at h txn.number) there ∙ (bytes_eq-Decides (name_at seen txn.number) name).0 is.1;
+          }
+
+  pub took_answers : (txn : PreparedState) → Takes z old name txn new → IsAnswered z old new me (having (Prepared txn.number) snapshots) (command.Take name) reply.Took
+  took_answers txn k = (took_beside txn k, λ world stands only first is_first store so. took_alone z first old new only store so (world, stands) snapshots name txn k)
+
+  unknown_answers : (other : List ℕ) (n : ℕ) → TakesPrepared z old name (Err (Unknown other n)) new → Answers z old new me me (command.Take name) (reply.Unknown other n)
+  unknown_answers other n k =
+      keeps_answers z old new me me (command.Take name) (reply.Unknown other n) k.3 (record { acknowledges = refl; tables = λ before. refl; labels = λ before. refl; log_failed = refl; tables_failed = refl; remembered = tt })
+      refl (λ before low. let is = k.1 in omega (arith, is))
+      (λ first is_first before p e agrees. let seen = new.knows.participant.seen in let is = k.1 in let low = last_still first it new.knows.participant before k.3.seen p in let high = shorter e.history seen agrees.seen in
+      (k.0, (omega (arith, low, is), omega (arith, high, is)), ap (λ (h : List Entry). named h name) (ap (λ (m : ℕ). take m e.history) is ∙ seen_taken e.history seen agrees.seen) ∙ k.2))
+
+  -- another client has it
+  in_use_answers : HoldsTxn z old held.Idle → (other : List ℕ) → TakesPrepared z old name (Err (InUse other)) new → Answers z old new me me (command.Take name) (reply.InUse other)
+  in_use_answers has other k = let f = k.1 in
+      let account : Account = account_of it f.world.locks f.published None (holder.Txn name) in let event : Event = found None (holder.Txn name) (length it.seen) account in
+      let of_other : account ≡ another = account_is it f.world.locks f.published None (holder.Txn name) (ap (λ (x : Option Transaction). is_some x) (has.only name refl)) ∙ ap (account_by f.published) k.2.1 in
+      else_answers z old new _ (remembering (event ∷ []) it) (event ∷ []) me me (command.Take name) (reply.InUse other) 0 f.goes_on refl refl refl
+      (record { acknowledges = refl; tables = λ before. refl; labels = λ before. refl; log_failed = refl; log_stopped = refl; tables_failed = refl; once = omega arith; remembered = tt; explained = of_one (IsExplained it.client Idle (command.Take name) (Some (reply.InUse other))) event tt })
+      refl (λ before low. low)
+      (λ first is_first before p e agrees. (k.0, subst (KnowsHolder e None (holder.Txn name) (length it.seen)) of_other (agrees.past event (in_past event f.goes_on))))
+
+  pub not_taken_answers : HoldsTxn z old held.Idle → (why : TxnError) (r : Reply) → refusal why ≡ Some r → TakesPrepared z old name (Err why) new → IsAnswered z old new me me (command.Take name) r
+  not_taken_answers has (Unknown other at) r is k = subst (IsAnswered z old new me me (command.Take name)) (same_some (reply.Unknown other at) r is)
+      (unknown_answers other at k, λ world stands only first is_first store so. unknown_alone z first old new only store so (world, stands) snapshots (λ own. has.only own refl) name other at k)
+  not_taken_answers has (InUse other) r is k = subst (IsAnswered z old new me me (command.Take name)) (same_some (reply.InUse other) r is)
+      (in_use_answers has other k, λ world stands only first is_first store so. absurd (never_in_use z first old new only store so (world, stands) snapshots (λ own. has.only own refl) name other k))
+  not_taken_answers has Memory r is k = absurd cc
+  not_taken_answers has (Taken other) r is k = absurd k
+  not_taken_answers has (Busy by) r is k = absurd k
+  not_taken_answers has TooMany r is k = absurd k
+  not_taken_answers has (NumbersFull published limit) r is k = absurd k
+  not_taken_answers has (Stopped n) r is k = absurd k
+  not_taken_answers has LogFault r is k = absurd k
+  not_taken_answers has Silent r is k = absurd k
+
+  pub not_taken_named : (why : TxnError) → TakesPrepared z old name (Err why) new → why ≢ Silent
+  not_taken_named why k is = subst (λ (w : TxnError). TakesPrepared z old name (Err w) new) is k
+
+  pub not_taken_breaks : (why : TxnError) → refusal why ≡ None → TakesPrepared z old name (Err why) new → BreaksOff old new me (command.Take name)
+  not_taken_breaks Memory none k = broke_off z old new me (command.Take name) k
+  not_taken_breaks (Unknown other at) none k = absurd cc
+  not_taken_breaks (InUse other) none k = absurd cc
+  not_taken_breaks (Taken other) none k = absurd k
+  not_taken_breaks (Busy by) none k = absurd k
+  not_taken_breaks TooMany none k = absurd k
+  not_taken_breaks (NumbersFull published limit) none k = absurd k
+  not_taken_breaks (Stopped n) none k = absurd k
+  not_taken_breaks LogFault none k = absurd k
+  not_taken_breaks Silent none k = absurd k
+
+-- ---- what the client has then
+
+module _ {D : Type 0} (z : SharedState D) (old new : SeatState) (name : List ℕ) (has : HoldsTxn z old held.Idle) where
+  -- it has no other transaction
+  none_else : (own other : List ℕ) → bytes_eq own other ≡ false → finite.get old.knows.participant.transactions other ≡ None
+  none_else own other ne = has.only other refl
+
+  pub begun_holds : (txn : OpenState) → Begins z old name (Ok txn) new → HoldsFrom z old new held.Idle (held.Open txn)
+  begun_holds txn k = let is : OpenState = record { name = name; batch = [] } in
+      subst (λ (x : OpenState). HoldsFrom z old new held.Idle (held.Open x)) (sym k.0)
+      (holds_now _ z old new _ k.2 held.Idle (held.Open is) refl (has_now _ z old new _ k.2 held.Idle (held.Open is) refl has k.1 (only_this old.knows.participant.transactions name (none_else name) no_changes)))
+
+  pub not_begun_holds : (why : TxnError) → Begins z old name (Err why) new → HoldsFrom z old new held.Idle held.Idle
+  not_begun_holds (Taken other) k = holds_from z old new held.Idle (holds_still z old new _ refl refl refl k.1.goes_on)
+  not_begun_holds Memory k = holds_from z old new held.Idle (keeps_holds z old new k)
+  not_begun_holds (Busy by) k = absurd k
+  not_begun_holds TooMany k = absurd k
+  not_begun_holds (NumbersFull published limit) k = absurd k
+  not_begun_holds (Stopped n) k = absurd k
+  not_begun_holds LogFault k = absurd k
+  not_begun_holds Silent k = absurd k
+  not_begun_holds (Unknown other at) k = absurd k
+  not_begun_holds (InUse other) k = absurd k
+
+  pub took_holds : (txn : PreparedState) → Takes z old name txn new → HoldsFrom z old new held.Idle (held.Prepared txn)
+  took_holds txn k =
+      holds_now _ z old new _ k.goes_on held.Idle (held.Prepared txn) refl (has_now _ z old new _ k.goes_on held.Idle (held.Prepared txn) refl has
+      (subst (λ (own : List ℕ). HasPrepared new own txn.number txn.batch) (sym k.name_is) k.has)
+      (subst (λ (own : List ℕ). (other : List ℕ) → bytes_eq own other ≡ false → finite.get (finite.insert old.knows.participant.transactions name k.has.transaction) other ≡ None) (sym k.name_is)
+      (only_this old.knows.participant.transactions name (none_else name) k.has.transaction)))
+
+  pub not_taken_holds : (why : TxnError) → TakesPrepared z old name (Err why) new → HoldsFrom z old new held.Idle held.Idle
+  not_taken_holds (Unknown other at) k = holds_from z old new held.Idle (keeps_holds z old new k.3)
+  not_taken_holds (InUse other) k = holds_from z old new held.Idle (holds_still z old new _ refl refl refl k.1.goes_on)
+  not_taken_holds Memory k = holds_from z old new held.Idle (keeps_holds z old new k)
+  not_taken_holds (Taken other) k = absurd k
+  not_taken_holds (Busy by) k = absurd k
+  not_taken_holds TooMany k = absurd k
+  not_taken_holds (NumbersFull published limit) k = absurd k
+  not_taken_holds (Stopped n) k = absurd k
+  not_taken_holds LogFault k = absurd k
+  not_taken_holds Silent k = absurd k
