@@ -83,7 +83,7 @@ module _ (e : Evidence) (progress : Progress) (client : Client) (p : ℕ) where
 
   after_from : (c : Command) (r : Reply) → IsFrom e.base e.history progress.last client → Allows e progress client p c r → IsFrom e.base e.history (progress_after progress c r).last (after_reply p client c r)
   after_from c r f allowed = record {
-    last = last_from e.base progress.last e.history (fresh_in c r) f.last (allowed_gives _ (refusal_of client c) r _ (refusal_plain client c) (row_fresh e progress client p c r) (fresh_none e.history progress.last c r) allowed);
+    last = last_from e.base progress.last e.history (fresh_in c r) f.last (allowed_gives _ (refusal_of client c) r _ (refusal_plain client c) (row_fresh e progress client p r c) (fresh_none e.history progress.last c r) allowed);
     txn = txn_from c r f allowed;
     snapshots = subst (AreFrom e.base) (sym (snapshots_after p client c r)) (labels_from c r f allowed);
   }

@@ -1,5 +1,5 @@
 -- What is true of every session: of its reads, its numbers and its entries.
-use Rattle.std.proofs.Common.{◌≡◌, ℕ, suc, zero, ◌≤◌, List, [], ◌∷◌, length, Option, Some, None, refl, sym, ap, ◌∙◌, subst, arith, rules, inl, inr}
+use Rattle.std.proofs.Common.{◌≡◌, ℕ, suc, zero, ◌≤◌, List, [], ◌∷◌, length, Option, Some, None, refl, sym, ap, ◌∙◌, subst, arith, inl, inr}
 use Rattle.std.specs.Prelude.{IfSome, is_some, nat_le}
 use Rattle.std.proofs.lemmas.Bool.{cases_Bool}
 use Rattle.std.proofs.lemmas.Option.{slice_get_within}
@@ -17,7 +17,7 @@ use Rattle.wp_replies.specs.declared.client.Txn.{Txn}
 use Rattle.wp_replies.specs.declared.client.Txn.TheVariants.{Idle, Open, Prepared}
 use Rattle.wp_replies.specs.Client.{Client, number_of, has_no_room}
 use Rattle.wp_replies.specs.After.{after_reply}
-use Rattle.wp_replies.specs.Kind.{Plain, kind, number_of_kind, numbers_logged, acknowledged, fresh_in, last_after}
+use Rattle.wp_replies.specs.Kind.{Plain, kind, number_in, number_of_kind, numbers_logged, acknowledged, fresh_in, last_after}
 use Rattle.wp_replies.specs.Progress.{Progress, progress_after}
 use Rattle.wp_replies.specs.Replies.{Evidence, refuses_change, unless_idle, unless_open, unless_prepared, if_idle, unless_labelled, refuses_label, refusal_of, IsFresh, IsLoggedAt, PreparesAt, CommitsAt, RollsBackAt, Row, UnlessRefused, Allows}
 use Rattle.wp_replies.specs.Session.{IsSession}
@@ -114,35 +114,52 @@ rolls_fresh : (h : List Entry) (last : ℕ) (txn : Txn) (n : ℕ) → RollsBackA
 rolls_fresh h last (Prepared p) n l = logged_fresh h last n _ l.0
 rolls_fresh h last _ n l = absurd l
 
-pub row_fresh : (e : Evidence) (progress : Progress) (client : Client) (p : ℕ) (c : Command) (r : Reply) → Row e progress client p c r → IfSome (fresh_in c r) (IsFresh e.history progress.last)
-row_fresh e progress client p (command.Put key value) (reply.Put n) k = logged_fresh e.history progress.last n _ k.1
-row_fresh e progress client p (command.Del key) (reply.Del n) k = logged_fresh e.history progress.last n _ k.1
-row_fresh e progress client p (command.Get key) (reply.Got value n) k = k.1
-row_fresh e progress client p (command.Get key) (reply.Missing n) k = k.1
-row_fresh e progress client p (command.GetAt key label) r k = tt
-row_fresh e progress client p (command.Snap label) (reply.Snapped n) k = k
-row_fresh e progress client p command.Prepare (reply.Prepared n) k = prepares_fresh e.history progress.last client.txn n k
-row_fresh e progress client p command.Commit (reply.Committed n) k = commits_fresh e.history progress.last client.txn n k
-row_fresh e progress client p command.Rollback (reply.RolledBack n) k = rolls_fresh e.history progress.last client.txn n k
-row_fresh e progress client p (command.Take name) (reply.Unknown other n) k = k.1
-row_fresh e progress client p command.Flush (reply.Flushed n versions) k = k.0
-row_fresh e progress client p command.Compact (reply.Compacted n versions) k = k.0
-row_fresh e progress client p command.Renew (reply.Renewed n carried) k = k.0
-row_fresh e progress client p (command.Tell label) (reply.Told n) k = k
-row_fresh e progress client p (command.Hear label) (reply.Heard n) k = k.0
-row_fresh e progress client p c reply.Held k = tt
-row_fresh e progress client p c r k = first_of (search rules, cc)
+unnumbered_fresh : (h : List Entry) (last : ℕ) (c : Command) (r : Reply) → number_in r ≡ None → IfSome (fresh_in c r) (IsFresh h last)
+unnumbered_fresh h last (command.GetAt key label) r none = tt
+unnumbered_fresh h last c r none = subst (λ (o : Option ℕ). IfSome o (IsFresh h last)) (sym none) tt
+
+pub row_fresh : (e : Evidence) (progress : Progress) (client : Client) (p : ℕ) (r : Reply) (c : Command) → Row e progress client p c r → IfSome (fresh_in c r) (IsFresh e.history progress.last)
+row_fresh e progress client p (reply.Put n) (command.Put key value) k = logged_fresh e.history progress.last n _ k.1
+row_fresh e progress client p (reply.Put n) c k = absurd k
+row_fresh e progress client p (reply.Del n) (command.Del key) k = logged_fresh e.history progress.last n _ k.1
+row_fresh e progress client p (reply.Del n) c k = absurd k
+row_fresh e progress client p (reply.Got value n) (command.Get key) k = k.1
+row_fresh e progress client p (reply.Got value n) (command.GetAt key label) k = tt
+row_fresh e progress client p (reply.Got value n) c k = absurd k
+row_fresh e progress client p (reply.Missing n) (command.Get key) k = k.1
+row_fresh e progress client p (reply.Missing n) (command.GetAt key label) k = tt
+row_fresh e progress client p (reply.Missing n) c k = absurd k
+row_fresh e progress client p (reply.Snapped n) (command.Snap label) k = k
+row_fresh e progress client p (reply.Snapped n) c k = absurd k
+row_fresh e progress client p (reply.Prepared n) command.Prepare k = prepares_fresh e.history progress.last client.txn n k
+row_fresh e progress client p (reply.Prepared n) c k = absurd k
+row_fresh e progress client p (reply.Committed n) command.Commit k = commits_fresh e.history progress.last client.txn n k
+row_fresh e progress client p (reply.Committed n) c k = absurd k
+row_fresh e progress client p (reply.RolledBack n) command.Rollback k = rolls_fresh e.history progress.last client.txn n k
+row_fresh e progress client p (reply.RolledBack n) c k = absurd k
+row_fresh e progress client p (reply.Unknown other n) (command.Take name) k = k.1
+row_fresh e progress client p (reply.Unknown other n) c k = absurd k
+row_fresh e progress client p (reply.Flushed n versions) command.Flush k = k.0
+row_fresh e progress client p (reply.Flushed n versions) c k = absurd k
+row_fresh e progress client p (reply.Compacted n versions) command.Compact k = k.0
+row_fresh e progress client p (reply.Compacted n versions) c k = absurd k
+row_fresh e progress client p (reply.Renewed n carried) command.Renew k = k.0
+row_fresh e progress client p (reply.Renewed n carried) c k = absurd k
+row_fresh e progress client p (reply.Told n) (command.Tell label) k = k
+row_fresh e progress client p (reply.Told n) c k = absurd k
+row_fresh e progress client p (reply.Heard n) (command.Hear label) k = k.0
+row_fresh e progress client p (reply.Heard n) c k = absurd k
+row_fresh e progress client p r c k = unnumbered_fresh e.history progress.last c r refl
 
 pub fresh_none : (h : List Entry) (last : ℕ) (c : Command) (r : Reply) → kind r ≡ Plain → IfSome (fresh_in c r) (IsFresh h last)
-fresh_none h last (command.GetAt key label) r plain = tt
-fresh_none h last c r plain = subst (λ (o : Option ℕ). IfSome o (IsFresh h last)) (sym (ap number_of_kind plain)) tt
+fresh_none h last c r plain = unnumbered_fresh h last c r (ap number_of_kind plain)
 
 pub session_numbers : (e : Evidence) (progress : Progress) (client : Client) (cs : List Command) (rs : List Reply) → IsSession e progress client cs rs → NeverFall e.history progress.last cs rs
 session_numbers e progress client [] [] s = tt
 session_numbers e progress client [] (r ∷ rs) s = tt
 session_numbers e progress client (c ∷ cs) [] s = tt
 session_numbers e progress client (c ∷ cs) (r ∷ rs) (p, allowed, rest) = (
-  allowed_gives _ (refusal_of client c) r _ (refusal_plain client c) (row_fresh e progress client p c r) (fresh_none e.history progress.last c r) allowed,
+  allowed_gives _ (refusal_of client c) r _ (refusal_plain client c) (row_fresh e progress client p r c) (fresh_none e.history progress.last c r) allowed,
   session_numbers e (progress_after progress c r) (after_reply p client c r) cs rs rest,
 )
 
@@ -161,14 +178,18 @@ rolls_asked : (h : List Entry) (last : ℕ) (txn : Txn) (n : ℕ) → RollsBackA
 rolls_asked h last (Prepared p) n (closed, (batch, undone)) = ((_, undone, inr (batch, refl)), ((_, closed, inl refl), tt))
 rolls_asked h last _ n l = absurd l
 
-row_asked : (e : Evidence) (progress : Progress) (client : Client) (p : ℕ) (c : Command) (r : Reply) → Row e progress client p c r → AreAsked e.history progress.last client.txn c (acknowledged r)
-row_asked e progress client p (command.Put key value) (reply.Put n) k = ((entry.Write (change.Put key value ∷ []), k.1, subst (λ (t : Txn). AsksLog t (command.Put key value) (entry.Write (change.Put key value ∷ []))) (sym k.0) refl), tt)
-row_asked e progress client p (command.Del key) (reply.Del n) k = ((entry.Write (change.Del key ∷ []), k.1, subst (λ (t : Txn). AsksLog t (command.Del key) (entry.Write (change.Del key ∷ []))) (sym k.0) refl), tt)
-row_asked e progress client p command.Prepare (reply.Prepared n) k = prepares_asked e.history progress.last client.txn n k
-row_asked e progress client p command.Commit (reply.Committed n) k = commits_asked e.history progress.last client.txn n k
-row_asked e progress client p command.Rollback (reply.RolledBack n) k = rolls_asked e.history progress.last client.txn n k
-row_asked e progress client p c reply.Held k = tt
-row_asked e progress client p c r k = first_of (search rules, cc)
+row_asked : (e : Evidence) (progress : Progress) (client : Client) (p : ℕ) (r : Reply) (c : Command) → Row e progress client p c r → AreAsked e.history progress.last client.txn c (acknowledged r)
+row_asked e progress client p (reply.Put n) (command.Put key value) k = ((entry.Write (change.Put key value ∷ []), k.1, subst (λ (t : Txn). AsksLog t (command.Put key value) (entry.Write (change.Put key value ∷ []))) (sym k.0) refl), tt)
+row_asked e progress client p (reply.Put n) c k = absurd k
+row_asked e progress client p (reply.Del n) (command.Del key) k = ((entry.Write (change.Del key ∷ []), k.1, subst (λ (t : Txn). AsksLog t (command.Del key) (entry.Write (change.Del key ∷ []))) (sym k.0) refl), tt)
+row_asked e progress client p (reply.Del n) c k = absurd k
+row_asked e progress client p (reply.Prepared n) command.Prepare k = prepares_asked e.history progress.last client.txn n k
+row_asked e progress client p (reply.Prepared n) c k = absurd k
+row_asked e progress client p (reply.Committed n) command.Commit k = commits_asked e.history progress.last client.txn n k
+row_asked e progress client p (reply.Committed n) c k = absurd k
+row_asked e progress client p (reply.RolledBack n) command.Rollback k = rolls_asked e.history progress.last client.txn n k
+row_asked e progress client p (reply.RolledBack n) c k = absurd k
+row_asked e progress client p r c k = tt
 
 asked_none : (h : List Entry) (last : ℕ) (txn : Txn) (c : Command) (r : Reply) → kind r ≡ Plain → AreAsked h last txn c (acknowledged r)
 asked_none h last txn c r plain = subst (AreAsked h last txn c) (sym (ap numbers_logged plain)) tt
@@ -188,6 +209,6 @@ session_logged e progress client [] [] s = tt
 session_logged e progress client [] (r ∷ rs) s = tt
 session_logged e progress client (c ∷ cs) [] s = tt
 session_logged e progress client (c ∷ cs) (r ∷ rs) (p, allowed, rest) = (
-  allowed_gives _ (refusal_of client c) r _ (refusal_plain client c) (row_asked e progress client p c r) (asked_none e.history progress.last client.txn c r) allowed,
+  allowed_gives _ (refusal_of client c) r _ (refusal_plain client c) (row_asked e progress client p r c) (asked_none e.history progress.last client.txn c r) allowed,
   (p, allowed_takes e progress client p c r allowed, session_logged e (progress_after progress c r) (after_reply p client c r) cs rs rest),
 )
