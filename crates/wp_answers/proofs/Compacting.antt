@@ -25,7 +25,7 @@ use Rattle.wp_core.proofs.Tests.{same_some}
 use Rattle.wp_rule.proofs.Knows.{at_sound, one_was_first}
 use Rattle.wp_shared.specs.Parts.{content}
 use Rattle.wp_shared.specs.Seats.{SharedState, SeatState, place_at}
-use Rattle.wp_read.specs.Registers as pins
+use Rattle.wp_client.specs.Registers as pins
 use Rattle.wp_maint.specs.declared.done.Done.{Done}
 use Rattle.wp_maint.specs.declared.error.MaintError.{MaintError}
 use Rattle.wp_maint.specs.declared.error.MaintError.TheVariants.{Memory, Nothing, TableFault, TablesStopped}

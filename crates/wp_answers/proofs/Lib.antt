@@ -9,3 +9,5 @@ pub mod Refusals
 pub mod Maintaining
 pub mod Compacting
 pub mod Renewing
+pub use Rattle.wp_client.proofs.Growing
+pub use Rattle.wp_client.proofs.Released

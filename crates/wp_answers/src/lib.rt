@@ -12,3 +12,4 @@ mod decisions;
 mod maintenance;
 
 pub use answering::answer;
+pub use wp_client::{Holdings, end};

@@ -5,3 +5,4 @@ pub mod Replies
 pub mod Agrees
 pub mod Answers
 pub mod Ends
+pub use Rattle.wp_read.specs.Registers

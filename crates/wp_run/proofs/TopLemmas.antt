@@ -36,7 +36,7 @@ use Rattle.wp_args.specs.declared.choice.Choice.{Choice}
 use Rattle.wp_transcript.specs.declared.status.Status.{Status}
 use Rattle.wp_transcript.specs.declared.status.Status.TheVariants as status
 use Rattle.wp_run.specs.Run.{Call, CanMake, IsChoiceOf, IsChosen, IsUnread, IsReadAs, IsServed, Ends}
-use Rattle.wp_run.specs.Seating.{IsFirstClient}
+use Rattle.wp_threads.specs.Seating.{IsFirstClient}
 use Rattle.wp_run.specs.Headline.{Serving, Headline}
 use Rattle.wp_run.specs.Met.{SharesWords}
 use Rattle.wp_run.specs.Base.{AreLimits, IsBaseStore}

@@ -5,6 +5,5 @@ pub mod Crash
 pub mod Met
 pub mod Headline
 pub mod Unopened
-pub mod Seating
 pub mod Serving
 pub mod Run

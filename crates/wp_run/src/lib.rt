@@ -5,7 +5,6 @@
 //! or, where it made the script itself, a summary of these. The text is built whole before its first byte is written.
 #![tactic(auto)]
 
-mod seating;
 mod serve;
 mod top_call;
 

@@ -4,12 +4,11 @@ ghost use Rattle.wp_fields.specs.declared.format.Format.TheVariants.{Two};
 ghost use Rattle.wp_entry.specs.Record.{last_number};
 ghost use Rattle.wp_outside.specs.Disk.{ReadsItself};
 ghost use Rattle.wp_run.specs.Base.{IsBaseStore};
-ghost use Rattle.wp_run.specs.Seating.{IsSeating};
+ghost use Rattle.wp_threads.specs.Seating.{IsSeating};
 ghost use Rattle.wp_run.specs.Serving.{ServesExactly, HasEnded};
 ghost use Rattle.wp_transcript.specs.Status.{IsStatusOf, IsBeforeSink, stage_of};
 ghost use Rattle.wp_run.specs.Use.{IsDurable, disks_use, sink_use};
 
-use crate::seating::Seating;
 use std::alloc::Global;
 use std::sync::Wait;
 use std::thread::Threads;
@@ -18,7 +17,7 @@ use wp_open::{OpenError, OpenRefused};
 use wp_opened::open_shared;
 use wp_outside::{Disk, Disks, Gate, Sink};
 use wp_text::Part;
-use wp_threads::{ScriptRun, run_script};
+use wp_threads::{ScriptRun, Seating, run_script};
 use wp_transcript::{Status, log_failed, tables_failed, text_of, write_text};
 
 /// How a script was served, and the store's devices.

@@ -6,7 +6,6 @@ ghost use Rattle.wp_run.specs.Serving.{Serves, ServesExactly};
 ghost use Rattle.wp_run.specs.Use.{IsDurable, disks_use, source_use, sink_use};
 ghost use Rattle.wp_transcript.specs.Status.{LeavesUncalled, stage_of};
 
-use crate::seating::Seating;
 use crate::serve::{Served, serve};
 use std::alloc::{AllocError, Global};
 use std::sync::Wait;
@@ -15,6 +14,7 @@ use wp_args::{Action, Choice, choice_of, words_choose_once};
 use wp_make::make_script;
 use wp_outside::{Disk, Disks, Gate, ReadError, Sink, Source, read_all};
 use wp_text::{MOST_BYTES, Script, ScriptError, read_script};
+use wp_threads::Seating;
 use wp_transcript::Status;
 
 /// How a call ended, and the devices that it was handed.

@@ -38,8 +38,8 @@ use Rattle.wp_replies.specs.Explains.{dialogues, judged_by}
 use Rattle.wp_replies.specs.Kind.{is_flushed, is_based, is_compacted}
 use Rattle.wp_replies.specs.Known.{Dialogue, has_stop, answers_in, comes_to, gets_name, takes_name, stages_key, writes_key, tells}
 use Rattle.wp_replies.specs.Replies.{WasTold, WasFlushed, WasBase, TablesFailed, OtherCompacted, Evidence, IsKnown}
-use Rattle.wp_client.specs.Alone.{limits_of}
-use Rattle.wp_client.specs.Agrees.{IsAnother, IsPrepares, KnowsHolder, Knows, Agrees}
+use Rattle.wp_answers.specs.Alone.{limits_of}
+use Rattle.wp_answers.specs.Agrees.{IsAnother, IsPrepares, KnowsHolder, Knows, Agrees}
 use Rattle.wp_threads.specs.Explained.{found_in, left_in, failed_in}
 use Rattle.wp_threads.specs.Over.{Answered, AreOver, replies_of}
 use Rattle.wp_threads.specs.SoFar.{IsFound}

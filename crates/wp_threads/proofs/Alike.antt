@@ -13,7 +13,7 @@ use Rattle.wp_replies.specs.declared.client.Txn.TheVariants.{Idle, Open, Prepare
 use Rattle.wp_replies.specs.After.{with_staged, after_reply}
 use Rattle.wp_replies.specs.Client.{Client}
 use Rattle.wp_replies.specs.Known.{gets_name, takes_name, tells}
-use Rattle.wp_client.specs.Answers.{IsExplained}
+use Rattle.wp_answers.specs.Answers.{IsExplained}
 use Rattle.wp_threads.specs.SoFar.{IsAlike}
 
 alike_same : (t : Txn) → IsAlike t t

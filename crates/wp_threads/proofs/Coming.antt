@@ -13,7 +13,7 @@ use Rattle.wp_replies.specs.Client.{Client}
 use Rattle.wp_replies.specs.After.{after_reply}
 use Rattle.wp_replies.specs.Kind.{is_based, is_flushed}
 use Rattle.wp_replies.specs.Known.{Dialogue, answers_in, comes_to, exchanges}
-use Rattle.wp_client.specs.Answers.{is_answer}
+use Rattle.wp_answers.specs.Answers.{is_answer}
 use Rattle.wp_threads.proofs.Lists.{or_left, or_right, any_wider}
 
 -- in such a state, to such a command, with such a reply or none

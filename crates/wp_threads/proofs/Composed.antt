@@ -23,8 +23,8 @@ use Rattle.wp_replies.specs.Explains.{Faults, dialogue, dialogues, all_replies, 
 use Rattle.wp_replies.specs.Kind.{is_fault, is_stopped, is_halted}
 use Rattle.wp_replies.specs.Kind as kinds
 use Rattle.wp_replies.specs.Known.{StoredState, Dialogue, answers_in, is_stop, has_stop}
-use Rattle.wp_client.specs.Alone.{limits_of}
-use Rattle.wp_client.specs.Answers.{IsRemembered}
+use Rattle.wp_answers.specs.Alone.{limits_of}
+use Rattle.wp_answers.specs.Answers.{IsRemembered}
 use Rattle.wp_threads.specs.Explained.{is_log_stop, found_in, left_in, failed_in, faults_in, AreWholeParts, HaveRun}
 use Rattle.wp_threads.specs.Over.{Answered, AreOver, replies_of}
 use Rattle.wp_threads.proofs.Agreeing.{agrees}

@@ -20,7 +20,7 @@ use Rattle.wp_shared.specs.Ending.{participant_of}
 use Rattle.wp_replies.specs.Explains.{dialogue, dialogues, all_replies}
 use Rattle.wp_replies.specs.Kind.{acknowledged}
 use Rattle.wp_replies.specs.Known.{StoredState, Dialogue, answers_in}
-use Rattle.wp_client.specs.Answers.{IsRemembered}
+use Rattle.wp_answers.specs.Answers.{IsRemembered}
 use Rattle.wp_threads.specs.Over.{Answered, IsOver, AreOver, replies_of}
 use Rattle.wp_threads.proofs.Lists.{count_append, count_times, any_in, counted_in}
 

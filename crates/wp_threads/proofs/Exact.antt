@@ -25,7 +25,7 @@ use Rattle.wp_replies.specs.Current.{opened_store}
 use Rattle.wp_replies.specs.Exact.{IsExact}
 use Rattle.wp_replies.specs.Kind.{stops_log}
 use Rattle.wp_replies.specs.Kind as kinds
-use Rattle.wp_client.specs.Alone.{limits_of, IsOnly}
+use Rattle.wp_answers.specs.Alone.{limits_of, IsOnly}
 use Rattle.wp_threads.specs.Explained.{found_in, left_in, failed_in}
 use Rattle.wp_threads.specs.Over.{Answered, EndsAlone, IsOver}
 use Rattle.wp_threads.proofs.Alone.{runs_grow, asks_any}

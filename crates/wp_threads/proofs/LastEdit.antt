@@ -23,7 +23,7 @@ use Rattle.wp_replies.specs.Client.{new_client}
 use Rattle.wp_replies.specs.Explains.{dialogues, all_replies, IsLastEdit}
 use Rattle.wp_replies.specs.Kind.{is_flushed, is_based, is_renewed, is_installed, is_compacted}
 use Rattle.wp_replies.specs.Known.{Dialogue}
-use Rattle.wp_client.specs.Answers.{IsRemembered}
+use Rattle.wp_answers.specs.Answers.{IsRemembered}
 use Rattle.wp_threads.specs.Explained.{found_in}
 use Rattle.wp_threads.specs.Over.{Answered, AreOver, replies_of}
 use Rattle.wp_threads.proofs.Coming.{comes_answered, renewal_answered, answers_any}

@@ -15,6 +15,5 @@ pub mod Lists
 pub mod Looping
 pub mod Onward
 pub mod Places
-pub mod Seated
 pub mod Stops
 pub mod Unused

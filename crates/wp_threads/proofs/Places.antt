@@ -4,12 +4,12 @@ use Rattle.std.specs.Prelude.{slice_index_or}
 use Rattle.wp_text.specs.declared.script.Part.{Part}
 use Rattle.wp_shared.specs.Seats.{SharedState, IsFree}
 use Rattle.wp_replies.specs.Known.{StoredState}
-use Rattle.wp_client.specs.Answers.{Stays}
-use Rattle.wp_threads.specs.declared.threads.Session.{Session}
+use Rattle.wp_answers.specs.Answers.{Stays}
+use Rattle.wp_seats.specs.declared.session.Session.{Session}
 use Rattle.wp_threads.specs.Each.{IsPartAt, IsNewAt, HasRunAt, AllStay}
 use Rattle.wp_threads.specs.SoFar.{IsFound}
-use Rattle.wp_threads.specs.Lists.{seat_of, answers_of}
-use Rattle.wp_threads.specs.New.{IsNew, AreNew, clients_of}
+use Rattle.wp_seats.specs.Lists.{seat_of, answers_of}
+use Rattle.wp_seats.specs.New.{IsNew, AreNew, clients_of}
 use Rattle.wp_threads.specs.Over.{AreOver}
 
 -- there is one part at a place

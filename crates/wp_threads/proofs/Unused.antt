@@ -13,9 +13,9 @@ use Rattle.wp_shared.specs.Devices.{DevicesLeft}
 use Rattle.wp_shared.specs.Ended.{IsEnded}
 use Rattle.wp_shared.specs.Seats.{SharedState, SeatState}
 use Rattle.wp_replies.specs.Explains.{Explains}
-use Rattle.wp_client.specs.Alone.{limits_of}
+use Rattle.wp_answers.specs.Alone.{limits_of}
 use Rattle.wp_threads.specs.Explained.{found_in, left_in, failed_in, faults_in, HaveRun}
-use Rattle.wp_threads.specs.New.{first_seat}
+use Rattle.wp_seats.specs.New.{first_seat}
 use Rattle.wp_threads.specs.Over.{Answered}
 use Rattle.wp_threads.proofs.Counted.{once_after}
 

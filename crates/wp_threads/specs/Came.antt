@@ -8,9 +8,9 @@ use Rattle.wp_shared.specs.Parts.{content}
 use Rattle.wp_shared.specs.Seats.{SharedState, SeatState}
 use Rattle.wp_replies.specs.Due.{Store}
 use Rattle.wp_replies.specs.Known.{StoredState}
-use Rattle.wp_client.specs.Alone.{IsOnly, IsStoreOf, AnswersAlone}
-use Rattle.wp_client.specs.Answers.{Answers}
-use Rattle.wp_client.specs.Holdings.{HoldingsState, client_of, Holds}
+use Rattle.wp_answers.specs.Alone.{IsOnly, IsStoreOf, AnswersAlone}
+use Rattle.wp_answers.specs.Answers.{Answers}
+use Rattle.wp_answers.specs.Holdings.{HoldingsState, client_of, Holds}
 use Rattle.wp_threads.specs.SoFar.{IsSessionSoFar}
 use Rattle.wp_threads.specs.Over.{Answered, BreaksOffBefore}
 

@@ -12,7 +12,7 @@ use Rattle.wp_replies.specs.Exact.{IsExact}
 use Rattle.wp_replies.specs.Explains.{Faults, AreFirstParts, Explains}
 use Rattle.wp_replies.specs.Known.{StoredState}
 use Rattle.wp_replies.specs.Replies.{Untaken}
-use Rattle.wp_client.specs.Alone.{limits_of}
+use Rattle.wp_answers.specs.Alone.{limits_of}
 use Rattle.wp_threads.specs.Over.{Answered, replies_of}
 
 -- the log was stopped by it, in a renewal

@@ -23,10 +23,10 @@ use Rattle.wp_replies.specs.Known.{StoredState, known_at_first, comes_to, exchan
 use Rattle.wp_replies.specs.Progress.{Progress}
 use Rattle.wp_replies.specs.Replies.{Evidence}
 use Rattle.wp_replies.specs.Session.{IsSession}
-use Rattle.wp_client.specs.Agrees.{Agrees}
-use Rattle.wp_client.specs.Alone.{log_faults, device_faults, tables_faults, limits_of, IsOnly, IsStoreOf}
-use Rattle.wp_client.specs.Answers.{IsProgress, explaining, IsRemembered}
-use Rattle.wp_client.specs.Holdings.{HoldingsState, client_of, Holds}
+use Rattle.wp_answers.specs.Agrees.{Agrees}
+use Rattle.wp_answers.specs.Alone.{log_faults, device_faults, tables_faults, limits_of, IsOnly, IsStoreOf}
+use Rattle.wp_answers.specs.Answers.{IsProgress, explaining, IsRemembered}
+use Rattle.wp_answers.specs.Holdings.{HoldingsState, client_of, Holds}
 
 -- what the store was opened to: its history, and the last edit of its tables, which names the base of its log
 pub record IsFound {D : Type 0} (z : SharedState D) (found : StoredState) : Type 0 where

@@ -5,16 +5,17 @@ ghost use Rattle.wp_rule.specs.Shows.{WasLast};
 ghost use Rattle.wp_shared.specs.Parts.{content};
 ghost use Rattle.wp_shared.specs.Devices.{devices_of};
 ghost use Rattle.wp_shared.specs.Ending.{AreAll};
-ghost use Rattle.wp_threads.specs.New.{AreNew, clients_of, first_seat};
-ghost use Rattle.wp_threads.specs.Lists.{seat_of, answers_of};
+ghost use Rattle.wp_seats.specs.New.{AreNew, clients_of, first_seat};
+ghost use Rattle.wp_seats.specs.Lists.{seat_of};
 ghost use Rattle.wp_threads.specs.Explained.{HaveRun};
 
-use crate::threads::{Session, run_all};
+use crate::threads::run_all;
 use std::alloc::Global;
 use std::sync::Wait;
 use std::thread::Threads;
 use wp_ledger::History;
 use wp_outside::{Disk, Disks, Gate};
+use wp_seats::{Session, part_all};
 use wp_shared::{Finished, Seat, Shared};
 use wp_text::{Answered, Part};
 
@@ -24,27 +25,6 @@ pub struct ScriptRun<D> {
     pub answers: Vec<Answered>,
     pub history: History,
     pub disks: Disks<D>,
-}
-
-/// The seats, and what the clients were answered. Both lists have room.
-fn part_all<D: Disk + Drop>(
-    sessions: Vec<Session<D>>,
-    seats: Vec<Seat<D>>,
-    answers: Vec<Answered>,
-) -> (Vec<Seat<D>>, Vec<Answered>)
-    requires empty { (seats.items ≡ []) × (answers.items ≡ []) }
-    requires room { (vec_len sessions ≤ vec_capacity seats) × (vec_len sessions ≤ vec_capacity answers) }
-    ensures seats { result.0.items ≡ map seat_of sessions.items }
-    ensures answers { result.1.items ≡ map answers_of sessions.items }
-{
-    let mut seats = seats;
-    let mut all = answers;
-    for session in sessions {
-        let Session { seat, answers } = session;
-        seats.push_reserved(seat);
-        all.push_reserved(answers);
-    }
-    (seats, all)
 }
 
 /// Ends a store at which no session ran: its first seat is handed in alone. The list has room for it.

@@ -10,11 +10,10 @@
 #![tactic(auto)]
 
 mod ending;
-mod room;
 mod script;
 mod session;
 mod threads;
 
 pub use ending::ScriptRun;
-pub use room::Room;
 pub use script::run_script;
+pub use wp_seats::Seating;

@@ -2,17 +2,16 @@
 ghost use Rattle.std.specs.Prelude.{ℕ, List, []};
 ghost use Rattle.wp_shared.specs.Seats.{IsFree};
 ghost use Rattle.wp_replies.specs.Known.{StoredState};
-ghost use Rattle.wp_client.specs.Answers.{Stays};
-ghost use Rattle.wp_client.specs.Holdings.{Holds};
-ghost use Rattle.wp_threads.specs.New.{IsNew};
+ghost use Rattle.wp_answers.specs.Answers.{Stays};
+ghost use Rattle.wp_answers.specs.Holdings.{Holds};
+ghost use Rattle.wp_seats.specs.New.{IsNew};
 ghost use Rattle.wp_threads.specs.SoFar.{IsFound, IsSessionSoFar};
 ghost use Rattle.wp_threads.specs.Came.{TakesNext, HasComeTo};
 ghost use Rattle.wp_threads.specs.Over.{IsOver};
 
 use std::alloc::Global;
 use std::sync::Wait;
-use wp_answers::answer;
-use wp_client::{Holdings, end};
+use wp_answers::{Holdings, answer, end};
 use wp_outside::{Disk, Gate};
 use wp_shared::{Seat, Shared};
 use wp_text::{Answered, Command, Part, Reply};

@@ -1,11 +1,11 @@
 //! The sessions of all clients at once.
 ghost use Rattle.std.specs.Prelude.{◌≡◌, map};
 ghost use Rattle.wp_replies.specs.Known.{StoredState};
-ghost use Rattle.wp_threads.specs.New.{AreNew, clients_of};
+ghost use Rattle.wp_seats.specs.New.{AreNew, clients_of};
 ghost use Rattle.wp_threads.specs.SoFar.{IsFound};
 ghost use Rattle.wp_threads.specs.Over.{AreOver};
 ghost use Rattle.wp_threads.specs.Each.{IsNewAt, HasRunAt, AllStay};
-ghost use Rattle.wp_threads.specs.Lists.{seat_of, answers_of};
+ghost use Rattle.wp_seats.specs.Lists.{seat_of, answers_of};
 
 use crate::session::run_session;
 use std::alloc::Global;
@@ -13,15 +13,9 @@ use std::sync::Wait;
 use std::thread;
 use std::thread::Threads;
 use wp_outside::{Disk, Gate};
-use wp_shared::{Seat, Shared};
-use wp_text::{Answered, Part};
-
-/// A client's seat, and what the client was answered there.
-#[derive(Drop)]
-pub(crate) struct Session<D: Disk + Drop> {
-    pub(crate) seat: Seat<D>,
-    pub(crate) answers: Answered,
-}
+use wp_seats::Session;
+use wp_shared::Shared;
+use wp_text::Part;
 
 /// Runs the session of the part at this place.
 fn run_at<D: Disk + Drop, G: Gate, R: Wait>(

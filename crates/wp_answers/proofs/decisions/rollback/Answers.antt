@@ -18,3 +18,15 @@ pub returns-in-Open-clause-answered : goal.returns-in-Open-clause-answered
 returns-in-Open-clause-answered g c =
     let z = c.args.store.now in let s = c.args.seat.now in let t = c.abandon.new.seat in let begun = c.in-Open.open in
     rw c.in-Open.is (answers_from z s t (held.Open begun) held.Idle command.Rollback reply.Dropped (λ snapshots. dropped_answers z s t snapshots begun c.abandon.ensures.gives_up))
+
+pub rollback_prepared-requires : goal.rollback_prepared-requires
+rollback_prepared-requires g c = rw c.in-Prepared.is at c.requires
+
+pub returns-in-Prepared-clause-holds : goal.returns-in-Prepared-clause-holds
+returns-in-Prepared-clause-holds g c = rw c.in-Prepared.is c.rollback_prepared.ensures.holds
+
+pub returns-in-Prepared-clause-answered : goal.returns-in-Prepared-clause-answered
+returns-in-Prepared-clause-answered g c = rw c.in-Prepared.is c.rollback_prepared.ensures.answered
+
+pub returns-in-Prepared-clause-err : goal.returns-in-Prepared-clause-err
+returns-in-Prepared-clause-err g c = rw c.in-Prepared.is c.rollback_prepared.ensures.err

@@ -1,7 +1,7 @@
 use Rattle.std.proofs.Common.{◌≡◌, List, [], ◌∷◌, ◌++◌, refl, sym, subst, ap, ◌∙◌}
 use Rattle.wp_shared.specs.Ending.{AllFree, AreAll}
 use Rattle.wp_shared.specs.Seats.{SeatState}
-use Rattle.wp_threads.specs.New.{first_seat}
+use Rattle.wp_seats.specs.New.{first_seat}
 use Rattle.wp_threads.proofs.Unused.{unused_run}
 use Rattle.wp_threads.proofs.ending.end_unused.Goals as goal
 

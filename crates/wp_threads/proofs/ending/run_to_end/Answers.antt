@@ -2,8 +2,8 @@ use Rattle.std.proofs.Common.{rules, ◌≡◌, List, length, map, drop, sym, su
 use Rattle.std.proofs.lemmas.List.{take_at}
 use Rattle.wp_shared.specs.Ending.{AllFree, AreAll}
 use Rattle.wp_shared.specs.Seats.{SeatState}
-use Rattle.wp_threads.specs.declared.threads.Session.{Session}
-use Rattle.wp_threads.specs.Lists.{seat_of, answers_of}
+use Rattle.wp_seats.specs.declared.session.Session.{Session}
+use Rattle.wp_seats.specs.Lists.{seat_of, answers_of}
 use Rattle.wp_threads.specs.Over.{Answered, AreOver}
 use Rattle.wp_threads.proofs.Handed.{still_all, all_free, run_explained}
 use Rattle.wp_threads.proofs.ending.run_to_end.Goals as goal

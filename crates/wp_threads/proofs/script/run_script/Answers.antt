@@ -1,7 +1,7 @@
 use Rattle.std.proofs.Common.{rules, ◌≡◌, ◌<◌, length, map, ◌∙◌, arith}
 use Rattle.std.proofs.lemmas.Bool.Decides.{nat_tests}
-use Rattle.wp_threads.specs.Lists.{seat_of}
-use Rattle.wp_threads.proofs.Seated.{own_first, parts_new, nobodys}
+use Rattle.wp_seats.specs.Lists.{seat_of}
+use Rattle.wp_seats.proofs.Seated.{own_first, parts_new, nobodys}
 use Rattle.wp_threads.proofs.Unused.{run_of_none}
 use Rattle.wp_threads.proofs.script.run_script.Goals as goal
 

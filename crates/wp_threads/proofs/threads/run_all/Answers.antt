@@ -6,7 +6,7 @@ use Rattle.std.proofs.Crossing.{sync}
 use Rattle.wp_text.proofs.script.Part.TheSendSync as part
 use Rattle.wp_shared.proofs.Sent.{shared_sync, seat_send}
 use Rattle.wp_text.proofs.replies.Answered.TheSendSync as answers
-use Rattle.wp_threads.specs.declared.threads.Session.{Session}
+use Rattle.wp_seats.specs.declared.session.Session.{Session}
 use Rattle.wp_threads.specs.Each.{HasRunAt}
 use Rattle.wp_threads.proofs.Captured.{captured_sync}
 use Rattle.wp_threads.proofs.Places.{new_at, same_length, all_over, all_stay}

@@ -5,7 +5,7 @@ use Rattle.wp_text.specs.declared.script.Part.{Part}
 use Rattle.wp_core.specs.World.{new_actor}
 use Rattle.wp_shared.specs.Ending.{AreAll}
 use Rattle.wp_shared.specs.Seats.{SharedState, SeatState}
-use Rattle.wp_threads.specs.New.{IsNew, AreNew, clients_of, others_of, having_made, first_seat, IsFirst}
+use Rattle.wp_seats.specs.New.{IsNew, AreNew, clients_of, others_of, having_made, first_seat, IsFirst}
 
 pub none_there : {X : Type 0} (xs : List X) → length xs ≡ 0 → xs ≡ []
 none_there [] e = refl

@@ -1,8 +1,8 @@
 //! The memory that the sessions of a script take at once, before the first of them.
 ghost use Rattle.std.specs.Prelude.{◌≡◌, ◌<◌, ◌≤◌, [], IfOk, vec_len, vec_capacity};
-ghost use Rattle.wp_threads.specs.New.{clients_of, others_of};
+ghost use Rattle.wp_seats.specs.New.{clients_of, others_of};
 
-use crate::threads::Session;
+use crate::session::Session;
 use std::alloc::{AllocError, Global};
 use std::marker::Model;
 use wp_model::Name;
@@ -21,7 +21,7 @@ pub struct Room<D: Disk + Drop> {
 
 impl<D: Disk + Drop> Model for Room<D> {
     ghost use Rattle.std.specs.Prelude.{ℕ, List, vec_len, vec_capacity};
-    ghost use Rattle.wp_threads.specs.Room.{HasRoom};
+    ghost use Rattle.wp_seats.specs.Room.{HasRoom};
 
     ghost Value = { List (List ℕ) };
 
@@ -65,7 +65,8 @@ impl<D: Disk + Drop> Room<D> {
         })
     }
 
-    pub(crate) fn into_lists(self) -> (Vec<Name>, Vec<Session<D>>, Vec<Seat<D>>, Vec<Answered>)
+    /// The names, and the lists for sessions, seats and answers.
+    pub fn into_lists(self) -> (Vec<Name>, Vec<Session<D>>, Vec<Seat<D>>, Vec<Answered>)
         ensures names { result.0.items ≡ self }
         ensures empty { (result.1.items ≡ []) × (result.2.items ≡ []) × (result.3.items ≡ []) }
         ensures room { (vec_len result.0 < vec_capacity result.1) × (vec_len result.0 < vec_capacity result.2) × (vec_len result.0 < vec_capacity result.3) }

@@ -2,11 +2,11 @@ use Rattle.std.proofs.Common.{◌≡◌, ℕ, ◌+◌, [], ◌∷◌, ◌++◌, 
 use Rattle.std.proofs.lemmas.List.{map_push, length_push}
 use Rattle.wp_core.specs.Changes.{made_one}
 use Rattle.wp_shared.specs.Seats.{SeatState}
-use Rattle.wp_threads.specs.declared.threads.Session.{Session}
-use Rattle.wp_threads.specs.Lists.{seat_of}
-use Rattle.wp_threads.specs.New.{AreNew, having_made}
-use Rattle.wp_threads.proofs.Seated.{made_new, one_more_new}
-use Rattle.wp_threads.proofs.script.seat_others.Goals as goal
+use Rattle.wp_seats.specs.declared.session.Session.{Session}
+use Rattle.wp_seats.specs.Lists.{seat_of}
+use Rattle.wp_seats.specs.New.{AreNew, having_made}
+use Rattle.wp_seats.proofs.Seated.{made_new, one_more_new}
+use Rattle.wp_seats.proofs.session.seat_others.Goals as goal
 
 pub loop-name-preserved : goal.loop-name-preserved
 loop-name-preserved g c =

@@ -1,7 +1,7 @@
 -- What is made for a script before its store is opened.
 use Rattle.std.specs.Prelude.{◌≡◌, ℕ, List, [], ◌∷◌}
 use Rattle.wp_text.specs.declared.script.Part.{Part}
-use Rattle.wp_threads.specs.New.{others_of}
+use Rattle.wp_seats.specs.New.{others_of}
 
 -- the first part's client; where there is no part, anybody
 abbrev pub IsFirstClient : List Part → List ℕ → Type 0

@@ -1,18 +1,18 @@
 //! What a script's sessions need before their store is opened.
 ghost use Rattle.std.specs.Prelude.{IfOk};
-ghost use Rattle.wp_run.specs.Seating.{IsFirstClient, IsSeating};
+ghost use Rattle.wp_seats.specs.Seating.{IsFirstClient, IsSeating};
 
+use crate::room::Room;
 use std::alloc::{AllocError, Global};
 use wp_model::Name;
 use wp_outside::Disk;
 use wp_text::Part;
-use wp_threads::Room;
 
 /// Whose the store's first seat is to be, and room for the sessions.
 #[derive(Drop)]
-pub(crate) struct Seating<D: Disk + Drop> {
-    pub(crate) client: Name,
-    pub(crate) room: Room<D>,
+pub struct Seating<D: Disk + Drop> {
+    pub client: Name,
+    pub room: Room<D>,
 }
 
 /// The first client. Where the script has no part nobody does anything at the first seat, and its name is never seen.
@@ -27,7 +27,7 @@ fn first_client(alloc: Global, parts: &[Part]) -> Result<Name, AllocError>
 
 impl<D: Disk + Drop> Seating<D> {
     /// For this script. Where memory is wanting for it, no device was called yet.
-    pub(crate) fn new(alloc: Global, parts: &[Part]) -> Result<Seating<D>, AllocError>
+    pub fn new(alloc: Global, parts: &[Part]) -> Result<Seating<D>, AllocError>
         ensures { IfOk result (λ seating. IsSeating parts.now seating.client seating.room) }
     {
         Ok(Seating {

@@ -1,10 +1,10 @@
 use Rattle.std.proofs.Common.{rules, ◌≡◌, List, ◌∷◌, length, map, sym, subst, ap, ◌∙◌}
 use Rattle.wp_shared.specs.Ending.{AreAll}
-use Rattle.wp_threads.specs.declared.threads.Session.{Session}
-use Rattle.wp_threads.specs.Lists.{seat_of}
-use Rattle.wp_threads.specs.New.{AreNew, having_made}
-use Rattle.wp_threads.proofs.Seated.{all_new, all_made}
-use Rattle.wp_threads.proofs.script.seat_all.Goals as goal
+use Rattle.wp_seats.specs.declared.session.Session.{Session}
+use Rattle.wp_seats.specs.Lists.{seat_of}
+use Rattle.wp_seats.specs.New.{AreNew, having_made}
+use Rattle.wp_seats.proofs.Seated.{all_new, all_made}
+use Rattle.wp_seats.proofs.session.seat_all.Goals as goal
 
 pub returns-clause-new : goal.returns-clause-new
 returns-clause-new g c =

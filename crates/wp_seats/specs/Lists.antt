@@ -1,7 +1,7 @@
 -- What is so of the sessions at once.
 use Rattle.wp_shared.specs.Seats.{SeatState}
-use Rattle.wp_threads.specs.declared.threads.Session.{Session}
-use Rattle.wp_threads.specs.Over.{Answered}
+use Rattle.wp_seats.specs.declared.session.Session.{Session}
+use Rattle.wp_text.specs.Answered.{Answered}
 
 abbrev pub seat_of : {D : Type 0} → Session D → SeatState
 seat_of s = s.seat

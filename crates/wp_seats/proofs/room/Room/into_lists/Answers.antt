@@ -1,6 +1,6 @@
 use Rattle.std.proofs.Common.{rules, ◌≡◌, length, ◌∙◌}
-use Rattle.wp_threads.proofs.Seated.{none_there}
-use Rattle.wp_threads.proofs.room.Room.into_lists.Goals as goal
+use Rattle.wp_seats.proofs.Seated.{none_there}
+use Rattle.wp_seats.proofs.room.Room.into_lists.Goals as goal
 
 pub returns-clause-empty : goal.returns-clause-empty
 returns-clause-empty g c =

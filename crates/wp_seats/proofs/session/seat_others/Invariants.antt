@@ -1,7 +1,7 @@
 use Rattle.std.proofs.Common.{◌≡◌, length, map, vec_len, vec_capacity}
-use Rattle.wp_threads.specs.Lists.{seat_of}
-use Rattle.wp_threads.specs.New.{AreNew, having_made}
-use Rattle.wp_threads.proofs.script.seat_others.Given as goal
+use Rattle.wp_seats.specs.Lists.{seat_of}
+use Rattle.wp_seats.specs.New.{AreNew, having_made}
+use Rattle.wp_seats.proofs.session.seat_others.Given as goal
 
 abbrev pub invariant-loop-name : goal.invariant-loop-name
 invariant-loop-name g l = record {

@@ -1,7 +1,7 @@
 use Rattle.std.proofs.Common.{◌≡◌, ℕ, List, length, min, subst, arith}
 use Rattle.std.specs.Prelude.{IfOk}
-use Rattle.wp_threads.proofs.Seated.{others_behind}
-use Rattle.wp_threads.proofs.room.names_behind.Goals as goal
+use Rattle.wp_seats.proofs.Seated.{others_behind}
+use Rattle.wp_seats.proofs.room.names_behind.Goals as goal
 
 pub returns : goal.returns
 returns c =

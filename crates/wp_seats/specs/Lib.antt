@@ -1,0 +1,4 @@
+pub mod New
+pub mod Room
+pub mod Lists
+pub mod Seating
