@@ -299,7 +299,7 @@ impl<D: Disk> Log<D> {
         requires waits { IsWaiting self.old written }
         ensures { self.new ≡ record self.old { table = record (with_next self.old.table written.segment) { closed = true; stopped = true } } }
     {
-        self.next = Some(written.segment());
+        self.next = Some(self.wal.give_up(written));
         self.closed = true;
         self.stopped = true;
     }

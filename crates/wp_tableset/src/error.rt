@@ -4,7 +4,7 @@ ghost use Rattle.wp_tableset.specs.declared.error.TableSetError.TheVariants.{Mem
 use std::alloc::AllocError;
 
 /// Why the tables of a store were not changed.
-#[derive(Clone, Copy, PartialEq, Eq)]
+#[derive(Clone, Copy)]
 pub enum TableSetError {
     /// Out of memory. The tables are as before.
     Memory,

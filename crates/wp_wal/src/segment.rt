@@ -42,8 +42,8 @@ impl Model for NewSegment {
     ghost invariant = { λ s. (s.number ≡ s.base.value.number) × (2 ≤ length s.log) };
 }
 
-/// A segment that is on the device beside the log in use.
-#[derive(Drop)]
+/// A segment that is on the device beside the log in use. It has no `Drop`, so none that was written is forgotten: the log moves there, or
+/// gives it up.
 pub struct Written {
     segment: Segment,
     end: u64,
@@ -139,8 +139,17 @@ impl<D: Disk> Wal<D> {
         ensures wal { self.new ≡ record self.old { format = Two; end = written.end; count = 1; segment = written.segment; reserved = None } }
         ensures stores { (c : Cut) → IsBeside self.old c written → StoresCut self.new c [] }
     {
-        self.log.move_to(Format::Two, written.end, 1);
-        self.segment = written.segment;
+        let Written { segment, end } = written;
+        self.log.move_to(Format::Two, end, 1);
+        self.segment = segment;
         self.reserved = None;
+    }
+
+    /// The segment that was written does not come into use. No device is called.
+    pub fn give_up(&self, written: Written) -> Segment
+        ensures { result ≡ written.segment }
+    {
+        let Written { segment, end: _end } = written;
+        segment
     }
 }
