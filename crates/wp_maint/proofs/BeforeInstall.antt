@@ -12,7 +12,7 @@ use Rattle.wp_core.specs.Views as event
 use Rattle.wp_core.specs.World.{Participant, World}
 use Rattle.wp_rule.specs.Words.{IsAt}
 use Rattle.wp_shared.specs.Edits.{EditsState, IsEdits}
-use Rattle.wp_shared.specs.Parts.{set_first}
+use Rattle.wp_shared.specs.Parts.{EditsStand, set_first}
 use Rattle.wp_shared.specs.Calls.{Continues, remembering}
 use Rattle.wp_shared.specs.Seats.{SharedState, SeatState, Stands, place_at}
 use Rattle.wp_shared.proofs.Onward.{starts_equal}
@@ -84,11 +84,11 @@ module _ {D : Type 0} (z : SharedState D) (s t v : SeatState) (before after : Ed
   left_once k = (before.table, left k)
 
   -- ... as they were
-  pub kept_once : after ≡ before → KeepsOnce z s v
-  kept_once same = (
+  pub kept_once : EditsStand before → after ≡ before → KeepsOnce z s v
+  kept_once stand same = (
     before.table,
     found,
-    record { before = before; after = after; of_store = of_store; still_of_store = still_of_store; before_is = refl; after_is = ap (λ (e : EditsState). e.table) same; edits = edits; still_edits = still_edits; so = same },
+    record { before = before; after = after; of_store = of_store; still_of_store = still_of_store; before_is = refl; after_is = ap (λ (e : EditsState). e.table) same; edits = edits; still_edits = still_edits; so = (same, stand) },
   )
 
   pub left_each : AreLeft before after → LeavesEach z s v

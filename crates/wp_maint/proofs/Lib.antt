@@ -6,6 +6,7 @@ pub mod Memory
 pub mod Onward
 pub mod BeforeInstall
 pub mod Renewing
+pub mod Unmoved
 pub mod Freezes
 pub mod Installed
 pub mod Puts

@@ -288,6 +288,8 @@ module _ {D : Type 0} (First Last : Participant → Type 0) (z : SharedState D) 
     running = k.running;
     whole = saw_whole seen k.whole;
     closed = (k.closed.0, had_between z s t u v same same_past starts grown (writes k.closed.0) k.closed.1, k.closed.2);
+    at_once = k.at_once;
+    tables = k.tables;
     log = k.log;
     number = k.number ∙ ap (λ (h : List Entry). length h) seen;
     goes_on = remembers_so k.found (stopped n ∷ []) k.goes_on;
@@ -297,6 +299,9 @@ module _ {D : Type 0} (First Last : Participant → Type 0) (z : SharedState D) 
     running = k.running;
     whole = saw_whole seen k.whole;
     unclosed = (k.unclosed.0, had_between z s t u v same same_past starts grown (writes k.unclosed.0) k.unclosed.1, k.unclosed.2);
+    at_once = k.at_once;
+    spelled = k.spelled ∙ seen;
+    tables = k.tables;
     log = k.log;
     based = k.based ∙ ap (λ (h : List Entry). length h) seen;
     goes_on = remembers_so k.found [] k.goes_on;

@@ -67,7 +67,7 @@ holds_since P old new rests passes image left =
 
 -- ---- what the log spells
 
-log_amid : (w : World) → IsSound w → (entries : List Entry) → MaySpellAmid w.writes entries → StartsWith entries (history w) × IsLegal entries
+pub log_amid : (w : World) → IsSound w → (entries : List Entry) → MaySpellAmid w.writes entries → StartsWith entries (history w) × IsLegal entries
 log_amid w sound entries (inl may) = left_by_crash w sound entries may
 log_amid w sound entries (inr is) = ((w.writes.pending, is), subst IsLegal (sym is) sound.history.legal_next)
 

@@ -7,7 +7,7 @@ use Rattle.wp_cuts.specs.Cut.{Cut, IsCut}
 use Rattle.wp_outside.specs.Disk.{Moment, images}
 use Rattle.wp_wal.specs.Spelling.{IsLogAt}
 use Rattle.wp_shared.specs.Opens.{OpensTo}
-use Rattle.wp_core.specs.Images.{MaySpell}
+use Rattle.wp_core.specs.Images.{MayName, MaySpell}
 use Rattle.wp_core.specs.Runs.{Reaches}
 use Rattle.wp_core.specs.Sound.Actors.{StartsWith}
 use Rattle.wp_core.specs.Tables.{WriteTable}
@@ -60,3 +60,14 @@ pub record OpensThroughout (before after : List Entry) (old new : EditsState) (n
   pub later : StartsWith seen before
   pub within : StartsWith after seen
   pub opens : OpensFrom seen old new next
+
+-- ---- no device is called
+
+-- In the segment of each edit that the manifest may name in this world the bytes have, from its base on, entries that the log may have
+-- then: also where a crash falls into another's append.
+abbrev pub SpellsNamed : ℕ → World → List ℕ → Type 0
+SpellsNamed id w log = (edit : InstalledEdit) → MayName w.installed edit → (entries : List Entry) × MaySpellAmid w.writes entries × SpellsCut id edit.segment entries log
+
+-- the bytes of the three devices open to a list that is such entries from the base of such an edit on, and to that edit
+abbrev pub OpensToSuch : (Spells : List Entry → Type 0) → (Names : InstalledEdit → Type 0) → ℕ → (log manifest tables : List ℕ) → Type 0
+OpensToSuch Spells Names id log manifest tables = (edit : InstalledEdit) × Names edit × (entries : List Entry) × Spells entries × OpensFromBase id entries edit log manifest tables

@@ -33,7 +33,7 @@ use Rattle.wp_rule.specs.Knows.{Noted}
 use Rattle.wp_shared.specs.Edits.{EditsState}
 use Rattle.wp_shared.specs.Installs.{SurvivesInstall}
 use Rattle.wp_shared.specs.Log.{LogState, IsLog, IsPlaceOf, IsSegmentOf}
-use Rattle.wp_shared.specs.Parts.{log_first, set_first}
+use Rattle.wp_shared.specs.Parts.{EditsStand, LogStands, log_first, set_first}
 use Rattle.wp_shared.specs.Calls.{Continues, remembering}
 use Rattle.wp_shared.specs.Seats.{SharedState, SeatState}
 use Rattle.wp_shared.specs.Turns.{HoldsTurn}
@@ -43,7 +43,7 @@ use Rattle.wp_maint.specs.declared.renewed.RenewError.{RenewError}
 use Rattle.wp_maint.specs.declared.renewed.RenewError.TheVariants.{Memory, TablesStopped, Stopped, Nothing, TableFault, LogFault}
 use Rattle.wp_maint.specs.Calls.{FailedOnce, Finds, found_by, HasFault, HeldContent, HeldTables, IsStopped, IsUncalled, MadeNoInstall, SawWhole, TablesBecame}
 use Rattle.wp_maint.specs.Flush.{versions_of}
-use Rattle.wp_maint.specs.Moments.{LeftSince, OpensFromBase}
+use Rattle.wp_maint.specs.Moments.{LeftSince, OpensFromBase, OpensToSuch}
 
 -- ---- what the seat holds
 
@@ -129,32 +129,44 @@ OpensInRenewal old new log moved asked =
     (l m t : List ℕ) → LeftInRenewal old new log moved l m t
     → (edit : InstalledEdit) × ((edit ≡ old.table.last) ⊎ (asked ≡ Some edit)) × OpensFromBase old.set.manifest.log.id log.table.history edit l m t
 
+-- While no device is called, whatever a crash leaves of the three opens to a list that is such entries from the base of such an edit on,
+-- and to that edit.
+abbrev pub OpensUnmoved : (Spells : List Entry → Type 0) → (Names : InstalledEdit → Type 0) → EditsState → LogState → Type 0
+OpensUnmoved Spells Names e log =
+    (l m t : List ℕ) → images log.wal.moments l → images e.set.manifest.log.moments m → images e.set.moments t → OpensToSuch Spells Names e.set.manifest.log.id l m t
+
 -- ---- refusals
 
--- the tables, and what their devices show of themselves, are as they were
+-- The tables, and what their devices show of themselves, are as they were; and what a crash leaves of these is as the table says.
 abbrev pub AreSameTables : EditsState → EditsState → Type 0
-AreSameTables before after = after ≡ before
+AreSameTables before after = (after ≡ before) × EditsStand before
 
 -- ... of the log
 abbrev pub IsSameLog : LogState → LogState → Type 0
-IsSameLog before after = after ≡ before
+IsSameLog before after = (after ≡ before) × LogStands before
 
--- The log was closed before, at this published number; no device of the tables had failed. It is as it was.
+-- The log was closed before, at this published number; no device of the tables had failed. Both are as they were, in one world.
 pub record IsClosed {D : Type 0} (Goes : Participant → Type 0) (z : SharedState D) (old new : SeatState) (e : Installed) (n : ℕ) : Type 0 where
   pub found : Finds z old new e
   pub running : e.halted ≡ false
   pub whole : SawWhole z old new.knows.participant.seen
   pub closed : (t : WriteTable) × HeldContent z old new old.knows.participant.past (writes t) × (t.closed ≡ true)
+  pub at_once : (closed.1.world.installed ≡ e) × (closed.1.world.writes ≡ closed.0)
+  pub tables : TablesBecame z e e AreSameTables
   pub log : LogBecame z closed.0 closed.0 IsSameLog
   pub number : n ≡ length new.knows.participant.seen
   pub goes_on : Goes (remembering (found_by z old new e found ∷ stopped n ∷ []) old.knows.participant)
 
--- The log was not closed, and has the base already at which it would be renewed. It is as it was.
+-- The log was not closed, and has the base already at which it would be renewed; it spells the whole history. Both are as they were, in one
+-- world.
 pub record IsRenewed {D : Type 0} (Goes : Participant → Type 0) (z : SharedState D) (old new : SeatState) (e : Installed) : Type 0 where
   pub found : Finds z old new e
   pub running : e.halted ≡ false
   pub whole : SawWhole z old new.knows.participant.seen
   pub unclosed : (t : WriteTable) × HeldContent z old new old.knows.participant.past (writes t) × (t.closed ≡ false)
+  pub at_once : (unclosed.1.world.installed ≡ e) × (unclosed.1.world.writes ≡ unclosed.0)
+  pub spelled : unclosed.0.log ≡ new.knows.participant.seen
+  pub tables : TablesBecame z e e AreSameTables
   pub log : LogBecame z unclosed.0 unclosed.0 IsSameLog
   pub based : e.last.segment.base ≡ length new.knows.participant.seen
   pub goes_on : Goes (remembering (found_by z old new e found ∷ []) old.knows.participant)
@@ -239,7 +251,7 @@ RenewsFrom Goes z old e (Err LogFault) new = HasLogFault Goes z old new e
 abbrev pub Renews : {D : Type 0} → SharedState D → SeatState → Result Renewed RenewError → SeatState → Type 0
 Renews z old result new = (e : Installed) × RenewsFrom (Continues z old new) z old e result new
 
--- ---- the manifest's device
+-- ---- what a refusal left of the devices
 
 -- this is so, unless the answer is that a device of the tables failed
 abbrev pub UnlessDeviceFault : Type 0 → RenewError → Type 0
@@ -252,7 +264,8 @@ BeforeDevices So TableFault = Unit {0}
 BeforeDevices So LogFault = Unit {0}
 BeforeDevices So other = So
 
--- The call took these tables from behind the turn, and gave them back as they were.
+-- The call took these tables from behind the turn, and gave them back as they were: as `TablesBecame` says it, of a value that may stand
+-- there.
 abbrev pub KeepsOnce : {D : Type 0} → SharedState D → SeatState → SeatState → Type 0
 KeepsOnce z old new = (e : Installed) × Finds z old new e × TablesBecame z e e AreSameTables
 

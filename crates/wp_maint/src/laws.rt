@@ -2,7 +2,9 @@
 ghost use Rattle.std.specs.Prelude.{◌≡◌, ◌⊎◌, ℕ, ◌<◌, ◌^◌, false, Bool, List, ◌∷◌, [], ◌++◌, Option, None, Some, IfSome};
 ghost use Rattle.wp_model.specs.declared.entry.Entry.{Entry};
 ghost use Rattle.wp_model.specs.Flushed.{InstalledEdit, IsEditCovered};
+ghost use Rattle.wp_outside.specs.Disk.{images};
 ghost use Rattle.wp_replies.specs.Tables.{after_renewal};
+ghost use Rattle.wp_core.specs.Images.{MayName, MaySpell};
 ghost use Rattle.wp_core.specs.Runs.{Reaches};
 ghost use Rattle.wp_core.specs.Tables.{Installed};
 ghost use Rattle.wp_core.specs.Views as event;
@@ -11,14 +13,15 @@ ghost use Rattle.wp_shared.specs.Calls.{Continues};
 ghost use Rattle.wp_shared.specs.Edits.{EditsState, IsEdits};
 ghost use Rattle.wp_shared.specs.Installs.{SurvivesInstall};
 ghost use Rattle.wp_shared.specs.Opening.{IsOneStore};
+ghost use Rattle.wp_shared.specs.Parts.{EditsStand, LogStands, log_first, set_first};
 ghost use Rattle.wp_shared.specs.Seats.{SharedState, SeatState};
 ghost use Rattle.wp_maint.specs.declared.error.MaintError.{MaintError};
 ghost use Rattle.wp_maint.specs.declared.error.MaintError.TheVariants.{TableFault};
 ghost use Rattle.wp_maint.specs.declared.renewed.Renewed.{Renewed};
 ghost use Rattle.wp_maint.specs.Calls.{installs_of, FailedOnce, IsUncalled, LeavesEach, LeavesOnce, MadeNoInstall, RefusesBeforeInstall, UnlessFault};
 ghost use Rattle.wp_maint.specs.Installs.{AreLeft, HasBroken, NotInstalled};
-ghost use Rattle.wp_maint.specs.Moments.{OpensFrom};
-ghost use Rattle.wp_maint.specs.Renewal.{HasBrokenOff, HasLogFault, HasNoMemory, HasRenewed, IsAtEnd, NamesItsSegment, OpensInRenewal, SurvivesBeside, segment_of};
+ghost use Rattle.wp_maint.specs.Moments.{MaySpellAmid, OpensFrom, OpensToSuch, SpellsNamed};
+ghost use Rattle.wp_maint.specs.Renewal.{HasBrokenOff, HasLogFault, HasNoMemory, HasRenewed, IsAtEnd, IsClosed, IsRenewed, KeepsOnce, NamesItsSegment, OpensInRenewal, OpensUnmoved, SurvivesBeside, segment_of};
 ghost use Rattle.wp_shared.specs.Log.{LogState, IsLog};
 
 /// Whatever a crash leaves of the three devices at a moment of an install, they open to just what the log spells then, from its base on,
@@ -44,8 +47,8 @@ pub fn a_renewal_leaves_each_edit_its_segment()
 /// The renewal is any at whose moments each edit has its segment, and whose edit, if one was asked for, is covered by the history and has
 /// as its base the history's end, which is no undo; where the devices have one id, and a world of the store has the tables and the log as
 /// they were before. So it is of each call that is answered with its number; in which a device of the tables failed, before the edit was
-/// asked for or in its install; in which the log's device failed; or that wants memory. What the call tells is enough then, and that the devices are one
-/// store's, as `Shared::shows_one_store` tells.
+/// asked for or in its install; in which the log's device failed; or that wants memory. What the call tells is enough then, and that the
+/// devices are one store's, as `Shared::shows_one_store` tells.
 pub fn renewals_open_throughout<D>()
     ensures amid { (old new : EditsState) (log moved : LogState) (asked : Option InstalledEdit) → IsLog log → IfSome asked (IsAtEnd log.table.history)
         → NamesItsSegment old new log moved asked → old.set.manifest.log.id < 2 ^ 32 → log.wal.id ≡ old.set.manifest.log.id
@@ -58,6 +61,32 @@ pub fn renewals_open_throughout<D>()
         → OpensInRenewal k.tables.before k.tables.after k.log.before k.log.after None }
     ensures memory { (z : SharedState D) (old new : SeatState) (e : Installed) → IsOneStore z.opened z.first → (k : HasNoMemory (Continues z old new) z old new e)
         → OpensInRenewal k.tables.before k.tables.after k.log.before k.log.after None }
+{}
+
+/// Whatever a crash leaves of the three devices while none of them is called, they open to a list that is, from the edit's base on, what the
+/// log may spell, and to the last edit, or the one whose install failed.
+///
+/// So it is of any two values that may stand behind the tables turn and the write turn in one world; and where others append meanwhile, of
+/// one behind the tables turn and of each log of that world, also in the midst of an append.
+///
+/// A renewal calls no device that finds the log closed, nothing to renew, or the tables halted. Where the log was closed the list is what it
+/// spells, or that and the record whose append failed; where there was nothing to renew it is the history; and the edit is the last one.
+/// Where the tables were halted others go on appending.
+pub fn refused_renewals_open_throughout<D>()
+    ensures each { (z : SharedState D) → IsOneStore z.opened z.first → (edits : EditsState) → IsEdits edits → EditsStand edits → set_first z.first ≡ Some edits.first
+        → (log : LogState) → IsLog log → LogStands log → log_first z.first ≡ Some log.first
+        → (w : World) → Reaches w → w.installed ≡ edits.table → w.writes ≡ log.table → OpensUnmoved (MaySpell log.table) (MayName edits.table) edits log }
+    ensures amid { (z : SharedState D) → IsOneStore z.opened z.first → (edits : EditsState) → IsEdits edits → EditsStand edits → set_first z.first ≡ Some edits.first
+        → (w : World) → Reaches w → w.installed ≡ edits.table
+        → (l m t : List ℕ) → SpellsNamed edits.set.manifest.log.id w l → images edits.set.manifest.log.moments m → images edits.set.moments t
+        → OpensToSuch (MaySpellAmid w.writes) (MayName edits.table) edits.set.manifest.log.id l m t }
+    ensures closed { (z : SharedState D) (old new : SeatState) (e : Installed) → IsOneStore z.opened z.first → (n : ℕ) (k : IsClosed (Continues z old new) z old new e n)
+        → OpensUnmoved (MaySpell k.closed.0) (λ edit. edit ≡ e.last) k.tables.before k.log.before }
+    ensures nothing { (z : SharedState D) (old new : SeatState) (e : Installed) → IsOneStore z.opened z.first → (k : IsRenewed (Continues z old new) z old new e)
+        → OpensUnmoved (λ entries. entries ≡ new.knows.participant.seen) (λ edit. edit ≡ e.last) k.tables.before k.log.before }
+    ensures halted { (z : SharedState D) (old new : SeatState) → IsOneStore z.opened z.first → (k : KeepsOnce z old new)
+        → (l m t : List ℕ) → SpellsNamed k.2.before.set.manifest.log.id k.1.world l → images k.2.before.set.manifest.log.moments m → images k.2.before.set.moments t
+        → OpensToSuch (MaySpellAmid k.1.world.writes) (MayName k.0) k.2.before.set.manifest.log.id l m t }
 {}
 
 /// From the append of an edit to the reply nothing is refused but by a device of the tables.

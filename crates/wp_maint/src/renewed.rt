@@ -13,7 +13,8 @@ pub struct Renewed {
     pub carried: u64,
 }
 
-/// Why the log was not renewed. The refusals are in the order in which they are looked for.
+/// Why the log was not renewed. The refusals but `Memory` are in the order in which they are looked for; that one comes behind `Nothing`.
+/// Up to `Nothing` no device was called.
 #[derive(Clone, Copy)]
 pub enum RenewError {
     /// No device was called. The store is as it was.

@@ -1,4 +1,2 @@
-pub mod Renews
-pub mod Stages
 pub mod Renewed
 pub mod Whole

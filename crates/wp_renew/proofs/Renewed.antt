@@ -35,6 +35,7 @@ use Rattle.wp_shared.specs.Edits.{EditsState, IsEdits}
 use Rattle.wp_shared.specs.Installs.{SurvivesInstall, in_segment}
 use Rattle.wp_shared.specs.Installs as parts
 use Rattle.wp_shared.specs.Log.{LogState, IsLog}
+use Rattle.wp_shared.specs.Parts.{EditsStand, LogStands}
 use Rattle.wp_shared.specs.Renewal.{SegmentState, IsBehind}
 use Rattle.wp_shared.specs.Calls.{GoesOnAs, remembering}
 use Rattle.wp_shared.specs.Notes.{being, no_fact, GoesOn}
@@ -44,11 +45,11 @@ use Rattle.wp_shared.proofs.Tables.{held_table}
 use Rattle.wp_maint.specs.declared.frozen.Frozen.{Frozen}
 use Rattle.wp_maint.specs.declared.renewed.Renewed.{Renewed}
 use Rattle.wp_maint.specs.declared.renewed.RenewError.TheVariants.{Stopped, Nothing, TableFault, LogFault}
-use Rattle.wp_maint.specs.Calls.{Finds, found_by, HasFault, HeldContent, IsUncalled, SawWhole}
+use Rattle.wp_maint.specs.Calls.{Finds, found_by, HasFault, HeldContent, IsUncalled, SawWhole, TablesBecame}
 use Rattle.wp_maint.specs.Finding.{Remembers}
 use Rattle.wp_maint.specs.Flush.{versions_of}
 use Rattle.wp_maint.specs.Holding.{is_of_flushed, is_of_tables}
-use Rattle.wp_maint.specs.Renewal.{HasFrozenAll, HoldsBoth, IsBusy, HasBrokenOff, HasLogFault, HasNoMemory, HasRenewed, IsSameLog, LogBecame, NamesItsSegment, SurvivesBeside, segment_of}
+use Rattle.wp_maint.specs.Renewal.{AreSameTables, HasFrozenAll, HoldsBoth, IsBusy, HasBrokenOff, HasLogFault, HasNoMemory, HasRenewed, IsSameLog, LogBecame, NamesItsSegment, SurvivesBeside, segment_of}
 use Rattle.wp_maint.specs.Renewing.{HasClosed, HasMoved, HasStopped, MayPutAll, RenewsHolding}
 use Rattle.wp_maint.proofs.Found.{failed_last}
 use Rattle.wp_maint.proofs.Made.{first_held, second_held}
@@ -163,11 +164,11 @@ module _ {D : Type 0} (z : SharedState D) (s0 s1 : SeatState) (e0 e1 : EditsStat
 
   -- ---- memory ran out
 
-  pub no_memory : (u : SeatState) → GoesOnAs s0 u s0.knows.participant → u.knows.participant.seen ≡ s0.knows.participant.seen → NamesItsSegment e0 e0 log0 log0 None → HasNoMemory (GoesOnAs s0 u) z s0 u e0.table
-  no_memory u goes same named = record {
+  pub no_memory : (u : SeatState) → GoesOnAs s0 u s0.knows.participant → u.knows.participant.seen ≡ s0.knows.participant.seen → EditsStand e0 → LogStands log0 → NamesItsSegment e0 e0 log0 log0 None → HasNoMemory (GoesOnAs s0 u) z s0 u e0.table
+  no_memory u goes same edits_stand log_stands named = record {
     busy = busy u same;
-    tables = record { before = e0; after = e0; of_store = holds.edits_of_store; still_of_store = holds.edits_of_store; before_is = refl; after_is = refl; edits = is_edits; still_edits = is_edits; so = refl };
-    log = record { before = log0; after = log0; of_store = holds.log_of_store; still_of_store = holds.log_of_store; before_is = refl; after_is = refl; log = is_log; still_log = is_log; so = (refl, named) };
+    tables = record { before = e0; after = e0; of_store = holds.edits_of_store; still_of_store = holds.edits_of_store; before_is = refl; after_is = refl; edits = is_edits; still_edits = is_edits; so = (refl, edits_stand) };
+    log = record { before = log0; after = log0; of_store = holds.log_of_store; still_of_store = holds.log_of_store; before_is = refl; after_is = refl; log = is_log; still_log = is_log; so = ((refl, log_stands), named) };
     goes_on = goes;
   }
 
@@ -407,32 +408,40 @@ module _ {D : Type 0} (z : SharedState D) (s0 s1 : SeatState) (e0 e1 : EditsStat
 
 -- ---- there was nothing to renew, or the log was closed before
 
-module _ {D : Type 0} (z : SharedState D) (s : SeatState) (e : EditsState) (log : LogState) (holds : HoldsBoth z s e log log.table) (running : e.table.halted ≡ false) (seen : s.knows.participant.seen ≡ log.table.history) (nothing : log.table.pending ≡ []) (settled : KnowsTables s.knows e.table.last) (w0 : (w : World) × Stands z s w) (is_log : IsLog log) where
+module _ {D : Type 0} (z : SharedState D) (s : SeatState) (e : EditsState) (log : LogState) (holds : HoldsBoth z s e log log.table) (running : e.table.halted ≡ false) (seen : s.knows.participant.seen ≡ log.table.history) (nothing : log.table.pending ≡ []) (settled : KnowsTables s.knows e.table.last) (w0 : (w : World) × Stands z s w) (is_edits : IsEdits e) (edits_stand : EditsStand e) (is_log : IsLog log) (log_stands : LogStands log) where
   log_stays : LogBecame z log.table log.table IsSameLog
-  log_stays = record { before = log; after = log; of_store = holds.log_of_store; still_of_store = holds.log_of_store; before_is = refl; after_is = refl; log = is_log; still_log = is_log; so = refl }
+  log_stays = record { before = log; after = log; of_store = holds.log_of_store; still_of_store = holds.log_of_store; before_is = refl; after_is = refl; log = is_log; still_log = is_log; so = (refl, log_stands) }
+
+  tables_still : TablesBecame z e.table e.table AreSameTables
+  tables_still = record { before = e; after = e; of_store = holds.edits_of_store; still_of_store = holds.edits_of_store; before_is = refl; after_is = refl; edits = is_edits; still_edits = is_edits; so = (refl, edits_stand) }
 
   log_there : IsIn (writes log.table) s.knows.held
   log_there = first_held s.knows (writes log.table) (installed e.table ∷ []) holds.turn.held
 
+  both_here : (w0.0.installed ≡ e.table) × (w0.0.writes ≡ log.table)
+  both_here = (
+    held_table (place_at z s.by) s.knows w0.0 (installed e.table) w0.1 (second_held s.knows (writes log.table) (installed e.table) holds.turn.held),
+    held_table (place_at z s.by) s.knows w0.0 (writes log.table) w0.1 log_there,
+  )
+
   saw_all : SawWhole z s s.knows.participant.seen
-  saw_all =
-      let log_is : w0.0.writes ≡ log.table = held_table (place_at z s.by) s.knows w0.0 (writes log.table) w0.1 log_there in record {
-        world = w0.0;
-        actor = s.knows;
-        there = w0.1;
-        held = subst (λ (d : WriteTable). IsIn (writes d) s.knows.held) (sym log_is) log_there;
-        history_is = ap (λ (d : WriteTable). d.history) log_is ∙ sym seen;
-        seen_is = refl;
-        past_is = refl;
-        made = refl;
-        joined = refl;
-      }
+  saw_all = record {
+    world = w0.0;
+    actor = s.knows;
+    there = w0.1;
+    held = subst (λ (d : WriteTable). IsIn (writes d) s.knows.held) (sym both_here.1) log_there;
+    history_is = ap (λ (d : WriteTable). d.history) both_here.1 ∙ sym seen;
+    seen_is = refl;
+    past_is = refl;
+    made = refl;
+    joined = refl;
+  }
 
   module _ (u : SeatState) (events : List Event) (is : u ≡ being (remembering events s.knows.participant) s) where
     seen_now : u.knows.participant.seen ≡ s.knows.participant.seen
     seen_now = ap (λ (x : SeatState). x.knows.participant.seen) is
 
-    held_now : HeldContent z s u s.knows.participant.past (writes log.table)
+    abbrev held_now : HeldContent z s u s.knows.participant.past (writes log.table)
     held_now = record {
       world = w0.0;
       actor = s.knows;
@@ -452,8 +461,8 @@ module _ {D : Type 0} (z : SharedState D) (s : SeatState) (e : EditsState) (log 
       log_of_store = holds.log_of_store;
     })
 
-  pub nothing_to_renew : (u : SeatState) → Remembers z s e.table u → log.table.closed ≡ false → e.table.last.segment.base ≡ length log.table.history → RenewsHolding (GoesOnAs s u) z s e log (Err Nothing) u e log
-  nothing_to_renew u k open_ based =
+  pub nothing_to_renew : (u : SeatState) → Remembers z s e.table u → log.table.closed ≡ false → log.table.log ≡ log.table.history → e.table.last.segment.base ≡ length log.table.history → RenewsHolding (GoesOnAs s u) z s e log (Err Nothing) u e log
+  nothing_to_renew u k open_ whole based =
       let events : List Event = found_by z s u e.table k.found ∷ [] in record {
         holds = holds_now u events k.is;
         nothing = nothing;
@@ -463,6 +472,9 @@ module _ {D : Type 0} (z : SharedState D) (s : SeatState) (e : EditsState) (log 
           running = running;
           whole = subst (SawWhole z s) (sym (seen_now u events k.is)) saw_all;
           unclosed = (log.table, held_now u events k.is, open_);
+          at_once = both_here;
+          spelled = whole ∙ sym seen ∙ sym (seen_now u events k.is);
+          tables = tables_still;
           log = log_stays;
           based = based ∙ ap (λ (h : List Entry). length h) (sym seen ∙ sym (seen_now u events k.is));
           goes_on = goes_is z s u events k.is;
@@ -487,6 +499,8 @@ module _ {D : Type 0} (z : SharedState D) (s : SeatState) (e : EditsState) (log 
           running = running;
           whole = subst (SawWhole z s) (sym (seen_now u events both)) saw_all;
           closed = (log.table, held_now u events both, closed);
+          at_once = both_here;
+          tables = tables_still;
           log = log_stays;
           number = counted ∙ ap (λ (h : List Entry). length h) (sym seen ∙ sym (seen_now u events both));
           goes_on = goes_is z s u events both;

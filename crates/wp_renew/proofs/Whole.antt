@@ -5,7 +5,6 @@ use Rattle.wp_model.specs.declared.entry.Entry.{Entry}
 use Rattle.wp_model.specs.declared.segment.Segment.{Segment}
 use Rattle.wp_model.specs.declared.version.Version.{Version}
 use Rattle.wp_model.specs.History.{undecided}
-use Rattle.wp_outside.specs.Disk.{images}
 use Rattle.wp_outside.specs.Faults.{Rose}
 use Rattle.wp_wal.specs.Segment.{WrittenState}
 use Rattle.wp_replies.specs.Tables.{after_renewal}
@@ -15,15 +14,15 @@ use Rattle.wp_table.specs.Walk.{BuiltTable}
 use Rattle.wp_tableset.specs.Install.{IsReadyEdit, built_of}
 use Rattle.wp_tableset.specs.Set.{TableSetState}
 use Rattle.wp_tableset.specs.declared.error.TableSetError.TheVariants.{Fault}
-use Rattle.wp_core.specs.Images.{LogTells, ManifestTells}
 use Rattle.wp_core.specs.Tables.{WriteTable, Installed, writes, installed}
 use Rattle.wp_core.specs.Views.{frozen_stay}
 use Rattle.wp_core.specs.World.{Participant, World}
 use Rattle.wp_core.proofs.Tests.{none_some}
 use Rattle.wp_rule.specs.Knows.{KnowsTables}
-use Rattle.wp_shared.specs.Edits.{EditsState, IsEdits, IsNamed}
+use Rattle.wp_shared.specs.Edits.{EditsState, IsEdits}
 use Rattle.wp_shared.specs.Installs.{HadCause, SurvivesInstall, in_segment}
-use Rattle.wp_shared.specs.Log.{LogState, IsLog, spells, with_next}
+use Rattle.wp_shared.specs.Log.{LogState, IsLog, with_next}
+use Rattle.wp_shared.specs.Parts.{EditsStand, LogStands}
 use Rattle.wp_shared.specs.Renewal.{SegmentState, IsBehind, IsWritten, SurvivesWrite}
 use Rattle.wp_shared.specs.Calls.{GoesOnAs}
 use Rattle.wp_shared.specs.Notes.{GoesOn, no_fact}
@@ -41,7 +40,7 @@ use Rattle.wp_maint.specs.Renewing.{HasMoved, HasPlace, HasSegment, IsTold, Leav
 use Rattle.wp_maint.proofs.Onward.{goes_more, renews_so, settled_on}
 use Rattle.wp_maint.proofs.Throughout.{names_still}
 use Rattle.wp_renew.proofs.Renewed.{beside_still, broken_holding, closed_holding, covered_next, is_next, may_put_all, no_memory, renewed_holding, same_renewal}
-use Rattle.wp_renew.proofs.Stages.{beside_same}
+use Rattle.wp_stages.proofs.StageLemmas.{beside_same}
 
 -- the table that is built has the versions, if there are any
 pub built_part : (id : ℕ) (versions : List Version) (table : Option (List Version)) (built : Option BuiltTable) → built ≡ built_of id versions → table ≡ option_map (λ (b : BuiltTable). b.versions) built → table ≡ one_part versions
@@ -219,13 +218,13 @@ module _ {D : Type 0} (z : SharedState D) (s t u : SeatState) (e : EditsState) (
 
   -- there is no memory for it
   pub no_room : HoldsBoth z s e log log.table → e.table.halted ≡ false → log.table.closed ≡ false → log.table.pending ≡ [] → e.table.last.segment ≡ log.table.segment → log.table.segment.base < length log.table.history → s.knows.participant.seen ≡ log.table.history → log.table.log ≡ log.table.history
-      → (w : World) × Stands z s w → IsEdits e → IsLog log → ManifestTells (images e.set.manifest.log.moments) (IsNamed e) e.table → LogTells (images log.wal.moments) (spells log) log.table → KnowsTables s.knows e.table.last → RenewsHolding (GoesOnAs s t) z s e log (Err Memory) t e log
-  no_room holds running open_ nothing coupled below seen whole w0 is_edits is_log edits_tell log_tells settled = record {
+      → (w : World) × Stands z s w → IsEdits e → IsLog log → EditsStand e → LogStands log → KnowsTables s.knows e.table.last → RenewsHolding (GoesOnAs s t) z s e log (Err Memory) t e log
+  no_room holds running open_ nothing coupled below seen whole w0 is_edits is_log edits_stand log_stands settled = record {
     holds = holds_both_still holds;
     nothing = nothing;
     settled = settled_still settled;
     says = no_memory z s s e e log log holds running open_ nothing (sym coupled) below seen whole w0 is_edits is_log (goes_none s) refl refl refl t so_far (ap (λ (x : SeatState). x.knows.participant.seen) goes.same)
-        (names_still e log (is_edits.none_failed (is_edits.running running)) open_ whole (sym coupled) edits_tell log_tells);
+        edits_stand log_stands (names_still e log (is_edits.none_failed (is_edits.running running)) open_ whole (sym coupled) edits_stand.0 log_stands.0);
     manifest = (refl, refl);
     untouched = (refl, refl);
   }

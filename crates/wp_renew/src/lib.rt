@@ -9,6 +9,5 @@
 #![tactic(auto)]
 
 mod renewing;
-mod steps;
 
 pub use renewing::renew;

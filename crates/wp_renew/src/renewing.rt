@@ -1,17 +1,13 @@
 //! A renewal of the log: it goes on in a segment that begins where the history ends.
-ghost use Rattle.std.specs.Prelude.{◌≡◌, ◌<◌, ℕ, false, List, [], ◌∷◌, length, map, vec_capacity, Some, None, IfOk, IfErr};
+ghost use Rattle.std.specs.Prelude.{◌≡◌, ◌<◌, false, [], ◌∷◌, length, map, vec_capacity, Some, None, IfOk, IfErr};
 ghost use Rattle.std.specs.Arc.{arc_value};
 ghost use Rattle.std.specs.Option.{option_map};
-ghost use Rattle.wp_model.specs.declared.version.Version.{Version};
 ghost use Rattle.wp_model.specs.Legal.{undone_last};
 ghost use Rattle.wp_store.specs.Store.{with_newest};
-ghost use Rattle.wp_tableset.specs.Changes.{one_part};
-ghost use Rattle.wp_tableset.specs.Install.{IsReadyEdit};
 ghost use Rattle.wp_core.specs.Tables.{installed, writes};
 ghost use Rattle.wp_core.specs.Tables as table;
 ghost use Rattle.wp_core.specs.World.{World};
 ghost use Rattle.wp_rule.specs.Knows.{KnowsTables};
-ghost use Rattle.wp_shared.specs.Log.{IsSegmentOf};
 ghost use Rattle.wp_shared.specs.Stock.{store_table};
 ghost use Rattle.wp_shared.specs.Calls.{GoesOnAs};
 ghost use Rattle.wp_shared.specs.Notes.{no_fact, GoesOn};
@@ -21,20 +17,17 @@ ghost use Rattle.wp_maint.specs.Calls.{LeavesOnce};
 ghost use Rattle.wp_maint.specs.Holding.{is_of_tables, HoldsEdits};
 ghost use Rattle.wp_maint.specs.Installs.{AreLeft};
 ghost use Rattle.wp_maint.specs.Renewal.{BeforeDevices, HasFrozenAll, HoldsBoth, IsRefusedBefore, KeepsOnce, Renews, RenewsFrom, UnlessDeviceFault};
-ghost use Rattle.wp_maint.specs.Renewing.{HasCopiedAll, HasPlace, HasRoom, IsTold, LeavesSegment, MayPutAll, RenewsHolding, WritesTable};
+ghost use Rattle.wp_maint.specs.Renewing.{HasCopiedAll, HasRoom, MayPutAll, RenewsHolding};
 
-use crate::steps::{
-    find_closed, remember_log_fault, remember_renewal, remember_segment, remember_stop,
-    remember_tables_fault, use_segment,
-};
 use std::alloc::AllocError;
 use std::sync::{Arc, Wait};
 use wp_maint::{Frozen, RenewError, Renewed, find_edits, move_versions, note_frozen};
 use wp_model::{Seq, Versions};
 use wp_outside::Disk;
 use wp_shared::{Edits, Log, ReadySegment, Seat, Shared, Stock};
+use wp_stages::{find_closed, install, write_segment, write_table};
 use wp_table::Table;
-use wp_wal::{NewSegment, Written};
+use wp_wal::NewSegment;
 
 /// All the memory that a renewal takes, before a device is called for it.
 #[derive(Drop)]
@@ -165,107 +158,6 @@ fn put_table<D: Disk + Drop, R: Wait>(
     store.give_turn::<Stock>(seat, stock);
 }
 
-/// Writes the table, if there is one. Where the device failed the log is stopped.
-fn write_table<D: Disk + Drop>(
-    store: &Shared<D>,
-    seat: &mut Seat<D>,
-    edits: &mut Edits<D>,
-    log: &mut Log<D>,
-    edit: &mut ReadySegment,
-) -> Result<Option<Arc<Table>>, RenewError>
-    requires holds { HoldsBoth store.now seat.old edits.old log.old log.old.table }
-    requires running { (edits.old.table.halted ≡ false) × (log.old.table.closed ≡ false) × (log.old.table.pending ≡ []) }
-    requires ready { (versions : List Version) × (flushed : ℕ) × IsReadyEdit edits.old.set versions flushed edit.old.edit }
-    requires room { length edits.old.parts < edit.old.room }
-    ensures writes { WritesTable store.now seat.old edits.old log.old edit.old result seat.new edits.new log.new edit.new }
-    ensures table { IfOk result (λ table. option_map arc_value table ≡ option_map (λ built. built.versions) edit.old.edit.built) }
-{
-    edits.shows_told();
-    log.shows_told();
-    match edits.write_table(edit) {
-        Ok(table) => Ok(table),
-        Err(_) => {
-            edits.shows_told();
-            find_edits(store, seat);
-            remember_tables_fault(store, seat, edits);
-            log.stop();
-            log.shows_told();
-            remember_stop(store, seat, edits, log);
-            Err(RenewError::TableFault)
-        }
-    }
-}
-
-/// Installs the edit that names the segment, and moves the log there. Where the device failed the log is stopped.
-fn install<D: Disk + Drop>(
-    store: &Shared<D>,
-    seat: &mut Seat<D>,
-    edits: &mut Edits<D>,
-    log: &mut Log<D>,
-    written: Written,
-    edit: ReadySegment,
-    versions: &Versions,
-    table: &Option<Arc<Table>>,
-) -> Result<(), RenewError>
-    requires told { IsTold store.now seat.old edits.old log.old written edit versions.now }
-    requires table { option_map arc_value table.now ≡ one_part versions.now }
-    ensures { LeavesSegment store.now seat.old edits.old log.old written edit versions.now result seat.new edits.new log.new }
-{
-    edits.shows_told();
-    log.shows_told();
-    find_edits(store, seat);
-    match edits.install_segment(edit, versions, table, written.segment()) {
-        Ok(()) => {
-            edits.shows_told();
-            remember_renewal(store, seat, edits, &written);
-            log.use_segment(written);
-            log.shows_told();
-            use_segment(store, seat, edits, log);
-            Ok(())
-        }
-        Err(_) => {
-            edits.shows_told();
-            remember_tables_fault(store, seat, edits);
-            log.stop_with(written);
-            log.shows_told();
-            remember_stop(store, seat, edits, log);
-            Err(RenewError::TableFault)
-        }
-    }
-}
-
-/// Writes the segment beside the log.
-fn write_segment<D: Disk + Drop>(
-    store: &Shared<D>,
-    seat: &mut Seat<D>,
-    edits: &Edits<D>,
-    log: &mut Log<D>,
-    segment: &NewSegment,
-) -> Result<Written, RenewError>
-    requires holds { HoldsBoth store.now seat.old edits.now log.old log.old.table }
-    requires running { (log.old.table.closed ≡ false) × (log.old.table.pending ≡ []) }
-    requires below { log.old.table.segment.base < length log.old.table.history }
-    requires whole { undone_last log.old.table.history ≡ None }
-    requires segment { IsSegmentOf log.old segment.now }
-    requires stands { (w : World) × Stands store.now seat.old w }
-    ensures { HasPlace store.now seat.old edits.now log.old result seat.new log.new }
-{
-    log.shows_told();
-    match log.write_segment(segment) {
-        Ok(written) => {
-            log.shows_told();
-            remember_segment(store, seat, edits, log, &written);
-            Ok(written)
-        }
-        Err(_) => {
-            log.shows_told();
-            find_edits(store, seat);
-            remember_log_fault(store, seat, edits, log);
-            Err(RenewError::LogFault)
-        }
-    }
-}
-
 /// Renews the log with the memory that was taken.
 fn renew_in<D: Disk + Drop, R: Wait>(
     store: &Shared<D>,
@@ -339,6 +231,7 @@ fn renew_held<D: Disk + Drop, R: Wait>(
     requires stands { (w : World) × Stands store.now seat.old w }
     ensures { RenewsHolding (GoesOnAs seat.old seat.new) store.now seat.old edits.old log.old result seat.new edits.new log.new }
 {
+    edits.shows_told();
     log.shows_told();
     if log.is_closed() {
         find_edits(store, seat);
@@ -350,7 +243,6 @@ fn renew_held<D: Disk + Drop, R: Wait>(
         find_edits(store, seat);
         return Err(RenewError::Nothing);
     }
-    edits.shows_told();
     let room = take_room(store, rt, seat, edits, log)?;
     renew_in(store, rt, seat, edits, log, room)
 }

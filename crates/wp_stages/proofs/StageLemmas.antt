@@ -1,31 +1,37 @@
 -- What the stages of a renewal leave.
-use Rattle.std.proofs.Common.{◌≡◌, ◌≢◌, inl, inr, ℕ, ◌≤◌, Bool, true, false, true≢false, List, [], ◌∷◌, ◌++◌, append_assoc, length, Some, None, refl, sym, subst, ap, ◌∙◌, arith}
+use Rattle.std.proofs.Common.{◌≡◌, ◌≢◌, inl, inr, ℕ, ◌≤◌, Bool, true, false, true≢false, List, [], ◌∷◌, ◌++◌, append_assoc, length, Option, Some, None, refl, sym, subst, ap, ◌∙◌, arith}
 use Rattle.wp_model.specs.declared.entry.Entry.{Entry}
 use Rattle.wp_model.specs.declared.segment.Segment.{Segment}
 use Rattle.wp_cuts.specs.Cut.{Cut, IsCut, cut_at}
 use Rattle.wp_outside.specs.Disk.{IfKnown, Passes}
 use Rattle.wp_gatelog.specs.Moments.{Leaves}
+use Rattle.wp_tableset.specs.Changes.{compacted_parts}
 use Rattle.wp_wal.specs.Segment.{NewSegmentState, WrittenState}
 use Rattle.wp_wal.specs.Spelling.{IsLogAt}
 use Rattle.wp_wal.specs.Wal.{LeavesCut, LosesNothingAt}
 use Rattle.wp_model.specs.declared.version.Version.{Version}
 use Rattle.wp_model.specs.Flushed.{InstalledEdit}
 use Rattle.wp_core.specs.Conditions.{NoneNext}
+use Rattle.wp_core.specs.Effects.{with_failed}
 use Rattle.wp_core.specs.Tables.{Content, WriteTable, Installed, writes, installed}
-use Rattle.wp_core.specs.Views.{Event, Fact}
+use Rattle.wp_core.specs.Views.{Event, Fact, log_stopped, renewed, tables_failed}
+use Rattle.wp_core.specs.World.{Participant, World}
 use Rattle.wp_core.proofs.Tests.{none_some}
 use Rattle.wp_shared.specs.Calls.{remembering}
 use Rattle.wp_rule.specs.Knows.{NextNamed}
-use Rattle.wp_shared.specs.Edits.{EditsState}
+use Rattle.wp_shared.specs.Edits.{EditsState, IsEdits}
 use Rattle.wp_shared.specs.Installs.{in_segment}
-use Rattle.wp_shared.specs.Log.{LogState, IsPlaceOf, IsSegmentOf, IsWaiting, with_next}
-use Rattle.wp_shared.specs.Notes.{being, GoesOn}
-use Rattle.wp_shared.specs.Seats.{SharedState, SeatState}
-use Rattle.wp_shared.proofs.Goes.{then}
+use Rattle.wp_shared.specs.Log.{LogState, IsLog, IsPlaceOf, IsSegmentOf, IsWaiting, with_next, with_segment}
+use Rattle.wp_shared.specs.Notes.{being, no_fact, GoesOn}
+use Rattle.wp_shared.specs.Renewal.{SegmentState}
+use Rattle.wp_shared.specs.Seats.{SharedState, SeatState, Stands}
+use Rattle.wp_shared.proofs.Goes.{none_too, then, wider}
 use Rattle.wp_shared.proofs.Onward.{starts_equal}
-use Rattle.wp_maint.specs.Calls.{Finds, found_by}
+use Rattle.wp_maint.specs.Calls.{Finds, found_by, HasFault}
 use Rattle.wp_maint.specs.Finding.{Remembers}
-use Rattle.wp_maint.specs.Renewal.{HoldsBoth, SurvivesBeside}
+use Rattle.wp_maint.specs.Holding.{is_of_flushed}
+use Rattle.wp_maint.specs.Renewal.{HoldsBoth, SurvivesBeside, segment_of}
+use Rattle.wp_maint.specs.Renewing.{HasMoved, HasStopped, SurvivesEdit}
 use Rattle.wp_maint.proofs.Onward.{found_later}
 
 -- ---- the log
@@ -84,9 +90,9 @@ beside_same log now same = record {
 -- ---- what is held
 
 module _ {D : Type 0} (z : SharedState D) (s u : SeatState) (e left : EditsState) (log now : LogState) (table : WriteTable) (test : Fact → Bool) (holds : HoldsBoth z s e log table) where
-  -- both have other tables, and are the store's still
-  pub both_on : (d : WriteTable) → GoesOn test (writes d ∷ installed left.table ∷ []) s.turns s u → left.first ≡ e.first → now.first ≡ log.first → HoldsBoth z u left now d
-  both_on d goes edits_first log_first_is = record {
+  -- both have other tables, and are the store's still, whatever it remembers
+  pub both_on : (p : Participant) (d : WriteTable) → GoesOn test (writes d ∷ installed left.table ∷ []) s.turns (being p s) u → left.first ≡ e.first → now.first ≡ log.first → HoldsBoth z u left now d
+  both_on p d goes edits_first log_first_is = record {
     turn = record {
       same_table = ap (λ (x : SeatState). x.table) goes.same ∙ holds.turn.same_table;
       live = ap (λ (x : SeatState). x.knows.live) goes.same ∙ holds.turn.live;
@@ -127,3 +133,81 @@ module _ (t u v : SeatState) (test : Fact → Bool) (first second : List Content
 
   pub goes_two : GoesOn test second later (being (remembering two u.knows.participant) u) v → GoesOn test second later (being (remembering (one ++ two) t.knows.participant) t) v
   goes_two l = then test (being (remembering (one ++ two) t.knows.participant) t) (being (remembering two u.knows.participant) u) v first second turns later more_events l
+
+-- ---- what a stage leaves, once the seat has found the tables
+
+module _ {D : Type 0} (z : SharedState D) (s t u v : SeatState) (e left : EditsState) (log now : LogState) (d : WriteTable) (holds : HoldsBoth z s e log d) (k : Remembers z s e.table t) where
+  -- a device of the tables failed, and the log is stopped
+  module _ (asked : Option InstalledEdit) (last : left.table.last ≡ e.table.last) (failed : left.table.failed ≡ asked)
+      (first : GoesOn no_fact (writes d ∷ installed left.table ∷ []) t.turns (being (remembering (tables_failed left.table.last left.table.failed ∷ []) t.knows.participant) t) u)
+      (second : GoesOn no_fact (writes now.table ∷ installed left.table ∷ []) u.turns (being (remembering (log_stopped ∷ []) u.knows.participant) u) v) where
+    abbrev events : List Event
+    events = tables_failed e.table.last asked ∷ log_stopped ∷ []
+
+    failed_first : GoesOn no_fact (writes d ∷ installed left.table ∷ []) t.turns (being (remembering (tables_failed e.table.last asked ∷ []) t.knows.participant) t) u
+    failed_first = subst (λ (x : InstalledEdit × Option InstalledEdit). GoesOn no_fact (writes d ∷ installed left.table ∷ []) t.turns (being (remembering (tables_failed x.0 x.1 ∷ []) t.knows.participant) t) u) (λ i. (last i, failed i)) first
+
+    stopped_next : GoesOn no_fact (writes now.table ∷ installed left.table ∷ []) t.turns (being (remembering (log_stopped ∷ []) u.knows.participant) u) v
+    stopped_next = subst (λ (m : List ℕ). GoesOn no_fact (writes now.table ∷ installed left.table ∷ []) m (being (remembering (log_stopped ∷ []) u.knows.participant) u) v) (ap (λ (x : SeatState). x.turns) first.same) second
+
+    stops : GoesOn no_fact (writes now.table ∷ installed left.table ∷ []) t.turns (being (remembering events t.knows.participant) t) v
+    stops = goes_two t u v no_fact (writes d ∷ installed left.table ∷ []) (writes now.table ∷ installed left.table ∷ []) t.turns t.turns (tables_failed e.table.last asked ∷ []) (log_stopped ∷ []) failed_first stopped_next
+
+    stopped_found : Finds z s v e.table
+    stopped_found = found_then z s t v e.table k (writes now.table ∷ installed left.table ∷ []) no_fact events stops
+
+    stops_since : GoesOn no_fact (writes now.table ∷ installed left.table ∷ []) s.turns (being (remembering (found_by z s v e.table stopped_found ∷ events) s.knows.participant) s) v
+    unfolding stopped_found
+    stops_since = goes_then_more z s t v e.table k (writes now.table ∷ installed left.table ∷ []) no_fact events stops
+
+    pub has_stopped : (Survives : EditsState → EditsState → Type 0) → left.table ≡ with_failed e.table asked → now ≡ record log { table = record log.table { next = segment_of asked; closed = true; stopped = true } }
+        → left.first ≡ e.first → HasFault e left → Survives e left → IsEdits e → IsEdits left → IsLog log → IsLog now → (w : World) × Stands z v w → HasStopped z Survives s e log asked v left now
+    has_stopped Survives halted stopped edits_first fault survives edits still_edits log_is still_log stands = record {
+      table = halted;
+      stopped = stopped;
+      holds = both_on z s v e left log now d no_fact holds (remembering (found_by z s v e.table stopped_found ∷ events) s.knows.participant) now.table stops_since edits_first (ap (λ (l : LogState). l.first) stopped);
+      found = stopped_found;
+      goes = stops_since;
+      fault = fault;
+      survives = survives;
+      edits = edits;
+      still_edits = still_edits;
+      log_is = log_is;
+      still_log = still_log;
+      stands = stands;
+    }
+
+  -- the edit is installed, and the log has moved
+  module _ (first : GoesOn is_of_flushed (writes d ∷ installed left.table ∷ []) t.turns (being (remembering (renewed left.table.last ∷ []) t.knows.participant) t) u)
+      (second : GoesOn no_fact (writes now.table ∷ installed left.table ∷ []) u.turns u v) where
+    moved_next : GoesOn is_of_flushed (writes now.table ∷ installed left.table ∷ []) t.turns u v
+    moved_next =
+        subst (λ (m : List ℕ). GoesOn is_of_flushed (writes now.table ∷ installed left.table ∷ []) m u v) (ap (λ (x : SeatState). x.turns) first.same)
+        (wider no_fact u v v is_of_flushed (writes now.table ∷ installed left.table ∷ []) u.turns (none_too is_of_flushed) second)
+
+    moves : GoesOn is_of_flushed (writes now.table ∷ installed left.table ∷ []) t.turns (being (remembering (renewed left.table.last ∷ []) t.knows.participant) t) v
+    moves = then is_of_flushed (being (remembering (renewed left.table.last ∷ []) t.knows.participant) t) u v (writes d ∷ installed left.table ∷ []) (writes now.table ∷ installed left.table ∷ []) t.turns t.turns first moved_next
+
+    moved_found : Finds z s v e.table
+    moved_found = found_then z s t v e.table k (writes now.table ∷ installed left.table ∷ []) is_of_flushed (renewed left.table.last ∷ []) moves
+
+    moves_since : GoesOn is_of_flushed (writes now.table ∷ installed left.table ∷ []) s.turns (being (remembering (found_by z s v e.table moved_found ∷ renewed left.table.last ∷ []) s.knows.participant) s) v
+    unfolding moved_found
+    moves_since = goes_then_more z s t v e.table k (writes now.table ∷ installed left.table ∷ []) is_of_flushed (renewed left.table.last ∷ []) moves
+
+    pub has_moved : (written : WrittenState) (edit : SegmentState) (versions : List Version) → left.table ≡ record e.table { last = in_segment versions written.segment.base written.segment e.table.last }
+        → now.table ≡ with_segment log.table written.segment → (now.wal.moments ≡ log.wal.moments) × (now.wal.faults ≡ log.wal.faults) × (now.wal.id ≡ log.wal.id) → left.first ≡ e.first → now.first ≡ log.first
+        → left.parts ≡ compacted_parts versions ++ e.parts → SurvivesEdit written edit versions e left → IsEdits left → IsLog now → (w : World) × Stands z v w → HasMoved z s e log written edit versions v left now
+    has_moved written edit versions table log_table device edits_first log_first parts survives still_edits still_log stands = record {
+      table = table;
+      log_table = log_table;
+      device = device;
+      holds = both_on z s v e left log now d is_of_flushed holds (remembering (found_by z s v e.table moved_found ∷ renewed left.table.last ∷ []) s.knows.participant) now.table moves_since edits_first log_first;
+      found = moved_found;
+      goes = moves_since;
+      parts = parts;
+      survives = survives;
+      still_edits = still_edits;
+      still_log = still_log;
+      stands = stands;
+    }

@@ -19,7 +19,7 @@ use wp_shared::{Edits, Log, Seat, Shared};
 use wp_wal::Written;
 
 /// The seat remembers that it found the log closed.
-pub(crate) fn find_closed<D: Disk + Drop>(store: &Shared<D>, seat: &mut Seat<D>, log: &Log<D>)
+pub fn find_closed<D: Disk + Drop>(store: &Shared<D>, seat: &mut Seat<D>, log: &Log<D>)
     requires seat { seat.old.table ≡ store.now.table }
     requires held { IsIn (writes log.now.table) seat.old.knows.held × (log.now.table.closed ≡ true) }
     ensures { seat.new ≡ being (remembering (stopped (length log.now.table.history) ∷ []) seat.old.knows.participant) seat.old }

@@ -4,6 +4,7 @@ use Rattle.wp_core.specs.Turns.{tables_turn}
 use Rattle.wp_core.specs.World.{Participant}
 use Rattle.wp_rule.specs.Knows.{KnowsTables}
 use Rattle.wp_shared.specs.Edits.{EditsState, IsEdits}
+use Rattle.wp_shared.specs.Parts.{EditsStand}
 use Rattle.wp_shared.specs.Calls.{GoesOnAs, Continues, remembering}
 use Rattle.wp_shared.specs.Notes.{no_fact, is_under}
 use Rattle.wp_shared.specs.Seats.{SeatState}
@@ -56,5 +57,6 @@ returns-clause-untouched g c =
     let taken = c.take_turn-edits.ensures.taken in let same = taken.goes.same in let holds = subst (HoldsEdits z t) (sym c.deref_mut.ensures.value) (record { turn = holds_alone c.requires taken; of_store = c.take_turn-edits.ensures.of_store }) in
     devices_more
     (kept_once z s t v before after taken.stands (ap (λ (x : SeatState). x.by) same, ap (λ (x : SeatState). x.knows.made) same, ap (λ (x : SeatState). x.knows.joined) same) (ap (λ (x : SeatState). x.knows.participant) same) (held_first t before.table holds.turn.held) holds.of_store c.renew_tables-result.ensures.holds.of_store
-    (subst IsEdits (sym c.deref_mut.ensures.value) (subst IsEdits c.deref.ensures c.shows_told.ensures.edits)) (subst IsEdits c.deref-2.ensures c.shows_told-2.ensures.edits) (renewed_grown z s v result (returns-clause-answers g c)))
+    (subst IsEdits (sym c.deref_mut.ensures.value) (subst IsEdits c.deref.ensures c.shows_told.ensures.edits)) (subst IsEdits c.deref-2.ensures c.shows_told-2.ensures.edits) (renewed_grown z s v result (returns-clause-answers g c))
+    (subst EditsStand (sym c.deref_mut.ensures.value) (subst EditsStand c.deref.ensures (c.shows_told.ensures.manifest, c.shows_told.ensures.tables))))
     result c.renew_tables-result.ensures.untouched

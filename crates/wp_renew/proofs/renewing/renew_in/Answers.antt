@@ -11,7 +11,7 @@ use Rattle.wp_shared.specs.Seats.{SeatState, Stands}
 use Rattle.wp_maint.specs.declared.renewed.Renewed.{Renewed}
 use Rattle.wp_maint.specs.declared.renewed.RenewError.{RenewError}
 use Rattle.wp_maint.specs.Renewing.{HasPlace, HasSegment, RenewsHolding}
-use Rattle.wp_renew.proofs.Stages.{none_waits}
+use Rattle.wp_stages.proofs.StageLemmas.{none_waits}
 use Rattle.wp_renew.proofs.Whole.{at_start, not_written, not_placed, told, not_installed, may_put, went_through, built_part}
 use Rattle.wp_renew.proofs.renewing.renew_in.Goals as goal
 

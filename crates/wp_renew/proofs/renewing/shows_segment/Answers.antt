@@ -9,7 +9,7 @@ use Rattle.wp_shared.specs.Seats.{SeatState, Stands, place_at}
 use Rattle.wp_shared.proofs.Tables.{held_table}
 use Rattle.wp_maint.proofs.Made.{first_held, second_held}
 use Rattle.wp_maint.proofs.Renewing.{names_this}
-use Rattle.wp_renew.proofs.Renews.{log_now, whole_now}
+use Rattle.wp_stages.proofs.Renews.{log_now, whole_now}
 use Rattle.wp_renew.proofs.renewing.shows_segment.Goals as goal
 
 pub shows_world-requires : goal.shows_world-requires

@@ -1,24 +1,20 @@
-use Rattle.std.proofs.Common.{◌≡◌, ◌≤◌, ℕ, List, [], ◌∷◌, Option, Some, refl, sym, subst, ap, ◌∙◌}
+use Rattle.std.proofs.Common.{◌≡◌, ◌≤◌, Option, Some, refl, sym, subst, ap, ◌∙◌}
 use Rattle.std.specs.Prelude.{IfSome}
 use Rattle.wp_model.specs.declared.segment.Segment.{Segment}
 use Rattle.wp_model.specs.Flushed.{InstalledEdit, IsEditCovered}
 use Rattle.wp_core.specs.Effects.{with_failed}
 use Rattle.wp_core.specs.Tables.{Installed, writes, installed}
-use Rattle.wp_core.specs.Views.{log_stopped, renewed, tables_failed}
 use Rattle.wp_core.proofs.Tests.{same_some}
 use Rattle.wp_rule.specs.Knows.{NextNamed}
-use Rattle.wp_shared.specs.Calls.{remembering}
 use Rattle.wp_shared.specs.Edits.{EditsState}
 use Rattle.wp_shared.specs.Installs.{HadCause, SurvivesInstall, in_segment}
 use Rattle.wp_shared.specs.Renewal.{IsBehind}
 use Rattle.wp_shared.specs.Log.{LogState, with_next, with_segment}
-use Rattle.wp_shared.specs.Notes.{being, no_fact, GoesOn}
 use Rattle.wp_shared.specs.Seats.{SeatState}
-use Rattle.wp_shared.proofs.Goes.{none_too, then, wider}
-use Rattle.wp_maint.specs.Holding.{is_of_flushed}
+use Rattle.wp_maint.specs.Renewing.{SurvivesEdit}
 use Rattle.wp_maint.proofs.Made.{second_held}
-use Rattle.wp_renew.proofs.Stages.{found_then, goes_then_more, goes_two, next_named, more_tables}
-use Rattle.wp_renew.proofs.renewing.install.Goals as goal
+use Rattle.wp_stages.proofs.StageLemmas.{has_moved, has_stopped, next_named, more_tables}
+use Rattle.wp_stages.proofs.stages.install.Goals as goal
 
 pub find_edits-requires-clause-seat : goal.find_edits-requires-clause-seat
 find_edits-requires-clause-seat g c = c.requires.told.holds.turn.same_table
@@ -74,37 +70,15 @@ use_segment-requires-in-Ok-clause-held g c =
 
 pub returns-in-Ok : goal.returns-in-Ok
 returns-in-Ok g c =
-    let z = c.args.store.now in let k = c.requires.told in let s = c.args.seat.now in let t = c.find_edits.new.seat in let u = c.remember_renewal.new.seat in let v = c.use_segment-in-Ok.new.seat in
-    let e = c.args.edits.now in let left = c.install_segment.new.self in let log = c.args.log.now in let now = c.use_segment.new.self in let d = with_next log.table c.args.written.segment in
-    let found = c.find_edits.ensures e.table (second_held s.knows (writes d) (installed e.table) k.holds.turn.held) in
-    let first = c.remember_renewal.ensures.goes d e.table (ap (λ (x : SeatState). x.knows.held) found.is ∙ k.holds.turn.held) in
-    let held = writes now.table ∷ installed left.table ∷ [] in let events = renewed left.table.last ∷ [] in
-    let base = being (remembering events t.knows.participant) t in
-    let both = then is_of_flushed base u v (writes d ∷ installed left.table ∷ []) held t.turns u.turns first (wider no_fact u v v is_of_flushed held u.turns (none_too is_of_flushed) c.use_segment-in-Ok.ensures.goes) in
-    let turns : u.turns ≡ t.turns = ap (λ (x : SeatState). x.turns) first.same in
-    let all = subst (λ (m : List ℕ). GoesOn is_of_flushed held m base v) turns both in
-    let more = goes_then_more z s t v e.table found held is_of_flushed events all in record {
-      table = subst (λ (x : Segment). c.install_segment.new.self.table ≡ record c.args.edits.now.table { last = in_segment c.args.versions.now x.base x c.args.edits.now.table.last }) c.segment.ensures c.in-Ok.ensures.installed;
-      log_table = c.use_segment.ensures.table;
-      device = c.use_segment.ensures.device;
-      holds = record {
-        turn = record {
-          same_table = ap (λ (x : SeatState). x.table) more.same ∙ k.holds.turn.same_table;
-          live = ap (λ (x : SeatState). x.knows.live) more.same ∙ k.holds.turn.live;
-          held = ap (λ (x : SeatState). x.knows.held) more.same;
-          turns = ap (λ (x : SeatState). x.turns) more.same ∙ k.holds.turn.turns;
-        };
-        edits_of_store = k.holds.edits_of_store ∙ ap Some (sym c.in-Ok.ensures.first);
-        log_of_store = k.holds.log_of_store ∙ ap Some (sym c.use_segment.ensures.first);
-      };
-      found = found_then z s t v e.table found held is_of_flushed events all;
-      goes = more;
-      parts = c.in-Ok.ensures.parts;
-      survives = subst (λ (x : Segment). (before : EditsState) → IsBehind before c.args.edits.now c.args.versions.now x.base c.args.edit → SurvivesInstall before c.install_segment.new.self (in_segment c.args.versions.now x.base x c.args.edits.now.table.last)) c.segment.ensures c.in-Ok.ensures.survives;
-      still_edits = c.shows_told-in-Ok.ensures.edits;
-      still_log = c.shows_told-in-Ok-2.ensures.log;
-      stands = c.use_segment-in-Ok.ensures.stands;
-    }
+    let told = c.requires.told in let s = c.args.seat.now in let e = c.args.edits.now in let left = c.install_segment.new.self in let log = c.args.log.now in
+    let versions = c.args.versions.now in let d = with_next log.table c.args.written.segment in
+    let k = c.find_edits.ensures e.table (second_held s.knows (writes d) (installed e.table) told.holds.turn.held) in
+    has_moved c.args.store.now s c.find_edits.new.seat c.remember_renewal.new.seat c.use_segment-in-Ok.new.seat e left log c.use_segment.new.self d told.holds k
+    (c.remember_renewal.ensures.goes d e.table (ap (λ (x : SeatState). x.knows.held) k.is ∙ told.holds.turn.held)) c.use_segment-in-Ok.ensures.goes c.args.written c.args.edit versions
+    (subst (λ (x : Segment). left.table ≡ record e.table { last = in_segment versions x.base x e.table.last }) c.segment.ensures c.in-Ok.ensures.installed)
+    c.use_segment.ensures.table c.use_segment.ensures.device c.in-Ok.ensures.first c.use_segment.ensures.first c.in-Ok.ensures.parts
+    (subst (λ (x : Segment). (before : EditsState) → IsBehind before e versions x.base c.args.edit → SurvivesInstall before left (in_segment versions x.base x e.table.last)) c.segment.ensures c.in-Ok.ensures.survives)
+    c.shows_told-in-Ok.ensures.edits c.shows_told-in-Ok-2.ensures.log c.use_segment-in-Ok.ensures.stands
 
 pub remember_tables_fault-requires-clause-held : goal.remember_tables_fault-requires-clause-held
 remember_tables_fault-requires-clause-held g c =
@@ -139,40 +113,17 @@ remember_stop-requires-clause-held g c =
 
 pub returns-in-Err : goal.returns-in-Err
 returns-in-Err g c =
-    let z = c.args.store.now in let k = c.requires.told in let s = c.args.seat.now in let t = c.find_edits.new.seat in let u = c.remember_tables_fault.new.seat in let v = c.remember_stop.new.seat in
-    let e = c.args.edits.now in let left = c.install_segment.new.self in let log = c.args.log.now in let now = c.stop_with.new.self in let segment : Segment = c.args.written.segment in
-    let d = with_next log.table segment in let asked : Option InstalledEdit = Some (in_segment c.args.versions.now segment.base segment e.table.last) in
-    let found = c.find_edits.ensures e.table (second_held s.knows (writes d) (installed e.table) k.holds.turn.held) in
-    let halted = subst (λ (x : Segment). c.install_segment.new.self.table ≡ with_failed c.args.edits.now.table (Some (in_segment c.args.versions.now x.base x c.args.edits.now.table.last))) c.segment.ensures c.in-Err.ensures.refused.1 in
-    let first = c.remember_tables_fault.ensures.goes d e.table (ap (λ (x : SeatState). x.knows.held) found.is ∙ k.holds.turn.held) in
-    let held = writes now.table ∷ installed left.table ∷ [] in
-    let first_is = subst (λ (x : Installed). GoesOn no_fact (writes d ∷ installed left.table ∷ []) t.turns (being (remembering (tables_failed x.last x.failed ∷ []) t.knows.participant) t) u) halted first in
-    let both = goes_two t u v no_fact (writes d ∷ installed left.table ∷ []) held t.turns u.turns (tables_failed e.table.last asked ∷ []) (log_stopped ∷ []) first_is c.remember_stop.ensures.goes in
-    let turns : u.turns ≡ t.turns = ap (λ (x : SeatState). x.turns) first.same in
-    let all = subst (λ (m : List ℕ). GoesOn no_fact held m (being (remembering (tables_failed e.table.last asked ∷ log_stopped ∷ []) t.knows.participant) t) v) turns both in
-    let more = goes_then_more z s t v e.table found held no_fact (tables_failed e.table.last asked ∷ log_stopped ∷ []) all in record {
-      table = halted;
-      stopped = c.stop_with.ensures;
-      holds = record {
-        turn = record {
-          same_table = ap (λ (x : SeatState). x.table) more.same ∙ k.holds.turn.same_table;
-          live = ap (λ (x : SeatState). x.knows.live) more.same ∙ k.holds.turn.live;
-          held = ap (λ (x : SeatState). x.knows.held) more.same;
-          turns = ap (λ (x : SeatState). x.turns) more.same ∙ k.holds.turn.turns;
-        };
-        edits_of_store = k.holds.edits_of_store ∙ ap Some (sym c.in-Err.ensures.first);
-        log_of_store = k.holds.log_of_store ∙ ap (λ (l : LogState). Some l.first) (sym c.stop_with.ensures);
-      };
-      found = found_then z s t v e.table found held no_fact (tables_failed e.table.last asked ∷ log_stopped ∷ []) all;
-      goes = more;
-      fault = subst (HadCause e.set left.set) c.in-Err.ensures.refused.0 c.in-Err.ensures.cause;
-      survives = subst (λ (x : Segment). (before : EditsState) → IsBehind before c.args.edits.now c.args.versions.now x.base c.args.edit → SurvivesInstall before c.install_segment.new.self (in_segment c.args.versions.now x.base x c.args.edits.now.table.last)) c.segment.ensures c.in-Err.ensures.survives;
-      edits = c.shows_told.ensures.edits;
-      still_edits = c.shows_told-in-Err.ensures.edits;
-      log_is = c.shows_told-2.ensures.log;
-      still_log = c.shows_told-in-Err-2.ensures.log;
-      stands = c.remember_stop.ensures.stands;
-    }
+    let told = c.requires.told in let s = c.args.seat.now in let e = c.args.edits.now in let left = c.install_segment.new.self in let log = c.args.log.now in
+    let versions = c.args.versions.now in let segment : Segment = c.args.written.segment in let d = with_next log.table segment in
+    let asked : Option InstalledEdit = Some (in_segment versions segment.base segment e.table.last) in
+    let k = c.find_edits.ensures e.table (second_held s.knows (writes d) (installed e.table) told.holds.turn.held) in
+    let halted : left.table ≡ with_failed e.table asked = subst (λ (x : Segment). left.table ≡ with_failed e.table (Some (in_segment versions x.base x e.table.last))) c.segment.ensures c.in-Err.ensures.refused.1 in
+    has_stopped c.args.store.now s c.find_edits.new.seat c.remember_tables_fault.new.seat c.remember_stop.new.seat e left log c.stop_with.new.self d told.holds k asked
+    (ap (λ (x : Installed). x.last) halted) (ap (λ (x : Installed). x.failed) halted)
+    (c.remember_tables_fault.ensures.goes d e.table (ap (λ (x : SeatState). x.knows.held) k.is ∙ told.holds.turn.held)) c.remember_stop.ensures.goes
+    (SurvivesEdit c.args.written c.args.edit versions) halted c.stop_with.ensures c.in-Err.ensures.first (subst (HadCause e.set left.set) c.in-Err.ensures.refused.0 c.in-Err.ensures.cause)
+    (subst (λ (x : Segment). (before : EditsState) → IsBehind before e versions x.base c.args.edit → SurvivesInstall before left (in_segment versions x.base x e.table.last)) c.segment.ensures c.in-Err.ensures.survives)
+    c.shows_told.ensures.edits c.shows_told-in-Err.ensures.edits c.shows_told-2.ensures.log c.shows_told-in-Err-2.ensures.log c.remember_stop.ensures.stands
 
 pub remember_renewal-requires-clause-seat : goal.remember_renewal-requires-clause-seat
 remember_renewal-requires-clause-seat g c = let k = c.requires.told in let e = c.args.edits.now.table in

@@ -1,11 +1,11 @@
-use Rattle.std.proofs.Common.{[], ◌∷◌, Some, refl, sym, ap, ◌∙◌}
+use Rattle.std.proofs.Common.{[], ◌∷◌, refl, sym, ap, ◌∙◌}
 use Rattle.wp_core.specs.Tables.{WriteTable, writes, installed}
 use Rattle.wp_core.specs.Views.{log_failed}
 use Rattle.wp_shared.specs.Notes.{no_fact}
 use Rattle.wp_shared.specs.Seats.{SeatState}
 use Rattle.wp_maint.proofs.Made.{second_held}
-use Rattle.wp_renew.proofs.Stages.{none_waits, beside_none, beside_some, both_on, found_then, goes_then_more}
-use Rattle.wp_renew.proofs.renewing.write_segment.Goals as goal
+use Rattle.wp_stages.proofs.StageLemmas.{none_waits, beside_none, beside_some, both_on, found_then, goes_then_more}
+use Rattle.wp_stages.proofs.stages.write_segment.Goals as goal
 
 pub remember_segment-requires-clause-seat : goal.remember_segment-requires-clause-seat
 remember_segment-requires-clause-seat g c = c.requires.holds.turn.same_table
@@ -52,7 +52,7 @@ returns-in-Ok g c =
       table = c.in-Ok.ensures.ok;
       first = c.in-Ok.ensures.first;
       waits = c.in-Ok.ensures.waits.0;
-      holds = both_on z s u e e log now log.table no_fact c.requires.holds _ c.remember_segment.ensures.goes refl c.in-Ok.ensures.first;
+      holds = both_on z s u e e log now log.table no_fact c.requires.holds s.knows.participant _ c.remember_segment.ensures.goes refl c.in-Ok.ensures.first;
       goes = c.remember_segment.ensures.goes;
       survives = beside_some log now c.in-Ok.ensures.passed c.in-Ok.ensures.durable c.in-Ok.written c.in-Ok.ensures.waits.0 c.in-Ok.ensures.waits.1 c.in-Ok.ensures.ok c.in-Ok.ensures.id c.args.segment.now c.requires.segment c.in-Ok.ensures.place;
       log_is = c.shows_told.ensures.log;
@@ -68,16 +68,7 @@ returns-in-Err g c =
     let more = goes_then_more z s t u e.table k held no_fact events c.remember_log_fault.ensures.goes in record {
       table = c.in-Err.ensures.err;
       first = c.in-Err.ensures.first;
-      holds = record {
-        turn = record {
-          same_table = ap (λ (x : SeatState). x.table) more.same ∙ c.requires.holds.turn.same_table;
-          live = ap (λ (x : SeatState). x.knows.live) more.same ∙ c.requires.holds.turn.live;
-          held = ap (λ (x : SeatState). x.knows.held) more.same;
-          turns = ap (λ (x : SeatState). x.turns) more.same ∙ c.requires.holds.turn.turns;
-        };
-        edits_of_store = c.requires.holds.edits_of_store;
-        log_of_store = c.requires.holds.log_of_store ∙ ap Some (sym c.in-Err.ensures.first);
-      };
+      holds = both_on z s u e e log now log.table no_fact c.requires.holds _ now.table more refl c.in-Err.ensures.first;
       found = found_then z s t u e.table k held no_fact events c.remember_log_fault.ensures.goes;
       goes = more;
       rose = c.in-Err.ensures.cause;

@@ -1,20 +1,19 @@
-use Rattle.std.proofs.Common.{◌≡◌, ℕ, true, List, [], ◌∷◌, Option, Some, None, refl, sym, subst, ap, ◌∙◌}
+use Rattle.std.proofs.Common.{◌≡◌, true, [], ◌∷◌, Option, Some, None, refl, sym, subst, ap, ◌∙◌}
 use Rattle.std.specs.Prelude.{IfSome}
 use Rattle.wp_model.specs.declared.segment.Segment.{Segment}
 use Rattle.wp_model.specs.Flushed.{InstalledEdit, IsEditCovered}
 use Rattle.wp_rule.specs.Knows.{NextNamed}
 use Rattle.wp_core.specs.Effects.{with_failed}
 use Rattle.wp_core.specs.Tables.{Installed, writes, installed}
-use Rattle.wp_core.specs.Views.{Event, log_stopped, tables_failed}
 use Rattle.wp_shared.specs.Installs.{HadCause}
+use Rattle.wp_shared.specs.Renewal.{SurvivesWrite}
 use Rattle.wp_shared.specs.Log.{LogState}
-use Rattle.wp_shared.specs.Calls.{remembering}
-use Rattle.wp_shared.specs.Notes.{being, no_fact, GoesOn}
 use Rattle.wp_shared.specs.Seats.{SeatState}
 use Rattle.wp_shared.specs.Turns.{HoldsTurn}
+use Rattle.wp_maint.specs.Calls.{IsUncalled}
 use Rattle.wp_maint.proofs.Made.{second_held}
-use Rattle.wp_renew.proofs.Stages.{none_waits, waits_not, found_then, goes_then_more, goes_two}
-use Rattle.wp_renew.proofs.renewing.write_table.Goals as goal
+use Rattle.wp_stages.proofs.StageLemmas.{has_stopped, none_waits, waits_not}
+use Rattle.wp_stages.proofs.stages.write_table.Goals as goal
 
 pub returns-in-Ok-clause-writes : goal.returns-in-Ok-clause-writes
 returns-in-Ok-clause-writes g c =
@@ -65,41 +64,16 @@ remember_stop-requires-clause-held g c =
 
 pub returns-in-Err-clause-writes : goal.returns-in-Err-clause-writes
 returns-in-Err-clause-writes g c =
-    let z = c.args.store.now in let s = c.args.seat.now in let t = c.find_edits.new.seat in let u = c.remember_tables_fault.new.seat in let v = c.remember_stop.new.seat in
-    let e = c.args.edits.now in let left = c.write_table.new.self in let log = c.args.log.now in let now = c.stop.new.self in
-    let k = c.find_edits.ensures e.table (second_held s.knows (writes log.table) (installed e.table) c.requires.holds.turn.held) in
+    let z = c.args.store.now in let s = c.args.seat.now in let e = c.args.edits.now in let log = c.args.log.now in let holds = c.requires.holds in
+    let k = c.find_edits.ensures e.table (second_held s.knows (writes log.table) (installed e.table) holds.turn.held) in
     let halted = c.in-Err.ensures.refused.1 in
-    let none : left.table.failed ≡ None = ap (λ (x : Installed). x.failed) halted ∙ c.shows_told.ensures.edits.none_failed (c.shows_told.ensures.edits.running c.requires.running.0) in
-    let first = c.remember_tables_fault.ensures.goes log.table e.table (ap (λ (x : SeatState). x.knows.held) k.is ∙ c.requires.holds.turn.held) in
-    let one : List Event = tables_failed e.table.last None ∷ [] in let two : List Event = log_stopped ∷ [] in
-    let held = writes now.table ∷ installed left.table ∷ [] in
-    let first_is = subst (λ (x : InstalledEdit × Option InstalledEdit). GoesOn no_fact (writes log.table ∷ installed left.table ∷ []) t.turns (being (remembering (tables_failed x.0 x.1 ∷ []) t.knows.participant) t) u) (λ i. (ap (λ (x : Installed). x.last) halted i, none i)) first in
-    let both = goes_two t u v no_fact (writes log.table ∷ installed left.table ∷ []) held t.turns u.turns one two first_is c.remember_stop.ensures.goes in
-    let turns : u.turns ≡ t.turns = ap (λ (x : SeatState). x.turns) first.same in
-    let all = subst (λ (m : List ℕ). GoesOn no_fact held m (being (remembering (tables_failed e.table.last None ∷ log_stopped ∷ []) t.knows.participant) t) v) turns both in
-    let more = goes_then_more z s t v e.table k held no_fact (tables_failed e.table.last None ∷ log_stopped ∷ []) all in record {
-      table = halted;
-      stopped = c.stop.ensures ∙ ap (λ (o : Option Segment). record log { table = record log.table { next = o; closed = true; stopped = true } }) (none_waits log.table c.shows_told-2.ensures.next c.requires.running.1);
-      holds = record {
-        turn = record {
-          same_table = ap (λ (x : SeatState). x.table) more.same ∙ c.requires.holds.turn.same_table;
-          live = ap (λ (x : SeatState). x.knows.live) more.same ∙ c.requires.holds.turn.live;
-          held = ap (λ (x : SeatState). x.knows.held) more.same;
-          turns = ap (λ (x : SeatState). x.turns) more.same ∙ c.requires.holds.turn.turns;
-        };
-        edits_of_store = c.requires.holds.edits_of_store ∙ ap Some (sym c.in-Err.ensures.first);
-        log_of_store = c.requires.holds.log_of_store ∙ ap (λ (l : LogState). Some l.first) (sym c.stop.ensures);
-      };
-      found = found_then z s t v e.table k held no_fact (tables_failed e.table.last None ∷ log_stopped ∷ []) all;
-      goes = more;
-      fault = subst (HadCause e.set left.set) c.in-Err.ensures.refused.0 c.in-Err.ensures.cause;
-      survives = (c.in-Err.ensures.survives, c.in-Err.ensures.manifest);
-      edits = c.shows_told.ensures.edits;
-      still_edits = c.shows_told-in-Err.ensures.edits;
-      log_is = c.shows_told-2.ensures.log;
-      still_log = c.shows_told-in-Err-2.ensures.log;
-      stands = c.remember_stop.ensures.stands;
-    }
+    has_stopped z s c.find_edits.new.seat c.remember_tables_fault.new.seat c.remember_stop.new.seat e c.write_table.new.self log c.stop.new.self log.table holds k None
+    (ap (λ (x : Installed). x.last) halted) (ap (λ (x : Installed). x.failed) halted ∙ c.shows_told.ensures.edits.none_failed (c.shows_told.ensures.edits.running c.requires.running.0))
+    (c.remember_tables_fault.ensures.goes log.table e.table (ap (λ (x : SeatState). x.knows.held) k.is ∙ holds.turn.held)) c.remember_stop.ensures.goes
+    (λ before after. SurvivesWrite before after c.args.edit.now × IsUncalled before after) halted
+    (c.stop.ensures ∙ ap (λ (o : Option Segment). record log { table = record log.table { next = o; closed = true; stopped = true } }) (none_waits log.table c.shows_told-2.ensures.next c.requires.running.1))
+    c.in-Err.ensures.first (subst (HadCause e.set c.write_table.new.self.set) c.in-Err.ensures.refused.0 c.in-Err.ensures.cause) (c.in-Err.ensures.survives, c.in-Err.ensures.manifest)
+    c.shows_told.ensures.edits c.shows_told-in-Err.ensures.edits c.shows_told-2.ensures.log c.shows_told-in-Err-2.ensures.log c.remember_stop.ensures.stands
 
 pub remember_tables_fault-requires-clause-seat : goal.remember_tables_fault-requires-clause-seat
 remember_tables_fault-requires-clause-seat g c = let e = c.args.edits.now.table in

@@ -1,5 +1,5 @@
-use Rattle.wp_renew.proofs.Renews.{may_find_closed, closed_found}
-use Rattle.wp_renew.proofs.steps.find_closed.Goals as goal
+use Rattle.wp_stages.proofs.Renews.{may_find_closed, closed_found}
+use Rattle.wp_stages.proofs.steps.find_closed.Goals as goal
 
 pub make_about-requires-clause-may : goal.make_about-requires-clause-may
 make_about-requires-clause-may g c = may_find_closed _ _ c.args.log.now.table c.requires.held.0 c.requires.held.1

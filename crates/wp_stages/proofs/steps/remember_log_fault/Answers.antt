@@ -4,8 +4,8 @@ use Rattle.wp_core.specs.Views.{log_failed}
 use Rattle.wp_shared.specs.Calls.{remembering}
 use Rattle.wp_shared.specs.Notes.{GoesOn, being}
 use Rattle.wp_maint.proofs.Made.{stands_after}
-use Rattle.wp_renew.proofs.Renews.{may_close, was_closed}
-use Rattle.wp_renew.proofs.steps.remember_log_fault.Goals as goal
+use Rattle.wp_stages.proofs.Renews.{may_close, was_closed}
+use Rattle.wp_stages.proofs.steps.remember_log_fault.Goals as goal
 
 pub make_about-requires-clause-may : goal.make_about-requires-clause-may
 make_about-requires-clause-may g c = let h = c.requires.held in may_close _ _ h.0 c.args.edits.now.table h.1 h.3 h.4 h.6

@@ -1,6 +1,6 @@
 use Rattle.wp_maint.proofs.Made.{stands_after}
-use Rattle.wp_renew.proofs.Renews.{may_renew, same_held, was_renewed}
-use Rattle.wp_renew.proofs.steps.remember_renewal.Goals as goal
+use Rattle.wp_stages.proofs.Renews.{may_renew, same_held, was_renewed}
+use Rattle.wp_stages.proofs.steps.remember_renewal.Goals as goal
 
 pub make_about-requires-clause-may : goal.make_about-requires-clause-may
 make_about-requires-clause-may g c = let h = c.requires.held in may_renew _ _ h.1 h.0 h.2 c.args.edits.now.table.last h.5

@@ -1,7 +1,7 @@
 use Rattle.wp_model.specs.declared.segment.Segment.{Segment}
 use Rattle.wp_maint.proofs.Made.{stands_after}
-use Rattle.wp_renew.proofs.Renews.{may_write, was_written}
-use Rattle.wp_renew.proofs.steps.remember_segment.Goals as goal
+use Rattle.wp_stages.proofs.Renews.{may_write, was_written}
+use Rattle.wp_stages.proofs.steps.remember_segment.Goals as goal
 
 pub make_about-requires-clause-may : goal.make_about-requires-clause-may
 make_about-requires-clause-may g c =

@@ -4,8 +4,8 @@ use Rattle.wp_core.specs.Views.{log_stopped}
 use Rattle.wp_shared.specs.Calls.{remembering}
 use Rattle.wp_shared.specs.Notes.{GoesOn, being}
 use Rattle.wp_maint.proofs.Made.{stands_after}
-use Rattle.wp_renew.proofs.Renews.{may_stop, was_stopped}
-use Rattle.wp_renew.proofs.steps.remember_stop.Goals as goal
+use Rattle.wp_stages.proofs.Renews.{may_stop, was_stopped}
+use Rattle.wp_stages.proofs.steps.remember_stop.Goals as goal
 
 pub make_about-requires-clause-may : goal.make_about-requires-clause-may
 make_about-requires-clause-may g c = let h = c.requires.held in may_stop _ _ h.0 c.args.edits.now.table h.1 h.4 h.3 h.5 h.6

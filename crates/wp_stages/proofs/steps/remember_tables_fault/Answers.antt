@@ -1,6 +1,6 @@
 use Rattle.wp_maint.proofs.Made.{stands_after}
-use Rattle.wp_renew.proofs.Renews.{may_halt_next, same_failed, was_halted_beside}
-use Rattle.wp_renew.proofs.steps.remember_tables_fault.Goals as goal
+use Rattle.wp_stages.proofs.Renews.{may_halt_next, same_failed, was_halted_beside}
+use Rattle.wp_stages.proofs.steps.remember_tables_fault.Goals as goal
 
 pub make_about-requires-clause-may : goal.make_about-requires-clause-may
 make_about-requires-clause-may g c = let h = c.requires.held in may_halt_next _ _ h.1 h.0 h.2 c.args.edits.now.table.failed h.4 h.5

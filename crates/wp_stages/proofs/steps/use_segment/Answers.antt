@@ -2,8 +2,8 @@ use Rattle.std.proofs.Common.{[], ◌∷◌, sym, subst}
 use Rattle.wp_core.specs.Tables.{WriteTable, installed, writes}
 use Rattle.wp_shared.specs.Notes.{GoesOn}
 use Rattle.wp_maint.proofs.Made.{stands_after}
-use Rattle.wp_renew.proofs.Renews.{may_use, was_used}
-use Rattle.wp_renew.proofs.steps.use_segment.Goals as goal
+use Rattle.wp_stages.proofs.Renews.{may_use, was_used}
+use Rattle.wp_stages.proofs.steps.use_segment.Goals as goal
 
 pub make_about-requires-clause-may : goal.make_about-requires-clause-may
 make_about-requires-clause-may g c = let h = c.requires.held in may_use _ _ h.0 c.args.edits.now.table h.1 h.2 h.3
