@@ -7,8 +7,10 @@ use Rattle.wp_model.specs.declared.word.TheConstants.{MOST_KEY_BYTES, MOST_NAME_
 use Rattle.wp_model.specs.Word.{is_word, is_key, is_value, is_name}
 use Rattle.wp_text.specs.declared.fault.Why.{Why}
 use Rattle.wp_text.specs.declared.fault.Why.TheVariants.{BadCommand, BadWord}
+use Rattle.wp_text.specs.declared.keyword.Bare.TheVariants as bare
 use Rattle.wp_text.specs.declared.keyword.Keyword.{Keyword}
 use Rattle.wp_text.specs.declared.keyword.Keyword.TheVariants as keyword
+use Rattle.wp_text.specs.declared.keyword.Named.TheVariants as named
 use Rattle.wp_text.specs.declared.keyword.TheConstants.{KEYWORDS}
 use Rattle.wp_text.specs.declared.line.Statement.{Statement}
 use Rattle.wp_text.specs.declared.line.Statement.TheVariants as statement
@@ -173,23 +175,23 @@ get_read words = one_word_read MOST_KEY_BYTES (codes "get") (λ w. statement.Com
 
 after_keyword : (k : Keyword) (words : List (List ℕ)) → ReadsStatement (keyword_text k ∷ words) (statement_with k words)
 unfolding statement_with
-after_keyword keyword.Client words = one_word_read MOST_NAME_BYTES (keyword_text keyword.Client) (λ w. statement.Client w) (λ w. (refl, refl)) words
+after_keyword (keyword.Named named.Client) words = one_word_read MOST_NAME_BYTES (keyword_text (keyword.Named named.Client)) (λ w. statement.Client w) (λ w. (refl, refl)) words
 after_keyword keyword.Put words = two_words_read MOST_KEY_BYTES MOST_VALUE_BYTES (keyword_text keyword.Put ∷ words) words (λ a b. statement.Command (command.Put a b)) (λ a b e. (ap (λ (x : List (List ℕ)). keyword_text keyword.Put ∷ x) e, refl))
 after_keyword keyword.Del words = one_word_read MOST_KEY_BYTES (keyword_text keyword.Del) (λ w. statement.Command (command.Del w)) (λ w. (refl, refl)) words
 after_keyword keyword.Get words = get_read words
-after_keyword keyword.Snap words = one_word_read MOST_NAME_BYTES (keyword_text keyword.Snap) (λ w. statement.Command (command.Snap w)) (λ w. (refl, refl)) words
-after_keyword keyword.Free words = one_word_read MOST_NAME_BYTES (keyword_text keyword.Free) (λ w. statement.Command (command.Free w)) (λ w. (refl, refl)) words
-after_keyword keyword.Begin words = one_word_read MOST_NAME_BYTES (keyword_text keyword.Begin) (λ w. statement.Command (command.Begin w)) (λ w. (refl, refl)) words
-after_keyword keyword.Prepare words = alone_read (keyword_text keyword.Prepare) command.Prepare (refl, refl) words
-after_keyword keyword.Commit words = alone_read (keyword_text keyword.Commit) command.Commit (refl, refl) words
-after_keyword keyword.Rollback words = alone_read (keyword_text keyword.Rollback) command.Rollback (refl, refl) words
-after_keyword keyword.Leave words = alone_read (keyword_text keyword.Leave) command.Leave (refl, refl) words
-after_keyword keyword.Take words = one_word_read MOST_NAME_BYTES (keyword_text keyword.Take) (λ w. statement.Command (command.Take w)) (λ w. (refl, refl)) words
-after_keyword keyword.Flush words = alone_read (keyword_text keyword.Flush) command.Flush (refl, refl) words
-after_keyword keyword.Compact words = alone_read (keyword_text keyword.Compact) command.Compact (refl, refl) words
-after_keyword keyword.Renew words = alone_read (keyword_text keyword.Renew) command.Renew (refl, refl) words
-after_keyword keyword.Tell words = one_word_read MOST_NAME_BYTES (keyword_text keyword.Tell) (λ w. statement.Command (command.Tell w)) (λ w. (refl, refl)) words
-after_keyword keyword.Hear words = one_word_read MOST_NAME_BYTES (keyword_text keyword.Hear) (λ w. statement.Command (command.Hear w)) (λ w. (refl, refl)) words
+after_keyword (keyword.Named named.Snap) words = one_word_read MOST_NAME_BYTES (keyword_text (keyword.Named named.Snap)) (λ w. statement.Command (command.Snap w)) (λ w. (refl, refl)) words
+after_keyword (keyword.Named named.Free) words = one_word_read MOST_NAME_BYTES (keyword_text (keyword.Named named.Free)) (λ w. statement.Command (command.Free w)) (λ w. (refl, refl)) words
+after_keyword (keyword.Named named.Begin) words = one_word_read MOST_NAME_BYTES (keyword_text (keyword.Named named.Begin)) (λ w. statement.Command (command.Begin w)) (λ w. (refl, refl)) words
+after_keyword (keyword.Bare bare.Prepare) words = alone_read (keyword_text (keyword.Bare bare.Prepare)) command.Prepare (refl, refl) words
+after_keyword (keyword.Bare bare.Commit) words = alone_read (keyword_text (keyword.Bare bare.Commit)) command.Commit (refl, refl) words
+after_keyword (keyword.Bare bare.Rollback) words = alone_read (keyword_text (keyword.Bare bare.Rollback)) command.Rollback (refl, refl) words
+after_keyword (keyword.Bare bare.Leave) words = alone_read (keyword_text (keyword.Bare bare.Leave)) command.Leave (refl, refl) words
+after_keyword (keyword.Named named.Take) words = one_word_read MOST_NAME_BYTES (keyword_text (keyword.Named named.Take)) (λ w. statement.Command (command.Take w)) (λ w. (refl, refl)) words
+after_keyword (keyword.Bare bare.Flush) words = alone_read (keyword_text (keyword.Bare bare.Flush)) command.Flush (refl, refl) words
+after_keyword (keyword.Bare bare.Compact) words = alone_read (keyword_text (keyword.Bare bare.Compact)) command.Compact (refl, refl) words
+after_keyword (keyword.Bare bare.Renew) words = alone_read (keyword_text (keyword.Bare bare.Renew)) command.Renew (refl, refl) words
+after_keyword (keyword.Named named.Tell) words = one_word_read MOST_NAME_BYTES (keyword_text (keyword.Named named.Tell)) (λ w. statement.Command (command.Tell w)) (λ w. (refl, refl)) words
+after_keyword (keyword.Named named.Hear) words = one_word_read MOST_NAME_BYTES (keyword_text (keyword.Named named.Hear)) (λ w. statement.Command (command.Hear w)) (λ w. (refl, refl)) words
 
 -- ---- all words of a line
 

@@ -15,8 +15,12 @@ use Rattle.wp_text.specs.declared.fault.Why.TheVariants.{TooLong, LineLong, BadB
 use Rattle.wp_text.specs.declared.fault.Fault.{Fault}
 use Rattle.wp_text.specs.declared.fault.ScriptError.{ScriptError}
 use Rattle.wp_text.specs.declared.fault.ScriptError.TheVariants as script
+use Rattle.wp_text.specs.declared.keyword.Bare.{Bare}
+use Rattle.wp_text.specs.declared.keyword.Bare.TheVariants as bare
 use Rattle.wp_text.specs.declared.keyword.Keyword.{Keyword}
 use Rattle.wp_text.specs.declared.keyword.Keyword.TheVariants as keyword
+use Rattle.wp_text.specs.declared.keyword.Named.{Named}
+use Rattle.wp_text.specs.declared.keyword.Named.TheVariants as named
 use Rattle.wp_text.specs.declared.keyword.TheConstants.{KEYWORDS}
 use Rattle.wp_text.specs.declared.line.Statement.{Statement}
 use Rattle.wp_text.specs.declared.line.Statement.TheVariants as statement
@@ -29,25 +33,31 @@ use Rattle.wp_text.specs.Grammar.{lines_of, is_line_byte, words_of, is_passed_ov
 
 -- ---- words
 
--- the word that begins a statement
+-- the word that begins a statement: one with a name, one with no word, or another
+abbrev pub named_text : Named → List ℕ
+named_text named.Client = codes "client"
+named_text named.Snap = codes "snap"
+named_text named.Free = codes "free"
+named_text named.Begin = codes "begin"
+named_text named.Take = codes "take"
+named_text named.Tell = codes "tell"
+named_text named.Hear = codes "hear"
+
+abbrev pub bare_text : Bare → List ℕ
+bare_text bare.Prepare = codes "prepare"
+bare_text bare.Commit = codes "commit"
+bare_text bare.Rollback = codes "rollback"
+bare_text bare.Leave = codes "leave"
+bare_text bare.Flush = codes "flush"
+bare_text bare.Compact = codes "compact"
+bare_text bare.Renew = codes "renew"
+
 abbrev pub keyword_text : Keyword → List ℕ
-keyword_text keyword.Client = codes "client"
+keyword_text (keyword.Named word) = named_text word
+keyword_text (keyword.Bare word) = bare_text word
 keyword_text keyword.Put = codes "put"
 keyword_text keyword.Del = codes "del"
 keyword_text keyword.Get = codes "get"
-keyword_text keyword.Snap = codes "snap"
-keyword_text keyword.Free = codes "free"
-keyword_text keyword.Begin = codes "begin"
-keyword_text keyword.Prepare = codes "prepare"
-keyword_text keyword.Commit = codes "commit"
-keyword_text keyword.Rollback = codes "rollback"
-keyword_text keyword.Leave = codes "leave"
-keyword_text keyword.Take = codes "take"
-keyword_text keyword.Flush = codes "flush"
-keyword_text keyword.Compact = codes "compact"
-keyword_text keyword.Renew = codes "renew"
-keyword_text keyword.Tell = codes "tell"
-keyword_text keyword.Hear = codes "hear"
 
 unfoldable pub keyword_named : List ℕ → Option Keyword
 keyword_named word = find (λ keyword. bytes_eq (keyword_text keyword) word) KEYWORDS
@@ -72,11 +82,32 @@ unfoldable pub get_with : List (List ℕ) → Result Statement Why
 get_with (key ∷ at ∷ name ∷ []) = if bytes_eq at (codes "at") then (two_words MOST_KEY_BYTES MOST_NAME_BYTES (key ∷ name ∷ []) >>= λ both. Ok (statement.Command (command.GetAt both.0 both.1))) else Err BadCommand
 get_with words = one_word MOST_KEY_BYTES words >>= λ key. Ok (statement.Command (command.Get key))
 
+-- what is said of a name
+abbrev pub said_of : Named → List ℕ → Statement
+said_of named.Client name = statement.Client name
+said_of named.Snap name = statement.Command (command.Snap name)
+said_of named.Free name = statement.Command (command.Free name)
+said_of named.Begin name = statement.Command (command.Begin name)
+said_of named.Take name = statement.Command (command.Take name)
+said_of named.Tell name = statement.Command (command.Tell name)
+said_of named.Hear name = statement.Command (command.Hear name)
+
+-- the command of one word
+abbrev pub bare_command : Bare → Command
+bare_command bare.Prepare = command.Prepare
+bare_command bare.Commit = command.Commit
+bare_command bare.Rollback = command.Rollback
+bare_command bare.Leave = command.Leave
+bare_command bare.Flush = command.Flush
+bare_command bare.Compact = command.Compact
+bare_command bare.Renew = command.Renew
+
 -- the statement with these words after its keyword
 unfoldable pub statement_with : Keyword → List (List ℕ) → Result Statement Why
-statement_with keyword.Client words = do
+statement_with (keyword.Named word) words = do
   name ← one_word MOST_NAME_BYTES words
-  Ok (statement.Client name)
+  Ok (said_of word name)
+statement_with (keyword.Bare word) words = alone (bare_command word) words
 statement_with keyword.Put words = do
   both ← two_words MOST_KEY_BYTES MOST_VALUE_BYTES words
   Ok (statement.Command (command.Put both.0 both.1))
@@ -84,31 +115,6 @@ statement_with keyword.Del words = do
   key ← one_word MOST_KEY_BYTES words
   Ok (statement.Command (command.Del key))
 statement_with keyword.Get words = get_with words
-statement_with keyword.Snap words = do
-  name ← one_word MOST_NAME_BYTES words
-  Ok (statement.Command (command.Snap name))
-statement_with keyword.Free words = do
-  name ← one_word MOST_NAME_BYTES words
-  Ok (statement.Command (command.Free name))
-statement_with keyword.Begin words = do
-  name ← one_word MOST_NAME_BYTES words
-  Ok (statement.Command (command.Begin name))
-statement_with keyword.Prepare words = alone command.Prepare words
-statement_with keyword.Commit words = alone command.Commit words
-statement_with keyword.Rollback words = alone command.Rollback words
-statement_with keyword.Leave words = alone command.Leave words
-statement_with keyword.Take words = do
-  name ← one_word MOST_NAME_BYTES words
-  Ok (statement.Command (command.Take name))
-statement_with keyword.Flush words = alone command.Flush words
-statement_with keyword.Compact words = alone command.Compact words
-statement_with keyword.Renew words = alone command.Renew words
-statement_with keyword.Tell words = do
-  name ← one_word MOST_NAME_BYTES words
-  Ok (statement.Command (command.Tell name))
-statement_with keyword.Hear words = do
-  name ← one_word MOST_NAME_BYTES words
-  Ok (statement.Command (command.Hear name))
 
 -- the same where the first word names a keyword
 unfoldable pub statement_named : Option Keyword → List (List ℕ) → Result (Option Statement) Why

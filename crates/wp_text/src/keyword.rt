@@ -1,70 +1,102 @@
 ghost use Rattle.std.specs.Prelude.{◌≡◌};
-ghost use Rattle.wp_text.specs.Reading.{keyword_text, keyword_named};
+ghost use Rattle.wp_text.specs.Reading.{bare_text, keyword_named, keyword_text, named_text};
 
-/// The first word of a statement.
+/// The first word of a statement that takes a name.
 #[derive(Clone, Copy)]
-pub enum Keyword {
+pub enum Named {
     Client,
-    Put,
-    Del,
-    Get,
     Snap,
     Free,
     Begin,
-    Prepare,
-    Commit,
-    Rollback,
-    Leave,
     Take,
-    Flush,
-    Compact,
-    Renew,
     Tell,
     Hear,
 }
 
+/// The first word of a command that takes no word.
+#[derive(Clone, Copy)]
+pub enum Bare {
+    Prepare,
+    Commit,
+    Rollback,
+    Leave,
+    Flush,
+    Compact,
+    Renew,
+}
+
+/// The first word of a statement.
+#[derive(Clone, Copy)]
+pub enum Keyword {
+    Named(Named),
+    Bare(Bare),
+    Put,
+    Del,
+    Get,
+}
+
 const KEYWORDS: [Keyword; 17] = [
-    Keyword::Client,
+    Keyword::Named(Named::Client),
     Keyword::Put,
     Keyword::Del,
     Keyword::Get,
-    Keyword::Snap,
-    Keyword::Free,
-    Keyword::Begin,
-    Keyword::Prepare,
-    Keyword::Commit,
-    Keyword::Rollback,
-    Keyword::Leave,
-    Keyword::Take,
-    Keyword::Flush,
-    Keyword::Compact,
-    Keyword::Renew,
-    Keyword::Tell,
-    Keyword::Hear,
+    Keyword::Named(Named::Snap),
+    Keyword::Named(Named::Free),
+    Keyword::Named(Named::Begin),
+    Keyword::Bare(Bare::Prepare),
+    Keyword::Bare(Bare::Commit),
+    Keyword::Bare(Bare::Rollback),
+    Keyword::Bare(Bare::Leave),
+    Keyword::Named(Named::Take),
+    Keyword::Bare(Bare::Flush),
+    Keyword::Bare(Bare::Compact),
+    Keyword::Bare(Bare::Renew),
+    Keyword::Named(Named::Tell),
+    Keyword::Named(Named::Hear),
 ];
+
+impl Named {
+    fn text(self) -> &'static [u8]
+        ensures { result.now ≡ named_text self }
+    {
+        match self {
+            Named::Client => b"client",
+            Named::Snap => b"snap",
+            Named::Free => b"free",
+            Named::Begin => b"begin",
+            Named::Take => b"take",
+            Named::Tell => b"tell",
+            Named::Hear => b"hear",
+        }
+    }
+}
+
+impl Bare {
+    fn text(self) -> &'static [u8]
+        ensures { result.now ≡ bare_text self }
+    {
+        match self {
+            Bare::Prepare => b"prepare",
+            Bare::Commit => b"commit",
+            Bare::Rollback => b"rollback",
+            Bare::Leave => b"leave",
+            Bare::Flush => b"flush",
+            Bare::Compact => b"compact",
+            Bare::Renew => b"renew",
+        }
+    }
+}
 
 impl Keyword {
     fn text(self) -> &'static [u8]
         ensures { result.now ≡ keyword_text self }
     {
         match self {
-            Keyword::Client => b"client",
+            Keyword::Named(named) => named.text(),
+            Keyword::Bare(bare) => bare.text(),
             Keyword::Put => b"put",
             Keyword::Del => b"del",
             Keyword::Get => b"get",
-            Keyword::Snap => b"snap",
-            Keyword::Free => b"free",
-            Keyword::Begin => b"begin",
-            Keyword::Prepare => b"prepare",
-            Keyword::Commit => b"commit",
-            Keyword::Rollback => b"rollback",
-            Keyword::Leave => b"leave",
-            Keyword::Take => b"take",
-            Keyword::Flush => b"flush",
-            Keyword::Compact => b"compact",
-            Keyword::Renew => b"renew",
-            Keyword::Tell => b"tell",
-            Keyword::Hear => b"hear",
         }
     }
 

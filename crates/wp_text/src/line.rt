@@ -3,10 +3,10 @@ ghost use Rattle.std.specs.List.{list_all};
 ghost use Rattle.wp_fields.specs.Reading.{Gives};
 ghost use Rattle.wp_text.specs.declared.keyword.Keyword.TheVariants as keyword;
 ghost use Rattle.wp_text.specs.Grammar.{is_line_byte, words_of};
-ghost use Rattle.wp_text.specs.Reading.{line_fault, one_word, two_words, alone, get_with, statement_with, statement_of, line_of};
+ghost use Rattle.wp_text.specs.Reading.{line_fault, one_word, two_words, alone, bare_command, get_with, said_of, statement_with, statement_of, line_of};
 
 use crate::fault::{LineError, Why};
-use crate::keyword::Keyword;
+use crate::keyword::{Bare, Keyword, Named};
 use crate::script::Command;
 use std::alloc::{AllocError, Global};
 use wp_model::{Name, Word};
@@ -99,28 +99,44 @@ fn put_with(alloc: Global, words: &[&[u8]]) -> Result<Statement, LineError>
     Ok(Statement::Command(Command::Put(key, value)))
 }
 
+fn said_of(named: Named, name: Name) -> Statement
+    ensures { result ≡ said_of named name }
+{
+    match named {
+        Named::Client => Statement::Client(name),
+        Named::Snap => Statement::Command(Command::Snap(name)),
+        Named::Free => Statement::Command(Command::Free(name)),
+        Named::Begin => Statement::Command(Command::Begin(name)),
+        Named::Take => Statement::Command(Command::Take(name)),
+        Named::Tell => Statement::Command(Command::Tell(name)),
+        Named::Hear => Statement::Command(Command::Hear(name)),
+    }
+}
+
+fn bare_command(bare: Bare) -> Command
+    ensures { result ≡ bare_command bare }
+{
+    match bare {
+        Bare::Prepare => Command::Prepare,
+        Bare::Commit => Command::Commit,
+        Bare::Rollback => Command::Rollback,
+        Bare::Leave => Command::Leave,
+        Bare::Flush => Command::Flush,
+        Bare::Compact => Command::Compact,
+        Bare::Renew => Command::Renew,
+    }
+}
+
 #[tactic(auto, unfolding(crate::specs::Reading::statement_with))]
 fn statement_with(alloc: Global, keyword: Keyword, words: &[&[u8]]) -> Result<Statement, LineError>
     ensures { Gives line_fault (λ s. s) result (statement_with keyword (map (λ word. word.now) words.now)) }
 {
     match keyword {
-        Keyword::Client => Ok(Statement::Client(one_word(alloc, words)?)),
+        Keyword::Named(named) => Ok(said_of(named, one_word(alloc, words)?)),
+        Keyword::Bare(bare) => alone(words, bare_command(bare)),
         Keyword::Put => put_with(alloc, words),
         Keyword::Del => Ok(Statement::Command(Command::Del(one_word(alloc, words)?))),
         Keyword::Get => get_with(alloc, words),
-        Keyword::Snap => Ok(Statement::Command(Command::Snap(one_word(alloc, words)?))),
-        Keyword::Free => Ok(Statement::Command(Command::Free(one_word(alloc, words)?))),
-        Keyword::Begin => Ok(Statement::Command(Command::Begin(one_word(alloc, words)?))),
-        Keyword::Prepare => alone(words, Command::Prepare),
-        Keyword::Commit => alone(words, Command::Commit),
-        Keyword::Rollback => alone(words, Command::Rollback),
-        Keyword::Leave => alone(words, Command::Leave),
-        Keyword::Take => Ok(Statement::Command(Command::Take(one_word(alloc, words)?))),
-        Keyword::Flush => alone(words, Command::Flush),
-        Keyword::Compact => alone(words, Command::Compact),
-        Keyword::Renew => alone(words, Command::Renew),
-        Keyword::Tell => Ok(Statement::Command(Command::Tell(one_word(alloc, words)?))),
-        Keyword::Hear => Ok(Statement::Command(Command::Hear(one_word(alloc, words)?))),
     }
 }
 
