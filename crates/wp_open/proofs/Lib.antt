@@ -1,14 +1,8 @@
 pub mod Later
-pub mod Undos
 pub mod Base
 pub mod AllVersions
 pub mod OwnVersions
 pub mod Reading
 pub mod Shown
-pub mod OneWay
 pub mod OverTables
 pub mod Within
-pub mod Stages
-pub mod BothOpen
-pub mod OneFault
-pub mod Opened

@@ -23,13 +23,13 @@ use Rattle.wp_cuts.proofs.Members.{IsIn, at_in, in_at, version}
 use Rattle.wp_ledger.specs.History.{RoomyHistory, IsStore, HasBaseValues}
 use Rattle.wp_ledger.specs.Outline.{IsFirstWrong, RestoreUpTo, cut_in, full_with}
 use Rattle.wp_cover.specs.Sources.{is_settled}
-use Rattle.wp_open.specs.declared.bad.Bad.{Bad}
-use Rattle.wp_open.specs.declared.bad.Bad.TheVariants as bad
-use Rattle.wp_open.specs.declared.opening.OpenError.TheVariants as open_error
-use Rattle.wp_open.specs.Damage.{UndosRestore, IsWrongUndo, end_of, standing}
+use Rattle.wp_refused.specs.declared.bad.Bad.{Bad}
+use Rattle.wp_refused.specs.declared.bad.Bad.TheVariants as bad
+use Rattle.wp_refused.specs.declared.error.OpenError.TheVariants as open_error
+use Rattle.wp_refused.specs.Damage.{UndosRestore, IsWrongUndo, end_of, standing}
 use Rattle.wp_devices.specs.Opens.{all_in, history_over}
 use Rattle.wp_open.specs.Standing.{IsOverCause, Leaves, fits, is_under}
-use Rattle.wp_open.specs.Tables.{IsHistoryCause}
+use Rattle.wp_refused.specs.Tables.{IsHistoryCause}
 use Rattle.wp_open.proofs.Base.{same_settled}
 
 -- ---- all of a list

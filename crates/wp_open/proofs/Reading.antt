@@ -20,13 +20,13 @@ use Rattle.wp_table.specs.Errors.{table_fault}
 use Rattle.wp_table.specs.Faults.{IsTableFault}
 use Rattle.wp_table.specs.File.{HasTable}
 use Rattle.wp_table.specs.Table.{IsTable, SpellsTable}
-use Rattle.wp_open.specs.declared.bad.Bad.TheVariants as bad
-use Rattle.wp_open.specs.declared.opening.OpenError.{OpenError}
-use Rattle.wp_open.specs.declared.opening.OpenError.TheVariants as open_error
-use Rattle.wp_open.specs.Damage.{bytes_at, HasTableFault, IsFirstBadTable}
-use Rattle.wp_open.specs.Refused.{IsTableReason}
-use Rattle.wp_open.specs.Shown.{Sometime, WereShown}
-use Rattle.wp_open.specs.Tables.{WasWrong, IsTableCause, IsFirstWrong, WasFirstWrong, IsTablesCause, AreTablesCause}
+use Rattle.wp_refused.specs.declared.bad.Bad.TheVariants as bad
+use Rattle.wp_refused.specs.declared.error.OpenError.{OpenError}
+use Rattle.wp_refused.specs.declared.error.OpenError.TheVariants as open_error
+use Rattle.wp_refused.specs.Damage.{bytes_at, HasTableFault, IsFirstBadTable}
+use Rattle.wp_refused.specs.Refused.{IsTableReason}
+use Rattle.wp_refused.specs.Shown.{Sometime, WereShown}
+use Rattle.wp_refused.specs.Tables.{WasWrong, IsTableCause, IsFirstWrong, WasFirstWrong, IsTablesCause, AreTablesCause}
 use Rattle.wp_open.proofs.Shown.{shown_later, shown_push, shown_alone, sometime_now, sometime_map, sometime_alone}
 
 -- ---- one table

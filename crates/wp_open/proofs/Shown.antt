@@ -5,7 +5,7 @@ use Rattle.wp_model.specs.declared.version.Version.{Version}
 use Rattle.wp_outside.specs.Disk.{Moment, IfKnown, Goes}
 use Rattle.wp_gatelog.proofs.MomentLemmas.{known_map}
 use Rattle.wp_table.specs.File.{HasTable, HasTables}
-use Rattle.wp_open.specs.Shown.{Sometime, WereShown}
+use Rattle.wp_refused.specs.Shown.{Sometime, WereShown}
 
 pub sometime_later : (P : Moment → Type 0) (old mid new : List Moment) → Goes (λ m. ⊤) mid new → Sometime P old mid → Sometime P old new
 sometime_later P old [] new goes s = record { later = s.later; since = s.since; came = goes ∙ s.came; held = s.held }

@@ -3,20 +3,25 @@ use Rattle.std.proofs.Common.{◌≡◌, ℕ, ◌<◌, ◌≤◌, List, length, 
 use Rattle.wp_model.specs.declared.entry.Entry.{Entry}
 use Rattle.wp_model.specs.declared.version.Version.{Version}
 use Rattle.wp_model.specs.Legal.{IsLegal}
+use Rattle.wp_outside.specs.declared.disk.Device.TheVariants as device
 use Rattle.wp_outside.specs.Disk.{Moment, added, after_sync}
+use Rattle.wp_outside.specs.Faults.{Rose}
 use Rattle.wp_cuts.specs.Cut.{Cut}
 use Rattle.wp_cuts.proofs.FullList.{full_long}
 use Rattle.wp_ledger.specs.History.{RoomyHistory}
 use Rattle.wp_ledger.specs.Outline.{cut_in}
 use Rattle.wp_manifest.specs.Edit.{Edit}
-use Rattle.wp_open.specs.declared.bad.Bad.TheVariants as bad
-use Rattle.wp_open.specs.declared.opening.OpenError.{OpenError}
-use Rattle.wp_open.specs.declared.opening.OpenError.TheVariants as open_error
-use Rattle.wp_open.specs.Damage.{IsWithin, UndosRestore, end_of, standing}
+use Rattle.wp_table.specs.declared.error.TableError.{TableError}
+use Rattle.wp_table.specs.declared.error.TableError.TheVariants as table
+use Rattle.wp_refused.specs.declared.bad.Bad.TheVariants as bad
+use Rattle.wp_refused.specs.declared.error.OpenError.{OpenError}
+use Rattle.wp_refused.specs.declared.error.OpenError.TheVariants as open_error
+use Rattle.wp_refused.specs.Damage.{IsFirstBadTable, IsWithin, UndosRestore, end_of, standing}
 use Rattle.wp_devices.specs.Opens.{all_in, history_over}
-use Rattle.wp_open.specs.Refused.{IsApart}
-use Rattle.wp_open.specs.Tables.{IsHistoryCause, IsStoreCause, ahead, behind, of_tables, not_legal, not_covered, LeavesSynced, WereTables}
-use Rattle.wp_open.proofs.Undos.{legal_restores}
+use Rattle.wp_refused.specs.Refused.{IsApart}
+use Rattle.wp_refused.specs.Tables.{AreTablesCause, IsFirstWrong, IsHistoryCause, IsStoreCause, ahead, behind, of_tables, not_legal, not_covered, LeavesSynced, WereTables}
+use Rattle.wp_refused.proofs.Stages.{known_before}
+use Rattle.wp_refused.proofs.Undos.{legal_restores}
 
 -- ---- the numbers
 
@@ -61,7 +66,38 @@ module _ (id : ℕ) (c : Cut) (edit : Edit) (rose : Type 0) (moments : List Mome
   history_cause parts (open_error.Contents bad.Uncovered) within read cause = not_covered within (record { parts = parts; read = read; undos = cause.0; uncovered = λ covering. cause.1 covering.below }) refl
   history_cause parts (open_error.Contents other) within read cause = absurd cause
 
+-- the tables were refused once their device was synced
+wrong_before : (id : ℕ) (edit : Edit) (old new : List Moment) (place : ℕ) (why : TableError) → new ≡ added after_sync old → IsFirstWrong id edit new place why → IsFirstWrong id edit old place why
+wrong_before id edit old new place why synced w = record {
+  before = w.before;
+  size = w.size;
+  after = w.after;
+  listed = w.listed;
+  parts = w.parts;
+  as_many = w.as_many;
+  are = w.are;
+  read = w.read;
+  wrong = w.wrong;
+  known = known_before (λ reads. IsFirstBadTable id edit.flushed reads edit.tables place why) old new synced w.known;
+}
+
+pub tables_before : (id : ℕ) (edit : Edit) (start mid now : ℕ) (old new : List Moment) (why : OpenError) → start ≤ mid → new ≡ added after_sync old → AreTablesCause id edit (Rose mid now) new why → AreTablesCause id edit (Rose start now) old why
+tables_before id edit start mid now old new open_error.Memory later synced cause = tt
+tables_before id edit start mid now old new (open_error.OpenFault device.Tables) later synced cause = omega (arith, cause, later)
+tables_before id edit start mid now old new (open_error.OpenFault other) later synced cause = absurd cause
+tables_before id edit start mid now old new (open_error.Contents (bad.Stranger log found)) later synced cause = (cause.0, cause.1, wrong_before id edit old new cause.1 (table.Stranger found) synced cause.2)
+tables_before id edit start mid now old new (open_error.Contents (bad.BadTable place why)) later synced cause = (cause.0, wrong_before id edit old new place why synced cause.1)
+tables_before id edit start mid now old new (open_error.Contents other) later synced cause = absurd cause
+
 -- ---- what is left
+
+pub tables_left : (id : ℕ) (edit : Edit) (rose same : Type 0) (moments old new : List Moment) (why : OpenError) → AreTablesCause id edit rose moments why → new ≡ added after_sync old → LeavesSynced same old new why
+tables_left id edit rose same moments old new open_error.Memory cause is = is
+tables_left id edit rose same moments old new (open_error.OpenFault device.Tables) cause is = inr is
+tables_left id edit rose same moments old new (open_error.OpenFault other) cause is = absurd cause
+tables_left id edit rose same moments old new (open_error.Contents (bad.Stranger log found)) cause is = is
+tables_left id edit rose same moments old new (open_error.Contents (bad.BadTable place why)) cause is = is
+tables_left id edit rose same moments old new (open_error.Contents other) cause is = absurd cause
 
 pub apart_left : (c : Cut) (edit : Edit) (same : Type 0) (old new : List Moment) (why : OpenError) → IsApart c edit why → same → LeavesSynced same old new why
 apart_left c edit same old new why (inl (lt, named)) is = subst (LeavesSynced same old new) (sym named) is

@@ -1,7 +1,1 @@
-pub mod Damage
-pub mod Tables
-pub mod Parts
-pub mod Refused
-pub mod Shown
 pub mod Standing
-pub mod Logs

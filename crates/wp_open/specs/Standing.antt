@@ -9,8 +9,8 @@ use Rattle.wp_model.specs.History.{is_changed}
 use Rattle.wp_ledger.specs.History.{RoomyHistory, IsStore}
 use Rattle.wp_ledger.specs.Outline.{IsFirstWrong, RestoreUpTo, cut_in}
 use Rattle.wp_cover.specs.Sources.{is_settled}
-use Rattle.wp_open.specs.declared.bad.Bad.{Bad}
-use Rattle.wp_open.specs.declared.bad.Bad.TheVariants as bad
+use Rattle.wp_refused.specs.declared.bad.Bad.{Bad}
+use Rattle.wp_refused.specs.declared.bad.Bad.TheVariants as bad
 
 -- the version is below the carried prepare, or has no key of it
 abbrev pub is_under : Version → Carried → Bool

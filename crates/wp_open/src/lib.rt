@@ -10,19 +10,12 @@
 //! nothing was flushed, since then memory does. The first fault in this order is named, and all three devices are handed back.
 #![tactic(auto)]
 
-mod bad;
 mod covering;
-mod laws;
-mod logs;
 mod memory;
 mod opening;
-mod reason;
 mod standing;
 mod tables;
 
-pub use bad::Bad;
 pub use covering::are_covering;
-pub use laws::{a_store_is_opened_in_one_way, opened_parts_open_again};
-pub use opening::{OpenError, OpenRefused, Parts, open_parts};
-pub use reason::{log_reason, manifest_reason, table_reason};
+pub use opening::{Parts, open_parts};
 pub use standing::history_of;

@@ -8,58 +8,24 @@ ghost use Rattle.wp_ledger.specs.Outline.{cut_in};
 ghost use Rattle.wp_table.specs.File.{HasTables};
 ghost use Rattle.wp_table.specs.Table.{IsTable};
 ghost use Rattle.wp_devices.specs.Devices.{devices_of};
-ghost use Rattle.wp_open.specs.Tables.{IsStoreCause, LeavesSynced};
-ghost use Rattle.wp_open.specs.Parts.{IsStoreOf, PartsOpened, ArePartsOf};
-ghost use Rattle.wp_open.specs.Refused.{IsRefusedFrom, IsApart};
-ghost use Rattle.wp_open.specs.Damage.{IsWithin};
-ghost use Rattle.wp_open.specs.declared.opening.OpenError.TheVariants as open_error;
+ghost use Rattle.wp_refused.specs.Tables.{IsStoreCause, LeavesSynced};
+ghost use Rattle.wp_refused.specs.Parts.{IsStoreOf, PartsOpened, ArePartsOf};
+ghost use Rattle.wp_refused.specs.Refused.{IsRefusedFrom, IsApart};
+ghost use Rattle.wp_refused.specs.Damage.{IsWithin};
+ghost use Rattle.wp_refused.specs.declared.error.OpenError.TheVariants as open_error;
 
-use crate::bad::Bad;
 use crate::covering::are_covering;
-use crate::laws::a_store_is_opened_in_one_way;
-use crate::logs::{Logs, open_logs};
 use crate::memory::later_memory;
 use crate::standing::history_of;
 use crate::tables::own_tables;
-use std::alloc::{AllocError, AllocFailed, Global};
+use std::alloc::Global;
 use wp_ledger::{History, Outline};
+use wp_logs::{Logs, open_logs};
 use wp_manifest::{Edit, Manifest};
 use wp_outside::{Device, Disk, Disks};
+use wp_refused::{Bad, OpenError, OpenRefused, a_store_is_opened_in_one_way};
 use wp_store::Store;
 use wp_wal::Wal;
-
-/// Why a store was not opened.
-#[derive(Drop)]
-pub enum OpenError {
-    /// Out of memory.
-    Memory,
-    /// The device failed.
-    OpenFault(Device),
-    /// What was read is outside the formats.
-    Contents(Bad),
-}
-
-impl From<AllocError> for OpenError {
-    ghost use Rattle.std.specs.Prelude.{◌≡◌};
-    ghost use Rattle.wp_open.specs.declared.opening.OpenError.TheVariants as open_error;
-
-    ghost from_gives = { λ _ e. e ≡ open_error.Memory };
-
-    fn from(_refused: AllocError) -> OpenError {
-        OpenError::Memory
-    }
-}
-
-impl<T: Drop> From<AllocFailed<T>> for OpenError {
-    ghost use Rattle.std.specs.Prelude.{◌≡◌};
-    ghost use Rattle.wp_open.specs.declared.opening.OpenError.TheVariants as open_error;
-
-    ghost from_gives = { λ _ e. e ≡ open_error.Memory };
-
-    fn from(_refused: AllocFailed<T>) -> OpenError {
-        OpenError::Memory
-    }
-}
 
 /// The parts of an open store: the log and the history that it spells, the manifest, the tables' device, and the versions.
 #[derive(Drop)]
@@ -69,13 +35,6 @@ pub struct Parts<D: Disk> {
     pub manifest: Manifest<D>,
     pub tables: D,
     pub store: Store,
-}
-
-/// A refusal that hands the devices back.
-#[derive(Drop)]
-pub struct OpenRefused<D> {
-    pub disks: Disks<D>,
-    pub why: OpenError,
 }
 
 /// Whether what the log tells is from the entries that the edit has flushed on, and has all of those.

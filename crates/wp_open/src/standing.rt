@@ -10,10 +10,8 @@ ghost use Rattle.wp_ledger.specs.Outline.{cut_in};
 ghost use Rattle.wp_cover.specs.Sources.{is_settled};
 ghost use Rattle.wp_devices.specs.Opens.{all_in, history_over};
 ghost use Rattle.wp_open.specs.Standing.{Leaves, IsOverCause, fits, is_under};
-ghost use Rattle.wp_open.specs.Tables.{IsHistoryCause};
+ghost use Rattle.wp_refused.specs.Tables.{IsHistoryCause};
 
-use crate::bad::Bad;
-use crate::opening::OpenError;
 use std::alloc::{AllocError, Global};
 use std::collections::{BTreeMap, VecDeque};
 use std::snapshot::Snapshot;
@@ -21,6 +19,7 @@ use std::sync::Arc;
 use wp_ledger::{History, Outline};
 use wp_merge::merged_lists_are_sorted;
 use wp_model::{Carried, Key, Seq, Value, Version, Versions};
+use wp_refused::{Bad, OpenError};
 use wp_store::merged_tables;
 use wp_table::Table;
 

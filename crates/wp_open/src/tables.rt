@@ -7,17 +7,15 @@ ghost use Rattle.wp_outside.specs.Faults.{Rose};
 ghost use Rattle.wp_gatelog.specs.Patched.{Shows, EndsAt};
 ghost use Rattle.wp_table.specs.File.{HasTable, HasTables};
 ghost use Rattle.wp_table.specs.Table.{IsTable};
-ghost use Rattle.wp_open.specs.Shown.{WereShown};
-ghost use Rattle.wp_open.specs.Tables.{IsReadCause, IsTableCause, IsTablesCause, WasFirstWrong, AreTablesCause};
+ghost use Rattle.wp_refused.specs.Shown.{WereShown};
+ghost use Rattle.wp_refused.specs.Tables.{IsReadCause, IsTableCause, IsTablesCause, WasFirstWrong, AreTablesCause};
 
-use crate::bad::Bad;
-use crate::opening::OpenError;
-use crate::reason::table_reason;
 use std::alloc::Global;
 use std::sync::Arc;
 use wp_manifest::Edit;
 use wp_model::Seq;
 use wp_outside::{Device, Disk, Failed, Peek};
+use wp_refused::{Bad, OpenError, table_reason};
 use wp_table::{Table, TableError};
 
 /// The bytes at a table's place on a device that had so many: as many as the table has, or as there are.

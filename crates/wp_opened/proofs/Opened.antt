@@ -17,12 +17,12 @@ use Rattle.wp_manifest.specs.declared.error.ManifestError.TheVariants as manifes
 use Rattle.wp_manifest.specs.Edit.{place_of}
 use Rattle.wp_manifest.specs.Manifest.{ManifestState}
 use Rattle.wp_manifest.specs.Spelling.{last_edit}
-use Rattle.wp_open.specs.Damage.{IsWithin}
+use Rattle.wp_refused.specs.Damage.{IsWithin}
 use Rattle.wp_parts.specs.Opens.{AllKnown, installed_of}
-use Rattle.wp_open.specs.Parts.{PartsOpened, ArePartsOf, LogsOpened, stored_cut}
-use Rattle.wp_open.specs.Refused.{of_manifest, AreLeft, IsLeft, at_tables, IsRefusedFrom}
-use Rattle.wp_open.specs.declared.opening.OpenError.TheVariants as open_error
-use Rattle.wp_open.proofs.BothOpen.{logs_left}
+use Rattle.wp_refused.specs.Parts.{PartsOpened, ArePartsOf, LogsOpened, stored_cut}
+use Rattle.wp_refused.specs.Refused.{of_manifest, AreLeft, IsLeft, at_tables, IsRefusedFrom}
+use Rattle.wp_refused.specs.declared.error.OpenError.TheVariants as open_error
+use Rattle.wp_refused.proofs.BothOpen.{logs_left}
 use Rattle.wp_core.specs.Tables.{writes, installed}
 use Rattle.wp_core.specs.Turns.{write_turn, tables_turn}
 use Rattle.wp_rule.specs.Shows.{WasLast}

@@ -34,8 +34,8 @@ use Rattle.wp_manifest.specs.Manifest.{ManifestState}
 use Rattle.wp_merge.specs.Merge.{first_at, joined, sorted_of}
 use Rattle.wp_merge.proofs.Merged.{or_none}
 use Rattle.wp_merge.proofs.Sorted.{at_append, at_sorted}
-use Rattle.wp_open.specs.Damage.{IsWithin}
-use Rattle.wp_open.specs.Parts.{PartsOpened, stored_cut}
+use Rattle.wp_refused.specs.Damage.{IsWithin}
+use Rattle.wp_refused.specs.Parts.{PartsOpened, stored_cut}
 use Rattle.wp_parts.specs.Opens.{installed_of}
 use Rattle.wp_store.specs.Store.{StoreParts}
 use Rattle.wp_table.specs.File.{HasTables}

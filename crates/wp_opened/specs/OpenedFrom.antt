@@ -5,7 +5,7 @@ use Rattle.wp_wal.specs.Wal.{WalState}
 use Rattle.wp_manifest.specs.Manifest.{ManifestState}
 use Rattle.wp_parts.specs.Store.{StoreParts}
 use Rattle.wp_parts.specs.Opens.{installed_of}
-use Rattle.wp_open.specs.Parts.{PartsOpened, ArePartsOf}
+use Rattle.wp_refused.specs.Parts.{PartsOpened, ArePartsOf}
 use Rattle.wp_rule.specs.Shows.{WasLast}
 use Rattle.wp_opened.specs.Filled.{running_set}
 use Rattle.wp_parts.specs.Parts.{content, log_first, set_first}

@@ -1,9 +1,8 @@
 //! An opened store, behind the turns.
 ghost use Rattle.std.specs.FinMap as finite;
-ghost use Rattle.std.specs.Prelude.{◌≡◌, ◌≤◌, ℕ, false, List, [], ◌∷◌, None, length, map, ◌+◌, vec_len, vec_capacity, IfOk, IfErr};
-ghost use Rattle.std.specs.Arc.{arc_value};
+ghost use Rattle.std.specs.Prelude.{◌≡◌, ◌≤◌, ℕ, false, List, [], ◌∷◌, None, length, ◌+◌, vec_len, vec_capacity, IfOk, IfErr};
 ghost use Rattle.wp_outside.specs.Disk.{Moment};
-ghost use Rattle.wp_open.specs.Parts.{PartsOpened};
+ghost use Rattle.wp_refused.specs.Parts.{PartsOpened};
 ghost use Rattle.wp_history.specs.Opened.{AreOpened};
 ghost use Rattle.wp_rule.specs.Shows.{Founds};
 ghost use Rattle.wp_parts.specs.Devices.{devices_of, devices_behind};
@@ -14,7 +13,6 @@ ghost use Rattle.wp_parts.specs.declared.part.Part.TheVariants as part;
 ghost use Rattle.wp_opened.specs.Filled.{AreDelayed, AreFilled, IsFlagOf, running_set};
 
 use std::alloc::{AllocError, Global};
-use std::sync::Arc;
 use wp_ledger::History;
 use wp_locks::Locks;
 use wp_open::Parts;
@@ -22,7 +20,7 @@ use wp_outside::{Disk, Disks};
 use wp_parts::{Edits, Log, Part, Stock, TableVersions, take_apart};
 use wp_prepared::Prepared;
 use wp_snaps::Snaps;
-use wp_table::Table;
+use wp_store::Store;
 use wp_tableset::TableSet;
 
 /// What the values behind the turns need besides the parts of an opened store.
@@ -34,35 +32,31 @@ struct Room<D: Disk> {
     slots: Vec<Part<D>>,
 }
 
-/// What each of the tables has, for clauses.
-fn versions_of(alloc: Global, tables: &[Arc<Table>]) -> Result<Vec<TableVersions>, AllocError>
-    ensures { IfOk result (λ versions. versions.items ≡ map arc_value tables.now) }
+/// What each of the store's tables has, for clauses.
+fn versions_of(alloc: Global, store: &Store) -> Result<Vec<TableVersions>, AllocError>
+    ensures { IfOk result (λ versions. versions.items ≡ store.now.tables) }
 {
+    let tables = store.copy_tables()?;
     let mut versions = Vec::with_capacity(alloc, tables.len())?;
-    for table in tables {
+    for table in &tables {
         versions.push(TableVersions::of(table))?;
     }
     Ok(versions)
 }
 
-/// Takes the memory that they need besides, and what the tables have.
-fn room_for<D: Disk + Drop>(
-    alloc: Global,
-    parts: &Parts<D>,
-) -> Result<(Room<D>, Vec<TableVersions>), AllocError>
-    ensures prepared { IfOk result (λ r. AreDelayed parts.now.history.entries r.0.prepared.value) }
-    ensures snaps { IfOk result (λ r. r.0.snaps.value ≡ finite.empty) }
-    ensures locks { IfOk result (λ r. AreOpened parts.now.history.entries r.0.locks.value) }
-    ensures slots { IfOk result (λ r. (r.0.slots.items ≡ []) × (vec_len r.0.slots + 6 ≤ vec_capacity r.0.slots)) }
-    ensures tables { IfOk result (λ r. r.1.items ≡ parts.now.store.tables) }
+/// Takes the memory that they need besides.
+fn room_for<D: Disk + Drop>(alloc: Global, history: &History) -> Result<Room<D>, AllocError>
+    ensures prepared { IfOk result (λ room. AreDelayed history.now.entries room.prepared.value) }
+    ensures snaps { IfOk result (λ room. room.snaps.value ≡ finite.empty) }
+    ensures locks { IfOk result (λ room. AreOpened history.now.entries room.locks.value) }
+    ensures slots { IfOk result (λ room. (room.slots.items ≡ []) × (vec_len room.slots + 6 ≤ vec_capacity room.slots)) }
 {
-    let room = Room {
-        prepared: Box::new(alloc, Prepared::delaying(alloc, parts.history.undecided())?)?,
+    Ok(Room {
+        prepared: Box::new(alloc, Prepared::delaying(alloc, history.undecided())?)?,
         snaps: Box::new(alloc, Snaps::new(alloc))?,
-        locks: Box::new(alloc, Locks::left_by(&parts.history, alloc)?)?,
+        locks: Box::new(alloc, Locks::left_by(history, alloc)?)?,
         slots: Vec::with_capacity(alloc, 6)?,
-    };
-    Ok((room, versions_of(alloc, &parts.store.copy_tables()?)?))
+    })
 }
 
 /// The log, the versions and the tables of an opened store, each as its turn guards it.
@@ -173,7 +167,10 @@ pub(crate) fn guard<D: Disk + Drop>(
     ensures slots { IfOk result (λ slots. AreFilled parts.wal parts.history.entries (running_set parts.manifest (D.moments parts.tables) (D.faults parts.tables)) parts.store slots.items) }
     ensures refused { IfErr result (λ disks. devices_of D.moments D.faults disks ≡ devices_behind parts.wal (running_set parts.manifest (D.moments parts.tables) (D.faults parts.tables))) }
 {
-    let Ok((room, versions)) = room_for(alloc, &parts) else {
+    let Ok(room) = room_for(alloc, &parts.history) else {
+        return Err(disks_of(parts));
+    };
+    let Ok(versions) = versions_of(alloc, &parts.store) else {
         return Err(disks_of(parts));
     };
     match make_guarded(alloc, parts, versions) {

@@ -3,8 +3,8 @@ ghost use Rattle.std.specs.Prelude.{◌≡◌, ◌≤◌, ◌^◌, [], ℕ, List
 ghost use Rattle.wp_fields.specs.declared.format.Format.TheVariants.{Two};
 ghost use Rattle.wp_entry.specs.Record.{last_number};
 ghost use Rattle.wp_outside.specs.Disk.{Moment};
-ghost use Rattle.wp_open.specs.Parts.{PartsOpened};
-ghost use Rattle.wp_open.specs.Refused.{IsRefusedFrom};
+ghost use Rattle.wp_refused.specs.Parts.{PartsOpened};
+ghost use Rattle.wp_refused.specs.Refused.{IsRefusedFrom};
 ghost use Rattle.wp_core.specs.World.{new_actor};
 ghost use Rattle.wp_rule.specs.Shows.{WasLast};
 ghost use Rattle.wp_rule.specs.Words.{SawAll};
@@ -19,9 +19,10 @@ use crate::filling::{delayed_flag, guard};
 use std::alloc::Global;
 use std::snapshot::Snapshot;
 use wp_model::{Name, Seq};
-use wp_open::{OpenError, OpenRefused, Parts, open_parts};
+use wp_open::{Parts, open_parts};
 use wp_outside::{Disk, Disks};
 use wp_parts::{BehindTurn, Edits, Log, take_apart};
+use wp_refused::{OpenError, OpenRefused};
 use wp_shared::{Seat, Shared};
 
 /// Shares an opened store, with a commit cache of as many words as the bits number. No entry gets a number above the limit. The

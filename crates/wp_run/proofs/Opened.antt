@@ -3,12 +3,12 @@ use Rattle.std.proofs.Common.{◌≡◌, ℕ, List, [], ◌∷◌, refl, sym, su
 use Rattle.wp_outside.specs.Disk.{Moment, IsImage, ReadsItself, added, after_sync}
 use Rattle.wp_outside.proofs.Moments.{image_of_synced}
 use Rattle.wp_gatelog.specs.Moments.{Leaves}
-use Rattle.wp_open.specs.declared.bad.Bad.TheVariants as bad
-use Rattle.wp_open.specs.declared.opening.OpenError.{OpenError}
-use Rattle.wp_open.specs.declared.opening.OpenError.TheVariants as open_error
+use Rattle.wp_refused.specs.declared.bad.Bad.TheVariants as bad
+use Rattle.wp_refused.specs.declared.error.OpenError.{OpenError}
+use Rattle.wp_refused.specs.declared.error.OpenError.TheVariants as open_error
 use Rattle.wp_shared.specs.Devices.{DevicesLeft}
-use Rattle.wp_open.specs.Refused.{IsLeft, at_manifest, at_log, at_new_manifest, at_place, at_ids, at_edit, at_tables}
-use Rattle.wp_open.specs.Tables.{IsAtMostSynced, LeavesSynced}
+use Rattle.wp_refused.specs.Refused.{IsLeft, at_manifest, at_log, at_new_manifest, at_place, at_ids, at_edit, at_tables}
+use Rattle.wp_refused.specs.Tables.{IsAtMostSynced, LeavesSynced}
 use Rattle.wp_tableset.specs.Device.{BeginsWith, KeepsFronts}
 use Rattle.wp_run.proofs.Keeping.{fronts_same}
 

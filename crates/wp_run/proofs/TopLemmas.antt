@@ -8,8 +8,8 @@ use Rattle.wp_fields.specs.declared.format.Format.TheVariants.{Two}
 use Rattle.wp_entry.specs.Record.{last_number}
 use Rattle.wp_model.specs.declared.entry.Entry.{Entry}
 use Rattle.wp_model.specs.Flushed.{InstalledEdit}
-use Rattle.wp_open.specs.declared.opening.OpenError.{OpenError}
-use Rattle.wp_open.specs.declared.opening.OpenError.TheVariants as open_error
+use Rattle.wp_refused.specs.declared.error.OpenError.{OpenError}
+use Rattle.wp_refused.specs.declared.error.OpenError.TheVariants as open_error
 use Rattle.wp_shared.specs.Opens.{installed_of}
 use Rattle.wp_text.specs.declared.script.Part.{Part}
 use Rattle.wp_text.specs.declared.reply.Reply.{Reply}
@@ -33,8 +33,8 @@ use Rattle.wp_args.specs.Choice.{IsEntered, IsChoice, HasNumbers}
 use Rattle.wp_args.specs.declared.choice.Action.{Action}
 use Rattle.wp_args.specs.declared.choice.Action.TheVariants as action
 use Rattle.wp_args.specs.declared.choice.Choice.{Choice}
-use Rattle.wp_transcript.specs.declared.status.Status.{Status}
-use Rattle.wp_transcript.specs.declared.status.Status.TheVariants as status
+use Rattle.wp_status.specs.declared.status.Status.{Status}
+use Rattle.wp_status.specs.declared.status.Status.TheVariants as status
 use Rattle.wp_run.specs.Run.{Call, CanMake, IsChoiceOf, IsChosen, IsUnread, IsReadAs, IsServed, Ends}
 use Rattle.wp_threads.specs.Seating.{IsFirstClient}
 use Rattle.wp_run.specs.Headline.{Serving, Headline}
@@ -42,9 +42,10 @@ use Rattle.wp_run.specs.Met.{SharesWords}
 use Rattle.wp_run.specs.Base.{AreLimits, IsBaseStore}
 use Rattle.wp_run.specs.Serving.{nothing_more, exactly, AnswersScript, LacksMemory, faults_of, Serves, ServesExactly, HasEnded}
 use Rattle.wp_run.specs.Unopened.{IsUnopened}
-use Rattle.wp_transcript.specs.Status.{IsStatusOf}
+use Rattle.wp_status.specs.Status.{IsStatusOf}
 use Rattle.wp_transcript.specs.Transcript.{text_of}
-use Rattle.wp_transcript.specs.Written.{are_whole, one_fails, IsWritten}
+use Rattle.wp_transcript.specs.Answers.{are_whole, one_fails}
+use Rattle.wp_status.specs.Written.{IsWritten}
 use Rattle.wp_run.specs.Use.{SinkUse, AreUncalled, before, after}
 use Rattle.wp_threads.proofs.Counted.{none_or_some}
 use Rattle.wp_run.proofs.Stored.{at_most_one, was_opened, crash_leaves, is_stored}

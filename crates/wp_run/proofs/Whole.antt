@@ -14,7 +14,7 @@ use Rattle.wp_replies.specs.Explains.{all_replies}
 use Rattle.wp_threads.specs.Explained.{AreWholeParts}
 use Rattle.wp_threads.specs.Over.{Answered, replies_of}
 use Rattle.wp_threads.proofs.Lists.{count_any}
-use Rattle.wp_transcript.specs.Written.{are_whole, one_fails}
+use Rattle.wp_transcript.specs.Answers.{are_whole, one_fails}
 
 -- each part has one session
 pub as_many : (script run : List Part) (answered : List Answered) → AreWholeParts script run answered → length script ≡ length answered

@@ -11,8 +11,8 @@ use Rattle.wp_args.specs.declared.choice.Action.TheVariants as action
 use Rattle.wp_args.specs.declared.choice.Choice.{Choice}
 use Rattle.wp_args.specs.Choice.{IsChoice, IsTaken}
 use Rattle.wp_outside.specs.Whole.{AreBytesRead}
-use Rattle.wp_transcript.specs.declared.status.Status.{Status}
-use Rattle.wp_transcript.specs.declared.status.Status.TheVariants as status
+use Rattle.wp_status.specs.declared.status.Status.{Status}
+use Rattle.wp_status.specs.declared.status.Status.TheVariants as status
 use Rattle.wp_text.specs.declared.read.TheConstants.{MOST_BYTES}
 use Rattle.wp_run.specs.Headline.{Serving}
 use Rattle.wp_run.specs.Use.{DisksUse, SourceUse, SinkUse, AreUncalled}

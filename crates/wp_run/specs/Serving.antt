@@ -4,17 +4,18 @@ use Rattle.std.specs.Io.KnownBytes.{Appends}
 use Rattle.wp_model.specs.declared.entry.Entry.{Entry}
 use Rattle.wp_outside.specs.Faults.{Rose}
 use Rattle.wp_outside.specs.Sink.{AppendsPrefix}
-use Rattle.wp_open.specs.declared.opening.OpenError.TheVariants as open_error
+use Rattle.wp_refused.specs.declared.error.OpenError.TheVariants as open_error
 use Rattle.wp_args.specs.declared.choice.Action.{Action}
 use Rattle.wp_text.specs.declared.script.Part.{Part}
 use Rattle.wp_replies.specs.Exact.{IsExact}
 use Rattle.wp_replies.specs.Explains.{Faults, AreFirstParts}
 use Rattle.wp_replies.specs.Kind.{is_fault, is_tables_fault}
 use Rattle.wp_threads.specs.Over.{Answered, replies_of}
-use Rattle.wp_transcript.specs.declared.status.Status.{Status}
-use Rattle.wp_transcript.specs.declared.status.Status.TheVariants as status
+use Rattle.wp_status.specs.declared.status.Status.{Status}
+use Rattle.wp_status.specs.declared.status.Status.TheVariants as status
 use Rattle.wp_transcript.specs.Transcript.{text_of}
-use Rattle.wp_transcript.specs.Written.{are_whole, one_fails, IsWritten}
+use Rattle.wp_transcript.specs.Answers.{are_whole, one_fails}
+use Rattle.wp_status.specs.Written.{IsWritten}
 use Rattle.wp_run.specs.Headline.{Serving, Headline}
 use Rattle.wp_run.specs.Unopened.{IsUnopened}
 use Rattle.wp_run.specs.Use.{SinkUse}

@@ -1,6 +1,6 @@
 -- How far an opening came that was refused, and why.
-use Rattle.wp_open.specs.declared.opening.OpenError.{OpenError}
-use Rattle.wp_open.specs.Refused.{IsRefusedFrom}
+use Rattle.wp_refused.specs.declared.error.OpenError.{OpenError}
+use Rattle.wp_refused.specs.Refused.{IsRefusedFrom}
 use Rattle.wp_run.specs.Headline.{Serving}
 use Rattle.wp_run.specs.Use.{before, after}
 

@@ -6,7 +6,7 @@ use Rattle.wp_gatelog.specs.Durability.{LosesNoRecord}
 use Rattle.wp_manifest.specs.Spelling as edits
 use Rattle.wp_tableset.specs.Device.{KeepsFronts}
 use Rattle.wp_shared.specs.Devices.{DevicesLeft}
-pub use Rattle.wp_transcript.specs.Written.{SinkUse, sink_use}
+pub use Rattle.wp_status.specs.Written.{SinkUse, sink_use}
 
 pub record DiskUse : Type 1 where
   pub before : List Moment

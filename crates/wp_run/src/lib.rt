@@ -9,5 +9,5 @@ mod serve;
 mod top_call;
 
 pub use top_call::{Ended, run};
-pub use wp_open::Bad;
-pub use wp_transcript::Status;
+pub use wp_refused::Bad;
+pub use wp_status::Status;

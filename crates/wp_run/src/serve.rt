@@ -6,19 +6,20 @@ ghost use Rattle.wp_outside.specs.Disk.{ReadsItself};
 ghost use Rattle.wp_run.specs.Base.{IsBaseStore};
 ghost use Rattle.wp_threads.specs.Seating.{IsSeating};
 ghost use Rattle.wp_run.specs.Serving.{ServesExactly, HasEnded};
-ghost use Rattle.wp_transcript.specs.Status.{IsStatusOf, IsBeforeSink, stage_of};
+ghost use Rattle.wp_status.specs.Status.{IsStatusOf, IsBeforeSink, stage_of};
 ghost use Rattle.wp_run.specs.Use.{IsDurable, disks_use, sink_use};
 
 use std::alloc::Global;
 use std::sync::Wait;
 use std::thread::Threads;
 use wp_args::{Action, Choice};
-use wp_open::{OpenError, OpenRefused};
 use wp_opened::open_shared;
 use wp_outside::{Disk, Disks, Gate, Sink};
+use wp_refused::{OpenError, OpenRefused};
+use wp_status::{Status, write_text};
 use wp_text::Part;
 use wp_threads::{ScriptRun, Seating, run_script};
-use wp_transcript::{Status, log_failed, tables_failed, text_of, write_text};
+use wp_transcript::{log_failed, tables_failed, text_of};
 
 /// How a script was served, and the store's devices.
 pub(crate) struct Served<D> {

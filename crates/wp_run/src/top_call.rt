@@ -4,7 +4,7 @@ ghost use Rattle.wp_run.specs.Limits.{LimitsAre};
 ghost use Rattle.wp_run.specs.Run.{call_of, CanMake, Ends, IsChoiceOf, IsChosen, IsReadAs};
 ghost use Rattle.wp_run.specs.Serving.{Serves, ServesExactly};
 ghost use Rattle.wp_run.specs.Use.{IsDurable, disks_use, source_use, sink_use};
-ghost use Rattle.wp_transcript.specs.Status.{LeavesUncalled, stage_of};
+ghost use Rattle.wp_status.specs.Status.{LeavesUncalled, stage_of};
 
 use crate::serve::{Served, serve};
 use std::alloc::{AllocError, Global};
@@ -13,9 +13,9 @@ use std::thread::Threads;
 use wp_args::{Action, Choice, choice_of, words_choose_once};
 use wp_make::make_script;
 use wp_outside::{Disk, Disks, Gate, ReadError, Sink, Source, read_all};
+use wp_status::Status;
 use wp_text::{MOST_BYTES, Script, ScriptError, read_script};
 use wp_threads::Seating;
-use wp_transcript::Status;
 
 /// How a call ended, and the devices that it was handed.
 #[derive(Drop)]

@@ -1,6 +1,7 @@
 -- The transcript's lines, one more at a time.
 use Rattle.std.proofs.Common.{◌≡◌, ℕ, suc, ◌+◌, ◌<◌, List, [], ◌∷◌, ◌++◌, length, get_or, take, sym, ap, ◌∙◌, append_assoc, add-zero, arith}
-use Rattle.std.proofs.lemmas.List.{take_more, append-nil, map_push, length-map, length-take}
+use Rattle.std.specs.List.{flat_map}
+use Rattle.std.proofs.lemmas.List.{flat_map_more, take_more, append-nil, map_push, length-map, length-take}
 use Rattle.wp_model.specs.declared.entry.Entry.{Entry}
 use Rattle.wp_text.specs.declared.script.Part.{Part}
 use Rattle.wp_text.specs.declared.reply.Reply.{Reply}
@@ -11,6 +12,11 @@ use Rattle.wp_transcript.specs.Transcript.{client_text, client_lines}
 -- one more piece after what was appended so far
 pub appends : (start front mid piece now whole : List ℕ) → mid ≡ start ++ front → now ≡ mid ++ piece → whole ≡ front ++ piece → now ≡ start ++ whole
 appends start front mid piece now whole so_far one is = one ∙ ap (λ (xs : List ℕ). xs ++ piece) so_far ∙ append_assoc start front piece ∙ ap (λ (xs : List ℕ). start ++ xs) (sym is)
+
+-- one more line after those of a list so far
+pub lines_more : {X : Type 0} (f : X → List ℕ) (start now new : List ℕ) (xs : List X) (i : ℕ) (x : X) → i < length xs → x ≡ get_or xs i x → now ≡ start ++ flat_map f (take i xs) → new ≡ now ++ f x → new ≡ start ++ flat_map f (take (i + 1) xs)
+lines_more f start now new xs i x lt is so_far one =
+    one ∙ ap (λ (ys : List ℕ). ys ++ f x) so_far ∙ flat_map_more f start (take i xs) x ∙ ap (λ ys. start ++ flat_map f ys) (sym (take_more xs i x lt ∙ ap (λ y. take i xs ++ y ∷ []) (sym is)))
 
 entry_lines-push : (n : ℕ) (front : List Entry) (e : Entry) → entry_lines n (front ++ e ∷ []) ≡ entry_lines n front ++ entry_line (n + length front) e
 entry_lines-push n [] e = append-nil (entry_line n e) ∙ ap (λ (k : ℕ). entry_line k e) (sym (add-zero n))

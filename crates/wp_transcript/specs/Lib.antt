@@ -1,3 +1,2 @@
 pub mod Transcript
-pub mod Status
-pub mod Written
+pub mod Answers

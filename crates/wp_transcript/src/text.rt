@@ -1,14 +1,12 @@
 //! The text of what the clients were answered: the transcript, or the summary of a made script.
-ghost use Rattle.std.specs.Prelude.{◌≡◌, ◌≤◌, true, length, map, IfOk, OnErr};
+ghost use Rattle.std.specs.Prelude.{◌≡◌, true, length, map, IfOk};
 ghost use Rattle.std.specs.List.{list_any};
 ghost use Rattle.wp_text.specs.Answered.{replies_of};
 ghost use Rattle.wp_make.specs.Summary.{summary_of};
 ghost use Rattle.wp_replies.specs.Kind.{is_fault, is_tables_fault};
-ghost use Rattle.wp_transcript.specs.Status.{IsBeforeSink, stage_of};
+ghost use Rattle.wp_transcript.specs.Answers.{are_whole, one_fails};
 ghost use Rattle.wp_transcript.specs.Transcript.{text_of};
-ghost use Rattle.wp_transcript.specs.Written.{are_whole, one_fails, sink_use, IsWritten};
 
-use crate::status::Status;
 use crate::transcript::transcript;
 use std::alloc::{AllocError, Global};
 use std::collections::BTreeMap;
@@ -16,7 +14,6 @@ use wp_args::Action;
 use wp_ledger::History;
 use wp_make::summary;
 use wp_model::{Key, Value};
-use wp_outside::{Failed, Sink, write_all};
 use wp_text::{Answered, Part, Reply};
 
 /// Whether no session broke off.
@@ -115,29 +112,5 @@ pub fn text_of(
             lines,
         } => summary_of(alloc, seed, clients, lines, answers, history, store),
         Action::Run | Action::Show => transcript(alloc, parts, answers, history, store),
-    }
-}
-
-/// Writes the text, where there is one. The status says whether it was written whole, and else what failed before: the log, or
-/// the tables.
-pub fn write_text<K: Sink>(
-    sink: &mut K,
-    text: Result<Vec<u8>, AllocError>,
-    stopped: bool,
-    halted: bool,
-) -> Status
-    ensures written { IfOk text (λ text. IsWritten stopped halted (sink_use K.contents K.faults sink.old sink.new) text.items result) }
-    ensures unwritten { OnErr text (result ≡ Status.Memory) }
-    ensures silent { IsBeforeSink (stage_of result) → sink.new ≡ sink.old }
-    ensures later { K.faults sink.old ≤ K.faults sink.new }
-{
-    let Ok(text) = text else {
-        return Status::Memory;
-    };
-    match write_all(sink, &text) {
-        Ok(()) if stopped => Status::LogFault,
-        Ok(()) if halted => Status::TableFault,
-        Ok(()) => Status::Ok,
-        Err(Failed) => Status::SinkFault,
     }
 }

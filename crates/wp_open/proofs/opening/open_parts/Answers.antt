@@ -10,12 +10,12 @@ use Rattle.wp_manifest.specs.Spelling.{last_edit}
 use Rattle.wp_table.specs.File.{HasTables}
 use Rattle.wp_table.specs.Table.{IsTable}
 use Rattle.wp_devices.specs.Devices.{DevicesLeft, devices_of}
-use Rattle.wp_open.specs.Parts.{IsStoreOf}
-use Rattle.wp_open.specs.Refused.{AreLeft, WereRead}
-use Rattle.wp_open.specs.Tables.{IsStoreCause}
-use Rattle.wp_open.proofs.BothOpen.{edit_refused, ids_refused, logs_left, logs_read, other_id, same_stored}
-use Rattle.wp_open.proofs.Opened.{opens_to}
-use Rattle.wp_open.proofs.Stages.{edits_read, kept_tables}
+use Rattle.wp_refused.specs.Parts.{IsStoreOf}
+use Rattle.wp_refused.specs.Refused.{AreLeft, WereRead}
+use Rattle.wp_refused.specs.Tables.{IsStoreCause}
+use Rattle.wp_refused.proofs.BothOpen.{edit_refused, ids_refused, logs_left, logs_read, other_id, same_stored}
+use Rattle.wp_refused.proofs.Opened.{opens_to}
+use Rattle.wp_refused.proofs.Stages.{edits_read, kept_tables}
 use Rattle.wp_open.proofs.opening.open_parts.Goals as goal
 
 -- ---- the ids differ

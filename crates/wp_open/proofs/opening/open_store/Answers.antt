@@ -1,17 +1,21 @@
 use Rattle.std.proofs.Common.{ℕ, List, map, refl, sym, ap, ◌∙◌, subst, arith}
 use Rattle.std.specs.Arc.{arc_value}
+use Rattle.std.specs.List.{AllByRecursion}
 use Rattle.std.proofs.lemmas.Result.{err_from_is_err_and}
 use Rattle.wp_model.specs.declared.version.Version.{Version}
 use Rattle.wp_model.specs.Flushed.{later_versions}
+use Rattle.wp_outside.specs.Disk.{IfKnown}
 use Rattle.wp_cuts.specs.Cut.{Cut}
 use Rattle.wp_cuts.specs.LegalCut.{AreBelow}
 use Rattle.wp_ledger.specs.Outline.{cut_in}
 use Rattle.wp_manifest.specs.Edit.{Edit}
 use Rattle.wp_merge.specs.Merge.{sorted_of}
+use Rattle.wp_table.specs.File.{HasTables}
+use Rattle.wp_table.specs.Table.{IsTable}
 use Rattle.wp_devices.specs.Opens.{AreCovering, all_in}
-use Rattle.wp_open.specs.Tables.{not_covered}
-use Rattle.wp_open.proofs.Stages.{not_covering, were_tables}
-use Rattle.wp_open.proofs.Within.{apart_cause, apart_left, end_over, full_moved, history_cause, history_left, undos_over}
+use Rattle.wp_refused.specs.Tables.{not_covered, of_tables}
+use Rattle.wp_refused.proofs.Stages.{not_covering, were_tables}
+use Rattle.wp_open.proofs.Within.{apart_cause, apart_left, end_over, full_moved, history_cause, history_left, tables_before, tables_left, undos_over}
 use Rattle.wp_open.proofs.opening.open_store.Goals as goal
 
 -- ---- the base is ahead, or the log behind
@@ -21,6 +25,18 @@ returns-in-Err-clause-cause g c = apart_cause c.args.id (cut_in c.args.outline) 
 
 pub returns-in-Err-clause-left : goal.returns-in-Err-clause-left
 returns-in-Err-clause-left g c = apart_left (cut_in c.args.outline) c.args.edit.now _ _ _ _ c.in-Err.ensures.err refl
+
+-- ---- the tables are refused
+
+pub returns-in_err-parts-clause-cause : goal.returns-in_err-parts-clause-cause
+returns-in_err-parts-clause-cause g c =
+    let p = err_from_is_err_and c.from_residual.result c.from_residual.ensures.1 in
+    rw (p.1, p.2) (of_tables c.in-Ok.ensures.ok (tables_before c.args.id c.args.edit.now _ _ _ _ _ c.in_err-parts.field-0.0 c.in-Ok-sync.ensures.cause.later c.in-Ok-sync.ensures.done c.in_err-parts.ensures.cause))
+
+pub returns-in_err-parts-clause-left : goal.returns-in_err-parts-clause-left
+returns-in_err-parts-clause-left g c =
+    let p = err_from_is_err_and c.from_residual.result c.from_residual.ensures.1 in
+    rw (p.1, p.2) (tables_left c.args.id c.args.edit.now _ _ _ _ _ c.in_err-parts.field-0.0 c.in_err-parts.ensures.cause (c.own_tables.ensures.unchanged ∙ c.in-Ok-sync.ensures.done))
 
 -- ---- no history stands for the log and the tables
 
@@ -36,6 +52,24 @@ pub returns-in_err-history-clause-left : goal.returns-in_err-history-clause-left
 returns-in_err-history-clause-left g c =
     let p = err_from_is_err_and c.from_residual-in_err-history.result c.from_residual-in_err-history.ensures.1 in
     rw (p.1, p.2) (history_left (cut_in c.args.outline) (map arc_value c.deref.result.now) _ _ _ c.in_err-history.field-0.0 c.in_err-history.ensures.cause (c.own_tables.ensures.unchanged ∙ c.in-Ok-sync.ensures.done))
+
+-- ---- memory is wanting
+
+pub returns-in_err-memory-clause-cause : goal.returns-in_err-memory-clause-cause
+returns-in_err-memory-clause-cause g c =
+    let p = err_from_is_err_and c.from_residual-in_err-memory.result c.from_residual-in_err-memory.ensures.1 in rw (p.1, p.2) (of_tables c.in-Ok.ensures.ok tt)
+
+pub returns-in_err-memory-clause-left : goal.returns-in_err-memory-clause-left
+returns-in_err-memory-clause-left g c =
+    let p = err_from_is_err_and c.from_residual-in_err-memory.result c.from_residual-in_err-memory.ensures.1 in rw (p.1, p.2) (c.own_tables.ensures.unchanged ∙ c.in-Ok-sync.ensures.done)
+
+pub returns-in_err-are_covering-clause-cause : goal.returns-in_err-are_covering-clause-cause
+returns-in_err-are_covering-clause-cause g c =
+    let p = err_from_is_err_and c.from_residual-in_err-are_covering.result c.from_residual-in_err-are_covering.ensures.1 in rw (p.1, p.2) (of_tables c.in-Ok.ensures.ok tt)
+
+pub returns-in_err-are_covering-clause-left : goal.returns-in_err-are_covering-clause-left
+returns-in_err-are_covering-clause-left g c =
+    let p = err_from_is_err_and c.from_residual-in_err-are_covering.result c.from_residual-in_err-are_covering.ensures.1 in rw (p.1, p.2) (c.own_tables.ensures.unchanged ∙ c.in-Ok-sync.ensures.done)
 
 -- ---- what the later entries and the covering ask
 
@@ -103,3 +137,16 @@ returns-clause-store g c =
       memory = c.new-store.ensures.memory ∙ c.in_ok-memory.ensures.memory ∙ ap (λ (n : ℕ). sorted_of (later_versions c.in_ok-history.history.entries n)) flushed_is;
       frozen = c.new-store.ensures.frozen;
     }
+
+pub returns-clause-there : goal.returns-clause-there
+returns-clause-there g c =
+    let edit = c.args.edit.now in
+    let parts = map arc_value c.in_ok-parts.parts.items in
+    let read = were_tables c.args.id edit (g.D.Peek.moments c.args.tables.now) (g.D.Peek.moments c.sync.new.self) parts c.in-Ok-sync.ensures.done c.in_ok-parts.ensures.as_many c.in_ok-parts.ensures.are c.in_ok-parts.ensures.found in
+    subst (λ (ps : List (List Version)). IfKnown (g.D.Peek.moments c.args.tables.now) (λ m. HasTables c.args.id edit.flushed m.reads edit.tables ps)) (sym c.new-store.ensures.tables) read.known
+
+pub returns-clause-are : goal.returns-clause-are
+returns-clause-are g c = subst (λ (ps : List (List Version)). AllByRecursion (IsTable c.args.id c.args.edit.now.flushed) ps) (sym c.new-store.ensures.tables) c.in_ok-parts.ensures.are
+
+pub returns-clause-synced : goal.returns-clause-synced
+returns-clause-synced g c = c.own_tables.ensures.unchanged ∙ c.in-Ok-sync.ensures.done

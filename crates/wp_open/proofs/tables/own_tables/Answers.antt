@@ -4,8 +4,8 @@ use Rattle.std.proofs.lemmas.Result.{IfOk-weaker, IfErr-weaker}
 use Rattle.wp_outside.specs.Disk.{IfKnown}
 use Rattle.wp_outside.specs.Faults.{Rose}
 use Rattle.wp_table.specs.File.{HasTables}
-use Rattle.wp_open.specs.Shown.{WereShown}
-use Rattle.wp_open.specs.Tables.{IsTablesCause, WasFirstWrong, AreTablesCause}
+use Rattle.wp_refused.specs.Shown.{WereShown}
+use Rattle.wp_refused.specs.Tables.{IsTablesCause, WasFirstWrong, AreTablesCause}
 use Rattle.wp_open.proofs.Reading.{tables_cause_alone}
 use Rattle.wp_open.proofs.Shown.{shown_alone}
 use Rattle.wp_open.proofs.tables.own_tables.Goals as goal

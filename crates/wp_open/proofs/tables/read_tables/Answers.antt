@@ -9,7 +9,7 @@ use Rattle.wp_model.specs.declared.version.Version.{Version}
 use Rattle.wp_manifest.specs.Edit.{Edit}
 use Rattle.wp_table.specs.File.{HasTable}
 use Rattle.wp_table.specs.Table.{IsTable}
-use Rattle.wp_open.specs.Tables.{IsTableCause}
+use Rattle.wp_refused.specs.Tables.{IsTableCause}
 use Rattle.wp_open.proofs.Reading.{tables_cause, at_place, tables_more, all_more}
 use Rattle.wp_open.proofs.Shown.{shown_later, sometime_later, sometime_now}
 use Rattle.wp_open.proofs.tables.read_tables.Goals as goal

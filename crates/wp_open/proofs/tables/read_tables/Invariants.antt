@@ -3,7 +3,7 @@ use Rattle.std.specs.Arc.{arc_value}
 use Rattle.std.specs.List.{AllByRecursion}
 use Rattle.wp_outside.specs.Disk.{Looks}
 use Rattle.wp_table.specs.Table.{IsTable}
-use Rattle.wp_open.specs.Shown.{Sometime, WereShown}
+use Rattle.wp_refused.specs.Shown.{Sometime, WereShown}
 use Rattle.wp_open.proofs.tables.read_tables.Given as goal
 
 abbrev pub invariant-loop-placed : goal.invariant-loop-placed

@@ -2,7 +2,7 @@ use Rattle.wp_opened.proofs.OpeningLemmas.{undecided_rise}
 use Rattle.wp_opened.proofs.filling.room_for.Goals as goal
 
 pub delaying-requires : goal.delaying-requires
-delaying-requires g c = rw c.undecided.ensures (undecided_rise c.args.parts.now.history.entries)
+delaying-requires g c = rw c.undecided.ensures (undecided_rise c.args.history.now.entries)
 
 pub returns-clause-prepared : goal.returns-clause-prepared
 returns-clause-prepared g c =

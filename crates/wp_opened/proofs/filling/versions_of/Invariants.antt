@@ -3,4 +3,4 @@ use Rattle.std.specs.Arc.{arc_value}
 use Rattle.wp_opened.proofs.filling.versions_of.Given as goal
 
 abbrev pub invariant-loop-table : goal.invariant-loop-table
-invariant-loop-table l = l.versions.items ≡ map arc_value (take l.table-index l.tables)
+invariant-loop-table l = l.versions.items ≡ map arc_value (take l.table-index l.table-items)

@@ -1,6 +1,6 @@
 use Rattle.std.proofs.Common.{List, sym, subst}
 use Rattle.wp_model.specs.declared.entry.Entry.{Entry}
-use Rattle.wp_open.specs.Parts.{PartsOpened, ArePartsOf}
+use Rattle.wp_refused.specs.Parts.{PartsOpened, ArePartsOf}
 use Rattle.wp_parts.specs.Devices.{DevicesLeft, devices_of}
 use Rattle.wp_opened.proofs.Opened.{refused_late}
 use Rattle.wp_opened.proofs.opening.open_shared.Goals as goal

@@ -1,5 +1,6 @@
-use Rattle.std.proofs.Common.{refl, ap}
+use Rattle.std.proofs.Common.{refl, ap, ◌∙◌}
 use Rattle.wp_ledger.specs.History.{RoomyHistory}
+use Rattle.wp_parts.specs.Parts.{log_first, set_first}
 use Rattle.wp_opened.proofs.OpeningLemmas.{has_cut}
 use Rattle.wp_opened.proofs.Opened.{one_store, segment_named, log_there, set_there, last_edit_is, last_guarded, first_guarded, devices_back}
 use Rattle.wp_opened.proofs.opening.share.Goals as goal
@@ -26,3 +27,9 @@ returns-in-Err-new-clause-refused g c =
     devices_back _ _ _ _ _ c.in-Ok.ensures.slots c.in-Err-new.slots.items c.in-Err-new.ensures.refused c.remove.new.self.items c.remove.result c.remove-in-Err-new.result c.out_of.result c.out_of-in-Err-new.result
     c.into_inner-log.result c.into_inner-tables.result _ c.remove.ensures.value c.out_of.ensures.exact c.remove.ensures.items c.remove-in-Err-new.ensures.value c.out_of-in-Err-new.ensures.exact c.into_inner-log.ensures c.into_inner-tables.ensures
     c.take_apart.ensures.disks
+
+pub returns-in-Ok-new-clause-log : goal.returns-in-Ok-new-clause-log
+returns-in-Ok-new-clause-log g c = ap log_first c.in-Ok-new.ensures.first ∙ log_there _ _ _ _ _ c.in-Ok.ensures.slots
+
+pub returns-in-Ok-new-clause-set : goal.returns-in-Ok-new-clause-set
+returns-in-Ok-new-clause-set g c = ap set_first c.in-Ok-new.ensures.first ∙ set_there _ _ _ _ _ c.in-Ok.ensures.slots

@@ -1,5 +1,0 @@
-use Rattle.wp_open.proofs.Opened.{opens_again}
-use Rattle.wp_open.proofs.laws.opened_parts_open_again.Goals as goal
-
-pub returns : goal.returns
-returns c = opens_again

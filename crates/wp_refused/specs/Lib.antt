@@ -1,0 +1,5 @@
+pub mod Damage
+pub mod Tables
+pub mod Parts
+pub mod Refused
+pub mod Shown

@@ -1,0 +1,25 @@
+-- How the text of a command was written.
+use Rattle.std.specs.Prelude.{◌≡◌, ℕ, Bool, true, false, List, Option}
+use Rattle.std.specs.Io.KnownBytes.{Appends}
+use Rattle.wp_outside.specs.Faults.{Rose}
+use Rattle.wp_outside.specs.Sink.{AppendsPrefix}
+use Rattle.wp_status.specs.declared.status.Status.{Status}
+use Rattle.wp_status.specs.declared.status.Status.TheVariants as status
+
+-- what a call did to the sink
+pub record SinkUse : Type 0 where
+  pub before : Option (List ℕ)  -- the bytes in it, where they are known
+  pub after : Option (List ℕ)
+  pub faults_before : ℕ
+  pub faults_after : ℕ
+
+abbrev pub sink_use : {K : Type 0} → (K → Option (List ℕ)) → (K → ℕ) → (old new : K) → SinkUse
+sink_use contents faults old new = record { before = contents old; after = contents new; faults_before = faults old; faults_after = faults new }
+
+-- how a text was written: whole, with the log failed, the tables alone, or neither; or in part
+abbrev pub IsWritten : (stopped halted : Bool) → SinkUse → List ℕ → Status → Type 0
+IsWritten stopped halted sink text status.Ok = (stopped ≡ false) × (halted ≡ false) × Appends sink.before sink.after text
+IsWritten stopped halted sink text status.LogFault = (stopped ≡ true) × Appends sink.before sink.after text
+IsWritten stopped halted sink text status.TableFault = (stopped ≡ false) × (halted ≡ true) × Appends sink.before sink.after text
+IsWritten stopped halted sink text status.SinkFault = Rose sink.faults_before sink.faults_after × AppendsPrefix sink.before sink.after text
+IsWritten stopped halted sink text other = ⊥
