@@ -1,4 +1,4 @@
-use Rattle.std.proofs.Common.{refl, sym, ap, ◌∙◌, inl, inr}
+use Rattle.std.proofs.Common.{refl, sym, ap, ◌∙◌, inl, inr, true≢false}
 use Rattle.wp_model.specs.declared.version.Version.{Version}
 use Rattle.wp_model.specs.Versions.{version_at}
 use Rattle.wp_cover.specs.Sources.{all_of}
@@ -15,8 +15,8 @@ returns c =
     let found = c.find.ensures ∙ ap (λ (v : Version). version_at (all_of c.args.sources.now) v.key v.number) c.in_ok-copy.ensures in (
       λ yes. inr (sym c.entry_version-due.ensures ∙ c.are_same-2.ensures.0 yes ∙ found),
       λ part. elim part [
-        | inl (inl settled) ↦ let no = sym c.is_settled.ensures.value ∙ c.if-is_settled.false in absurd cc
-        | inl (inr own) ↦ let same = c.are_same.ensures.1 (c.entry_version-due.ensures ∙ own) in absurd cc
+        | inl (inl settled) ↦ absurd (true≢false (sym settled ∙ sym c.is_settled.ensures.value ∙ c.if-is_settled.false))
+        | inl (inr own) ↦ absurd (true≢false (sym (c.are_same.ensures.1 (c.entry_version-due.ensures ∙ own)) ∙ c.if-are_same.false))
         | inr same ↦ c.are_same-2.ensures.1 (c.entry_version-due.ensures ∙ same ∙ sym found)
       ],
     )
