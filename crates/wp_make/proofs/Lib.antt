@@ -1,3 +1,4 @@
 pub mod WordLemmas
 pub mod GeneratorLemmas
 pub mod Apart
+pub mod KeyLemmas

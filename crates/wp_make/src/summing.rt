@@ -1,5 +1,6 @@
 ghost use Rattle.std.specs.Prelude.{◌≡◌, ◌++◌, map, IfOk, OnOk};
 ghost use Rattle.wp_make.specs.Summary as text;
+ghost use Rattle.wp_make.specs.Totals.{count_of, store_of};
 
 use crate::kind::{Kind, count_of};
 use crate::sizes::{Sizes, store_of};
@@ -22,9 +23,17 @@ fn made_line(
     out.extend_from_slice(line.as_bytes())
 }
 
-fn count_line(alloc: Global, out: &mut Vec<u8>, counted: &str, n: u64) -> Result<(), AllocError>
-    ensures { OnOk result (out.new.items ≡ out.old.items ++ text.count_line counted.now n) }
+/// Appends how many of the clients' replies are of the kind, behind its name.
+fn count_line(
+    alloc: Global,
+    out: &mut Vec<u8>,
+    counted: &str,
+    kind: Kind,
+    sessions: &[&[Reply]],
+) -> Result<(), AllocError>
+    ensures { OnOk result (out.new.items ≡ out.old.items ++ text.count_line counted.now (count_of kind (map (λ replies. replies.now) sessions.now))) }
 {
+    let n = count_of(kind, sessions)?;
     let line = format!(in alloc; "{counted} {n}\n")?;
     out.extend_from_slice(line.as_bytes())
 }
@@ -32,22 +41,22 @@ fn count_line(alloc: Global, out: &mut Vec<u8>, counted: &str, n: u64) -> Result
 fn count_lines(alloc: Global, out: &mut Vec<u8>, sessions: &[&[Reply]]) -> Result<(), AllocError>
     ensures { OnOk result (out.new.items ≡ out.old.items ++ text.count_lines (map (λ replies. replies.now) sessions.now)) }
 {
-    count_line(alloc, out, "puts", count_of(Kind::Puts, sessions)?)?;
-    count_line(alloc, out, "commits", count_of(Kind::Commits, sessions)?)?;
-    count_line(
-        alloc,
-        out,
-        "rollbacks",
-        count_of(Kind::RollBacks, sessions)?,
-    )?;
-    count_line(alloc, out, "gets", count_of(Kind::Gets, sessions)?)?;
-    count_line(alloc, out, "missing", count_of(Kind::Missing, sessions)?)
+    count_line(alloc, out, "puts", Kind::Puts, sessions)?;
+    count_line(alloc, out, "commits", Kind::Commits, sessions)?;
+    count_line(alloc, out, "rollbacks", Kind::RollBacks, sessions)?;
+    count_line(alloc, out, "gets", Kind::Gets, sessions)?;
+    count_line(alloc, out, "missing", Kind::Missing, sessions)
 }
 
-fn store_line(alloc: Global, out: &mut Vec<u8>, sizes: Sizes) -> Result<(), AllocError>
-    ensures { OnOk result (out.new.items ≡ out.old.items ++ text.store_line sizes) }
+fn store_line(
+    alloc: Global,
+    out: &mut Vec<u8>,
+    history: &History,
+    store: &BTreeMap<Key, Value>,
+) -> Result<(), AllocError>
+    ensures { OnOk result (out.new.items ≡ out.old.items ++ text.store_line (store_of history.now.base store.now.entries history.now.entries)) }
 {
-    let Sizes { keys, bytes } = sizes;
+    let Sizes { keys, bytes } = store_of(alloc, history, store)?;
     let line = format!(in alloc; "store {keys} {bytes}\n")?;
     out.extend_from_slice(line.as_bytes())
 }
@@ -70,6 +79,6 @@ pub fn summary(
     let undecided = history.undecided().len() as u64;
     end_line(&mut out, history.published(), undecided)?;
     count_lines(alloc, &mut out, sessions)?;
-    store_line(alloc, &mut out, store_of(alloc, history, store)?)?;
+    store_line(alloc, &mut out, history, store)?;
     Ok(out)
 }
