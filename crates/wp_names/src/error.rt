@@ -5,36 +5,27 @@ use std::alloc::AllocError;
 use wp_model::{Holder, Name, Seq};
 
 /// Why a call on a transaction was refused.
-#[derive(Debug, Drop, thiserror::Error)]
+#[derive(Drop)]
 pub enum TxnError {
-    #[error("out of memory")]
+    /// Memory was wanting.
     Memory,
     /// The name is live.
-    #[error("taken")]
     Taken(Name),
     /// This one holds the key.
-    #[error("busy")]
     Busy(Holder),
     /// 64 keys are changed already, and this one is none of them.
-    #[error("toomany")]
     TooMany,
     /// The board has no such label.
-    #[error("silent")]
     Silent,
     /// The name is not live; `at` is the number published then.
-    #[error("unknown @{at}")]
     Unknown { name: Name, at: Seq },
     /// A client has the transaction.
-    #[error("inuse")]
     InUse(Name),
     /// The next numbers would be above the limit, the lesser of the store's and the last number of the log's version.
-    #[error("full {published} {limit}")]
     NumbersFull { published: Seq, limit: Seq },
     /// The log's device failed.
-    #[error("fault log")]
     LogFault,
     /// A log call failed before, when this number was published.
-    #[error("stopped {0}")]
     Stopped(Seq),
 }
 

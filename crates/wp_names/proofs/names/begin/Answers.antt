@@ -3,7 +3,7 @@ use Rattle.std.specs.Prelude.{Result}
 use Rattle.std.specs.FinMap as finite
 use Rattle.std.proofs.lemmas.Result.{err_from_is_err_and}
 use Rattle.wp_model.specs.declared.change.Change.{Change}
-use Rattle.wp_shared.proofs.Onward.{holds_alone}
+use Rattle.wp_shared.proofs.Onward.{continues_none, holds_alone}
 use Rattle.wp_names.specs.declared.error.TxnError.{TxnError}
 use Rattle.wp_names.specs.Calls.{Begins}
 use Rattle.wp_names.specs.Txn.{OpenState}
@@ -27,3 +27,13 @@ returns g c =
     let b = begun z old t _ k c.args.name _ c.give_turn.new.seat claimed.1 (c.give_turn.ensures [] [] c.claim-outcome.ensures.holds) in
     let begun_with : List Change → OpenState = λ batch. record { name = c.args.name; batch = batch } in
     (ap begun_with c.new.ensures, b.0, b.1, not_live z old _ t c.args.name k claimed.2, locks_found z old _ t (λ l. finite.get l.names c.args.name ≡ None) k claimed.2)
+
+pub returns-in_err-claimed : goal.returns-in_err-claimed
+returns-in_err-claimed g c =
+    let p = err_from_is_err_and c.from_residual.result c.from_residual.ensures.1 in
+    subst (λ (r : Result OpenState TxnError). Begins c.args.store.now c.args.seat.now c.args.name r c.args.seat.now) (sym (p.1 ∙ ap Err p.2)) (continues_none c.args.store.now c.args.seat.now c.requires)
+
+pub returns-in_err-client : goal.returns-in_err-client
+returns-in_err-client g c =
+    let p = err_from_is_err_and c.from_residual-in_err-client.result c.from_residual-in_err-client.ensures.1 in
+    subst (λ (r : Result OpenState TxnError). Begins c.args.store.now c.args.seat.now c.args.name r c.args.seat.now) (sym (p.1 ∙ ap Err p.2)) (continues_none c.args.store.now c.args.seat.now c.requires)

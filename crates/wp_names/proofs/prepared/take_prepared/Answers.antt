@@ -5,7 +5,7 @@ use Rattle.wp_model.specs.declared.change.Change.{Change}
 use Rattle.wp_model.specs.declared.entry.Entry.{Entry}
 use Rattle.wp_core.specs.Tables.{writes}
 use Rattle.wp_shared.specs.Log.{LogState}
-use Rattle.wp_shared.proofs.Onward.{holds_alone, holds_two, holds_next}
+use Rattle.wp_shared.proofs.Onward.{continues_none, holds_alone, holds_two, holds_next}
 use Rattle.wp_names.specs.declared.error.TxnError.{TxnError}
 use Rattle.wp_names.specs.Calls.{Takes, TakesPrepared}
 use Rattle.wp_names.specs.Txn.{PreparedState}
@@ -68,3 +68,18 @@ returns g c =
     (subst (λ (o : Option (ℕ × List Change)). IsPrepareOf d.history name o) c.in-Some.is found) in
     let under : List ℕ → PreparedState = λ n. record { name = n; number = c.in-Some.number; batch = c.in-Some.batch } in
     subst (λ (n : List ℕ). Takes z c.args.seat.now name (under n) c.give_turn-3.new.seat) (sym (c.in_ok-taken.ensures {u = tt})) t
+
+pub returns-in_err-taken : goal.returns-in_err-taken
+returns-in_err-taken g c =
+    let p = err_from_is_err_and c.from_residual.result c.from_residual.ensures.1 in
+    subst (λ (r : Result PreparedState TxnError). TakesPrepared c.args.store.now c.args.seat.now c.args.name.now r c.args.seat.now) (sym (p.1 ∙ ap Err p.2)) (continues_none c.args.store.now c.args.seat.now c.requires)
+
+pub returns-in_err-asked : goal.returns-in_err-asked
+returns-in_err-asked g c =
+    let p = err_from_is_err_and c.from_residual-in_err-asked.result c.from_residual-in_err-asked.ensures.1 in
+    subst (λ (r : Result PreparedState TxnError). TakesPrepared c.args.store.now c.args.seat.now c.args.name.now r c.args.seat.now) (sym (p.1 ∙ ap Err p.2)) (continues_none c.args.store.now c.args.seat.now c.requires)
+
+pub returns-in_err-client : goal.returns-in_err-client
+returns-in_err-client g c =
+    let p = err_from_is_err_and c.from_residual-in_err-client.result c.from_residual-in_err-client.ensures.1 in
+    subst (λ (r : Result PreparedState TxnError). TakesPrepared c.args.store.now c.args.seat.now c.args.name.now r c.args.seat.now) (sym (p.1 ∙ ap Err p.2)) (continues_none c.args.store.now c.args.seat.now c.requires)
