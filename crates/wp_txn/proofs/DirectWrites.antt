@@ -42,6 +42,7 @@ use Rattle.wp_shared.proofs.Onward.{holds_alone}
 use Rattle.wp_names.specs.declared.error.TxnError.{TxnError}
 use Rattle.wp_names.specs.declared.error.TxnError.TheVariants as why
 use Rattle.wp_names.specs.Actors.{with_direct, ending_direct}
+use Rattle.wp_names.specs.Calls.{Finds}
 use Rattle.wp_txn.specs.Recording.{Records, HasDirect, HoldsDirect, EndsDirect, without_direct}
 use Rattle.wp_names.specs.Turns.{is_of_direct, IsNoDirect, IsWithoutDirect}
 use Rattle.wp_names.specs.Under.{LocksDirect}
@@ -241,6 +242,18 @@ module _ {D : Type 0} (z : SharedState D) (old mid left new : SeatState) (change
   pub device_left : (answer : Result ℕ TxnError) → Records z mid (Write (change ∷ []) ∷ []) (λ m. []) answer left → IfErr answer (λ reason. MayLeaveDevice z (writing_direct key was) old reason new)
   device_left (Ok n) r = tt
   device_left (Err reason) r = left_for reason r.1
+
+-- where the key was not held, nothing was written
+module _ {D : Type 0} (z : SharedState D) (old new : SeatState) (key : List ℕ) where
+  pub not_held : (change : Change) → key ≡ key_of change → (reason : TxnError) → HoldsDirect z old key (Err reason) new → WritesDirect z old change (Err reason) new
+  not_held change is (why.Busy holder) c = subst (λ (k : List ℕ). Finds z old new (Some k) holder) is c.0
+  not_held change is why.Memory c = inl c.0
+  not_held change is other c = absurd c
+
+  pub unheld_left : (found : Participant) (reason : TxnError) → HoldsDirect z old key (Err reason) new → MayLeaveDevice z found old reason new
+  unheld_left found (why.Busy holder) c = inl c.1
+  unheld_left found why.Memory c = inl c.1
+  unheld_left found other c = absurd c
 
 -- behind a record the seat is free, and has the direct write that it had
 pub free_after : {D : Type 0} (z : SharedState D) (mid left : SeatState) (entries : List Entry) (facts : ℕ → List Fact) (answer : Result ℕ TxnError) → Records z mid entries facts answer left → IsFree z.table left
