@@ -1,7 +1,7 @@
 //! Clearing words: the pairs that are there are made ready to go.
 ghost use Rattle.std.specs.Prelude.{◌≡◌, ◌≤◌, ◌<◌, ◌⊎◌, ℕ, suc, true, false, List, [], ◌∷◌, ◌++◌, length, Option, Some, OnOk, OnErr};
 ghost use Rattle.wp_judge.specs.Words.{CommitPair, fits};
-ghost use Rattle.wp_core.specs.Cache.{cache_place, pair_at};
+ghost use Rattle.wp_core.specs.Cache.{pair_at};
 ghost use Rattle.wp_core.specs.Entries.{pairs_of};
 ghost use Rattle.wp_core.specs.Lists.{IsIn};
 ghost use Rattle.wp_core.specs.Tables.{writes, prepared, snapshots};
@@ -11,7 +11,7 @@ ghost use Rattle.wp_commits.specs.Bound.{raised, bound_after, bound_with};
 ghost use Rattle.wp_commits.specs.Cleared.{IsThere, IsWanted, IsCleared, IsUnentered};
 ghost use Rattle.wp_shared.specs.Notes.{is_flag, GoesOn, DelayedFlagTells, OldFlagTells};
 ghost use Rattle.wp_commits.specs.Notes.{is_of_words};
-ghost use Rattle.wp_commits.specs.Ways.{way_of, ways_of, IsReached, Clears, AnyClears, RisesFor, IsClearedFor, AreCleared};
+ghost use Rattle.wp_commits.specs.Ways.{way_of, ways_of, Clears, AnyClears, RisesFor, IsClearedFor, AreCleared};
 ghost use Rattle.wp_commits.specs.declared.way.Way.{Way};
 ghost use Rattle.wp_commits.specs.declared.way.Way.TheVariants.{Delayed};
 
@@ -56,34 +56,6 @@ fn raise_past<D: Disk + Drop>(
     steps::raise(store, seat, log, tables, m);
 }
 
-/// Under the prepared turn: the bound comes to the pair's decision, and where its number is prepared still it becomes a delayed
-/// commit. It takes no memory.
-fn ready_prepared<D: Disk + Drop>(
-    store: &Shared<D>,
-    seat: &mut Seat<D>,
-    log: &Log<D>,
-    tables: &mut Prepared,
-    place: usize,
-    p: Seq,
-    c: Seq,
-)
-    requires seat { (seat.old.table ≡ store.now.table) × (seat.old.knows.live ≡ true) }
-    requires held { seat.old.knows.held ≡ prepared tables.old ∷ writes log.now.table ∷ [] }
-    requires wanted { IsWanted store.now.cells log.now.table place }
-    requires there { IsThere seat.old.knows log.now.table.history place p c }
-    requires flag { DelayedFlagTells seat.old.knows tables.old }
-    ensures seat { GoesOn is_of_words (prepared tables.new ∷ writes log.now.table ∷ []) seat.old.turns seat.old seat.new }
-    ensures flag { DelayedFlagTells seat.new.knows tables.new }
-    ensures bound { (bound : ℕ) (words : List ℕ) → Noted seat.old.knows (words_stay bound words)
-        → Noted seat.new.knows (words_stay (raised store.now.cells (length log.now.table.history) bound c) words) }
-    ensures ready { Noted seat.new.knows (passed place (record { number = p; decision = c })) × Noted seat.new.knows (apart place (record { number = p; decision = c })) }
-{
-    raise_past(store, seat, log, tables, place, p, c);
-    steps::note(store, seat, PairNote::Passed(place, p, c));
-    steps::delay(store, seat, log, tables, p, c);
-    steps::note(store, seat, PairNote::Apart(place, p, c));
-}
-
 /// Under the snapshots turn: the pair's number is kept under each live number that overlaps it.
 fn ready_snaps<D: Disk + Drop>(
     store: &Shared<D>,
@@ -107,7 +79,8 @@ fn ready_snaps<D: Disk + Drop>(
     Ok(())
 }
 
-/// Takes the prepared turn, makes the pair ready under it, and gives it.
+/// Makes the pair ready under the prepared turn: the bound comes to its decision, and where its number is prepared still it becomes a
+/// delayed commit. It takes no memory.
 fn clear_prepared<D: Disk + Drop, R: Wait>(
     store: &Shared<D>,
     rt: &R,
@@ -127,7 +100,10 @@ fn clear_prepared<D: Disk + Drop, R: Wait>(
     ensures ready { Noted seat.new.knows (passed place (record { number = p; decision = c })) × Noted seat.new.knows (apart place (record { number = p; decision = c })) }
 {
     let mut tables = store.take_turn::<Prepared, R>(rt, seat);
-    ready_prepared(store, seat, log, &mut tables, place, p, c);
+    raise_past(store, seat, log, &mut tables, place, p, c);
+    steps::note(store, seat, PairNote::Passed(place, p, c));
+    steps::delay(store, seat, log, &mut tables, p, c);
+    steps::note(store, seat, PairNote::Apart(place, p, c));
     store.give_turn(seat, tables);
 }
 
@@ -289,54 +265,6 @@ fn reach<D: Disk + Drop, R: Wait>(
     store.give_turn(seat, tables);
 }
 
-/// Makes ready what a pair needs that is kept in its word, and takes out of the prepared tables what the bound has passed.
-fn clear_word<D: Disk + Drop, R: Wait>(
-    store: &Shared<D>,
-    rt: &R,
-    seat: &mut Seat<D>,
-    log: &Log<D>,
-    p: Seq,
-) -> Result<(), AllocError>
-    requires seat { (seat.old.table ≡ store.now.table) × (seat.old.knows.live ≡ true) }
-    requires held { seat.old.knows.held ≡ writes log.now.table ∷ [] }
-    requires wanted { IsWanted store.now.cells log.now.table (cache_place store.now.cells p) }
-    requires words { (bound : ℕ) × (words : List ℕ) × Noted seat.old.knows (words_stay bound words) }
-    requires unentered { IsUnentered seat.old.knows store.now.cells log.now.table }
-    ensures seat { GoesOn is_of_words (writes log.now.table ∷ []) seat.old.turns seat.old seat.new }
-    ensures bound { (bound : ℕ) (words : List ℕ) → Noted seat.old.knows (words_stay bound words)
-        → Noted seat.new.knows (words_stay (bound_after store.now.cells (length log.now.table.history) bound (pair_at words (cache_place store.now.cells p))) words) }
-    ensures cleared { OnOk result (IsCleared seat.new.knows (cache_place store.now.cells p)) }
-    ensures waits { OnOk result (Noted seat.new.knows none_waits) }
-{
-    let place = store.place_of(p);
-    clear_place(store, rt, seat, log, place)?;
-    pass(store, rt, seat, log)
-}
-
-/// The same for a pair that is too wide for a word.
-fn clear_wide<D: Disk + Drop, R: Wait>(
-    store: &Shared<D>,
-    rt: &R,
-    seat: &mut Seat<D>,
-    log: &Log<D>,
-    p: Seq,
-    c: Seq,
-) -> Result<(), AllocError>
-    requires seat { (seat.old.table ≡ store.now.table) × (seat.old.knows.live ≡ true) }
-    requires held { seat.old.knows.held ≡ writes log.now.table ∷ [] }
-    requires wanted { IsIn (record { number = p; decision = c }) (pairs_of (suc (length log.now.table.history)) log.now.table.pending) }
-    requires wide { fits store.now.cells (record { number = p; decision = c }) ≡ false }
-    requires words { (bound : ℕ) × (words : List ℕ) × Noted seat.old.knows (words_stay bound words) }
-    ensures seat { GoesOn is_of_words (writes log.now.table ∷ []) seat.old.turns seat.old seat.new }
-    ensures bound { (bound : ℕ) (words : List ℕ) → Noted seat.old.knows (words_stay bound words)
-        → Noted seat.new.knows (words_stay (bound_with store.now.cells (length log.now.table.history) bound words (Delayed p c)) words) }
-    ensures cleared { OnOk result (IsReached seat.new.knows p) }
-    ensures waits { OnOk result (Noted seat.new.knows none_waits) }
-{
-    reach(store, rt, seat, log, p, c);
-    pass(store, rt, seat, log)
-}
-
 /// Makes ready what a pair needs that is kept in this way, and takes out of the prepared tables what the bound has passed.
 fn clear<D: Disk + Drop, R: Wait>(
     store: &Shared<D>,
@@ -359,8 +287,15 @@ fn clear<D: Disk + Drop, R: Wait>(
 {
     match way {
         Way::Undecided => Ok(()),
-        Way::InWord(p, _) => clear_word(store, rt, seat, log, p),
-        Way::Delayed(p, c) => clear_wide(store, rt, seat, log, p, c),
+        Way::InWord(p, _) => {
+            let place = store.place_of(p);
+            clear_place(store, rt, seat, log, place)?;
+            pass(store, rt, seat, log)
+        }
+        Way::Delayed(p, c) => {
+            reach(store, rt, seat, log, p, c);
+            pass(store, rt, seat, log)
+        }
     }
 }
 

@@ -41,28 +41,6 @@ fn pass_all<D: Disk + Drop>(
     Ok(())
 }
 
-/// Under the prepared turn: takes the snapshots turn, takes out what the bound has passed, and gives it.
-fn pass_delayed<D: Disk + Drop, R: Wait>(
-    store: &Shared<D>,
-    rt: &R,
-    seat: &mut Seat<D>,
-    log: &Log<D>,
-    tables: &mut Prepared,
-) -> Result<(), AllocError>
-    requires seat { (seat.old.table ≡ store.now.table) × (seat.old.knows.live ≡ true) }
-    requires held { seat.old.knows.held ≡ prepared tables.old ∷ writes log.now.table ∷ [] }
-    requires words { (bound : ℕ) × (words : List ℕ) × Noted seat.old.knows (words_stay bound words) }
-    requires flag { DelayedFlagTells seat.old.knows tables.old }
-    ensures seat { GoesOn is_flag (prepared tables.new ∷ writes log.now.table ∷ []) seat.old.turns seat.old seat.new }
-    ensures flag { DelayedFlagTells seat.new.knows tables.new }
-    ensures waits { OnOk result (Noted seat.new.knows none_waits) }
-{
-    let mut snaps = store.take_turn::<Snaps, R>(rt, seat);
-    let result = pass_all(store, seat, log, tables, &mut snaps);
-    store.give_turn(seat, snaps);
-    result
-}
-
 /// Takes each delayed commit that the bound has passed out of the prepared tables, so that none waits. Where the delayed flag says
 /// that nothing is delayed, none does, and no turn is taken. Where memory is wanting some may be left.
 pub(crate) fn pass<D: Disk + Drop, R: Wait>(
@@ -81,7 +59,9 @@ pub(crate) fn pass<D: Disk + Drop, R: Wait>(
         return Ok(());
     }
     let mut tables = store.take_turn::<Prepared, R>(rt, seat);
-    let result = pass_delayed(store, rt, seat, log, &mut tables);
+    let mut snaps = store.take_turn::<Snaps, R>(rt, seat);
+    let result = pass_all(store, seat, log, &mut tables, &mut snaps);
+    store.give_turn(seat, snaps);
     store.give_turn(seat, tables);
     result
 }

@@ -7,16 +7,25 @@ use Rattle.wp_shared.specs.Notes.{GoesOn, DelayedFlagTells}
 use Rattle.wp_shared.specs.Seats.{SeatState}
 use Rattle.wp_shared.proofs.Tables.{knows_to_give}
 use Rattle.wp_commits.specs.Notes.{is_of_words}
-use Rattle.wp_commits.proofs.Clears.{reached_low, reached_high, words_under_prepared}
+use Rattle.wp_commits.proofs.Clears.{stays_at, reached_low, reached_high, words_under_prepared}
 use Rattle.wp_commits.proofs.Through.{held_taken, holds_still, goes_through}
 use Rattle.wp_commits.proofs.Words.{bound_is}
 use Rattle.wp_commits.proofs.clear.reach.Goals as goal
 
-pub returns-then-p-bound-clause-bound : goal.returns-then-p-bound-clause-bound
-returns-then-p-bound-clause-bound g c bound words there =
-    let is : c.max-bound.result ≡ bound = bound_is c.args.store.now c.args.seat.now c.max-bound.new.seat c.max-bound.result c.max-bound.ensures.same c.max-bound.ensures.found bound words there in
-    let low : c.args.p ≤ bound = subst (λ (n : ℕ). c.args.p ≤ n) is c.if-p-bound.true in
-    subst (λ (x : SeatState × ℕ). Noted x.0.knows (words_stay x.1 words)) (λ i. (sym c.max-bound.ensures.same i, sym (reached_low c.args.p bound low) i)) there
+pub returns-then-p-bound : goal.returns-then-p-bound
+returns-then-p-bound g c = let s = c.args.seat.now in let d = c.args.log.now.table in let r = c.max-bound.new.seat in let same = c.max-bound.ensures.same in record {
+  seat = stays_at s r r r is_of_words (writes d ∷ []) same c.requires.held;
+  bound = λ bound words there.
+      let is : c.max-bound.result ≡ bound = bound_is c.args.store.now c.args.seat.now c.max-bound.new.seat c.max-bound.result c.max-bound.ensures.same c.max-bound.ensures.found bound words there in
+      let low : c.args.p ≤ bound = subst (λ (n : ℕ). c.args.p ≤ n) is c.if-p-bound.true in
+      subst (λ (x : SeatState × ℕ). Noted x.0.knows (words_stay x.1 words)) (λ i. (sym same i, sym (reached_low c.args.p bound low) i)) there;
+}
+
+pub take_turn-tables-requires : goal.take_turn-tables-requires
+take_turn-tables-requires g c = let same = c.max-bound.ensures.same in (ap (λ (x : SeatState). x.table) same ∙ c.requires.seat.0, ap (λ (x : SeatState). x.knows.live) same ∙ c.requires.seat.1)
+
+pub raise-requires-clause-seat : goal.raise-requires-clause-seat
+raise-requires-clause-seat g c = c.take_turn-tables.ensures.taken.holds.same_table
 
 pub raise-requires-clause-held : goal.raise-requires-clause-held
 raise-requires-clause-held g c = let z = c.args.store.now in let s = c.args.seat.now in let d = c.args.log.now.table in let t = c.take_turn-tables in

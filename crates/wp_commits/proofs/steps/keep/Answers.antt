@@ -19,6 +19,9 @@ pub fit_old_flag-requires-clause-held : goal.fit_old_flag-requires-clause-held
 fit_old_flag-requires-clause-held g c =
     record { table = c.args.snaps.now; held = subst (IsIn (snapshots c.args.snaps.now)) (sym c.requires.held.1) (inl refl); so_is = none_before_kept c.args.snaps.now c.keep_evicted.new.self c.args.p c.args.c c.in_ok-keep_evicted.ensures.ok }
 
+pub fit_old_flag-requires-clause-flag : goal.fit_old_flag-requires-clause-flag
+fit_old_flag-requires-clause-flag g c = let f = c.requires.flag in let k = c.none_kept-none.ensures in record { value = f.value; noted = f.noted; empty = λ e. k.1 (f.empty e); down = λ e. f.down (k.0 e) }
+
 pub make_about-requires-clause-may : goal.make_about-requires-clause-may
 make_about-requires-clause-may g c = let s = c.args.seat.now in let h = c.requires.held in let u = c.fit_old_flag.new.seat in
     may_keep (place_at c.args.store.now u.by) u u c.args.snaps.now c.keep_evicted.new.self c.args.p c.args.c h.0 (holds_now is_flag s u s.knows.held s.turns c.fit_old_flag.ensures.seat ∙ h.1) c.in_ok-keep_evicted.ensures.ok

@@ -16,6 +16,9 @@ fit_delayed_flag-requires-clause-held g c =
     let is : c.advance.new.self ≡ with_moved c.args.tables.now c.args.m = advanced c.args.tables.now c.advance.new.self c.args.m c.advance.ensures.heap c.advance.ensures.delayed c.advance.ensures.delayed_commits in
     record { table = c.args.tables.now; held = subst (IsIn (prepared c.args.tables.now)) (sym c.requires.held) (inl refl); so_is = λ none. none_before_moved c.args.tables.now c.args.m (subst NoneDelayed is none) }
 
+pub fit_delayed_flag-requires-clause-flag : goal.fit_delayed_flag-requires-clause-flag
+fit_delayed_flag-requires-clause-flag g c = let f = c.requires.flag in let k = c.none_delayed-none.ensures in record { value = f.value; noted = f.noted; empty = λ e. k.1 (f.empty e); down = λ e. f.down (k.0 e) }
+
 pub store_max-requires-clause-rises : goal.store_max-requires-clause-rises
 store_max-requires-clause-rises g c = let z = c.args.store.now in let s = c.args.seat.now in let d = c.args.log.now.table in let old = c.args.tables.now in let new = c.advance.new.self in let u = c.fit_delayed_flag.new.seat in
     may_raise (place_at z u.by) u u d old new c.args.m
