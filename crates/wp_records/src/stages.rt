@@ -13,7 +13,7 @@ ghost use Rattle.wp_core.specs.Views.{versions_in_memory, versions_nowhere, numb
 ghost use Rattle.wp_rule.specs.Knows.{HasNoVersions, Noted};
 ghost use Rattle.wp_shared.specs.Stock.{store_table};
 ghost use Rattle.wp_shared.specs.Notes.{GoesOn, DelayedFlagTells};
-ghost use Rattle.wp_records.specs.Stages.{is_of_versions, is_of_number, is_of_pending, is_of_stage, HoldsPending, HasPrepare, IsBegun};
+ghost use Rattle.wp_records.specs.Stages.{is_of_versions, is_of_number, is_of_stage, HoldsPending, HasPrepare, IsBegun};
 ghost use Rattle.wp_records.specs.Writing.{HoldsWrite};
 
 use crate::record::Record;
@@ -49,21 +49,6 @@ pub(crate) fn make_pending<D: Disk + Drop>(
     log.shows_told();
     store.make_about::<Brand, Log<D>>(seat, log);
     Ok(())
-}
-
-/// Drops the pending entries, of which nothing is left.
-fn drop_pending<D: Disk + Drop>(store: &Shared<D>, seat: &mut Seat<D>, log: &mut Log<D>)
-    requires holds { HoldsPending store.now seat.old log.old }
-    requires unlogged { log.old.table.logged ≡ false }
-    requires nowhere { Noted seat.old.knows versions_nowhere }
-    requires below { Noted seat.old.knows number_not_in_heap }
-    requires undelayed { Noted seat.old.knows pair_not_delayed }
-    ensures holds { HoldsWrite store.now seat.new log.new }
-    ensures seat { GoesOn is_of_pending (writes log.new.table ∷ []) seat.old.turns seat.old seat.new }
-    ensures log { log.new ≡ record log.old { table = record log.old.table { pending = [] } } }
-{
-    log.drop_pending();
-    store.make::<Brand>(seat);
 }
 
 // ---- versions
@@ -269,5 +254,6 @@ pub(crate) fn take_back<D: Disk + Drop, R: Wait>(
 {
     leave_heap(store, rt, seat, log);
     leave_memory(store, rt, seat, log);
-    drop_pending(store, seat, log);
+    log.drop_pending();
+    store.make::<Brand>(seat);
 }

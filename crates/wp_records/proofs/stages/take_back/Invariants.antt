@@ -1,7 +1,7 @@
 use Rattle.std.specs.Prelude.{[], ◌∷◌}
 use Rattle.wp_core.specs.Steps.{drop_pending}
 use Rattle.wp_shared.specs.Seats.{place_at}
-use Rattle.wp_records.proofs.stages.drop_pending.Given as goal
+use Rattle.wp_records.proofs.stages.take_back.Given as goal
 
 abbrev pub ghosts-make : goal.ghosts-make
 ghosts-make g a = record { place = place_at a.self.now a.seat.now.by; steps = λ w. drop_pending ∷ [] }
