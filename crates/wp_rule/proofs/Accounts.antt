@@ -24,6 +24,12 @@ holder_found : (w : World) (key : Option (List ℕ)) (holder : Holder) → IsHol
 holder_found w (Some key) holder h = h
 holder_found w None holder h = h
 
+same_name : (a b : List ℕ) → Txn a ≡ Txn b → a ≡ b
+same_name a b e = cc
+
+no_name : (a b : List ℕ) → Client a ≡ Txn b → ⊥
+no_name a b e = absurd cc
+
 key_is : (direct : Option (List ℕ)) (key : List ℕ) → is_key direct key ≡ true → direct ≡ Some key
 key_is None key e = absurd cc
 key_is (Some other) key e = ap (λ (k : List ℕ). Some k) ((bytes_eq-Decides other key).0 e)
@@ -51,10 +57,10 @@ module _ (w : World) (by : ℕ) (a : Actor) (at : get_elem? w.actors by ≡ some
 
   is_live : (key : Option (List ℕ)) (name : List ℕ) → IsHolderIn w.locks key (Txn name) → is_some (finite.get w.locks.names name) ≡ true
   is_live (Some key) name h = s.locks.keys_live key name h
-  is_live None name h = let same : name ≡ h.0 = let e = h.1 in cc in ap (λ (n : List ℕ). is_some (finite.get w.locks.names n)) same ∙ h.2
+  is_live None name h = let same : name ≡ h.0 = same_name name h.0 h.1 in ap (λ (n : List ℕ). is_some (finite.get w.locks.names n)) same ∙ h.2
 
   by_name : (key : Option (List ℕ)) (name : List ℕ) → finite.get a.participant.transactions name ≡ None → (o : Option (Option (List ℕ))) → finite.get w.locks.names name ≡ o → is_some o ≡ true → Accounts w by a key (Txn name) (account_by (length w.writes.history) o)
-  by_name key name none None is live = absurd cc
+  by_name key name none None is live = absurd (true≢false (sym live))
   by_name key name none (Some None) is live = (refl, is)
   by_name key name none (Some (Some client)) is live =
       let n = s.locks.names_had name client is in record {
@@ -92,4 +98,4 @@ module _ (w : World) (by : ℕ) (a : Actor) (at : get_elem? w.actors by ≡ some
   pub accounted : (key : Option (List ℕ)) (holder : Holder) → IsHolderIn w.locks key holder → IsHolder w key holder × account key holder
   accounted key (Txn name) h = (holder_found w key (Txn name) h, by_transaction key name h (finite.get a.participant.transactions name) refl)
   accounted (Some key) (Client client) h = (h, by_client key client h (is_self a.participant (Some key) (Client client)) refl)
-  accounted None (Client client) h = let e = h.1 in absurd cc
+  accounted None (Client client) h = absurd (no_name client h.0 h.1)
