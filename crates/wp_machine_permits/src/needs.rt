@@ -27,4 +27,5 @@ pub(crate) use moves::{may_halt, may_install, may_move_versions, may_renew, may_
 pub(crate) use note::{is_undelayed, may_note};
 pub(crate) use pending::has_versions_of;
 pub(crate) use read::history_of;
+pub(crate) use transactions::{has_direct, is_held_for};
 pub(crate) use versions::none_at;

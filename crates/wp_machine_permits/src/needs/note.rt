@@ -2,6 +2,7 @@
 ghost use Rattle.std.specs.Prelude.{◌≡◌, ◌↔◌, ◌≤◌, true, length, IfOk};
 ghost use Rattle.wp_core.specs.Steps as step;
 ghost use Rattle.wp_core.specs.Needs.{Needs};
+ghost use Rattle.wp_core.specs.World.{Participant};
 ghost use Rattle.wp_core.specs.Sound.Prepared.{IsInOldCommits};
 ghost use Rattle.wp_core.specs.Sound.Views.{IsGuarded, IsClearing, IsApart, HasLeft, IsDelayed, IsUndelayed};
 ghost use Rattle.wp_machine_permits.specs.VersionLists.{AreListed, StayUpTo};
@@ -128,6 +129,45 @@ fn frozen_stay(world: &World, n: Seq, versions: &[Version]) -> Result<bool, Allo
     stay_up_to(n, &world.store.memory, versions, world.alloc)
 }
 
+/// Whether what is noted of words and pairs is so.
+fn is_so_of_pairs(world: &World, fact: &Fact) -> Result<bool, AllocError>
+    ensures { (a : Participant) → IfOk result (λ yes. yes ≡ true → IsSaid world.now a fact.now) }
+{
+    match &fact.says {
+        Noted::Passed(place, p, c) => Ok(is_passed(world, *place, *p, *c)),
+        Noted::InOldCommits(place, p, c) => is_kept(world, *place, *p, *c),
+        Noted::Apart(place, p, c) => Ok(is_decided_apart(world, *place, *p, *c)),
+        Noted::WordsStay(max, words) => Ok(words_stay(world, *max, words)),
+        Noted::HasLeft(p) => has_left(world, *p),
+        Noted::PairDelayed => is_delayed(world),
+        Noted::PairNotDelayed => is_undelayed(world),
+        Noted::NoneWaits => none_waits(world),
+        Noted::DelayedFlagStays(value) => Ok(world.delayed_flag == *value),
+        Noted::OldFlagStays(value) => Ok(world.old_flag == *value),
+        _ => Ok(false),
+    }
+}
+
+/// Whether what is noted of versions and numbers is so.
+fn is_so_of_versions(world: &World, fact: &Fact) -> Result<bool, AllocError>
+    ensures { (a : Participant) → IfOk result (λ yes. yes ≡ true → IsSaid world.now a fact.now) }
+{
+    match &fact.says {
+        Noted::VersionsInMemory => is_in_memory(&world.writes, &world.store),
+        Noted::VersionsNowhere => is_nowhere(&world.writes, &world.store),
+        Noted::NumberInHeap => is_in_heap(&world.writes, &world.prepared),
+        Noted::NumberNotInHeap => Ok(!is_in_heap(&world.writes, &world.prepared)?),
+        Noted::TablesStay(versions, floor) => Ok(tables_stay(&world.store, versions, *floor)),
+        Noted::LiveListed(floor, listed) => are_live_listed(world, *floor, listed),
+        Noted::NothingFlushed => Ok(none_flushed(
+            &world.store.memory,
+            world.installed.last.flushed,
+        )),
+        Noted::FrozenStay(n, versions) => frozen_stay(world, *n, versions),
+        _ => is_so_of_pairs(world, fact),
+    }
+}
+
 /// Whether what the participant notes is so.
 fn is_so(world: &World, participant: &Participant, fact: &Fact) -> Result<bool, AllocError>
     ensures { IfOk result (λ yes. yes ≡ true → IsSaid world.now participant.now fact.now) }
@@ -136,18 +176,6 @@ fn is_so(world: &World, participant: &Participant, fact: &Fact) -> Result<bool, 
     let history = &world.writes.history;
     let locks = &world.locks;
     match &fact.says {
-        Noted::Passed(place, p, c) => Ok(is_passed(world, *place, *p, *c)),
-        Noted::InOldCommits(place, p, c) => is_kept(world, *place, *p, *c),
-        Noted::Apart(place, p, c) => Ok(is_decided_apart(world, *place, *p, *c)),
-        Noted::WordsStay(max, words) => Ok(words_stay(world, *max, words)),
-        Noted::HasLeft(p) => has_left(world, *p),
-        Noted::VersionsInMemory => is_in_memory(&world.writes, &world.store),
-        Noted::VersionsNowhere => is_nowhere(&world.writes, &world.store),
-        Noted::NumberInHeap => is_in_heap(&world.writes, &world.prepared),
-        Noted::NumberNotInHeap => Ok(!is_in_heap(&world.writes, &world.prepared)?),
-        Noted::PairDelayed => is_delayed(world),
-        Noted::PairNotDelayed => is_undelayed(world),
-        Noted::NoneWaits => none_waits(world),
         Noted::UndecidedAt(name, p) => is_undecided_at(
             locks,
             history,
@@ -166,15 +194,7 @@ fn is_so(world: &World, participant: &Participant, fact: &Fact) -> Result<bool, 
         ),
         Noted::Unprepared(name) => is_unprepared(history, participant, name, alloc),
         Noted::DirectFree(key) => is_direct_free(locks, history, participant, key, alloc),
-        Noted::TablesStay(versions, floor) => Ok(tables_stay(&world.store, versions, *floor)),
-        Noted::LiveListed(floor, listed) => are_live_listed(world, *floor, listed),
-        Noted::NothingFlushed => Ok(none_flushed(
-            &world.store.memory,
-            world.installed.last.flushed,
-        )),
-        Noted::FrozenStay(n, versions) => frozen_stay(world, *n, versions),
-        Noted::DelayedFlagStays(value) => Ok(world.delayed_flag == *value),
-        Noted::OldFlagStays(value) => Ok(world.old_flag == *value),
+        _ => is_so_of_versions(world, fact),
     }
 }
 

@@ -46,6 +46,7 @@ fn is_client_of(locks: &LockTables, participant: &Participant, name: &Name) -> b
     }
 }
 
+/// Whether the transaction holds the key.
 pub(crate) fn is_held_for(locks: &LockTables, key: &Key, name: &Name) -> bool
     ensures { (result ≡ true) ↔ (finite.get locks.now.keys key.now ≡ Some (Txn name.now)) }
 {
@@ -239,7 +240,8 @@ fn is_own_direct(locks: &LockTables, participant: &Participant, key: &Key) -> bo
     }
 }
 
-fn has_direct(participant: &Participant, key: &Key) -> bool
+/// Whether the key is that of the participant's direct write.
+pub(crate) fn has_direct(participant: &Participant, key: &Key) -> bool
     ensures { (result ≡ true) ↔ (participant.now.direct ≡ Some key.now) }
 {
     match &participant.direct {

@@ -9,7 +9,7 @@ ghost use Rattle.wp_machine_permits.specs.Each.{Each};
 ghost use Rattle.wp_machine_permits.specs.Offered.{IsOffered};
 ghost use Rattle.wp_machine_permits.specs.Permits.{MayBeLeft};
 
-use crate::needs::may_find;
+use crate::needs::{has_direct, may_find};
 use crate::permitted::history::history_of;
 use crate::permitted::publishing::{has_locked, has_transaction};
 use std::alloc::AllocError;
@@ -154,7 +154,7 @@ fn claims(world: &World, by: usize, actor: &Actor, kind: &LocksStep) -> bool
         LocksStep::LockDirect(key) => {
             actor.participant.direct.is_none() && world.locks.holder(key).is_none()
         }
-        LocksStep::FreeDirect(key) => actor.participant.direct.as_ref() == Some(key),
+        LocksStep::FreeDirect(key) => has_direct(&actor.participant, key),
         LocksStep::Tell(_) => true,
         LocksStep::Hear(label) => world.locks.told(label).is_some(),
         LocksStep::TakeName(_, _)

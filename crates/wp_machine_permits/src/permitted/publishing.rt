@@ -2,12 +2,10 @@
 ghost use Rattle.std.specs.Prelude.{◌≡◌, true, Some, ℕ, List, Option, length, IfOk};
 ghost use Rattle.std.specs.Option.{option_copied};
 ghost use Rattle.std.specs.FinSet as set;
-ghost use Rattle.std.specs.FinMap as finite;
 ghost use Rattle.wp_model.specs.Batch.{key_of};
 ghost use Rattle.wp_model.specs.History.{is_changed};
 ghost use Rattle.wp_model.specs.Legal.{IsLegalNext};
 ghost use Rattle.wp_model.specs.declared.entry.Entry.{Entry};
-ghost use Rattle.wp_model.specs.declared.holder.Holder.TheVariants.{Txn};
 ghost use Rattle.wp_judge.specs.Words.{CommitPair};
 ghost use Rattle.wp_core.specs.Sound.Prepared.{IsWide, IsEntered};
 ghost use Rattle.wp_core.specs.Conditions.{IsHeldFor, IsPrepare};
@@ -17,7 +15,7 @@ ghost use Rattle.wp_machine_permits.specs.Offered.{IsOffered};
 ghost use Rattle.wp_machine_permits.specs.Each.{Each};
 ghost use Rattle.wp_machine_permits.specs.Permits.{IsEntitled, IsHeldKey, IsLocked, IsMade, IsOwned, IsOwner};
 
-use crate::needs::{cached, has_versions_of};
+use crate::needs::{self, cached, has_direct, has_versions_of};
 use crate::permitted::evicting::fits_no_word;
 use crate::permitted::history::{history_of, may_follow};
 use std::alloc::AllocError;
@@ -54,8 +52,7 @@ fn transaction_of<'a>(history: &'a History, entry: &'a Entry) -> Option<&'a Name
 fn is_direct(actor: &Actor, key: &Key, client: &Name) -> bool
     ensures { result ≡ true → (actor.now.participant.direct ≡ Some key.now) × (actor.now.participant.client ≡ client.now) }
 {
-    actor.participant.direct.as_ref() == Some(key)
-        && actor.participant.client.as_ref() == Some(client)
+    has_direct(&actor.participant, key) && actor.participant.client.as_ref() == Some(client)
 }
 
 /// The transaction is the actor's.
@@ -96,16 +93,6 @@ fn has_keys(world: &World, actor: &Actor, batch: &Batch) -> bool
 
 // ---- the transaction
 
-/// The table has the transaction as the holder of the key.
-fn is_held_by(world: &World, key: &Key, name: &Name) -> bool
-    ensures { result ≡ true → finite.get world.now.locks.keys key.now ≡ Some (Txn name.now) }
-{
-    match world.locks.holder(key) {
-        Some(Holder::Txn(other)) => other == name,
-        Some(Holder::Client(_)) | None => false,
-    }
-}
-
 /// The transaction locked the key.
 pub(super) fn has_locked(transaction: &Transaction, key: &Key) -> bool
     ensures { result ≡ set.contains transaction.now.locked key.now }
@@ -120,7 +107,7 @@ fn are_locked(world: &World, transaction: &Transaction, name: &Name, changes: &[
         if !has_locked(transaction, change.key()) {
             return false;
         }
-        if !is_held_by(world, change.key(), name) {
+        if !needs::is_held_for(&world.locks, change.key(), name) {
             return false;
         }
     }

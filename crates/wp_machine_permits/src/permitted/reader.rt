@@ -11,7 +11,7 @@ ghost use Rattle.wp_machine_permits.specs.Offered.{IsOffered};
 
 use crate::permitted::empty::{delayed_is_from, heap_is_from};
 use wp_judge::{Asked, Load, ask};
-use wp_machine::{Actor, PreparedTables, ReaderStep, Registration, Turn, World};
+use wp_machine::{Actor, PreparedTables, ReaderStep, Registration, Turn, World, entry_at};
 use wp_model::{Entry, Seq};
 
 /// A look into a table needs its turn.
@@ -45,15 +45,9 @@ fn may_load(world: &World, by: usize, actor: &Actor, which: Load) -> bool
 fn has_versions_at(entries: &[Entry], p: Seq) -> bool
     ensures { result ≡ true → has_versions_at entries.now p ≡ true }
 {
-    let Some(before) = p.checked_sub(1) else {
-        return false;
-    };
-    let Some(entry) = entries.get(before as usize) else {
-        return false;
-    };
-    match entry {
-        Entry::Write(_) | Entry::Prepare(_, _) | Entry::Undo(_, _) => true,
-        Entry::Commit(_) | Entry::Close(_) => false,
+    match entry_at(entries, p) {
+        Some(Entry::Write(_) | Entry::Prepare(_, _) | Entry::Undo(_, _)) => true,
+        Some(Entry::Commit(_) | Entry::Close(_)) | None => false,
     }
 }
 

@@ -1,8 +1,4 @@
-use Rattle.std.proofs.Common.{rules, ◌≡◌}
-use Rattle.wp_core.specs.Views.{none_waits}
 use Rattle.wp_machine_permits.proofs.needs.note.is_so.Goals as goal
 
-pub returns-in-NoneWaits : goal.returns-in-NoneWaits
-returns-in-NoneWaits c =
-    let says : c.args.fact.now ≡ none_waits = search rules in
-    rw says c.none_waits.ensures
+pub returns-in_default : goal.returns-in_default
+returns-in_default c = c.is_so_of_versions.ensures c.args.participant.now
