@@ -1,12 +1,12 @@
 //! A compaction of all tables.
-ghost use Rattle.std.specs.Prelude.{◌≡◌, false, length, IfErr};
+ghost use Rattle.std.specs.Prelude.{◌≡◌, length, IfErr};
 ghost use Rattle.wp_core.specs.Lists.{IsIn};
 ghost use Rattle.wp_rule.specs.Knows.{KnowsTables};
 ghost use Rattle.wp_shared.specs.Calls.{Continues, GoesOnAs};
 ghost use Rattle.wp_shared.specs.Seats.{IsFree};
 ghost use Rattle.wp_read.specs.Registers.{numbers_of};
 ghost use Rattle.wp_maint.specs.Calls.{LeavesEach, RefusesBeforeInstall};
-ghost use Rattle.wp_compact.specs.Calls.{Compacts, HasPinned, SeveralTables};
+ghost use Rattle.wp_compact.specs.Calls.{Compacts, HasPinned};
 ghost use Rattle.wp_compact.specs.Compaction.{HadDecision, HasDecided, IsDecision, IsOpenedBase, IsPin, KnowsLive, EndsRoundFrom, EndsRound, InRound};
 ghost use Rattle.wp_maint.specs.Holding.{HoldsEdits};
 ghost use Rattle.wp_maint.specs.Installs.{AreLeft};
@@ -22,62 +22,7 @@ use wp_outside::Disk;
 use wp_read::{Pinned, pin_all};
 use wp_shared::{Edits, Seat, Shared};
 
-/// Merges the tables, of which there are several, or begins again where they are others than those that were decided.
-fn compact_several<D: Disk + Drop, R: Wait>(
-    store: &Shared<D>,
-    rt: &R,
-    alloc: Global,
-    seat: &mut Seat<D>,
-    edits: &mut Edits<D>,
-    pinned: &Pinned,
-    decided: Decided,
-) -> Option<Result<Done, MaintError>>
-    requires holds { HoldsEdits store.now seat.old edits.old }
-    requires settled { KnowsTables seat.old.knows edits.old.table.last }
-    requires running { edits.old.table.halted ≡ false }
-    requires several { SeveralTables edits.old.table.last }
-    requires decided { HasDecided seat.old.knows pinned.now.floor pinned.now.live.items decided.bases decided.versions decided.committed.items }
-    requires opened { IsOpenedBase store.now decided.bases.opened }
-    ensures holds { HoldsEdits store.now seat.new edits.new }
-    ensures settled { KnowsTables seat.new.knows edits.new.table.last }
-    ensures says { EndsRoundFrom (GoesOnAs seat.old seat.new) (IsPin pinned.now.floor.number (numbers_of pinned.now.live.items)) (IsDecision pinned.now.floor.number decided.bases decided.versions) store.now seat.old edits.old.table result seat.new }
-    ensures manifest { InRound (AreLeft edits.old edits.new) result }
-{
-    match are_unchanged(store, rt, alloc, seat, edits, pinned, &decided) {
-        Ok(true) => Some(merge(store, rt, alloc, seat, edits, pinned, decided)),
-        Ok(false) => None,
-        Err(_) => Some(Err(MaintError::Memory)),
-    }
-}
-
-/// Merges the tables, under the tables turn, where no device has failed and there are several; or begins again.
-fn compact_running<D: Disk + Drop, R: Wait>(
-    store: &Shared<D>,
-    rt: &R,
-    alloc: Global,
-    seat: &mut Seat<D>,
-    edits: &mut Edits<D>,
-    pinned: &Pinned,
-    decided: Decided,
-) -> Option<Result<Done, MaintError>>
-    requires holds { HoldsEdits store.now seat.old edits.old }
-    requires settled { KnowsTables seat.old.knows edits.old.table.last }
-    requires running { edits.old.table.halted ≡ false }
-    requires decided { HasDecided seat.old.knows pinned.now.floor pinned.now.live.items decided.bases decided.versions decided.committed.items }
-    requires opened { IsOpenedBase store.now decided.bases.opened }
-    ensures holds { HoldsEdits store.now seat.new edits.new }
-    ensures settled { KnowsTables seat.new.knows edits.new.table.last }
-    ensures says { EndsRoundFrom (GoesOnAs seat.old seat.new) (IsPin pinned.now.floor.number (numbers_of pinned.now.live.items)) (IsDecision pinned.now.floor.number decided.bases decided.versions) store.now seat.old edits.old.table result seat.new }
-    ensures manifest { InRound (AreLeft edits.old edits.new) result }
-{
-    if edits.table_count() < 2 {
-        find_edits(store, seat);
-        return Some(Err(MaintError::Nothing));
-    }
-    compact_several(store, rt, alloc, seat, edits, pinned, decided)
-}
-
-/// Compacts, under the tables turn, or begins again.
+/// Compacts, under the tables turn, or begins again where the tables are others than those that were decided.
 fn compact_in<D: Disk + Drop, R: Wait>(
     store: &Shared<D>,
     rt: &R,
@@ -100,7 +45,15 @@ fn compact_in<D: Disk + Drop, R: Wait>(
         find_edits(store, seat);
         return Some(Err(MaintError::TablesStopped(edits.flushed())));
     }
-    compact_running(store, rt, alloc, seat, edits, pinned, decided)
+    if edits.table_count() < 2 {
+        find_edits(store, seat);
+        return Some(Err(MaintError::Nothing));
+    }
+    match are_unchanged(store, rt, alloc, seat, edits, pinned, &decided) {
+        Ok(true) => Some(merge(store, rt, alloc, seat, edits, pinned, decided)),
+        Ok(false) => None,
+        Err(_) => Some(Err(MaintError::Memory)),
+    }
 }
 
 /// Compacts with what the seat pinned, or begins again. The versions are decided before the tables turn is taken.
