@@ -12,3 +12,12 @@ returns-in-Open-clause-answered g c = refused_so c.args.store.now c.args.seat.no
 
 pub returns-in-Prepared-clause-answered : goal.returns-in-Prepared-clause-answered
 returns-in-Prepared-clause-answered g c = refused_so c.args.store.now c.args.seat.now c.args.txn (held.Prepared c.in-Prepared.prepared) c.in-Prepared.is (command.Begin c.args.name.now) c.requires (λ snapshots. refl) refl (λ before. refl) (λ store snapshots. refl)
+
+pub begin_now-requires : goal.begin_now-requires
+begin_now-requires g c = rw c.in-Idle.is at c.requires
+
+pub returns-in-Idle-clause-holds : goal.returns-in-Idle-clause-holds
+returns-in-Idle-clause-holds g c = rw c.in-Idle.is c.begin_now.ensures.holds
+
+pub returns-in-Idle-clause-answered : goal.returns-in-Idle-clause-answered
+returns-in-Idle-clause-answered g c = rw c.in-Idle.is c.begin_now.ensures.answered

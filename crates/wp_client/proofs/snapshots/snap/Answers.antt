@@ -1,6 +1,7 @@
 use Rattle.std.specs.Prelude.{nat_le, is_some}
 use Rattle.std.proofs.Common.{◌≡◌, length, map, None, refl, sym, subst, ◌∙◌}
 use Rattle.wp_core.proofs.KeepsSeen.{whole}
+use Rattle.wp_text.specs.declared.script.Command.TheVariants as command
 use Rattle.wp_replies.specs.declared.client.TheConstants.{MOST_SNAPSHOTS}
 use Rattle.wp_replies.specs.Client.{number_of}
 use Rattle.wp_replies.specs.Replies.{refuses_label}
@@ -11,6 +12,7 @@ use Rattle.wp_client.proofs.Places.{snapped_there, snapped_holds_there}
 use Rattle.wp_client.proofs.Reading.{keeps_at_once}
 use Rattle.wp_client.proofs.Snapping.{label_refused}
 use Rattle.wp_client.proofs.Staying.{keeps_holds}
+use Rattle.wp_client.proofs.WholeClients.{kept_breaks}
 use Rattle.wp_client.proofs.snapshots.snap.Goals as goal
 
 pub returns-in-Some-clause-answered : goal.returns-in-Some-clause-answered
@@ -61,3 +63,15 @@ pub returns-clause-published : goal.returns-clause-published
 returns-clause-published g c =
     let t = c.snapshot.new.seat in let taken = c.in_ok-snapshot.ensures.taken in
     record { snapshot = c.in_ok-snapshot.snapshot; history = t.knows.participant.seen; taken = (taken.0, taken.1); number = sym c.number-number.ensures; seen = whole t.knows.participant.seen }
+
+pub returns-in_err-reply-clause-err : goal.returns-in_err-reply-clause-err
+returns-in_err-reply-clause-err g c = let z = c.args.store.now in let s = c.args.seat.now in kept_breaks z s s (command.Snap c.args.label.now) c.from_residual.result (client_of c.args.held.now) (keeps_at_once z s c.requires.txn.free)
+
+pub returns-in_err-label-clause-err : goal.returns-in_err-label-clause-err
+returns-in_err-label-clause-err g c = let z = c.args.store.now in let s = c.args.seat.now in kept_breaks z s s (command.Snap c.args.label.now) c.from_residual-in_err-label.result (client_of c.args.held.now) (keeps_at_once z s c.requires.txn.free)
+
+pub returns-in_err-reserve-clause-err : goal.returns-in_err-reserve-clause-err
+returns-in_err-reserve-clause-err g c = let z = c.args.store.now in let s = c.args.seat.now in kept_breaks z s s (command.Snap c.args.label.now) c.from_residual-in_err-reserve.result (client_of c.args.held.now) (keeps_at_once z s c.requires.txn.free)
+
+pub returns-in_err-snapshot-clause-err : goal.returns-in_err-snapshot-clause-err
+returns-in_err-snapshot-clause-err g c = kept_breaks c.args.store.now c.args.seat.now c.snapshot.new.seat (command.Snap c.args.label.now) c.from_residual-in_err-snapshot.result (client_of c.args.held.now) c.in_err-snapshot.ensures.refused
