@@ -3,50 +3,41 @@ ghost use Rattle.wp_text.specs.declared.fault.LineError.TheVariants.{Memory};
 ghost use Rattle.wp_text.specs.Reading.{script_error};
 
 use std::alloc::{AllocError, AllocFailed};
-use std::fmt;
 use thiserror::Error;
 use wp_model::WordError;
 
 /// What is wrong with a script. In one line the first of these that fits is named.
-#[derive(Clone, Copy, Debug, PartialEq, Eq)]
+#[derive(Clone, Copy, Debug, Error)]
 pub enum Why {
     /// The script has more bytes than `MOST_BYTES`.
+    #[error("too long")]
     TooLong,
     /// The line has more bytes than `MOST_LINE_BYTES`.
+    #[error("line long")]
     LineLong,
     /// One of the bytes is outside the space to `~`.
+    #[error("bad byte")]
     BadByte,
     /// No command begins with the first word, or it has another number of words, or the third of four words that
     /// begin with `get` is not `at`.
+    #[error("bad command")]
     BadCommand,
     /// A key, a value or a name is too long.
+    #[error("bad word")]
     BadWord,
     /// A command comes before the first client.
+    #[error("no client")]
     NoClient,
     /// The client has a part already.
+    #[error("client twice")]
     ClientTwice,
     /// There are `MOST_CLIENTS` clients already.
+    #[error("many clients")]
     ManyClients,
 }
 
-impl fmt::Display for Why {
-    fn fmt<W: fmt::Write>(&self, f: &mut fmt::Formatter<W>) -> fmt::Result {
-        let text = match self {
-            Why::TooLong => "too long",
-            Why::LineLong => "line long",
-            Why::BadByte => "bad byte",
-            Why::BadCommand => "bad command",
-            Why::BadWord => "bad word",
-            Why::NoClient => "no client",
-            Why::ClientTwice => "client twice",
-            Why::ManyClients => "many clients",
-        };
-        f.write_str(text)
-    }
-}
-
 /// The first fault of a script.
-#[derive(Clone, Copy, Debug, PartialEq, Eq, Error)]
+#[derive(Clone, Copy, Debug, Error)]
 #[error("script line {line}: {why}")]
 pub struct Fault {
     /// The line, from 1 on; 0 means the script as a whole.
