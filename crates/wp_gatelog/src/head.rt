@@ -1,6 +1,6 @@
 //! The head of a log: its gate, magic, version and id, and the gate after it.
 
-ghost use Rattle.std.specs.Prelude.{◌≡◌, ◌≢◌, ◌⊎◌, ℕ, ◌<◌, ◌≤◌, ◌^◌, ◌∷◌, [], ◌++◌, List, length, take, drop, slice_index, IfSome, IfNone, IfOk};
+ghost use Rattle.std.specs.Prelude.{◌≡◌, ◌≢◌, ◌⊎◌, ℕ, ◌<◌, ◌≤◌, ◌^◌, ◌∷◌, [], ◌++◌, List, length, take, drop, slice_index, IfSome, IfNone, IfOk, MatchOption};
 ghost use Rattle.wp_fields.specs.Format.{format_byte};
 ghost use Rattle.wp_outside.specs.Disk.{IfKnown, Looks};
 ghost use Rattle.wp_outside.specs.Faults.{HasCause};
@@ -95,11 +95,10 @@ fn head_of(bytes: &[u8], magic: &[u8], newest: Format) -> Head
 /// The version and the id after this magic and the gate after them, where they follow the head's gate.
 fn stamp_in(bytes: &[u8], magic: &[u8], newest: Format) -> Option<(Format, u32, u8)>
     requires { length magic.now ≡ 4 }
-    ensures found { IfSome result (λ found. (rest : List ℕ)
-        × (bytes.now ≡ identity magic.now (stamped found.0 found.1) ++ found.2 ∷ rest)) }
-    ensures readable { IfSome result (λ found. IsUpTo newest found.0) }
-    ensures none { IfNone result ((length bytes.now < 10) ⊎ (take 4 bytes.now ≢ magic.now)
-        ⊎ IsNoVersion newest (slice_index bytes.now 4)) }
+    ensures { MatchOption result
+        ((length bytes.now < 10) ⊎ (take 4 bytes.now ≢ magic.now) ⊎ IsNoVersion newest (slice_index bytes.now 4))
+        (λ found. IsUpTo newest found.0
+        × ((rest : List ℕ) × (bytes.now ≡ identity magic.now (stamped found.0 found.1) ++ found.2 ∷ rest))) }
 {
     let mut fields = Fields::of(bytes);
     let found = fields.piece(4)?;
