@@ -6,7 +6,7 @@ use std::alloc::{AllocError, AllocFailed};
 use wp_encoding::EncodingError;
 
 /// Why bytes could not be read as a table: the first fault from the left.
-#[derive(Debug, Drop, PartialEq, Eq, thiserror::Error)]
+#[derive(Debug, Drop, thiserror::Error)]
 pub enum TableError {
     #[error("out of memory")]
     Memory,
