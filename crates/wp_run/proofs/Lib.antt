@@ -4,3 +4,4 @@ pub mod Opened
 pub mod Crashed
 pub mod Stored
 pub mod TopLemmas
+pub mod Uncalled

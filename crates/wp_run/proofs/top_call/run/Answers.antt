@@ -1,5 +1,6 @@
 use Rattle.std.proofs.Common.{refl}
 use Rattle.wp_run.proofs.TopLemmas.{wordless_ends, scriptless_ends, served_ends, ends_only, in_ranges, can_make}
+use Rattle.wp_run.proofs.Uncalled.{shown_uncalled, made_uncalled}
 use Rattle.wp_run.proofs.top_call.run.Goals as goal
 
 pub returns-in-Err-clause-alone : goal.returns-in-Err-clause-alone
@@ -32,3 +33,21 @@ returns-clause-alone g c =
 
 pub returns-clause-ends : goal.returns-clause-ends
 returns-clause-ends g c = ends_only _ _ (returns-clause-alone g c)
+
+pub returns-in-Err-script_of-clause-shown : goal.returns-in-Err-script_of-clause-shown
+returns-in-Err-script_of-clause-shown g c = shown_uncalled _ c.in-Ok.choice _ c.script_of.result c.words_choose_once.ensures c.in-Ok.ensures c.script_of.ensures.read
+
+pub returns-in-Err-script_of-clause-made : goal.returns-in-Err-script_of-clause-made
+returns-in-Err-script_of-clause-made g c = made_uncalled _ c.in-Ok.choice _ c.script_of.result c.words_choose_once.ensures c.in-Ok.ensures c.script_of.ensures.read
+
+pub returns-in-Err-new-clause-shown : goal.returns-in-Err-new-clause-shown
+returns-in-Err-new-clause-shown g c = shown_uncalled _ c.in-Ok.choice _ c.script_of.result c.words_choose_once.ensures c.in-Ok.ensures c.script_of.ensures.read
+
+pub returns-in-Err-new-clause-made : goal.returns-in-Err-new-clause-made
+returns-in-Err-new-clause-made g c = made_uncalled _ c.in-Ok.choice _ c.script_of.result c.words_choose_once.ensures c.in-Ok.ensures c.script_of.ensures.read
+
+pub returns-clause-shown : goal.returns-clause-shown
+returns-clause-shown g c = shown_uncalled _ c.in-Ok.choice _ c.script_of.result c.words_choose_once.ensures c.in-Ok.ensures c.script_of.ensures.read
+
+pub returns-clause-made : goal.returns-clause-made
+returns-clause-made g c = made_uncalled _ c.in-Ok.choice _ c.script_of.result c.words_choose_once.ensures c.in-Ok.ensures c.script_of.ensures.read
