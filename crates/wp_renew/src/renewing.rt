@@ -8,6 +8,8 @@ ghost use Rattle.wp_core.specs.Tables.{installed, writes};
 ghost use Rattle.wp_core.specs.Tables as table;
 ghost use Rattle.wp_core.specs.World.{World};
 ghost use Rattle.wp_rule.specs.Knows.{KnowsTables};
+ghost use Rattle.wp_shared.specs.Edits.{IsEdits};
+ghost use Rattle.wp_shared.specs.Log.{IsLog};
 ghost use Rattle.wp_shared.specs.Stock.{store_table};
 ghost use Rattle.wp_shared.specs.Calls.{GoesOnAs};
 ghost use Rattle.wp_shared.specs.Notes.{no_fact, GoesOn};
@@ -175,6 +177,8 @@ fn renew_in<D: Disk + Drop, R: Wait>(
     requires settled { KnowsTables seat.old.knows edits.old.table.last }
     requires seen { (seat.old.knows.participant.seen ≡ log.old.table.history) × (log.old.table.log ≡ log.old.table.history) }
     requires room { HasRoom seat.old.knows edits.old log.old room.frozen room.versions room.edit room.segment }
+    requires edits { IsEdits edits.old }
+    requires log { IsLog log.old }
     requires stands { (w : World) × Stands store.now seat.old w }
     ensures { RenewsHolding (GoesOnAs seat.old seat.new) store.now seat.old edits.old log.old result seat.new edits.new log.new }
 {
@@ -188,10 +192,7 @@ fn renew_in<D: Disk + Drop, R: Wait>(
         at: frozen.at,
         carried: log.undecided_count() as u64,
     };
-    edits.shows_told();
-    log.shows_told();
     let table = write_table(store, seat, edits, log, &mut edit)?;
-    edits.shows_told();
     let written = write_segment(store, seat, edits, log, &segment)?;
     log.shows_waiting(&written);
     install(store, seat, edits, log, written, edit, &versions, &table)?;

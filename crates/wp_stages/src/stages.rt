@@ -7,6 +7,7 @@ ghost use Rattle.wp_model.specs.Legal.{undone_last};
 ghost use Rattle.wp_tableset.specs.Changes.{one_part};
 ghost use Rattle.wp_tableset.specs.Install.{IsReadyEdit};
 ghost use Rattle.wp_core.specs.World.{World};
+ghost use Rattle.wp_shared.specs.Edits.{IsEdits};
 ghost use Rattle.wp_shared.specs.Log.{IsSegmentOf};
 ghost use Rattle.wp_shared.specs.Seats.{Stands};
 ghost use Rattle.wp_maint.specs.Renewal.{HoldsBoth};
@@ -38,11 +39,15 @@ pub fn write_table<D: Disk + Drop>(
     requires room { length edits.old.parts < edit.old.room }
     ensures writes { WritesTable store.now seat.old edits.old log.old edit.old result seat.new edits.new log.new edit.new }
     ensures table { IfOk result (λ table. option_map arc_value table ≡ option_map (λ built. built.versions) edit.old.edit.built) }
+    ensures edits { IsEdits edits.new }
 {
     edits.shows_told();
     log.shows_told();
     match edits.write_table(edit) {
-        Ok(table) => Ok(table),
+        Ok(table) => {
+            edits.shows_told();
+            Ok(table)
+        }
         Err(_) => {
             edits.shows_told();
             find_edits(store, seat);
