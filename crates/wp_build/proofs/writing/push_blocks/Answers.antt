@@ -1,3 +1,4 @@
+use Rattle.std.proofs.lemmas.Grind.{common_steps}
 use Rattle.std.proofs.Common.{◌≡◌, length, ap, ◌∙◌, arith}
 use Rattle.std.specs.List.{list_all}
 use Rattle.std.specs.Slice.Iter.{chunks_rest}
@@ -24,3 +25,12 @@ loop-block-preserved c =
       placed = rw (now, c.in_ok-push.ensures.items, c.len.ensures, len) (placed_more Two c.loop-block.places.items c.loop-block.out.items _ all block rest next c.loop-block.invariant.placed);
       in_range = λ others. c.loop-block.invariant.in_range (ap (list_all has_words) step.0 ∙ words ∙ and_from _ _ c.in_ok-push_block.ensures.in_range others);
     }
+
+pub returns-clause-pushed : goal.returns-clause-pushed
+returns-clause-pushed c = grind (arith, common_steps)
+
+pub returns-clause-placed : goal.returns-clause-placed
+returns-clause-placed c = grind (arith, common_steps)
+
+pub returns-clause-in_range : goal.returns-clause-in_range
+returns-clause-in_range c = grind (arith, common_steps)
