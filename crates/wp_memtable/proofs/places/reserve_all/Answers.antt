@@ -1,3 +1,5 @@
+use Rattle.std.proofs.Common.{arith}
+use Rattle.std.proofs.lemmas.Grind.{common_steps}
 use Rattle.std.proofs.Common.{◌∙◌}
 use Rattle.wp_memtable.proofs.Listed.{have_places_more}
 use Rattle.wp_memtable.proofs.places.reserve_all.Goals as goal
@@ -8,3 +10,6 @@ loop-change-preserved c = record {
   same_versions = c.reserve.ensures.same_versions ∙ c.loop-change.invariant.same_versions;
   well_ordered = c.reserve.ensures.well_ordered;
 }
+
+pub returns-clause-places : goal.returns-clause-places
+returns-clause-places c = grind (arith, common_steps)

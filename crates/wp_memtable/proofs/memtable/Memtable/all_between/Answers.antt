@@ -1,3 +1,5 @@
+use Rattle.std.proofs.Common.{arith}
+use Rattle.std.proofs.lemmas.Grind.{common_steps}
 use Rattle.std.proofs.Common.{sym, subst, ◌∙◌, ap, ◌++◌}
 use Rattle.std.proofs.lemmas.List.{append-nil}
 use Rattle.wp_model.specs.Versions.{AreInOrder}
@@ -21,3 +23,9 @@ of-requires c =
 
 pub returns-clause-in_order : goal.returns-clause-in_order
 returns-clause-in_order c = subst AreInOrder c.self.view_is (in_order-versions_in _ c.self.invariant.0)
+
+pub loop-key-preserved : goal.loop-key-preserved
+loop-key-preserved c = grind (arith, common_steps)
+
+pub returns-clause-all : goal.returns-clause-all
+returns-clause-all c = grind (arith, common_steps)
