@@ -11,7 +11,7 @@ use Rattle.wp_maint.specs.Renewal.{Renews}
 use Rattle.wp_client.specs.Fresh.{NamesSeen}
 
 -- A flush and a compaction have the number and the count of versions of the call that made the table, and a renewal the number and the
--- count of entries of the call that carried them. Other replies have a number that was published while the command ran.
+-- count of entries of the call that carried them. Of other replies it is what `NamesSeen` says.
 abbrev pub NamesPublished : {D : Type 0} → SharedState D → SeatState → SeatState → Command → Reply → Type 0
 NamesPublished z old new command.Flush (reply.Flushed n versions) = Flushes z old (Ok (record { at = n; versions = versions })) new
 NamesPublished z old new command.Compact (reply.Compacted n versions) = Compacts z old (Ok (record { at = n; versions = versions })) new

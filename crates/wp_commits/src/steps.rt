@@ -4,7 +4,7 @@ ghost use Rattle.std.specs.Option.{option_map};
 ghost use Rattle.wp_judge.specs.Words.{numbers_of, fits};
 ghost use Rattle.wp_model.specs.Decision.{decision_of};
 ghost use Rattle.wp_model.specs.PreparedTables.{NoneDelayed};
-ghost use Rattle.wp_model.specs.Snapshots.{overlaps, NoOldCommits};
+ghost use Rattle.wp_model.specs.Snapshots.{NoOldCommits};
 ghost use Rattle.wp_core.specs.Cache.{cache_place, pair_at, with_pair};
 ghost use Rattle.wp_core.specs.Entries.{pending_pair};
 ghost use Rattle.wp_core.specs.Lists.{IsIn};

@@ -197,8 +197,8 @@ fn next_in(bytes: &[u8]) -> Next
     Next::Open { gate, len }
 }
 
-/// Puts the record of so many bytes, behind the gate and the length that begin these, at the end. Returns how many bytes
-/// it takes in a log, with its gate and its length.
+/// Puts the record of so many bytes, behind the gate and the length that begin these, at the end of the records. Returns how
+/// many bytes it takes in a log, with its gate and its length.
 fn take_record(
     alloc: Global,
     records: &mut Vec<Record>,

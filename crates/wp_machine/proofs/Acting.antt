@@ -1,6 +1,6 @@
 -- An actor is taken out of a world, makes its step, and is put back.
 use Rattle.std.specs.Prelude.{slice_get, option_map}
-use Rattle.std.proofs.Common.{◌≡◌, ◌≢◌, unwrap_or, ℕ, zero, suc, ◌<◌, ◌≤◌, List, [], ◌∷◌, length, set, get_or, OnOk, Ok, Err, Result, refl, sym, subst, ap, ◌∙◌, arith, ◌++◌, filter, not, Option, Some, None, true, false}
+use Rattle.std.proofs.Common.{◌≡◌, ◌≢◌, unwrap_or, ℕ, zero, suc, ◌<◌, ◌≤◌, List, [], ◌∷◌, length, set, get_or, OnOk, Ok, Err, Result, refl, sym, subst, ap, ◌∙◌, arith, ◌++◌, not, Option, Some, None, true, false}
 use mathlib.Core.Option.{some-injective}
 use Rattle.std.proofs.lemmas.List.{set-set}
 use Rattle.wp_core.specs.World.{World, Actor, new_actor}

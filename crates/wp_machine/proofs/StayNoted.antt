@@ -1,5 +1,5 @@
 -- A step that makes an actor, or joins one, leaves the notes.
-use Rattle.std.proofs.Common.{◌≡◌, ℕ, Bool, false, not, filter, ◌||◌, List, [], ◌∷◌, Option, Some, None, refl}
+use Rattle.std.proofs.Common.{◌≡◌, ℕ, Bool, false, not, filter, ◌||◌, List, [], ◌∷◌, Option, refl}
 use Rattle.wp_model.specs.declared.entry.Entry.{Entry}
 use Rattle.wp_core.specs.Turns.{Turn}
 use Rattle.wp_core.specs.Steps.{Step}

@@ -1,4 +1,4 @@
-ghost use Rattle.std.specs.Prelude.{◌≡◌, [], ◌∷◌, ◌++◌, None, Some, true, false, OnOk, IfOk, IfSome, ◌==◌, ◌<◌, length, slice_set};
+ghost use Rattle.std.specs.Prelude.{◌≡◌, [], ◌∷◌, ◌++◌, None, Some, true, OnOk, IfOk, IfSome, ◌==◌, ◌<◌, length, slice_set};
 ghost use Rattle.std.specs.Prelude.{List, take, drop, if◌then◌else◌};
 ghost use Rattle.std.specs.List.{list_any};
 ghost use Rattle.std.specs.Option.{option_copied};

@@ -11,6 +11,7 @@ use crate::world::World;
 use crate::writes::WriteTable;
 use std::snapshot::Snapshot;
 
+/// A fact that the actor noted, or a step of its that may have ended some.
 #[derive(Drop)]
 pub enum Mark {
     Noted(Snapshot<Fact>),

@@ -30,7 +30,7 @@ content (part.Tables edits) = Some (installed edits.value.table)
 abbrev pub IsGuardedBy : {D : Type 0} → Turn → Part D → Type 0
 IsGuardedBy turn x = (c : Content) × (content x ≡ Some c) × (turn_of c ≡ turn)
 
--- what a crash leaves of its devices is as its table says; of the log no segment waits beside the one in use
+-- what a crash leaves of its devices is as its table says; of a log that is not closed no segment waits beside the one in use
 abbrev pub LogStands : LogState → Type 0
 LogStands log = LogTells (images log.wal.moments) (spells log) log.table × NoneNext log.table
 

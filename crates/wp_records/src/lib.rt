@@ -12,8 +12,8 @@
 //! That an entry may come next, and that its keys are held, is the caller's to know. See RocksDB's wiki pages "WritePrepared
 //! Transactions" and "Two Phase Commit Implementation".
 //!
-//! The call is made of the stages in `stages` and `putting`, and these of the steps of the machine of `wp_core` in `steps`, each
-//! of which says what is left of the seat.
+//! The call is made of the stages in `stages` and `putting`, each of which says what is left of the seat. They make the steps of the
+//! machine of `wp_core` where a table changes; those that change none, and what the log call came to, stand in `steps`.
 #![tactic(auto)]
 
 mod error;

@@ -60,7 +60,7 @@ pub fn write_table<D: Disk + Drop>(
     }
 }
 
-/// Writes the segment beside the log.
+/// Writes the segment beside the log. Where the device failed the log is closed.
 pub fn write_segment<D: Disk + Drop>(
     store: &Shared<D>,
     seat: &mut Seat<D>,
