@@ -1,3 +1,4 @@
+use Rattle.std.proofs.lemmas.Grind.{common_steps}
 use Rattle.std.proofs.Common.{◌≡◌, rules, List, length, sym, ap, ◌∙◌, arith}
 use Rattle.std.proofs.lemmas.List.{nil_from_length}
 use Rattle.wp_model.specs.declared.version.Version.{Version}
@@ -14,3 +15,6 @@ pub returns-then-is_empty-2 : goal.returns-then-is_empty-2
 returns-then-is_empty-2 c =
     let none : length c.args.second.items ≡ 0 = search (arith, rules) in
     sym (merge_none c.args.first.items) ∙ ap (merge_of c.args.first.items) (sym (nil_from_length c.args.second.items none))
+
+pub loop-version-preserved : goal.loop-version-preserved
+loop-version-preserved c = grind (arith, common_steps)

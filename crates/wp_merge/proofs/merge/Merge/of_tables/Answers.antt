@@ -1,3 +1,5 @@
+use Rattle.std.proofs.Common.{arith}
+use Rattle.std.proofs.lemmas.Grind.{common_steps}
 use Rattle.std.proofs.Common.{map, sym, ap, subst, ◌∙◌}
 use Rattle.std.specs.Arc.{arc_value}
 use Rattle.std.specs.VecDeque.Iter.{deque_iter_rest}
@@ -23,3 +25,6 @@ loop-table-preserved c =
       in_order = subst AreInOrder (sym is) (in_order-merge versions _ before.in_order order);
       each = λ key n. merged_next key n versions _ c.in_ok-versions.versions.items rest is before.in_order ∙ ap (λ tables. option_or (version_at versions key n) (first_at (map arc_value tables) key n)) (sym c.in-Some.ensures.steps) ∙ before.each key n;
     }
+
+pub returns : goal.returns
+returns c = grind (arith, common_steps)
