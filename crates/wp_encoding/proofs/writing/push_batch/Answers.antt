@@ -1,3 +1,5 @@
+use Rattle.std.proofs.Common.{arith}
+use Rattle.std.proofs.lemmas.Grind.{common_steps}
 use Rattle.std.proofs.Common.{◌≡◌, ℕ, ◌+◌, ◌<◌, ◌&&◌, true, List, [], ◌∷◌, ◌++◌, length, get_or, take, ap, sym, subst, ◌∙◌, append_assoc}
 use Rattle.std.specs.List.{flat_map, list_all}
 use Rattle.std.proofs.lemmas.List.{take_more, append-nil}
@@ -30,3 +32,9 @@ loop-change-preserved c = record {
   pushed = pushed_more c.args.out.now.items c.loop-change.out.items c.push_change.new.out.items c.changes-changes.result.now c.loop-change.change-index c.change-item.result c.loop-change-test.true c.change-item.is c.loop-change.invariant.pushed c.in_ok-push_change.ensures.pushed;
   in_range = in_range_more c.changes-changes.result.now c.loop-change.change-index c.change-item.result c.loop-change-test.true c.change-item.is c.loop-change.invariant.in_range c.in_ok-push_change.ensures.in_range;
 }
+
+pub returns-clause-pushed : goal.returns-clause-pushed
+returns-clause-pushed c = grind (arith, common_steps)
+
+pub returns-clause-in_range : goal.returns-clause-in_range
+returns-clause-in_range c = grind (arith, common_steps)
