@@ -1,7 +1,7 @@
 //! Why a store is not opened: the first fault of its devices, in the order of an opening, and that there is one way to open them.
 //!
-//! A fault of the bytes is named by what is wrong and where. Each error of the log, the manifest and the tables means one for the opening. The
-//! same bytes are never damaged where they open; they open to one history and one edit, and they have one first fault.
+//! A fault of the bytes is named by what is wrong and where. Each error of the log, the manifest and the tables means one for the
+//! opening. The same bytes are never damaged where they open; they open to one history and one edit, and they have one first fault.
 #![tactic(auto)]
 
 mod bad;

@@ -1,6 +1,5 @@
-use Rattle.std.proofs.Common.{arith}
+use Rattle.std.proofs.Common.{arith, ◌∙◌}
 use Rattle.std.proofs.lemmas.Grind.{common_steps}
-use Rattle.std.proofs.Common.{◌∙◌}
 use Rattle.wp_memtable.proofs.Listed.{have_places_more}
 use Rattle.wp_memtable.proofs.places.reserve_all.Goals as goal
 
