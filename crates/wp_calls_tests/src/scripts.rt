@@ -41,6 +41,26 @@ struct Held {
     version: Option<Seq>,
 }
 
+impl Held {
+    fn of(
+        begun: Option<OpenTxn>,
+        prepared: Option<PreparedTxn>,
+        made: Option<Seq>,
+        snapshot: Option<Snapshot>,
+        version: Option<Seq>,
+    ) -> Held
+        ensures { result ≡ record { begun = begun; prepared = prepared; made = made; snapshot = snapshot; version = version } }
+    {
+        Held {
+            begun,
+            prepared,
+            made,
+            snapshot,
+            version,
+        }
+    }
+}
+
 /// Takes the step. Whether it says what it has to, where memory is not wanting.
 fn take_once<R: Abort + Wait>(
     store: &Shared<MemDisk>,
@@ -70,35 +90,15 @@ fn take_once<R: Abort + Wait>(
             let (begun, prepared, made, outcome) = write(
                 store, rt, alloc, one, begun, prepared, what,
             );
-            let held = Held {
-                begun,
-                prepared,
-                made,
-                snapshot,
-                version,
-            };
-            (held, outcome)
+            (Held::of(begun, prepared, made, snapshot, version), outcome)
         }
         Step::Two(what) => {
             let (snapshot, outcome) = read(store, rt, alloc, two, snapshot, version, what);
-            let held = Held {
-                begun,
-                prepared,
-                made,
-                snapshot,
-                version,
-            };
-            (held, outcome)
+            (Held::of(begun, prepared, made, snapshot, version), outcome)
         }
         Step::TwoLearns(at) => {
             let published = learn(store, two, one);
-            let held = Held {
-                begun,
-                prepared,
-                made,
-                snapshot,
-                version: made,
-            };
+            let held = Held::of(begun, prepared, made, snapshot, made);
             (held, Some(published == at))
         }
         Step::OneLooks(at, said) => match (begun, prepared, version) {
@@ -108,14 +108,7 @@ fn take_once<R: Abort + Wait>(
                     Some(is_so) => Some(is_so && published == at),
                     None => None,
                 };
-                let held = Held {
-                    begun: None,
-                    prepared: None,
-                    made: None,
-                    snapshot,
-                    version: Some(p),
-                };
-                (held, outcome)
+                (Held::of(None, None, None, snapshot, Some(p)), outcome)
             }
             (_begun, _prepared, _version) => panic!(rt; "the first client can't look now"),
         },

@@ -58,6 +58,26 @@ fn refused(why: TxnError) -> Option<bool> {
     }
 }
 
+/// Takes the transaction that was left prepared.
+fn take<R: Abort + Wait>(
+    store: &Shared<MemDisk>,
+    rt: &R,
+    alloc: Global,
+    seat: &mut Seat<MemDisk>,
+) -> Written
+    requires { IsWriter store.now seat.old None None }
+    ensures ready { IsWriter store.now seat.new result.0 result.1 }
+    ensures version { IfSome result.2 (λ p. has_versions_at seat.new.knows.participant.seen p ≡ true) }
+{
+    match wp_txn::take_prepared(store, rt, alloc, seat, &name(rt, alloc, b"t")) {
+        Ok(txn) => {
+            let n = txn.number();
+            (None, Some(txn), Some(n), Some(true))
+        }
+        Err(why) => (None, None, None, refused(why)),
+    }
+}
+
 /// Takes the step.
 pub(super) fn write<R: Abort + Wait>(
     store: &Shared<MemDisk>,
@@ -109,15 +129,7 @@ pub(super) fn write<R: Abort + Wait>(
             wp_txn::leave(store, rt, seat, txn);
             (None, None, None, Some(true))
         }
-        (Writing::Take, None, None) => {
-            match wp_txn::take_prepared(store, rt, alloc, seat, &name(rt, alloc, b"t")) {
-                Ok(txn) => {
-                    let n = txn.number();
-                    (None, Some(txn), Some(n), Some(true))
-                }
-                Err(why) => (None, None, None, refused(why)),
-            }
-        }
+        (Writing::Take, None, None) => take(store, rt, alloc, seat),
         (Writing::Direct(k, v, at), None, prepared) => {
             let change = Change::Put(key(rt, alloc, k), value(rt, alloc, v));
             match wp_txn::write(store, rt, alloc, seat, change) {

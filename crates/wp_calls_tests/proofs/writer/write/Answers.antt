@@ -2,8 +2,8 @@ use Rattle.wp_model.specs.declared.change.Change.TheVariants.{Put}
 use Rattle.wp_calls_tests.proofs.Ready.{changed, has_written, not_written, written_version}
 use Rattle.wp_calls_tests.proofs.writer.write.Goals as goal
 
-pub returns-in-Put-Some-None-clause-ready : goal.returns-in-Put-Some-None-clause-ready
-returns-in-Put-Some-None-clause-ready g c =
+pub returns-after-put-clause-ready : goal.returns-after-put-clause-ready
+returns-after-put-clause-ready g c =
     changed c.args.store.now c.args.seat.now c.put.new.seat c.requires.direct c.in-Put-Some-None.txn (Put c.key-k.result c.value-v.result) c.put.result c.put.new.txn c.put.ensures
 
 pub returns-in-Ok-write-clause-ready : goal.returns-in-Ok-write-clause-ready
@@ -14,6 +14,6 @@ pub returns-in-Ok-write-clause-version : goal.returns-in-Ok-write-clause-version
 returns-in-Ok-write-clause-version g c =
     written_version c.args.store.now c.args.seat.now c.write.new.seat c.requires.direct (Put c.key.result c.value.result) c.in-Ok-write.n c.in-Ok-write.ensures.answers
 
-pub returns-in-Direct-None-default-clause-ready : goal.returns-in-Direct-None-default-clause-ready
-returns-in-Direct-None-default-clause-ready g c =
+pub returns-in-Err-write-clause-ready : goal.returns-in-Err-write-clause-ready
+returns-in-Err-write-clause-ready g c =
     not_written c.args.store.now c.args.seat.now c.write.new.seat c.requires.direct (Put c.key.result c.value.result) c.in-Err-write.why c.args.prepared c.requires.has_prepared c.in-Err-write.ensures.answers
