@@ -5,8 +5,8 @@ use Rattle.wp_model.specs.declared.change.Change.{Change}
 use Rattle.wp_model.specs.declared.change.Change.TheVariants as change
 use Rattle.wp_text.specs.declared.reply.Reply.{Reply}
 use Rattle.wp_shared.specs.Seats.{SharedState, SeatState}
-use Rattle.wp_names.specs.declared.error.TxnError.{TxnError}
-use Rattle.wp_names.specs.declared.error.TxnError.TheVariants.{Silent}
+use Rattle.wp_open_txns.specs.declared.error.TxnError.{TxnError}
+use Rattle.wp_open_txns.specs.declared.error.TxnError.TheVariants.{Silent}
 use Rattle.wp_txn.specs.Writes.{WritesDirect}
 use Rattle.wp_client.specs.declared.holdings.HeldTxn.TheVariants as held
 use Rattle.wp_client.specs.Answers.{AnswersFrom, BreaksOffFrom}

@@ -35,7 +35,7 @@ use Rattle.wp_replies.specs.Client.{Client, numbers_of}
 use Rattle.wp_replies.specs.Progress.{Progress}
 use Rattle.wp_replies.specs.Replies.{Evidence, OtherCompacted, IsKnown, IsCompactionCount, HasNothingToMerge, FailsCompaction}
 use Rattle.wp_replies.specs.Tables.{listed, after_compaction}
-use Rattle.wp_replies.proofs.Rows.{compaction_count_more}
+use Rattle.wp_replies.proofs.Conditions.{compaction_count_more}
 use Rattle.wp_answers.proofs.Alone.Retained.{numbers_in}
 use Rattle.wp_answers.proofs.Alone.Compacting.{compacted_alone, nothing_compacted_alone, compact_failed_alone, compact_halted_alone}
 use Rattle.wp_client.specs.Agrees.{Agrees}
@@ -120,8 +120,8 @@ module _ {D : Type 0} (z : SharedState D) (old new : SeatState) where
               (count_seen e.history seen k.first.segment.base done.at done.versions agrees.seen bounds.1 k.low k.few),
         ))
 
-    nothing_row : (t : Installed) (due : ℕ) → t.last.tables < 2 → (before : Progress) → before.tables ≡ due → (e : Evidence) → (t.last.tables < due → IsKnown e OtherCompacted) → HasNothingToMerge e before.tables
-    nothing_row t due few before same e known =
+    nothing_condition : (t : Installed) (due : ℕ) → t.last.tables < 2 → (before : Progress) → before.tables ≡ due → (e : Evidence) → (t.last.tables < due → IsKnown e OtherCompacted) → HasNothingToMerge e before.tables
+    nothing_condition t due few before same e known =
         elim (cases_Bool (nat_lt before.tables 2)) [
           | inl less ↦ inl (let l = less in grind (arith, nat_tests))
           | inr most ↦ inr (known (let m = most in let is = same in let f = few in grind (arith, nat_tests)))
@@ -162,19 +162,19 @@ module _ {D : Type 0} (z : SharedState D) (old new : SeatState) where
         }
 
     -- the edit that was asked for, or, where the device failed before, the one that was to be
-    fails_row : (t : Installed) (asked : Option InstalledEdit) (made : InstalledEdit) → SeveralTables t.last → IfSome asked (IsCompactionOf (HasPinned z old new) z new t.last) → IsCompactionOf (HasPinned z old new) z new t.last made
+    fails_condition : (t : Installed) (asked : Option InstalledEdit) (made : InstalledEdit) → SeveralTables t.last → IfSome asked (IsCompactionOf (HasPinned z old new) z new t.last) → IsCompactionOf (HasPinned z old new) z new t.last made
         → (before : Progress) → before.last ≤ length it.seen → (e : Evidence) → Agrees e z new.knows.participant → e.installed ≡ t.last → e.failed.edit ≡ asked → FailsCompaction e before.last (client_of h)
-    fails_row t None made several next due = fails_with t None made several due tt
-    fails_row t (Some edit) made several next due = fails_with t (Some edit) edit several next next.edit_is
+    fails_condition t None made several next due = fails_with t None made several due tt
+    fails_condition t (Some edit) made several next due = fails_with t (Some edit) edit several next next.edit_is
 
     not_compacted_beside : (why : MaintError) (r : Reply) → tables_refusal why ≡ Some r → Compacts z old (Err why) new → Answers z old new (client_of h) (client_of h) command.Compact r
     not_compacted_beside Memory r is f = absurd cc
     not_compacted_beside Nothing r is (t, k) = subst (Answers z old new (client_of h) (client_of h) command.Compact) (same_some reply.Nothing r is)
         (nothing_answers z old new command.Compact compaction_is (client_of h) t FewTables k
-        (λ first is_first before p e agrees known. nothing_row (client_of h) t (tables_due k.found.world.first_edit it.past) k.idle before
+        (λ first is_first before p e agrees known. nothing_condition (client_of h) t (tables_due k.found.world.first_edit it.past) k.idle before
         (p.tables ∙ ap (λ (edit : InstalledEdit). tables_due edit it.past) (one_was_first content z.first first k.found.world.first_edit is_first k.found.there.first_edit)) e known.3))
     not_compacted_beside TableFault r is (t, k) = subst (Answers z old new (client_of h) (client_of h) command.Compact) (same_some reply.FaultTables r is)
-        (failed_answers z old new command.Compact compaction_is (client_of h) refl t (SeveralTables t.last) (IsCompactionOf (HasPinned z old new) z new t.last) k (fails_row t k.asked k.survives.0 k.busy k.next k.survives.1))
+        (failed_answers z old new command.Compact compaction_is (client_of h) refl t (SeveralTables t.last) (IsCompactionOf (HasPinned z old new) z new t.last) k (fails_condition t k.asked k.survives.0 k.busy k.next k.survives.1))
     not_compacted_beside (TablesStopped flushed) r is (t, k) = subst (Answers z old new (client_of h) (client_of h) command.Compact) (same_some (reply.Halted flushed) r is)
         (halted_answers z old new command.Compact compaction_is (client_of h) t flushed k)
 

@@ -17,8 +17,8 @@ use Rattle.wp_core.specs.World.{Participant}
 use Rattle.wp_core.proofs.KeepsSeen.{shorter}
 use Rattle.wp_txn.specs.Records.{numbers_behind}
 use Rattle.wp_shared.specs.Seats.{SharedState, SeatState}
-use Rattle.wp_names.specs.declared.error.TxnError.{TxnError}
-use Rattle.wp_names.specs.declared.error.TxnError.TheVariants.{Silent}
+use Rattle.wp_open_txns.specs.declared.error.TxnError.{TxnError}
+use Rattle.wp_open_txns.specs.declared.error.TxnError.TheVariants.{Silent}
 use Rattle.wp_txn.specs.Calls.{without_transaction, GivesUp}
 use Rattle.wp_txn.specs.Txn.{OpenState, PreparedState, HasPrepared}
 use Rattle.wp_txn.specs.Writes.{Prepares, Ends, CommitsNow, Commits, RollsBack, RefusesOpen, RefusesPrepared, AsksCommit, AsksRollback}
@@ -61,10 +61,10 @@ module _ {D : Type 0} (z : SharedState D) (old new : SeatState) (snapshots : Lis
     -- its transaction ends by one entry
     ended_answers : (t : Txn) (made : Entry) → Ends z old name (made ∷ []) n new → refusal_of (having t snapshots) command.Commit ≡ None
         → ((before : Progress) (e : Evidence) → IsLoggedAt e.history before.last n made → Allows e before (having t snapshots) 0 command.Commit (reply.Committed n)) → Answers z old new (having t snapshots) (having Idle snapshots) command.Commit (reply.Committed n)
-    ended_answers t made k free row =
+    ended_answers t made k free condition =
         one_answers z old new _ it (without_transaction name it) k.1.0 made [] (having t snapshots) (having Idle snapshots) command.Commit (reply.Committed n) n k.1.1 k.0 refl refl (sym (append-nil it.past))
         (record { acknowledges = refl; tables = λ before. refl; labels = λ before. refl; log_failed = refl; log_stopped = refl; tables_failed = refl; once = omega arith; remembered = tt; explained = λ event there. absurd there })
-        refl (λ before. refl) row
+        refl (λ before. refl) condition
 
   pub committed_now_answers : (txn : OpenState) (n : ℕ) → CommitsNow z old txn n new → IsAnswered z old new (having (Open txn.name txn.batch) snapshots) (having Idle snapshots) command.Commit (reply.Committed n)
   committed_now_answers txn n k = (
@@ -82,9 +82,9 @@ module _ {D : Type 0} (z : SharedState D) (old new : SeatState) (snapshots : Lis
 
   given_up_answers : (name : List ℕ) (t : Txn) (c : Command) (r : Reply) → GivesUp z old new name → Fits c r [] [] it.client t → having Idle snapshots ≡ after_reply 0 (having t snapshots) c r
       → ((before : ℕ) → last_after before c r ≡ before) → ((e : Evidence) (before : Progress) → Allows e before (having t snapshots) 0 c r) → Answers z old new (having t snapshots) (having Idle snapshots) c r
-  given_up_answers name t c r goes fits is last row =
+  given_up_answers name t c r goes fits is last condition =
       else_answers z old new _ (without_transaction name it) [] (having t snapshots) (having Idle snapshots) c r 0 goes refl refl (sym (append-nil it.past)) fits is
-      (λ before low. let same = last before in omega (arith, same, low)) (λ first is_first before p e agrees. row e before)
+      (λ before low. let same = last before in omega (arith, same, low)) (λ first is_first before p e agrees. condition e before)
 
   pub dropped_answers : (txn : OpenState) → GivesUp z old new txn.name → IsAnswered z old new (having (Open txn.name txn.batch) snapshots) (having Idle snapshots) command.Rollback reply.Dropped
   dropped_answers txn goes = (

@@ -18,7 +18,7 @@ use Rattle.wp_core.proofs.KeepsSeen.{shorter}
 use Rattle.wp_core.proofs.Tests.{same_some}
 use Rattle.wp_rule.specs.Shows.{WasLast}
 use Rattle.wp_shared.specs.Parts.{content}
-use Rattle.wp_shared.specs.Calls.{Continues, remembering}
+use Rattle.wp_shared.specs.Calls.{Continues, with_events}
 use Rattle.wp_shared.specs.Seats.{SharedState, SeatState}
 use Rattle.wp_maint.specs.declared.done.Done.{Done}
 use Rattle.wp_maint.specs.declared.error.MaintError.{MaintError}
@@ -27,7 +27,7 @@ use Rattle.wp_maint.specs.Calls.{found_by, IsStopped, HasNothing, HasFailed, Has
 use Rattle.wp_replies.specs.Client.{Client}
 use Rattle.wp_replies.specs.Kind.{number_in, is_renewal, last_after}
 use Rattle.wp_replies.specs.Progress.{Progress, heard_after}
-use Rattle.wp_replies.specs.Replies.{Evidence, WasFlushed, IsKnown, IsHaltedAt, HasNothingToFlush, FailsFlush, refusal_of, Row, UnlessRefused}
+use Rattle.wp_replies.specs.Replies.{Evidence, WasFlushed, IsKnown, IsHaltedAt, HasNothingToFlush, FailsFlush, refusal_of, Condition, UnlessRefused}
 use Rattle.wp_replies.specs.After.{after_reply}
 use Rattle.wp_replies.specs.Tables.{unflushed, after_flush}
 use Rattle.wp_answers.proofs.Alone.Flushing.{flushed_alone, nothing_flushed_alone, flush_failed_alone, flush_halted_alone}
@@ -44,7 +44,7 @@ pub record IsOfTables (c : Command) : Type 0 where
   pub free : (client : Client) → refusal_of client c ≡ None
   pub last : (before : ℕ) (r : Reply) → last_after before c r ≡ unwrap_or (number_in r) before
   pub labels : (before : List (List ℕ)) (r : Reply) → heard_after before c r ≡ before
-  pub halted : (e : Evidence) (before : Progress) (client : Client) (flushed : ℕ) → IsHaltedAt e flushed → Row e before client 0 c (reply.Halted flushed)
+  pub halted : (e : Evidence) (before : Progress) (client : Client) (flushed : ℕ) → IsHaltedAt e flushed → Condition e before client 0 c (reply.Halted flushed)
 
 pub flush_is : IsOfTables command.Flush
 flush_is = record { free = λ client. refl; last = λ before r. refl; labels = λ before r. refl; halted = λ e before client flushed k. k }
@@ -63,19 +63,19 @@ module _ {D : Type 0} (z : SharedState D) (old new : SeatState) where
   seen = new.knows.participant.seen
 
   -- what the seat remembers of the call is known
-  pub known_of : (events : List Event) → Continues z old new (remembering events it) → (e : Evidence) → Agrees e z new.knows.participant → (event : Event) → IsIn event events → Knows e event
+  pub known_of : (events : List Event) → Continues z old new (with_events events it) → (e : Evidence) → Agrees e z new.knows.participant → (event : Event) → IsIn event events → Knows e event
   known_of events goes e agrees event there = agrees.past event (subst (IsIn event) (sym (ap (λ (q : Participant). q.past) goes.participant)) (in_back event it.past events there))
 
   module _ (c : Command) (of : IsOfTables c) (client : Client) where
     -- the seat goes on as it was, but that it remembers these events
-    pub tables_answers : (r : Reply) (events : List Event) → Continues z old new (remembering events it) → Fits c r [] events it.client client.txn → client ≡ after_reply 0 client c r
+    pub tables_answers : (r : Reply) (events : List Event) → Continues z old new (with_events events it) → Fits c r [] events it.client client.txn → client ≡ after_reply 0 client c r
         → ((before : ℕ) → before ≤ length seen → unwrap_or (number_in r) before ≤ length seen)
-        → ((first : InstalledEdit) → WasLast content z.first first → (before : Progress) → IsProgress first it before → (e : Evidence) → Agrees e z new.knows.participant → Row e before client 0 c r)
+        → ((first : InstalledEdit) → WasLast content z.first first → (before : Progress) → IsProgress first it before → (e : Evidence) → Agrees e z new.knows.participant → Condition e before client 0 c r)
         → Answers z old new client client c r
-    tables_answers r events goes fits is low row =
-        else_answers z old new _ (remembering events it) events client client c r 0 goes refl refl refl fits is
+    tables_answers r events goes fits is low condition =
+        else_answers z old new _ (with_events events it) events client client c r 0 goes refl refl refl fits is
         (λ before lower. subst (λ (n : ℕ). n ≤ length seen) (sym (of.last before r)) (low before lower))
-        (λ first is_first before p e agrees. subst (λ (o : Option Reply). UnlessRefused o r (Row e before client 0 c r)) (sym (of.free client)) (row first is_first before p e agrees))
+        (λ first is_first before p e agrees. subst (λ (o : Option Reply). UnlessRefused o r (Condition e before client 0 c r)) (sym (of.free client)) (condition first is_first before p e agrees))
 
     -- a device had failed before
     pub halted_answers : (t : Installed) (flushed : ℕ) → IsStopped (Continues z old new) z old new t flushed → Answers z old new client client c (reply.Halted flushed)
@@ -90,32 +90,32 @@ module _ {D : Type 0} (z : SharedState D) (old new : SeatState) where
 
     -- there was nothing to do
     pub nothing_answers : (t : Installed) (Idle : InstalledEdit → Type 0) (k : HasNothing (Continues z old new) z old new t Idle)
-        → ((first : InstalledEdit) → WasLast content z.first first → (before : Progress) → IsProgress first it before → (e : Evidence) → Agrees e z new.knows.participant → Knows e (found_by z old new t k.found) → Row e before client 0 c reply.Nothing)
+        → ((first : InstalledEdit) → WasLast content z.first first → (before : Progress) → IsProgress first it before → (e : Evidence) → Agrees e z new.knows.participant → Knows e (found_by z old new t k.found) → Condition e before client 0 c reply.Nothing)
         → Answers z old new client client c reply.Nothing
-    nothing_answers t Idle k row = let event : Event = found_by z old new t k.found in
+    nothing_answers t Idle k condition = let event : Event = found_by z old new t k.found in
         tables_answers reply.Nothing (event ∷ []) k.goes_on
         (record { acknowledges = refl; tables = λ before. refl; labels = λ before. of.labels before reply.Nothing; log_failed = refl; log_stopped = refl; tables_failed = refl; once = omega arith; remembered = tt; explained = of_one (IsExplained it.client client.txn c (Some reply.Nothing)) event tt })
         refl (λ before low. low)
-        (λ first is_first before p e agrees. row first is_first before p e agrees (known_of (event ∷ []) k.goes_on e agrees event (inl refl)))
+        (λ first is_first before p e agrees. condition first is_first before p e agrees (known_of (event ∷ []) k.goes_on e agrees event (inl refl)))
 
     -- a device failed, and the log takes entries on
     pub failed_answers : is_renewal c ≡ false → (t : Installed) (Busy : Type 0) (IsNext : InstalledEdit → Type 0) (k : HasFailed (Continues z old new) z old new t Busy IsNext)
-        → ((before : Progress) → before.last ≤ length it.seen → (e : Evidence) → Agrees e z new.knows.participant → e.installed ≡ t.last → e.failed.edit ≡ k.asked → Row e before client 0 c reply.FaultTables)
+        → ((before : Progress) → before.last ≤ length it.seen → (e : Evidence) → Agrees e z new.knows.participant → e.installed ≡ t.last → e.failed.edit ≡ k.asked → Condition e before client 0 c reply.FaultTables)
         → Answers z old new client client c reply.FaultTables
-    failed_answers other t Busy IsNext k row =
+    failed_answers other t Busy IsNext k condition =
         let event : Event = found_by z old new t k.found in let fault : Event = tables_failed t.last k.asked in
         tables_answers reply.FaultTables (event ∷ fault ∷ []) k.goes_on
         (record { acknowledges = refl; tables = λ before. refl; labels = λ before. of.labels before reply.FaultTables; log_failed = refl; log_stopped = ap one_if (sym other); tables_failed = refl; once = omega arith; remembered = tt; explained = of_two (IsExplained it.client client.txn c (Some reply.FaultTables)) event fault tt tt })
         refl (λ before low. low)
         (λ first is_first before p e agrees. let known = known_of (event ∷ fault ∷ []) k.goes_on e agrees fault (inr (inl refl)) in
-        row before p.last e agrees known.0 known.1)
+        condition before p.last e agrees known.0 known.1)
 
   -- ---- a flush
 
   module _ (client : Client) where
-    flushed_row : (t : Installed) (done : Done) (k : HasFlushed (Continues z old new) z old new t done) (before : Progress) → before.last ≤ length seen → (e : Evidence) → Agrees e z new.knows.participant → IsKnown e (WasFlushed t.last.flushed)
-        → Row e before client 0 command.Flush (reply.Flushed done.at done.versions)
-    flushed_row t done k before low e agrees known =
+    flushed_condition : (t : Installed) (done : Done) (k : HasFlushed (Continues z old new) z old new t done) (before : Progress) → before.last ≤ length seen → (e : Evidence) → Agrees e z new.knows.participant → IsKnown e (WasFlushed t.last.flushed)
+        → Condition e before client 0 command.Flush (reply.Flushed done.at done.versions)
+    flushed_condition t done k before low e agrees known =
         let at = k.at in let high = shorter e.history seen agrees.seen in (
           (omega (arith, at, low), omega (arith, at, high)),
           k.some,
@@ -142,18 +142,18 @@ module _ {D : Type 0} (z : SharedState D) (old new : SeatState) where
           explained = of_two (IsExplained it.client client.txn command.Flush (Some (reply.Flushed done.at done.versions))) event made tt (let at = k.at in grind (arith, nat_tests));
         })
         refl (λ before low. let at = k.at in omega (arith, at))
-        (λ first is_first before p e agrees. flushed_row t done k before (last_still first it new.knows.participant before k.goes_on.seen p) e agrees (known_of (event ∷ made ∷ []) k.goes_on e agrees event (inl refl)).0)
+        (λ first is_first before p e agrees. flushed_condition t done k before (last_still first it new.knows.participant before k.goes_on.seen p) e agrees (known_of (event ∷ made ∷ []) k.goes_on e agrees event (inl refl)).0)
 
     pub flushed_answers : (done : Done) → Flushes z old (Ok done) new → IsAnswered z old new client client command.Flush (reply.Flushed done.at done.versions)
     flushed_answers done k = (flushed_beside done k, λ world stands only first is_first store so. flushed_alone z first old new only store so (world, stands) is_first client done k)
 
-    nothing_row : (t : Installed) → NoneInMemory seen t.last → (before : Progress) → before.last ≤ length seen → (e : Evidence) → Agrees e z new.knows.participant → IsKnown e (WasFlushed t.last.flushed) → HasNothingToFlush e before.last
-    nothing_row t none before low e agrees known = let high = shorter e.history seen agrees.seen in
+    nothing_condition : (t : Installed) → NoneInMemory seen t.last → (before : Progress) → before.last ≤ length seen → (e : Evidence) → Agrees e z new.knows.participant → IsKnown e (WasFlushed t.last.flushed) → HasNothingToFlush e before.last
+    nothing_condition t none before low e agrees known = let high = shorter e.history seen agrees.seen in
         (omega (arith, low, high), (t.last.flushed, known, ap (λ (h : List Entry). later_versions h t.last.flushed) (taken_old e.history seen before.last agrees.seen low) ∙ none before.last))
 
-    fails_row : (t : Installed) (asked : Option InstalledEdit) → 1 ≤ length (unflushed seen t.last) → IfSome asked (λ edit. edit ≡ after_flush seen t.last) → StartsWith seen it.seen → (before : Progress) → before.last ≤ length it.seen → (e : Evidence) → Agrees e z new.knows.participant
+    fails_condition : (t : Installed) (asked : Option InstalledEdit) → 1 ≤ length (unflushed seen t.last) → IfSome asked (λ edit. edit ≡ after_flush seen t.last) → StartsWith seen it.seen → (before : Progress) → before.last ≤ length it.seen → (e : Evidence) → Agrees e z new.knows.participant
         → e.installed ≡ t.last → e.failed.edit ≡ asked → FailsFlush e before.last
-    fails_row t asked some next grown before low e agrees last failed = let there = seen_taken e.history seen agrees.seen in let more = shorter seen it.seen grown in record {
+    fails_condition t asked some next grown before low e agrees last failed = let there = seen_taken e.history seen agrees.seen in let more = shorter seen it.seen grown in record {
       at = length seen;
       fresh = (omega (arith, low, more), shorter e.history seen agrees.seen);
       some = subst (λ (x : InstalledEdit). 1 ≤ length (unflushed (take (length seen) e.history) x)) (sym last) (subst (λ (h : List Entry). 1 ≤ length (unflushed h t.last)) (sym there) some);
@@ -166,9 +166,9 @@ module _ {D : Type 0} (z : SharedState D) (old new : SeatState) where
     not_flushed_beside Memory r is f = absurd cc
     not_flushed_beside Nothing r is (t, (whole, k)) = subst (Answers z old new client client command.Flush) (same_some reply.Nothing r is)
         (nothing_answers command.Flush flush_is client t (NoneInMemory seen) k
-        (λ first is_first before p e agrees known. nothing_row t k.idle before (last_still first it new.knows.participant before k.goes_on.seen p) e agrees known.0))
+        (λ first is_first before p e agrees known. nothing_condition t k.idle before (last_still first it new.knows.participant before k.goes_on.seen p) e agrees known.0))
     not_flushed_beside TableFault r is (t, (whole, k)) = subst (Answers z old new client client command.Flush) (same_some reply.FaultTables r is)
-        (failed_answers command.Flush flush_is client refl t (1 ≤ length (unflushed seen t.last)) (λ edit. edit ≡ after_flush seen t.last) k (fails_row t k.asked k.busy k.next k.goes_on.seen))
+        (failed_answers command.Flush flush_is client refl t (1 ≤ length (unflushed seen t.last)) (λ edit. edit ≡ after_flush seen t.last) k (fails_condition t k.asked k.busy k.next k.goes_on.seen))
     not_flushed_beside (TablesStopped flushed) r is (t, k) = subst (Answers z old new client client command.Flush) (same_some (reply.Halted flushed) r is)
         (halted_answers command.Flush flush_is client t flushed k)
 

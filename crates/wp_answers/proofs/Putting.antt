@@ -3,7 +3,7 @@ use Rattle.std.proofs.Common.{◌≡◌, ℕ, suc, ◌+◌, ◌<◌, ◌≤◌, 
 use Rattle.wp_model.specs.declared.entry.Entry.{Entry}
 use Rattle.wp_model.specs.History.{entry_at}
 use Rattle.wp_model.proofs.Entries.{entry_at_old}
-use Rattle.wp_history.proofs.Growth.{entry_at_next, length_next}
+use Rattle.wp_history_laws.proofs.Growth.{entry_at_next, length_next}
 use Rattle.wp_text.specs.declared.script.Command.{Command}
 use Rattle.wp_text.specs.declared.reply.Reply.{Reply}
 use Rattle.wp_core.specs.Lists.{IsIn}

@@ -17,17 +17,17 @@ use Rattle.wp_core.proofs.PastsGrow.{in_last, in_either, total_more}
 use Rattle.wp_core.proofs.Tests.{same_some}
 use Rattle.wp_rule.proofs.Knows.{one_was_first}
 use Rattle.wp_rule.specs.Shows.{WasLast}
-use Rattle.wp_shared.specs.Calls.{Continues, remembering}
+use Rattle.wp_shared.specs.Calls.{Continues, with_events}
 use Rattle.wp_shared.specs.Parts.{content}
 use Rattle.wp_shared.proofs.Limits.{limit_either, limit_renewed}
 use Rattle.wp_shared.specs.Seats.{SharedState, SeatState, place_at}
-use Rattle.wp_names.specs.declared.error.TxnError.{TxnError}
-use Rattle.wp_names.specs.declared.error.TxnError.TheVariants.{Memory, Taken, Busy, TooMany, Silent, Unknown, InUse, NumbersFull, LogFault, Stopped}
+use Rattle.wp_open_txns.specs.declared.error.TxnError.{TxnError}
+use Rattle.wp_open_txns.specs.declared.error.TxnError.TheVariants.{Memory, Taken, Busy, TooMany, Silent, Unknown, InUse, NumbersFull, LogFault, Stopped}
 use Rattle.wp_txn.specs.Writes.{Refuses}
 use Rattle.wp_replies.specs.Client.{Client}
 use Rattle.wp_replies.specs.Kind.{number_in, fresh_in, last_after}
 use Rattle.wp_replies.specs.Progress.{Progress, heard_after}
-use Rattle.wp_replies.specs.Replies.{Limits, IsLimit, Evidence, refusal_of, needed, AsksFor, IsFresh, Row, UnlessRefused, Allows}
+use Rattle.wp_replies.specs.Replies.{Limits, IsLimit, Evidence, refusal_of, needed, AsksFor, IsFresh, Condition, UnlessRefused, Allows}
 use Rattle.wp_client.specs.Agrees.{Agrees}
 use Rattle.wp_client.specs.Alone.{log_faults, device_faults, tables_faults}
 use Rattle.wp_client.specs.Answers.{IsProgress, IsExplained, is_finding, findings, Answers}
@@ -117,8 +117,8 @@ module _ {D : Type 0} (z : SharedState D) (old new : SeatState) (client : Client
   same_last r none before low = let is : last_after before c r ≡ before = ap (λ (o : Option ℕ). unwrap_or o before) (logged.fresh r ∙ none) in omega (arith, is, low)
 
   -- the row of the reply has the last word
-  by_row : (e : Evidence) (before : Progress) (r : Reply) → Row e before client 0 c r → Allows e before client 0 c r
-  by_row e before r row = subst (λ (o : Option Reply). UnlessRefused o r (Row e before client 0 c r)) (sym logged.free) row
+  by_condition : (e : Evidence) (before : Progress) (r : Reply) → Condition e before client 0 c r → Allows e before client 0 c r
+  by_condition e before r condition = subst (λ (o : Option Reply). UnlessRefused o r (Condition e before client 0 c r)) (sym logged.free) condition
 
   module _ (found after : Participant) (front : List Event) (begins : (event : Event) → IsIn event it.past → IsIn event found.past) (same_client : after.client ≡ it.client) (own : after.own ≡ it.own) (past : after.past ≡ it.past ++ front) (k : ComesBefore client c it.client front) where
     -- the past with one event more
@@ -144,7 +144,7 @@ module _ {D : Type 0} (z : SharedState D) (old new : SeatState) (client : Client
         else_answers z old new _ after front client client c (reply.Full published limit) 0 f.4 same_client own past
         (record { acknowledges = refl; tables = λ before. sym (k.quiet before); labels = λ before. logged.labels before (reply.Full published limit); log_failed = no_device_fault front k.log_failed; log_stopped = k.log_failed; tables_failed = k.tables_failed; once = (let none = k.none_found in omega (arith, none)); remembered = tt; explained = k.explained (reply.Full published limit) tt })
         refl (same_last (reply.Full published limit) refl)
-        (λ first is_first before p e agrees. by_row e before (reply.Full published limit) (
+        (λ first is_first before p e agrees. by_condition e before (reply.Full published limit) (
           (let n = logged.needs_is in let some = logged.some in omega (arith, n, some)),
           fresh_number first before e published after f.4 f.0 p agrees,
           is_limit first is_first before p e published limit f agrees,
@@ -153,7 +153,7 @@ module _ {D : Type 0} (z : SharedState D) (old new : SeatState) (client : Client
 
     stopped_answers : (n : ℕ) → Refuses z old new needs Asks found after (Stopped n) → Answers z old new client client c (reply.Stopped n)
     stopped_answers n f =
-        else_answers z old new _ (remembering (stopped n ∷ []) after) (front ++ stopped n ∷ []) client client c (reply.Stopped n) 0 f.2 same_client own (past_more (stopped n))
+        else_answers z old new _ (with_events (stopped n ∷ []) after) (front ++ stopped n ∷ []) client client c (reply.Stopped n) 0 f.2 same_client own (past_more (stopped n))
         (record {
           acknowledges = refl;
           tables = λ before. sym (quiet_more front (stopped n) k.quiet (λ due. refl) before);
@@ -167,15 +167,15 @@ module _ {D : Type 0} (z : SharedState D) (old new : SeatState) (client : Client
               (λ (same : stopped n ≡ event). subst (IsExplained it.client client.txn c (Some (reply.Stopped n))) same tt) (in_either event (stopped n) front there);
         })
         refl (same_last (reply.Stopped n) refl)
-        (λ first is_first before p e agrees. by_row e before (reply.Stopped n) (
+        (λ first is_first before p e agrees. by_condition e before (reply.Stopped n) (
           inl (let m = logged.needs_is in let some = logged.some in omega (arith, m, some)),
-          fresh_number first before e n (remembering (stopped n ∷ []) after) f.2 f.0 p agrees,
+          fresh_number first before e n (with_events (stopped n ∷ []) after) f.2 f.0 p agrees,
           agrees.past (stopped n) (subst (IsIn (stopped n)) (sym (ap (λ (q : Participant). q.past) f.2.participant)) (in_last (stopped n) after.past)),
         ))
 
     failed_answers : Refuses z old new needs Asks found after LogFault → Answers z old new client client c reply.FaultLog
     failed_answers f = let entries = f.2.0 in let goes = f.2.2 in
-        else_answers z old new _ (remembering (log_failed entries ∷ []) after) (front ++ log_failed entries ∷ []) client client c reply.FaultLog 0 goes same_client own (past_more (log_failed entries))
+        else_answers z old new _ (with_events (log_failed entries ∷ []) after) (front ++ log_failed entries ∷ []) client client c reply.FaultLog 0 goes same_client own (past_more (log_failed entries))
         (record {
           acknowledges = refl;
           tables = λ before. sym (quiet_more front (log_failed entries) k.quiet (λ due. refl) before);
@@ -189,7 +189,7 @@ module _ {D : Type 0} (z : SharedState D) (old new : SeatState) (client : Client
               (λ (same : log_failed entries ≡ event). subst (IsExplained it.client client.txn c (Some reply.FaultLog)) same tt) (in_either event (log_failed entries) front there);
         })
         refl (same_last reply.FaultLog refl)
-        (λ first is_first before p e agrees. by_row e before reply.FaultLog
+        (λ first is_first before p e agrees. by_condition e before reply.FaultLog
         (subst (AsksFor client.txn c) (sym (agrees.past (log_failed entries) (subst (IsIn (log_failed entries)) (sym (ap (λ (q : Participant). q.past) goes.participant)) (in_last (log_failed entries) after.past)))) (logged.asks entries f.2.1)))
 
     -- each refusal of the log, with its reply
@@ -203,9 +203,9 @@ module _ {D : Type 0} (z : SharedState D) (old new : SeatState) (needs : ℕ) (A
   pub refused_holds : after.transactions ≡ old.knows.participant.transactions → after.direct ≡ old.knows.participant.direct → after.registered ≡ old.knows.participant.registered
       → (why : TxnError) → Refuses z old new needs Asks found after why → (h : HoldingsState) → Holds z old h → Holds z new h
   refused_holds ts direct registered Memory f h has = holds_still z old new after ts direct registered f h has
-  refused_holds ts direct registered (Stopped n) f h has = holds_still z old new (remembering (stopped n ∷ []) after) ts direct registered f.2 h has
+  refused_holds ts direct registered (Stopped n) f h has = holds_still z old new (with_events (stopped n ∷ []) after) ts direct registered f.2 h has
   refused_holds ts direct registered (NumbersFull published limit) f h has = holds_still z old new after ts direct registered f.4 h has
-  refused_holds ts direct registered LogFault f h has = holds_still z old new (remembering (log_failed f.2.0 ∷ []) after) ts direct registered f.2.2 h has
+  refused_holds ts direct registered LogFault f h has = holds_still z old new (with_events (log_failed f.2.0 ∷ []) after) ts direct registered f.2.2 h has
   refused_holds ts direct registered (Taken name) f h has = absurd f
   refused_holds ts direct registered (Busy holder) f h has = absurd f
   refused_holds ts direct registered TooMany f h has = absurd f

@@ -26,7 +26,7 @@ use Rattle.wp_maint.specs.declared.renewed.RenewError.TheVariants.{Memory, Nothi
 use Rattle.wp_maint.specs.Renewal.{HasRenewed, IsRenewed, IsClosed, HasBrokenOff, HasLogFault, Renews}
 use Rattle.wp_replies.specs.Client.{Client}
 use Rattle.wp_replies.specs.Progress.{Progress}
-use Rattle.wp_replies.specs.Replies.{Evidence, WasBase, IsKnown, IsFresh, HasNothingToRenew, FailsRenewal, Row}
+use Rattle.wp_replies.specs.Replies.{Evidence, WasBase, IsKnown, IsFresh, HasNothingToRenew, FailsRenewal, Condition}
 use Rattle.wp_replies.specs.Tables.{after_renewal}
 use Rattle.wp_replies.proofs.DueTables.{asks_none}
 use Rattle.wp_answers.proofs.Alone.Renewing.{renewed_alone, nothing_renewed_alone, renew_halted_alone, renew_stopped_alone, renew_log_failed_alone, renew_failed_alone}
@@ -64,19 +64,19 @@ module _ {D : Type 0} (z : SharedState D) (old new : SeatState) where
         let same : f.world.installed.last.segment.base ≡ t.last.segment.base = ap (λ (x : Installed). x.last.segment.base) table in
         let below = k.busy.below in let at = k.at in omega (arith, known.1, same, below, at)
 
-    renewed_row : (t : Installed) (done : Renewed) (k : HasRenewed (Continues z old new) z old new t done) (first : InstalledEdit) → WasLast content z.first first → (before : Progress) → IsProgress first it before → (e : Evidence) → Agrees e z new.knows.participant → Row e before client 0 command.Renew (reply.Renewed done.at done.carried)
-    renewed_row t done k first is_first before p e agrees = (
+    renewed_condition : (t : Installed) (done : Renewed) (k : HasRenewed (Continues z old new) z old new t done) (first : InstalledEdit) → WasLast content z.first first → (before : Progress) → IsProgress first it before → (e : Evidence) → Agrees e z new.knows.participant → Condition e before client 0 command.Renew (reply.Renewed done.at done.carried)
+    renewed_condition t done k first is_first before p e agrees = (
       fresh_end done.at k.at before (last_still first it new.knows.participant before k.goes_on.seen p) e agrees,
       base_below t done k first is_first before p,
       k.carried ∙ ap (λ (h : List Entry). length (undecided h)) (sym (ap (λ (m : ℕ). take m e.history) k.at ∙ seen_taken e.history seen agrees.seen)),
     )
 
-    nothing_row : (t : Installed) → t.last.segment.base ≡ length seen → (before : Progress) → before.last ≤ length seen → (e : Evidence) → IsKnown e (WasBase t.last.segment.base) → HasNothingToRenew e before.last
-    nothing_row t based before low e known = (t.last.segment.base, known, omega (arith, low, based))
+    nothing_condition : (t : Installed) → t.last.segment.base ≡ length seen → (before : Progress) → before.last ≤ length seen → (e : Evidence) → IsKnown e (WasBase t.last.segment.base) → HasNothingToRenew e before.last
+    nothing_condition t based before low e known = (t.last.segment.base, known, omega (arith, low, based))
 
-    fails_row : (t : Installed) (asked : Option InstalledEdit) (place : ℕ) → t.last.segment.base < length seen → IfSome asked (λ edit. edit ≡ after_renewal seen place t.last) → StartsWith seen it.seen → (before : Progress) → before.last ≤ length it.seen → (e : Evidence) → Agrees e z new.knows.participant
+    fails_condition : (t : Installed) (asked : Option InstalledEdit) (place : ℕ) → t.last.segment.base < length seen → IfSome asked (λ edit. edit ≡ after_renewal seen place t.last) → StartsWith seen it.seen → (before : Progress) → before.last ≤ length it.seen → (e : Evidence) → Agrees e z new.knows.participant
         → e.installed ≡ t.last → e.failed.edit ≡ asked → FailsRenewal e before.last
-    fails_row t asked place below next grown before low e agrees last failed = let more = shorter seen it.seen grown in record {
+    fails_condition t asked place below next grown before low e agrees last failed = let more = shorter seen it.seen grown in record {
       at = length seen;
       fresh = fresh_end (length seen) refl before (omega (arith, low, more)) e agrees;
       behind = let base = ap (λ (x : InstalledEdit). x.segment.base) last in omega (arith, below, base);
@@ -104,12 +104,12 @@ module _ {D : Type 0} (z : SharedState D) (old new : SeatState) where
           explained = of_two (IsExplained it.client client.txn command.Renew (Some (reply.Renewed done.at done.carried))) found made tt (ap (λ (b : Bool). b && b) (eq-eqb (length seen) done.at (sym k.at)));
         })
         refl (λ before low. let at = k.at in omega (arith, at))
-        (λ first is_first before p e agrees. renewed_row t done k first is_first before p e agrees)
+        (λ first is_first before p e agrees. renewed_condition t done k first is_first before p e agrees)
 
     nothing_beside : (t : Installed) → IsRenewed (Continues z old new) z old new t → Answers z old new client client command.Renew reply.Nothing
     nothing_beside t k =
         nothing_answers z old new command.Renew renewal_is client t (λ edit. edit.segment.base ≡ length seen) (record { found = k.found; running = k.running; idle = k.based; goes_on = k.goes_on })
-        (λ first is_first before p e agrees known. nothing_row t k.based before (last_still first it new.knows.participant before k.goes_on.seen p) e known.1)
+        (λ first is_first before p e agrees known. nothing_condition t k.based before (last_still first it new.knows.participant before k.goes_on.seen p) e known.1)
 
     -- the log was closed before
     closed_beside : (t : Installed) (n : ℕ) → IsClosed (Continues z old new) z old new t n → Answers z old new client client command.Renew (reply.Stopped n)
@@ -149,7 +149,7 @@ module _ {D : Type 0} (z : SharedState D) (old new : SeatState) where
         })
         refl (λ before low. low)
         (λ first is_first before p e agrees. let known = known_of z old new events k.goes_on e agrees fault (inr (inl refl)) in
-        fails_row t k.asked k.survives.1.0 k.busy.below (subst (λ (x : InstalledEdit). IfSome k.asked (λ edit. edit ≡ x)) k.survives.1.1 k.survives.2) k.goes_on.seen before p.last e agrees known.0 known.1)
+        fails_condition t k.asked k.survives.1.0 k.busy.below (subst (λ (x : InstalledEdit). IfSome k.asked (λ edit. edit ≡ x)) k.survives.1.1 k.survives.2) k.goes_on.seen before p.last e agrees known.0 known.1)
 
     -- the log's device failed
     log_fault_beside : (t : Installed) → HasLogFault (Continues z old new) z old new t → Answers z old new client client command.Renew reply.FaultLog

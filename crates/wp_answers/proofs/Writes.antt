@@ -17,10 +17,10 @@ use Rattle.wp_core.specs.World.{Participant}
 use Rattle.wp_core.proofs.PastsGrow.{in_front, in_last}
 use Rattle.wp_core.proofs.Tests.{same_some}
 use Rattle.wp_rule.specs.Accounts.{account_of}
-use Rattle.wp_shared.specs.Calls.{Continues, remembering}
+use Rattle.wp_shared.specs.Calls.{Continues, with_events}
 use Rattle.wp_shared.specs.Seats.{SharedState, SeatState}
-use Rattle.wp_names.specs.declared.error.TxnError.{TxnError}
-use Rattle.wp_names.specs.declared.error.TxnError.TheVariants.{Memory, Taken, Busy, TooMany, Silent, Unknown, InUse, NumbersFull, LogFault, Stopped}
+use Rattle.wp_open_txns.specs.declared.error.TxnError.{TxnError}
+use Rattle.wp_open_txns.specs.declared.error.TxnError.TheVariants.{Memory, Taken, Busy, TooMany, Silent, Unknown, InUse, NumbersFull, LogFault, Stopped}
 use Rattle.wp_txn.specs.Calls.{Keeps, Finds}
 use Rattle.wp_txn.specs.Writes.{Refuses, wrote_direct, writing_direct, WritesDirect}
 use Rattle.wp_replies.specs.declared.client.LabelledSnapshot.{LabelledSnapshot}
@@ -49,14 +49,14 @@ use Rattle.wp_client.proofs.Staying.{holds_still, keeps_holds, broke_off, broke_
 -- ---- the row
 
 -- the row of the entry's number
-logged_row : (c : Change) (snapshots : List LabelledSnapshot) (e : Evidence) (before : Progress) (n : ℕ) → IsLoggedAt e.history before.last n (Write (c ∷ [])) → Allows e before (having Idle snapshots) 0 (asking c) (acknowledging c n)
-logged_row (change.Put key value) snapshots e before n logged = (refl, logged)
-logged_row (change.Del key) snapshots e before n logged = (refl, logged)
+logged_condition : (c : Change) (snapshots : List LabelledSnapshot) (e : Evidence) (before : Progress) (n : ℕ) → IsLoggedAt e.history before.last n (Write (c ∷ [])) → Allows e before (having Idle snapshots) 0 (asking c) (acknowledging c n)
+logged_condition (change.Put key value) snapshots e before n logged = (refl, logged)
+logged_condition (change.Del key) snapshots e before n logged = (refl, logged)
 
 -- the row of the key's holder
-busy_row : (c : Change) (snapshots : List LabelledSnapshot) (e : Evidence) (before : Progress) (by : Holder) → IsBusy e before.last (key_of c) by → Allows e before (having Idle snapshots) 0 (asking c) (reply.Busy by)
-busy_row (change.Put key value) snapshots e before by k = k
-busy_row (change.Del key) snapshots e before by k = k
+busy_condition : (c : Change) (snapshots : List LabelledSnapshot) (e : Evidence) (before : Progress) (by : Holder) → IsBusy e before.last (key_of c) by → Allows e before (having Idle snapshots) 0 (asking c) (reply.Busy by)
+busy_condition (change.Put key value) snapshots e before by k = k
+busy_condition (change.Del key) snapshots e before by k = k
 
 -- that the key was locked is explained, whatever is answered but that it is busy
 locked_made : (c : Change) (n : ℕ) (client : List ℕ) → IsExplained client Idle (asking c) (Some (acknowledging c n)) (locked (key_of c) (holder.Client client))
@@ -116,17 +116,17 @@ module _ {D : Type 0} (z : SharedState D) (old new : SeatState) (c : Change) (sn
   pub written_answers : (n : ℕ) → WritesDirect z old c (Ok n) new → IsAnswered z old new me me (asking c) (acknowledging c n)
   written_answers n w = (
     one_answers z old new _ _ (wrote_direct (key_of c) it) w.1.0 (Write (c ∷ [])) (locked (key_of c) (holder.Client it.client) ∷ []) me me (asking c) (acknowledging c n) n w.1.1 w.0 refl refl refl
-        (fits_made c n it.client) (client_made c n snapshots) (last_made c n) (λ before e logged. logged_row c snapshots e before n logged),
+        (fits_made c n it.client) (client_made c n snapshots) (last_made c n) (λ before e logged. logged_condition c snapshots e before n logged),
     λ world stands only first is_first store so. written_alone z first old new only store so (world, stands) snapshots c n w,
   )
 
   busy_answers : (has : HoldsTxn z old held.Idle) (by : Holder) → Finds z old new (Some (key_of c)) by → Answers z old new me me (asking c) (reply.Busy by)
   busy_answers has by f =
       let account : Account = account_of it f.world.locks f.published (Some (key_of c)) by in let event : Event = found (Some (key_of c)) by (length it.seen) account in
-      else_answers z old new _ (remembering (event ∷ []) it) (event ∷ []) me me (asking c) (reply.Busy by) 0 f.goes_on refl refl refl
+      else_answers z old new _ (with_events (event ∷ []) it) (event ∷ []) me me (asking c) (reply.Busy by) 0 f.goes_on refl refl refl
       (record { acknowledges = refl; tables = λ before. refl; labels = λ before. labels_same c before (reply.Busy by); log_failed = refl; log_stopped = refl; tables_failed = refl; once = omega arith; remembered = tt; explained = of_one (IsExplained it.client Idle (asking c) (Some (reply.Busy by))) event tt })
       refl (last_same c (reply.Busy by) (length new.knows.participant.seen) refl)
-      (λ first is_first before p e agrees. busy_row c snapshots e before by
+      (λ first is_first before p e agrees. busy_condition c snapshots e before by
       (found_busy e before.last (key_of c) by it f.world.locks f.published p.last has.direct (λ name same. has.only name refl)
       (agrees.past event (subst (IsIn event) (sym (ap (λ (q : Participant). q.past) f.goes_on.participant)) (in_last event it.past)))))
 

@@ -9,7 +9,7 @@ use Rattle.wp_model.specs.declared.entry.Entry.TheVariants.{Write}
 use Rattle.wp_model.specs.Batch.{key_of}
 use Rattle.wp_model.specs.History.{entry_at, is_changed}
 use Rattle.wp_model.proofs.Entries.{entry_at_old, entry_at_past}
-use Rattle.wp_history.proofs.Growth.{entry_at_next, length_next}
+use Rattle.wp_history_laws.proofs.Growth.{entry_at_next, length_next}
 use Rattle.wp_core.specs.Lists.{IsIn}
 use Rattle.wp_core.specs.Reading.{Registration}
 use Rattle.wp_core.specs.Sound.Actors.{StartsWith}
@@ -19,10 +19,10 @@ use Rattle.wp_core.specs.World.{Participant}
 use Rattle.wp_core.proofs.KeepsSeen.{shorter}
 use Rattle.wp_shared.specs.Calls.{ContinuesWith, Continues, IsLoose}
 use Rattle.wp_shared.specs.Seats.{SharedState, SeatState}
-use Rattle.wp_names.specs.declared.error.TxnError.{TxnError}
-use Rattle.wp_names.specs.declared.error.TxnError.TheVariants.{Memory, Taken, Busy, TooMany, Silent, Unknown, InUse, NumbersFull, LogFault, Stopped}
-use Rattle.wp_names.specs.Calls.{Changes, locking}
-use Rattle.wp_names.specs.Txn.{OpenState, PreparedState, HasOpen, HasPrepared}
+use Rattle.wp_open_txns.specs.declared.error.TxnError.{TxnError}
+use Rattle.wp_open_txns.specs.declared.error.TxnError.TheVariants.{Memory, Taken, Busy, TooMany, Silent, Unknown, InUse, NumbersFull, LogFault, Stopped}
+use Rattle.wp_open_txns.specs.Calls.{Changes, locking}
+use Rattle.wp_open_txns.specs.Txn.{OpenState, PreparedState, HasOpen, HasPrepared}
 use Rattle.wp_txn.specs.Writes.{Refuses, WritesDirect}
 use Rattle.wp_calls_tests.specs.Ready.{IsReader, IsWriter}
 

@@ -4,7 +4,7 @@ use Rattle.wp_core.specs.Lists.{IsIn}
 use Rattle.wp_core.specs.Reading.{Registration}
 use Rattle.wp_core.specs.Sound.Snapshots.{has_versions_at}
 use Rattle.wp_shared.specs.Seats.{SharedState, SeatState, IsFree}
-use Rattle.wp_names.specs.Txn.{OpenState, PreparedState, HasOpen, HasPrepared}
+use Rattle.wp_open_txns.specs.Txn.{OpenState, PreparedState, HasOpen, HasPrepared}
 
 -- The seat is free and writes nothing directly. It has the client's open transaction, and its prepared one.
 pub record IsWriter {D : Type 0} (z : SharedState D) (s : SeatState) (begun : Option OpenState) (prepared : Option PreparedState) : Type 0 where

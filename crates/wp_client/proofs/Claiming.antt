@@ -19,13 +19,13 @@ use Rattle.wp_core.proofs.KeepsSeen.{shorter}
 use Rattle.wp_core.proofs.PastsGrow.{in_last}
 use Rattle.wp_core.proofs.Tests.{same_some}
 use Rattle.wp_rule.specs.Accounts.{account_of, account_by}
-use Rattle.wp_shared.specs.Calls.{Continues, remembering}
+use Rattle.wp_shared.specs.Calls.{Continues, with_events}
 use Rattle.wp_shared.specs.Seats.{SharedState, SeatState}
-use Rattle.wp_names.specs.declared.error.TxnError.{TxnError}
-use Rattle.wp_names.specs.declared.error.TxnError.TheVariants.{Memory, Taken, Busy, TooMany, Silent, Unknown, InUse, NumbersFull, LogFault, Stopped}
-use Rattle.wp_names.specs.Actors.{no_changes}
-use Rattle.wp_names.specs.Calls.{Finds, with_transaction, Begins, Takes, TakesPrepared}
-use Rattle.wp_names.specs.Txn.{OpenState, PreparedState, HasPrepared}
+use Rattle.wp_open_txns.specs.declared.error.TxnError.{TxnError}
+use Rattle.wp_open_txns.specs.declared.error.TxnError.TheVariants.{Memory, Taken, Busy, TooMany, Silent, Unknown, InUse, NumbersFull, LogFault, Stopped}
+use Rattle.wp_open_txns.specs.Actors.{no_changes}
+use Rattle.wp_open_txns.specs.Calls.{Finds, with_transaction, Begins, Takes, TakesPrepared}
+use Rattle.wp_open_txns.specs.Txn.{OpenState, PreparedState, HasPrepared}
 use Rattle.wp_replies.specs.declared.client.LabelledSnapshot.{LabelledSnapshot}
 use Rattle.wp_replies.specs.declared.client.Txn.TheVariants.{Idle, Open, Prepared}
 use Rattle.wp_replies.specs.Client.{Client}
@@ -53,14 +53,14 @@ module _ {D : Type 0} (z : SharedState D) (old new : SeatState) (name : List ℕ
   me = having Idle snapshots
 
   -- the past has what the call found
-  in_past : (event : Event) → Continues z old new (remembering (event ∷ []) it) → IsIn event new.knows.participant.past
+  in_past : (event : Event) → Continues z old new (with_events (event ∷ []) it) → IsIn event new.knows.participant.past
   in_past event goes = subst (IsIn event) (sym (ap (λ (q : Participant). q.past) goes.participant)) (in_last event it.past)
 
   -- ---- a name is claimed
 
   pub begun_answers : (txn : OpenState) → Begins z old name (Ok txn) new → IsAnswered z old new me (having (Open txn.name txn.batch) snapshots) (command.Begin name) reply.Begun
   begun_answers txn k = (
-    else_answers z old new _ (remembering (claimed name ∷ []) (with_transaction name no_changes it)) (claimed name ∷ []) me (having (Open txn.name txn.batch) snapshots) (command.Begin name) reply.Begun 0 k.2 refl refl refl
+    else_answers z old new _ (with_events (claimed name ∷ []) (with_transaction name no_changes it)) (claimed name ∷ []) me (having (Open txn.name txn.batch) snapshots) (command.Begin name) reply.Begun 0 k.2 refl refl refl
         (record { acknowledges = refl; tables = λ before. refl; labels = λ before. refl; log_failed = refl; log_stopped = refl; tables_failed = refl; once = omega arith; remembered = tt; explained = of_one (IsExplained it.client Idle (command.Begin name) (Some reply.Begun)) (claimed name) (itself name) })
         (ap (λ (x : OpenState). having (Open x.name x.batch) snapshots) k.0) (λ before low. low) (λ first is_first before p e agrees. tt),
     λ world stands only first is_first store so. begun_alone z first old new only store so (world, stands) snapshots name txn k,
@@ -70,7 +70,7 @@ module _ {D : Type 0} (z : SharedState D) (old new : SeatState) (name : List ℕ
   taken_answers : HoldsTxn z old held.Idle → (other : List ℕ) → other ≡ name → Finds z old new None (holder.Txn name) → Answers z old new me me (command.Begin name) (reply.Taken other)
   taken_answers has other same f =
       let account : Account = account_of it f.world.locks f.published None (holder.Txn name) in let event : Event = found None (holder.Txn name) (length it.seen) account in
-      else_answers z old new _ (remembering (event ∷ []) it) (event ∷ []) me me (command.Begin name) (reply.Taken other) 0 f.goes_on refl refl refl
+      else_answers z old new _ (with_events (event ∷ []) it) (event ∷ []) me me (command.Begin name) (reply.Taken other) 0 f.goes_on refl refl refl
       (record { acknowledges = refl; tables = λ before. refl; labels = λ before. refl; log_failed = refl; log_stopped = refl; tables_failed = refl; once = omega arith; remembered = tt; explained = of_one (IsExplained it.client Idle (command.Begin name) (Some (reply.Taken other))) event tt })
       refl (λ before low. low)
       (λ first is_first before p e agrees. (same, found_taken e before.last name it f.world.locks f.published p.last has.direct (has.only name refl) (agrees.past event (in_past event f.goes_on))))
@@ -107,7 +107,7 @@ module _ {D : Type 0} (z : SharedState D) (old new : SeatState) (name : List ℕ
 
   took_beside : (txn : PreparedState) → Takes z old name txn new → Answers z old new me (having (Prepared txn.number) snapshots) (command.Take name) reply.Took
   took_beside txn k =
-      else_answers z old new _ (remembering (took name ∷ []) (with_transaction name k.has.transaction it)) (took name ∷ []) me (having (Prepared txn.number) snapshots) (command.Take name) reply.Took txn.number k.goes_on refl refl refl
+      else_answers z old new _ (with_events (took name ∷ []) (with_transaction name k.has.transaction it)) (took name ∷ []) me (having (Prepared txn.number) snapshots) (command.Take name) reply.Took txn.number k.goes_on refl refl refl
       (record { acknowledges = refl; tables = λ before. refl; labels = λ before. refl; log_failed = refl; log_stopped = refl; tables_failed = refl; once = omega arith; remembered = tt; explained = of_one (IsExplained it.client Idle (command.Take name) (Some reply.Took)) (took name) (itself name) })
       refl (λ before low. low)
       (λ first is_first before p e agrees. was_undecided first before e p agrees)
@@ -137,7 +137,7 @@ module _ {D : Type 0} (z : SharedState D) (old new : SeatState) (name : List ℕ
   in_use_answers has other k = let f = k.1 in
       let account : Account = account_of it f.world.locks f.published None (holder.Txn name) in let event : Event = found None (holder.Txn name) (length it.seen) account in
       let of_other : account ≡ another = account_is it f.world.locks f.published None (holder.Txn name) (ap (λ (x : Option Transaction). is_some x) (has.only name refl)) ∙ ap (account_by f.published) k.2.1 in
-      else_answers z old new _ (remembering (event ∷ []) it) (event ∷ []) me me (command.Take name) (reply.InUse other) 0 f.goes_on refl refl refl
+      else_answers z old new _ (with_events (event ∷ []) it) (event ∷ []) me me (command.Take name) (reply.InUse other) 0 f.goes_on refl refl refl
       (record { acknowledges = refl; tables = λ before. refl; labels = λ before. refl; log_failed = refl; log_stopped = refl; tables_failed = refl; once = omega arith; remembered = tt; explained = of_one (IsExplained it.client Idle (command.Take name) (Some (reply.InUse other))) event tt })
       refl (λ before low. low)
       (λ first is_first before p e agrees. (k.0, subst (KnowsHolder e None (holder.Txn name) (length it.seen)) of_other (agrees.past event (in_past event f.goes_on))))

@@ -6,8 +6,8 @@ use Rattle.wp_core.specs.Views.{Fact}
 use Rattle.wp_core.specs.World.{Participant, Transactions}
 use Rattle.wp_shared.specs.Calls.{ContinuesWith}
 use Rattle.wp_shared.specs.Seats.{SharedState, SeatState}
-use Rattle.wp_names.specs.Calls.{without_transaction, GivesUp}
-use Rattle.wp_names.specs.Txn.{OpenState, PreparedState}
+use Rattle.wp_open_txns.specs.Calls.{without_transaction, GivesUp}
+use Rattle.wp_open_txns.specs.Txn.{OpenState, PreparedState}
 use Rattle.wp_client.specs.declared.holdings.HeldTxn.{HeldTxn}
 use Rattle.wp_client.specs.declared.holdings.HeldTxn.TheVariants as held
 use Rattle.wp_client.specs.Holdings.{HoldsTxn, HoldsFrom}

@@ -13,7 +13,7 @@ use Rattle.wp_core.specs.Sound.Views.{guarded_by}
 use Rattle.wp_core.proofs.KeepsSeen.{shorter}
 use Rattle.wp_shared.specs.Calls.{Continues}
 use Rattle.wp_shared.specs.Seats.{SharedState, SeatState}
-use Rattle.wp_names.specs.Txn.{HasOpen, HasPrepared}
+use Rattle.wp_open_txns.specs.Txn.{HasOpen, HasPrepared}
 
 -- the seat has the transactions that it had, and knows of them what it knew
 pub record HasStill (old new : SeatState) : Type 0 where

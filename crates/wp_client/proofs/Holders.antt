@@ -6,7 +6,7 @@ use Rattle.std.specs.FinMap as finite
 use Rattle.wp_model.specs.declared.entry.Entry.{Entry}
 use Rattle.wp_model.specs.declared.holder.Holder.{Holder}
 use Rattle.wp_model.specs.declared.holder.Holder.TheVariants as holder
-use Rattle.wp_model.specs.LockTables.{LockTables}
+use Rattle.wp_model.specs.LockState.{LockState}
 use Rattle.wp_core.specs.World.{Transaction, Participant}
 use Rattle.wp_rule.specs.Accounts.{is_key, is_self, account_by, account_else, account_of}
 use Rattle.wp_replies.specs.Replies.{Evidence, WasUndecided, IsBusy, IsNameTaken}
@@ -22,7 +22,7 @@ not_self p key (holder.Txn name) direct none = ap (λ (x : Option Transaction). 
 not_self p (Some key) (holder.Client client) direct none = ap (λ (d : Option (List ℕ)). bytes_eq p.client client && is_key d key) direct ∙ and_false (bytes_eq p.client client)
 not_self p None (holder.Client client) direct none = refl
 
-pub account_is : (p : Participant) (t : LockTables) (published : ℕ) (key : Option (List ℕ)) (h : Holder) → is_self p key h ≡ false → account_of p t published key h ≡ account_else t published h
+pub account_is : (p : Participant) (t : LockState) (published : ℕ) (key : Option (List ℕ)) (h : Holder) → is_self p key h ≡ false → account_of p t published key h ≡ account_else t published h
 account_is p t published key h none = rw none refl
 
 -- a prepare that was undecided once more was seen was so once less was
@@ -41,7 +41,7 @@ taken_by e last seen name published (Some (Some client)) low k = inr k
 taken_by e last seen name published None low k = inr k
 
 -- the holder of a key, as the table of replies has it
-pub found_busy : (e : Evidence) (last : ℕ) (key : List ℕ) (h : Holder) (p : Participant) (t : LockTables) (published : ℕ) → last ≤ length p.seen → p.direct ≡ None → ((name : List ℕ) → h ≡ holder.Txn name → finite.get p.transactions name ≡ None)
+pub found_busy : (e : Evidence) (last : ℕ) (key : List ℕ) (h : Holder) (p : Participant) (t : LockState) (published : ℕ) → last ≤ length p.seen → p.direct ≡ None → ((name : List ℕ) → h ≡ holder.Txn name → finite.get p.transactions name ≡ None)
     → KnowsHolder e (Some key) h (length p.seen) (account_of p t published (Some key) h) → IsBusy e last key h
 found_busy e last key (holder.Txn name) p t published low direct none k =
     busy_by e last (length p.seen) key name published (finite.get t.names name) low (subst (KnowsHolder e (Some key) (holder.Txn name) (length p.seen)) (account_is p t published (Some key) (holder.Txn name) (not_self p (Some key) (holder.Txn name) direct none)) k)
@@ -49,7 +49,7 @@ found_busy e last key (holder.Client client) p t published low direct none k =
     subst (KnowsHolder e (Some key) (holder.Client client) (length p.seen)) (account_is p t published (Some key) (holder.Client client) (not_self p (Some key) (holder.Client client) direct none)) k
 
 -- likewise a live name
-pub found_taken : (e : Evidence) (last : ℕ) (name : List ℕ) (p : Participant) (t : LockTables) (published : ℕ) → last ≤ length p.seen → p.direct ≡ None → finite.get p.transactions name ≡ None
+pub found_taken : (e : Evidence) (last : ℕ) (name : List ℕ) (p : Participant) (t : LockState) (published : ℕ) → last ≤ length p.seen → p.direct ≡ None → finite.get p.transactions name ≡ None
     → KnowsHolder e None (holder.Txn name) (length p.seen) (account_of p t published None (holder.Txn name)) → IsNameTaken e last name
 found_taken e last name p t published low direct none k =
     taken_by e last (length p.seen) name published (finite.get t.names name) low (subst (KnowsHolder e None (holder.Txn name) (length p.seen)) (account_is p t published None (holder.Txn name) (ap (λ (x : Option Transaction). is_some x) none)) k)

@@ -14,11 +14,11 @@ use Rattle.wp_core.specs.Views.{Event, told, heard}
 use Rattle.wp_core.specs.World.{Participant}
 use Rattle.wp_core.proofs.KeepsSeen.{shorter}
 use Rattle.wp_core.proofs.PastsGrow.{in_last}
-use Rattle.wp_shared.specs.Calls.{Continues, remembering}
+use Rattle.wp_shared.specs.Calls.{Continues, with_events}
 use Rattle.wp_shared.specs.Seats.{SharedState, SeatState}
-use Rattle.wp_names.specs.declared.error.TxnError.{TxnError}
-use Rattle.wp_names.specs.declared.error.TxnError.TheVariants.{Memory, Taken, Busy, TooMany, Silent, Unknown, InUse, NumbersFull, LogFault, Stopped}
-use Rattle.wp_names.specs.Calls.{Keeps, IsSilent, Tells, Hears}
+use Rattle.wp_open_txns.specs.declared.error.TxnError.{TxnError}
+use Rattle.wp_open_txns.specs.declared.error.TxnError.TheVariants.{Memory, Taken, Busy, TooMany, Silent, Unknown, InUse, NumbersFull, LogFault, Stopped}
+use Rattle.wp_open_txns.specs.Calls.{Keeps, IsSilent, Tells, Hears}
 use Rattle.wp_replies.specs.Client.{Client}
 use Rattle.wp_replies.specs.Progress.{knows_label}
 use Rattle.wp_client.proofs.Alone.Board.{told_alone, heard_alone, silent_alone}
@@ -50,7 +50,7 @@ module _ {D : Type 0} (z : SharedState D) (old new : SeatState) (label : List �
   abbrev it : Participant
   it = old.knows.participant
 
-  same_own : (events : List Event) → Continues z old new (remembering events it) → new.knows.participant.own ≡ it.own ++ []
+  same_own : (events : List Event) → Continues z old new (with_events events it) → new.knows.participant.own ≡ it.own ++ []
   same_own events goes = ap (λ (p : Participant). p.own) goes.participant ∙ sym (append-nil it.own)
 
   told_beside : (n : ℕ) → Tells z old label (Ok n) new → Answers z old new client client (command.Tell label) (reply.Told n)

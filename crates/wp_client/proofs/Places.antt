@@ -10,7 +10,7 @@ use Rattle.wp_core.specs.World.{Participant}
 use Rattle.wp_core.proofs.KeepsSeen.{shorter}
 use Rattle.wp_shared.specs.Calls.{Continues}
 use Rattle.wp_shared.specs.Seats.{SharedState, SeatState}
-use Rattle.wp_names.specs.Calls.{Keeps}
+use Rattle.wp_open_txns.specs.Calls.{Keeps}
 use Rattle.wp_replies.specs.Plan.{read_reply}
 use Rattle.wp_replies.specs.Replies.{refuses_label}
 use Rattle.wp_client.specs.declared.holdings.HeldSnapshot.{HeldSnapshot}

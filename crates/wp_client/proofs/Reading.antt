@@ -19,14 +19,14 @@ use Rattle.wp_rule.specs.Shows.{WasLast}
 use Rattle.wp_shared.specs.Parts.{content}
 use Rattle.wp_shared.specs.Seats.{SharedState, SeatState, IsFree}
 use Rattle.wp_shared.proofs.Onward.{starts_on}
-use Rattle.wp_names.specs.Calls.{Keeps}
+use Rattle.wp_open_txns.specs.Calls.{Keeps}
 use Rattle.wp_replies.specs.declared.client.LabelledSnapshot.{LabelledSnapshot}
 use Rattle.wp_replies.specs.Client.{Client, own_batch, number_of}
 use Rattle.wp_replies.specs.After.{after_reply}
 use Rattle.wp_replies.specs.Kind.{acknowledged, kind, is_fault, is_tables_fault, is_renewal, last_after, tables_after}
 use Rattle.wp_replies.specs.Plan.{read_reply}
 use Rattle.wp_replies.specs.Progress.{Progress, heard_after}
-use Rattle.wp_replies.specs.Replies.{Evidence, TxnIsWithin, OwnSays, IsFresh, Row, Allows, UnlessRefused, unless_labelled}
+use Rattle.wp_replies.specs.Replies.{Evidence, TxnIsWithin, OwnSays, IsFresh, Condition, Allows, UnlessRefused, unless_labelled}
 use Rattle.wp_replies.specs.Due.{Store}
 use Rattle.wp_client.specs.Alone.{IsOnly, IsStoreOf}
 use Rattle.wp_client.proofs.Alone.Quiet.{never_stops}
@@ -152,8 +152,8 @@ module _ {D : Type 0} (z : SharedState D) (old new : SeatState) (t : HeldTxn) (k
 -- ---- reads at a snapshot
 
 module _ {D : Type 0} (z : SharedState D) (old new : SeatState) (client : Client) (key label : List ℕ) (goes : Keeps z old new) where
-  with_label : (e : Evidence) (before : Progress) (n : ℕ) (r : Reply) → number_of client.snapshots label ≡ Some n → Row e before client 0 (command.GetAt key label) r → Allows e before client 0 (command.GetAt key label) r
-  with_label e before n r at row = subst (λ (o : Option ℕ). UnlessRefused (unless_labelled o label) r (Row e before client 0 (command.GetAt key label) r)) (sym at) row
+  with_label : (e : Evidence) (before : Progress) (n : ℕ) (r : Reply) → number_of client.snapshots label ≡ Some n → Condition e before client 0 (command.GetAt key label) r → Allows e before client 0 (command.GetAt key label) r
+  with_label e before n r at condition = subst (λ (o : Option ℕ). UnlessRefused (unless_labelled o label) r (Condition e before client 0 (command.GetAt key label) r)) (sym at) condition
 
   within : (n : ℕ) (e : Evidence) → n ≤ length new.knows.participant.seen → Agrees e z new.knows.participant → n ≤ length e.history
   within n e low agrees = let high = shorter e.history new.knows.participant.seen agrees.seen in omega (arith, low, high)
@@ -176,7 +176,7 @@ module _ {D : Type 0} (z : SharedState D) (old new : SeatState) (client : Client
   unknown_beside none =
       keeps_answers z old new client client (command.GetAt key label) (reply.UnknownSnapshot label) goes (record { acknowledges = refl; tables = λ before. refl; labels = λ before. refl; log_failed = refl; tables_failed = refl; remembered = tt })
       refl (λ before low. low)
-      (λ first is_first before p e agrees. subst (λ (o : Option ℕ). UnlessRefused (unless_labelled o label) (reply.UnknownSnapshot label) (Row e before client 0 (command.GetAt key label) (reply.UnknownSnapshot label))) (sym none) refl)
+      (λ first is_first before p e agrees. subst (λ (o : Option ℕ). UnlessRefused (unless_labelled o label) (reply.UnknownSnapshot label) (Condition e before client 0 (command.GetAt key label) (reply.UnknownSnapshot label))) (sym none) refl)
 
   pub unknown_answers : new ≡ old → number_of client.snapshots label ≡ None → IsAnswered z old new client client (command.GetAt key label) (reply.UnknownSnapshot label)
   unknown_answers same none = (unknown_beside none, λ world stands only first is_first store so. unknown_snapshot_alone z first old new only store so client.txn client.snapshots same key label none)

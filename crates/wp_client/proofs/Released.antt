@@ -14,7 +14,7 @@ use Rattle.wp_read.specs.Registers.{IsTaken}
 use Rattle.wp_shared.specs.Calls.{Continues}
 use Rattle.wp_shared.specs.Seats.{SharedState, SeatState}
 use Rattle.wp_shared.proofs.Onward.{starts_on}
-use Rattle.wp_names.specs.Calls.{Keeps, without_transaction, GivesUp}
+use Rattle.wp_open_txns.specs.Calls.{Keeps, without_transaction, GivesUp}
 use Rattle.wp_client.specs.declared.holdings.HeldTxn.{HeldTxn}
 use Rattle.wp_client.specs.declared.holdings.HeldTxn.TheVariants as held
 use Rattle.wp_client.specs.declared.holdings.HeldSnapshot.{HeldSnapshot}

@@ -18,11 +18,11 @@ use Rattle.wp_core.proofs.PastsGrow.{total_more}
 use Rattle.wp_core.proofs.Tests.{same_some}
 use Rattle.wp_shared.specs.Calls.{Continues}
 use Rattle.wp_shared.specs.Seats.{SharedState, SeatState}
-use Rattle.wp_names.specs.Calls.{Keeps}
+use Rattle.wp_open_txns.specs.Calls.{Keeps}
 use Rattle.wp_replies.specs.declared.client.TheConstants.{MOST_SNAPSHOTS}
 use Rattle.wp_replies.specs.declared.client.LabelledSnapshot.{LabelledSnapshot}
 use Rattle.wp_replies.specs.Client.{Client, number_of, without_label, AreWithin}
-use Rattle.wp_replies.specs.Replies.{UnlessRefused, unless_labelled, refuses_label, Row}
+use Rattle.wp_replies.specs.Replies.{UnlessRefused, unless_labelled, refuses_label, Condition}
 use Rattle.wp_replies.proofs.Within.{within_more}
 use Rattle.wp_client.proofs.Alone.Snapshots.{snapped_alone, freed_alone, not_snapped_alone, not_freed_alone}
 use Rattle.wp_client.specs.declared.holdings.HeldSnapshot.{HeldSnapshot}
@@ -75,11 +75,11 @@ module _ {D : Type 0} (z : SharedState D) (old new : SeatState) (client : Client
   refused_by r (inl is) refused = subst (Answers z old new client client (command.Snap label)) (sym is)
       (keeps_answers z old new client client (command.Snap label) (reply.Taken label) goes (record { acknowledges = refl; tables = λ before. refl; labels = λ before. refl; log_failed = refl; tables_failed = refl; remembered = tt })
       refl (λ before low. low)
-      (λ first is_first before p e agrees. subst (λ (o : Option Reply). UnlessRefused o (reply.Taken label) (Row e before client 0 (command.Snap label) (reply.Taken label))) (sym (refused ∙ ap Some is)) refl))
+      (λ first is_first before p e agrees. subst (λ (o : Option Reply). UnlessRefused o (reply.Taken label) (Condition e before client 0 (command.Snap label) (reply.Taken label))) (sym (refused ∙ ap Some is)) refl))
   refused_by r (inr is) refused = subst (Answers z old new client client (command.Snap label)) (sym is)
       (keeps_answers z old new client client (command.Snap label) reply.TooMany goes (record { acknowledges = refl; tables = λ before. refl; labels = λ before. refl; log_failed = refl; tables_failed = refl; remembered = tt })
       refl (λ before low. low)
-      (λ first is_first before p e agrees. subst (λ (o : Option Reply). UnlessRefused o reply.TooMany (Row e before client 0 (command.Snap label) reply.TooMany)) (sym (refused ∙ ap Some is)) refl))
+      (λ first is_first before p e agrees. subst (λ (o : Option Reply). UnlessRefused o reply.TooMany (Condition e before client 0 (command.Snap label) reply.TooMany)) (sym (refused ∙ ap Some is)) refl))
 
   which : (taken full : Bool) (r : Reply) → (if taken then Some (reply.Taken label) else (if full then Some reply.TooMany else None)) ≡ Some r → (r ≡ reply.Taken label) ⊎ (r ≡ reply.TooMany)
   which true full r is = inl (sym (same_some (reply.Taken label) r is))
@@ -97,7 +97,7 @@ module _ {D : Type 0} (z : SharedState D) (old new : SeatState) (client : Client
   unlabelled_beside none =
       keeps_answers z old new client client (command.Free label) (reply.UnknownSnapshot label) goes (record { acknowledges = refl; tables = λ before. refl; labels = λ before. refl; log_failed = refl; tables_failed = refl; remembered = tt })
       refl (λ before low. low)
-      (λ first is_first before p e agrees. subst (λ (o : Option ℕ). UnlessRefused (unless_labelled o label) (reply.UnknownSnapshot label) (Row e before client 0 (command.Free label) (reply.UnknownSnapshot label))) (sym none) refl)
+      (λ first is_first before p e agrees. subst (λ (o : Option ℕ). UnlessRefused (unless_labelled o label) (reply.UnknownSnapshot label) (Condition e before client 0 (command.Free label) (reply.UnknownSnapshot label))) (sym none) refl)
 
   pub unlabelled_answers : new ≡ old → number_of client.snapshots label ≡ None → IsAnswered z old new client client (command.Free label) (reply.UnknownSnapshot label)
   unlabelled_answers same none = (unlabelled_beside none, λ world stands only first is_first store so. not_freed_alone z first old new only store so client.txn client.snapshots label same none)
@@ -147,7 +147,7 @@ module _ {D : Type 0} (z : SharedState D) (old new : SeatState) (h : HoldingsSta
       (ap (λ (xs : List LabelledSnapshot). record { txn = txn_of h.txn; snapshots = xs }) (mapped_more labelled h.snapshots s))
       (λ before low. omega (arith, is))
       (λ first is_first before p e agrees. let low = last_still first it new.knows.participant before goes.seen p in let high = shorter e.history new.knows.participant.seen agrees.seen in
-      subst (λ (o : Option Reply). UnlessRefused o (reply.Snapped s.snapshot.number) (Row e before (client_of h) 0 (command.Snap s.label) (reply.Snapped s.snapshot.number))) (sym free) (omega (arith, is, low), omega (arith, is, high)))
+      subst (λ (o : Option Reply). UnlessRefused o (reply.Snapped s.snapshot.number) (Condition e before (client_of h) 0 (command.Snap s.label) (reply.Snapped s.snapshot.number))) (sym free) (omega (arith, is, low), omega (arith, is, high)))
 
   pub snapped_answers : refuses_label (map labelled h.snapshots) s.label ≡ None → Continues z old new registering → s.snapshot.number ≡ length new.knows.participant.seen
       → IsAnswered z old new (client_of h) (client_of with_it) (command.Snap s.label) (reply.Snapped s.snapshot.number)
@@ -201,7 +201,7 @@ module _ {D : Type 0} (z : SharedState D) (old new : SeatState) (h : HoldingsSta
       (record { acknowledges = refl; tables = λ before. refl; labels = λ before. refl; log_failed = refl; log_stopped = refl; tables_failed = refl; once = omega arith; remembered = tt; explained = λ event there. absurd there })
       (ap (λ (xs : List LabelledSnapshot). record { txn = txn_of h.txn; snapshots = xs }) left_labels)
       (λ before low. low)
-      (λ first is_first before p e agrees. subst (λ (o : Option ℕ). UnlessRefused (unless_labelled o label) reply.Freed (Row e before (client_of h) 0 (command.Free label) reply.Freed)) (sym (place_number h.snapshots label i at)) tt)
+      (λ first is_first before p e agrees. subst (λ (o : Option ℕ). UnlessRefused (unless_labelled o label) reply.Freed (Condition e before (client_of h) 0 (command.Free label) reply.Freed)) (sym (place_number h.snapshots label i at)) tt)
 
   pub freed_answers : IsAnswered z old new (client_of h) (client_of without_one) (command.Free label) reply.Freed
   freed_answers = (

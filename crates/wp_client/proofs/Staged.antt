@@ -22,20 +22,20 @@ use Rattle.wp_core.specs.World.{Participant}
 use Rattle.wp_core.proofs.PastsGrow.{in_last}
 use Rattle.wp_core.proofs.Tests.{same_some}
 use Rattle.wp_rule.specs.Accounts.{account_of}
-use Rattle.wp_shared.specs.Calls.{remembering}
+use Rattle.wp_shared.specs.Calls.{with_events}
 use Rattle.wp_shared.specs.Seats.{SharedState, SeatState}
-use Rattle.wp_names.specs.declared.error.TxnError.{TxnError}
-use Rattle.wp_names.specs.declared.error.TxnError.TheVariants.{Memory, Taken, Busy, TooMany, Silent, Unknown, InUse, NumbersFull, LogFault, Stopped}
-use Rattle.wp_names.specs.Actors.{transaction_in, with_key_locked}
-use Rattle.wp_names.specs.Calls.{with_transaction, IsFull, locking, changing, Changes}
-use Rattle.wp_names.specs.Txn.{OpenState}
+use Rattle.wp_open_txns.specs.declared.error.TxnError.{TxnError}
+use Rattle.wp_open_txns.specs.declared.error.TxnError.TheVariants.{Memory, Taken, Busy, TooMany, Silent, Unknown, InUse, NumbersFull, LogFault, Stopped}
+use Rattle.wp_open_txns.specs.Actors.{transaction_in, with_key_locked}
+use Rattle.wp_open_txns.specs.Calls.{with_transaction, IsFull, locking, changing, Changes}
+use Rattle.wp_open_txns.specs.Txn.{OpenState}
 use Rattle.wp_replies.specs.declared.client.LabelledSnapshot.{LabelledSnapshot}
 use Rattle.wp_replies.specs.declared.client.Txn.TheVariants.{Open}
 use Rattle.wp_replies.specs.Client.{Client, has_no_room}
 use Rattle.wp_replies.specs.After.{after_reply}
 use Rattle.wp_replies.specs.Kind.{number_in, last_after}
 use Rattle.wp_replies.specs.Progress.{Progress, heard_after}
-use Rattle.wp_replies.specs.Replies.{Evidence, IsBusy, Allows, Row, UnlessRefused}
+use Rattle.wp_replies.specs.Replies.{Evidence, IsBusy, Allows, Condition, UnlessRefused}
 use Rattle.wp_client.specs.declared.holdings.HeldTxn.TheVariants as held
 use Rattle.wp_client.specs.Answers.{IsExplained, Answers, BreaksOff, IsAnswered}
 use Rattle.wp_client.specs.Holdings.{HoldingsState, HoldsTxn, Holds, HoldsFrom}
@@ -109,21 +109,21 @@ module _ (name : List ℕ) (batch : List Change) (snapshots : List LabelledSnaps
   abbrev me : Client
   me = having (Open name batch) snapshots
 
-  with_room : (c : Change) (e : Evidence) (before : Progress) (r : Reply) → has_no_room batch (key_of c) ≡ false → Row e before me 0 (asking c) r → Allows e before me 0 (asking c) r
-  with_room (change.Put key value) e before r room row = subst (λ (b : Bool). UnlessRefused (if b then Some reply.TooMany else None) r (Row e before me 0 (asking (change.Put key value)) r)) (sym room) row
-  with_room (change.Del key) e before r room row = subst (λ (b : Bool). UnlessRefused (if b then Some reply.TooMany else None) r (Row e before me 0 (asking (change.Del key)) r)) (sym room) row
+  with_room : (c : Change) (e : Evidence) (before : Progress) (r : Reply) → has_no_room batch (key_of c) ≡ false → Condition e before me 0 (asking c) r → Allows e before me 0 (asking c) r
+  with_room (change.Put key value) e before r room condition = subst (λ (b : Bool). UnlessRefused (if b then Some reply.TooMany else None) r (Condition e before me 0 (asking (change.Put key value)) r)) (sym room) condition
+  with_room (change.Del key) e before r room condition = subst (λ (b : Bool). UnlessRefused (if b then Some reply.TooMany else None) r (Condition e before me 0 (asking (change.Del key)) r)) (sym room) condition
 
-  held_row : (c : Change) (e : Evidence) (before : Progress) → Row e before me 0 (asking c) reply.Held
-  held_row (change.Put key value) e before = tt
-  held_row (change.Del key) e before = tt
+  held_condition : (c : Change) (e : Evidence) (before : Progress) → Condition e before me 0 (asking c) reply.Held
+  held_condition (change.Put key value) e before = tt
+  held_condition (change.Del key) e before = tt
 
-  busy_row : (c : Change) (e : Evidence) (before : Progress) (by : Holder) → IsBusy e before.last (key_of c) by → Row e before me 0 (asking c) (reply.Busy by)
-  busy_row (change.Put key value) e before by k = k
-  busy_row (change.Del key) e before by k = k
+  busy_condition : (c : Change) (e : Evidence) (before : Progress) (by : Holder) → IsBusy e before.last (key_of c) by → Condition e before me 0 (asking c) (reply.Busy by)
+  busy_condition (change.Put key value) e before by k = k
+  busy_condition (change.Del key) e before by k = k
 
-  full_row : (c : Change) (e : Evidence) (before : Progress) → has_no_room batch (key_of c) ≡ true → Allows e before me 0 (asking c) reply.TooMany
-  full_row (change.Put key value) e before full = subst (λ (b : Bool). UnlessRefused (if b then Some reply.TooMany else None) reply.TooMany (Row e before me 0 (asking (change.Put key value)) reply.TooMany)) (sym full) refl
-  full_row (change.Del key) e before full = subst (λ (b : Bool). UnlessRefused (if b then Some reply.TooMany else None) reply.TooMany (Row e before me 0 (asking (change.Del key)) reply.TooMany)) (sym full) refl
+  full_condition : (c : Change) (e : Evidence) (before : Progress) → has_no_room batch (key_of c) ≡ true → Allows e before me 0 (asking c) reply.TooMany
+  full_condition (change.Put key value) e before full = subst (λ (b : Bool). UnlessRefused (if b then Some reply.TooMany else None) reply.TooMany (Condition e before me 0 (asking (change.Put key value)) reply.TooMany)) (sym full) refl
+  full_condition (change.Del key) e before full = subst (λ (b : Bool). UnlessRefused (if b then Some reply.TooMany else None) reply.TooMany (Condition e before me 0 (asking (change.Del key)) reply.TooMany)) (sym full) refl
 
   held_client : (c : Change) → having (Open name (with_change batch c)) snapshots ≡ after_reply 0 me (asking c) reply.Held
   held_client (change.Put key value) = refl
@@ -169,7 +169,7 @@ module _ {D : Type 0} (z : SharedState D) (old new : SeatState) (txn left : Open
         (held_fits txn.name txn.batch snapshots (is_changed txn.batch (key_of c)) c it.client)
         (ap (λ (x : OpenState). having (Open x.name x.batch) snapshots) k.1 ∙ held_client txn.name txn.batch snapshots c)
         (last_same c reply.Held (length new.knows.participant.seen) refl)
-        (λ first is_first before p e agrees. with_room txn.name txn.batch snapshots c e before reply.Held (not_full txn.batch (key_of c) small k.0) (held_row txn.name txn.batch snapshots c e before)),
+        (λ first is_first before p e agrees. with_room txn.name txn.batch snapshots c e before reply.Held (not_full txn.batch (key_of c) small k.0) (held_condition txn.name txn.batch snapshots c e before)),
     λ world stands only first is_first store so. held_alone z first old new only store so (world, stands) snapshots c txn left small k,
   )
 
@@ -181,15 +181,15 @@ module _ {D : Type 0} (z : SharedState D) (old new : SeatState) (txn left : Open
       else_answers z old new _ it [] before_it after_it (asking c) reply.TooMany 0 k.3 refl refl (sym (append-nil it.past))
       (record { acknowledges = refl; tables = λ before. refl; labels = λ before. labels_same c before reply.TooMany; log_failed = refl; log_stopped = refl; tables_failed = refl; once = omega arith; remembered = tt; explained = λ event there. absurd there })
       (same_left k.1) (last_same c reply.TooMany (length new.knows.participant.seen) refl)
-      (λ first is_first before p e agrees. full_row txn.name txn.batch snapshots c e before (is_full txn.batch (key_of c) k.0))
+      (λ first is_first before p e agrees. full_condition txn.name txn.batch snapshots c e before (is_full txn.batch (key_of c) k.0))
 
   busy_answers : HoldsTxn z old (held.Open txn) → (by : Holder) → Changes z old txn c (Err (Busy by)) new left → Answers z old new before_it after_it (asking c) (reply.Busy by)
   busy_answers has by k = let f = k.5 in
       let account : Account = account_of it f.world.locks f.published (Some (key_of c)) by in let event : Event = found (Some (key_of c)) by (length it.seen) account in
-      else_answers z old new _ (remembering (event ∷ []) it) (event ∷ []) before_it after_it (asking c) (reply.Busy by) 0 f.goes_on refl refl refl
+      else_answers z old new _ (with_events (event ∷ []) it) (event ∷ []) before_it after_it (asking c) (reply.Busy by) 0 f.goes_on refl refl refl
       (record { acknowledges = refl; tables = λ before. refl; labels = λ before. labels_same c before (reply.Busy by); log_failed = refl; log_stopped = refl; tables_failed = refl; once = omega arith; remembered = tt; explained = of_one (IsExplained it.client (Open txn.name txn.batch) (asking c) (Some (reply.Busy by))) event tt })
       (same_left k.1) (last_same c (reply.Busy by) (length new.knows.participant.seen) refl)
-      (λ first is_first before p e agrees. with_room txn.name txn.batch snapshots c e before (reply.Busy by) (not_full txn.batch (key_of c) small k.0) (busy_row txn.name txn.batch snapshots c e before by
+      (λ first is_first before p e agrees. with_room txn.name txn.batch snapshots c e before (reply.Busy by) (not_full txn.batch (key_of c) small k.0) (busy_condition txn.name txn.batch snapshots c e before by
       (found_busy e before.last (key_of c) by it f.world.locks f.published p.last has.direct (λ name same. has.only name (not_own txn.name by k.4 name same))
       (agrees.past event (subst (IsIn event) (sym (ap (λ (q : Participant). q.past) f.goes_on.participant)) (in_last event it.past))))))
 

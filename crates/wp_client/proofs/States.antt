@@ -10,8 +10,8 @@ use Rattle.wp_replies.specs.Client.{Client}
 use Rattle.wp_replies.specs.Due.{Store, due}
 use Rattle.wp_replies.specs.Kind.{fresh_in}
 use Rattle.wp_replies.specs.Progress.{heard_after}
-use Rattle.wp_replies.specs.Replies.{Row, UnlessRefused, refusal_of}
-use Rattle.wp_names.specs.Calls.{Keeps}
+use Rattle.wp_replies.specs.Replies.{Condition, UnlessRefused, refusal_of}
+use Rattle.wp_open_txns.specs.Calls.{Keeps}
 use Rattle.wp_client.proofs.Alone.ReadKeys.{state_alone}
 use Rattle.wp_client.specs.declared.holdings.HeldTxn.{HeldTxn}
 use Rattle.wp_client.specs.Answers.{Answers, AnswersFrom}
@@ -25,7 +25,7 @@ state_answers : {D : Type 0} (z : SharedState D) (old new : SeatState) (client :
 state_answers z old new client c refused fresh labels goes =
     keeps_answers z old new client client c reply.State goes (record { acknowledges = refl; tables = λ before. refl; labels = labels; log_failed = refl; tables_failed = refl; remembered = tt }) refl
     (λ before low. subst (λ (o : Option ℕ). unwrap_or o before ≤ length new.knows.participant.seen) (sym fresh) low)
-    (λ first is_first before p e agrees. subst (λ (o : Option Reply). UnlessRefused o reply.State (Row e before client 0 c reply.State)) (sym refused) refl)
+    (λ first is_first before p e agrees. subst (λ (o : Option Reply). UnlessRefused o reply.State (Condition e before client 0 c reply.State)) (sym refused) refl)
 
 -- the transaction is this one, and stays so
 module _ {D : Type 0} (z : SharedState D) (s : SeatState) (was t : HeldTxn) (is : was ≡ t) where

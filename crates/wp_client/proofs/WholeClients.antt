@@ -11,7 +11,7 @@ use Rattle.wp_shared.specs.Parts.{content}
 use Rattle.wp_shared.specs.Seats.{SharedState, SeatState, Stands}
 use Rattle.wp_replies.specs.Due.{Store}
 use Rattle.wp_client.specs.Alone.{IsOnly, IsStoreOf, AnswersAlone}
-use Rattle.wp_names.specs.Calls.{Keeps}
+use Rattle.wp_open_txns.specs.Calls.{Keeps}
 use Rattle.wp_replies.specs.Client.{Client}
 use Rattle.wp_client.specs.declared.holdings.HeldTxn.{HeldTxn}
 use Rattle.wp_client.specs.declared.holdings.HeldSnapshot.{HeldSnapshot}

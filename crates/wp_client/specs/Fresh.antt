@@ -9,7 +9,7 @@ use Rattle.wp_core.specs.Reading.{Registration}
 use Rattle.wp_core.specs.Sound.Actors.{StartsWith}
 use Rattle.wp_read.specs.Registers.{IsTaken}
 use Rattle.wp_shared.specs.Seats.{SharedState, SeatState}
-use Rattle.wp_names.specs.Calls.{WasHistory}
+use Rattle.wp_open_txns.specs.Calls.{WasHistory}
 
 -- The number was published in a world of the store in which the seat took a snapshot with it, and had done no more than before.
 -- What was published then it has seen now.

@@ -6,7 +6,7 @@ use Rattle.wp_core.specs.Changes.{is_same_registration}
 use Rattle.wp_core.specs.Lists.{one_if, total}
 use Rattle.wp_core.specs.Reading.{Registration}
 use Rattle.wp_shared.specs.Seats.{SharedState, SeatState, IsFree}
-use Rattle.wp_names.specs.Txn.{HasOpen, HasPrepared}
+use Rattle.wp_open_txns.specs.Txn.{HasOpen, HasPrepared}
 use Rattle.wp_replies.specs.declared.client.LabelledSnapshot.{LabelledSnapshot}
 use Rattle.wp_replies.specs.declared.client.Txn.{Txn}
 use Rattle.wp_replies.specs.declared.client.Txn.TheVariants.{Idle, Open, Prepared}

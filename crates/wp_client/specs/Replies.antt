@@ -5,9 +5,9 @@ use Rattle.wp_model.specs.History.{value_at}
 use Rattle.wp_text.specs.declared.reply.Reply.{Reply}
 use Rattle.wp_text.specs.declared.reply.Reply.TheVariants as reply
 use Rattle.wp_shared.specs.Seats.{SharedState, SeatState}
-use Rattle.wp_names.specs.Calls.{Keeps}
-use Rattle.wp_names.specs.declared.error.TxnError.{TxnError}
-use Rattle.wp_names.specs.declared.error.TxnError.TheVariants as why
+use Rattle.wp_open_txns.specs.Calls.{Keeps}
+use Rattle.wp_open_txns.specs.declared.error.TxnError.{TxnError}
+use Rattle.wp_open_txns.specs.declared.error.TxnError.TheVariants as why
 use Rattle.wp_replies.specs.Client.{number_of}
 use Rattle.wp_client.specs.declared.holdings.HeldTxn.{HeldTxn}
 use Rattle.wp_client.specs.declared.holdings.HeldTxn.TheVariants as held

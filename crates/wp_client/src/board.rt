@@ -11,7 +11,7 @@ use crate::refusals::refusal;
 use std::alloc::{AllocError, Global};
 use std::sync::Wait;
 use wp_model::Name;
-use wp_names::TxnError;
+use wp_open_txns::TxnError;
 use wp_outside::Disk;
 use wp_shared::{Seat, Shared};
 use wp_text::Reply;
@@ -30,7 +30,7 @@ pub fn tell<D: Disk + Drop, R: Wait>(
     ensures published { IfOk result (NamesSeen store.now seat.old seat.new (Tell label.now)) }
     ensures err { OnErr result ((client : Client) → BreaksOff seat.old seat.new client (Tell label.now)) }
 {
-    match wp_names::tell(store, rt, alloc, seat, label) {
+    match wp_open_txns::tell(store, rt, alloc, seat, label) {
         Ok(published) => Ok(Reply::Told(published)),
         Err(why) => refusal(why),
     }
@@ -51,7 +51,7 @@ pub fn hear<D: Disk + Drop, R: Wait>(
     ensures err { OnErr result ((client : Client) → BreaksOff seat.old seat.new client (Hear label.now)) }
 {
     let asked = label.copy(alloc)?;
-    match wp_names::hear(store, rt, seat, label) {
+    match wp_open_txns::hear(store, rt, seat, label) {
         Ok(published) => Ok(Reply::Heard(published)),
         Err(TxnError::Silent) => Ok(Reply::Silent(asked)),
         Err(_) => unreachable!(),

@@ -17,8 +17,8 @@ fn let_txn_go<D: Disk + Drop, R: Wait>(store: &Shared<D>, rt: &R, seat: &mut Sea
 {
     match txn {
         HeldTxn::Idle => {}
-        HeldTxn::Open(open) => wp_names::abandon(store, rt, seat, open),
-        HeldTxn::Prepared(prepared) => wp_names::leave(store, rt, seat, prepared),
+        HeldTxn::Open(open) => wp_open_txns::abandon(store, rt, seat, open),
+        HeldTxn::Prepared(prepared) => wp_open_txns::leave(store, rt, seat, prepared),
     }
 }
 

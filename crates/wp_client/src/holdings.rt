@@ -7,7 +7,7 @@ ghost use Rattle.wp_client.specs.Replies.{IsPlace};
 use std::alloc::Global;
 use std::marker::Model;
 use wp_model::Name;
-use wp_names::{OpenTxn, PreparedTxn};
+use wp_open_txns::{OpenTxn, PreparedTxn};
 use wp_read::Snapshot;
 
 /// A client's transaction. It has to be spent.

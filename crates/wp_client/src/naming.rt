@@ -30,7 +30,7 @@ fn begin_now<D: Disk + Drop, R: Wait>(
     let Ok(asked) = name.copy(alloc) else {
         return (HeldTxn::Idle, Err(AllocError));
     };
-    match wp_names::begin(store, rt, alloc, seat, asked) {
+    match wp_open_txns::begin(store, rt, alloc, seat, asked) {
         Ok(open) => (HeldTxn::Open(open), Ok(Reply::Begun)),
         Err(why) => (HeldTxn::Idle, refusal(why)),
     }
@@ -49,7 +49,7 @@ fn take_now<D: Disk + Drop, R: Wait>(
     ensures answered { IfOk result.1 (AnswersFrom store.now seat.old seat.new held.Idle result.0 (Take name.now)) }
     ensures err { OnErr result.1 (BreaksOffFrom seat.old seat.new held.Idle result.0 (Take name.now)) }
 {
-    match wp_names::take_prepared(store, rt, alloc, seat, name) {
+    match wp_open_txns::take_prepared(store, rt, alloc, seat, name) {
         Ok(prepared) => (HeldTxn::Prepared(prepared), Ok(Reply::Took)),
         Err(why) => (HeldTxn::Idle, refusal(why)),
     }

@@ -3,7 +3,7 @@ ghost use Rattle.std.specs.Prelude.{◌≡◌, [], MatchOption, IfOk, OnErr};
 ghost use Rattle.wp_model.specs.Batch.{change_to};
 ghost use Rattle.wp_shared.specs.Seats.{IsFree};
 ghost use Rattle.wp_text.specs.declared.script.Command.TheVariants.{Get, GetAt};
-ghost use Rattle.wp_names.specs.Calls.{Keeps};
+ghost use Rattle.wp_open_txns.specs.Calls.{Keeps};
 ghost use Rattle.wp_replies.specs.Plan as plans;
 ghost use Rattle.wp_client.specs.Answers.{AnswersFrom, IsAnswered};
 ghost use Rattle.wp_client.specs.Fresh.{NamesSeen};

@@ -1,10 +1,10 @@
 //! What a refusal is answered.
 ghost use Rattle.std.specs.Prelude.{◌≡◌, ◌≢◌, Some, None, IfOk, OnErr};
-ghost use Rattle.wp_names.specs.declared.error.TxnError.TheVariants.{Silent};
+ghost use Rattle.wp_open_txns.specs.declared.error.TxnError.TheVariants.{Silent};
 ghost use Rattle.wp_client.specs.Replies.{refusal};
 
 use std::alloc::AllocError;
-use wp_names::TxnError;
+use wp_open_txns::TxnError;
 use wp_text::Reply;
 
 /// The reply, unless memory was wanting. That a label is silent is not answered here, since the reply names it.

@@ -10,7 +10,7 @@ use crate::refusals::refusal;
 use std::alloc::{AllocError, Global};
 use std::sync::Wait;
 use wp_model::{Key, Value};
-use wp_names::OpenTxn;
+use wp_open_txns::OpenTxn;
 use wp_outside::Disk;
 use wp_shared::{Seat, Shared};
 use wp_text::Reply;
@@ -38,7 +38,7 @@ pub fn put_open<D: Disk + Drop, R: Wait>(
     ensures err { OnErr result (BreaksOffFrom seat.old seat.new (held.Open txn.old) (held.Open txn.new) (Put key.now value.now)) }
 {
     shows_batch(txn);
-    match wp_names::put(store, rt, alloc, seat, txn, key, value) {
+    match wp_open_txns::put(store, rt, alloc, seat, txn, key, value) {
         Ok(()) => Ok(Reply::Held),
         Err(why) => refusal(why),
     }
@@ -59,7 +59,7 @@ pub fn del_open<D: Disk + Drop, R: Wait>(
     ensures err { OnErr result (BreaksOffFrom seat.old seat.new (held.Open txn.old) (held.Open txn.new) (Del key.now)) }
 {
     shows_batch(txn);
-    match wp_names::del(store, rt, alloc, seat, txn, key) {
+    match wp_open_txns::del(store, rt, alloc, seat, txn, key) {
         Ok(()) => Ok(Reply::Held),
         Err(why) => refusal(why),
     }

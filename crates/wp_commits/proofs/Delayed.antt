@@ -11,13 +11,13 @@ use Rattle.std.specs.FinSet.{nat_cmp-IsAntisymmetric}
 use Rattle.std.specs.FinMap as finite
 use Rattle.wp_model.specs.declared.entry.Entry.{Entry}
 use Rattle.wp_model.specs.Decision.{decision_of}
-use Rattle.wp_model.specs.PreparedTables.{PreparedTables, is_prepared, commits_with, NoneDelayed}
+use Rattle.wp_model.specs.PreparedSets.{PreparedSets, is_prepared, commits_with, NoneDelayed}
 use Rattle.wp_judge.specs.Words.{CommitPair}
 use Rattle.wp_core.specs.Changes.{held_with}
 use Rattle.wp_core.specs.Lists.{IsIn}
 use Rattle.wp_core.specs.Notes.{ends}
 use Rattle.wp_core.specs.Steps.{Step, store_max_evicted, add_delayed_commit}
-use Rattle.wp_core.specs.Tables.{WriteTable, Content, writes, prepared, with_moved}
+use Rattle.wp_core.specs.Tables.{WriteState, Content, writes, prepared, with_moved}
 use Rattle.wp_core.specs.Views.{Fact, words_stay, none_waits, delayed_flag_stays, old_flag_stays}
 use Rattle.wp_core.specs.World.{Actor, World}
 use Rattle.wp_core.specs.Sound.Views.{IsApart}
@@ -44,17 +44,17 @@ use Rattle.wp_commits.proofs.Flags.{note_ends_none}
 same_test : (p : ℕ → Bool) (q x : ℕ) → nat_cmp q x ≡ Equal → p x ≡ p q
 same_test p q x e = ap p (sym (nat_cmp-IsAntisymmetric q x e))
 
-in_heap : (t : PreparedTables) (m p : ℕ) → set.contains (with_moved t m).heap p ≡ (set.contains t.heap p && not (nat_le p m))
+in_heap : (t : PreparedSets) (m p : ℕ) → set.contains (with_moved t m).heap p ≡ (set.contains t.heap p && not (nat_le p m))
 in_heap t m p = set.contains-retain t.heap (λ q. not (nat_le q m)) p (same_test (λ q. not (nat_le q m)) p)
 
-in_delayed : (t : PreparedTables) (m p : ℕ) → set.contains (with_moved t m).delayed p ≡ (set.contains t.delayed p || (set.contains t.heap p && nat_le p m))
+in_delayed : (t : PreparedSets) (m p : ℕ) → set.contains (with_moved t m).delayed p ≡ (set.contains t.delayed p || (set.contains t.heap p && nat_le p m))
 in_delayed t m p = set.contains-union nat_cmp_total t.delayed (set.retain t.heap (λ q. nat_le q m)) p ∙ ap (λ (b : Bool). set.contains t.delayed p || b) (set.contains-retain t.heap (λ q. nat_le q m) p (same_test (λ q. nat_le q m) p))
 
 above_is : (m p : ℕ) → nat_lt m p ≡ not (nat_le p m)
 above_is m p = grind (arith, nat_tests)
 
 -- tables that advanced are those of the machine
-pub advanced : (old new : PreparedTables) (m : ℕ) → ((p : ℕ) → set.contains new.heap p ≡ (set.contains old.heap p && nat_lt m p))
+pub advanced : (old new : PreparedSets) (m : ℕ) → ((p : ℕ) → set.contains new.heap p ≡ (set.contains old.heap p && nat_lt m p))
     → ((p : ℕ) → set.contains new.delayed p ≡ (set.contains old.delayed p || (set.contains old.heap p && nat_le p m))) → new.delayed_commits ≡ old.delayed_commits → new ≡ with_moved old m
 advanced old new m heap delayed commits =
     let one = set.same_set nat_cmp_total nat_cmp-IsAntisymmetric new.heap (with_moved old m).heap (λ p. heap p ∙ (ap (λ (b : Bool). set.contains old.heap p && b) (above_is m p) ∙ sym (in_heap old m p))) in
@@ -69,7 +69,7 @@ pub right_none : (a b : Bool) → (a || b) ≡ false → b ≡ false
 right_none true b e = absurd (true≢false e)
 right_none false b e = e
 
-pub none_before_moved : (t : PreparedTables) (m : ℕ) → NoneDelayed (with_moved t m) → NoneDelayed t
+pub none_before_moved : (t : PreparedSets) (m : ℕ) → NoneDelayed (with_moved t m) → NoneDelayed t
 none_before_moved t m none = (λ p. left_none (set.contains t.delayed p) _ (sym (in_delayed t m p) ∙ none.0 p), none.1)
 
 not_reached : (h l : Bool) → h ≡ true → (h && l) ≡ false → l ≡ false
@@ -79,7 +79,7 @@ not_reached false l there e = absurd (true≢false (sym there))
 past_it : (m p : ℕ) → nat_le p m ≡ false → m < p
 past_it m p e = grind (arith, nat_tests)
 
-none_reached : (t : PreparedTables) (m : ℕ) → NoneDelayed (with_moved t m) → (p : ℕ) → set.contains t.heap p ≡ true → m < p
+none_reached : (t : PreparedSets) (m : ℕ) → NoneDelayed (with_moved t m) → (p : ℕ) → set.contains t.heap p ≡ true → m < p
 none_reached t m none p there = past_it m p (not_reached (set.contains t.heap p) (nat_le p m) there (right_none (set.contains t.delayed p) (set.contains t.heap p && nat_le p m) (sym (in_delayed t m p) ∙ none.0 p)))
 
 -- a flag that tells is up, or there is nothing
@@ -88,7 +88,7 @@ up_or_none a flag none f = dite (ℕ_discrete f.value 0) (λ (e : f.value ≡ 0)
 
 -- ---- the bound rises
 
-pub rise_still : (a b : Actor) (cells : ℕ) (d : WriteTable) (m : ℕ) → ((bound : ℕ) (words : List ℕ) → Noted a (words_stay bound words) → Noted b (words_stay bound words)) → IsRise a cells d m → IsRise b cells d m
+pub rise_still : (a b : Actor) (cells : ℕ) (d : WriteState) (m : ℕ) → ((bound : ℕ) (words : List ℕ) → Noted a (words_stay bound words) → Noted b (words_stay bound words)) → IsRise a cells d m → IsRise b cells d m
 rise_still a b cells d m keeps (inl k) = let t = k.there in inl (record { pair = k.pair; pending = k.pending; narrow = k.narrow; gone = k.gone; there = (t.0, t.1, keeps t.0 t.1 t.2, t.3, t.4, t.5, t.6); past = k.past })
 rise_still a b cells d m keeps (inr k) = let t = k.above in inr (record { pair = k.pair; pending = k.pending; wide = k.wide; above = (t.0, t.1, keeps t.0 t.1 t.2, t.3); is = k.is })
 
@@ -99,7 +99,7 @@ max_ends history words m (delayed_flag_stays value) e = absurd (true≢false e)
 max_ends history words m (old_flag_stays value) e = absurd (true≢false e)
 max_ends history words m other e = refl
 
-module _ (p : Place) (s t : SeatState) (d : WriteTable) (old tables : PreparedTables) (m : ℕ) (held : s.knows.held ≡ prepared old ∷ writes d ∷ []) (is : tables ≡ with_moved old m) where
+module _ (p : Place) (s t : SeatState) (d : WriteState) (old tables : PreparedSets) (m : ℕ) (held : s.knows.held ≡ prepared old ∷ writes d ∷ []) (is : tables ≡ with_moved old m) where
   pub may_raise : IsRise s.knows p.cells d m → DelayedFlagTells s.knows tables → Knows p s.knows (store_max_evicted m)
   may_raise rises flag = record {
     table = d;
@@ -119,7 +119,7 @@ module _ (p : Place) (s t : SeatState) (d : WriteTable) (old tables : PreparedTa
     held_now : (w : World) → IsAt p s.knows w → held_with s.knows.held (prepared (with_moved w.prepared m)) ≡ prepared tables ∷ writes d ∷ []
     held_now w k =
         let table = held_table p s.knows w (prepared old) k (subst (IsIn (prepared old)) (sym held) (inl refl)) in
-        ap (λ (h : List Content). held_with h (prepared (with_moved w.prepared m))) held ∙ ap (λ (x : PreparedTables). prepared x ∷ writes d ∷ []) (ap (λ (x : PreparedTables). with_moved x m) table ∙ sym is)
+        ap (λ (h : List Content). held_with h (prepared (with_moved w.prepared m))) held ∙ ap (λ (x : PreparedSets). prepared x ∷ writes d ∷ []) (ap (λ (x : PreparedSets). with_moved x m) table ∙ sym is)
 
     keeps : (fact : Fact) → is_of_words fact ≡ false → Noted s.knows fact → Noted t.knows fact
     keeps fact other there =
@@ -150,10 +150,10 @@ module _ (p : Place) (s t : SeatState) (d : WriteTable) (old tables : PreparedTa
 
 -- ---- a delayed commit
 
-abbrev with_commit : PreparedTables → ℕ → ℕ → PreparedTables
+abbrev with_commit : PreparedSets → ℕ → ℕ → PreparedSets
 with_commit t p c = record t { delayed_commits = commits_with t p c }
 
-pub none_before_commit : (t : PreparedTables) (p c : ℕ) → NoneDelayed (with_commit t p c) → NoneDelayed t
+pub none_before_commit : (t : PreparedSets) (p c : ℕ) → NoneDelayed (with_commit t p c) → NoneDelayed t
 none_before_commit t p c none = (none.0, λ q. at (is_prepared t p) q (none.1 q))
   where
     at : (b : Bool) (q : ℕ) → finite.get (cond b (finite.insert t.delayed_commits p c) t.delayed_commits) q ≡ None → finite.get t.delayed_commits q ≡ None
@@ -162,7 +162,7 @@ none_before_commit t p c none = (none.0, λ q. at (is_prepared t p) q (none.1 q)
         (λ (same : q ≡ p). absurd (none_some (finite.get (finite.insert t.delayed_commits p c) p) c (ap (finite.get (finite.insert t.delayed_commits p c)) (sym same) ∙ e) (get_inserted t.delayed_commits p c)))
         (λ (ne : q ≢ p). sym (get_inserted_else t.delayed_commits p c q ne) ∙ e)
 
-pub apart_now : (t : PreparedTables) (p c : ℕ) → IsApart (with_commit t p c) (record { number = p; decision = c })
+pub apart_now : (t : PreparedSets) (p c : ℕ) → IsApart (with_commit t p c) (record { number = p; decision = c })
 apart_now t p c = at (is_prepared t p) refl
   where
     at : (b : Bool) → is_prepared t p ≡ b → (is_prepared t p ≡ false) ⊎ (finite.get (commits_with t p c) p ≡ Some c)
@@ -172,7 +172,7 @@ apart_now t p c = at (is_prepared t p) refl
 commit_ends : (pair : CommitPair) → EndsNothing (add_delayed_commit pair)
 commit_ends pair = record { guard = λ turn. refl; place = λ words place. refl; words = refl; delayed_flag = refl; old_flag = refl; pending = refl; adds = refl; takes = refl; prepared = refl; unprepared = refl; delays = refl; transaction = λ history name. refl; direct = refl; moves = refl; replaces = refl; installing = refl }
 
-module _ (place : Place) (s t : SeatState) (d : WriteTable) (old tables : PreparedTables) (p c : ℕ) (held : s.knows.held ≡ prepared old ∷ writes d ∷ []) (is : tables ≡ with_commit old p c) where
+module _ (place : Place) (s t : SeatState) (d : WriteState) (old tables : PreparedSets) (p c : ℕ) (held : s.knows.held ≡ prepared old ∷ writes d ∷ []) (is : tables ≡ with_commit old p c) where
   abbrev steps_if : Bool → List Step
   steps_if b = cond b (add_delayed_commit (record { number = p; decision = c }) ∷ []) []
 
@@ -189,7 +189,7 @@ module _ (place : Place) (s t : SeatState) (d : WriteTable) (old tables : Prepar
       up there zero_flag =
           let value_is : w.delayed_flag ≡ flag.value = (noted_is place s.knows w (delayed_flag_stays flag.value) k flag.noted).is_so in
           let none : NoneDelayed (with_commit old p c) = subst NoneDelayed is (flag.empty (sym value_is ∙ zero_flag)) in
-          let there_old : is_prepared old p ≡ true = ap (λ (x : PreparedTables). is_prepared x p) (sym (table_is w k)) ∙ there in
+          let there_old : is_prepared old p ≡ true = ap (λ (x : PreparedSets). is_prepared x p) (sym (table_is w k)) ∙ there in
           let got : finite.get (commits_with old p c) p ≡ Some c = ap (λ (x : Bool). finite.get (cond x (finite.insert old.delayed_commits p c) old.delayed_commits) p) there_old ∙ get_inserted old.delayed_commits p c in
           none_some (finite.get (commits_with old p c) p) c (none.1 p) got
 
@@ -197,27 +197,27 @@ module _ (place : Place) (s t : SeatState) (d : WriteTable) (old tables : Prepar
       by_test false e = (tt, tt)
       by_test true e = (
         (tt, tt),
-        (((held_is place s.knows w (prepared old) k (subst (IsIn (prepared old)) (sym held) (inl refl))).0, up e, subst (λ (x : WriteTable). decision_of x.history p ≡ Some c) (sym history_is) decided), tt),
+        (((held_is place s.knows w (prepared old) k (subst (IsIn (prepared old)) (sym held) (inl refl))).0, up e, subst (λ (x : WriteState). decision_of x.history p ≡ Some c) (sym history_is) decided), tt),
       )
 
   pub delayed_now : (so : World → Type 0) → (t.table ≡ s.table) × (t.by ≡ s.by) × (t.turns ≡ s.turns) → Moved place (delaying (record { number = p; decision = c })) so s.knows t.knows
       → t ≡ record s { knows = record s.knows { held = prepared tables ∷ writes d ∷ [] } }
-  delayed_now so same m = becomes s t (record s.knows { held = prepared tables ∷ writes d ∷ [] }) same (m.actor ∙ (by_test (is_prepared m.world.prepared p) refl ∙ ap (λ (x : PreparedTables). record s.knows { held = prepared x ∷ writes d ∷ [] }) (sym is)))
+  delayed_now so same m = becomes s t (record s.knows { held = prepared tables ∷ writes d ∷ [] }) same (m.actor ∙ (by_test (is_prepared m.world.prepared p) refl ∙ ap (λ (x : PreparedSets). record s.knows { held = prepared x ∷ writes d ∷ [] }) (sym is)))
     where
       by_test : (b : Bool) → is_prepared m.world.prepared p ≡ b → actor_after (steps_if b) m.world place.by s.knows ≡ record s.knows { held = prepared (with_commit old p c) ∷ writes d ∷ [] }
       by_test false e =
-          let gone : is_prepared old p ≡ false = ap (λ (x : PreparedTables). is_prepared x p) (sym (table_is m.world m.before)) ∙ e in
+          let gone : is_prepared old p ≡ false = ap (λ (x : PreparedSets). is_prepared x p) (sym (table_is m.world m.before)) ∙ e in
           let same_table : old ≡ with_commit old p c = ap (λ (x : Bool). record old { delayed_commits = cond x (finite.insert old.delayed_commits p c) old.delayed_commits }) (sym gone) in
-          ap (λ (h : List Content). record s.knows { held = h }) (held ∙ ap (λ (x : PreparedTables). prepared x ∷ writes d ∷ []) same_table)
+          ap (λ (h : List Content). record s.knows { held = h }) (held ∙ ap (λ (x : PreparedSets). prepared x ∷ writes d ∷ []) same_table)
       by_test true e =
           let w = m.world in
-          let there : is_prepared old p ≡ true = ap (λ (x : PreparedTables). is_prepared x p) (sym (table_is w m.before)) ∙ e in
-          let next : PreparedTables = record w.prepared { delayed_commits = finite.insert w.prepared.delayed_commits p c } in
+          let there : is_prepared old p ≡ true = ap (λ (x : PreparedSets). is_prepared x p) (sym (table_is w m.before)) ∙ e in
+          let next : PreparedSets = record w.prepared { delayed_commits = finite.insert w.prepared.delayed_commits p c } in
           let next_is : next ≡ with_commit old p c =
-          ap (λ (x : PreparedTables). record x { delayed_commits = finite.insert x.delayed_commits p c }) (table_is w m.before)
+          ap (λ (x : PreparedSets). record x { delayed_commits = finite.insert x.delayed_commits p c }) (table_is w m.before)
           ∙ ap (λ (x : Bool). record old { delayed_commits = cond x (finite.insert old.delayed_commits p c) old.delayed_commits }) (sym there) in
           ap (λ (x : Actor). record x { held = held_with x.held (prepared next) }) (forgets_nothing w.writes.history (length w.cache) (add_delayed_commit (record { number = p; decision = c })) s.knows (commit_ends (record { number = p; decision = c })))
-          ∙ (ap (λ (h : List Content). record s.knows { held = held_with h (prepared next) }) held ∙ ap (λ (x : PreparedTables). record s.knows { held = prepared x ∷ writes d ∷ [] }) next_is)
+          ∙ (ap (λ (h : List Content). record s.knows { held = held_with h (prepared next) }) held ∙ ap (λ (x : PreparedSets). record s.knows { held = prepared x ∷ writes d ∷ [] }) next_is)
 
 pub delaying_keeps : (pair : CommitPair) (w : World) → KeepClient (delaying pair w)
 delaying_keeps pair w = by_test (is_prepared w.prepared pair.number)

@@ -5,7 +5,7 @@ use Rattle.wp_model.specs.declared.entry.Entry.{Entry}
 use Rattle.wp_core.specs.Notes.{ends}
 use Rattle.wp_core.specs.Steps.{store_delayed_flag, store_old_flag, note}
 use Rattle.wp_core.specs.Tables.{prepared, snapshots}
-use Rattle.wp_model.specs.PreparedTables.{NoneDelayed}
+use Rattle.wp_model.specs.PreparedSets.{NoneDelayed}
 use Rattle.wp_model.specs.Snapshots.{NoOldCommits}
 use Rattle.wp_core.specs.Views.{Fact, passed, delayed_flag_stays, old_flag_stays}
 use Rattle.wp_core.specs.World.{Actor, World}

@@ -10,13 +10,13 @@ use Rattle.wp_model.specs.declared.entry.Entry.{Entry}
 use Rattle.wp_model.specs.declared.entry.Entry.TheVariants.{Write, Prepare, Commit, Undo, Close}
 use Rattle.wp_model.specs.Decision.{decision_of, decision_in}
 use Rattle.wp_model.specs.History.{entry_at, is_prepare, decides}
-use Rattle.wp_model.specs.PreparedTables.{PreparedTables, is_prepared}
+use Rattle.wp_model.specs.PreparedSets.{PreparedSets, is_prepared}
 use Rattle.wp_model.specs.Snapshots.{Snapshots}
 use Rattle.wp_judge.specs.Words.{CommitPair}
 use Rattle.wp_core.specs.Cache.{pair_at}
 use Rattle.wp_core.specs.Entries.{extended}
 use Rattle.wp_core.specs.Lists.{IsIn}
-use Rattle.wp_core.specs.Tables.{WriteTable, writes, prepared, snapshots}
+use Rattle.wp_core.specs.Tables.{WriteState, writes, prepared, snapshots}
 use Rattle.wp_core.specs.Notes.{forgets}
 use Rattle.wp_core.specs.Steps.{note}
 use Rattle.wp_core.specs.Turns.{write_turn, Holds}
@@ -38,11 +38,11 @@ use Rattle.wp_shared.proofs.Tables.{held_table}
 use Rattle.wp_commits.specs.Cleared.{IsThere}
 use Rattle.wp_commits.specs.Making.{noting_all, noted_all}
 
-module _ (a : Actor) (d : WriteTable) (place p c : ℕ) where
+module _ (a : Actor) (d : WriteState) (place p c : ℕ) where
   pub knows_passed : IsIn (writes d) a.held → (k : IsThere a d.history place p c) × (c ≤ k.bound) → KnowsFact a (passed place (record { number = p; decision = c }))
   knows_passed held k = let t = k.0 in record { table = d; held = held; so_is = (t.bound, t.words, t.noted, t.within, t.there, t.published, k.1) }
 
-  pub knows_apart : (t : PreparedTables) → a.held ≡ prepared t ∷ writes d ∷ [] → IsThere a d.history place p c → IsApart t (record { number = p; decision = c }) → KnowsFact a (apart place (record { number = p; decision = c }))
+  pub knows_apart : (t : PreparedSets) → a.held ≡ prepared t ∷ writes d ∷ [] → IsThere a d.history place p c → IsApart t (record { number = p; decision = c }) → KnowsFact a (apart place (record { number = p; decision = c }))
   knows_apart t held k is = record {
     table = d;
     held = subst (IsIn (writes d)) (sym held) (inr (inl refl));
@@ -79,7 +79,7 @@ not_own history (suc i) is decided = by_entry (slice_get history i) refl is deci
     by_entry (Some (Close q)) there is e = absurd (true≢false (sym is))
     by_entry None there is e = absurd (true≢false (sym is))
 
-module _ (at : Place) (a : Actor) (d : WriteTable) (place n : ℕ) (live : a.live ≡ true) (held : IsIn (writes d) a.held) (k : IsThere a d.history place n n) (low : n ≤ k.bound) where
+module _ (at : Place) (a : Actor) (d : WriteState) (place n : ℕ) (live : a.live ≡ true) (held : IsIn (writes d) a.held) (k : IsThere a d.history place n n) (low : n ≤ k.bound) where
   module _ (w : World) (there : IsAt at a w) where
     table_is : w.writes ≡ d
     table_is = held_table at a w (writes d) there held
@@ -94,14 +94,14 @@ module _ (at : Place) (a : Actor) (d : WriteTable) (place n : ℕ) (live : a.liv
     clearing why is = record {
       place_within = subst (λ (x : List ℕ). place < length x) (sym words_are.1) k.within;
       there = ap (λ (x : List ℕ). pair_at x place) words_are.1 ∙ k.there;
-      published_by = subst (λ (x : WriteTable). n ≤ length x.history) (sym table_is) k.published;
+      published_by = subst (λ (x : WriteState). n ≤ length x.history) (sym table_is) k.published;
       so = is;
     }
 
     not_prepared : is_prepared w.prepared n ≡ false
     not_prepared = false_from_ne_true (is_prepared w.prepared n) (λ is.
         not_own (extended w.writes.history w.writes.pending) n ((at_sound at a w there).undecided.known n is)
-        (extended_stays w.writes.history w.writes.pending n n (subst (λ (x : WriteTable). decision_of x.history n ≡ Some n) (sym table_is) k.decided)))
+        (extended_stays w.writes.history w.writes.pending n n (subst (λ (x : WriteState). decision_of x.history n ≡ Some n) (sym table_is) k.decided)))
 
   pub may_note_own : MayMake at a (λ w. noting_all place (record { number = n; decision = n }))
   may_note_own w there =

@@ -13,7 +13,7 @@ use Rattle.wp_model.specs.Snapshots.{Snapshot, Snapshots, is_old_commit, after_k
 use Rattle.wp_core.specs.Changes.{held_with, placed, with_old_commit}
 use Rattle.wp_core.specs.Lists.{IsIn}
 use Rattle.wp_core.specs.Steps.{add_old_commit}
-use Rattle.wp_core.specs.Tables.{WriteTable, Content, writes, snapshots}
+use Rattle.wp_core.specs.Tables.{WriteState, Content, writes, snapshots}
 use Rattle.wp_core.specs.Turns.{Holds, snapshots_turn}
 use Rattle.wp_core.specs.Views.{old_flag_stays}
 use Rattle.wp_core.specs.World.{Actor, World}
@@ -206,13 +206,13 @@ module _ (place : Place) (s t : SeatState) (old new : Snapshots) (p c : ℕ) (ot
   table_is : (w : World) → IsAt place s.knows w → w.snapshots ≡ old
   table_is w k = held_table place s.knows w (snapshots old) k (subst (IsIn (snapshots old)) (sym held) (inl refl))
 
-  pub may_keep : (d : WriteTable) → IsIn (writes d) others → p ≤ c → decision_of d.history p ≡ Some c → OldFlagTells s.knows new → MayMake place s.knows (keeping p c)
+  pub may_keep : (d : WriteState) → IsIn (writes d) others → p ≤ c → decision_of d.history p ≡ Some c → OldFlagTells s.knows new → MayMake place s.knows (keeping p c)
   may_keep d has ordered decided flag w k =
       let history_is : w.writes ≡ d = held_table place s.knows w (writes d) k (subst (IsIn (writes d)) (sym held) (inr has)) in
       let holds = (held_is place s.knows w (snapshots old) k (subst (IsIn (snapshots old)) (sym held) (inl refl))).0 in
       let value_is : w.old_flag ≡ flag.value = (noted_is place s.knows w (old_flag_stays flag.value) k flag.noted).is_so in (
         keeping_quiet w.snapshots p (c - p) p,
-        keeping_met w.snapshots p c place.by (c - p) p w s.knows holds (subst (λ (x : WriteTable). decision_of x.history p ≡ Some c) (sym history_is) decided) (omega arith) (omega (arith, ordered)) (λ r from. refl)
+        keeping_met w.snapshots p c place.by (c - p) p w s.knows holds (subst (λ (x : WriteState). decision_of x.history p ≡ Some c) (sym history_is) decided) (omega arith) (omega (arith, ordered)) (λ r from. refl)
             (λ r live from below zero_flag.
             let live_old : is_some (finite.get old r) ≡ true = ap (λ (x : Snapshots). is_some (finite.get x r)) (sym (table_is w k)) ∙ live in
             true≢false (sym (kept_at old new p c changes r from below live_old) ∙ flag.empty (sym value_is ∙ zero_flag) r p)),

@@ -12,10 +12,10 @@ use Rattle.wp_model.specs.declared.entry.Entry.TheVariants.{Write, Prepare, Comm
 use Rattle.wp_model.specs.Decision.{decision_of}
 use Rattle.wp_model.specs.History.{is_undecided}
 use Rattle.wp_model.specs.Legal.{IsLegal}
-use Rattle.wp_model.specs.PreparedTables.{PreparedTables, is_prepared, NoneDelayed}
+use Rattle.wp_model.specs.PreparedSets.{PreparedSets, is_prepared, NoneDelayed}
 use Rattle.wp_model.specs.Snapshots.{Snapshots}
 use Rattle.wp_model.proofs.Numbers.{get_inserted}
-use Rattle.wp_history.proofs.Growth.{after_front}
+use Rattle.wp_history_laws.proofs.Growth.{after_front}
 use Rattle.wp_judge.specs.Words.{CommitPair, delta_of, delta_bound, fits}
 use Rattle.wp_prepared.specs.Passed.{NonePassed, IsFirstPassed}
 use Rattle.wp_core.specs.Changes.{held_with}
@@ -23,7 +23,7 @@ use Rattle.wp_core.specs.Entries.{extended, pending_pair}
 use Rattle.wp_core.specs.Lists.{IsIn}
 use Rattle.wp_core.specs.Notes.{ends}
 use Rattle.wp_core.specs.Steps.{Step, take_out, delay_pending, note}
-use Rattle.wp_core.specs.Tables.{WriteTable, Content, writes, prepared, snapshots, without_prepared}
+use Rattle.wp_core.specs.Tables.{WriteState, Content, writes, prepared, snapshots, without_prepared}
 use Rattle.wp_core.specs.Turns.{write_turn}
 use Rattle.wp_core.specs.Views.{Fact, words_stay, none_waits, pair_delayed, pair_not_delayed, delayed_flag_stays, old_flag_stays}
 use Rattle.wp_core.specs.World.{Actor, World}
@@ -83,7 +83,7 @@ pub extended_legal : (history pending : List Entry) → IsLegal history → IsLe
 extended_legal history [] legal next = legal
 extended_legal history (entry ∷ others) legal next = first_legal history entry others next
 
-module _ {D : Type 0} (z : SharedState D) (s t : SeatState) (tables : PreparedTables) (same : t ≡ s) (at : (w : World) × Stands z t w) (held : IsIn (prepared tables) s.knows.held) where
+module _ {D : Type 0} (z : SharedState D) (s t : SeatState) (tables : PreparedSets) (same : t ≡ s) (at : (w : World) × Stands z t w) (held : IsIn (prepared tables) s.knows.held) where
   stands : IsAt (place_at z s.by) s.knows at.0
   stands = subst (λ (x : SeatState). IsAt (place_at z x.by) x.knows at.0) same at.1
 
@@ -93,7 +93,7 @@ module _ {D : Type 0} (z : SharedState D) (s t : SeatState) (tables : PreparedTa
   table_is : at.0.prepared ≡ tables
   table_is = held_table (place_at z s.by) s.knows at.0 (prepared tables) stands held
 
-  writes_are : (d : WriteTable) → IsIn (writes d) s.knows.held → at.0.writes ≡ d
+  writes_are : (d : WriteState) → IsIn (writes d) s.knows.held → at.0.writes ≡ d
   writes_are d has = held_table (place_at z s.by) s.knows at.0 (writes d) stands has
 
   max_reached : (p : ℕ) → IsReached s.knows p → p ≤ at.0.max_evicted
@@ -105,26 +105,26 @@ module _ {D : Type 0} (z : SharedState D) (s t : SeatState) (tables : PreparedTa
   -- the heap has it no more
   pub left_heap : (p : ℕ) → IsReached s.knows p → set.contains tables.heap p ≡ false
   left_heap p r =
-      ap (λ (x : PreparedTables). set.contains x.heap p) (sym table_is)
+      ap (λ (x : PreparedSets). set.contains x.heap p) (sym table_is)
       ∙ false_from_ne_true (set.contains at.0.prepared.heap p) (λ there. let above = sound.undecided.heap_above p there in let low = max_reached p r in absurd (omega (arith, above, low)))
 
   -- so what the pending entry decides by a wide pair is delayed
-  pub is_delayed : (d : WriteTable) → IsIn (writes d) s.knows.held → (p c : ℕ) → pending_pair d.history d.pending ≡ Some (record { number = p; decision = c }) → fits z.cells (record { number = p; decision = c }) ≡ false → IsReached s.knows p → set.contains tables.delayed p ≡ true
+  pub is_delayed : (d : WriteState) → IsIn (writes d) s.knows.held → (p c : ℕ) → pending_pair d.history d.pending ≡ Some (record { number = p; decision = c }) → fits z.cells (record { number = p; decision = c }) ≡ false → IsReached s.knows p → set.contains tables.delayed p ≡ true
   is_delayed d has p c pending wide r =
       let some : 1 ≤ z.cells = subst (λ (n : ℕ). 1 ≤ n) stands.cells sound.cache.some in
-      let legal : IsLegal (d.history ++ d.pending) = subst (λ (x : WriteTable). IsLegal (x.history ++ x.pending)) (writes_are d has) sound.history.legal_next in
-      let undecided : is_undecided at.0.writes.history p ≡ true = subst (λ (x : WriteTable). is_undecided x.history p ≡ true) (sym (writes_are d has)) (pending_undecided d.history d.pending p c legal pending (wide_apart z.cells p c some wide)) in
-      let there : is_prepared tables p ≡ true = ap (λ (x : PreparedTables). is_prepared x p) (sym table_is) ∙ sound.undecided.found p undecided in
+      let legal : IsLegal (d.history ++ d.pending) = subst (λ (x : WriteState). IsLegal (x.history ++ x.pending)) (writes_are d has) sound.history.legal_next in
+      let undecided : is_undecided at.0.writes.history p ≡ true = subst (λ (x : WriteState). is_undecided x.history p ≡ true) (sym (writes_are d has)) (pending_undecided d.history d.pending p c legal pending (wide_apart z.cells p c some wide)) in
+      let there : is_prepared tables p ≡ true = ap (λ (x : PreparedSets). is_prepared x p) (sym table_is) ∙ sound.undecided.found p undecided in
       right_true (set.contains tables.heap p) (set.contains tables.delayed p) (left_heap p r) there
 
   -- a delayed commit to which the bound has come is the history's
-  pub decided_to : (d : WriteTable) → IsIn (writes d) s.knows.held → (found : ℕ) → found ≡ at.0.max_evicted → (q e : ℕ) → finite.get tables.delayed_commits q ≡ Some e → e ≤ found → (decision_of d.history q ≡ Some e) × (q ≤ e)
+  pub decided_to : (d : WriteState) → IsIn (writes d) s.knows.held → (found : ℕ) → found ≡ at.0.max_evicted → (q e : ℕ) → finite.get tables.delayed_commits q ≡ Some e → e ≤ found → (decision_of d.history q ≡ Some e) × (q ≤ e)
   decided_to d has found is q e there low =
       let h = at.0.writes.history in
-      let next : decision_of (extended h at.0.writes.pending) q ≡ Some e = sound.delayed.commits q e (ap (λ (x : PreparedTables). finite.get x.delayed_commits q) table_is ∙ there) in
+      let next : decision_of (extended h at.0.writes.pending) q ≡ Some e = sound.delayed.commits q e (ap (λ (x : PreparedSets). finite.get x.delayed_commits q) table_is ∙ there) in
       let late = decided_late (extended h at.0.writes.pending) q e (extended_legal h at.0.writes.pending sound.history.legal sound.history.legal_next) next in
       let most = sound.history.bounded in
-      (subst (λ (x : WriteTable). decision_of x.history q ≡ Some e) (writes_are d has) (extended_was h at.0.writes.pending q e (omega (arith, late, most, is, low)) (omega (arith, most, is, low)) next), late)
+      (subst (λ (x : WriteState). decision_of x.history q ≡ Some e) (writes_are d has) (extended_was h at.0.writes.pending q e (omega (arith, late, most, is, low)) (omega (arith, most, is, low)) next), late)
 
 -- ---- what is passed
 
@@ -136,10 +136,10 @@ passed_is (Some r) a history commits found bound words noted is decided k =
     record { bound = bound; words = words; noted = noted; there = k.there; passed = omega (arith, low, is); decided = d.0; ordered = d.1 }
 
 -- the tables that the seat has, where the bound has come to no delayed commit
-pub knows_none_waits : (a : Actor) (d : WriteTable) (t : PreparedTables) → IsIn (writes d) a.held → IsIn (prepared t) a.held → NoneReached a t.delayed_commits → KnowsFact a none_waits
+pub knows_none_waits : (a : Actor) (d : WriteState) (t : PreparedSets) → IsIn (writes d) a.held → IsIn (prepared t) a.held → NoneReached a t.delayed_commits → KnowsFact a none_waits
 knows_none_waits a d t has there k = record { table = d; held = has; so_is = record { table = t; held = there; so_is = (k.bound, k.words, k.noted, k.above) } }
 
-pub knows_pair_delayed : (a : Actor) (d : WriteTable) (t : PreparedTables) (p c : ℕ) → IsIn (writes d) a.held → IsIn (prepared t) a.held → pending_pair d.history d.pending ≡ Some (record { number = p; decision = c }) → finite.get t.delayed_commits p ≡ Some c → KnowsFact a pair_delayed
+pub knows_pair_delayed : (a : Actor) (d : WriteState) (t : PreparedSets) (p c : ℕ) → IsIn (writes d) a.held → IsIn (prepared t) a.held → pending_pair d.history d.pending ≡ Some (record { number = p; decision = c }) → finite.get t.delayed_commits p ≡ Some c → KnowsFact a pair_delayed
 knows_pair_delayed a d t p c has there pending commit = record {
   table = d;
   held = has;
@@ -152,12 +152,12 @@ knows_pair_delayed a d t p c has there pending commit = record {
 }
 
 -- one that is taken out is there no more
-pub fewer : (old tables : PreparedTables) (p c : ℕ) → finite.get old.delayed_commits p ≡ Some c → tables ≡ without_prepared old p → finite.len tables.delayed_commits < finite.len old.delayed_commits
+pub fewer : (old tables : PreparedSets) (p c : ℕ) → finite.get old.delayed_commits p ≡ Some c → tables ≡ without_prepared old p → finite.len tables.delayed_commits < finite.len old.delayed_commits
 fewer old tables p c there is =
     let m = old.delayed_commits in
     let some : finite.len m ≢ 0 = λ none. none_some (finite.get m p) c (ap (λ (x : finite.FinMap nat_cmp ℕ). finite.get x p) (finite.empty_of_len m none) ∙ finite.get-empty nat_cmp p) there in
     let less : finite.len (finite.remove m p) ≡ finite.len m - 1 = finite.len-remove nat_cmp_total m p ∙ ap (λ (b : Bool). cond b (finite.len m - 1) (finite.len m)) (ap is_some there) in
-    let left : finite.len tables.delayed_commits ≡ finite.len (finite.remove m p) = ap (λ (x : PreparedTables). finite.len x.delayed_commits) is in
+    let left : finite.len tables.delayed_commits ≡ finite.len (finite.remove m p) = ap (λ (x : PreparedSets). finite.len x.delayed_commits) is in
     omega (arith, some, less, left)
 
 -- ---- the delayed flag alone
@@ -181,7 +181,7 @@ zero_match n P Q down up = by_test (n == 0) refl
 abbrev noting_if : Bool → List Step
 noting_if b = cond b (note none_waits ∷ []) []
 
-pub may_look : (p : Place) (a : Actor) (d : WriteTable) → a.live ≡ true → IsIn (writes d) a.held → MayMake p a noting_none_waits
+pub may_look : (p : Place) (a : Actor) (d : WriteState) → a.live ≡ true → IsIn (writes d) a.held → MayMake p a noting_none_waits
 may_look p a d live has w k = by_flag (w.delayed_flag == 0) refl
   where
     waits : w.delayed_flag ≡ 0 → NoneWaits w.writes.history w.prepared w.cache w.max_evicted
@@ -218,7 +218,7 @@ module _ (p : Place) (s t : SeatState) (found : ℕ) (same : (t.table ≡ s.tabl
 
 -- ---- a delayed number goes, under the two turns
 
-module _ (place : Place) (s t : SeatState) (d : WriteTable) (old tables : PreparedTables) (m : Snapshots) (p c : ℕ) (held : s.knows.held ≡ snapshots m ∷ prepared old ∷ writes d ∷ []) (is : tables ≡ without_prepared old p) where
+module _ (place : Place) (s t : SeatState) (d : WriteState) (old tables : PreparedSets) (m : Snapshots) (p c : ℕ) (held : s.knows.held ≡ snapshots m ∷ prepared old ∷ writes d ∷ []) (is : tables ≡ without_prepared old p) where
   prepared_in : IsIn (prepared old) s.knows.held
   prepared_in = subst (IsIn (prepared old)) (sym held) (inr (inl refl))
 
@@ -228,7 +228,7 @@ module _ (place : Place) (s t : SeatState) (d : WriteTable) (old tables : Prepar
       let snaps_are : w.snapshots ≡ m = held_table place s.knows w (snapshots m) k (subst (IsIn (snapshots m)) (sym held) (inl refl)) in
       let holds = (held_is place s.knows w (prepared old) k prepared_in).0 in
       let bound = (noted_is place s.knows w (words_stay r.0 r.1) k r.2).is_so.0 in let low = r.3 in
-      ((tt, tt), ((holds, (c, subst (λ (x : WriteTable). decision_of x.history p ≡ Some c) (sym history_is) decided, inr (omega (arith, low, bound), subst (λ (x : Snapshots). IsInOldCommits x p c) (sym snaps_are) kept))), tt))
+      ((tt, tt), ((holds, (c, subst (λ (x : WriteState). decision_of x.history p ≡ Some c) (sym history_is) decided, inr (omega (arith, low, bound), subst (λ (x : Snapshots). IsInOldCommits x p c) (sym snaps_are) kept))), tt))
 
   pub let_go_now : (so : World → Type 0) → (t.table ≡ s.table) × (t.by ≡ s.by) × (t.turns ≡ s.turns) → Moved place (λ w. take_out p ∷ []) so s.knows t.knows → t ≡ record s { knows = record s.knows { held = snapshots m ∷ prepared tables ∷ writes d ∷ [] } }
   let_go_now so same moved =
@@ -238,7 +238,7 @@ module _ (place : Place) (s t : SeatState) (d : WriteTable) (old tables : Prepar
       (moved.actor
       ∙ (ap (λ (x : Actor). record x { held = held_with x.held (prepared (without_prepared w.prepared p)) }) (forgets_nothing w.writes.history (length w.cache) (take_out p) s.knows (take_ends p))
       ∙ (ap (λ (h : List Content). record s.knows { held = held_with h (prepared (without_prepared w.prepared p)) }) held
-      ∙ ap (λ (x : PreparedTables). record s.knows { held = snapshots m ∷ prepared x ∷ writes d ∷ [] }) (ap (λ (x : PreparedTables). without_prepared x p) table ∙ sym is))))
+      ∙ ap (λ (x : PreparedSets). record s.knows { held = snapshots m ∷ prepared x ∷ writes d ∷ [] }) (ap (λ (x : PreparedSets). without_prepared x p) table ∙ sym is))))
 
 -- ---- the pending entry's pair
 
@@ -252,13 +252,13 @@ pub flags_in_delayed : (fact : Fact) → is_of_delayed fact ≡ false → is_fla
 flags_in_delayed pair_not_delayed e = absurd (true≢false e)
 flags_in_delayed other e = e
 
-pub none_before_pending : (t : PreparedTables) (p c : ℕ) → NoneDelayed (record t { delayed_commits = finite.insert t.delayed_commits p c }) → NoneDelayed t
+pub none_before_pending : (t : PreparedSets) (p c : ℕ) → NoneDelayed (record t { delayed_commits = finite.insert t.delayed_commits p c }) → NoneDelayed t
 none_before_pending t p c none = absurd (none_some (finite.get (finite.insert t.delayed_commits p c) p) c (none.1 p) (get_inserted t.delayed_commits p c))
 
-pub commit_there : (old tables : PreparedTables) (p c : ℕ) → tables ≡ record old { delayed_commits = finite.insert old.delayed_commits p c } → finite.get tables.delayed_commits p ≡ Some c
-commit_there old tables p c is = ap (λ (x : PreparedTables). finite.get x.delayed_commits p) is ∙ get_inserted old.delayed_commits p c
+pub commit_there : (old tables : PreparedSets) (p c : ℕ) → tables ≡ record old { delayed_commits = finite.insert old.delayed_commits p c } → finite.get tables.delayed_commits p ≡ Some c
+commit_there old tables p c is = ap (λ (x : PreparedSets). finite.get x.delayed_commits p) is ∙ get_inserted old.delayed_commits p c
 
-module _ (place : Place) (s t : SeatState) (d : WriteTable) (old tables : PreparedTables) (p c : ℕ) (held : s.knows.held ≡ prepared old ∷ writes d ∷ []) (is : tables ≡ record old { delayed_commits = finite.insert old.delayed_commits p c }) where
+module _ (place : Place) (s t : SeatState) (d : WriteState) (old tables : PreparedSets) (p c : ℕ) (held : s.knows.held ≡ prepared old ∷ writes d ∷ []) (is : tables ≡ record old { delayed_commits = finite.insert old.delayed_commits p c }) where
   pub may_delay_pending : pending_pair d.history d.pending ≡ Some (record { number = p; decision = c }) → DelayedFlagTells s.knows tables → MayMake place s.knows (λ w. delay_pending (record { number = p; decision = c }) ∷ [])
   may_delay_pending pending flag w k =
       let history_is : w.writes ≡ d = held_table place s.knows w (writes d) k (subst (IsIn (writes d)) (sym held) (inr (inl refl))) in
@@ -266,7 +266,7 @@ module _ (place : Place) (s t : SeatState) (d : WriteTable) (old tables : Prepar
       let up : w.delayed_flag ≢ 0 = λ zero_flag. none_some (finite.get tables.delayed_commits p) c ((flag.empty (sym value_is ∙ zero_flag)).1 p) (commit_there old tables p c is) in
       let one = (held_is place s.knows w (writes d) k (subst (IsIn (writes d)) (sym held) (inr (inl refl)))).0 in
       let two = (held_is place s.knows w (prepared old) k (subst (IsIn (prepared old)) (sym held) (inl refl))).0 in
-      ((tt, tt), ((one, two, up, subst (λ (x : WriteTable). pending_pair x.history x.pending ≡ Some (record { number = p; decision = c })) (sym history_is) pending), tt))
+      ((tt, tt), ((one, two, up, subst (λ (x : WriteState). pending_pair x.history x.pending ≡ Some (record { number = p; decision = c })) (sym history_is) pending), tt))
 
   module _ (so : World → Type 0) (same : (t.table ≡ s.table) × (t.by ≡ s.by) × (t.turns ≡ s.turns)) (moved : Moved place (λ w. delay_pending (record { number = p; decision = c }) ∷ []) so s.knows t.knows) where
     keeps : (fact : Fact) → is_of_delayed fact ≡ false → Noted s.knows fact → Noted t.knows fact
@@ -280,7 +280,7 @@ module _ (place : Place) (s t : SeatState) (d : WriteTable) (old tables : Prepar
         let w = moved.world in
         let table : w.prepared ≡ old = held_table place s.knows w (prepared old) moved.before (subst (IsIn (prepared old)) (sym held) (inl refl)) in
         ap (λ (h : List Content). held_with h (prepared (record w.prepared { delayed_commits = finite.insert w.prepared.delayed_commits p c }))) held
-        ∙ ap (λ (x : PreparedTables). prepared x ∷ writes d ∷ []) (ap (λ (x : PreparedTables). record x { delayed_commits = finite.insert x.delayed_commits p c }) table ∙ sym is)
+        ∙ ap (λ (x : PreparedSets). prepared x ∷ writes d ∷ []) (ap (λ (x : PreparedSets). record x { delayed_commits = finite.insert x.delayed_commits p c }) table ∙ sym is)
 
     pub pending_delayed : GoesOn is_of_delayed (prepared tables ∷ writes d ∷ []) s.turns s t
     pending_delayed = record {

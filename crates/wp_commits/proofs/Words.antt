@@ -9,7 +9,7 @@ use Rattle.wp_judge.specs.Words.{CommitPair, pair_of, numbers_of}
 use Rattle.wp_core.specs.Cache.{cache_place, pair_at}
 use Rattle.wp_core.specs.Entries.{extended, pending_pair}
 use Rattle.wp_core.specs.Lists.{IsIn}
-use Rattle.wp_core.specs.Tables.{WriteTable, writes}
+use Rattle.wp_core.specs.Tables.{WriteState, writes}
 use Rattle.wp_core.specs.Views.{passed, words_stay}
 use Rattle.wp_core.specs.World.{World}
 use Rattle.wp_core.specs.Sound.Prepared.{IsPairAt}
@@ -40,7 +40,7 @@ decided_without history (entry ∷ others) pair other low e =
       | inr within ↦ (decision_was history (entry ∷ []) pair.number pair.decision (omega arith) within e, within)
     ]
 
-module _ {D : Type 0} (z : SharedState D) (s t : SeatState) (d : WriteTable) (place word : ℕ) (same : t ≡ s) (at : (w : World) × Stands z t w × (word ≡ slice_index w.cache place)) where
+module _ {D : Type 0} (z : SharedState D) (s t : SeatState) (d : WriteState) (place word : ℕ) (same : t ≡ s) (at : (w : World) × Stands z t w × (word ≡ slice_index w.cache place)) where
   stands : IsAt (place_at z s.by) s.knows at.0
   stands = subst (λ (x : SeatState). IsAt (place_at z x.by) x.knows at.0) same at.1
 
@@ -69,7 +69,7 @@ module _ {D : Type 0} (z : SharedState D) (s t : SeatState) (d : WriteTable) (pl
       known = (at_sound (place_at z s.by) s.knows at.0 stands).cache.pairs place pair (subst (λ (n : ℕ). place < n) (sym stands.cells) within) there
 
       decided : decision_of (extended d.history d.pending) pair.number ≡ Some pair.decision
-      decided = subst (λ (x : WriteTable). decision_of (extended x.history x.pending) pair.number ≡ Some pair.decision) table_is known.decided
+      decided = subst (λ (x : WriteState). decision_of (extended x.history x.pending) pair.number ≡ Some pair.decision) table_is known.decided
 
       ordered : (1 ≤ pair.number) × (pair.number ≤ pair.decision)
       ordered = pair_ordered z.cells place word pair within is
@@ -89,7 +89,7 @@ module _ {D : Type 0} (z : SharedState D) (s t : SeatState) (d : WriteTable) (pl
       cleared_low (inr gone) =
           let k = (noted_is (place_at z s.by) s.knows at.0 (passed place gone.0) stands gone.1.0).is_so in
           let same : gone.0 ≡ pair = same_some gone.0 pair (sym k.there ∙ there) in
-          subst (λ (x : WriteTable × CommitPair). x.1.decision ≤ length x.0.history) (λ i. (table_is i, same i)) k.published_by
+          subst (λ (x : WriteState × CommitPair). x.1.decision ≤ length x.0.history) (λ i. (table_is i, same i)) k.published_by
 
       itself_low : DecidesItself s.knows (length d.history) place → pair.decision ≤ length d.history
       itself_low k =

@@ -6,7 +6,7 @@ use Rattle.wp_judge.specs.Words.{CommitPair, fits}
 use Rattle.wp_core.specs.Cache.{cache_place, pair_at}
 use Rattle.wp_core.specs.Entries.{pending_pair, pairs_of}
 use Rattle.wp_core.specs.Lists.{IsIn}
-use Rattle.wp_core.specs.Tables.{WriteTable}
+use Rattle.wp_core.specs.Tables.{WriteState}
 use Rattle.wp_core.specs.Views.{passed, in_old_commits, apart, words_stay}
 use Rattle.wp_core.specs.World.{Actor}
 use Rattle.wp_rule.specs.Knows.{Noted}
@@ -23,7 +23,7 @@ pub record IsThere (a : Actor) (history : List Entry) (place p c : ℕ) : Type 0
   pub ordered : p ≤ c
 
 -- a pair of the pending record, which fits a word, is to come into the word at this place
-abbrev pub IsWanted : ℕ → WriteTable → ℕ → Type 0
+abbrev pub IsWanted : ℕ → WriteState → ℕ → Type 0
 IsWanted cells d place = (pair : CommitPair) × IsIn pair (pairs_of (suc (length d.history)) d.pending) × (place ≡ cache_place cells pair.number) × (fits cells pair ≡ true)
 
 -- the word at this place has no pair
@@ -45,7 +45,7 @@ DecidesItself a published place =
     (bound : ℕ) × (words : List ℕ) × (n : ℕ) × Noted a (words_stay bound words) × (n ≤ published) × (pair_at words place ≡ Some (record { number = n; decision = n }))
 
 -- the pair of the pending entry is not in its word yet
-abbrev pub IsUnentered : Actor → ℕ → WriteTable → Type 0
+abbrev pub IsUnentered : Actor → ℕ → WriteState → Type 0
 IsUnentered a cells t =
     (pair : CommitPair) → pending_pair t.history t.pending ≡ Some pair
     → (bound : ℕ) × (words : List ℕ) × Noted a (words_stay bound words) × (pair_at words (cache_place cells pair.number) ≢ Some pair)

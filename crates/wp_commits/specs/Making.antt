@@ -1,7 +1,7 @@
 -- Which steps of the machine a call makes at one load.
 use Rattle.std.specs.Prelude.{ℕ, zero, suc, ◌-◌, ◌==◌, List, [], ◌∷◌, if◌then◌else◌, is_some}
 use Rattle.std.specs.FinMap as finite
-use Rattle.wp_model.specs.PreparedTables.{is_prepared}
+use Rattle.wp_model.specs.PreparedSets.{is_prepared}
 use Rattle.wp_model.specs.Snapshots.{Snapshots}
 use Rattle.wp_judge.specs.Words.{CommitPair}
 use Rattle.wp_core.specs.Steps.{Step, add_delayed_commit, add_old_commit, note}

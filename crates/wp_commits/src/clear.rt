@@ -319,7 +319,7 @@ pub fn clear_all<D: Disk + Drop, R: Wait>(
     ensures cleared { OnOk result (AreCleared seat.new.knows store.now.cells (ways_of store.now.cells (suc (length log.now.table.history)) log.now.table.pending)) }
     ensures waits { OnOk result (AnyClears (ways_of store.now.cells (suc (length log.now.table.history)) log.now.table.pending) → Noted seat.new.knows none_waits) }
 {
-    log.shows_told();
+    log.devices_agree();
     let bits = store.bits();
     let entries = log.pending();
     let mut n = log.published();

@@ -3,7 +3,7 @@ ghost use Rattle.std.specs.Prelude.{◌≡◌, ◌≢◌, ◌⊎◌, ◌≤◌, 
 ghost use Rattle.std.specs.Option.{option_map};
 ghost use Rattle.wp_judge.specs.Words.{numbers_of, fits};
 ghost use Rattle.wp_model.specs.Decision.{decision_of};
-ghost use Rattle.wp_model.specs.PreparedTables.{NoneDelayed};
+ghost use Rattle.wp_model.specs.PreparedSets.{NoneDelayed};
 ghost use Rattle.wp_model.specs.Snapshots.{NoOldCommits};
 ghost use Rattle.wp_core.specs.Cache.{cache_place, pair_at, with_pair};
 ghost use Rattle.wp_core.specs.Entries.{pending_pair};
@@ -103,7 +103,7 @@ pub fn put_word<D: Disk + Drop>(
     ensures there { (bound : ℕ) (words : List ℕ) → Noted seat.new.knows (words_stay bound words) → pair_at words place ≡ Some (record { number = p; decision = c }) }
     ensures elsewhere { (published i : ℕ) → i ≢ place → IsReadyAt seat.old.knows published i → IsReadyAt seat.new.knows published i }
 {
-    log.shows_told();
+    log.devices_agree();
     let bits = store.bits();
     store.store_word(seat, place, pack(bits, p, c));
 }

@@ -53,7 +53,7 @@ pub(crate) fn next_way<D: Disk>(bits: u32, log: &Log<D>) -> Way
     requires { bits ≤ 16 }
     ensures { result ≡ way_of (2 ^ bits) (pending_pair log.now.table.history log.now.table.pending) }
 {
-    log.shows_told();
+    log.devices_agree();
     match log.pending().first() {
         Some(entry) => Way::of(bits, entry, log.published() + 1),
         None => Way::Undecided,

@@ -12,7 +12,7 @@ use Rattle.wp_core.specs.IsSound.{IsSound}
 use Rattle.wp_core.specs.Lists.{IsIn}
 use Rattle.wp_core.specs.Reading.{Registration}
 use Rattle.wp_core.specs.Sound.Actors.{StartsWith}
-use Rattle.wp_core.specs.Tables.{Content, WriteTable, writes}
+use Rattle.wp_core.specs.Tables.{Content, WriteState, writes}
 use Rattle.wp_core.specs.Turns.{write_turn}
 use Rattle.wp_core.specs.Views.{Event}
 use Rattle.wp_core.specs.World.{Participant}
@@ -50,7 +50,7 @@ module _ {D : Type 0} {z : SharedState D} {s t : SeatState} {log : LogState} (to
   sound = at_sound (place_at z t.by) t.knows took.world took.stands
 
   history_is : took.world.writes.history ≡ t.knows.participant.seen
-  history_is = ap (λ (x : WriteTable). x.history) took.is ∙ sym took.seen
+  history_is = ap (λ (x : WriteState). x.history) took.is ∙ sym took.seen
 
   pub took_legal : IsLegal t.knows.participant.seen
   took_legal = subst IsLegal history_is sound.history.legal

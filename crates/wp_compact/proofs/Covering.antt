@@ -14,9 +14,9 @@ use Rattle.wp_model.specs.Legal.{IsLegal, undone_last}
 use Rattle.std.specs.FinMap as finite
 use Rattle.wp_model.specs.Snapshots.{Snapshot, IsLive}
 use Rattle.wp_model.specs.Versions.{AreInOrder, version_at}
-use Rattle.wp_history.proofs.Counting.{entry_version_old}
-use Rattle.wp_history.proofs.Growth.{legal_before}
-use Rattle.wp_history.proofs.Listed.{only_listed}
+use Rattle.wp_history_laws.proofs.Counting.{entry_version_old}
+use Rattle.wp_history_laws.proofs.Growth.{legal_before}
+use Rattle.wp_history_laws.proofs.Listed.{only_listed}
 use Rattle.wp_keep.specs.Keep.{retained_of}
 use Rattle.wp_keep.specs.MayGo.{DecidesAt, MayGo}
 use Rattle.wp_keep.proofs.Covers.{covers}

@@ -8,7 +8,7 @@ use Rattle.wp_core.specs.Notes.{ends}
 use Rattle.wp_core.specs.Sound.Store.{NoneFlushed}
 use Rattle.wp_core.specs.Conditions.{KeepsStore}
 use Rattle.wp_core.specs.Steps.{Step, install, replace_versions, note}
-use Rattle.wp_core.specs.Tables.{StoreTable, Installed, store, installed}
+use Rattle.wp_core.specs.Tables.{StoreState, Installed, store, installed}
 use Rattle.wp_core.specs.Turns.{tables_turn}
 use Rattle.wp_core.specs.Views.{Fact, tables_stay, nothing_flushed, frozen_stay}
 use Rattle.wp_core.specs.Views as event
@@ -20,8 +20,8 @@ use Rattle.wp_rule.proofs.Knows.{held_is, noted_is}
 use Rattle.wp_rule.proofs.Needed.{guarded, needed}
 use Rattle.wp_rule.proofs.Outlasting.{outlasts}
 use Rattle.wp_rule.proofs.Stores.{holder_is_live}
-use Rattle.wp_shared.specs.Calls.{remembering}
-use Rattle.wp_shared.specs.Notes.{being, GoesOn}
+use Rattle.wp_shared.specs.Calls.{with_events}
+use Rattle.wp_shared.specs.Notes.{with_participant, GoesOn}
 use Rattle.wp_shared.specs.Seats.{SeatState}
 use Rattle.wp_shared.proofs.Noting.{note_ends_none}
 use Rattle.wp_shared.proofs.Tables.{held_table}
@@ -42,12 +42,12 @@ may_compact p a t edit held known gone w k =
     ((tt, (tt, tt)), (n, ((holder_is_live p a w tables_turn k n.0, guarded p a w k tables_turn n.0, subst (NoneFlushed w.store.memory) (sym same) (noted_is p a w nothing_flushed k gone).is_so), tt)))
 
 module _ (p : Place) (so : World → Type 0) (s u : SeatState) (same : (u.table ≡ s.table) × (u.by ≡ s.by) × (u.turns ≡ s.turns)) (t e : Installed) (held : s.knows.held ≡ installed t ∷ []) (m : Moved p (compacting e.last) so s.knows u.knows) where
-  pub was_compacted : e ≡ record t { last = e.last } → GoesOn is_of_flushed (installed e ∷ []) s.turns (being (remembering (event.installed e.last true ∷ []) s.knows.participant) s) u
+  pub was_compacted : e ≡ record t { last = e.last } → GoesOn is_of_flushed (installed e ∷ []) s.turns (with_participant (with_events (event.installed e.last true ∷ []) s.knows.participant) s) u
   was_compacted is =
       let w = m.world in
       let left : held_with s.knows.held (installed (record w.installed { last = e.last })) ≡ installed e ∷ [] =
       (λ i. held_with (held i) (installed (record (table_is p so s u same t e held w m.before i) { last = e.last }))) ∙ ap (λ (x : Installed). installed x ∷ []) (sym is) in
-      goes_from p so s u same (compacting e.last) m (record s.knows { participant = remembering (event.installed e.last true ∷ []) s.knows.participant }) is_of_flushed (installed e ∷ []) refl refl left
+      goes_from p so s u same (compacting e.last) m (record s.knows { participant = with_events (event.installed e.last true ∷ []) s.knows.participant }) is_of_flushed (installed e ∷ []) refl refl left
       (λ fact other. ((λ x. x), install_ends w.writes.history (length w.cache) e.last true fact other, ((λ x. x), note_ends_none w.writes.history (length w.cache) nothing_flushed fact, tt)))
 
   pub still_gone : Noted u.knows nothing_flushed
@@ -61,10 +61,10 @@ replace_ends history words tables floor (frozen_stay n versions) e = absurd (tru
 replace_ends history words tables floor nothing_flushed e = absurd (true≢false e)
 replace_ends history words tables floor other e = refl
 
-abbrev pub replacing : StoreTable → World → List Step
+abbrev pub replacing : StoreState → World → List Step
 replacing t w = replace_versions t.tables t.floor ∷ note (tables_stay t.tables t.floor) ∷ []
 
-pub may_replace : (p : Place) (a : Actor) (t now : StoreTable) (e : Installed) → a.held ≡ store t ∷ installed e ∷ []
+pub may_replace : (p : Place) (a : Actor) (t now : StoreState) (e : Installed) → a.held ≡ store t ∷ installed e ∷ []
     → ((w : World) → IsAt p a w → (w.store.floor ≤ now.floor) × KeepsStore w (record w.store { tables = now.tables; floor = now.floor }) w.installed) → MayMake p a (replacing now)
 may_replace p a t now e held may w k =
     let stores = (held_is p a w (store t) k (first_held a (store t) (installed e ∷ []) held)).0 in
@@ -72,7 +72,7 @@ may_replace p a t now e held may w k =
     let m = may w k in
     ((tt, (tt, tt)), ((stores, tables, m.0, m.1), ((holder_is_live p a w tables_turn k tables, guarded p a w k tables_turn tables, (refl, refl)), tt)))
 
-module _ (p : Place) (so : World → Type 0) (s u : SeatState) (same : (u.table ≡ s.table) × (u.by ≡ s.by) × (u.turns ≡ s.turns)) (t now : StoreTable) (e : Installed) (held : s.knows.held ≡ store t ∷ installed e ∷ []) (memory : now.memory ≡ t.memory)
+module _ (p : Place) (so : World → Type 0) (s u : SeatState) (same : (u.table ≡ s.table) × (u.by ≡ s.by) × (u.turns ≡ s.turns)) (t now : StoreState) (e : Installed) (held : s.knows.held ≡ store t ∷ installed e ∷ []) (memory : now.memory ≡ t.memory)
     (m : Moved p (replacing now) so s.knows u.knows) where
   abbrev x : World
   x = m.world

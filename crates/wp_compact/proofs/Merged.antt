@@ -20,9 +20,9 @@ use Rattle.wp_core.specs.Views.{tables_failed, tables_stay, live_listed, nothing
 use Rattle.wp_core.specs.Views as event
 use Rattle.wp_core.specs.World.{Participant}
 use Rattle.wp_rule.specs.Knows.{Noted}
-use Rattle.wp_shared.specs.Edits.{EditsState}
+use Rattle.wp_shared.specs.VersionSet.{VersionSetState}
 use Rattle.wp_shared.specs.Installs.{in_one_table, SurvivesInstall}
-use Rattle.wp_shared.specs.Calls.{GoesOnAs, remembering}
+use Rattle.wp_shared.specs.Calls.{GoesOnAs, with_events}
 use Rattle.wp_shared.specs.Notes.{no_fact, GoesOn}
 use Rattle.wp_shared.specs.Seats.{SharedState, SeatState}
 use Rattle.wp_shared.proofs.Onward.{starts_equal, loose_none, goes_none, goes_same, goes_still}
@@ -51,7 +51,7 @@ only_sorted kept ordered parts part is one = ap (λ (l : List (List Version)). s
 
 -- ---- the edit was installed
 
-module _ {D : Type 0} (z : SharedState D) (s u : SeatState) (e left : EditsState) (floor : ℕ) (live : List Registration) (bases : Bases) (opened : IsOpenedBase z bases.opened) (may : MayMerge s.knows e.table floor live bases) (kept : List Version) (kept_is : kept ≡ retained (take floor s.knows.participant.seen) (listed (numbers_of live) bases.opened e.table.last) e.table.last) where
+module _ {D : Type 0} (z : SharedState D) (s u : SeatState) (e left : VersionSetState) (floor : ℕ) (live : List Registration) (bases : Bases) (opened : IsOpenedBase z bases.opened) (may : MayMerge s.knows e.table floor live bases) (kept : List Version) (kept_is : kept ≡ retained (take floor s.knows.participant.seen) (listed (numbers_of live) bases.opened e.table.last) e.table.last) where
   abbrev next : InstalledEdit
   next = in_one_table kept e.table.last
 
@@ -119,7 +119,7 @@ module _ {D : Type 0} (z : SharedState D) (s u : SeatState) (e left : EditsState
         let kept_then : kept ≡ retained (take floor v.knows.participant.seen) (listed (numbers_of live) first.segment.base e.table.last) e.table.last = kept_is ∙ ap (λ (x : List Entry × List ℕ). retained x.0 x.1 e.table.last) same in
         let named : next ≡ after_compaction (take floor v.knows.participant.seen) (listed (numbers_of live) first.segment.base e.table.last) e.table.last = in_one_is (take floor v.knows.participant.seen) (listed (numbers_of live) first.segment.base e.table.last) e.table.last kept kept_then in
         let found = found_later z s u v e.table (starts_equal u.knows.participant.seen v.knows.participant.seen (ap (λ (x : SeatState). x.knows.participant.seen) put.same)) k.changes.found in
-        let after : InstalledEdit → Participant = λ edit. remembering (found_by z s v e.table found ∷ event.installed edit true ∷ []) s.knows.participant in
+        let after : InstalledEdit → Participant = λ edit. with_events (found_by z s v e.table found ∷ event.installed edit true ∷ []) s.knows.participant in
         let one : GoesOnAs s u (after next) = goes_remembering s u (found_by z s v e.table found ∷ event.installed next true ∷ []) is_of_flushed (installed left.table ∷ []) s.turns k.changes.goes flushed_free in
         let second : GoesOnAs u v u.knows.participant = goes_same u v is_of_tables (installed left.table ∷ []) turns tables_free put in
         let count : n ≡ length (retained (take floor v.knows.participant.seen) (listed (numbers_of live) first.segment.base e.table.last) e.table.last) = counted ∙ ap (λ (l : List Version). length l) kept_then in

@@ -12,9 +12,9 @@ use Rattle.wp_core.specs.Views.{Event, tables_failed}
 use Rattle.wp_core.specs.Views as event
 use Rattle.wp_core.specs.World.{Participant}
 use Rattle.wp_tableset.specs.Changes.{compacted_parts}
-use Rattle.wp_shared.specs.Edits.{EditsState}
+use Rattle.wp_shared.specs.VersionSet.{VersionSetState}
 use Rattle.wp_shared.specs.Installs.{SurvivesInstall}
-use Rattle.wp_shared.specs.Calls.{remembering}
+use Rattle.wp_shared.specs.Calls.{with_events}
 use Rattle.wp_shared.specs.Seats.{SharedState, SeatState}
 use Rattle.wp_maint.specs.declared.done.Done.{Done}
 use Rattle.wp_maint.specs.declared.error.MaintError.{MaintError}
@@ -50,17 +50,17 @@ module _ {D : Type 0} (z : SharedState D) (s t u v : SeatState) (same : IsSeat s
 -- ---- what a compaction says, of a seat before and of one behind
 
 module _ {D : Type 0} (First Last : Participant → Type 0) (z : SharedState D) (s t u v : SeatState) (e : Installed) (same : IsSeat s t) (same_past : t.knows.participant.past ≡ s.knows.participant.past) (starts : StartsWith t.knows.participant.seen s.knows.participant.seen) (past : u.knows.participant.past ≡ v.knows.participant.past) (grown : StartsWith v.knows.participant.seen u.knows.participant.seen)
-    (more : (events : List Event) → First (remembering events t.knows.participant) → Last (remembering events s.knows.participant)) (still : First t.knows.participant → Last s.knows.participant) where
+    (more : (events : List Event) → First (with_events events t.knows.participant) → Last (with_events events s.knows.participant)) (still : First t.knows.participant → Last s.knows.participant) where
   holds_on : (left : Installed) → HeldTables z t u u.knows.participant.past left → HeldTables z s v v.knows.participant.past left
   holds_on left k = holds_so First Last z s t u v e same same_past starts past grown more still left k
 
   abbrev found_on : Finds z t u e → Finds z s v e
   found_on k = found_so First Last z s t u v e same same_past starts past grown more still k
 
-  remembers_on : (k : Finds z t u e) (events : List Event) → First (remembering (found_by z t u e k ∷ events) t.knows.participant) → Last (remembering (found_by z s v e (found_on k) ∷ events) s.knows.participant)
+  remembers_on : (k : Finds z t u e) (events : List Event) → First (with_events (found_by z t u e k ∷ events) t.knows.participant) → Last (with_events (found_by z s v e (found_on k) ∷ events) s.knows.participant)
   remembers_on k events first = remembers_so First Last z s t u v e same same_past starts past grown more still k events first
 
-  throughout_on : (old new : EditsState) (next edit : InstalledEdit) → next ≡ edit → OpensThroughout t.knows.participant.seen u.knows.participant.seen old new next → OpensThroughout s.knows.participant.seen v.knows.participant.seen old new edit
+  throughout_on : (old new : VersionSetState) (next edit : InstalledEdit) → next ≡ edit → OpensThroughout t.knows.participant.seen u.knows.participant.seen old new next → OpensThroughout s.knows.participant.seen v.knows.participant.seen old new edit
   throughout_on old new next edit is k = throughout_so First Last z s t u v e same same_past starts past grown more still old new next edit is k
 
   -- what it pinned is pinned still, and begins what was seen
@@ -101,7 +101,7 @@ module _ {D : Type 0} (First Last : Participant → Type 0) (z : SharedState D) 
       survives = subst (λ (h : List Entry). SurvivesInstall k.table.before k.table.after (after_compaction h (listed k.live k.first.segment.base e.last) e.last)) p.1 k.survives;
       throughout = throughout_on k.table.before k.table.after (after_compaction (take done.at u.knows.participant.seen) (listed k.live k.first.segment.base e.last) e.last) (after_compaction (take done.at v.knows.participant.seen) (listed k.live k.first.segment.base e.last) e.last) (ap (λ (h : List Entry). after_compaction h (listed k.live k.first.segment.base e.last) e.last) p.1) k.throughout;
       goes_on = remembers_on k.found (event.installed (after_compaction (take done.at v.knows.participant.seen) (listed k.live k.first.segment.base e.last) e.last) true ∷ [])
-          (subst (λ (h : List Entry). First (remembering (found_by z t u e k.found ∷ event.installed (after_compaction h (listed k.live k.first.segment.base e.last) e.last) true ∷ []) t.knows.participant)) p.1 k.goes_on);
+          (subst (λ (h : List Entry). First (with_events (found_by z t u e k.found ∷ event.installed (after_compaction h (listed k.live k.first.segment.base e.last) e.last) true ∷ []) t.knows.participant)) p.1 k.goes_on);
     }
     compacts_so (Err Memory) k = still k
     compacts_so (Err Nothing) k = nothing_so First Last z s t u v e same same_past starts past grown more still FewTables k

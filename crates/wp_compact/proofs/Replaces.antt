@@ -11,7 +11,7 @@ use Rattle.wp_model.specs.Decision.{is_committed}
 use Rattle.wp_model.specs.Flushed.{InstalledEdit, IsEditCovered}
 use Rattle.wp_model.specs.Snapshots.{IsLive}
 use Rattle.wp_keep.specs.Keep.{retained_of}
-use Rattle.wp_history.proofs.Listed.{only_listed}
+use Rattle.wp_history_laws.proofs.Listed.{only_listed}
 use Rattle.wp_replies.specs.Tables.{listed, retained, after_compaction}
 use Rattle.wp_table.specs.Table.{is_flushed}
 use Rattle.wp_core.specs.Conditions.{KeepsStore}
@@ -20,7 +20,7 @@ use Rattle.wp_core.specs.Lists.{IsIn}
 use Rattle.wp_core.specs.Reading.{Registration}
 use Rattle.wp_core.specs.Sound.Actors.{StartsWith}
 use Rattle.wp_core.specs.Sound.Store.{NoneFlushed}
-use Rattle.wp_core.specs.Tables.{StoreTable, Installed, store, installed}
+use Rattle.wp_core.specs.Tables.{StoreState, Installed, store, installed}
 use Rattle.wp_core.specs.Views.{Fact, tables_stay, live_listed, nothing_flushed}
 use Rattle.wp_core.specs.World.{Participant, Actor, World}
 use Rattle.wp_core.proofs.Tests.{same_some}
@@ -101,7 +101,7 @@ opened_is z by a w at base k = k.2 ∙ ap (λ (edit : InstalledEdit). edit.segme
 
 -- ---- in a world of the store
 
-module _ {D : Type 0} (z : SharedState D) (s : SeatState) (e : Installed) (floor : ℕ) (put : MayPutKept z s.knows e floor) (u : SeatState) (t : StoreTable) (same : u.knows.participant ≡ s.knows.participant) (notes : (fact : Fact) → Noted s.knows fact → Noted u.knows fact) (held : u.knows.held ≡ store t ∷ installed e ∷ [])
+module _ {D : Type 0} (z : SharedState D) (s : SeatState) (e : Installed) (floor : ℕ) (put : MayPutKept z s.knows e floor) (u : SeatState) (t : StoreState) (same : u.knows.participant ≡ s.knows.participant) (notes : (fact : Fact) → Noted s.knows fact → Noted u.knows fact) (held : u.knows.held ≡ store t ∷ installed e ∷ [])
     (w : World) (stands : Stands z u w) where
   abbrev may : MayReplace s.knows e floor put.live put.versions
   may = put.replace

@@ -9,7 +9,7 @@ use Rattle.wp_model.specs.Flushed.{first_segment}
 use Rattle.wp_keep.specs.declared.pair.Pair.{Pair}
 use Rattle.wp_keep.specs.Keep.{is_committed, retained_of}
 use Rattle.wp_model.specs.Legal.{IsLegal}
-use Rattle.wp_history.proofs.Growth.{legal_before}
+use Rattle.wp_history_laws.proofs.Growth.{legal_before}
 use Rattle.wp_replies.specs.Tables.{listed, retained, after_compaction}
 use Rattle.wp_core.specs.Lists.{IsIn}
 use Rattle.wp_core.specs.Reading.{Registration}
@@ -20,7 +20,7 @@ use Rattle.wp_core.specs.Views.{Event, tables_failed, live_listed}
 use Rattle.wp_core.specs.Views as event
 use Rattle.wp_core.specs.World.{Participant, Actor}
 use Rattle.wp_rule.specs.Words.{IsAt}
-use Rattle.wp_shared.specs.Calls.{GoesOnAs, Continues, remembering}
+use Rattle.wp_shared.specs.Calls.{GoesOnAs, Continues, with_events}
 use Rattle.wp_shared.specs.Notes.{no_fact, is_under, seeing}
 use Rattle.wp_shared.specs.Seats.{SharedState, SeatState, IsFree, place_at}
 use Rattle.wp_shared.specs.Turns.{Taken, Given}
@@ -180,7 +180,7 @@ module _ {D : Type 0} {z : SharedState D} {s d t : SeatState} {e : Installed} (f
         let freed = given.free refl refl in (
           told,
           ends_so (GoesOnAs t u) (Continues z s v) z s t u v told (seat_still s t s.knows.participant goes_taken) (ap (λ (x : Participant). x.past) goes_taken.participant) goes_taken.seen (sym (ap (λ (x : Participant). x.past) same_given)) on_given.seen
-              (λ events w. goes_free z s v (remembering events p) freed (goes_still s u v (remembering events p) (goes_more s t u p goes_taken events w) on_given))
+              (λ events w. goes_free z s v (with_events events p) freed (goes_still s u v (with_events events p) (goes_more s t u p goes_taken events w) on_given))
               (λ w. goes_free z s v p freed (goes_still s u v p (goes_still s t u p goes_taken w) on_given))
               (IsPin floor live) (IsPin floor live) (λ f l pinned. (pinned, ap (λ (x : Participant). take f x.seen) (sym same_given)))
               (IsDecision floor bases versions) (HadDecision z s v) (decided_given grown) result k,
@@ -189,7 +189,7 @@ module _ {D : Type 0} {z : SharedState D} {s d t : SeatState} {e : Installed} (f
 -- ---- what a round leaves, whatever it answers
 
 abbrev Somehow : (Participant → Type 0) → Participant → Type 0
-Somehow Goes p = (events : List Event) × Goes (remembering events p)
+Somehow Goes p = (events : List Event) × Goes (with_events events p)
 
 module _ {D : Type 0} (Goes : Participant → Type 0) (Pinned : ℕ → List ℕ → Type 0) (z : SharedState D) (s u : SeatState) (e : Installed) where
   without : Goes s.knows.participant → Somehow Goes s.knows.participant
@@ -242,9 +242,9 @@ module _ {D : Type 0} (z : SharedState D) (s t u v : SeatState) (floor : Registr
   registered_round = ap (λ (p : Participant). p.registered) went.1.participant ∙ ap (λ (p : Participant). p.registered) first.participant
 
   module _ (last : Continues z u v (record u.knows.participant { registered = s.knows.participant.registered })) where
-    unpinned : (events : List Event) → Continues z t u (remembering events t.knows.participant) → Continues z s v (remembering events s.knows.participant)
+    unpinned : (events : List Event) → Continues z t u (with_events events t.knows.participant) → Continues z s v (with_events events s.knows.participant)
     unpinned events second =
-        continues_then z s u v (remembering events pins) (λ q. record q { registered = s.knows.participant.registered }) (λ q h k. refl) (continues_then z s t u pins (remembering events) (λ q h k. refl) first second) last
+        continues_then z s u v (with_events events pins) (λ q. record q { registered = s.knows.participant.registered }) (λ q h k. refl) (continues_then z s t u pins (with_events events) (λ q h k. refl) first second) last
 
     unpinned_still : Continues z t u t.knows.participant → Continues z s v s.knows.participant
     unpinned_still second = continues_then z s u v pins (λ q. record q { registered = s.knows.participant.registered }) (λ q h k. refl) (continues_still z s t u pins first second) last
@@ -302,7 +302,7 @@ module _ {D : Type 0} (z : SharedState D) (s t v : SeatState) (first : Continues
   pub compacts_since : (result : Result Done MaintError) → EndsRound (Continues z t v) (HasPinned z t v) (HadDecision z t v) z t (Some result) v → Compacts z s result v
   compacts_since result k = (
     k.0,
-    compacts_so (Continues z t v) (Continues z s v) z s t v v k.0 (first.same_by, first.made, first.joined) (ap (λ (p : Participant). p.past) first.participant) first.seen refl (starts_same v.knows.participant.seen) (λ events second. continues_then z s t v s.knows.participant (remembering events) (λ q h k. refl) first second) (continues_still z s t v s.knows.participant first)
+    compacts_so (Continues z t v) (Continues z s v) z s t v v k.0 (first.same_by, first.made, first.joined) (ap (λ (p : Participant). p.past) first.participant) first.seen refl (starts_same v.knows.participant.seen) (λ events second. continues_then z s t v s.knows.participant (with_events events) (λ q h k. refl) first second) (continues_still z s t v s.knows.participant first)
         (HasPinned z t v) (HasPinned z s v) pinned_since result k.1,
   )
 

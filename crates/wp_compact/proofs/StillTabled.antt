@@ -20,14 +20,14 @@ use Rattle.wp_core.specs.Reading.{Registration}
 use Rattle.wp_core.specs.Sound.Actors.{StartsWith}
 use Rattle.wp_core.specs.Sound.Store.{NoneFlushed}
 use Rattle.wp_core.specs.Sound.Views.{guarded_by}
-use Rattle.wp_core.specs.Tables.{Content, StoreTable, Installed, store, installed}
+use Rattle.wp_core.specs.Tables.{Content, StoreState, Installed, store, installed}
 use Rattle.wp_core.specs.Turns.{store_turn}
 use Rattle.wp_core.specs.Views.{Event, Fact, tables_stay, live_listed, nothing_flushed}
 use Rattle.wp_core.specs.World.{Participant, Actor, World}
 use Rattle.wp_rule.specs.Knows.{Noted, KnowsTables}
 use Rattle.wp_rule.proofs.Knows.{at_sound, noted_is}
-use Rattle.wp_shared.specs.Edits.{EditsState}
-use Rattle.wp_shared.specs.Stock.{StockState, store_table}
+use Rattle.wp_shared.specs.VersionSet.{VersionSetState}
+use Rattle.wp_shared.specs.Stock.{StockState, store_state}
 use Rattle.wp_shared.specs.Notes.{no_fact, is_under, noting_only, seeing, GoesOn, SawHistory}
 use Rattle.wp_shared.specs.Seats.{SharedState, SeatState, place_at}
 use Rattle.wp_shared.specs.Turns.{HoldsTurn, Taken, Given}
@@ -89,16 +89,16 @@ based_here (inr same) is floor = inr (sym is ∙ same ∙ floor)
 pub not_based : {base installed floor here there : ℕ} {b : Bool} → ((base ≡ installed) ⊎ (base ≡ floor) → b ≡ true) → b ≡ false → base ≡ here → floor ≡ there → (here ≢ installed) × (here ≢ there)
 not_based says not is same = ((λ one. true≢false (sym (says (inl (is ∙ one))) ∙ not)), (λ one. true≢false (sym (says (inr (is ∙ one ∙ sym same))) ∙ not)))
 
-module _ {D : Type 0} {z : SharedState D} {s u : SeatState} {e : Installed} {beneath : List ℕ} (stock : StockState) (floor : ℕ) (live : List Registration) (bases : Bases) (saw : SawHistory z s u) (holds : HoldsTurn z s (store (store_table stock)) (installed e ∷ []) beneath) (settled_then : KnowsTables s.knows e.last) (known : KnowsLive s.knows floor live)
+module _ {D : Type 0} {z : SharedState D} {s u : SeatState} {e : Installed} {beneath : List ℕ} (stock : StockState) (floor : ℕ) (live : List Registration) (bases : Bases) (saw : SawHistory z s u) (holds : HoldsTurn z s (store (store_state stock)) (installed e ∷ []) beneath) (in_step_then : KnowsTables s.knows e.last) (known : KnowsLive s.knows floor live)
     (known_low : AreLow s.knows.participant.seen floor live bases) (opened : IsOpenedBase z bases.opened) (low_tables : list_all (is_flushed e.last.flushed) e.last.versions ≡ true) (based : (e.last.segment.base ≡ bases.installed) ⊎ (e.last.segment.base ≡ floor)) (flushed_low : e.last.flushed ≤ floor) (given_up : stock.floor ≤ floor) where
   abbrev w : World
   w = saw.world
 
-  holds_both : u.knows.held ≡ store (store_table stock) ∷ installed e ∷ []
+  holds_both : u.knows.held ≡ store (store_state stock) ∷ installed e ∷ []
   holds_both = ap (λ (x : SeatState). x.knows.held) saw.seat ∙ holds.held
 
-  settled : KnowsTables u.knows e.last
-  settled = subst (λ (x : SeatState). KnowsTables x.knows e.last) (sym saw.seat) settled_then
+  in_step : KnowsTables u.knows e.last
+  in_step = subst (λ (x : SeatState). KnowsTables x.knows e.last) (sym saw.seat) in_step_then
 
   seen : u.knows.participant.seen ≡ saw.history
   seen = ap (λ (x : SeatState). x.knows.participant.seen) saw.seat
@@ -117,31 +117,31 @@ module _ {D : Type 0} {z : SharedState D} {s u : SeatState} {e : Installed} {ben
   edit_here : w.installed ≡ e
   edit_here = held_table (place_at z u.by) u.knows w (installed e) saw.stands (subst (IsIn (installed e)) (sym holds_both) (inr (inl refl)))
 
-  store_here : w.store ≡ store_table stock
-  store_here = held_table (place_at z u.by) u.knows w (store (store_table stock)) saw.stands (subst (IsIn (store (store_table stock))) (sym holds_both) (inl refl))
+  store_here : w.store ≡ store_state stock
+  store_here = held_table (place_at z u.by) u.knows w (store (store_state stock)) saw.stands (subst (IsIn (store (store_state stock))) (sym holds_both) (inl refl))
 
-  named : (w.store.tables ≡ e.last.versions) × (w.store.floor ≡ settled.1.0)
-  named = (noted_is (place_at z u.by) u.knows w (tables_stay e.last.versions settled.1.0) saw.stands settled.1.1).is_so
+  named : (w.store.tables ≡ e.last.versions) × (w.store.floor ≡ in_step.1.0)
+  named = (noted_is (place_at z u.by) u.knows w (tables_stay e.last.versions in_step.1.0) saw.stands in_step.1.1).is_so
 
   gone : NoneFlushed w.store.memory w.installed.last.flushed
-  gone = (noted_is (place_at z u.by) u.knows w nothing_flushed saw.stands settled.0).is_so
+  gone = (noted_is (place_at z u.by) u.knows w nothing_flushed saw.stands in_step.0).is_so
 
   -- they are in order, as the store has them
-  pub tables_here : (store_table stock).tables ≡ e.last.versions
-  tables_here = ap (λ (t : StoreTable). t.tables) (sym store_here) ∙ named.0
+  pub tables_here : (store_state stock).tables ≡ e.last.versions
+  tables_here = ap (λ (t : StoreState). t.tables) (sym store_here) ∙ named.0
 
   in_order : AreInOrder e.last.versions
   in_order = subst AreInOrder tables_here (in_order_sorted (joined stock.parts.tables))
 
   floor_here : w.store.floor ≤ floor
-  floor_here = let q = ap (λ (t : StoreTable). t.floor) store_here in omega (arith, q, given_up)
+  floor_here = let q = ap (λ (t : StoreState). t.floor) store_here in omega (arith, q, given_up)
 
   replace_here : MayReplace u.knows e floor live e.last.versions
   replace_here = record {
     live_is = k;
-    gone = settled.0;
-    store_floor = settled.1.0;
-    named = settled.1.1;
+    gone = in_step.0;
+    store_floor = in_step.1.0;
+    named = in_step.1.1;
     given_up = let q = named.1 in let f = floor_here in omega (arith, q, f);
     in_order = in_order;
     low = low_tables;
@@ -282,7 +282,7 @@ may_merge_still s t e floor live bases same notes k = let r = k.replace in recor
 
 -- ---- a look at the store
 
-module _ {D : Type 0} {z : SharedState D} {s t u : SeatState} {e : EditsState} {before : StoreTable} (holds : HoldsEdits z s e) (first : Taken z s t (store before)) (second : GoesOn no_fact t.knows.held t.turns (seeing u.knows.participant.seen t) u) where
+module _ {D : Type 0} {z : SharedState D} {s t u : SeatState} {e : VersionSetState} {before : StoreState} (holds : HoldsEdits z s e) (first : Taken z s t (store before)) (second : GoesOn no_fact t.knows.held t.turns (seeing u.knows.participant.seen t) u) where
   pub holds_seen : HoldsTurn z u (store before) (installed e.table ∷ []) (5 ∷ [])
   holds_seen = let h = holds_taken holds first in record {
     same_table = ap (λ (x : SeatState). x.table) second.same ∙ h.same_table;

@@ -10,7 +10,7 @@ use Rattle.wp_core.specs.IsSound.{IsSound}
 use Rattle.wp_core.specs.Lists.{IsIn}
 use Rattle.wp_core.specs.Sound.Actors.{StartsWith}
 use Rattle.wp_core.specs.Sound.Snapshots.{has_versions}
-use Rattle.wp_core.specs.Tables.{StoreTable, Content, store, turn_of}
+use Rattle.wp_core.specs.Tables.{StoreState, Content, store, turn_of}
 use Rattle.wp_core.specs.Turns.{Turn}
 use Rattle.wp_core.specs.Views.{Event}
 use Rattle.wp_core.specs.World.{Participant}
@@ -27,13 +27,13 @@ use Rattle.wp_compact.specs.Decided.{AreSeen}
 use Rattle.wp_maint.proofs.Onward.{held_then}
 use Rattle.wp_maint.proofs.Versions.{at_own}
 
-module _ {D : Type 0} {z : SharedState D} {s t : SeatState} {before : StoreTable} (taken : Taken z s t (store before)) where
+module _ {D : Type 0} {z : SharedState D} {s t : SeatState} {before : StoreState} (taken : Taken z s t (store before)) where
   pub are_seen : AreInOrder before.tables → AreSeen s.knows.participant.seen before.tables
   are_seen ordered v there low =
       let seen = s.knows.participant.seen in
       let w = taken.world in
       let sound : IsSound w = at_sound (place_at z s.by) s.knows w taken.before in
-      let stored : version_at w.store.tables v.key v.number ≡ Some v.value = ap (λ (x : StoreTable). version_at x.tables v.key v.number) taken.is ∙ at_own before.tables ordered v there in
+      let stored : version_at w.store.tables v.key v.number ≡ Some v.value = ap (λ (x : StoreState). version_at x.tables v.key v.number) taken.is ∙ at_own before.tables ordered v there in
       let is : entry_version w.writes.history v.number v.key ≡ Some v.value = sound.versions.tables v.key v.number v.value stored in
       let grown : StartsWith w.writes.history seen = seen_is (place_at z s.by) s.knows w taken.before in
       ap has_versions (sym (ap (λ (h : List Entry). entry_at h v.number) grown.1 ∙ entry_at_old seen grown.0 v.number low)) ∙ versions_of (entry_at w.writes.history v.number) v.key v.value is

@@ -13,10 +13,10 @@ use Rattle.wp_core.specs.Tables.{Installed}
 use Rattle.wp_core.specs.Views as event
 use Rattle.wp_core.specs.World.{Participant}
 use Rattle.wp_rule.specs.Shows.{WasLast}
-use Rattle.wp_shared.specs.Edits.{EditsState}
+use Rattle.wp_shared.specs.VersionSet.{VersionSetState}
 use Rattle.wp_shared.specs.Installs.{SurvivesInstall}
 use Rattle.wp_shared.specs.Parts.{content}
-use Rattle.wp_shared.specs.Calls.{Continues, remembering}
+use Rattle.wp_shared.specs.Calls.{Continues, with_events}
 use Rattle.wp_shared.specs.Notes.{seeing}
 use Rattle.wp_shared.specs.Seats.{SharedState, SeatState}
 use Rattle.wp_read.specs.Registers.{IsPinned, numbers_of}
@@ -35,7 +35,7 @@ abbrev pub SeveralTables : InstalledEdit → Type 0
 SeveralTables edit = 2 ≤ edit.tables
 
 -- a table of these versions is in place of all, or none where there are none
-abbrev pub HasAlone : List Version → EditsState → EditsState → Type 0
+abbrev pub HasAlone : List Version → VersionSetState → VersionSetState → Type 0
 HasAlone versions before after = after.parts ≡ compacted_parts versions
 
 -- All that was live was pinned in one world of the store, from this floor on, by the seat as it was before the call but that it
@@ -72,7 +72,7 @@ pub record HasCompacted {D : Type 0} (Goes : Participant → Type 0) (Pinned : �
   pub table : TablesBecame z e (record e { last = after_compaction (take done.at new.knows.participant.seen) (listed live first.segment.base e.last) e.last }) (HasAlone (retained (take done.at new.knows.participant.seen) (listed live first.segment.base e.last) e.last))
   pub survives : SurvivesInstall table.before table.after (after_compaction (take done.at new.knows.participant.seen) (listed live first.segment.base e.last) e.last)
   pub throughout : OpensThroughout old.knows.participant.seen new.knows.participant.seen table.before table.after (after_compaction (take done.at new.knows.participant.seen) (listed live first.segment.base e.last) e.last)
-  pub goes_on : Goes (remembering (found_by z old new e found ∷ event.installed (after_compaction (take done.at new.knows.participant.seen) (listed live first.segment.base e.last) e.last) true ∷ []) old.knows.participant)
+  pub goes_on : Goes (with_events (found_by z old new e found ∷ event.installed (after_compaction (take done.at new.knows.participant.seen) (listed live first.segment.base e.last) e.last) true ∷ []) old.knows.participant)
 
 -- the edit is that of a compaction of these tables at a floor with these live numbers
 pub record IsCompactionOf {D : Type 0} (Pinned : ℕ → List ℕ → Type 0) (z : SharedState D) (new : SeatState) (last edit : InstalledEdit) : Type 0 where

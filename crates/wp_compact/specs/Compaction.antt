@@ -13,7 +13,7 @@ use Rattle.wp_table.specs.Table.{is_numbered, is_flushed}
 use Rattle.wp_core.specs.Lists.{IsIn}
 use Rattle.wp_core.specs.Reading.{Registration}
 use Rattle.wp_core.specs.Sound.Actors.{StartsWith}
-use Rattle.wp_core.specs.Tables.{StoreTable, WriteTable, Installed, store, writes}
+use Rattle.wp_core.specs.Tables.{StoreState, WriteState, Installed, store, writes}
 use Rattle.wp_core.specs.Views.{tables_stay, live_listed, nothing_flushed}
 use Rattle.wp_core.specs.World.{Participant, Actor}
 use Rattle.wp_rule.specs.Knows.{Noted}
@@ -67,7 +67,7 @@ IsOpenedBase z base = (first : InstalledEdit) × WasLast content z.first first �
 -- one above the floor, the second is the floor.
 pub record AreBases {D : Type 0} (z : SharedState D) (old new : SeatState) (floor : ℕ) (bases : Bases) : Type 0 where
   pub opened : IsOpenedBase z bases.opened
-  pub table : WriteTable
+  pub table : WriteState
   pub held : HeldContent z old new old.knows.participant.past (writes table)
   pub installed_is : bases.installed ≡ min table.segment.base floor
 
@@ -112,12 +112,12 @@ pub record MayMerge (a : Actor) (e : Installed) (floor : ℕ) (live : List Regis
 
 -- the store's tables had these versions, in a world in which the seat held the store turn
 abbrev pub HadVersions : {D : Type 0} → SharedState D → SeatState → SeatState → List Version → Type 0
-HadVersions z old new versions = (t : StoreTable) × HeldContent z old new old.knows.participant.past (store t) × (t.tables ≡ versions)
+HadVersions z old new versions = (t : StoreState) × HeldContent z old new old.knows.participant.past (store t) × (t.tables ≡ versions)
 
 -- A flush put versions above the floor into these tables; or a compaction from a later floor replaced others by them, as a world says
 -- in which the seat held the store turn.
 abbrev pub IsPassed : {D : Type 0} → SharedState D → SeatState → SeatState → ℕ → Installed → Type 0
-IsPassed z old new floor e = (floor < e.last.flushed) ⊎ ((t : StoreTable) × HeldContent z old new old.knows.participant.past (store t) × (floor < t.floor))
+IsPassed z old new floor e = (floor < e.last.flushed) ⊎ ((t : StoreState) × HeldContent z old new old.knows.participant.past (store t) × (floor < t.floor))
 
 -- ... or the log's base is another than this one, and not the floor
 abbrev pub IsPassedOr : {D : Type 0} → SharedState D → SeatState → SeatState → ℕ → ℕ → Installed → Type 0

@@ -20,7 +20,7 @@ use std::sync::Wait;
 use wp_maint::{Done, MaintError, find_edits};
 use wp_outside::Disk;
 use wp_read::{Pinned, pin_all};
-use wp_shared::{Edits, Seat, Shared};
+use wp_shared::{Seat, Shared, VersionSet};
 
 /// Compacts, under the tables turn, or begins again where the tables are others than those that were decided.
 fn compact_in<D: Disk + Drop, R: Wait>(
@@ -28,16 +28,16 @@ fn compact_in<D: Disk + Drop, R: Wait>(
     rt: &R,
     alloc: Global,
     seat: &mut Seat<D>,
-    edits: &mut Edits<D>,
+    edits: &mut VersionSet<D>,
     pinned: &Pinned,
     decided: Decided,
 ) -> Option<Result<Done, MaintError>>
     requires holds { HoldsEdits store.now seat.old edits.old }
-    requires settled { KnowsTables seat.old.knows edits.old.table.last }
+    requires in_step { KnowsTables seat.old.knows edits.old.table.last }
     requires decided { HasDecided seat.old.knows pinned.now.floor pinned.now.live.items decided.bases decided.versions decided.committed.items }
     requires opened { IsOpenedBase store.now decided.bases.opened }
     ensures holds { HoldsEdits store.now seat.new edits.new }
-    ensures settled { KnowsTables seat.new.knows edits.new.table.last }
+    ensures in_step { KnowsTables seat.new.knows edits.new.table.last }
     ensures says { EndsRoundFrom (GoesOnAs seat.old seat.new) (IsPin pinned.now.floor.number (numbers_of pinned.now.live.items)) (IsDecision pinned.now.floor.number decided.bases decided.versions) store.now seat.old edits.old.table result seat.new }
     ensures manifest { InRound (AreLeft edits.old edits.new) result }
 {
@@ -73,11 +73,11 @@ fn compact_pinned<D: Disk + Drop, R: Wait>(
     let Ok(decided) = decide_tables(store, rt, alloc, seat, pinned) else {
         return Some(Err(MaintError::Memory));
     };
-    let mut edits = store.take_turn::<Edits<D>, R>(rt, seat);
-    edits.shows_told();
+    let mut edits = store.take_turn::<VersionSet<D>, R>(rt, seat);
+    edits.devices_agree();
     let result = compact_in(store, rt, alloc, seat, &mut edits, pinned, decided);
-    edits.shows_told();
-    store.give_turn::<Edits<D>>(seat, edits);
+    edits.devices_agree();
+    store.give_turn::<VersionSet<D>>(seat, edits);
     result
 }
 

@@ -244,7 +244,7 @@ fn decide_log<D: Disk + Drop, R: Wait>(
 {
     store.shows_one_store();
     let log = store.take_log(rt, seat);
-    log.shows_told();
+    log.devices_agree();
     let bases = Bases {
         opened: log.opened_base(),
         installed: log.base().min(pinned.floor.number()),

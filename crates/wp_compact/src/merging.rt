@@ -35,7 +35,7 @@ use wp_maint::{Done, MaintError, halt};
 use wp_model::{Seq, Versions};
 use wp_outside::Disk;
 use wp_read::Pinned;
-use wp_shared::{Edits, Seat, Shared, Stock};
+use wp_shared::{Seat, Shared, Stock, VersionSet};
 use wp_table::Table;
 use wp_tableset::TableSetError;
 
@@ -65,7 +65,7 @@ fn kept_of(
 fn install<D: Disk + Drop>(
     store: &Shared<D>,
     seat: &mut Seat<D>,
-    edits: &mut Edits<D>,
+    edits: &mut VersionSet<D>,
     kept: &Versions,
 ) -> Result<Option<Arc<Table>>, MaintError>
     requires holds { HoldsEdits store.now seat.old edits.old }
@@ -81,16 +81,16 @@ fn install<D: Disk + Drop>(
     ensures refused { IfErr result (λ why. NotInstalled store.now seat.old edits.old (in_one_table kept.now edits.old.table.last) why seat.new edits.new) }
     ensures manifest { IfErr result (UnlessFault (AreLeft edits.old edits.new)) }
 {
-    edits.shows_told();
+    edits.devices_agree();
     match edits.compact(kept) {
         Ok(table) => {
-            edits.shows_told();
+            edits.devices_agree();
             install_compaction(store, seat, edits);
             Ok(table)
         }
         Err(TableSetError::Memory) => Err(MaintError::Memory),
         Err(TableSetError::Fault) => {
-            edits.shows_told();
+            edits.devices_agree();
             halt(store, seat, edits);
             Err(MaintError::TableFault)
         }
@@ -114,7 +114,7 @@ fn put_tables<D: Disk + Drop, R: Wait>(
     store: &Shared<D>,
     rt: &R,
     seat: &mut Seat<D>,
-    edits: &Edits<D>,
+    edits: &VersionSet<D>,
     tables: Vec<Arc<Table>>,
     floor: Seq,
 )
@@ -122,7 +122,7 @@ fn put_tables<D: Disk + Drop, R: Wait>(
     requires may { MayPutKept store.now seat.old.knows edits.now.table floor }
     requires tables { sorted_of (joined (map arc_value tables.items)) ≡ edits.now.table.last.versions }
     ensures goes { GoesOn is_of_tables (installed edits.now.table ∷ []) seat.old.turns seat.old seat.new }
-    ensures settled { KnowsTables seat.new.knows edits.now.table.last }
+    ensures in_step { KnowsTables seat.new.knows edits.now.table.last }
 {
     let mut stock = store.take_turn::<Stock, R>(rt, seat);
     stock.replace(tables, floor);
@@ -135,7 +135,7 @@ fn merge_kept<D: Disk + Drop, R: Wait>(
     store: &Shared<D>,
     rt: &R,
     seat: &mut Seat<D>,
-    edits: &mut Edits<D>,
+    edits: &mut VersionSet<D>,
     pinned: &Pinned,
     kept: Versions,
     tables: Vec<Arc<Table>>,
@@ -147,7 +147,7 @@ fn merge_kept<D: Disk + Drop, R: Wait>(
         × (kept ≡ retained (take pinned.now.floor.number seat.old.knows.participant.seen) (listed (numbers_of pinned.now.live.items) bases.opened edits.old.table.last) edits.old.table.last) }
     requires room { (tables.items ≡ []) × (1 ≤ vec_capacity tables) }
     ensures holds { HoldsEdits store.now seat.new edits.new }
-    ensures settled { KnowsTables seat.new.knows edits.new.table.last }
+    ensures in_step { KnowsTables seat.new.knows edits.new.table.last }
     ensures says { CompactsFrom (GoesOnAs seat.old seat.new) (IsPin pinned.now.floor.number (numbers_of pinned.now.live.items)) store.now seat.old edits.old.table result seat.new }
     ensures manifest { IfErr result (UnlessFault (AreLeft edits.old edits.new)) }
 {
@@ -170,7 +170,7 @@ pub(crate) fn merge<D: Disk + Drop, R: Wait>(
     rt: &R,
     alloc: Global,
     seat: &mut Seat<D>,
-    edits: &mut Edits<D>,
+    edits: &mut VersionSet<D>,
     pinned: &Pinned,
     decided: Decided,
 ) -> Result<Done, MaintError>
@@ -182,7 +182,7 @@ pub(crate) fn merge<D: Disk + Drop, R: Wait>(
     requires same { decided.versions ≡ edits.old.table.last.versions }
     requires opened { IsOpenedBase store.now decided.bases.opened }
     ensures holds { HoldsEdits store.now seat.new edits.new }
-    ensures settled { KnowsTables seat.new.knows edits.new.table.last }
+    ensures in_step { KnowsTables seat.new.knows edits.new.table.last }
     ensures says { CompactsFrom (GoesOnAs seat.old seat.new) (IsPin pinned.now.floor.number (numbers_of pinned.now.live.items)) store.now seat.old edits.old.table result seat.new }
     ensures manifest { IfErr result (UnlessFault (AreLeft edits.old edits.new)) }
 {

@@ -5,7 +5,7 @@ ghost use Rattle.wp_merge.specs.Merge.{joined, sorted_of};
 ghost use Rattle.wp_core.specs.Sound.Actors.{StartsWith};
 ghost use Rattle.wp_core.specs.Tables.{installed};
 ghost use Rattle.wp_core.specs.Tables as table;
-ghost use Rattle.wp_shared.specs.Stock.{store_table};
+ghost use Rattle.wp_shared.specs.Stock.{store_state};
 ghost use Rattle.wp_rule.specs.Knows.{KnowsTables};
 ghost use Rattle.wp_shared.specs.Notes.{no_fact, seeing, GoesOn};
 ghost use Rattle.wp_shared.specs.Turns.{HoldsTurn};
@@ -20,7 +20,7 @@ use std::sync::{Arc, Wait};
 use wp_model::{Seq, Version, Versions};
 use wp_outside::Disk;
 use wp_read::Pinned;
-use wp_shared::{Edits, Seat, Shared, Stock};
+use wp_shared::{Seat, Shared, Stock, VersionSet};
 use wp_store::merged_tables;
 use wp_table::Table;
 
@@ -57,13 +57,13 @@ fn is_based(base: Seq, bases: Bases, floor: Seq) -> bool
 fn tables_in<D: Disk + Drop>(
     store: &Shared<D>,
     seat: &mut Seat<D>,
-    edits: &Edits<D>,
+    edits: &VersionSet<D>,
     stock: &Stock,
     pinned: &Pinned,
     bases: Bases,
 ) -> Result<Option<Vec<Arc<Table>>>, AllocError>
-    requires holds { HoldsTurn store.now seat.old (table.store (store_table stock.now)) (installed edits.now.table ∷ []) (5 ∷ []) }
-    requires settled { KnowsTables seat.old.knows edits.now.table.last }
+    requires holds { HoldsTurn store.now seat.old (table.store (store_state stock.now)) (installed edits.now.table ∷ []) (5 ∷ []) }
+    requires in_step { KnowsTables seat.old.knows edits.now.table.last }
     requires live { KnowsLive seat.old.knows pinned.now.floor.number pinned.now.live.items }
     requires bases { AreLow seat.old.knows.participant.seen pinned.now.floor.number pinned.now.live.items bases × IsOpenedBase store.now bases.opened }
     ensures goes { GoesOn no_fact seat.old.knows.held seat.old.turns (seeing seat.new.knows.participant.seen seat.old) seat.new }
@@ -90,12 +90,12 @@ fn find_tables<D: Disk + Drop, R: Wait>(
     store: &Shared<D>,
     rt: &R,
     seat: &mut Seat<D>,
-    edits: &Edits<D>,
+    edits: &VersionSet<D>,
     pinned: &Pinned,
     bases: Bases,
 ) -> Result<Option<Vec<Arc<Table>>>, AllocError>
     requires holds { HoldsEdits store.now seat.old edits.now }
-    requires settled { KnowsTables seat.old.knows edits.now.table.last }
+    requires in_step { KnowsTables seat.old.knows edits.now.table.last }
     requires live { KnowsLive seat.old.knows pinned.now.floor.number pinned.now.live.items }
     requires bases { AreLow seat.old.knows.participant.seen pinned.now.floor.number pinned.now.live.items bases × IsOpenedBase store.now bases.opened }
     ensures goes { GoesOn no_fact (installed edits.now.table ∷ []) seat.old.turns (seeing seat.new.knows.participant.seen seat.old) seat.new }
@@ -128,12 +128,12 @@ pub(crate) fn are_unchanged<D: Disk + Drop, R: Wait>(
     rt: &R,
     alloc: Global,
     seat: &mut Seat<D>,
-    edits: &Edits<D>,
+    edits: &VersionSet<D>,
     pinned: &Pinned,
     decided: &Decided,
 ) -> Result<bool, AllocError>
     requires holds { HoldsEdits store.now seat.old edits.now }
-    requires settled { KnowsTables seat.old.knows edits.now.table.last }
+    requires in_step { KnowsTables seat.old.knows edits.now.table.last }
     requires decided { HasDecided seat.old.knows pinned.now.floor pinned.now.live.items decided.now.bases decided.now.versions decided.now.committed.items }
     requires opened { IsOpenedBase store.now decided.now.bases.opened }
     ensures goes { GoesOn no_fact (installed edits.now.table ∷ []) seat.old.turns (seeing seat.new.knows.participant.seen seat.old) seat.new }

@@ -6,12 +6,12 @@ use lib.ListN.{get_elem?}
 use Rattle.std.specs.Ordering.{nat_cmp}
 use Rattle.std.specs.FinMap as finite
 use Rattle.wp_model.specs.declared.entry.Entry.{Entry}
-use Rattle.wp_model.specs.LockTables.{LockTables}
-use Rattle.wp_model.specs.PreparedTables.{PreparedTables}
+use Rattle.wp_model.specs.LockState.{LockState}
+use Rattle.wp_model.specs.PreparedSets.{PreparedSets}
 use Rattle.wp_model.specs.Snapshots.{Snapshots}
 use Rattle.wp_core.specs.Lists.{EachAt, IsIn}
 use Rattle.wp_core.specs.Turns.{Turn, Holders, Holds}
-use Rattle.wp_core.specs.Tables.{Content, WriteTable, StoreTable, Installed, turn_of}
+use Rattle.wp_core.specs.Tables.{Content, WriteState, StoreState, Installed, turn_of}
 use Rattle.wp_model.specs.Flushed.{InstalledEdit}
 use Rattle.wp_core.specs.Reading.{Registration}
 use Rattle.wp_core.specs.Views.{Fact}
@@ -23,7 +23,7 @@ use Rattle.wp_core.specs.Sound.Actors.{seen_of, own_of, AreSeen, AreLearned, Are
 use Rattle.wp_core.specs.Sound.History.{IsHistory, IsPendingHeld}
 use Rattle.wp_core.specs.Sound.Prepared.{IsCache, AreDecided, AreUndecided, AreDelayed, AreFlags}
 use Rattle.wp_core.specs.Sound.Snapshots.{registered_of, AreRegistered, AreFromBase, view_of, HasSeen}
-use Rattle.wp_core.specs.Sound.Store.{IsStored, IsSettled}
+use Rattle.wp_core.specs.Sound.Store.{IsStored, IsInStep}
 use Rattle.wp_core.specs.Sound.Segments.{AreCoupled}
 use Rattle.wp_core.specs.Sound.Locks.{owner_of, AreLocked}
 use Rattle.wp_core.specs.Sound.Pasts.{past_of, AreHolders, IsBoard, AreFaults, AreEdits}
@@ -36,7 +36,7 @@ use Rattle.wp_core.proofs.Changed.{others_hold, holds_changed, have_changed}
 -- ---- the groups
 
 -- the parts that speak of no actor
-pub record TableParts (opened : List Entry) (d : WriteTable) (max delayed_flag old_flag : ℕ) (words : List ℕ) (t : PreparedTables) (base : ℕ) (m : Snapshots) (st : StoreTable) (e : Installed) (h : Holders) : Type 0 where
+pub record TableParts (opened : List Entry) (d : WriteState) (max delayed_flag old_flag : ℕ) (words : List ℕ) (t : PreparedSets) (base : ℕ) (m : Snapshots) (st : StoreState) (e : Installed) (h : Holders) : Type 0 where
   pub history : IsHistory opened d max
   pub cache : IsCache d.history d.pending words
   pub decided : AreDecided d.history words t.delayed_commits max m
@@ -44,7 +44,7 @@ pub record TableParts (opened : List Entry) (d : WriteTable) (max delayed_flag o
   pub delayed : AreDelayed d.history d.pending t words
   pub flags : AreFlags delayed_flag old_flag t m h.prepared h.snapshots
   pub versions : IsStored d.history d.pending base m st e
-  pub settled : IsSettled h.tables st e.last
+  pub in_step : IsInStep h.tables st e.last
   pub coupled : AreCoupled d e h.write
   pub pending : IsPendingHeld h.write d.pending
 
@@ -58,7 +58,7 @@ pub record ViewParts (opened history : List Entry) (base : ℕ) (m : Snapshots) 
   pub viewed : EachParticipant HasSeen (map (participants_of view_of) actors)
 
 -- the pasts
-pub record PastParts (opened : List Entry) (d : WriteTable) (l : LockTables) (first : InstalledEdit) (e : Installed) (actors : List Actor) : Type 0 where
+pub record PastParts (opened : List Entry) (d : WriteState) (l : LockState) (first : InstalledEdit) (e : Installed) (actors : List Actor) : Type 0 where
   pub holders : AreHolders opened d.history l (map (participants_of past_of) actors)
   pub board : IsBoard (length d.history) l (map (participants_of past_of) actors)
   pub faults : AreFaults d e.halted (map (participants_of past_of) actors)
@@ -116,7 +116,7 @@ all_parts w actors tables views locks pasts turns readers notes led idle = recor
   viewed = views.viewed;
   flags = tables.flags;
   versions = tables.versions;
-  settled = tables.settled;
+  in_step = tables.in_step;
   coupled = tables.coupled;
   locks = locks;
   holders = pasts.holders;
@@ -135,7 +135,7 @@ all_parts w actors tables views locks pasts turns readers notes led idle = recor
 
 module _ (w : World) (s : IsSound w) where
   pub tables_of : TablesOf w
-  tables_of = record { history = s.history; cache = s.cache; decided = s.decided; undecided = s.undecided; delayed = s.delayed; flags = s.flags; versions = s.versions; settled = s.settled; coupled = s.coupled; pending = s.pending }
+  tables_of = record { history = s.history; cache = s.cache; decided = s.decided; undecided = s.undecided; delayed = s.delayed; flags = s.flags; versions = s.versions; in_step = s.in_step; coupled = s.coupled; pending = s.pending }
 
   pub views_of : ViewsOf w w.actors
   views_of = record { seen = s.seen; learned = s.learned; owned = s.owned; registrations = s.registrations; from_base = s.from_base; viewed = s.viewed }
@@ -167,7 +167,7 @@ module _ (w : World) (by : ℕ) (a b : Actor) (at : get_elem? w.actors by ≡ so
     viewed = kept_part (participants_of view_of) (EachParticipant HasSeen) (λ i. (same i).3) k.viewed;
   }
 
-  pub pasts_kept : (opened : List Entry) (d : WriteTable) (l : LockTables) (first : InstalledEdit) (e : Installed) → participants_of past_of b ≡ participants_of past_of a → PastParts opened d l first e w.actors → PastParts opened d l first e (set w.actors by b)
+  pub pasts_kept : (opened : List Entry) (d : WriteState) (l : LockState) (first : InstalledEdit) (e : Installed) → participants_of past_of b ≡ participants_of past_of a → PastParts opened d l first e w.actors → PastParts opened d l first e (set w.actors by b)
   pasts_kept opened d l first e same k = record {
     holders = kept_part (participants_of past_of) (AreHolders opened d.history l) same k.holders;
     board = kept_part (participants_of past_of) (IsBoard (length d.history) l) same k.board;

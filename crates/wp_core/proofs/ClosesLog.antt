@@ -6,7 +6,7 @@ use Rattle.wp_model.specs.declared.entry.Entry.{Entry}
 use Rattle.wp_model.specs.Flushed.{InstalledEdit}
 use Rattle.wp_model.specs.Legal.{IsLegal}
 use Rattle.wp_core.specs.Lists.{one_if}
-use Rattle.wp_core.specs.Tables.{WriteTable, writes}
+use Rattle.wp_core.specs.Tables.{WriteState, writes}
 use Rattle.wp_core.specs.Turns.{Holds, write_turn}
 use Rattle.wp_core.specs.Views.{Event, log_failed, log_stopped, stopped, Fact}
 use Rattle.wp_core.specs.World.{Participant, Actor, World, content_of, with_content}
@@ -31,7 +31,7 @@ use Rattle.wp_core.proofs.Gives.{not_free}
 
 -- The log is closed by a step: with this event in the actor's past, after which the log may have this record, for its own device or not.
 module _ (w : World) (by : ℕ) (a : Actor) (step : Step) (failure : Event) (stops : Bool) (failed : List Entry) where
-  abbrev d : WriteTable
+  abbrev d : WriteState
   d = record w.writes { closed = true; stopped = stops; failed = failed }
 
   abbrev c : Actor
@@ -104,7 +104,7 @@ module _ (w : World) (by : ℕ) (a : Actor) (step : Step) (failure : Event) (sto
     log_closes : IsSound (change w by c (writes d))
     log_closes =
         all_parts (with_content w (writes d)) (set w.actors by b)
-        (record { history = history_closed; cache = s.cache; decided = s.decided; undecided = s.undecided; delayed = s.delayed; flags = s.flags; versions = s.versions; settled = s.settled; coupled = coupled_closed; pending = λ free. absurd (not_free w.holders write_turn by k.holds free) })
+        (record { history = history_closed; cache = s.cache; decided = s.decided; undecided = s.undecided; delayed = s.delayed; flags = s.flags; versions = s.versions; in_step = s.in_step; coupled = coupled_closed; pending = λ free. absurd (not_free w.holders write_turn by k.holds free) })
         (views_still w by a b at refl s) (past_locked w.actors by a b failure at refl refl w.opened w.writes.history w.locks s.locks) (record {
           holders = holders_still w.actors by a b failure at refl refl w.opened w.writes.history w.locks k.nothing s.holders;
           board = board_still w.actors by a b failure at refl refl (world.published w) w.locks k.tells_nothing s.board;

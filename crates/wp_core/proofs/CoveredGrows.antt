@@ -13,11 +13,11 @@ use Rattle.wp_model.specs.Legal.{IsLegal, IsLegalNext, undone_last}
 use Rattle.wp_model.specs.Decision.{decision_in, decision_of, IsCommittedAt, version_in, entry_version}
 use Rattle.wp_model.specs.Versions.{version_at}
 use Rattle.wp_judge.specs.Words.{CommitPair}
-use Rattle.wp_history.proofs.Above.{legal_none_above, none_above, undecided_version, is_changed_from}
-use Rattle.wp_history.proofs.Counting.{entry_version_old}
-use Rattle.wp_history.proofs.Growth.{entry_at_next, length_next, after_front}
+use Rattle.wp_history_laws.proofs.Above.{legal_none_above, none_above, undecided_version, is_changed_from}
+use Rattle.wp_history_laws.proofs.Counting.{entry_version_old}
+use Rattle.wp_history_laws.proofs.Growth.{entry_at_next, length_next, after_front}
 use Rattle.wp_model.proofs.Entries.{entry_at_past, batch_at_old, undecided_within, last_undo}
-use Rattle.wp_history.proofs.Held.{prior_to}
+use Rattle.wp_history_laws.proofs.Held.{prior_to}
 use Rattle.wp_core.specs.Entries.{pair_by}
 use Rattle.wp_core.proofs.HistoryGrows.{none_is, before, after, grown_length, committed_old, committed_stays, committed_before_or_now, undecided_before_or_now, version_new, value_old, value_new, value_whole}
 use Rattle.wp_core.proofs.HistoryLaws.{decided_within, next_decides}

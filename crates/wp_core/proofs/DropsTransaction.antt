@@ -6,7 +6,7 @@ use Rattle.std.specs.FinMap as finite
 use Rattle.wp_model.specs.History.{is_undecided, is_changed, name_at, batch_at, named}
 use Rattle.wp_model.specs.declared.holder.Holder.{Holder}
 use Rattle.wp_model.specs.declared.holder.Holder.TheVariants.{Txn, Client}
-use Rattle.wp_model.specs.LockTables.{LockTables}
+use Rattle.wp_model.specs.LockState.{LockState}
 use Rattle.wp_core.specs.Views.{Fact, undecided_at, prior_values, unprepared, direct_free}
 use Rattle.wp_core.specs.World.{Transaction, Actor, Participant, World}
 use Rattle.wp_core.specs.Steps.{Step}
@@ -23,7 +23,7 @@ use Rattle.wp_core.proofs.AllParts.{SoIn}
 use Rattle.wp_core.proofs.OtherOwners.{KeepsOthers, others_own, others_so}
 
 -- what of names and keys a step leaves that drops a transaction
-pub record Drops (w : World) (name : List ℕ) (t : LockTables) (step : Step) : Type 0 where
+pub record Drops (w : World) (name : List ℕ) (t : LockState) (step : Step) : Type 0 where
   pub labels : t.labels ≡ w.locks.labels
   pub others : KeepsOthers w name t
   pub nobody : (c : List ℕ) → finite.get t.names name ≡ Some (Some c) → ⊥
@@ -37,7 +37,7 @@ pub record Drops (w : World) (name : List ℕ) (t : LockTables) (step : Step) : 
   pub live_were : (n : List ℕ) → is_some (finite.get t.names n) ≡ true → is_some (finite.get w.locks.names n) ≡ true
   pub ended : (n : List ℕ) → not (ends_transaction w.writes.history n step) ≡ true → n ≡ name → ⊥
 
-module _ (w : World) (by : ℕ) (a : Actor) (name : List ℕ) (x0 : Transaction) (t : LockTables) (step : Step) (at : get_elem? w.actors by ≡ some a) (has : finite.get a.participant.transactions name ≡ Some x0) (d : Drops w name t step) (s : IsSound w) where
+module _ (w : World) (by : ℕ) (a : Actor) (name : List ℕ) (x0 : Transaction) (t : LockState) (step : Step) (at : get_elem? w.actors by ≡ some a) (has : finite.get a.participant.transactions name ≡ Some x0) (d : Drops w name t step) (s : IsSound w) where
   abbrev pub p : Participant
   p = record a.participant { transactions = finite.remove a.participant.transactions name }
 

@@ -6,7 +6,7 @@ use Rattle.std.specs.FinSet as words
 use Rattle.std.specs.FinMap as finite
 use Rattle.wp_model.specs.History.{named, is_changed}
 use Rattle.wp_model.specs.declared.holder.Holder.TheVariants.{Txn}
-use Rattle.wp_model.specs.LockTables.{LockTables}
+use Rattle.wp_model.specs.LockState.{LockState}
 use Rattle.wp_core.specs.Lists.{IsIn}
 use Rattle.wp_core.specs.Entries.{batch_of_name}
 use Rattle.wp_core.specs.Views.{Event, claimed, took, Fact, undecided_at, prior_values, unprepared}
@@ -34,7 +34,7 @@ pub record Gains (w : World) (name : List ℕ) (x1 : Transaction) (start : Event
   pub came : (k : List ℕ) → words.contains x1.locked k ≡ true → (start ≡ took name) × PrepareHas w.opened w.writes.history name k
 
 module _ (w : World) (by : ℕ) (a : Actor) (name : List ℕ) (x1 : Transaction) (start : Event) (step : Step) (at : get_elem? w.actors by ≡ some a) (d : Gains w name x1 start) (s : IsSound w) where
-  abbrev pub t : LockTables
+  abbrev pub t : LockState
   t = with_name w.locks name (Some a.participant.client)
 
   abbrev pub p : Participant

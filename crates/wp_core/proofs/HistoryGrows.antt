@@ -16,11 +16,11 @@ use Rattle.wp_model.specs.Batch.{key_of, value_of, change_to}
 use Rattle.wp_model.specs.History.{entry_at, is_prepare, prepared_name, name_at, batch_at, decides, is_undecided, undecided, named, is_changed, holder_of, changes_of, newest, value_at}
 use Rattle.wp_model.specs.Legal.{IsLegal, IsLegalNext, change_that_leaves, prior}
 use Rattle.wp_model.specs.Decision.{decision_of, IsCommittedAt, version_in, entry_version}
-use Rattle.wp_history.specs.Growth.{undecided_after}
-use Rattle.wp_history.proofs.Growth.{entry_at_next, length_next, after_front, legal_before, decides_undecided, legal_naming}
+use Rattle.wp_history_laws.specs.Growth.{undecided_after}
+use Rattle.wp_history_laws.proofs.Growth.{entry_at_next, length_next, after_front, legal_before, decides_undecided, legal_naming}
 use Rattle.wp_model.proofs.Entries.{entry_at_old, undecided_within, batch_at_old}
-use Rattle.wp_history.proofs.Undecided.{undecided_old, undecided_at_next, undecided_next}
-use Rattle.wp_history.proofs.Newest.{newest_next}
+use Rattle.wp_history_laws.proofs.Undecided.{undecided_old, undecided_at_next, undecided_next}
+use Rattle.wp_history_laws.proofs.Newest.{newest_next}
 use Rattle.wp_core.specs.Lists.{IsIn}
 use Rattle.wp_core.specs.Entries.{pair_by}
 use Rattle.wp_core.proofs.Frames.{in_filter}

@@ -6,7 +6,7 @@ use Rattle.std.proofs.lemmas.Bool.{eqb-true}
 use Rattle.std.proofs.lemmas.Slice.Eq.{bytes_eq-Decides}
 use Rattle.wp_model.specs.declared.entry.Entry.{Entry}
 use Rattle.wp_model.specs.History.{name_at, is_undecided, undecided, named}
-use Rattle.wp_history.proofs.Undecided.{is_undecided_by_list}
+use Rattle.wp_history_laws.proofs.Undecided.{is_undecided_by_list}
 
 find_none : (test : ℕ → Bool) (xs : List ℕ) (p : ℕ) → find test xs ≡ None → test p ≡ true → list_any (λ k. eqb k p) xs ≡ true → ⊥
 find_none test [] p none t h = absurd cc

@@ -9,7 +9,7 @@ use Rattle.wp_model.specs.declared.entry.Entry.TheVariants.{Write, Prepare, Comm
 use Rattle.wp_model.specs.History.{entry_at, is_prepare, decides, is_undecided}
 use Rattle.wp_model.specs.Legal.{IsLegal, IsLegalNext}
 use Rattle.wp_model.specs.Decision.{decision_of, decision_in}
-use Rattle.wp_history.proofs.Growth.{entry_at_next, after_front, legal_before}
+use Rattle.wp_history_laws.proofs.Growth.{entry_at_next, after_front, legal_before}
 use Rattle.wp_model.proofs.Entries.{entry_at_old, entry_at_past, undecided_within}
 use Rattle.wp_judge.specs.Words.{CommitPair}
 use Rattle.wp_core.specs.Entries.{pair_by}

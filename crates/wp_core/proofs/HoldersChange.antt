@@ -4,7 +4,7 @@ use mathlib.Core.Option.{some}
 use lib.ListN.{get_elem?}
 use Rattle.wp_model.specs.declared.segment.Segment.{Segment}
 use Rattle.wp_core.specs.Turns.{Turn, write_turn, prepared_turn, snapshots_turn, tables_turn, Holders, Holds, with_holder}
-use Rattle.wp_core.specs.Tables.{Content, WriteTable}
+use Rattle.wp_core.specs.Tables.{Content, WriteState}
 use Rattle.wp_core.specs.Views.{Fact}
 use Rattle.wp_core.specs.World.{Actor, World, content_of}
 use Rattle.wp_core.specs.Steps.{Step}
@@ -14,14 +14,14 @@ use Rattle.wp_core.specs.Sound.Actors.{AreIdle}
 use Rattle.wp_core.specs.Sound.History.{IsPendingHeld}
 use Rattle.wp_core.specs.Sound.Prepared.{AreFlags}
 use Rattle.wp_core.specs.Sound.Segments.{AreCoupled}
-use Rattle.wp_core.specs.Sound.Store.{IsSettled}
+use Rattle.wp_core.specs.Sound.Store.{IsInStep}
 use Rattle.wp_core.specs.Sound.Views.{guarded_by}
 use Rattle.wp_core.specs.IsSound.{IsSound}
 use Rattle.wp_core.proofs.AllParts.{TurnParts, SoIn, views_of, pasts_of, readers_still, notes_stay, quiet_step}
 use Rattle.wp_core.proofs.Tests.{none_some}
 
 -- while the log is not closed no segment waits then
-pub none_next : (t : WriteTable) → NoneNext t → (segment : Segment) → t.next ≡ Some segment → t.closed ≡ false → ⊥
+pub none_next : (t : WriteState) → NoneNext t → (segment : Segment) → t.next ≡ Some segment → t.closed ≡ false → ⊥
 none_next t none segment is running = ⊎_elim (λ (e : t.next ≡ None). none_some t.next segment e is) (λ (closed : t.closed ≡ true). true≢false (sym closed ∙ running)) none
 
 -- the turn has another holder, or none where it may be given
@@ -32,9 +32,9 @@ module _ (w : World) (x : Option ℕ) where
   flags_with snapshots_turn may f = record { none_delayed = f.none_delayed; none_kept = f.none_kept; delayed_free = f.delayed_free; old_free = may }
   flags_with t may f = f
 
-  settled_with : (t : Turn) → (x ≡ None → MayGive w t) → IsSettled w.holders.tables w.store w.installed.last → IsSettled (with_holder w.holders t x).tables w.store w.installed.last
-  settled_with tables_turn may k = may
-  settled_with t may k = k
+  in_step_with : (t : Turn) → (x ≡ None → MayGive w t) → IsInStep w.holders.tables w.store w.installed.last → IsInStep (with_holder w.holders t x).tables w.store w.installed.last
+  in_step_with tables_turn may k = may
+  in_step_with t may k = k
 
   pending_with : (t : Turn) → (x ≡ None → MayGive w t) → IsPendingHeld w.holders.write w.writes.pending → IsPendingHeld (with_holder w.holders t x).write w.writes.pending
   pending_with write_turn may k = λ free. (may free).0
@@ -58,7 +58,7 @@ module _ (w : World) (x : Option ℕ) where
       let h : Holders = with_holder w.holders t x in
       let b : Actor = record (forgets w.writes.history (length w.cache) step a) { held = held } in
       quiet_step w (record w { holders = h }) by a b at refl
-      (record { history = s.history; cache = s.cache; decided = s.decided; undecided = s.undecided; delayed = s.delayed; flags = flags_with t may s.flags; versions = s.versions; settled = settled_with t may s.settled; coupled = coupled_with t may s.coupled; pending = pending_with t may s.pending })
+      (record { history = s.history; cache = s.cache; decided = s.decided; undecided = s.undecided; delayed = s.delayed; flags = flags_with t may s.flags; versions = s.versions; in_step = in_step_with t may s.in_step; coupled = coupled_with t may s.coupled; pending = pending_with t may s.pending })
       (views_of w s) s.locks (pasts_of w s) turns (readers_still w by a b at refl s)
       (notes_stay w by a b at step h (SoIn w) refl
       (λ fact left m. record { guarded = λ u is. mine fact u left is (m.guarded u is); is_so = m.is_so })

@@ -6,7 +6,7 @@ use Rattle.std.specs.FinMap as finite
 use Rattle.wp_model.specs.History.{name_at}
 use Rattle.wp_model.specs.declared.holder.Holder.{Holder}
 use Rattle.wp_model.specs.declared.holder.Holder.TheVariants.{Txn, Client}
-use Rattle.wp_model.specs.LockTables.{LockTables}
+use Rattle.wp_model.specs.LockState.{LockState}
 use Rattle.wp_core.specs.Views.{Fact, undecided_at, direct_free}
 use Rattle.wp_core.specs.World.{Actor, Participant, World}
 use Rattle.wp_core.specs.Steps.{free_direct}
@@ -27,7 +27,7 @@ module _ (w : World) (by : ℕ) (a : Actor) (key : List ℕ) (at : get_elem? w.a
   abbrev client : List ℕ
   client = a.participant.client
 
-  abbrev t : LockTables
+  abbrev t : LockState
   t = without_key w.locks key
 
   abbrev p : Participant

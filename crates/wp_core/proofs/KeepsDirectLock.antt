@@ -5,7 +5,7 @@ use lib.ListN.{get_elem?}
 use Rattle.std.specs.FinMap as finite
 use Rattle.wp_model.specs.History.{name_at}
 use Rattle.wp_model.specs.declared.holder.Holder.TheVariants.{Txn, Client}
-use Rattle.wp_model.specs.LockTables.{LockTables}
+use Rattle.wp_model.specs.LockState.{LockState}
 use Rattle.wp_core.specs.Lists.{IsIn}
 use Rattle.wp_core.specs.Views.{Event, locked, Fact, undecided_at, direct_free}
 use Rattle.wp_core.specs.World.{Actor, Participant, World}
@@ -33,7 +33,7 @@ module _ (w : World) (by : ℕ) (a : Actor) (key : List ℕ) (at : get_elem? w.a
   abbrev e : Event
   e = locked key (Client client)
 
-  abbrev t : LockTables
+  abbrev t : LockState
   t = with_key w.locks key (Client client)
 
   abbrev p : Participant

@@ -11,7 +11,7 @@ use Rattle.wp_model.specs.Batch.{key_cmp}
 use Rattle.wp_model.specs.History.{is_undecided, is_changed, name_at, batch_at, named}
 use Rattle.wp_model.specs.declared.holder.Holder.{Holder}
 use Rattle.wp_model.specs.declared.holder.Holder.TheVariants.{Txn, Client}
-use Rattle.wp_model.specs.LockTables.{LockTables}
+use Rattle.wp_model.specs.LockState.{LockState}
 use Rattle.wp_core.specs.Views.{Fact, undecided_at, prior_values, unprepared, direct_free}
 use Rattle.wp_core.specs.World.{Transaction, Actor, Participant, World}
 use Rattle.wp_core.specs.Steps.{free_key}
@@ -50,7 +50,7 @@ module _ (w : World) (by : ℕ) (a : Actor) (name : List ℕ) (x0 : Transaction)
   abbrev x1 : Transaction
   x1 = record x0 { locked = words.remove x0.locked key }
 
-  abbrev t : LockTables
+  abbrev t : LockState
   t = without_key w.locks key
 
   abbrev p : Participant

@@ -10,7 +10,7 @@ use Rattle.std.proofs.lemmas.Cmp.{nat_list_cmp_total}
 use Rattle.wp_model.specs.Batch.{key_cmp}
 use Rattle.wp_model.specs.History.{holder_of, name_at, is_changed}
 use Rattle.wp_model.specs.declared.holder.Holder.TheVariants.{Txn, Client}
-use Rattle.wp_model.specs.LockTables.{LockTables}
+use Rattle.wp_model.specs.LockState.{LockState}
 use Rattle.wp_model.proofs.Found.{found_holder}
 use Rattle.wp_core.specs.Entries.{batch_of_name}
 use Rattle.wp_core.specs.Lists.{IsIn}
@@ -55,7 +55,7 @@ module _ (w : World) (by : ℕ) (a : Actor) (name : List ℕ) (x0 : Transaction)
   abbrev x1 : Transaction
   x1 = record x0 { locked = words.insert x0.locked key }
 
-  abbrev t : LockTables
+  abbrev t : LockState
   t = with_key w.locks key (Txn name)
 
   abbrev p : Participant

@@ -25,7 +25,7 @@ use Rattle.wp_core.specs.Reading.{Registration}
 use Rattle.wp_judge.specs.declared.observed.Observed.{Observed}
 use Rattle.wp_judge.specs.Words.{CommitPair}
 use Rattle.wp_core.specs.Views.{passed, apart, words_stay, has_left, none_waits, number_in_heap, number_not_in_heap}
-use Rattle.wp_model.specs.PreparedTables.{PreparedTables, is_prepared, NoneDelayed}
+use Rattle.wp_model.specs.PreparedSets.{PreparedSets, is_prepared, NoneDelayed}
 use Rattle.wp_model.specs.Snapshots.{is_old_commit}
 use Rattle.wp_core.specs.Tables.{with_moved}
 use Rattle.wp_core.specs.Sound.History.{IsHistory}
@@ -38,10 +38,10 @@ use Rattle.wp_core.proofs.Tests.{both, either}
 same_test : (p : ℕ → Bool) (q x : ℕ) → nat_cmp q x ≡ Equal → p x ≡ p q
 same_test p q x e = ap p (sym (nat_cmp-IsAntisymmetric q x e))
 
-in_heap : (t : PreparedTables) (m p : ℕ) → finset.contains (with_moved t m).heap p ≡ (finset.contains t.heap p && not (nat_le p m))
+in_heap : (t : PreparedSets) (m p : ℕ) → finset.contains (with_moved t m).heap p ≡ (finset.contains t.heap p && not (nat_le p m))
 in_heap t m p = finset.contains-retain t.heap (λ q. not (nat_le q m)) p (same_test (λ q. not (nat_le q m)) p)
 
-in_delayed : (t : PreparedTables) (m p : ℕ) → finset.contains (with_moved t m).delayed p ≡ (finset.contains t.delayed p || (finset.contains t.heap p && nat_le p m))
+in_delayed : (t : PreparedSets) (m p : ℕ) → finset.contains (with_moved t m).delayed p ≡ (finset.contains t.delayed p || (finset.contains t.heap p && nat_le p m))
 in_delayed t m p = finset.contains-union nat_cmp_total t.delayed (finset.retain t.heap (λ q. nat_le q m)) p ∙ ap (λ (b : Bool). finset.contains t.delayed p || b) (finset.contains-retain t.heap (λ q. nat_le q m) p (same_test (λ q. nat_le q m) p))
 
 split_or : (h d l : Bool) → ((h && not l) || (d || (h && l))) ≡ (h || d)
@@ -53,7 +53,7 @@ split_or false true l = refl
 split_or false false l = refl
 
 -- no number comes or goes
-same_prepared : (t : PreparedTables) (m p : ℕ) → is_prepared (with_moved t m) p ≡ is_prepared t p
+same_prepared : (t : PreparedSets) (m p : ℕ) → is_prepared (with_moved t m) p ≡ is_prepared t p
 same_prepared t m p = (λ i. in_heap t m p i || in_delayed t m p i) ∙ split_or (finset.contains t.heap p) (finset.contains t.delayed p) (nat_le p m)
 
 not_below : (p m : ℕ) → not (nat_le p m) ≡ true → m < p

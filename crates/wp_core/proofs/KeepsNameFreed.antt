@@ -12,7 +12,7 @@ use Rattle.wp_model.specs.History.{name_at, named}
 use Rattle.wp_model.specs.Holder.{is_same}
 use Rattle.wp_model.specs.declared.holder.Holder.{Holder}
 use Rattle.wp_model.specs.declared.holder.Holder.TheVariants.{Txn, Client}
-use Rattle.wp_model.specs.LockTables.{LockTables}
+use Rattle.wp_model.specs.LockState.{LockState}
 use Rattle.wp_core.specs.World.{Transaction, Actor, World}
 use Rattle.wp_core.specs.Steps.{free_transaction}
 use Rattle.wp_core.specs.Changes.{is_held_by, without_transaction}
@@ -31,7 +31,7 @@ other_test name n ne true e = absurd (ne (sym ((bytes_eq-Decides name n).0 e)))
 other_test name n ne false e = refl
 
 module _ (w : World) (by : ℕ) (a : Actor) (name : List ℕ) (x0 : Transaction) (at : get_elem? w.actors by ≡ some a) (has : finite.get a.participant.transactions name ≡ Some x0) (unprepared : named w.writes.history name ≡ None) (s : IsSound w) where
-  abbrev t : LockTables
+  abbrev t : LockState
   t = without_transaction w.locks name
 
   abbrev held : List ℕ → Bool

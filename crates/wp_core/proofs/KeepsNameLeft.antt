@@ -7,7 +7,7 @@ use Rattle.std.specs.FinSet as words
 use Rattle.std.specs.FinMap as finite
 use Rattle.std.proofs.lemmas.Slice.Eq.{bytes_eq-Decides}
 use Rattle.wp_model.specs.History.{name_at, named, is_changed}
-use Rattle.wp_model.specs.LockTables.{LockTables}
+use Rattle.wp_model.specs.LockState.{LockState}
 use Rattle.wp_core.specs.Entries.{batch_of_name}
 use Rattle.wp_core.specs.World.{Transaction, Actor, World}
 use Rattle.wp_core.specs.Steps.{leave_name}
@@ -27,7 +27,7 @@ pub two_names : (name n : List ℕ) → not (bytes_eq name n) ≡ true → n ≡
 two_names name n h same = true≢false (sym h ∙ ap not ((bytes_eq-Decides name n).1 (sym same)))
 
 module _ (w : World) (by : ℕ) (a : Actor) (name : List ℕ) (x0 : Transaction) (at : get_elem? w.actors by ≡ some a) (has : finite.get a.participant.transactions name ≡ Some x0) (batch_has : (key : List ℕ) → words.contains x0.locked key ≡ true → is_changed (batch_of_name w.writes.history name) key ≡ true) (prepared : is_some (named w.writes.history name) ≡ true) (s : IsSound w) where
-  abbrev t : LockTables
+  abbrev t : LockState
   t = with_name w.locks name None
 
   was_live : finite.get w.locks.names name ≡ Some (Some a.participant.client)

@@ -20,7 +20,7 @@ use Rattle.wp_model.specs.History.{is_changed, batch_at, named}
 use Rattle.wp_model.specs.Holder.{is_same}
 use Rattle.wp_model.specs.declared.holder.Holder.{Holder}
 use Rattle.wp_model.specs.declared.holder.Holder.TheVariants.{Txn, Client}
-use Rattle.wp_model.specs.LockTables.{LockTables}
+use Rattle.wp_model.specs.LockState.{LockState}
 use Rattle.wp_model.proofs.Words.{same_word}
 use Rattle.wp_core.specs.Views.{took}
 use Rattle.wp_core.specs.World.{Transaction, Actor, World}
@@ -43,7 +43,7 @@ held_by name None h = absurd (true≢false (sym h))
 held_by name (Some (Txn n)) h = ap (λ (z : List ℕ). Some (Txn z)) (sym ((bytes_eq-Decides name n).0 h))
 held_by name (Some (Client c)) h = absurd (true≢false (sym h))
 
-module _ (l : LockTables) (name : List ℕ) where
+module _ (l : LockState) (name : List ℕ) where
   in_set : (k : List ℕ) → words.contains (keys_of_holder l (Txn name)) k ≡ (is_held_by l (Txn name) k && list_any (eq_by_cmp key_cmp k) (finite.keys l.keys))
   in_set k = contains-from_list nat_list_cmp_total (filter (is_held_by l (Txn name)) (finite.keys l.keys)) k
       ∙ any-filter_same (eq_by_cmp key_cmp k) (is_held_by l (Txn name)) (is_held_by l (Txn name) k) (λ q same. ap (is_held_by l (Txn name)) (sym (same_word k q same))) (finite.keys l.keys)

@@ -82,7 +82,7 @@ module _ (w : World) (by : ℕ) (a : Actor) (entry : Entry) (others : List Entry
         delayed = delayed_part w.writes.history entry others n.legal w.writes.pending w.prepared w.cache w.max_evicted n.pending n.pair s.delayed;
         flags = s.flags;
         versions = stored_part w.writes.history entry n.legal w.writes.pending others w.first_edit.segment.base w.snapshots w.store w.installed n.pending live_within in_memory s.versions;
-        settled = s.settled;
+        in_step = s.in_step;
         coupled = record {
           last = s.coupled.last;
           failed = s.coupled.failed;

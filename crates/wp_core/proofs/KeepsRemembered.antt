@@ -55,9 +55,9 @@ remembered_quietly w by (stopped n) may = record { log = refl; tables = refl; du
 remembered_quietly w by (found_edit n base tables due halted) may = record { log = refl; tables = refl; due = λ m. refl; last = λ m. refl }
 remembered_quietly w by e may = absurd may
 
-pub remembering : (w : World) (by : ℕ) (a : Actor) (e : Event) (step : Step) → get_elem? w.actors by ≡ some a → (a.live ≡ false → ⊥) → MayRemember w by e → IsSound w
+pub with_events : (w : World) (by : ℕ) (a : Actor) (e : Event) (step : Step) → get_elem? w.actors by ≡ some a → (a.live ≡ false → ⊥) → MayRemember w by e → IsSound w
     → IsSound (with_actor w by (remembers (forgets w.writes.history (length w.cache) step a) e))
-remembering w by a e step at live may s =
+with_events w by a e step at live may s =
     let b : Actor = remembers (forgets w.writes.history (length w.cache) step a) e in
     let quiet = remembered_quietly w by e may in
     let is : (x : Event) → e ≡ x → MayRemember w by x = λ x q. subst (MayRemember w by) q may in
@@ -76,7 +76,7 @@ remembering w by a e step at live may s =
 
 pub finds_log_closed : (w : World) (by : ℕ) (a : Actor) → get_elem? w.actors by ≡ some a → Needs w by a find_log_closed → IsSound w
     → IsSound (done w by (forgets w.writes.history (length w.cache) find_log_closed a) find_log_closed)
-finds_log_closed w by a at n s = remembering w by a (stopped (world.published w)) find_log_closed at (holder_lives w by a write_turn at n.0 s) (n.1, refl) s
+finds_log_closed w by a at n s = with_events w by a (stopped (world.published w)) find_log_closed at (holder_lives w by a write_turn at n.0 s) (n.1, refl) s
 
 -- who finds fewer tables than it knows of knows that another one compacted
 few_found : (w : World) (by : ℕ) (a : Actor) → get_elem? w.actors by ≡ some a → IsSound w → w.installed.last.tables < tables_due w.first_edit a.participant.past → OtherCompacts (participants past_of w) by 0
@@ -89,11 +89,11 @@ pub finds_edit : (w : World) (by : ℕ) (a : Actor) → get_elem? w.actors by �
     → IsSound (done w by (forgets w.writes.history (length w.cache) find_edit a) find_edit)
 finds_edit w by a at n s =
     let e = w.installed in
-    remembering w by a (found_edit e.last.flushed e.last.segment.base e.last.tables (tables_due w.first_edit a.participant.past) e.halted) find_edit at (holder_lives w by a tables_turn at n s) (s.edits.last, based_of w.first_edit (participants past_of w) e.last.segment s.edits.placed, few_found w by a at s, λ q. (q, refl)) s
+    with_events w by a (found_edit e.last.flushed e.last.segment.base e.last.tables (tables_due w.first_edit a.participant.past) e.halted) find_edit at (holder_lives w by a tables_turn at n s) (s.edits.last, based_of w.first_edit (participants past_of w) e.last.segment s.edits.placed, few_found w by a at s, λ q. (q, refl)) s
 
 pub hears : (w : World) (by : ℕ) (a : Actor) (label : List ℕ) (n : ℕ) → get_elem? w.actors by ≡ some a → Needs w by a (hear label n) → IsSound w
     → IsSound (done w by (forgets w.writes.history (length w.cache) (hear label n) a) (hear label n))
-hears w by a label n at needs s = remembering w by a (heard label n) (hear label n) at (holder_lives w by a locks_turn at needs.0 s) (ap is_some needs.1, s.board.numbers label n needs.1) s
+hears w by a label n at needs s = with_events w by a (heard label n) (hear label n) at (holder_lives w by a locks_turn at needs.0 s) (ap is_some needs.1, s.board.numbers label n needs.1) s
 
 -- ---- who is found
 
@@ -165,5 +165,5 @@ accounts w by a key (Client client) (prepare_at n) at is s k = absurd k
 pub finds_holder : (w : World) (by : ℕ) (a : Actor) (key : Option (List ℕ)) (holder : Holder) (account : Account) → get_elem? w.actors by ≡ some a → Needs w by a (find_holder key holder account) → IsSound w
     → IsSound (done w by (forgets w.writes.history (length w.cache) (find_holder key holder account) a) (find_holder key holder account))
 finds_holder w by a key holder account at needs s =
-    remembering w by a (found key holder (length a.participant.seen) account) (find_holder key holder account) at (holder_lives w by a locks_turn at needs.0 s)
+    with_events w by a (found key holder (length a.participant.seen) account) (find_holder key holder account) at (holder_lives w by a locks_turn at needs.0 s)
     (accounts w by a key holder account at needs.1 s needs.2) s

@@ -3,7 +3,7 @@ use Rattle.std.proofs.Common.{◌≡◌, ⊎_elim, inl, inr, ℕ, true, List, []
 use mathlib.Core.Option.{some}
 use lib.ListN.{get_elem?}
 use Rattle.std.specs.FinMap as finite
-use Rattle.wp_model.specs.LockTables.{LockTables}
+use Rattle.wp_model.specs.LockState.{LockState}
 use Rattle.wp_core.proofs.AllParticipants.{mine}
 use Rattle.wp_core.proofs.KeepsSeen.{shorter}
 use Rattle.wp_core.specs.Views.{Event, told, heard, Fact}
@@ -36,7 +36,7 @@ module _ (w : World) (by : ℕ) (a : Actor) (label : List ℕ) (at : get_elem? w
   abbrev e : Event
   e = told label n
 
-  abbrev t : LockTables
+  abbrev t : LockState
   t = with_label w.locks label n
 
   abbrev p : Participant

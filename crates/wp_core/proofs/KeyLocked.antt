@@ -6,7 +6,7 @@ use Rattle.std.specs.FinMap as finite
 use Rattle.wp_model.specs.declared.entry.Entry.{Entry}
 use Rattle.wp_model.specs.declared.holder.Holder.{Holder}
 use Rattle.wp_model.specs.declared.holder.Holder.TheVariants.{Txn, Client}
-use Rattle.wp_model.specs.LockTables.{LockTables}
+use Rattle.wp_model.specs.LockState.{LockState}
 use Rattle.wp_core.specs.Views.{Fact, locked, undecided_at, direct_free}
 use Rattle.wp_core.specs.World.{Participant, Actor, World}
 use Rattle.wp_core.specs.Steps.{Step}
@@ -18,7 +18,7 @@ use Rattle.wp_core.proofs.AllParts.{PastParts, SoIn}
 use Rattle.wp_core.proofs.LocksChange.{SoWith, actors_after, pasts_grown, board_grown}
 
 module _ (w : World) (key : List ℕ) (holder : Holder) (free : finite.get w.locks.keys key ≡ None) where
-  abbrev t : LockTables
+  abbrev t : LockState
   t = with_key w.locks key holder
 
   -- what is held stays held

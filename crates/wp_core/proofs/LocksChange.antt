@@ -6,7 +6,7 @@ use Rattle.std.specs.FinMap as finite
 use lib.ListN.{get_elem?}
 use Rattle.wp_model.specs.declared.holder.Holder.{Holder}
 use Rattle.wp_model.specs.Batch.{key_cmp}
-use Rattle.wp_model.specs.LockTables.{LockTables}
+use Rattle.wp_model.specs.LockState.{LockState}
 use Rattle.wp_core.specs.Turns.{Holds, locks_turn}
 use Rattle.wp_core.specs.Tables.{Content, locks}
 use Rattle.wp_core.specs.Views.{Fact, Event, claimed, took, locked}
@@ -26,10 +26,10 @@ use Rattle.wp_core.proofs.AllParts.{PastParts, SoIn, all_parts, tables_of, views
 use Rattle.wp_core.proofs.Remembers.{IsQuiet, FindsNothing, TellsNothing, holders_new, board_still, faults_more, edits_more}
 
 -- what is noted, with this table in place of the world's
-abbrev pub SoWith : World → LockTables → Participant → Fact → Type 0
+abbrev pub SoWith : World → LockState → Participant → Fact → Type 0
 SoWith w t = IsSo w.delayed_flag w.old_flag w.max_evicted w.cache w.writes w.prepared w.snapshots w.store t w.installed
 
-module _ (w : World) (by : ℕ) (a : Actor) (step : Step) (p : Participant) (t : LockTables) where
+module _ (w : World) (by : ℕ) (a : Actor) (step : Step) (p : Participant) (t : LockState) where
   -- the actor before it knows the table
   abbrev pub actor_then : Actor
   actor_then = record (forgets w.writes.history (length w.cache) step a) { participant = record a.participant { transactions = p.transactions; direct = p.direct; past = p.past } }

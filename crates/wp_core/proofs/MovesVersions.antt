@@ -4,7 +4,7 @@ use mathlib.Core.Option.{some}
 use lib.ListN.{get_elem?}
 use Rattle.wp_model.specs.declared.version.Version.{Version}
 use Rattle.wp_model.specs.Versions.{version_at}
-use Rattle.wp_core.specs.Tables.{StoreTable}
+use Rattle.wp_core.specs.Tables.{StoreState}
 use Rattle.wp_core.specs.Turns.{tables_turn}
 use Rattle.wp_core.specs.Views.{Fact, versions_in_memory, versions_nowhere, tables_stay, nothing_flushed, frozen_stay}
 use Rattle.wp_core.specs.World.{Participant, Actor, World}
@@ -21,7 +21,7 @@ use Rattle.wp_core.proofs.Quiet.{Stays, stays_not, notes_by}
 -- ---- a flush
 
 module _ (w : World) (memory tables : List Version) (pending_same : (key : List ℕ) → version_at memory key (suc (length w.writes.history)) ≡ version_at w.store.memory key (suc (length w.writes.history))) where
-  abbrev flushed_store : StoreTable
+  abbrev flushed_store : StoreState
   flushed_store = record w.store { memory = memory; tables = tables }
 
   so_moved : (p : Participant) (fact : Fact) → Stays w (move_versions memory tables) tables_turn fact → SoIn w p fact → SoStored w flushed_store p fact

@@ -8,10 +8,10 @@ use Rattle.wp_model.specs.declared.entry.Entry.{Entry}
 use Rattle.wp_model.specs.declared.entry.Entry.TheVariants.{Write, Prepare, Commit, Undo, Close}
 use Rattle.wp_model.specs.History.{entry_at, is_prepare, prepared_name, prepared_batch, batch_at, name_at, is_undecided, is_changed, holder_of, named}
 use Rattle.wp_model.specs.Legal.{IsLegal, IsLegalNext}
-use Rattle.wp_history.proofs.Growth.{entry_at_next, by_growth}
+use Rattle.wp_history_laws.proofs.Growth.{entry_at_next, by_growth}
 use Rattle.wp_model.proofs.Entries.{entry_at_old, undecided_prepared, undecided_within}
-use Rattle.wp_history.proofs.Undecided.{undecided_old}
-use Rattle.wp_history.proofs.Held.{not_free, free_key}
+use Rattle.wp_history_laws.proofs.Undecided.{undecided_old}
+use Rattle.wp_history_laws.proofs.Held.{not_free, free_key}
 use Rattle.wp_model.proofs.Found.{found_holder, found_named}
 use Rattle.wp_core.proofs.HistoryHolders.{none_named}
 use Rattle.wp_core.proofs.Tests.{both}

@@ -16,7 +16,7 @@ use Rattle.wp_model.specs.declared.version.Version.{Version}
 use Rattle.wp_model.specs.Batch.{key_cmp, key_of, value_of, change_to, is_batch}
 use Rattle.wp_model.specs.History.{is_changed}
 use Rattle.wp_model.specs.Legal.{AreFree, IsLegalNext, IsLegal}
-use Rattle.wp_model.specs.LockTables.{LockTables, nothing_locked}
+use Rattle.wp_model.specs.LockState.{LockState, nothing_locked}
 use Rattle.wp_model.specs.Snapshots.{Snapshots}
 use Rattle.wp_model.proofs.BatchLemmas.{batch_ascends}
 use Rattle.wp_judge.specs.Words.{CommitPair, word_of}
@@ -24,7 +24,7 @@ use Rattle.wp_judge.specs.Order.{judgement}
 use Rattle.wp_judge.specs.declared.observed.Observed.{Observed}
 use Rattle.wp_judge.specs.declared.observed.Load.TheVariants.{FirstWord}
 use Rattle.wp_core.specs.Turns.{write_turn, snapshots_turn, store_turn, locks_turn, Holders, all_free}
-use Rattle.wp_core.specs.Tables.{WriteTable, Content, writes, snapshots, store, locks}
+use Rattle.wp_core.specs.Tables.{WriteState, Content, writes, snapshots, store, locks}
 use Rattle.wp_core.specs.Reading.{Registration, reads}
 use Rattle.wp_core.specs.Views.{Event, claimed, locked}
 use Rattle.wp_core.specs.World.{Transaction, Transactions, Actor, World, new_participant, new_actor, history}
@@ -50,11 +50,11 @@ abbrev worker : List Event → Transactions → List Content → Actor
 worker past transactions held = record (new_actor true [] []) { participant = record (new_participant [] []) { past = past; transactions = transactions }; held = held }
 
 -- the opening with other parts
-abbrev world : Holders → ℕ → WriteTable → Snapshots → List Version → LockTables → Actor → World
+abbrev world : Holders → ℕ → WriteState → Snapshots → List Version → LockState → Actor → World
 world holders word writing live memory table a =
     record empty_world { holders = holders; cache = word ∷ []; writes = writing; snapshots = live; store = record empty_world.store { memory = memory }; locks = table; actors = a ∷ [] }
 
-abbrev unwritten : WriteTable
+abbrev unwritten : WriteState
 unwritten = empty_world.writes
 
 -- the first actor makes one step more
@@ -66,12 +66,12 @@ on a step at needs run = goes_on 0 step run (a, at, needs, refl)
 abbrev has_locks : Holders
 has_locks = record all_free { locks = Some 0 }
 
-abbrev locking : List Event → Transactions → LockTables → World
+abbrev locking : List Event → Transactions → LockState → World
 locking past transactions table = world has_locks 0 unwritten finite.empty [] table (worker past transactions (locks table ∷ []))
 
 -- a transaction of the actor holds each key of the changes, and no key is held for another
 record HasKeys (changes : List Change) : Type 0 where
-  table : LockTables
+  table : LockState
   past : List Event
   transactions : Transactions
   transaction : Transaction
@@ -169,13 +169,13 @@ nothing_there : (gone : CommitPair) → pair_at (0 ∷ []) (cache_place 1 1) ≡
 nothing_there gone e = let q : None ≡ Some gone = e in absurd (cc)
 
 module _ (batch : List Change) (is : is_batch batch ≡ true) (s : HasKeys batch) where
-  abbrev pending : Bool → List Entry → WriteTable
+  abbrev pending : Bool → List Entry → WriteState
   pending logged log = record unwritten { pending = Write batch ∷ []; logged = logged; log = log }
 
-  abbrev logged : WriteTable
+  abbrev logged : WriteState
   logged = pending true (Write batch ∷ [])
 
-  abbrev published : WriteTable
+  abbrev published : WriteState
   published = record logged { history = Write batch ∷ []; pending = [] }
 
   abbrev in_memory : List Version

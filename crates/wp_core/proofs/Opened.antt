@@ -15,23 +15,23 @@ use Rattle.wp_model.specs.declared.holder.Holder.TheVariants.{Txn, Client}
 use Rattle.wp_model.specs.History.{is_undecided, name_at, batch_at, undecided, named, holder_of, is_changed}
 use Rattle.wp_model.specs.Legal.{IsLegal, undone_last}
 use Rattle.wp_model.specs.Snapshots as snaps
-use Rattle.wp_model.specs.LockTables.{LockTables}
-use Rattle.wp_model.specs.PreparedTables.{PreparedTables, is_prepared, NoneDelayed}
+use Rattle.wp_model.specs.LockState.{LockState}
+use Rattle.wp_model.specs.PreparedSets.{PreparedSets, is_prepared, NoneDelayed}
 use Rattle.wp_model.proofs.Entries.{undecided_prepared, undecided_within}
-use Rattle.wp_history.proofs.Undecided.{is_undecided_by_list}
+use Rattle.wp_history_laws.proofs.Undecided.{is_undecided_by_list}
 use Rattle.wp_judge.specs.Words.{CommitPair}
 use Rattle.wp_judge.specs.declared.observed.Observed.{Observed}
 use Rattle.wp_model.proofs.Found.{found_holder}
 use Rattle.wp_core.specs.Lists.{IsIn}
 use Rattle.wp_core.specs.Turns.{Turn, write_turn, prepared_turn, snapshots_turn, store_turn, locks_turn, tables_turn, Holds, all_free}
 use Rattle.wp_core.specs.Entries.{batch_of_name}
-use Rattle.wp_core.specs.Tables.{StoreTable, Installed}
+use Rattle.wp_core.specs.Tables.{StoreState, Installed}
 use Rattle.wp_model.specs.Flushed.{InstalledEdit}
 use Rattle.wp_core.specs.Reading.{Registration}
 use Rattle.wp_core.specs.Views.{Event, Fact, told, heard, log_failed, log_stopped, tables_failed, stopped, found_edit, found}
 use Rattle.wp_core.specs.World.{World, Actor, Participant, Transaction, new_actor, new_participant, content_of}
 use Rattle.wp_core.specs.Runs.{IsOpening}
-use Rattle.wp_history.specs.Opened.{AreOpened, named_by, prepare_holding}
+use Rattle.wp_history_laws.specs.Opened.{AreOpened, named_by, prepare_holding}
 use Rattle.wp_core.specs.Sound.Actors.{StartsWith, once, AreHeld, Role, IsParticipantAt}
 use Rattle.wp_core.specs.Sound.Snapshots.{count_of, HasSeen}
 use Rattle.wp_core.specs.Sound.Store.{IsStored, IsOfEdit}
@@ -95,13 +95,13 @@ who_holds history (Some p) name e = (p, refl, txn_is (name_at history p) name e)
 
 -- ---- the world of an opening, by what openings differ in
 
-abbrev prepared_of : List Entry → PreparedTables
+abbrev prepared_of : List Entry → PreparedSets
 prepared_of opened = record { heap = finset.empty; delayed = finset.from_list (undecided opened); delayed_commits = finite.empty }
 
 abbrev running : InstalledEdit → Installed
 running edit = record { last = edit; failed = None; halted = false }
 
-abbrev opened_world : List Entry → List ℕ → ℕ → Bool → StoreTable → LockTables → InstalledEdit → List ℕ → World
+abbrev opened_world : List Entry → List ℕ → ℕ → Bool → StoreState → LockState → InstalledEdit → List ℕ → World
 opened_world opened cache flag logged store locks edit client =
     record {
       opened = opened;
@@ -120,10 +120,10 @@ opened_world opened cache flag logged store locks edit client =
       actors = new_actor true client opened ∷ [];
     }
 
-module _ (opened : List Entry) (cache : List ℕ) (flag : ℕ) (logged : Bool) (store : StoreTable) (t : LockTables) (edit : InstalledEdit) (client : List ℕ)
+module _ (opened : List Entry) (cache : List ℕ) (flag : ℕ) (logged : Bool) (store : StoreState) (t : LockState) (edit : InstalledEdit) (client : List ℕ)
     (legal : IsLegal opened) (no_undo : undone_last opened ≡ None) (words : 1 ≤ length cache) (zeros : All (λ word. word ≡ 0) cache)
     (down : flag ≡ 0 → undecided opened ≡ []) (up : undecided opened ≡ [] → flag ≡ 0)
-    (versions : IsStored opened [] edit.segment.base finite.empty store (running edit)) (settled : IsOfEdit store edit) (locks : AreOpened opened t) where
+    (versions : IsStored opened [] edit.segment.base finite.empty store (running edit)) (in_step : IsOfEdit store edit) (locks : AreOpened opened t) where
   abbrev world : World
   world = opened_world opened cache flag logged store t edit client
 
@@ -216,7 +216,7 @@ module _ (opened : List Entry) (cache : List ℕ) (flag : ℕ) (logged : Bool) (
     from_base = λ t live. absurd (true≢false (sym live ∙ ap is_some (finite.get-empty nat_cmp t)));
     flags = record { none_delayed = none_delayed; none_kept = λ _ s p. not_kept s p; delayed_free = λ _ none. delayed_free none; old_free = λ _ _. refl };
     versions = versions;
-    settled = λ _. settled;
+    in_step = λ _. in_step;
     coupled = record {
       last = inl refl;
       failed = λ failed e. absurd (none_some None failed refl e);
@@ -304,5 +304,5 @@ opening_is_sound w o =
     subst IsSound (sym (same_world w o))
     (opened_is_sound w.opened w.cache w.delayed_flag w.writes.logged w.store w.locks w.first_edit o.client o.legal o.closed_undo o.words o.cache o.delayed_flag o.delayed_free
     (subst (λ (z : World). IsStored z.opened [] z.first_edit.segment.base z.snapshots z.store z.installed) (same_world w o) o.versions)
-    (subst (λ (z : World). IsOfEdit z.store z.installed.last) (same_world w o) o.settled)
+    (subst (λ (z : World). IsOfEdit z.store z.installed.last) (same_world w o) o.in_step)
     o.locks)

@@ -15,12 +15,12 @@ use Rattle.wp_model.specs.Legal.{IsLegal, changes_in, undone_last}
 use Rattle.wp_model.specs.Decision.{version_in, entry_version}
 use Rattle.wp_model.specs.Versions.{version_at}
 use Rattle.wp_model.proofs.Entries.{entry_at_past}
-use Rattle.wp_history.proofs.Counting.{entry_version_old}
-use Rattle.wp_history.proofs.Growth.{by_growth}
-use Rattle.wp_history.proofs.Listed.{zero_covered}
-use Rattle.wp_history.proofs.Opened.{names_of, keys_of, tables_opened}
+use Rattle.wp_history_laws.proofs.Counting.{entry_version_old}
+use Rattle.wp_history_laws.proofs.Growth.{by_growth}
+use Rattle.wp_history_laws.proofs.Listed.{zero_covered}
+use Rattle.wp_history_laws.proofs.Opened.{names_of, keys_of, tables_opened}
 use Rattle.wp_core.specs.Turns.{all_free}
-use Rattle.wp_core.specs.Tables.{StoreTable, live_numbers, up_to}
+use Rattle.wp_core.specs.Tables.{StoreState, live_numbers, up_to}
 use Rattle.wp_model.specs.Flushed.{InstalledEdit, versions_under, later_versions, first_segment}
 use Rattle.wp_core.specs.World.{World, new_actor}
 use Rattle.wp_core.specs.Runs.{IsOpening}
@@ -116,7 +116,7 @@ all_versions history legal = by_growth (λ h. AreAll (later_versions h 0) h) rec
 abbrev pub no_table : InstalledEdit
 no_table = record { segment = first_segment; flushed = 0; versions = []; tables = 0 }
 
-abbrev pub all_in_memory : List Entry → StoreTable
+abbrev pub all_in_memory : List Entry → StoreState
 all_in_memory history = record { memory = later_versions history 0; tables = []; floor = 0 }
 
 module _ (history : List Entry) (legal : IsLegal history) where
@@ -215,7 +215,7 @@ world_opened history cache client legal closed words zeros = record {
   old_flag = refl;
   snapshots = refl;
   versions = all_stored history legal;
-  settled = (none_flushed history legal, refl);
+  in_step = (none_flushed history legal, refl);
   first_edit = refl;
   not_failed = refl;
   running = refl;

@@ -4,7 +4,7 @@ use mathlib.Core.Option.{some}
 use lib.ListN.{get_elem?}
 use Rattle.std.specs.FinMap as finite
 use Rattle.wp_model.specs.declared.holder.Holder.TheVariants.{Txn, Client}
-use Rattle.wp_model.specs.LockTables.{LockTables}
+use Rattle.wp_model.specs.LockState.{LockState}
 use Rattle.wp_core.specs.Views.{Fact, undecided_at, direct_free}
 use Rattle.wp_core.specs.World.{Transaction, Participant, Actor, World}
 use Rattle.wp_core.specs.Sound.Actors.{IsParticipantAt}
@@ -15,7 +15,7 @@ use Rattle.wp_core.proofs.AllParts.{SoIn}
 use Rattle.wp_core.proofs.LocksChange.{SoWith}
 
 -- the table has of other names, and of direct writes, what there was
-pub record KeepsOthers (w : World) (name : List ℕ) (t : LockTables) : Type 0 where
+pub record KeepsOthers (w : World) (name : List ℕ) (t : LockState) : Type 0 where
   pub names : (n : List ℕ) → (n ≡ name → ⊥) → finite.get t.names n ≡ finite.get w.locks.names n
   pub transactions : (k n : List ℕ) → (n ≡ name → ⊥) → finite.get w.locks.keys k ≡ Some (Txn n) → finite.get t.keys k ≡ Some (Txn n)
   pub directs : (k c : List ℕ) → finite.get w.locks.keys k ≡ Some (Client c) → finite.get t.keys k ≡ Some (Client c)
@@ -27,7 +27,7 @@ module _ (w : World) (by : ℕ) (a : Actor) (name : List ℕ) (x0 : Transaction)
       let same = s.locks.apart.names j i by 0 o (owner_of a.participant) name x x0 there (mine owner_of w.actors by a a at refl) (subst (λ (z : List ℕ). Has o z x) is h) has in
       ⊎_elim (λ (ne : j ≢ by). ne same.0) (λ (ne : i ≢ 0). ne same.1) elsewhere
 
-  module _ (t : LockTables) (k : KeepsOthers w name t) where
+  module _ (t : LockState) (k : KeepsOthers w name t) where
     pub others_own : (j i : ℕ) (o : Owner) → ((j ≢ by) ⊎ (i ≢ 0)) → IsParticipantAt (participants owner_of w) j i o → IsOwner w.opened w.writes.history t o
     others_own j i o elsewhere there =
         let was = s.locks.had j i o there in

@@ -6,7 +6,7 @@ use Rattle.std.specs.FinSet as set_of
 use Rattle.wp_model.specs.Batch.{key_cmp}
 use Rattle.wp_model.specs.declared.entry.Entry.{Entry}
 use Rattle.wp_model.specs.declared.holder.Holder.TheVariants.{Client}
-use Rattle.wp_model.specs.LockTables.{LockTables}
+use Rattle.wp_model.specs.LockState.{LockState}
 use Rattle.wp_core.specs.Lists.{IsIn}
 use Rattle.wp_core.specs.Views.{Event}
 use Rattle.wp_core.specs.World.{Transaction, Actor}
@@ -38,7 +38,7 @@ module _ (xs : List Actor) (by : ℕ) (a b : Actor) (at : get_elem? xs by ≡ so
   abbrev after : List (List Owner)
   after = map (participants_of owner_of) (set xs by b)
 
-  owner_still : (opened history : List Entry) (t : LockTables) (o p : Owner) → IsSameOwner o p → IsOwner opened history t o → IsOwner opened history t p
+  owner_still : (opened history : List Entry) (t : LockState) (o p : Owner) → IsSameOwner o p → IsOwner opened history t o → IsOwner opened history t p
   owner_still opened history t o p q k = record {
     names = λ name x h. let u = q.had name x h in k.names name u.0 u.1 ∙ ap (λ (c : List ℕ). Some (Some c)) (sym q.client);
     keys = λ name x key h held. let u = q.had name x h in k.keys name u.0 key u.1 (subst (λ (z : set_of.FinSet key_cmp). set_of.contains z key ≡ true) (sym u.2) held);
@@ -55,7 +55,7 @@ module _ (xs : List Actor) (by : ℕ) (a b : Actor) (at : get_elem? xs by ≡ so
       let o = was_there j i p there in let u = o.2.had name x has in
       subst (λ (z : set_of.FinSet key_cmp). set_of.contains z key ≡ true) u.2 (k j i o.0 o.1 u.0 u.1)
 
-  pub locked_still : (opened history : List Entry) (t : LockTables) → AreLocked opened history t before → AreLocked opened history t after
+  pub locked_still : (opened history : List Entry) (t : LockState) → AreLocked opened history t before → AreLocked opened history t after
   locked_still opened history t k = record {
     prepared_names = k.prepared_names;
     prepared_keys = k.prepared_keys;
@@ -70,7 +70,7 @@ module _ (xs : List Actor) (by : ℕ) (a b : Actor) (at : get_elem? xs by ≡ so
   }
 
 -- one that has the same of names and keys remembers one event more
-pub past_locked : (xs : List Actor) (by : ℕ) (a b : Actor) (e : Event) → get_elem? xs by ≡ some a → b.joined ≡ a.joined → owner_of b.participant ≡ owner_of (record a.participant { past = a.participant.past ++ e ∷ [] }) → (opened history : List Entry) (t : LockTables)
+pub past_locked : (xs : List Actor) (by : ℕ) (a b : Actor) (e : Event) → get_elem? xs by ≡ some a → b.joined ≡ a.joined → owner_of b.participant ≡ owner_of (record a.participant { past = a.participant.past ++ e ∷ [] }) → (opened history : List Entry) (t : LockState)
     → AreLocked opened history t (map (participants_of owner_of) xs) → AreLocked opened history t (map (participants_of owner_of) (set xs by b))
 past_locked xs by a b e at same is opened history t k =
     let grown = same_transactions (owner_of a.participant) (a.participant.past ++ e ∷ []) (λ x there. in_front x a.participant.past (e ∷ []) there) in

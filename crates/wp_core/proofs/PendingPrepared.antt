@@ -11,7 +11,7 @@ use Rattle.wp_model.specs.declared.entry.Entry.{Entry}
 use Rattle.wp_model.specs.declared.entry.Entry.TheVariants.{Prepare}
 use Rattle.wp_model.specs.Decision.{decision_of}
 use Rattle.wp_model.specs.History.{entry_at, is_prepare, is_undecided}
-use Rattle.wp_model.specs.PreparedTables.{PreparedTables, is_prepared}
+use Rattle.wp_model.specs.PreparedSets.{PreparedSets, is_prepared}
 use Rattle.wp_judge.specs.Words.{CommitPair}
 use Rattle.wp_core.specs.Entries.{extended}
 use Rattle.wp_core.specs.Turns.{Holds, write_turn, prepared_turn}
@@ -24,7 +24,7 @@ use Rattle.wp_core.specs.Notes.{forgets}
 use Rattle.wp_core.specs.Sound.Prepared.{AreFlags, AreUndecided, AreDelayed}
 use Rattle.wp_core.specs.Sound.Views.{IsApart, HasLeft, IsClearing, NoneWaits}
 use Rattle.wp_core.specs.IsSound.{IsSound}
-use Rattle.wp_history.proofs.Growth.{entry_at_next}
+use Rattle.wp_history_laws.proofs.Growth.{entry_at_next}
 use Rattle.wp_model.proofs.Entries.{undecided_within}
 use Rattle.wp_core.proofs.HistoryLaws.{decided_within}
 use Rattle.wp_model.proofs.Numbers.{in_inserted, in_inserted_else, in_removed, in_removed_else}
@@ -36,7 +36,7 @@ use Rattle.wp_core.proofs.Gives.{not_free}
 
 -- the heap has of other numbers than the next what it had
 module _ (w : World) (s : IsSound w) (heap : finset.FinSet nat_cmp) (same : (p : ℕ) → p ≢ suc (length w.writes.history) → finset.contains heap p ≡ finset.contains w.prepared.heap p) where
-  abbrev t : PreparedTables
+  abbrev t : PreparedSets
   t = record w.prepared { heap = heap }
 
   prepared_else : (p : ℕ) → p ≢ suc (length w.writes.history) → is_prepared t p ≡ is_prepared w.prepared p

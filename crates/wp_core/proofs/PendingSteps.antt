@@ -9,7 +9,7 @@ use Rattle.wp_model.specs.Decision.{version_in, decision_of}
 use Rattle.wp_model.specs.History.{entry_at, is_prepare}
 use Rattle.wp_model.specs.Legal.{IsLegal}
 use Rattle.wp_core.specs.Entries.{next_of, extended, IsOneRecord}
-use Rattle.wp_core.specs.Tables.{WriteTable, writes}
+use Rattle.wp_core.specs.Tables.{WriteState, writes}
 use Rattle.wp_core.specs.Turns.{Holds, write_turn}
 use Rattle.wp_core.specs.Views.{Fact, versions_in_memory, pair_delayed, pair_not_delayed}
 use Rattle.wp_core.specs.World.{Participant, Actor, World, with_content}
@@ -34,14 +34,14 @@ use Rattle.wp_core.proofs.Gives.{not_free}
 use Rattle.wp_core.proofs.HoldersChange.{none_next}
 
 -- the write table with what is pending, whether that is logged, and the log
-abbrev pub with_pending : WriteTable → List Entry → Bool → List Entry → WriteTable
+abbrev pub with_pending : WriteState → List Entry → Bool → List Entry → WriteState
 with_pending t pending logged log = record t { pending = pending; logged = logged; log = log }
 
 -- and in which segments it is
-abbrev pub with_segments : WriteTable → Segment → Option Segment → WriteTable
+abbrev pub with_segments : WriteState → Segment → Option Segment → WriteState
 with_segments t segment next = record t { segment = segment; next = next }
 
-abbrev pub SoPending : World → WriteTable → Participant → Fact → Type 0
+abbrev pub SoPending : World → WriteState → Participant → Fact → Type 0
 SoPending w d = IsSo w.delayed_flag w.old_flag w.max_evicted w.cache d w.prepared w.snapshots w.store w.locks w.installed
 
 pub log_changes : (w : World) (by : ℕ) (a : Actor) (step : Step) (pending : List Entry) (logged : Bool) (log : List Entry) (segment : Segment) (next : Option Segment) → get_elem? w.actors by ≡ some a → Holds w.holders write_turn by
@@ -51,11 +51,11 @@ pub log_changes : (w : World) (by : ℕ) (a : Actor) (step : Step) (pending : Li
     → NotesStay w by step (SoPending w (with_segments (with_pending w.writes pending logged log) segment next)) → IsSound w
     → IsSound (change w by (forgets w.writes.history (length w.cache) step a) (writes (with_segments (with_pending w.writes pending logged log) segment next)))
 log_changes w by a step pending logged log segment next at holds history cache undecided delayed stored faults coupled notes s =
-    let d : WriteTable = with_segments (with_pending w.writes pending logged log) segment next in
+    let d : WriteState = with_segments (with_pending w.writes pending logged log) segment next in
     let c : Actor = forgets w.writes.history (length w.cache) step a in
     let b : Actor = record c { held = held_with c.held (writes d) } in
     quiet_step w (with_content w (writes d)) by a b at refl
-    (record { history = history; cache = cache; decided = s.decided; undecided = undecided; delayed = delayed; flags = s.flags; versions = stored; settled = s.settled; coupled = coupled; pending = λ free. absurd (not_free w.holders write_turn by holds free) })
+    (record { history = history; cache = cache; decided = s.decided; undecided = undecided; delayed = delayed; flags = s.flags; versions = stored; in_step = s.in_step; coupled = coupled; pending = λ free. absurd (not_free w.holders write_turn by holds free) })
     (views_of w s) s.locks (record { holders = s.holders; board = s.board; faults = faults; edits = s.edits })
     (turns_changed w by a b at (writes d) holds refl s) (readers_still w by a b at refl s)
     (noted_after w by a b step (SoPending w d) at refl refl notes s) (idle_after w by a b write_turn at holds s refl) s

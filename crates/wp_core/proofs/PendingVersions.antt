@@ -13,7 +13,7 @@ use Rattle.wp_model.specs.Covered.{IsCovered, GivesStore}
 use Rattle.wp_model.specs.Decision.{version_in, entry_version}
 use Rattle.wp_model.specs.Versions.{version_at}
 use Rattle.wp_core.specs.Entries.{next_of, HasVersionsAt}
-use Rattle.wp_core.specs.Tables.{StoreTable, store, up_to}
+use Rattle.wp_core.specs.Tables.{StoreState, store, up_to}
 use Rattle.wp_core.specs.Turns.{Holds, write_turn, store_turn}
 use Rattle.wp_core.specs.Views.{Fact, versions_in_memory, versions_nowhere, nothing_flushed, frozen_stay}
 use Rattle.wp_core.specs.World.{Participant, Actor, World, with_content}
@@ -22,7 +22,7 @@ use Rattle.wp_core.specs.Changes.{held_with, change}
 use Rattle.wp_core.specs.Effects.{done}
 use Rattle.wp_core.specs.Needs.{Needs}
 use Rattle.wp_core.specs.Notes.{forgets}
-use Rattle.wp_core.specs.Sound.Store.{IsStored, IsSettled, NoneFlushed}
+use Rattle.wp_core.specs.Sound.Store.{IsStored, IsInStep, NoneFlushed}
 use Rattle.wp_core.specs.Sound.Views.{IsSo}
 use Rattle.wp_core.specs.IsSound.{IsSound}
 use Rattle.wp_model.proofs.Entries.{entry_at_past}
@@ -75,7 +75,7 @@ covers_same xs ys history numbers from same k = record {
 
 -- ---- the memory of a store changes at the next number alone
 
-abbrev pub SoStored : World → StoreTable → Participant → Fact → Type 0
+abbrev pub SoStored : World → StoreState → Participant → Fact → Type 0
 SoStored w t = IsSo w.delayed_flag w.old_flag w.max_evicted w.cache w.writes w.prepared w.snapshots t w.locks w.installed
 
 -- what is so of frozen versions
@@ -126,21 +126,21 @@ module _ (w : World) (memory : List Version) (s : IsSound w) (next : Option Entr
   none_flushed_now : NoneFlushed w.store.memory w.installed.last.flushed → NoneFlushed memory w.installed.last.flushed
   none_flushed_now k key p low = at_old key p (le_trans low s.versions.last.flushed) ∙ k key p low
 
-  settled_now : IsSettled w.holders.tables w.store w.installed.last → IsSettled w.holders.tables (record w.store { memory = memory }) w.installed.last
-  settled_now k free = (none_flushed_now (k free).0, (k free).1)
+  in_step_now : IsInStep w.holders.tables w.store w.installed.last → IsInStep w.holders.tables (record w.store { memory = memory }) w.installed.last
+  in_step_now k free = (none_flushed_now (k free).0, (k free).1)
 
   frozen_now : (n : ℕ) (versions : List Version) → IsFrozen w.writes.history w.store.memory n versions → IsFrozen w.writes.history memory n versions
   frozen_now n versions k = (k.0, λ key p low. at_old key p (le_trans low k.0) ∙ k.1 key p low)
 
 -- a step of who holds the store turn
-pub store_changes : (w : World) (by : ℕ) (a : Actor) (step : Step) (t : StoreTable) → get_elem? w.actors by ≡ some a → Holds w.holders store_turn by → IsStored w.writes.history w.writes.pending w.first_edit.segment.base w.snapshots t w.installed
-    → IsSettled w.holders.tables t w.installed.last → NotesStay w by step (SoStored w t) → IsSound w
+pub store_changes : (w : World) (by : ℕ) (a : Actor) (step : Step) (t : StoreState) → get_elem? w.actors by ≡ some a → Holds w.holders store_turn by → IsStored w.writes.history w.writes.pending w.first_edit.segment.base w.snapshots t w.installed
+    → IsInStep w.holders.tables t w.installed.last → NotesStay w by step (SoStored w t) → IsSound w
     → IsSound (change w by (forgets w.writes.history (length w.cache) step a) (store t))
-store_changes w by a step t at holds stored settled notes s =
+store_changes w by a step t at holds stored in_step notes s =
     let c : Actor = forgets w.writes.history (length w.cache) step a in
     let b : Actor = record c { held = held_with c.held (store t) } in
     quiet_step w (with_content w (store t)) by a b at refl
-    (record { history = s.history; cache = s.cache; decided = s.decided; undecided = s.undecided; delayed = s.delayed; flags = s.flags; versions = stored; settled = settled; coupled = s.coupled; pending = s.pending })
+    (record { history = s.history; cache = s.cache; decided = s.decided; undecided = s.undecided; delayed = s.delayed; flags = s.flags; versions = stored; in_step = in_step; coupled = s.coupled; pending = s.pending })
     (views_of w s) s.locks (pasts_of w s) (turns_changed w by a b at (store t) holds refl s) (readers_still w by a b at refl s)
     (noted_after w by a b step (SoStored w t) at refl refl notes s) (idle_after w by a b store_turn at holds s refl) s
 
@@ -156,7 +156,7 @@ module _ (w : World) (memory : List Version) (s : IsSound w) (has : HasVersionsA
 
 pub adds_versions : (w : World) (by : ℕ) (a : Actor) (memory : List Version) → get_elem? w.actors by ≡ some a → Needs w by a (add_versions memory) → IsSound w → IsSound (done w by (forgets w.writes.history (length w.cache) (add_versions memory) a) (add_versions memory))
 adds_versions w by a memory at n s =
-    store_changes w by a (add_versions memory) (record w.store { memory = memory }) at n.1 (stored_now w memory s (next_of w.writes.pending) n.2 (λ _ _ f. f)) (settled_now w memory s (next_of w.writes.pending) n.2 (λ _ _ f. f) s.settled)
+    store_changes w by a (add_versions memory) (record w.store { memory = memory }) at n.1 (stored_now w memory s (next_of w.writes.pending) n.2 (λ _ _ f. f)) (in_step_now w memory s (next_of w.writes.pending) n.2 (λ _ _ f. f) s.in_step)
     (notes_by w by (add_versions memory) write_turn _ n.0 (so_added w memory s n.2)) s
 
 -- ---- they go
@@ -174,5 +174,5 @@ module _ (w : World) (memory : List Version) (s : IsSound w) (has : HasVersionsA
 
 pub takes_versions : (w : World) (by : ℕ) (a : Actor) (memory : List Version) → get_elem? w.actors by ≡ some a → Needs w by a (take_versions memory) → IsSound w → IsSound (done w by (forgets w.writes.history (length w.cache) (take_versions memory) a) (take_versions memory))
 takes_versions w by a memory at n s =
-    store_changes w by a (take_versions memory) (record w.store { memory = memory }) at n.1 (stored_now w memory s None n.2 (λ y v f. not_in_none y v _ f)) (settled_now w memory s None n.2 (λ y v f. not_in_none y v _ f) s.settled)
+    store_changes w by a (take_versions memory) (record w.store { memory = memory }) at n.1 (stored_now w memory s None n.2 (λ y v f. not_in_none y v _ f)) (in_step_now w memory s None n.2 (λ y v f. not_in_none y v _ f) s.in_step)
     (notes_by w by (take_versions memory) write_turn _ n.0 (so_taken w memory s n.2)) s

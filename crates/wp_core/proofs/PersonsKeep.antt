@@ -10,10 +10,10 @@ use Rattle.wp_model.specs.Batch.{key_cmp}
 use Rattle.wp_model.specs.declared.entry.Entry.{Entry}
 use Rattle.wp_model.specs.declared.holder.Holder.{Holder}
 use Rattle.wp_model.specs.declared.holder.Holder.TheVariants.{Txn, Client}
-use Rattle.wp_model.specs.LockTables.{LockTables}
+use Rattle.wp_model.specs.LockState.{LockState}
 use Rattle.wp_model.specs.Snapshots.{Snapshots}
 use Rattle.wp_core.specs.Lists.{IsIn, one_if, total}
-use Rattle.wp_core.specs.Tables.{WriteTable, Installed}
+use Rattle.wp_core.specs.Tables.{WriteState, Installed}
 use Rattle.wp_model.specs.Flushed.{InstalledEdit}
 use Rattle.wp_core.specs.Reading.{Registration}
 use Rattle.wp_core.specs.Views.{Account, own, another, prepare_at, Event, claimed, took, locked, installed, renewed, found_edit, found}
@@ -38,7 +38,7 @@ none_has p name x none h =
 none_direct : (p : Participant) (key : List ℕ) → IsNone p → p.direct ≡ Some key → ⊥
 none_direct p key none h = let q : None ≡ Some key = sym (ap (λ (z : Participant). z.direct) none) ∙ h in absurd (cc)
 
-none_owner : (opened history : List Entry) (t : LockTables) (p : Participant) → IsNone p → IsOwner opened history t (owner_of p)
+none_owner : (opened history : List Entry) (t : LockState) (p : Participant) → IsNone p → IsOwner opened history t (owner_of p)
 none_owner opened history t p none = record {
   names = λ name x h. absurd (none_has p name x none h);
   keys = λ name x key h held. absurd (none_has p name x none h);
@@ -139,7 +139,7 @@ module _ (row place : ℕ → ℕ → ℕ) (history : List Entry) (xs ys : List 
   both_places j i k l o p c d same =
       (sym c.row_is ∙ ((λ u. row (same.0 u) (same.1 u)) ∙ d.row_is), sym c.place_is ∙ ((λ u. place (same.0 u) (same.1 u)) ∙ d.place_is))
 
-  pub locked_moved : (opened : List Entry) (t : LockTables) → AreLocked opened history t (owners xs) → AreLocked opened history t (owners ys)
+  pub locked_moved : (opened : List Entry) (t : LockState) → AreLocked opened history t (owners xs) → AreLocked opened history t (owners ys)
   locked_moved opened t k = record {
     prepared_names = k.prepared_names;
     prepared_keys = k.prepared_keys;
@@ -228,7 +228,7 @@ module _ (row place : ℕ → ℕ → ℕ) (history : List Entry) (xs ys : List 
   key_moved opened key holder (inl k) = inl (past_moved _ k)
   key_moved opened key holder (inr k) = inr k
 
-  pub holders_moved : (opened : List Entry) (t : LockTables) → AreHolders opened history t (pasts xs) → AreHolders opened history t (pasts ys)
+  pub holders_moved : (opened : List Entry) (t : LockState) → AreHolders opened history t (pasts xs) → AreHolders opened history t (pasts ys)
   holders_moved opened t k = record {
     names = λ name h. ⊎_elim
         (λ c. inl (⊎_elim (λ p. inl (past_moved _ p)) (λ p. inr (past_moved _ p)) c))
@@ -240,7 +240,7 @@ module _ (row place : ℕ → ℕ → ℕ) (history : List Entry) (xs ys : List 
         subst (λ (n : ℕ). IsAccounted opened history (pasts ys) n i key holder seen account) o.row_is (subst (λ (n : ℕ). IsAccounted opened history (pasts ys) (row o.at o.at_place) n key holder seen account) o.place_is is);
   }
 
-  pub board_moved : (published : ℕ) (t : LockTables) → IsBoard published t (pasts xs) → IsBoard published t (pasts ys)
+  pub board_moved : (published : ℕ) (t : LockState) → IsBoard published t (pasts xs) → IsBoard published t (pasts ys)
   board_moved published t k = record {
     labels = λ label n h. k.labels label n (⊎_elim (λ p. inl (past_was _ p)) (λ p. inr (past_was _ p)) h);
     numbers = λ label n h. past_moved _ (k.numbers label n h);
@@ -248,7 +248,7 @@ module _ (row place : ℕ → ℕ → ℕ) (history : List Entry) (xs ys : List 
     told = λ label n h. k.told label n (past_was _ h);
   }
 
-  pub faults_moved : (writes : WriteTable) (halted : Bool) → AreFaults writes halted (pasts xs) → AreFaults writes halted (pasts ys)
+  pub faults_moved : (writes : WriteState) (halted : Bool) → AreFaults writes halted (pasts xs) → AreFaults writes halted (pasts ys)
   faults_moved writes halted k = record {
     log = total_same row place history xs ys m past_of (total (λ (e : Event). one_if (closes_log e))) (λ p none. ap (λ (z : Participant). total (λ (e : Event). one_if (closes_log e)) z.past) none) ∙ k.log;
     tables = total_same row place history xs ys m past_of (total (λ (e : Event). one_if (is_tables_fault e))) (λ p none. ap (λ (z : Participant). total (λ (e : Event). one_if (is_tables_fault e)) z.past) none) ∙ k.tables;

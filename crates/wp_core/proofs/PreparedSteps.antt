@@ -9,7 +9,7 @@ use Rattle.std.specs.FinSet as finset
 use Rattle.std.specs.FinMap as finite
 use Rattle.wp_model.specs.Decision.{decision_of}
 use Rattle.wp_model.specs.History.{is_undecided}
-use Rattle.wp_model.specs.PreparedTables.{PreparedTables, is_prepared}
+use Rattle.wp_model.specs.PreparedSets.{PreparedSets, is_prepared}
 use Rattle.wp_judge.specs.Words.{CommitPair}
 use Rattle.wp_core.specs.Cache.{cached}
 use Rattle.wp_core.specs.Tables.{without_prepared}
@@ -38,7 +38,7 @@ use Rattle.wp_model.specs.declared.entry.Entry.{Entry}
 use Rattle.wp_judge.specs.declared.observed.Observed.{Observed}
 
 -- what is noted with these prepared tables in place of the world's
-abbrev pub SoWith : World → PreparedTables → Participant → Fact → Type 0
+abbrev pub SoWith : World → PreparedSets → Participant → Fact → Type 0
 SoWith w t = IsSo w.delayed_flag w.old_flag w.max_evicted w.cache w.writes t w.snapshots w.store w.locks w.installed
 
 -- a pair of the cache that is noted is decided by the history
@@ -205,7 +205,7 @@ module _ (w : World) (pair : CommitPair) (s : IsSound w) (decides : decision_of 
   abbrev more_commits : finite.FinMap nat_cmp ℕ
   more_commits = finite.insert w.prepared.delayed_commits pair.number pair.decision
 
-  with_commit : PreparedTables
+  with_commit : PreparedSets
   with_commit = record w.prepared { delayed_commits = finite.insert w.prepared.delayed_commits pair.number pair.decision }
 
   -- a number has one decision, with the pending entry

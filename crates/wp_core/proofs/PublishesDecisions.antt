@@ -8,7 +8,7 @@ use Rattle.wp_model.specs.declared.entry.Entry.TheVariants.{Write, Prepare, Comm
 use Rattle.wp_model.specs.History.{entry_at, is_prepare}
 use Rattle.wp_model.specs.Legal.{IsLegal}
 use Rattle.wp_model.specs.Decision.{decision_of}
-use Rattle.wp_model.specs.PreparedTables.{PreparedTables, is_prepared}
+use Rattle.wp_model.specs.PreparedSets.{PreparedSets, is_prepared}
 use Rattle.wp_model.specs.Snapshots.{Snapshots}
 use Rattle.wp_judge.specs.Words.{CommitPair}
 use Rattle.wp_core.specs.Cache.{cached}
@@ -52,7 +52,7 @@ module _ (history : List Entry) (entry : Entry) (others : List Entry) (legal : I
     kept = λ s p there. let o = k.kept s p there in (o.0, decision_stays history (entry ∷ []) p o.0 o.1, o.2, o.3);
   }
 
-  pub undecided_part : (pending : List Entry) (t : PreparedTables) (max : ℕ) → pending ≡ entry ∷ others → (IsPrepare entry → set.contains t.heap next ≡ true) → AreUndecided history pending t max → AreUndecided grown others t max
+  pub undecided_part : (pending : List Entry) (t : PreparedSets) (max : ℕ) → pending ≡ entry ∷ others → (IsPrepare entry → set.contains t.heap next ≡ true) → AreUndecided history pending t max → AreUndecided grown others t max
   undecided_part pending t max is number k = record {
     found = λ p u. ⊎_elim
         (λ o. k.found p o.1)
@@ -63,7 +63,7 @@ module _ (history : List Entry) (entry : Entry) (others : List Entry) (legal : I
     known = λ p there. prepare_stays grown others p (ap (λ (z : List Entry). is_prepare (entry_at (extended history z) p)) (sym is) ∙ k.known p there);
   }
 
-  pub delayed_part : (pending : List Entry) (t : PreparedTables) (cache : List ℕ) (max : ℕ) → pending ≡ entry ∷ others → IsPaired cache t.delayed_commits max → AreDelayed history pending t cache → AreDelayed grown others t cache
+  pub delayed_part : (pending : List Entry) (t : PreparedSets) (cache : List ℕ) (max : ℕ) → pending ≡ entry ∷ others → IsPaired cache t.delayed_commits max → AreDelayed history pending t cache → AreDelayed grown others t cache
   delayed_part pending t cache max is pair k = record {
     found = λ p c there e. ⊎_elim (λ (d : decision_of history p ≡ Some c). k.found p c there d) (λ d. by_place p c (pair (record { number = p; decision = c }) d.1)) (decided_before_or_now history entry legal p c e);
     commits = λ p c e. extended_stays grown others p c (ap (λ (z : List Entry). decision_of (extended history z) p) (sym is) ∙ k.commits p c e);

@@ -6,12 +6,12 @@ use lib.ListN.{get_elem?}
 use Rattle.wp_model.specs.declared.entry.Entry.{Entry}
 use Rattle.wp_model.specs.declared.entry.Entry.TheVariants.{Write, Prepare, Commit, Undo, Close}
 use Rattle.wp_model.specs.Legal.{IsLegal}
-use Rattle.wp_history.specs.Growth.{undone_by}
-use Rattle.wp_history.proofs.Growth.{length_next}
-use Rattle.wp_history.proofs.Undone.{undone_next}
+use Rattle.wp_history_laws.specs.Growth.{undone_by}
+use Rattle.wp_history_laws.proofs.Growth.{length_next}
+use Rattle.wp_history_laws.proofs.Undone.{undone_next}
 use Rattle.wp_core.specs.Lists.{one_if}
 use Rattle.wp_core.specs.Entries.{IsOneRecord}
-use Rattle.wp_core.specs.Tables.{WriteTable}
+use Rattle.wp_core.specs.Tables.{WriteState}
 use Rattle.wp_core.specs.World.{Actor}
 use Rattle.wp_core.specs.Effects.{with_entry}
 use Rattle.wp_core.specs.Sound.Actors.{StartsWith, own_of, times, AreOwned, participants_of}
@@ -61,7 +61,7 @@ closes entry others p (inr (q, v, e)) u = let same : q ≡ p = same_some q p (sy
 
 -- ---- the history and its log
 
-pub history_part : (opened : List Entry) (t : WriteTable) (max : ℕ) (entry : Entry) (others : List Entry) → t.pending ≡ entry ∷ others → t.logged ≡ true → t.closed ≡ false → IsLegal (t.history ++ entry ∷ []) → IsHistory opened t max → IsHistory opened (with_entry t entry others) max
+pub history_part : (opened : List Entry) (t : WriteState) (max : ℕ) (entry : Entry) (others : List Entry) → t.pending ≡ entry ∷ others → t.logged ≡ true → t.closed ≡ false → IsLegal (t.history ++ entry ∷ []) → IsHistory opened t max → IsHistory opened (with_entry t entry others) max
 history_part opened t max entry others is logged open_log legal k =
     let whole : (t.history ++ entry ∷ []) ++ others ≡ t.history ++ t.pending = append_assoc t.history (entry ∷ []) others ∙ ap (λ (x : List Entry). t.history ++ x) (sym is) in
     let f = follows entry others (subst IsRest is k.rest) in

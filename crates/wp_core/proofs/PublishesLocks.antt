@@ -11,11 +11,11 @@ use Rattle.wp_model.specs.declared.holder.Holder.{Holder}
 use Rattle.wp_model.specs.declared.holder.Holder.TheVariants.{Txn, Client}
 use Rattle.wp_model.specs.History.{is_prepare, prepared_name, prepared_batch, name_at, batch_at, decides, is_changed, named}
 use Rattle.wp_model.specs.Legal.{IsLegal}
-use Rattle.wp_model.specs.LockTables.{LockTables}
+use Rattle.wp_model.specs.LockState.{LockState}
 use Rattle.wp_model.proofs.Found.{found_named}
 use Rattle.wp_model.proofs.Entries.{undecided_within}
 use Rattle.wp_core.specs.Entries.{transaction_of}
-use Rattle.wp_core.specs.Tables.{WriteTable}
+use Rattle.wp_core.specs.Tables.{WriteState}
 use Rattle.wp_core.specs.Views.{Account, own, another, prepare_at, Event}
 use Rattle.wp_core.specs.Effects.{with_entry}
 use Rattle.wp_core.specs.Sound.Locks.{Owner, HasKeyAt, WasPrepared, PrepareHas, CameToKey, AreLocked}
@@ -67,7 +67,7 @@ module _ (history : List Entry) (entry : Entry) (legal : IsLegal (history ++ ent
   batch_new name batch is = ap prepared_batch (at_next history entry legal) ∙ ap (λ (x : Entry). prepared_batch (Some x)) is
 
   -- the undecided prepare of a name that nobody has stays it
-  still_left : (t : LockTables) → ((name : List ℕ) → transaction_of history entry ≡ Some name → (client : List ℕ) × (finite.get t.names name ≡ Some (Some client)))
+  still_left : (t : LockState) → ((name : List ℕ) → transaction_of history entry ≡ Some name → (client : List ℕ) × (finite.get t.names name ≡ Some (Some client)))
       → (name : List ℕ) → finite.get t.names name ≡ Some None → is_some (named history name) ≡ true → (p : ℕ) × (named history name ≡ Some p) × (named grown name ≡ Some p)
   still_left t live name left is =
       let x = some_there (named history name) is in (
@@ -89,7 +89,7 @@ module _ (history : List Entry) (entry : Entry) (legal : IsLegal (history ++ ent
   came_grows opened past name key (inl k) = inl k
   came_grows opened past name key (inr (k, has)) = inr (k, prepare_grows opened name key has)
 
-  pub locks_part : (opened : List Entry) (t : LockTables) (owners : List (List Owner)) → ((name : List ℕ) → transaction_of history entry ≡ Some name → (client : List ℕ) × (finite.get t.names name ≡ Some (Some client)))
+  pub locks_part : (opened : List Entry) (t : LockState) (owners : List (List Owner)) → ((name : List ℕ) → transaction_of history entry ≡ Some name → (client : List ℕ) × (finite.get t.names name ≡ Some (Some client)))
       → ((name : List ℕ) (batch : List Change) (key : List ℕ) → entry ≡ Prepare name batch → is_changed batch key ≡ true → finite.get t.keys key ≡ Some (Txn name))
       → AreLocked opened history t owners → AreLocked opened grown t owners
   locks_part opened t owners live held k = record {
@@ -135,13 +135,13 @@ module _ (history : List Entry) (entry : Entry) (legal : IsLegal (history ++ ent
   accounted_grows opened pasts j i key (Txn name) seen (prepare_at n) k = was_grows seen n name key k
   accounted_grows opened pasts j i key (Client name) seen (prepare_at n) k = k
 
-  pub holders_part : (opened : List Entry) (t : LockTables) (pasts : List (List (List Event))) → AreHolders opened history t pasts → AreHolders opened grown t pasts
+  pub holders_part : (opened : List Entry) (t : LockState) (pasts : List (List (List Event))) → AreHolders opened history t pasts → AreHolders opened grown t pasts
   holders_part opened t pasts k = record { names = k.names; keys = k.keys; found = λ j i key holder seen account h. accounted_grows opened pasts j i key holder seen account (k.found j i key holder seen account h) }
 
-  pub board_part : (t : LockTables) (pasts : List (List (List Event))) → IsBoard (length history) t pasts → IsBoard (length grown) t pasts
+  pub board_part : (t : LockState) (pasts : List (List (List Event))) → IsBoard (length history) t pasts → IsBoard (length grown) t pasts
   board_part t pasts k = record { labels = k.labels; numbers = k.numbers; heard = k.heard; told = λ label n p. let low = k.told label n p in let l = grown_length history entry legal in omega (arith, low, l) }
 
-pub faults_part : (t : WriteTable) (entry : Entry) (others : List Entry) (halted : Bool) (pasts : List (List (List Event))) → t.closed ≡ false → AreFaults t halted pasts → AreFaults (with_entry t entry others) halted pasts
+pub faults_part : (t : WriteState) (entry : Entry) (others : List Entry) (halted : Bool) (pasts : List (List (List Event))) → t.closed ≡ false → AreFaults t halted pasts → AreFaults (with_entry t entry others) halted pasts
 faults_part t entry others halted pasts open_log k = record {
   log = k.log;
   tables = k.tables;

@@ -13,14 +13,14 @@ use Rattle.wp_model.specs.Batch.{change_to}
 use Rattle.wp_model.specs.History.{prepared_name, name_at, batch_at, is_undecided, is_changed, changes_of}
 use Rattle.wp_model.specs.Legal.{IsLegalNext, prior}
 use Rattle.wp_judge.specs.Words.{CommitPair}
-use Rattle.wp_history.proofs.Above.{is_changed_from}
-use Rattle.wp_history.proofs.Held.{not_free, free_key}
+use Rattle.wp_history_laws.proofs.Above.{is_changed_from}
+use Rattle.wp_history_laws.proofs.Held.{not_free, free_key}
 use Rattle.wp_model.proofs.Entries.{undecided_within}
 use Rattle.wp_model.proofs.Found.{found_named}
 use Rattle.wp_core.specs.Conditions.{MayPublish}
 use Rattle.wp_core.specs.Entries.{transaction_of, changes_under}
 use Rattle.wp_core.specs.Turns.{write_turn}
-use Rattle.wp_core.specs.Tables.{WriteTable}
+use Rattle.wp_core.specs.Tables.{WriteState}
 use Rattle.wp_core.specs.Views.{Fact, passed, in_old_commits, apart, has_left, versions_in_memory, versions_nowhere, number_in_heap, number_not_in_heap, pair_delayed, pair_not_delayed, none_waits, undecided_at, prior_values, unprepared, direct_free, live_listed, frozen_stay}
 use Rattle.wp_core.specs.World.{Participant, Actor, World}
 use Rattle.wp_core.specs.Steps.{store_published}
@@ -56,7 +56,7 @@ module _ (w : World) (by : ℕ) (a : Actor) (entry : Entry) (others : List Entry
   abbrev grown : List Entry
   grown = history ++ entry ∷ []
 
-  abbrev d : WriteTable
+  abbrev d : WriteState
   d = with_entry w.writes entry others
 
   longer : length history ≤ length grown

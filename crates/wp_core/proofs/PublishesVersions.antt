@@ -12,11 +12,11 @@ use Rattle.wp_model.specs.Legal.{IsLegal, changes_in}
 use Rattle.wp_model.specs.Decision.{version_in, entry_version}
 use Rattle.wp_model.specs.Snapshots.{Snapshots}
 use Rattle.wp_model.specs.Versions.{version_at}
-use Rattle.wp_history.proofs.Counting.{entry_version_old}
-use Rattle.wp_history.proofs.Listed.{only_listed}
+use Rattle.wp_history_laws.proofs.Counting.{entry_version_old}
+use Rattle.wp_history_laws.proofs.Listed.{only_listed}
 use Rattle.wp_model.proofs.Entries.{entry_at_past}
 use Rattle.wp_core.specs.Entries.{next_of}
-use Rattle.wp_core.specs.Tables.{StoreTable, Installed, live_numbers, up_to, all_in}
+use Rattle.wp_core.specs.Tables.{StoreState, Installed, live_numbers, up_to, all_in}
 use Rattle.wp_model.specs.Flushed.{InstalledEdit, versions_under, versions_after, later_versions, IsEditCovered}
 use Rattle.wp_core.specs.Sound.Store.{IsStored}
 use Rattle.wp_core.proofs.CoveredGrows.{version_within, covered_grows}
@@ -106,7 +106,7 @@ module _ (history : List Entry) (entry : Entry) (legal : IsLegal (history ++ ent
 
   -- ---- the store
 
-  module _ (pending others : List Entry) (base : ℕ) (snapshots : Snapshots) (t : StoreTable) (e : Installed) (is : pending ≡ entry ∷ others) (live : (m : ℕ) → is_among (live_numbers snapshots) m ≡ true → m ≤ length history) (here : (key : List ℕ) (value : Option (List ℕ)) → version_in (Some entry) key ≡ Some value → version_at t.memory key next ≡ Some value) (k : IsStored history pending base snapshots t e) where
+  module _ (pending others : List Entry) (base : ℕ) (snapshots : Snapshots) (t : StoreState) (e : Installed) (is : pending ≡ entry ∷ others) (live : (m : ℕ) → is_among (live_numbers snapshots) m ≡ true → m ≤ length history) (here : (key : List ℕ) (value : Option (List ℕ)) → version_in (Some entry) key ≡ Some value → version_at t.memory key next ≡ Some value) (k : IsStored history pending base snapshots t e) where
     memory_next : (key : List ℕ) (o : Option (Option (List ℕ))) → version_in (Some entry) key ≡ o → version_at t.memory key next ≡ o
     memory_next key (Some v) at = here key v at
     memory_next key None at = none_is (version_at t.memory key next) (λ v there. none_some (version_in (Some entry) key) v at (ap (λ (z : List Entry). version_in (next_of z) key) (sym is) ∙ (k.next key next v (omega arith) there).1))

@@ -3,7 +3,7 @@
 use Rattle.std.proofs.Common.{◌≡◌, ◌≢◌, ℕ, true, false, not, List, length, map, set, refl, sym, subst, ◌∙◌, Some, ◌⊎◌, inl, true≢false, inr}
 use mathlib.Core.Option.{some, some-injective}
 use lib.ListN.{get_elem?}
-use Rattle.wp_model.specs.PreparedTables.{PreparedTables}
+use Rattle.wp_model.specs.PreparedSets.{PreparedSets}
 use Rattle.wp_core.specs.Lists.{IsIn}
 use Rattle.wp_core.specs.Turns.{Turn, Holds, prepared_turn}
 use Rattle.wp_core.specs.Tables.{prepared}
@@ -66,7 +66,7 @@ noted_after w by a b step so at same notes k s =
 
 -- ---- the bound and a table of prepared transactions change
 
-pub bound_changes : (w : World) (by : ℕ) (a : Actor) (step : Step) (max : ℕ) (t : PreparedTables) → get_elem? w.actors by ≡ some a → Holds w.holders prepared_turn by → IsHistory w.opened w.writes max → AreDecided w.writes.history w.cache t.delayed_commits max w.snapshots
+pub bound_changes : (w : World) (by : ℕ) (a : Actor) (step : Step) (max : ℕ) (t : PreparedSets) → get_elem? w.actors by ≡ some a → Holds w.holders prepared_turn by → IsHistory w.opened w.writes max → AreDecided w.writes.history w.cache t.delayed_commits max w.snapshots
     → AreUndecided w.writes.history w.writes.pending t max → AreDelayed w.writes.history w.writes.pending t w.cache → AreFlags w.delayed_flag w.old_flag t w.snapshots w.holders.prepared w.holders.snapshots → AreReaders w.writes.history max w.cache t.delayed_commits w.snapshots (map reader_of w.actors)
     → NotesStay w by step (IsSo w.delayed_flag w.old_flag max w.cache w.writes t w.snapshots w.store w.locks w.installed) → IsSound w
     → IsSound (change (record w { max_evicted = max }) by (forgets w.writes.history (length w.cache) step a) (prepared t))
@@ -74,13 +74,13 @@ bound_changes w by a step max t at holds history decided undecided delayed flags
     let v : World = record w { max_evicted = max; prepared = t } in
     let c : Actor = forgets w.writes.history (length w.cache) step a in
     let b : Actor = record c { held = held_with c.held (prepared t) } in
-    quiet_step w v by a b at refl (record { history = history; cache = s.cache; decided = decided; undecided = undecided; delayed = delayed; flags = flags; versions = s.versions; settled = s.settled; coupled = s.coupled; pending = s.pending })
+    quiet_step w v by a b at refl (record { history = history; cache = s.cache; decided = decided; undecided = undecided; delayed = delayed; flags = flags; versions = s.versions; in_step = s.in_step; coupled = s.coupled; pending = s.pending })
     (views_of w s) s.locks (pasts_of w s) (turns_changed w by a b at (prepared t) holds refl s)
     (readers_kept w by a b at w.writes.history max w.cache t.delayed_commits w.snapshots refl (record { readers = readers; judged = s.judged }))
     (noted_after w by a b step (SoIn v) at refl refl notes s) (idle_after w by a b prepared_turn at holds s refl) s
 
 -- the bound stays
-pub prepared_changes : (w : World) (by : ℕ) (a : Actor) (step : Step) (t : PreparedTables) → get_elem? w.actors by ≡ some a → Holds w.holders prepared_turn by
+pub prepared_changes : (w : World) (by : ℕ) (a : Actor) (step : Step) (t : PreparedSets) → get_elem? w.actors by ≡ some a → Holds w.holders prepared_turn by
     → AreDecided w.writes.history w.cache t.delayed_commits w.max_evicted w.snapshots → AreUndecided w.writes.history w.writes.pending t w.max_evicted → AreDelayed w.writes.history w.writes.pending t w.cache → AreFlags w.delayed_flag w.old_flag t w.snapshots w.holders.prepared w.holders.snapshots → AreReaders w.writes.history w.max_evicted w.cache t.delayed_commits w.snapshots (map reader_of w.actors)
     → NotesStay w by step (IsSo w.delayed_flag w.old_flag w.max_evicted w.cache w.writes t w.snapshots w.store w.locks w.installed) → IsSound w
     → IsSound (change w by (forgets w.writes.history (length w.cache) step a) (prepared t))
@@ -96,7 +96,7 @@ pub words_change : (w : World) (by : ℕ) (a : Actor) (step : Step) (turn : Turn
 words_change w by a step turn cache delayed_flag old_flag at holds cached decided delayed flags readers notes s =
     let v : World = record w { cache = cache; delayed_flag = delayed_flag; old_flag = old_flag } in
     let b : Actor = forgets w.writes.history (length w.cache) step a in
-    quiet_step w v by a b at refl (record { history = s.history; cache = cached; decided = decided; undecided = s.undecided; delayed = delayed; flags = flags; versions = s.versions; settled = s.settled; coupled = s.coupled; pending = s.pending })
+    quiet_step w v by a b at refl (record { history = s.history; cache = cached; decided = decided; undecided = s.undecided; delayed = delayed; flags = flags; versions = s.versions; in_step = s.in_step; coupled = s.coupled; pending = s.pending })
     (views_of w s) s.locks (pasts_of w s) (turns_still w by a b at refl s)
     (readers_kept w by a b at w.writes.history w.max_evicted cache w.prepared.delayed_commits w.snapshots refl (record { readers = readers; judged = s.judged }))
     (noted_after w by a b step (SoIn v) at refl refl notes s) (idle_after w by a b turn at holds s refl) s

@@ -7,7 +7,7 @@ use Rattle.std.specs.FinMap as finite
 use Rattle.wp_model.specs.declared.entry.Entry.{Entry}
 use Rattle.wp_model.specs.History.{is_undecided}
 use Rattle.wp_model.specs.Decision.{decision_of, IsCommittedAt}
-use Rattle.wp_model.specs.PreparedTables.{PreparedTables}
+use Rattle.wp_model.specs.PreparedSets.{PreparedSets}
 use Rattle.wp_model.specs.Snapshots.{Snapshots, IsLive, is_old_commit}
 use Rattle.wp_judge.specs.Words.{CommitPair, pair_of, decision_if}
 use Rattle.wp_judge.proofs.Packing.{word_back}
@@ -24,7 +24,7 @@ pub pair_ordered : (words place word : ℕ) (pair : CommitPair) → place < word
 pair_ordered words place word pair within e = let k = word_back words place word pair within e in (k.may.positive, k.may.ordered)
 
 -- a version that is not delayed, at most the bound, is decided
-pub decided_unless_delayed : (history pending : List Entry) (t : PreparedTables) (max p : ℕ) → AreUndecided history pending t max → has_versions_at history p ≡ true → p ≤ max → set.contains t.delayed p ≡ false → (c : ℕ) × (decision_of history p ≡ Some c)
+pub decided_unless_delayed : (history pending : List Entry) (t : PreparedSets) (max p : ℕ) → AreUndecided history pending t max → has_versions_at history p ≡ true → p ≤ max → set.contains t.delayed p ≡ false → (c : ℕ) × (decision_of history p ≡ Some c)
 decided_unless_delayed history pending t max p k has low not_delayed =
     ⊎_elim (λ (d : (c : ℕ) × (decision_of history p ≡ Some c)). d)
     (λ (u : is_undecided history p ≡ true). in_heap (set.contains t.heap p) (set.contains t.delayed p) refl not_delayed (k.found p u))
@@ -117,7 +117,7 @@ old_right history cache commits max snapshots p s c false k decided gone answers
 
 -- ---- the delayed tables
 
-pub delayed_right : (history pending : List Entry) (t : PreparedTables) (cache : List ℕ) (p s : ℕ) → AreDelayed history pending t cache → set.contains t.delayed p ≡ true → finite.get t.delayed_commits p ≡ None → (IsCommittedAt history p s → cached cache p ≡ None) → IsCommittedAt history p s → ⊥
+pub delayed_right : (history pending : List Entry) (t : PreparedSets) (cache : List ℕ) (p s : ℕ) → AreDelayed history pending t cache → set.contains t.delayed p ≡ true → finite.get t.delayed_commits p ≡ None → (IsCommittedAt history p s → cached cache p ≡ None) → IsCommittedAt history p s → ⊥
 delayed_right history pending t cache p s k there none gone is =
     ⊎_elim (λ (e : cached cache p ≡ Some is.by). none_some (cached cache p) is.by (gone is) e) (λ (e : finite.get t.delayed_commits p ≡ Some is.by). none_some (finite.get t.delayed_commits p) is.by none e)
     (k.found p is.by (prepared (set.contains t.heap p) there) is.decided)

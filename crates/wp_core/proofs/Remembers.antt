@@ -8,8 +8,8 @@ use Rattle.wp_model.specs.declared.segment.Segment.{Segment}
 use Rattle.wp_model.specs.declared.entry.Entry.{Entry}
 use Rattle.wp_model.specs.declared.holder.Holder.{Holder}
 use Rattle.wp_model.specs.declared.holder.Holder.TheVariants.{Txn, Client}
-use Rattle.wp_model.specs.LockTables.{LockTables}
-use Rattle.wp_core.specs.Tables.{WriteTable, Installed}
+use Rattle.wp_model.specs.LockState.{LockState}
+use Rattle.wp_core.specs.Tables.{WriteState, Installed}
 use Rattle.wp_model.specs.Flushed.{InstalledEdit}
 use Rattle.wp_core.specs.Views.{Account, own, another, prepare_at, Event, claimed, took, locked, told, heard, installed, renewed, log_failed, log_stopped, tables_failed, stopped, found_edit, found}
 use Rattle.wp_core.specs.World.{Actor}
@@ -81,7 +81,7 @@ module _ (xs : List Actor) (by : ℕ) (a b : Actor) (e : Event) (at : get_elem? 
   key_still opened key holder (inl k) = inl (past_still xs by a b e at same grown (locked key holder) k)
   key_still opened key holder (inr k) = inr k
 
-  pub holders_more : (opened history : List Entry) (t : LockTables) → ((key : Option (List ℕ)) (holder : Holder) (seen : ℕ) (account : Account) → e ≡ found key holder seen account → IsAccounted opened history before by 0 key holder seen account)
+  pub holders_more : (opened history : List Entry) (t : LockState) → ((key : Option (List ℕ)) (holder : Holder) (seen : ℕ) (account : Account) → e ≡ found key holder seen account → IsAccounted opened history before by 0 key holder seen account)
       → AreHolders opened history t before → AreHolders opened history t after
   holders_more opened history t new k = record {
     names = λ name h. ⊎_elim
@@ -97,7 +97,7 @@ module _ (xs : List Actor) (by : ℕ) (a b : Actor) (e : Event) (at : get_elem? 
   }
 
   -- where it finds nothing, and names and keys that are not of before are its own
-  pub holders_new : (opened history : List Entry) (t u : LockTables) → FindsNothing e
+  pub holders_new : (opened history : List Entry) (t u : LockState) → FindsNothing e
       → ((name : List ℕ) → is_some (finite.get u.names name) ≡ true → ((e ≡ claimed name) ⊎ (e ≡ took name)) ⊎ (is_some (finite.get t.names name) ≡ true))
       → ((key : List ℕ) (holder : Holder) → finite.get u.keys key ≡ Some holder → (e ≡ locked key holder) ⊎ (finite.get t.keys key ≡ Some holder))
       → AreHolders opened history t before → AreHolders opened history u after
@@ -111,10 +111,10 @@ module _ (xs : List Actor) (by : ℕ) (a b : Actor) (e : Event) (at : get_elem? 
         found = k.found;
       }
 
-  pub holders_still : (opened history : List Entry) (t : LockTables) → FindsNothing e → AreHolders opened history t before → AreHolders opened history t after
+  pub holders_still : (opened history : List Entry) (t : LockState) → FindsNothing e → AreHolders opened history t before → AreHolders opened history t after
   holders_still opened history t nothing k = holders_new opened history t t nothing (λ name live. inr live) (λ key holder h. inr h) k
 
-  pub board_more : (published : ℕ) (t : LockTables) → ((label : List ℕ) (n : ℕ) → (e ≡ told label n) ⊎ (e ≡ heard label n) → is_some (finite.get t.labels label) ≡ true)
+  pub board_more : (published : ℕ) (t : LockState) → ((label : List ℕ) (n : ℕ) → (e ≡ told label n) ⊎ (e ≡ heard label n) → is_some (finite.get t.labels label) ≡ true)
       → ((label : List ℕ) (n : ℕ) → e ≡ heard label n → IsPast before (told label n)) → ((label : List ℕ) (n : ℕ) → e ≡ told label n → ⊥) → IsBoard published t before → IsBoard published t after
   board_more published t new was_told not_told k = record {
     labels = λ label n h. ⊎_elim
@@ -125,10 +125,10 @@ module _ (xs : List Actor) (by : ℕ) (a b : Actor) (e : Event) (at : get_elem? 
     told = λ label n h. ⊎_elim (λ c. k.told label n c) (λ c. absurd (not_told label n c)) (past_before xs by a b e at same grown (told label n) h);
   }
 
-  pub board_still : (published : ℕ) (t : LockTables) → TellsNothing e → IsBoard published t before → IsBoard published t after
+  pub board_still : (published : ℕ) (t : LockState) → TellsNothing e → IsBoard published t before → IsBoard published t after
   board_still published t nothing k = board_more published t (λ label n q. absurd (⊎_elim (λ (r : e ≡ told label n). subst TellsNothing r nothing) (λ (r : e ≡ heard label n). subst TellsNothing r nothing) q)) (λ label n q. absurd (subst TellsNothing q nothing)) (λ label n q. subst TellsNothing q nothing) k
 
-  pub faults_more : (writes : WriteTable) (halted : Bool) → closes_log e ≡ false → is_tables_fault e ≡ false → ((n : ℕ) → e ≡ stopped n → (writes.closed ≡ true) × (n ≡ length writes.history))
+  pub faults_more : (writes : WriteState) (halted : Bool) → closes_log e ≡ false → is_tables_fault e ≡ false → ((n : ℕ) → e ≡ stopped n → (writes.closed ≡ true) × (n ≡ length writes.history))
       → AreFaults writes halted before → AreFaults writes halted after
   faults_more writes halted open_ working new k = record {
     log = times_more xs by a b e at same grown closes_log ∙ rw open_ (let z = k.log in omega (arith, z));

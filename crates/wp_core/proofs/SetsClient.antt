@@ -5,7 +5,7 @@ use lib.ListN.{get_elem?}
 use Rattle.std.specs.FinMap as finite
 use Rattle.wp_model.specs.Batch.{key_cmp}
 use Rattle.wp_model.specs.declared.entry.Entry.{Entry}
-use Rattle.wp_model.specs.LockTables.{LockTables}
+use Rattle.wp_model.specs.LockState.{LockState}
 use Rattle.wp_core.specs.Views.{Fact, undecided_at, direct_free}
 use Rattle.wp_core.specs.World.{Transaction, Transactions, Actor, Participant, World}
 use Rattle.wp_core.specs.Steps.{set_client}
@@ -44,7 +44,7 @@ module _ (xs : List Actor) (by : ℕ) (a b : Actor) (at : get_elem? xs by ≡ so
   none_writes : (o : Owner) (key : List ℕ) → o ≡ owner_of b.participant → o.direct ≡ Some key → ⊥
   none_writes o key e h = no_direct b.participant.transactions b.participant.direct key after_none (subst (λ (z : Owner). z.direct ≡ Some key) e h)
 
-  none_owner : (opened history : List Entry) (t : LockTables) → IsOwner opened history t (owner_of b.participant)
+  none_owner : (opened history : List Entry) (t : LockState) → IsOwner opened history t (owner_of b.participant)
   none_owner opened history t = record {
     names = λ name x h. absurd (none_now (owner_of b.participant) name x refl h);
     keys = λ name x key h held. absurd (none_now (owner_of b.participant) name x refl h);
@@ -52,7 +52,7 @@ module _ (xs : List Actor) (by : ℕ) (a b : Actor) (at : get_elem? xs by ≡ so
     came = λ name x key h held. absurd (none_now (owner_of b.participant) name x refl h);
   }
 
-  pub locked_none : (opened history : List Entry) (t : LockTables) → AreLocked opened history t before → AreLocked opened history t after
+  pub locked_none : (opened history : List Entry) (t : LockState) → AreLocked opened history t before → AreLocked opened history t after
   locked_none opened history t k = record {
     prepared_names = k.prepared_names;
     prepared_keys = k.prepared_keys;

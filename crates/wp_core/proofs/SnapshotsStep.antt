@@ -156,7 +156,7 @@ snapshots_step w by a step m seen learned registered reading at holds grows view
       delayed = s.delayed;
       flags = record { none_delayed = s.flags.none_delayed; none_kept = views.none_kept; delayed_free = s.flags.delayed_free; old_free = λ free. absurd (not_free w.holders snapshots_turn by holds free) };
       versions = stored_grows w m s grows;
-      settled = s.settled;
+      in_step = s.in_step;
       coupled = s.coupled;
       pending = s.pending;
     })

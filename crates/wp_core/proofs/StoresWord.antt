@@ -10,7 +10,7 @@ use Rattle.std.specs.FinMap as finite
 use Rattle.wp_model.specs.declared.entry.Entry.{Entry}
 use Rattle.wp_model.specs.Decision.{decision_of}
 use Rattle.wp_model.specs.Legal.{IsLegal, log_end}
-use Rattle.wp_model.specs.PreparedTables.{is_prepared}
+use Rattle.wp_model.specs.PreparedSets.{is_prepared}
 use Rattle.wp_model.specs.Snapshots.{IsLive, is_old_commit}
 use Rattle.wp_judge.specs.Words.{CommitPair, word_of, pair_of, decision_if, seq_end}
 use Rattle.wp_judge.proofs.Packing.{pair_back}

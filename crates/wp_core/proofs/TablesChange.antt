@@ -55,7 +55,7 @@ module _ (w : World) (by : ℕ) (a : Actor) (step : Step) (e : Event) (t : Insta
       let b : Actor = actor_after in
       let c : Content = installed t in
       all_parts (with_content w c) (set w.actors by b)
-      (record { history = s.history; cache = s.cache; decided = s.decided; undecided = s.undecided; delayed = s.delayed; flags = s.flags; versions = k.stored; settled = λ free. absurd (not_free w.holders tables_turn by holds free); coupled = k.coupled; pending = s.pending })
+      (record { history = s.history; cache = s.cache; decided = s.decided; undecided = s.undecided; delayed = s.delayed; flags = s.flags; versions = k.stored; in_step = λ free. absurd (not_free w.holders tables_turn by holds free); coupled = k.coupled; pending = s.pending })
       (views_still w by a b at refl s) (past_locked w.actors by a b e at refl refl w.opened w.writes.history w.locks s.locks) (record {
         holders = holders_still w.actors by a b e at refl refl w.opened w.writes.history w.locks k.nothing s.holders;
         board = board_still w.actors by a b e at refl refl (world.published w) w.locks k.tells_nothing s.board;

@@ -13,7 +13,7 @@ use Rattle.wp_model.specs.Snapshots as snaps
 use Rattle.wp_core.specs.Turns.{Turn, write_turn, prepared_turn, snapshots_turn, store_turn, locks_turn, tables_turn}
 use Rattle.wp_core.specs.Cache.{cached_word}
 use Rattle.wp_model.specs.Snapshots.{Snapshots}
-use Rattle.wp_model.specs.LockTables.{LockTables}
+use Rattle.wp_model.specs.LockState.{LockState}
 use Rattle.wp_core.specs.Tables.{Content, turn_of}
 use Rattle.wp_core.specs.Reading.{Registration, snapshot_of}
 use Rattle.wp_judge.specs.declared.observed.Observed.{Observed}
@@ -114,27 +114,27 @@ with_old_commit m s p = placed m s (snaps.after_keep p (finite.get m s))
 
 -- ---- names and keys
 
-abbrev pub is_held_by : LockTables → Holder → List ℕ → Bool
+abbrev pub is_held_by : LockState → Holder → List ℕ → Bool
 is_held_by t holder key = option_map_or (is_same holder) (finite.get t.keys key) false
 
 -- the keys that the holder holds
-abbrev pub keys_of_holder : LockTables → Holder → set.FinSet key_cmp
+abbrev pub keys_of_holder : LockState → Holder → set.FinSet key_cmp
 keys_of_holder t holder = set.from_list (filter (is_held_by t holder) (finite.keys t.keys))
 
-abbrev pub with_name : LockTables → List ℕ → Option (List ℕ) → LockTables
+abbrev pub with_name : LockState → List ℕ → Option (List ℕ) → LockState
 with_name t name client = record t { names = finite.insert t.names name client }
 
-abbrev pub with_key : LockTables → List ℕ → Holder → LockTables
+abbrev pub with_key : LockState → List ℕ → Holder → LockState
 with_key t key holder = record t { keys = finite.insert t.keys key holder }
 
-abbrev pub without_key : LockTables → List ℕ → LockTables
+abbrev pub without_key : LockState → List ℕ → LockState
 without_key t key = record t { keys = finite.remove t.keys key }
 
 -- the name goes, with each key that is held for it
-abbrev pub without_transaction : LockTables → List ℕ → LockTables
+abbrev pub without_transaction : LockState → List ℕ → LockState
 without_transaction t name = record t { names = finite.remove t.names name; keys = finite.retain_keys t.keys (λ key. not (is_held_by t (Txn name) key)) }
 
-abbrev pub with_label : LockTables → List ℕ → ℕ → LockTables
+abbrev pub with_label : LockState → List ℕ → ℕ → LockState
 with_label t label n = record t { labels = finite.insert t.labels label n }
 
 -- ---- joins

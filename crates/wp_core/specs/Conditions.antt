@@ -14,8 +14,8 @@ use Rattle.wp_model.specs.declared.holder.Holder.TheVariants.{Txn, Client}
 use Rattle.wp_core.specs.Turns.{Turn, write_turn, prepared_turn, snapshots_turn, tables_turn, Holds}
 use Rattle.wp_judge.specs.Words.{CommitPair}
 use Rattle.wp_core.specs.Cache.{cached}
-use Rattle.wp_model.specs.PreparedTables.{is_prepared, NoneDelayed}
-use Rattle.wp_core.specs.Tables.{WriteTable, StoreTable, Installed}
+use Rattle.wp_model.specs.PreparedSets.{is_prepared, NoneDelayed}
+use Rattle.wp_core.specs.Tables.{WriteState, StoreState, Installed}
 use Rattle.wp_model.specs.Flushed.{InstalledEdit}
 use Rattle.wp_model.specs.Snapshots.{NoOldCommits}
 use Rattle.wp_judge.specs.declared.observed.Observed.{Observed}
@@ -89,7 +89,7 @@ pub record MayBeEvicted (w : World) (pair : CommitPair) : Type 0 where
   pub apart : IsApart w.prepared pair
 
 -- no segment waits to come into use: none was written beside the one in use, or the log is closed
-abbrev pub NoneNext : WriteTable → Type 0
+abbrev pub NoneNext : WriteState → Type 0
 NoneNext t = (t.next ≡ None) ⊎ (t.closed ≡ true)
 
 -- a turn is given with nothing pending and no segment that waits, with its flag down where its tables are empty, and with the last
@@ -158,7 +158,7 @@ MayStop w by =
     × (w.writes.next ≢ Some w.installed.last.segment) × (w.installed.halted ≡ true)
 
 -- the store and the edits would be as they should be
-abbrev pub KeepsStore : World → StoreTable → Installed → Type 0
+abbrev pub KeepsStore : World → StoreState → Installed → Type 0
 KeepsStore w store installed = IsStored w.writes.history w.writes.pending w.first_edit.segment.base w.snapshots store installed
 
 -- ---- the locks turn

@@ -2,13 +2,13 @@
 use Rattle.std.specs.Prelude.{◌≡◌, ◌⊎◌, ℕ, true, List, ◌++◌, Some}
 use Rattle.wp_model.specs.declared.entry.Entry.{Entry}
 use Rattle.wp_model.specs.declared.segment.Segment.{Segment}
-use Rattle.wp_core.specs.Tables.{WriteTable, Installed}
+use Rattle.wp_core.specs.Tables.{WriteState, Installed}
 use Rattle.wp_model.specs.Flushed.{InstalledEdit}
 
 -- ---- what the tables say of it
 
 -- the log spells these entries: those that were logged; or, once an append has failed, those and the failed record, whole
-abbrev pub MaySpell : WriteTable → List Entry → Type 0
+abbrev pub MaySpell : WriteState → List Entry → Type 0
 MaySpell t entries = (entries ≡ t.log) ⊎ ((t.closed ≡ true) × (entries ≡ t.log ++ t.failed))
 
 -- the manifest's last edit is this one: the one that was installed last, or the one whose install failed
@@ -18,7 +18,7 @@ MayName t edit = (edit ≡ t.last) ⊎ (t.failed ≡ Some edit)
 -- ---- what a value's devices say of it
 
 -- each of the images spells, in the segment in use, entries that the table says; and in the next one, where there is one, the history
-abbrev pub LogTells : (images : List ℕ → Type 0) → (spells : Segment → List ℕ → List Entry → Type 0) → WriteTable → Type 0
+abbrev pub LogTells : (images : List ℕ → Type 0) → (spells : Segment → List ℕ → List Entry → Type 0) → WriteState → Type 0
 LogTells images spells t =
     (image : List ℕ) → images image
     → ((entries : List Entry) × spells t.segment image entries × MaySpell t entries) × ((next : Segment) → t.next ≡ Some next → spells next image t.history)

@@ -7,7 +7,7 @@ use Rattle.wp_core.specs.Sound.Actors.{seen_of, own_of, AreSeen, AreLearned, Are
 use Rattle.wp_core.specs.Sound.History.{IsHistory, IsPendingHeld}
 use Rattle.wp_core.specs.Sound.Prepared.{IsCache, AreDecided, AreUndecided, AreDelayed, AreFlags}
 use Rattle.wp_core.specs.Sound.Snapshots.{registered_of, AreRegistered, AreFromBase, view_of, HasSeen}
-use Rattle.wp_core.specs.Sound.Store.{IsStored, IsSettled}
+use Rattle.wp_core.specs.Sound.Store.{IsStored, IsInStep}
 use Rattle.wp_core.specs.Sound.Segments.{AreCoupled}
 use Rattle.wp_core.specs.Sound.Locks.{owner_of, AreLocked}
 use Rattle.wp_core.specs.Sound.Pasts.{past_of, AreHolders, IsBoard, AreFaults, AreEdits}
@@ -35,7 +35,7 @@ pub record IsSound (w : World) : Type 0 where
   pub flags : AreFlags w.delayed_flag w.old_flag w.prepared w.snapshots w.holders.prepared w.holders.snapshots
   -- versions and edits
   pub versions : IsStored w.writes.history w.writes.pending w.first_edit.segment.base w.snapshots w.store w.installed
-  pub settled : IsSettled w.holders.tables w.store w.installed.last
+  pub in_step : IsInStep w.holders.tables w.store w.installed.last
   pub coupled : AreCoupled w.writes w.installed w.holders.write
   -- names and keys, and the pasts
   pub locks : AreLocked w.opened w.writes.history w.locks (participants owner_of w)

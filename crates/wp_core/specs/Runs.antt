@@ -12,7 +12,7 @@ use Rattle.wp_core.specs.Steps.{Step}
 use Rattle.wp_core.specs.Effects.{done}
 use Rattle.wp_core.specs.Needs.{Needs}
 use Rattle.wp_core.specs.Notes.{forgets}
-use Rattle.wp_history.specs.Opened.{AreOpened}
+use Rattle.wp_history_laws.specs.Opened.{AreOpened}
 use Rattle.wp_core.specs.Sound.Store.{IsStored, IsOfEdit}
 
 -- one step of an actor
@@ -43,7 +43,7 @@ pub record IsOpening (w : World) : Type 0 where
   pub old_flag : w.old_flag ≡ 0
   pub snapshots : w.snapshots ≡ finite.empty
   pub versions : IsStored w.opened [] w.first_edit.segment.base w.snapshots w.store w.installed
-  pub settled : IsOfEdit w.store w.installed.last
+  pub in_step : IsOfEdit w.store w.installed.last
   pub first_edit : w.installed.last ≡ w.first_edit
   pub not_failed : w.installed.failed ≡ None
   pub running : w.installed.halted ≡ false

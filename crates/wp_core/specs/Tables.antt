@@ -6,9 +6,9 @@ use Rattle.std.specs.FinMap as map
 use Rattle.wp_model.specs.declared.entry.Entry.{Entry}
 use Rattle.wp_model.specs.declared.segment.Segment.{Segment}
 use Rattle.wp_model.specs.declared.version.Version.{Version}
-use Rattle.wp_model.specs.PreparedTables.{PreparedTables}
+use Rattle.wp_model.specs.PreparedSets.{PreparedSets}
 use Rattle.wp_model.specs.Snapshots.{Snapshots}
-use Rattle.wp_model.specs.LockTables.{LockTables}
+use Rattle.wp_model.specs.LockState.{LockState}
 use Rattle.wp_model.specs.Flushed.{InstalledEdit}
 use Rattle.wp_core.specs.Turns.{Turn, write_turn, prepared_turn, snapshots_turn, store_turn, locks_turn, tables_turn}
 
@@ -18,7 +18,7 @@ use Rattle.wp_core.specs.Turns.{Turn, write_turn, prepared_turn, snapshots_turn,
 -- entry, or an Undo with its Close. It is logged as a whole before its first entry joins the history. Where nothing is
 -- pending, logged says nothing. Once an append failed the log is closed, and its bytes may have that record or not. It is
 -- stopped where it was closed for the devices of the tables alone. The log is in a segment of its device; another one that was written beside it is the next one.
-pub record WriteTable : Type 0 where
+pub record WriteState : Type 0 where
   pub history : List Entry
   pub pending : List Entry
   pub logged : Bool
@@ -32,11 +32,11 @@ pub record WriteTable : Type 0 where
 -- ---- the prepared turn
 
 -- the number leaves all three
-abbrev pub without_prepared : PreparedTables → ℕ → PreparedTables
+abbrev pub without_prepared : PreparedSets → ℕ → PreparedSets
 without_prepared t p = record { heap = set.remove t.heap p; delayed = set.remove t.delayed p; delayed_commits = map.remove t.delayed_commits p }
 
 -- the numbers of the heap that are at most the bound become delayed ones
-abbrev pub with_moved : PreparedTables → ℕ → PreparedTables
+abbrev pub with_moved : PreparedSets → ℕ → PreparedSets
 with_moved t m = record t { heap = set.retain t.heap (λ p. not (nat_le p m)); delayed = set.union t.delayed (set.retain t.heap (λ p. nat_le p m)) }
 
 -- ---- the snapshots turn
@@ -48,7 +48,7 @@ live_numbers snapshots = map.keys snapshots
 -- ---- the store turn
 
 -- the versions in memory and in tables, and the floor: at each number from it on a reader finds all that it needs
-pub record StoreTable : Type 0 where
+pub record StoreState : Type 0 where
   pub memory : List Version
   pub tables : List Version
   pub floor : ℕ
@@ -58,7 +58,7 @@ abbrev pub up_to : ℕ → List Version → List Version
 up_to n versions = filter (λ v. nat_le v.number n) versions
 
 -- all versions of the store, those of the pending entry too
-abbrev pub all_in : StoreTable → List Version
+abbrev pub all_in : StoreState → List Version
 all_in store = store.memory ++ store.tables
 
 -- ---- the tables turn
@@ -73,11 +73,11 @@ pub record Installed : Type 0 where
 -- ---- any of them
 
 pub data Content : Type 0 where
-  writes : WriteTable → Content
-  prepared : PreparedTables → Content
+  writes : WriteState → Content
+  prepared : PreparedSets → Content
   snapshots : Snapshots → Content
-  store : StoreTable → Content
-  locks : LockTables → Content
+  store : StoreState → Content
+  locks : LockState → Content
   installed : Installed → Content
 
 -- the turn that guards it

@@ -6,10 +6,10 @@ use Rattle.wp_model.specs.declared.change.Change.{Change}
 use Rattle.wp_model.specs.declared.entry.Entry.{Entry}
 use Rattle.wp_model.specs.Batch.{key_cmp}
 use Rattle.wp_core.specs.Turns.{Turn, write_turn, prepared_turn, snapshots_turn, store_turn, locks_turn, tables_turn, Holders}
-use Rattle.wp_model.specs.PreparedTables.{PreparedTables}
+use Rattle.wp_model.specs.PreparedSets.{PreparedSets}
 use Rattle.wp_model.specs.Snapshots.{Snapshots}
-use Rattle.wp_model.specs.LockTables.{LockTables}
-use Rattle.wp_core.specs.Tables.{WriteTable, StoreTable, Installed, Content, writes, prepared, snapshots, store, locks, installed}
+use Rattle.wp_model.specs.LockState.{LockState}
+use Rattle.wp_core.specs.Tables.{WriteState, StoreState, Installed, Content, writes, prepared, snapshots, store, locks, installed}
 use Rattle.wp_model.specs.Flushed.{InstalledEdit}
 use Rattle.wp_judge.specs.declared.observed.Observed.{Observed}
 use Rattle.wp_core.specs.Reading.{Registration}
@@ -63,11 +63,11 @@ pub record World : Type 0 where
   pub old_flag : ℕ
   pub cache : List ℕ
   pub holders : Holders
-  pub writes : WriteTable
-  pub prepared : PreparedTables
+  pub writes : WriteState
+  pub prepared : PreparedSets
   pub snapshots : Snapshots
-  pub store : StoreTable
-  pub locks : LockTables
+  pub store : StoreState
+  pub locks : LockState
   pub installed : Installed
   pub first_edit : InstalledEdit
   pub actors : List Actor

@@ -15,21 +15,21 @@ use Rattle.wp_model.specs.declared.entry.Entry.TheVariants.{Write, Prepare, Comm
 use Rattle.wp_model.specs.declared.version.Version.{Version}
 use Rattle.wp_model.specs.Decision.{decision_in, decision_of, version_in, entry_version}
 use Rattle.wp_model.specs.History.{entry_at, is_prepare, decides}
-use Rattle.wp_history.specs.Prepares.{prepare_of}
+use Rattle.wp_history_laws.specs.Prepares.{prepare_of}
 use Rattle.wp_cuts.specs.Cut.{is_start}
-use Rattle.wp_ledger.specs.History.{RoomyHistory, entry_behind}
-use Rattle.wp_ledger.proofs.Full.{AreStarts, start_at}
+use Rattle.wp_history.specs.History.{RoomyHistory, entry_behind}
+use Rattle.wp_history.proofs.Full.{AreStarts, start_at}
 use Rattle.wp_cover.specs.Decisions.{HasDeciders}
-use Rattle.wp_cover.specs.Sources.{is_settled, AreSettled}
+use Rattle.wp_cover.specs.Sources.{is_fixed, AreFixed}
 use Rattle.wp_cover.proofs.Places.{get_dropped}
 
--- ---- settled numbers
+-- ---- fixed numbers
 
--- a settled number is a Write's, and decides itself
-pub settled_decides : (h : RoomyHistory) (p : ℕ) → AreStarts (take h.base h.entries) → h.base ≤ length h.entries → is_settled h p ≡ true → decision_of h.entries p ≡ Some p
-settled_decides h zero starts within settled = absurd cc
-settled_decides h (suc n) starts within settled =
-    let parts = and_parts (nat_le 1 (suc n)) (nat_le (suc n) h.base && not (is_prepare (entry_at h.entries (suc n)))) settled in
+-- a fixed number is a Write's, and decides itself
+pub fixed_decides : (h : RoomyHistory) (p : ℕ) → AreStarts (take h.base h.entries) → h.base ≤ length h.entries → is_fixed h p ≡ true → decision_of h.entries p ≡ Some p
+fixed_decides h zero starts within fixed = absurd cc
+fixed_decides h (suc n) starts within fixed =
+    let parts = and_parts (nat_le 1 (suc n)) (nat_le (suc n) h.base && not (is_prepare (entry_at h.entries (suc n)))) fixed in
     let more = and_parts (nat_le (suc n) h.base) (not (is_prepare (entry_at h.entries (suc n)))) parts.1 in
     let le = leb-true (suc n) h.base more.0 in
     let at = slice_get-get_or h.entries n (Write []) (omega (arith, le, within)) in
@@ -42,10 +42,10 @@ settled_decides h (suc n) starts within settled =
     by (Undo p batch) at start other = absurd cc
     by (Close p) at start other = absurd cc
 
--- without a base none is settled
-pub none_settled : (h : RoomyHistory) (versions : List Version) → h.base ≡ 0 → AreSettled h versions
-none_settled h versions none key p value settled there =
-    let parts = and_parts (nat_le 1 p) (nat_le p h.base && not (is_prepare (entry_at h.entries p))) settled in
+-- without a base none is fixed
+pub none_fixed : (h : RoomyHistory) (versions : List Version) → h.base ≡ 0 → AreFixed h versions
+none_fixed h versions none key p value fixed there =
+    let parts = and_parts (nat_le 1 p) (nat_le p h.base && not (is_prepare (entry_at h.entries p))) fixed in
     let low = leb-true 1 p parts.0 in
     let within = leb-true p h.base (and_parts (nat_le p h.base) (not (is_prepare (entry_at h.entries p))) parts.1).0 in
     absurd (omega (arith, low, within, none))
@@ -60,17 +60,17 @@ no_prepare (Some (Commit p)) none = refl
 no_prepare (Some (Undo p batch)) none = refl
 no_prepare (Some (Close p)) none = refl
 
--- what is neither settled nor a Prepare stands behind the base, or is nothing
-pub behind_or_none : (h : RoomyHistory) (p : ℕ) → is_settled h p ≡ false → None ≡ prepare_of (entry_at h.entries p) → entry_behind h p ≡ entry_at h.entries p
+-- what is neither fixed nor a Prepare stands behind the base, or is nothing
+pub behind_or_none : (h : RoomyHistory) (p : ℕ) → is_fixed h p ≡ false → None ≡ prepare_of (entry_at h.entries p) → entry_behind h p ≡ entry_at h.entries p
 behind_or_none h p other none = elim (cases_lt h.base p) [
   | inl above ↦ ap (λ (b : Bool). cond b (entry_at h.entries p) None) (lt-ltb h.base p above)
   | inr le ↦ ap (λ (b : Bool). cond b (entry_at h.entries p) None) (le-ltb h.base p (omega (arith, le))) ∙ nothing p le other none
 ]
   where
-    nothing : (q : ℕ) → q ≤ h.base → is_settled h q ≡ false → None ≡ prepare_of (entry_at h.entries q) → None ≡ entry_at h.entries q
+    nothing : (q : ℕ) → q ≤ h.base → is_fixed h q ≡ false → None ≡ prepare_of (entry_at h.entries q) → None ≡ entry_at h.entries q
     nothing zero le other none = refl
     nothing (suc n) le other none =
-        let yes : is_settled h (suc n) ≡ true =
+        let yes : is_fixed h (suc n) ≡ true =
         and_from (nat_le 1 (suc n)) (nat_le (suc n) h.base && not (is_prepare (entry_at h.entries (suc n)))) (le-leb 1 (suc n) (omega arith))
         (and_from (nat_le (suc n) h.base) (not (is_prepare (entry_at h.entries (suc n)))) (le-leb (suc n) h.base le) (not_from_false (is_prepare (entry_at h.entries (suc n))) (no_prepare (entry_at h.entries (suc n)) (sym none)))) in
         absurd cc
@@ -80,9 +80,9 @@ no_name names None e = refl
 no_name names (Some x) e = absurd cc
 
 -- what is looked up of such a number is its entry
-pub other_at : {X : Type 0} (h : RoomyHistory) (p : ℕ) (settled some : Bool) (found : Option X) (names : X → List ℕ × List Change) (o : Option Entry) → settled ≡ is_settled h p → settled ≡ false → option_map names found ≡ prepare_of (entry_at h.entries p) → some ≡ is_some found → some ≡ false
+pub other_at : {X : Type 0} (h : RoomyHistory) (p : ℕ) (fixed some : Bool) (found : Option X) (names : X → List ℕ × List Change) (o : Option Entry) → fixed ≡ is_fixed h p → fixed ≡ false → option_map names found ≡ prepare_of (entry_at h.entries p) → some ≡ is_some found → some ≡ false
     → o ≡ entry_behind h p → entry_at h.entries p ≡ o
-other_at h p settled some found names o is other prepared none is_none behind = sym (behind ∙ behind_or_none h p (sym is ∙ other) (no_name names found (sym none ∙ is_none) ∙ prepared))
+other_at h p fixed some found names o is other prepared none is_none behind = sym (behind ∙ behind_or_none h p (sym is ∙ other) (no_name names found (sym none ∙ is_none) ∙ prepared))
 
 -- so it is no Prepare
 pub no_prepared : {X : Type 0} (names : X → List ℕ × List Change) (found : Option X) (o : Option Entry) (name : List ℕ) (batch : List Change) → option_map names found ≡ prepare_of o → is_some found ≡ false → o ≡ Some (Prepare name batch) → ⊥

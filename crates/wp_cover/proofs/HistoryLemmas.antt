@@ -8,8 +8,8 @@ use Rattle.wp_model.specs.declared.entry.Entry.{Entry}
 use Rattle.wp_model.specs.Batch.{change_to}
 use Rattle.wp_model.specs.History.{entry_at, decides, changes_of, newest, value_at}
 use Rattle.wp_model.specs.Legal.{IsLegal}
-use Rattle.wp_history.proofs.Growth.{legal_naming}
-use Rattle.wp_history.proofs.Newest.{changed_at, unchanged_at}
+use Rattle.wp_history_laws.proofs.Growth.{legal_naming}
+use Rattle.wp_history_laws.proofs.Newest.{changed_at, unchanged_at}
 use Rattle.wp_cover.specs.Decisions.{decider_of}
 
 -- ---- the first place where a test passes, with an element more

@@ -18,14 +18,14 @@ use Rattle.wp_model.specs.History.{batch_at, is_undecided, undecided}
 use Rattle.wp_model.specs.Legal.{undone_last}
 use Rattle.wp_model.specs.Decision.{version_in, entry_version}
 use Rattle.wp_model.specs.Versions.{AreInOrder, version_at}
-use Rattle.wp_history.specs.Growth.{undone_by}
-use Rattle.wp_history.proofs.Above.{undecided_version}
-use Rattle.wp_history.proofs.Undecided.{is_undecided_by_list}
-use Rattle.wp_history.proofs.Undone.{undone_at_last}
+use Rattle.wp_history_laws.specs.Growth.{undone_by}
+use Rattle.wp_history_laws.proofs.Above.{undecided_version}
+use Rattle.wp_history_laws.proofs.Undecided.{is_undecided_by_list}
+use Rattle.wp_history_laws.proofs.Undone.{undone_at_last}
 use Rattle.std.specs.Option.{option_or}
 use Rattle.wp_model.specs.Flushed.{later_versions}
-use Rattle.wp_ledger.specs.History.{RoomyHistory}
-use Rattle.wp_cover.specs.Sources.{is_settled, AreSettled}
+use Rattle.wp_history.specs.History.{RoomyHistory}
+use Rattle.wp_cover.specs.Sources.{is_fixed, AreFixed}
 use Rattle.wp_cover.specs.Present.{ArePart, AreParts, AreAllPart, HasChanges, HasBatches, HasUndone, restored}
 use Rattle.wp_cover.proofs.HistoryLemmas.{entry_at_last}
 use Rattle.wp_model.proofs.BatchLemmas.{less_from_test, ascending_rest}
@@ -39,9 +39,9 @@ module _ (h : RoomyHistory) where
   abbrev history : List Entry
   history = h.entries
 
-  -- the number is settled, or the history has this version there
+  -- the number is fixed, or the history has this version there
   abbrev IsOwnAt : List ℕ → ℕ → Option (List ℕ) → Type 0
-  IsOwnAt key p value = (is_settled h p ≡ true) ⊎ (entry_version history p key ≡ Some value)
+  IsOwnAt key p value = (is_fixed h p ≡ true) ⊎ (entry_version history p key ≡ Some value)
 
   part_at : (vs : List Version) → ArePart h vs → (key : List ℕ) (p : ℕ) (value : Option (List ℕ)) → version_at vs key p ≡ Some value → IsOwnAt key p value
   part_at [] part key p value e = absurd cc
@@ -52,7 +52,7 @@ module _ (h : RoomyHistory) where
       by true here is rest =
           let at = at_here key p v here in
           elim part.0 [
-            | inl settled ↦ inl (ap (is_settled h) (sym at.number_is) ∙ settled)
+            | inl fixed ↦ inl (ap (is_fixed h) (sym at.number_is) ∙ fixed)
             | inr own ↦ inr ((λ i. entry_version history (sym at.number_is i) (sym at.key_is i)) ∙ own ∙ is)
           ]
 
@@ -86,7 +86,7 @@ module _ (h : RoomyHistory) (all : List Version) where
       by true here is rest =
           let at = at_here key p v here in
           elim parts.0 [
-            | inl (inl settled) ↦ inl (inl (ap (is_settled h) (sym at.number_is) ∙ settled))
+            | inl (inl fixed) ↦ inl (inl (ap (is_fixed h) (sym at.number_is) ∙ fixed))
             | inl (inr own) ↦ inl (inr ((λ i. entry_version h.entries (sym at.number_is i) (sym at.key_is i)) ∙ own ∙ is))
             | inr same ↦ inr ((λ i. entry_version h.entries (sym at.number_is i) (sym at.key_is i)) ∙ same ∙ (λ i. version_at all (at.key_is i) (at.number_is i)))
           ]
@@ -124,16 +124,16 @@ module _ (h : RoomyHistory) (list stored : List Version) (flushed : ℕ) where
     | inr low ↦ let none = none_later entries flushed key p low in absurd cc
   ]
 
-  pub all_part : AreSettled h all → ArePart h list → AreParts h all stored → AreAllPart entries all
-  all_part settled first second key p value e = by (version_at list key p) refl (version_at stored key p) refl (sym (at_all entries list stored flushed key p) ∙ e)
+  pub all_part : AreFixed h all → ArePart h list → AreParts h all stored → AreAllPart entries all
+  all_part fixed first second key p value e = by (version_at list key p) refl (version_at stored key p) refl (sym (at_all entries list stored flushed key p) ∙ e)
     where
       by : (a : Option (Option (List ℕ))) → version_at list key p ≡ a → (b : Option (Option (List ℕ))) → version_at stored key p ≡ b → option_or a (option_or b (version_at (later_versions entries flushed) key p)) ≡ Some value → entry_version entries p key ≡ Some value
       by (Some v) here b there is = elim (part_at h list first key p v here) [
-        | inl up ↦ settled key p value up e
+        | inl up ↦ fixed key p value up e
         | inr own ↦ own ∙ is
       ]
       by None here (Some v) there is = elim (parts_at h all stored second key p v there) [
-        | inl (inl up) ↦ settled key p value up e
+        | inl (inl up) ↦ fixed key p value up e
         | inl (inr own) ↦ own ∙ is
         | inr same ↦ same ∙ e
       ]

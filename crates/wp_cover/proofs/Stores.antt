@@ -26,8 +26,8 @@ use Rattle.wp_model.specs.declared.entry.Entry.{Entry}
 use Rattle.wp_model.specs.Batch.{key_cmp, key_of, value_of, change_to}
 use Rattle.wp_model.specs.History.{changes_of, newest, value_at, decides}
 use Rattle.wp_model.specs.Legal.{IsLegal}
-use Rattle.wp_ledger.specs.History as ledger
-use Rattle.wp_ledger.proofs.Full.{later_at}
+use Rattle.wp_history.specs.History as ledger
+use Rattle.wp_history.proofs.Full.{later_at}
 use Rattle.wp_cover.specs.Decisions.{decider_of, HasDeciders}
 use Rattle.wp_cover.specs.Store.{Store, IsStore, Leaves, LeavesChanges, under}
 use Rattle.wp_cover.proofs.Based.{behind_long}

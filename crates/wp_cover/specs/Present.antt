@@ -11,16 +11,16 @@ use Rattle.wp_model.specs.History.{batch_at}
 use Rattle.wp_model.specs.Legal.{undone_last}
 use Rattle.wp_model.specs.Decision.{entry_version}
 use Rattle.wp_model.specs.Versions.{version_at}
-use Rattle.wp_ledger.specs.History.{RoomyHistory}
-use Rattle.wp_cover.specs.Sources.{is_settled}
+use Rattle.wp_history.specs.History.{RoomyHistory}
+use Rattle.wp_cover.specs.Sources.{is_fixed}
 
 -- how a version compares to a version of the key with that number
 abbrev pub place_cmp : List ℕ → ℕ → Version → Ordering
 place_cmp key n v = ordering_then (key_cmp v.key key) (nat_cmp n v.number)
 
--- the version has a settled number, or is that of its entry
+-- the version has a fixed number, or is that of its entry
 abbrev pub IsOwn : RoomyHistory → Version → Type 0
-IsOwn h v = (is_settled h v.number ≡ true) ⊎ (entry_version h.entries v.number v.key ≡ Some v.value)
+IsOwn h v = (is_fixed h v.number ≡ true) ⊎ (entry_version h.entries v.number v.key ≡ Some v.value)
 
 abbrev pub ArePart : RoomyHistory → List Version → Type 0
 ArePart h [] = Unit {0}

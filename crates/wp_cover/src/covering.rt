@@ -3,7 +3,7 @@ ghost use Rattle.std.specs.Arc.{arc_value};
 ghost use Rattle.wp_model.specs.Covered.{GivesStore, IsCovered, is_among};
 ghost use Rattle.wp_model.specs.Flushed.{later_versions};
 ghost use Rattle.wp_merge.specs.Merge.{joined};
-ghost use Rattle.wp_cover.specs.Sources.{all_of, AreSettled};
+ghost use Rattle.wp_cover.specs.Sources.{all_of, AreFixed};
 
 use crate::decisions::Decisions;
 use crate::present::{are_part, has_undecided, has_undone};
@@ -11,7 +11,7 @@ use crate::shown::gives_store;
 use crate::sources::Sources;
 use std::alloc::{AllocError, Global};
 use std::sync::Arc;
-use wp_ledger::History;
+use wp_history::History;
 use wp_model::{Seq, Versions};
 use wp_table::Table;
 
@@ -67,7 +67,7 @@ fn are_covering(
     requires numbers { (n : ℕ) → is_among numbers.now n ≡ true → sources.now.history.now.base ≤ n }
     requires from { sources.now.history.now.base ≤ from }
     requires flushed { sources.now.history.now.base ≤ sources.now.flushed }
-    requires settled { AreSettled sources.now.history.now (all_of sources.now) }
+    requires fixed { AreFixed sources.now.history.now (all_of sources.now) }
     ensures { IfOk result (λ yes. (yes ≡ true) ↔ IsCovered (all_of sources.now) sources.now.history.now.entries numbers.now from) }
 {
     let is_part = are_part(alloc, sources)?;
@@ -89,7 +89,7 @@ fn are_covering(
 
 /// Whether the versions cover the history: a reader finds what the store has, at each of the numbers and at each from
 /// `from` on, and none is missing that a decision still to come needs. A number past the history is as its last one. All of them
-/// are from the history's base on, and the versions of settled numbers up to it are known to be the history's.
+/// are from the history's base on, and the versions of fixed numbers up to it are known to be the history's.
 pub fn covers(
     alloc: Global,
     history: &History,
@@ -99,7 +99,7 @@ pub fn covers(
 ) -> Result<bool, AllocError>
     requires numbers { (n : ℕ) → is_among numbers.now n ≡ true → history.now.base ≤ n }
     requires from { history.now.base ≤ from }
-    requires settled { AreSettled history.now versions.now }
+    requires fixed { AreFixed history.now versions.now }
     ensures { IfOk result (λ yes. (yes ≡ true) ↔ IsCovered versions.now history.now.entries numbers.now from) }
 {
     let sources = Sources {
@@ -121,7 +121,7 @@ pub fn tables_cover(
     tables: &[Arc<Table>],
 ) -> Result<bool, AllocError>
     requires flushed { history.now.base ≤ flushed }
-    requires settled { AreSettled history.now (joined (map arc_value tables.now) ++ later_versions history.now.entries flushed) }
+    requires fixed { AreFixed history.now (joined (map arc_value tables.now) ++ later_versions history.now.entries flushed) }
     ensures { IfOk result (λ yes. (yes ≡ true) ↔ IsCovered (joined (map arc_value tables.now) ++ later_versions history.now.entries flushed) history.now.entries [] (length history.now.entries)) }
 {
     let none = Versions::of(Vec::new(alloc));

@@ -6,11 +6,11 @@ ghost use Rattle.wp_model.specs.History.{decides};
 ghost use Rattle.wp_model.specs.Decision.{decision_of, is_committed};
 ghost use Rattle.wp_cover.specs.Decisions.{HasDeciders, decided_by};
 
-use crate::sources::is_settled;
+use crate::sources::is_fixed;
 use std::alloc::{AllocError, Global};
 use std::collections::BTreeMap;
 use std::marker::Model;
-use wp_ledger::History;
+use wp_history::History;
 use wp_model::{Entry, Seq};
 
 /// A history, with what decides its prepares: one pass over its entries notes that, so that no decision is searched for.
@@ -84,7 +84,7 @@ impl<'a> Decisions<'a> {
     pub fn decision_of(&self, p: Seq) -> Option<Seq>
         ensures { result ≡ decision_of self.now p }
     {
-        if is_settled(self.history, p) {
+        if is_fixed(self.history, p) {
             return Some(p);
         }
         if self.history.prepare_at(p).is_some() {

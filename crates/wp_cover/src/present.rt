@@ -8,11 +8,11 @@ ghost use Rattle.wp_table.specs.Borrowed.{seen};
 ghost use Rattle.wp_table.specs.Table.{has_words};
 ghost use Rattle.wp_merge.specs.Merge.{joined};
 ghost use Rattle.wp_cover.specs.Present.{IsOwn, ArePart, IsPart, AreParts, AreAllPart, HasChanges, HasBatches, HasUndone, restored};
-ghost use Rattle.wp_cover.specs.Sources.{all_of, AreSettled};
+ghost use Rattle.wp_cover.specs.Sources.{all_of, AreFixed};
 
-use crate::sources::{Sources, bytes_of, entry_version, is_settled};
+use crate::sources::{Sources, bytes_of, entry_version, is_fixed};
 use std::alloc::{AllocError, Global};
-use wp_ledger::History;
+use wp_history::History;
 use wp_model::{Batch, Entry, Seq, Version, Versions};
 use wp_table::{Table, VersionRef};
 
@@ -23,11 +23,11 @@ fn are_same(one: Option<Option<&[u8]>>, other: Option<Option<&[u8]>>) -> bool
     one == other
 }
 
-/// Whether the version has a settled number, or is that of its entry.
+/// Whether the version has a fixed number, or is that of its entry.
 fn is_own(history: &History, version: &Version) -> bool
     ensures { (result ≡ true) ↔ IsOwn history.now version.now }
 {
-    if is_settled(history, version.number) {
+    if is_fixed(history, version.number) {
         return true;
     }
     let due = entry_version(history, version.number, version.key.bytes());
@@ -57,7 +57,7 @@ fn is_part(
     requires flushed { sources.now.history.now.base ≤ sources.now.flushed }
     ensures { IfOk result (λ yes. (yes ≡ true) ↔ IsPart sources.now.history.now (all_of sources.now) (seen version.entry)) }
 {
-    if is_settled(sources.history, version.number) {
+    if is_fixed(sources.history, version.number) {
         return Ok(true);
     }
     let due = entry_version(sources.history, version.number, version.key);
@@ -95,7 +95,7 @@ fn are_tables_part(alloc: Global, sources: &Sources<'_>) -> Result<bool, AllocEr
 /// Whether each version that counts is that of its entry. Those of later entries are.
 pub fn are_part(alloc: Global, sources: &Sources<'_>) -> Result<bool, AllocError>
     requires flushed { sources.now.history.now.base ≤ sources.now.flushed }
-    requires settled { AreSettled sources.now.history.now (all_of sources.now) }
+    requires fixed { AreFixed sources.now.history.now (all_of sources.now) }
     ensures { IfOk result (λ yes. (yes ≡ true) ↔ AreAllPart sources.now.history.now.entries (all_of sources.now)) }
 {
     if !is_list_part(sources.history, sources.list) {

@@ -15,7 +15,7 @@ use crate::store::{leave, store_at};
 use std::alloc::{AllocError, Global};
 use std::collections::BTreeMap;
 use std::sync::Arc;
-use wp_ledger::History;
+use wp_history::History;
 use wp_model::{Change, Seq, Versions};
 use wp_table::{Table, VersionRef};
 

@@ -8,11 +8,11 @@ ghost use Rattle.wp_model.specs.Flushed.{later_versions};
 ghost use Rattle.wp_model.specs.Versions.{version_at};
 ghost use Rattle.wp_merge.specs.Merge.{joined};
 ghost use Rattle.wp_cover.specs.Present.{place_cmp};
-ghost use Rattle.wp_cover.specs.Sources.{all_of, is_settled};
+ghost use Rattle.wp_cover.specs.Sources.{all_of, is_fixed};
 
 use std::cmp::Ordering;
 use std::sync::Arc;
-use wp_ledger::History;
+use wp_history::History;
 use wp_model::{Batch, Entry, Key, Seq, Value, Version, Versions};
 use wp_table::Table;
 
@@ -49,17 +49,17 @@ fn change_to<'a>(batch: &'a Batch, key: &[u8]) -> Option<Option<&'a [u8]>>
 }
 
 /// Whether the number is one up to the base, and no prepare has it: its versions are those of the tables, and it is a write's.
-#[tactic(auto, using(crate::proofs::Based::settled_decides))]
-pub fn is_settled(history: &History, p: Seq) -> bool
-    ensures value { result ≡ is_settled history.now p }
-    ensures decided { is_settled history.now p ≡ true → decision_of history.now.entries p ≡ Some p }
+#[tactic(auto, using(crate::proofs::Based::fixed_decides))]
+pub fn is_fixed(history: &History, p: Seq) -> bool
+    ensures value { result ≡ is_fixed history.now p }
+    ensures decided { is_fixed history.now p ≡ true → decision_of history.now.entries p ≡ Some p }
 {
     1 <= p && p <= history.base() && history.prepare_at(p).is_none()
 }
 
-/// The version of the key of the entry with that number, which is not settled.
+/// The version of the key of the entry with that number, which is not fixed.
 pub fn entry_version<'a>(history: &'a History, p: Seq, key: &[u8]) -> Option<Option<&'a [u8]>>
-    requires { is_settled history.now p ≡ false }
+    requires { is_fixed history.now p ≡ false }
     ensures { option_map option_copied result ≡ entry_version history.now.entries p key.now }
 {
     if let Some((_, batch)) = history.prepare_at(p) {

@@ -7,7 +7,7 @@ ghost use Rattle.wp_cover.specs.Store.{IsStore, Leaves, LeavesChanges};
 use crate::sources::bytes_of;
 use std::alloc::{AllocError, Global};
 use std::collections::BTreeMap;
-use wp_ledger::History;
+use wp_history::History;
 use wp_model::{Change, Entry, Seq};
 
 /// Leaves the value under the key, or nothing where there is none. Both are borrowed.

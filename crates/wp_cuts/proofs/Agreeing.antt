@@ -11,13 +11,13 @@ use Rattle.wp_model.specs.History.{entry_at, is_prepare, prepared_name, prepared
 use Rattle.wp_model.specs.Legal.{NamesUndecided}
 use Rattle.wp_model.specs.Decision.{entry_version, is_by, is_committed}
 use Rattle.wp_model.proofs.Entries.{entry_at_old, undecided_prepared, undecided_within}
-use Rattle.wp_history.proofs.Undecided.{is_undecided_by_list, never_decided}
-use Rattle.wp_history.proofs.Growth.{AreNaming}
-use Rattle.wp_history.proofs.Following.{follow_front}
+use Rattle.wp_history_laws.proofs.Undecided.{is_undecided_by_list, never_decided}
+use Rattle.wp_history_laws.proofs.Growth.{AreNaming}
+use Rattle.wp_history_laws.proofs.Following.{follow_front}
 use Rattle.wp_cuts.specs.Cut.{Cut, carried_from, carried_of, cut_at, IsCut}
 use Rattle.wp_cuts.specs.Agree.{HaveSameValues, AgreeFrom}
 use Rattle.wp_cuts.proofs.Alike.{AreAlike, alike_behind, values_behind, undecided_alike, named_alike, holder_alike}
-use Rattle.wp_cuts.proofs.Decided.{entry_at_behind, decision_behind, undecided_not_decided, settled_is_committed}
+use Rattle.wp_cuts.proofs.Decided.{entry_at_behind, decision_behind, undecided_not_decided, fixed_is_committed}
 
 -- ---- with the same entries behind
 
@@ -90,8 +90,8 @@ module _ (one other more : List Entry) (a : AreAlike one other) (naming : AreNam
         | inr le ↦ elim (cases_Bool (is_undecided one p)) [
           | inl undecided ↦ ap (λ (d : Option ℕ). is_by d n) (decision_behind one other more p a.long (undecided_not_decided one p undecided) (undecided_not_decided other p (sym (a.same p) ∙ undecided)) (entries_carried p undecided))
           | inr decided ↦
-              settled_is_committed one more key p n value le above decided there
-              ∙ sym (settled_is_committed other more key p n its (omega (arith, a.long)) (omega (arith, a.long)) (sym (a.same p) ∙ decided) there_too)
+              fixed_is_committed one more key p n value le above decided there
+              ∙ sym (fixed_is_committed other more key p n its (omega (arith, a.long)) (omega (arith, a.long)) (sym (a.same p) ∙ decided) there_too)
         ]
       ]
 

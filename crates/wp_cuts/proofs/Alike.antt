@@ -11,11 +11,11 @@ use Rattle.wp_model.specs.Batch.{key_of, change_to}
 use Rattle.wp_model.specs.History.{entry_at, is_prepare, prepared_name, prepared_batch, name_at, batch_at, decides, is_undecided, undecided, named, is_changed, holder_of, changes_of, newest}
 use Rattle.wp_model.specs.Legal.{NamesUndecided, UndoIsClosed, AreFree, KeysAreFree, undone_last, IsOrderlyNext}
 use Rattle.wp_model.proofs.Entries.{entry_at_old, undecided_within}
-use Rattle.wp_history.proofs.Growth.{entry_at_next, length_next, decided_next, AreNaming}
-use Rattle.wp_history.proofs.Undecided.{undecided_old, never_decided, not_decided_by}
-use Rattle.wp_history.proofs.Undone.{undone_next}
-use Rattle.wp_history.proofs.Following.{follow_front, follows, follow_next}
-use Rattle.wp_history.proofs.Newest.{newest_next}
+use Rattle.wp_history_laws.proofs.Growth.{entry_at_next, length_next, decided_next, AreNaming}
+use Rattle.wp_history_laws.proofs.Undecided.{undecided_old, never_decided, not_decided_by}
+use Rattle.wp_history_laws.proofs.Undone.{undone_next}
+use Rattle.wp_history_laws.proofs.Following.{follow_front, follows, follow_next}
+use Rattle.wp_history_laws.proofs.Newest.{newest_next}
 
 -- as long, with the same undecided prepares, each with its name and its batch, and the same undo last
 pub record AreAlike (one other : List Entry) : Type 0 where

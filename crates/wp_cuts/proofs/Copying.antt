@@ -8,7 +8,7 @@ use Rattle.wp_model.specs.Legal.{IsLegal, undone_last}
 use Rattle.wp_model.specs.Decision.{entry_version, IsCommittedAt, IsNewestCommitted, HasNoneCommitted}
 use Rattle.wp_model.specs.Versions.{version_at}
 use Rattle.wp_model.specs.Covered.{GivesStore, is_among, IsCovered}
-use Rattle.wp_history.proofs.NewestVersion.{one_or_none, newest_is_value, none_is_no_value}
+use Rattle.wp_history_laws.proofs.NewestVersion.{one_or_none, newest_is_value, none_is_no_value}
 use Rattle.wp_cuts.specs.Cut.{cut_at}
 use Rattle.wp_cuts.specs.Copied.{AreNewest}
 use Rattle.wp_cuts.specs.Reopened.{IsReopened}

@@ -8,7 +8,7 @@ use Rattle.wp_model.specs.declared.entry.Entry.TheVariants.{Write, Prepare, Comm
 use Rattle.wp_model.specs.History.{entry_at, is_prepare, decides, is_undecided}
 use Rattle.wp_model.specs.Decision.{version_in, entry_version, decision_in, decision_of, is_by, is_committed, IsCommittedAt}
 use Rattle.wp_model.proofs.Entries.{entry_at_old}
-use Rattle.wp_history.proofs.Counting.{committed_from, decided_any}
+use Rattle.wp_history_laws.proofs.Counting.{committed_from, decided_any}
 
 -- ---- what is behind
 
@@ -71,11 +71,11 @@ counts_in history p (Some (Commit q)) key value decided there = absurd cc
 counts_in history p (Some (Undo q batch)) key value decided there = refl
 counts_in history p (Some (Close q)) key value decided there = absurd cc
 
-pub settled_counts : (front more : List Entry) (key : List ℕ) (p : ℕ) (value : Option (List ℕ)) → p ≤ length front → is_undecided front p ≡ false → entry_version (front ++ more) p key ≡ Some value → IsCommittedAt (front ++ more) p (length front)
-settled_counts front more key p value le decided there =
+pub fixed_counts : (front more : List Entry) (key : List ℕ) (p : ℕ) (value : Option (List ℕ)) → p ≤ length front → is_undecided front p ≡ false → entry_version (front ++ more) p key ≡ Some value → IsCommittedAt (front ++ more) p (length front)
+fixed_counts front more key p value le decided there =
     committed_from front more p (counts_in front p (entry_at front p) key value decided (ap (λ (at : Option Entry). version_in at key) (sym (entry_at_old front more p le)) ∙ there))
 
-pub settled_is_committed : (front more : List Entry) (key : List ℕ) (p n : ℕ) (value : Option (List ℕ)) → p ≤ length front → length front ≤ n → is_undecided front p ≡ false → entry_version (front ++ more) p key ≡ Some value → is_committed (front ++ more) p n ≡ true
-settled_is_committed front more key p n value le above decided there =
-    let at = settled_counts front more key p value le decided there in
+pub fixed_is_committed : (front more : List Entry) (key : List ℕ) (p n : ℕ) (value : Option (List ℕ)) → p ≤ length front → length front ≤ n → is_undecided front p ≡ false → entry_version (front ++ more) p key ≡ Some value → is_committed (front ++ more) p n ≡ true
+fixed_is_committed front more key p n value le above decided there =
+    let at = fixed_counts front more key p value le decided there in
     by_committed (front ++ more) p n (record { by = at.by; decided = at.decided; within = omega (arith, at.within) })

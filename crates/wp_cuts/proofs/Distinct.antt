@@ -9,10 +9,10 @@ use Rattle.wp_model.specs.declared.entry.Entry.TheVariants.{Write, Prepare, Comm
 use Rattle.wp_model.specs.History.{entry_at, is_prepare, prepared_name, prepared_batch, name_at, batch_at, decides, is_undecided, undecided, named, is_changed}
 use Rattle.wp_model.specs.Legal.{KeysAreFree, IsLegalNext, AreLegal}
 use Rattle.wp_model.proofs.Entries.{entry_at_old, undecided_prepared, undecided_within}
-use Rattle.wp_history.proofs.Growth.{entry_at_next, length_next}
-use Rattle.wp_history.proofs.Undecided.{is_undecided_by_list, undecided_old}
-use Rattle.wp_history.proofs.Held.{not_free, free_key}
-use Rattle.wp_history.proofs.Following.{by_following}
+use Rattle.wp_history_laws.proofs.Growth.{entry_at_next, length_next}
+use Rattle.wp_history_laws.proofs.Undecided.{is_undecided_by_list, undecided_old}
+use Rattle.wp_history_laws.proofs.Held.{not_free, free_key}
+use Rattle.wp_history_laws.proofs.Following.{by_following}
 
 pub record AreDistinct (history : List Entry) : Type 0 where
   pub names : (p q : ℕ) → is_undecided history p ≡ true → is_undecided history q ≡ true → name_at history p ≡ name_at history q → p ≡ q

@@ -9,9 +9,9 @@ use Rattle.wp_model.specs.History.{entry_at, is_prepare, decides, is_undecided, 
 use Rattle.wp_model.specs.Flushed.{versions_after, later_versions}
 use Rattle.wp_model.specs.Legal.{NamesUndecided}
 use Rattle.wp_model.proofs.Entries.{entry_at_old, undecided_within}
-use Rattle.wp_history.proofs.Growth.{AreNaming}
-use Rattle.wp_history.proofs.Following.{follow_take}
-use Rattle.wp_history.proofs.Undecided.{is_undecided_by_list}
+use Rattle.wp_history_laws.proofs.Growth.{AreNaming}
+use Rattle.wp_history_laws.proofs.Following.{follow_take}
+use Rattle.wp_history_laws.proofs.Undecided.{is_undecided_by_list}
 use Rattle.wp_cuts.specs.Cut.{Cut, IsCut}
 use Rattle.wp_cuts.specs.Agree.{HaveSameValues, AgreeFrom, TellAlike}
 use Rattle.wp_cuts.specs.LegalCut.{cut_front}

@@ -16,9 +16,9 @@ use Rattle.wp_model.specs.Legal.{NamesUndecided, RestoresPrior, AreFree, IsOrder
 use Rattle.wp_model.specs.Versions.{AreInOrder, version_at}
 use Rattle.wp_model.proofs.Entries.{slice_get_old}
 use Rattle.wp_model.proofs.Found.{found_holder, found_named}
-use Rattle.wp_history.proofs.Held.{not_free, free_key}
-use Rattle.wp_history.proofs.Following.{Follow, follows, follow_front, follow_take, follow_next}
-use Rattle.wp_history.proofs.Growth.{AreNaming}
+use Rattle.wp_history_laws.proofs.Held.{not_free, free_key}
+use Rattle.wp_history_laws.proofs.Following.{Follow, follows, follow_front, follow_take, follow_next}
+use Rattle.wp_history_laws.proofs.Growth.{AreNaming}
 use Rattle.wp_cuts.specs.Cut.{Cut, carried_at, is_carried, base_value, changes_at, front_entry_of, front_entry, full_of}
 use Rattle.wp_cuts.specs.LegalCut.{AreNumbered, AreApart, cut_front, prepares_of, IsOrderlyCut, IsLegalCut, AreBelow}
 use Rattle.wp_cuts.proofs.Alike.{alike_back, names_alike, orderly_alike}
@@ -26,7 +26,7 @@ use Rattle.wp_cuts.proofs.Decided.{slice_get_behind}
 use Rattle.wp_cuts.proofs.Agreeing.{take_behind}
 use Rattle.wp_cuts.proofs.Rows.{start_names}
 use Rattle.wp_cuts.proofs.Versions.{changes_to, changes_ascend}
-use Rattle.wp_cuts.proofs.FullList.{front, full_is, starts, front_long, front_at, front_undone, front_take, numbered_low, carried_in, carried_undecided, carried_entry, full_is_cut, full_value, settled_from, settled_parts}
+use Rattle.wp_cuts.proofs.FullList.{front, full_is, starts, front_long, front_at, front_undone, front_take, numbered_low, carried_in, carried_undecided, carried_entry, full_is_cut, full_value, fixed_from, fixed_parts}
 use Rattle.wp_cuts.proofs.Standing.{StandsFor, stands_for, restores_to}
 use Rattle.wp_cuts.proofs.LegalCuts.{cut_is_legal}
 
@@ -101,7 +101,7 @@ module _ (c : Cut) (versions : List Version) (order : AreInOrder versions) (belo
     where
       at : (key : List ℕ) (p : ℕ) (x : Carried) (o : Option (Option (List ℕ))) → version_at versions key (suc n) ≡ o → is_some (version_at versions key (suc n)) ≡ true → carried_at c p ≡ Some x → is_changed x.batch key ≡ true → suc n < p
       at key p x None is some found held = let none : is_some (version_at versions key (suc n)) ≡ false = ap is_some is in absurd cc
-      at key p x (Some value) is some found held = below key (suc n) p value x is (settled_from c (suc n) (omega arith) (omega arith) other) found held
+      at key p x (Some value) is some found held = below key (suc n) p value x is (fixed_from c (suc n) (omega arith) (omega arith) other) found held
 
   prepare_free : (n : ℕ) (x : Carried) → carried_at c (suc n) ≡ Some x → AreFree (front c versions n) x.batch
   prepare_free n x found = free_from (front c versions n) x.batch (λ key changed. unheld (front c versions n) key (λ p undecided held.
@@ -233,12 +233,12 @@ front_follows Next c versions n lt each =
     (all n (front_entry c versions (suc n)) (slice_get_old (front c versions c.base) c.entries n (omega (arith, long)) ∙ front_at c versions c.base (suc n) (omega arith) (omega arith)))
 
 pub full_is_below : (c : Cut) (versions : List Version) → AreNumbered c → IsLegal (full_of c versions) → AreBelow c versions
-full_is_below c versions numbered legal key q p value x there settled found changed =
+full_is_below c versions numbered legal key q p value x there fixed found changed =
     elim (cases_order q p) [
-      | inl same ↦ let no = (settled_parts c q settled).other in let yes : is_carried c q ≡ true = ap (is_carried c) same ∙ ap is_some found in absurd cc
+      | inl same ↦ let no = (fixed_parts c q fixed).other in let yes : is_carried c q ≡ true = ap (is_carried c) same ∙ ap is_some found in absurd cc
       | inr apart ↦ elim apart [
         | inl lt ↦ lt
-        | inr above ↦ absurd (not_above q (settled_parts c q settled).low (settled_parts c q settled).within (settled_parts c q settled).other there above)
+        | inr above ↦ absurd (not_above q (fixed_parts c q fixed).low (fixed_parts c q fixed).within (fixed_parts c q fixed).other there above)
       ]
     ]
   where

@@ -13,9 +13,9 @@ use Rattle.wp_model.specs.History.{entry_at, is_prepare, prepared_name, prepared
 use Rattle.wp_model.specs.Legal.{undone_last}
 use Rattle.wp_model.specs.Versions.{AreInOrder, version_at}
 use Rattle.wp_model.proofs.Entries.{entry_at_old, undecided_within}
-use Rattle.wp_history.specs.Growth.{AreAscending}
-use Rattle.wp_history.proofs.Growth.{AreNaming}
-use Rattle.wp_cuts.specs.Cut.{Cut, carried_from, carried_of, IsCut, carried_at, is_carried, is_settled, value_in, base_value, is_start, front_entry_of, front_entry, full_of}
+use Rattle.wp_history_laws.specs.Growth.{AreAscending}
+use Rattle.wp_history_laws.proofs.Growth.{AreNaming}
+use Rattle.wp_cuts.specs.Cut.{Cut, carried_from, carried_of, IsCut, carried_at, is_carried, is_fixed, value_in, base_value, is_start, front_entry_of, front_entry, full_of}
 use Rattle.wp_cuts.specs.LegalCut.{AreNumbered}
 use Rattle.wp_cuts.proofs.Decided.{entry_at_behind}
 use Rattle.wp_cuts.proofs.Rows.{rows, rows_long, rows_at, rows_take, rows_undecided, rows_undone, rows_naming, rows_newest}
@@ -107,21 +107,21 @@ low_in base (y ∷ ys) p x within e = by (y.number == p) refl e (low_in base ys 
 pub numbered_low : (c : Cut) (p : ℕ) (x : Carried) → AreNumbered c → carried_at c p ≡ Some x → 1 ≤ p
 numbered_low c p x numbered found = low_in c.base c.carried p x numbered.within found
 
--- ---- settled numbers
+-- ---- fixed numbers
 
-pub record Settled (c : Cut) (p : ℕ) : Type 0 where
+pub record Fixed (c : Cut) (p : ℕ) : Type 0 where
   pub low : 1 ≤ p
   pub within : p ≤ c.base
   pub other : is_carried c p ≡ false
 
-pub settled_parts : (c : Cut) (p : ℕ) → is_settled c p ≡ true → Settled c p
-settled_parts c p h =
+pub fixed_parts : (c : Cut) (p : ℕ) → is_fixed c p ≡ true → Fixed c p
+fixed_parts c p h =
     let parts = and_parts (nat_le 1 p) (nat_le p c.base && not (is_carried c p)) h in
     let more = and_parts (nat_le p c.base) (not (is_carried c p)) parts.1 in
     record { low = leb-true 1 p parts.0; within = leb-true p c.base more.0; other = not-true (is_carried c p) more.1 }
 
-pub settled_from : (c : Cut) (p : ℕ) → 1 ≤ p → p ≤ c.base → is_carried c p ≡ false → is_settled c p ≡ true
-settled_from c p low within other =
+pub fixed_from : (c : Cut) (p : ℕ) → 1 ≤ p → p ≤ c.base → is_carried c p ≡ false → is_fixed c p ≡ true
+fixed_from c p low within other =
     and_from (nat_le 1 p) (nat_le p c.base && not (is_carried c p)) (le-leb 1 p low)
     (and_from (nat_le p c.base) (not (is_carried c p)) (le-leb p c.base within) (not_from_false (is_carried c p) other))
 
@@ -245,22 +245,22 @@ module _ (c : Cut) (versions : List Version) where
       rows_newest (front_entry c versions) starts n key
       ∙ ap (λ (change : Option (Option (List ℕ))). unwrap_or change (newest (front n) key)) (front_change key (front n) (suc n) (carried_at c (suc n)))
 
-  quiet : (key : List ℕ) (n : ℕ) → suc n ≤ c.base → (is_settled c (suc n) ≡ true → version_at versions key (suc n) ≡ None) → newest (front (suc n)) key ≡ newest (front n) key
+  quiet : (key : List ℕ) (n : ℕ) → suc n ≤ c.base → (is_fixed c (suc n) ≡ true → version_at versions key (suc n) ≡ None) → newest (front (suc n)) key ≡ newest (front n) key
   quiet key n within none = value_step key n ∙ by (is_carried c (suc n)) refl
     where
       by : (b : Bool) → is_carried c (suc n) ≡ b → unwrap_or (cond b None (version_at versions key (suc n))) (newest (front n) key) ≡ newest (front n) key
       by true e = refl
-      by false e = rw (none (settled_from c (suc n) (omega arith) within e)) refl
+      by false e = rw (none (fixed_from c (suc n) (omega arith) within e)) refl
 
-  value_none : (key : List ℕ) (n : ℕ) → n ≤ c.base → NonePassing (is_settled c) key versions → newest (front n) key ≡ None
+  value_none : (key : List ℕ) (n : ℕ) → n ≤ c.base → NonePassing (is_fixed c) key versions → newest (front n) key ≡ None
   value_none key zero le none = refl
   value_none key (suc n) le none = quiet key n le (none (suc n)) ∙ value_none key n (omega arith) none
 
-  value_some : (key : List ℕ) (n number : ℕ) (value : Option (List ℕ)) → number ≤ n → n ≤ c.base → IsNewestPassing (is_settled c) key versions number value → newest (front n) key ≡ value
-  value_some key zero number value above le v = let s = settled_parts c number v.passing in let low = s.low in absurd (omega (arith, low))
+  value_some : (key : List ℕ) (n number : ℕ) (value : Option (List ℕ)) → number ≤ n → n ≤ c.base → IsNewestPassing (is_fixed c) key versions number value → newest (front n) key ≡ value
+  value_some key zero number value above le v = let s = fixed_parts c number v.passing in let low = s.low in absurd (omega (arith, low))
   value_some key (suc n) number value above le v = elim (cases_eq number (suc n)) [
     | inl here ↦
-        let s = settled_parts c number v.passing in
+        let s = fixed_parts c number v.passing in
         let free : is_carried c (suc n) ≡ false = ap (is_carried c) (sym here) ∙ s.other in
         let there : version_at versions key (suc n) ≡ Some value = ap (version_at versions key) (sym here) ∙ v.there in
         value_step key n ∙ rw (free, there) refl
@@ -268,23 +268,23 @@ module _ (c : Cut) (versions : List Version) where
   ]
 
   pub front_value : (key : List ℕ) → AreInOrder versions → newest (front c.base) key ≡ base_value c versions key
-  front_value key order = by (newest_passing (is_settled c) key versions) refl
+  front_value key order = by (newest_passing (is_fixed c) key versions) refl
     where
-      by : (o : Option Version) → newest_passing (is_settled c) key versions ≡ o → newest (front c.base) key ≡ value_in o
-      by None e = value_none key c.base (omega arith) (found_none (is_settled c) key versions e)
+      by : (o : Option Version) → newest_passing (is_fixed c) key versions ≡ o → newest (front c.base) key ≡ value_in o
+      by None e = value_none key c.base (omega arith) (found_none (is_fixed c) key versions e)
       by (Some v) e =
-          let it = found_some (is_settled c) key versions v order e in
-          let s = settled_parts c v.number it.passing in
+          let it = found_some (is_fixed c) key versions v order e in
+          let s = fixed_parts c v.number it.passing in
           value_some key c.base v.number v.value s.within (omega arith) it
 
   pub full_value : (key : List ℕ) → AreNumbered c → AreInOrder versions → value_at (full_of c versions) key c.base ≡ base_value c versions key
   full_value key numbered order = ap (λ (h : List Entry). newest h key) (take_front numbered) ∙ front_value key order
 
-  -- what is known to be the newest settled one, or that there is none, says what the base value is
-  pub base_newest : (key : List ℕ) (number : ℕ) (value : Option (List ℕ)) → AreInOrder versions → IsNewestPassing (is_settled c) key versions number value → base_value c versions key ≡ value
-  base_newest key number value order v = sym (front_value key order) ∙ value_some key c.base number value (settled_parts c number v.passing).within (omega arith) v
+  -- what is known to be the newest fixed one, or that there is none, says what the base value is
+  pub base_newest : (key : List ℕ) (number : ℕ) (value : Option (List ℕ)) → AreInOrder versions → IsNewestPassing (is_fixed c) key versions number value → base_value c versions key ≡ value
+  base_newest key number value order v = sym (front_value key order) ∙ value_some key c.base number value (fixed_parts c number v.passing).within (omega arith) v
 
-  pub base_none : (key : List ℕ) → AreInOrder versions → NonePassing (is_settled c) key versions → base_value c versions key ≡ None
+  pub base_none : (key : List ℕ) → AreInOrder versions → NonePassing (is_fixed c) key versions → base_value c versions key ≡ None
   base_none key order none = sym (front_value key order) ∙ value_none key c.base (omega arith) none
 
   -- ---- what is where in the whole

@@ -21,14 +21,14 @@ use Rattle.wp_model.specs.Flushed.{versions_under, versions_after, later_version
 use Rattle.wp_model.specs.Legal.{IsLegal, changes_in}
 use Rattle.wp_model.specs.Versions.{AreInOrder, version_cmp, version_at}
 use Rattle.wp_model.proofs.VersionLists.{IsBefore, in_order_parts}
-use Rattle.wp_history.proofs.Counting.{entry_version_old}
-use Rattle.wp_history.proofs.Above.{undecided_version}
-use Rattle.wp_cuts.specs.Cut.{Cut, IsCut, carried_at, is_settled}
+use Rattle.wp_history_laws.proofs.Counting.{entry_version_old}
+use Rattle.wp_history_laws.proofs.Above.{undecided_version}
+use Rattle.wp_cuts.specs.Cut.{Cut, IsCut, carried_at, is_fixed}
 use Rattle.wp_cuts.specs.Kept.{carried_versions, HasKeysAt, AreKept}
 use Rattle.wp_cuts.proofs.Agreeing.{cut_front_long, cut_whole}
-use Rattle.wp_cuts.proofs.FullList.{settled_parts, settled_from}
+use Rattle.wp_cuts.proofs.FullList.{fixed_parts, fixed_from}
 use Rattle.wp_cuts.proofs.LegalCuts.{carried_is}
-use Rattle.wp_cuts.proofs.Settled.{settled_committed, below}
+use Rattle.wp_cuts.proofs.Fixed.{fixed_committed, below}
 use Rattle.wp_cuts.proofs.Versions.{is_here, lesser_number}
 
 -- ---- places: a key and a number
@@ -170,22 +170,22 @@ module _ (history : List Entry) (c : Cut) (kept : List Version) (keys : List (Li
   none_some : (o : Found) (value : Option (List ℕ)) → o ≡ None → o ≡ Some value → ⊥
   none_some o value none some = absurd cc
 
-  at_base : (key : List ℕ) (p : ℕ) (value : Option (List ℕ)) → is_settled c p ≡ true → version_at kept key p ≡ Some value → IsCommittedAt history p c.base
-  at_base = settled_committed history c kept legal cut are.part
+  at_base : (key : List ℕ) (p : ℕ) (value : Option (List ℕ)) → is_fixed c p ≡ true → version_at kept key p ≡ Some value → IsCommittedAt history p c.base
+  at_base = fixed_committed history c kept legal cut are.part
 
   at_floor : (p : ℕ) → IsCommittedAt history p c.base → IsCommittedAt history p floor
   at_floor p at = record { by = at.by; decided = at.decided; within = let le = at.within in omega (arith, le, above) }
 
-  -- a settled one that is kept is the one that is found at the base
-  is_given : (key : List ℕ) (p : ℕ) (value : Option (List ℕ)) → is_settled c p ≡ true → version_at kept key p ≡ Some value → (g : GivesNewest kept history key c.base) → p ≡ g.number
-  is_given key p value settled there g = elim (cases_order p g.number) [
+  -- a fixed one that is kept is the one that is found at the base
+  is_given : (key : List ℕ) (p : ℕ) (value : Option (List ℕ)) → is_fixed c p ≡ true → version_at kept key p ≡ Some value → (g : GivesNewest kept history key c.base) → p ≡ g.number
+  is_given key p value fixed there g = elim (cases_order p g.number) [
     | inl same ↦ same
     | inr other ↦ elim other [
       | inl lt ↦
-          let n = are.newest key p value there (at_floor p (at_base key p value settled there)) in
+          let n = are.newest key p value there (at_floor p (at_base key p value fixed there)) in
           let from_base = n.from_base in let within = g.committed.within in
           absurd (none_some (version_at kept key g.number) g.value (n.newest g.number lt (record { by = g.committed.by; decided = g.committed.decided; within = omega (arith, within, from_base) })) g.there)
-      | inr gt ↦ absurd (none_some (version_at kept key p) value (g.newest p gt (at_base key p value settled there)) there)
+      | inr gt ↦ absurd (none_some (version_at kept key p) value (g.newest p gt (at_base key p value fixed there)) there)
     ]
   ]
 
@@ -196,12 +196,12 @@ module _ (history : List Entry) (c : Cut) (kept : List Version) (keys : List (Li
       by zero e = absurd cc
       by (suc n) e = omega arith
 
-  given : (key : List ℕ) (p : ℕ) (value : Option (List ℕ)) → is_settled c p ≡ true → version_at kept key p ≡ Some value → GivesNewest kept history key c.base
-  given key p value settled there = by (are.gives key)
+  given : (key : List ℕ) (p : ℕ) (value : Option (List ℕ)) → is_fixed c p ≡ true → version_at kept key p ≡ Some value → GivesNewest kept history key c.base
+  given key p value fixed there = by (are.gives key)
     where
       by : GivesStore kept history key c.base → GivesNewest kept history key c.base
       by (inl g) = g
-      by (inr g) = absurd (none_some (version_at kept key p) value (g.none p (at_base key p value settled there)) there)
+      by (inr g) = absurd (none_some (version_at kept key p) value (g.none p (at_base key p value fixed there)) there)
 
   -- what is carried has the version that its batch makes
   of_carried : (key : List ℕ) (p : ℕ) (value : Option (List ℕ)) (x : Carried) → p ≤ c.base → carried_at c p ≡ Some x → version_at kept key p ≡ Some value → change_to x.batch key ≡ Some value
@@ -214,30 +214,30 @@ module _ (history : List Entry) (c : Cut) (kept : List Version) (keys : List (Li
       ∙ ap (λ (h : List Entry). entry_version h p key) (sym (cut_whole history c cut))
       ∙ are.part key p value there
 
-  -- ---- a settled one is a value, whose key has it at the base
+  -- ---- a fixed one is a value, whose key has it at the base
 
-  not_deleted : (key : List ℕ) (p : ℕ) → is_settled c p ≡ true → version_at kept key p ≡ Some None → ⊥
-  not_deleted key p settled there =
-      let o = are.deletions key p there (at_floor p (at_base key p None settled there)) in
-      let within = (settled_parts c p settled).within in
+  not_deleted : (key : List ℕ) (p : ℕ) → is_fixed c p ≡ true → version_at kept key p ≡ Some None → ⊥
+  not_deleted key p fixed there =
+      let o = are.deletions key p there (at_floor p (at_base key p None fixed there)) in
+      let within = (fixed_parts c p fixed).within in
       let older = o.older in
       by (carried_at c o.number) o.number refl o.value o.there (omega (arith, older, within)) older
     where
       by : (x : Option Carried) (q : ℕ) → carried_at c q ≡ x → (value : Option (List ℕ)) → version_at kept key q ≡ Some value → q ≤ c.base → q < p → ⊥
       by (Some x) q found value its within older =
-          let lt = below history c kept legal cut are.part key p q None x there settled found (ap is_some (of_carried key q value x within found its)) in
+          let lt = below history c kept legal cut are.part key p q None x there fixed found (ap is_some (of_carried key q value x within found its)) in
           omega (arith, lt, older)
       by None q found value its within older =
-          let g = given key p None settled there in
-          let one = is_given key p None settled there g in
-          let too = is_given key q value (settled_from c q (low key q value its) within (ap is_some found)) its g in
+          let g = given key p None fixed there in
+          let one = is_given key p None fixed there g in
+          let too = is_given key q value (fixed_from c q (low key q value its) within (ap is_some found)) its g in
           omega (arith, one, too, older)
 
-  key_listed : (key : List ℕ) (p : ℕ) (value : Option (List ℕ)) → is_settled c p ≡ true → version_at kept key p ≡ Some value → list_any (λ k. bytes_eq k key) keys ≡ true
-  key_listed key p None settled there = absurd (not_deleted key p settled there)
-  key_listed key p (Some value) settled there =
-      let g = given key p (Some value) settled there in
-      let at : version_at kept key p ≡ Some g.value = ap (version_at kept key) (is_given key p (Some value) settled there g) ∙ g.there in
+  key_listed : (key : List ℕ) (p : ℕ) (value : Option (List ℕ)) → is_fixed c p ≡ true → version_at kept key p ≡ Some value → list_any (λ k. bytes_eq k key) keys ≡ true
+  key_listed key p None fixed there = absurd (not_deleted key p fixed there)
+  key_listed key p (Some value) fixed there =
+      let g = given key p (Some value) fixed there in
+      let at : version_at kept key p ≡ Some g.value = ap (version_at kept key) (is_given key p (Some value) fixed there g) ∙ g.there in
       let same : g.value ≡ Some value = cc in
       values key value (g.stored ∙ same)
 
@@ -246,9 +246,9 @@ module _ (history : List Entry) (c : Cut) (kept : List Version) (keys : List (Li
   abbrev base_versions : List (List ℕ) → List Version
   base_versions = map (λ key. record { key = key; number = 0; value = None })
 
-  -- a settled one goes to its key's place under no number
+  -- a fixed one goes to its key's place under no number
   abbrev place : Version → Version
-  place v = record v { number = cond (is_settled c v.number) 0 v.number }
+  place v = record v { number = cond (is_fixed c v.number) 0 v.number }
 
   abbrev counted : List Version
   counted = base_versions keys ++ (carried_versions c.carried ++ later_versions (take floor history) c.base)
@@ -262,26 +262,26 @@ module _ (history : List Entry) (c : Cut) (kept : List Version) (keys : List (Li
       by false is e rest = rw is (rest e)
 
   is_counted : (v : Version) → own kept v → has counted v.key (place v).number ≡ true
-  is_counted v there = by (is_settled c v.number) refl
+  is_counted v there = by (is_fixed c v.number) refl
     where
-      carried : (o : Option Carried) → carried_at c v.number ≡ o → is_settled c v.number ≡ false → v.number ≤ c.base → has (carried_versions c.carried ++ later_versions (take floor history) c.base) v.key v.number ≡ true
+      carried : (o : Option Carried) → carried_at c v.number ≡ o → is_fixed c v.number ≡ false → v.number ≤ c.base → has (carried_versions c.carried ++ later_versions (take floor history) c.base) v.key v.number ≡ true
       carried (Some x) found other within = has_left (carried_versions c.carried) (later_versions (take floor history) c.base) v.key v.number (has_carried c.carried v.number x v.key v.value found (of_carried v.key v.number v.value x within found there))
-      carried None found other within = let yes = settled_from c v.number (low v.key v.number v.value there) within (ap is_some found) in absurd cc
+      carried None found other within = let yes = fixed_from c v.number (low v.key v.number v.value there) within (ap is_some found) in absurd cc
 
-      by : (b : Bool) → is_settled c v.number ≡ b → has counted v.key (cond b 0 v.number) ≡ true
-      by true settled = has_left (base_versions keys) (carried_versions c.carried ++ later_versions (take floor history) c.base) v.key 0 (has_key keys v.key (key_listed v.key v.number v.value settled there))
+      by : (b : Bool) → is_fixed c v.number ≡ b → has counted v.key (cond b 0 v.number) ≡ true
+      by true fixed = has_left (base_versions keys) (carried_versions c.carried ++ later_versions (take floor history) c.base) v.key 0 (has_key keys v.key (key_listed v.key v.number v.value fixed there))
       by false other = has_right (base_versions keys) (carried_versions c.carried ++ later_versions (take floor history) c.base) v.key v.number (elim (cases_lt c.base v.number) [
         | inl behind ↦ has_right (carried_versions c.carried) (later_versions (take floor history) c.base) v.key v.number (has_later history c.base floor v.key v.number v.value behind (are.within v.key v.number v.value there) (are.part v.key v.number v.value there))
         | inr within ↦ carried (carried_at c v.number) refl other within
       ])
 
   one_place : (v w : Version) → own kept v → own kept w → AreAtOne (place v) (place w) → AreAtOne v w
-  one_place v w there also one = (one.0, by (is_settled c v.number) (is_settled c w.number) refl refl one.1)
+  one_place v w there also one = (one.0, by (is_fixed c v.number) (is_fixed c w.number) refl refl one.1)
     where
       here : version_at kept v.key w.number ≡ Some w.value
       here = ap (λ (key : List ℕ). version_at kept key w.number) (sym one.0) ∙ also
 
-      by : (a b : Bool) → is_settled c v.number ≡ a → is_settled c w.number ≡ b → cond b 0 w.number ≡ cond a 0 v.number → w.number ≡ v.number
+      by : (a b : Bool) → is_fixed c v.number ≡ a → is_fixed c w.number ≡ b → cond b 0 w.number ≡ cond a 0 v.number → w.number ≡ v.number
       by true true first second same =
           let g = given v.key v.number v.value first there in
           is_given v.key w.number w.value second here g ∙ sym (is_given v.key v.number v.value first there g)

@@ -11,9 +11,9 @@ use Rattle.wp_model.specs.Batch.{are_ascending}
 use Rattle.wp_model.specs.History.{entry_at, prepared_name, prepared_batch, batch_at, is_changed, is_undecided, undecided, value_at}
 use Rattle.wp_model.specs.Legal.{IsLegalNext, AreLegal, IsLegal}
 use Rattle.wp_model.proofs.Entries.{undecided_within, undecided_prepared}
-use Rattle.wp_history.proofs.Undecided.{is_undecided_by_list}
-use Rattle.wp_history.proofs.Following.{follow_take}
-use Rattle.wp_history.proofs.Growth.{legal_naming}
+use Rattle.wp_history_laws.proofs.Undecided.{is_undecided_by_list}
+use Rattle.wp_history_laws.proofs.Following.{follow_take}
+use Rattle.wp_history_laws.proofs.Growth.{legal_naming}
 use Rattle.wp_cuts.specs.Cut.{Cut, carried_from, IsCut, carried_at}
 use Rattle.wp_cuts.specs.LegalCut.{AreApart, cut_front, IsLegalCut}
 use Rattle.wp_cuts.proofs.Decided.{slice_get_behind}

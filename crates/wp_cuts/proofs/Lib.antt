@@ -9,7 +9,7 @@ pub mod Standing
 pub mod Distinct
 pub mod LegalCuts
 pub mod FullLegal
-pub mod Settled
+pub mod Fixed
 pub mod Reopening
 pub mod Copying
 pub mod Keeping

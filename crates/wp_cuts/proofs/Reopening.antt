@@ -11,20 +11,20 @@ use Rattle.wp_model.specs.Legal.{IsLegal, undone_last}
 use Rattle.wp_model.specs.Decision.{version_in, entry_version, decision_of, is_by, is_committed, IsCommittedAt}
 use Rattle.wp_model.specs.Versions.{AreInOrder, version_at}
 use Rattle.wp_model.specs.Covered.{GivesStore, IsCovered}
-use Rattle.wp_history.proofs.Counting.{entry_version_old}
-use Rattle.wp_history.proofs.Growth.{legal_naming}
-use Rattle.wp_cuts.specs.Cut.{Cut, IsCut, carried_at, is_carried, is_settled, base_value, front_entry_of, full_of}
+use Rattle.wp_history_laws.proofs.Counting.{entry_version_old}
+use Rattle.wp_history_laws.proofs.Growth.{legal_naming}
+use Rattle.wp_cuts.specs.Cut.{Cut, IsCut, carried_at, is_carried, is_fixed, base_value, front_entry_of, full_of}
 use Rattle.wp_cuts.specs.LegalCut.{AreNumbered, IsLegalCut}
 use Rattle.wp_cuts.specs.Agree.{AgreeFrom}
 use Rattle.wp_cuts.specs.Reopened.{AreFromBase, IsReopened}
 use Rattle.wp_cuts.proofs.Decided.{by_committed}
 use Rattle.wp_cuts.proofs.Agreeing.{cuts_agree}
 use Rattle.wp_cuts.proofs.Versions.{changes_to}
-use Rattle.wp_cuts.proofs.FullList.{settled_parts, settled_from, front, full_is, front_long, front_at, full_is_cut, full_value, base_newest, base_none}
+use Rattle.wp_cuts.proofs.FullList.{fixed_parts, fixed_from, front, full_is, front_long, front_at, full_is_cut, full_value, base_newest, base_none}
 use Rattle.wp_cuts.proofs.Standing.{cut_numbered, stands_for}
 use Rattle.wp_cuts.proofs.LegalCuts.{cut_is_legal}
 use Rattle.wp_cuts.proofs.FullLegal.{full_is_legal}
-use Rattle.wp_cuts.proofs.Settled.{is_carried_is, settled_committed, committed_settled, below}
+use Rattle.wp_cuts.proofs.Fixed.{is_carried_is, fixed_committed, committed_fixed, below}
 
 -- ---- what is committed
 
@@ -48,12 +48,12 @@ module _ (history : List Entry) (c : Cut) (versions : List Version) (legal : IsL
   module _ (numbers : List ℕ) (from : ℕ) (far : AreFromBase history c.base numbers from) (covered : IsCovered versions history numbers from) where
     -- ---- the values at the base
 
-    none_settled : (key : List ℕ) (q : ℕ) → is_settled c q ≡ true → (IsCommittedAt history q c.base → version_at versions key q ≡ None) → version_at versions key q ≡ None
-    none_settled key q settled none = by (version_at versions key q) refl
+    none_fixed : (key : List ℕ) (q : ℕ) → is_fixed c q ≡ true → (IsCommittedAt history q c.base → version_at versions key q ≡ None) → version_at versions key q ≡ None
+    none_fixed key q fixed none = by (version_at versions key q) refl
       where
         by : (o : Option (Option (List ℕ))) → version_at versions key q ≡ o → version_at versions key q ≡ None
         by None e = e
-        by (Some value) e = none (settled_committed history c versions legal cut covered.part key q value settled e)
+        by (Some value) e = none (fixed_committed history c versions legal cut covered.part key q value fixed e)
 
     base_is : (key : List ℕ) → value_at history key c.base ≡ base_value c versions key
     base_is key = by (covered.listed key c.base far.listed)
@@ -61,11 +61,11 @@ module _ (history : List Entry) (c : Cut) (versions : List Version) (legal : IsL
         by : GivesStore versions history key c.base → value_at history key c.base ≡ base_value c versions key
         by (inl g) =
             g.stored ∙ sym (base_newest c versions key g.number g.value order (record {
-              passing = committed_settled history c versions legal cut covered.part key g.number g.value g.there g.committed;
+              passing = committed_fixed history c versions legal cut covered.part key g.number g.value g.there g.committed;
               there = g.there;
-              newest = λ q lt settled. none_settled key q settled (g.newest q lt);
+              newest = λ q lt fixed. none_fixed key q fixed (g.newest q lt);
             }))
-        by (inr g) = g.missing ∙ sym (base_none c versions key order (λ q settled. none_settled key q settled (g.none q)))
+        by (inr g) = g.missing ∙ sym (base_none c versions key order (λ q fixed. none_fixed key q fixed (g.none q)))
 
     -- ---- the full list
 
@@ -79,9 +79,9 @@ module _ (history : List Entry) (c : Cut) (versions : List Version) (legal : IsL
     agree = cuts_agree history full c (legal_naming history legal.each) (legal_naming full full_legal.each) cut (full_is_cut c versions numbered) (λ key. base_is key ∙ sym (full_value c versions key numbered order))
 
     -- what the versions have the full list has
-    settled_version : (key : List ℕ) (p : ℕ) → is_settled c p ≡ true → entry_version full p key ≡ version_at versions key p
-    settled_version key p settled =
-        let s = settled_parts c p settled in
+    fixed_version : (key : List ℕ) (p : ℕ) → is_fixed c p ≡ true → entry_version full p key ≡ version_at versions key p
+    fixed_version key p fixed =
+        let s = fixed_parts c p fixed in
         let within = s.within in
         ap (λ (h : List Entry). entry_version h p key) (full_is c versions)
         ∙ entry_version_old (front c versions c.base) c.entries p key (omega (arith, within, front_long c versions c.base))
@@ -97,7 +97,7 @@ module _ (history : List Entry) (c : Cut) (versions : List Version) (legal : IsL
       | inl behind ↦ ap (λ (o : Option Entry). version_in o key) (sym (agree.entries p behind)) ∙ covered.part key p value there
       | inr le ↦ elim (cases_Bool (is_carried c p)) [
         | inl carried ↦ ap (λ (o : Option Entry). version_in o key) (sym (agree.carried p (sym (is_carried_is history c versions legal cut covered.part p) ∙ carried))) ∙ covered.part key p value there
-        | inr other ↦ settled_version key p (settled_from c p (low p (covered.part key p value there)) le other) ∙ there
+        | inr other ↦ fixed_version key p (fixed_from c p (low p (covered.part key p value there)) le other) ∙ there
       ]
     ]
       where

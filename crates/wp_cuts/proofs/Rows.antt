@@ -7,11 +7,11 @@ use Rattle.wp_model.specs.declared.entry.Entry.{Entry}
 use Rattle.wp_model.specs.declared.entry.Entry.TheVariants.{Write, Prepare, Commit, Undo, Close}
 use Rattle.wp_model.specs.History.{entry_at, is_prepare, decides, is_undecided, value_after, newest}
 use Rattle.wp_model.specs.Legal.{NamesUndecided, UndoIsClosed, undone_last}
-use Rattle.wp_history.specs.Growth.{undone_by}
-use Rattle.wp_history.proofs.Undone.{undone_next}
-use Rattle.wp_history.proofs.Following.{follow_none, follow_next}
-use Rattle.wp_history.proofs.Growth.{AreNaming}
-use Rattle.wp_history.proofs.Newest.{newest_next}
+use Rattle.wp_history_laws.specs.Growth.{undone_by}
+use Rattle.wp_history_laws.proofs.Undone.{undone_next}
+use Rattle.wp_history_laws.proofs.Following.{follow_none, follow_next}
+use Rattle.wp_history_laws.proofs.Growth.{AreNaming}
+use Rattle.wp_history_laws.proofs.Newest.{newest_next}
 use Rattle.wp_cuts.specs.Cut.{is_start}
 
 pub start_names : (before : List Entry) (entry : Entry) → is_start entry ≡ true → NamesUndecided before entry

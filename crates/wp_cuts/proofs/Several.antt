@@ -3,8 +3,8 @@ use Rattle.std.proofs.Common.{◌≡◌, ℕ, zero, suc, List, [], ◌∷◌, �
 use Rattle.wp_model.specs.declared.entry.Entry.{Entry}
 use Rattle.wp_model.specs.declared.version.Version.{Version}
 use Rattle.wp_model.specs.Legal.{NamesUndecided, IsOrderlyNext}
-use Rattle.wp_history.proofs.Following.{follow_next}
-use Rattle.wp_history.proofs.Growth.{AreNaming}
+use Rattle.wp_history_laws.proofs.Following.{follow_next}
+use Rattle.wp_history_laws.proofs.Growth.{AreNaming}
 use Rattle.wp_cuts.specs.Cut.{Cut, IsCut, full_of}
 use Rattle.wp_cuts.specs.LegalCut.{prepares_of, AreOrderlyBehind}
 use Rattle.wp_cuts.proofs.Alike.{AreAlike, alike_back, alike_behind, orderly_alike}

@@ -13,10 +13,10 @@ use Rattle.wp_model.specs.Batch.{key_of, change_to}
 use Rattle.wp_model.specs.History.{prepared_batch, batch_at, is_undecided, undecided, value_after, value_at, newest}
 use Rattle.wp_model.specs.Legal.{NamesUndecided, RestoresPrior, change_that_leaves, prior, IsOrderlyNext}
 use Rattle.wp_model.proofs.Entries.{undecided_within}
-use Rattle.wp_history.specs.Growth.{AreAscending}
-use Rattle.wp_history.proofs.Following.{follow_front, follows, follow_next, follow_take}
-use Rattle.wp_history.proofs.Growth.{AreNaming}
-use Rattle.wp_history.proofs.Newest.{newest_next, changes_stay}
+use Rattle.wp_history_laws.specs.Growth.{AreAscending}
+use Rattle.wp_history_laws.proofs.Following.{follow_front, follows, follow_next, follow_take}
+use Rattle.wp_history_laws.proofs.Growth.{AreNaming}
+use Rattle.wp_history_laws.proofs.Newest.{newest_next, changes_stay}
 use Rattle.wp_cuts.specs.Cut.{Cut, carried_from, IsCut, full_of}
 use Rattle.wp_cuts.specs.LegalCut.{AreNumbered, cut_front, prepares_of, value_behind, RestoresBehind}
 use Rattle.wp_cuts.proofs.Alike.{AreAlike, alike_back, alike_next, alike_behind, names_alike, changes_alike, orderly_alike}

@@ -9,7 +9,7 @@ use Rattle.wp_model.specs.declared.version.Version.{Version}
 use Rattle.wp_model.specs.Covered.{GivesNewest, GivesStore, is_among}
 use Rattle.wp_model.specs.Decision.{IsCommittedAt}
 use Rattle.wp_model.specs.Versions.{AreInOrder, version_at}
-use Rattle.wp_keep.specs.Keep.{has_newer, stays, staying, is_settled_deletion, remains, retained_of}
+use Rattle.wp_keep.specs.Keep.{has_newer, stays, staying, is_fixed_deletion, remains, retained_of}
 use Rattle.wp_keep.specs.MayGo.{DecidesAt, MayGo}
 use Rattle.wp_cuts.specs.Kept.{IsNewestFrom, HasOlder, AreKept, StayFrom}
 use Rattle.wp_cuts.proofs.Members.{version, in_any, any_in, at_in, in_at, some_order, at_some, some_at}
@@ -124,26 +124,26 @@ module _ (committed : ℕ → ℕ → Bool) (history : List Entry) (newer versio
   -- ---- a deletion has an older one
 
   abbrev older_passes : List ℕ → ℕ → Version → Bool
-  older_passes key p w = bytes_eq w.key key && (nat_le w.number p && not (is_settled_deletion committed floor w))
+  older_passes key p w = bytes_eq w.key key && (nat_le w.number p && not (is_fixed_deletion committed floor w))
 
-  older_from : (key : List ℕ) (p q : ℕ) (value : Option (List ℕ)) → q ≤ p → is_settled_deletion committed floor (version key q value) ≡ false → older_passes key p (version key q value) ≡ true
+  older_from : (key : List ℕ) (p q : ℕ) (value : Option (List ℕ)) → q ≤ p → is_fixed_deletion committed floor (version key q value) ≡ false → older_passes key p (version key q value) ≡ true
   older_from key p q value le says =
-      and_from (bytes_eq key key) (nat_le q p && not (is_settled_deletion committed floor (version key q value))) (key_itself key)
-      (and_from (nat_le q p) (not (is_settled_deletion committed floor (version key q value))) (le-leb q p le) (not_from_false (is_settled_deletion committed floor (version key q value)) says))
+      and_from (bytes_eq key key) (nat_le q p && not (is_fixed_deletion committed floor (version key q value))) (key_itself key)
+      (and_from (nat_le q p) (not (is_fixed_deletion committed floor (version key q value))) (le-leb q p le) (not_from_false (is_fixed_deletion committed floor (version key q value)) says))
 
-  -- what stays and is no settled deletion remains
-  remains_itself : (key : List ℕ) (p : ℕ) (value : Option (List ℕ)) → version_at stayed key p ≡ Some value → is_settled_deletion committed floor (version key p value) ≡ false → version_at kept key p ≡ Some value
+  -- what stays and is no fixed deletion remains
+  remains_itself : (key : List ℕ) (p : ℕ) (value : Option (List ℕ)) → version_at stayed key p ≡ Some value → is_fixed_deletion committed floor (version key p value) ≡ false → version_at kept key p ≡ Some value
   remains_itself key p value e says =
       at_some remains_test stayed stayed_order key p value e (in_any (older_passes key p) stayed (version key p value) (at_in stayed key p value e) (older_from key p p value (omega arith) says))
 
   deletions : (key : List ℕ) (p : ℕ) → version_at kept key p ≡ Some None → IsCommittedAt history p floor → HasOlder kept key p
   deletions key p there at =
       let it = any_in (older_passes key p) stayed (some_at remains_test stayed stayed_order key p None there).1 in
-      let parts = and_parts (bytes_eq it.found.key key) (nat_le it.found.number p && not (is_settled_deletion committed floor it.found)) it.passes in
-      let tests = and_parts (nat_le it.found.number p) (not (is_settled_deletion committed floor it.found)) parts.1 in
+      let parts = and_parts (bytes_eq it.found.key key) (nat_le it.found.number p && not (is_fixed_deletion committed floor it.found)) it.passes in
+      let tests = and_parts (nat_le it.found.number p) (not (is_fixed_deletion committed floor it.found)) parts.1 in
       let same : it.found.key ≡ key = (bytes_eq-Decides it.found.key key).0 parts.0 in
       let here : version_at stayed key it.found.number ≡ Some it.found.value = ap (λ (k : List ℕ). version_at stayed k it.found.number) (sym same) ∙ in_at stayed it.found stayed_order it.there in
-      let says : is_settled_deletion committed floor (version key it.found.number it.found.value) ≡ false = not-true (is_settled_deletion committed floor it.found) tests.1 in
+      let says : is_fixed_deletion committed floor (version key it.found.number it.found.value) ≡ false = not-true (is_fixed_deletion committed floor it.found) tests.1 in
       record {
         number = it.found.number;
         value = it.found.value;
@@ -184,11 +184,11 @@ module _ (committed : ℕ → ℕ → Bool) (history : List Entry) (newer versio
 
   older_more : (key : List ℕ) (p q : ℕ) → q ≤ p → (w : Version) → older_passes key q w ≡ true → older_passes key p w ≡ true
   older_more key p q le w h =
-      let parts = and_parts (bytes_eq w.key key) (nat_le w.number q && not (is_settled_deletion committed floor w)) h in
-      let tests = and_parts (nat_le w.number q) (not (is_settled_deletion committed floor w)) parts.1 in
+      let parts = and_parts (bytes_eq w.key key) (nat_le w.number q && not (is_fixed_deletion committed floor w)) h in
+      let tests = and_parts (nat_le w.number q) (not (is_fixed_deletion committed floor w)) parts.1 in
       let first = leb-true w.number q tests.0 in
-      and_from (bytes_eq w.key key) (nat_le w.number p && not (is_settled_deletion committed floor w)) parts.0
-      (and_from (nat_le w.number p) (not (is_settled_deletion committed floor w)) (le-leb w.number p (omega (arith, first, le))) tests.1)
+      and_from (bytes_eq w.key key) (nat_le w.number p && not (is_fixed_deletion committed floor w)) parts.0
+      (and_from (nat_le w.number p) (not (is_fixed_deletion committed floor w)) (le-leb w.number p (omega (arith, first, le))) tests.1)
 
   -- what remains as old lets this one remain too
   remains_above : (key : List ℕ) (p q : ℕ) (value other : Option (List ℕ)) → q ≤ p → version_at kept key q ≡ Some other → remains_test (version key p value) ≡ true
@@ -213,14 +213,14 @@ module _ (committed : ℕ → ℕ → Bool) (history : List Entry) (newer versio
           | inl above ↦ none_before key q (g.newest q above at)
           | inr le ↦ none_kept key q (λ x there. absurd (false≢true (sym is ∙ remains_above key g.number q g.value x le there)))
         ];
-        missing = g.stored ∙ deleted (is_settled_deletion committed floor (version key g.number g.value)) refl;
+        missing = g.stored ∙ deleted (is_fixed_deletion committed floor (version key g.number g.value)) refl;
       })
         where
           none_value : (o : Option (List ℕ)) → is_none o ≡ true → o ≡ None
           none_value None h = refl
           none_value (Some x) h = absurd cc
 
-          deleted : (b : Bool) → is_settled_deletion committed floor (version key g.number g.value) ≡ b → g.value ≡ None
+          deleted : (b : Bool) → is_fixed_deletion committed floor (version key g.number g.value) ≡ b → g.value ≡ None
           deleted true h = none_value g.value (and_parts (is_none g.value) (committed g.number floor) h).0
           deleted false h = absurd (false≢true (sym is ∙ in_any (older_passes key g.number) stayed (version key g.number g.value) (at_in stayed key g.number g.value (stays_at_base key g)) (older_from key g.number g.number g.value (omega arith) h)))
 

@@ -17,10 +17,10 @@ use Rattle.wp_model.specs.Flushed.{versions_under, versions_after, later_version
 use Rattle.wp_model.specs.Legal.{IsLegal, changes_in}
 use Rattle.wp_model.specs.Versions.{AreInOrder, version_at}
 use Rattle.wp_model.proofs.VersionLists.{or_cond}
-use Rattle.wp_history.proofs.Counting.{counts_from, counts_within}
-use Rattle.wp_cuts.specs.Cut.{Cut, is_settled, carried_at, value_in, base_value, change_in, changes_at, front_entry_of, front_entry, full_of}
+use Rattle.wp_history_laws.proofs.Counting.{counts_from, counts_within}
+use Rattle.wp_cuts.specs.Cut.{Cut, is_fixed, carried_at, value_in, base_value, change_in, changes_at, front_entry_of, front_entry, full_of}
 use Rattle.wp_cuts.specs.UpTo.{HaveSameUpTo}
-use Rattle.wp_cuts.proofs.FullList.{settled_parts, full_is, base_newest, base_none}
+use Rattle.wp_cuts.proofs.FullList.{fixed_parts, full_is, base_newest, base_none}
 use Rattle.wp_cuts.proofs.Versions.{newest_passing, found_none, found_some}
 
 -- ---- later versions
@@ -67,16 +67,16 @@ same_with_later base versions later above key p le =
 
 -- ---- the values at the base
 
-unsettled_above : (c : Cut) (p : ℕ) → c.base < p → is_settled c p ≡ false
-unsettled_above c p lt = rw (lt-leb p c.base lt) (no (nat_le 1 p))
+unfixed_above : (c : Cut) (p : ℕ) → c.base < p → is_fixed c p ≡ false
+unfixed_above c p lt = rw (lt-leb p c.base lt) (no (nat_le 1 p))
   where
     no : (b : Bool) → (b && false) ≡ false
     no true = refl
     no false = refl
 
-none_settled : (c : Cut) (key : List ℕ) (later : List Version) → AreAbove c.base later → newest_passing (is_settled c) key later ≡ None
-none_settled c key [] above = refl
-none_settled c key (v ∷ later) above = rw (unsettled_above c v.number above.0, none_settled c key later above.1) (skip (bytes_eq v.key key))
+none_fixed : (c : Cut) (key : List ℕ) (later : List Version) → AreAbove c.base later → newest_passing (is_fixed c) key later ≡ None
+none_fixed c key [] above = refl
+none_fixed c key (v ∷ later) above = rw (unfixed_above c v.number above.0, none_fixed c key later above.1) (skip (bytes_eq v.key key))
   where
     skip : (b : Bool) → let nothing : Option Version = None in cond (b && false) (Some v) nothing ≡ nothing
     skip true = refl
@@ -84,24 +84,24 @@ none_settled c key (v ∷ later) above = rw (unsettled_above c v.number above.0,
 
 pub value_with_later : (c : Cut) (versions later : List Version) (key : List ℕ) → AreAbove c.base later → base_value c (versions ++ later) key ≡ base_value c versions key
 value_with_later c versions later key above =
-    ap value_in (find-append (λ (v : Version). bytes_eq v.key key && is_settled c v.number) versions later
-    ∙ ap (option_or (newest_passing (is_settled c) key versions)) (none_settled c key later above)
-    ∙ or_none (newest_passing (is_settled c) key versions))
+    ap value_in (find-append (λ (v : Version). bytes_eq v.key key && is_fixed c v.number) versions later
+    ∙ ap (option_or (newest_passing (is_fixed c) key versions)) (none_fixed c key later above)
+    ∙ or_none (newest_passing (is_fixed c) key versions))
 
 pub value_by_same : (c : Cut) (one other : List Version) (key : List ℕ) → AreInOrder one → AreInOrder other → HaveSameUpTo c.base one other → base_value c one key ≡ base_value c other key
-value_by_same c one other key order also same = by (newest_passing (is_settled c) key one) refl
+value_by_same c one other key order also same = by (newest_passing (is_fixed c) key one) refl
   where
-    within : (q : ℕ) → is_settled c q ≡ true → version_at one key q ≡ version_at other key q
-    within q settled = let s = settled_parts c q settled in same key q s.within
+    within : (q : ℕ) → is_fixed c q ≡ true → version_at one key q ≡ version_at other key q
+    within q fixed = let s = fixed_parts c q fixed in same key q s.within
 
-    by : (o : Option Version) → newest_passing (is_settled c) key one ≡ o → base_value c one key ≡ base_value c other key
-    by None e = ap value_in e ∙ sym (base_none c other key also (λ q settled. sym (within q settled) ∙ found_none (is_settled c) key one e q settled))
+    by : (o : Option Version) → newest_passing (is_fixed c) key one ≡ o → base_value c one key ≡ base_value c other key
+    by None e = ap value_in e ∙ sym (base_none c other key also (λ q fixed. sym (within q fixed) ∙ found_none (is_fixed c) key one e q fixed))
     by (Some v) e =
-        let it = found_some (is_settled c) key one v order e in
+        let it = found_some (is_fixed c) key one v order e in
         ap value_in e ∙ sym (base_newest c other key v.number v.value also (record {
           passing = it.passing;
           there = sym (within v.number it.passing) ∙ it.there;
-          newest = λ q lt settled. sym (within q settled) ∙ it.newest q lt settled;
+          newest = λ q lt fixed. sym (within q fixed) ∙ it.newest q lt fixed;
         }))
 
 -- ---- the full list

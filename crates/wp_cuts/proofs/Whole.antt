@@ -8,10 +8,10 @@ use Rattle.wp_model.specs.declared.version.Version.{Version}
 use Rattle.wp_model.specs.History.{entry_at}
 use Rattle.wp_model.specs.Legal.{undone_last}
 use Rattle.wp_model.proofs.Entries.{entry_at_old}
-use Rattle.wp_cuts.specs.Cut.{Cut, carried_at, is_settled, changes_at, front_entry_of, full_of}
+use Rattle.wp_cuts.specs.Cut.{Cut, carried_at, is_fixed, changes_at, front_entry_of, full_of}
 use Rattle.wp_cuts.specs.LegalCut.{cut_front}
 use Rattle.wp_cuts.proofs.Agreeing.{take_behind, drop_behind}
-use Rattle.wp_cuts.proofs.FullList.{front, full_is, front_long, front_at, front_undone, settled_parts}
+use Rattle.wp_cuts.proofs.FullList.{front, full_is, front_long, front_at, front_undone, fixed_parts}
 
 -- ---- what is last
 
@@ -55,11 +55,11 @@ module _ (c : Cut) (versions : List Version) where
       ∙ drop_behind before c.entries n (omega (arith, above, long))
       ∙ ap (λ (m : ℕ). drop (n - m) c.entries) long
 
-  -- ---- a settled number
+  -- ---- a fixed number
 
-  pub full_settled : (p : ℕ) → is_settled c p ≡ true → entry_at (full_of c versions) p ≡ Some (Write (changes_at versions p))
-  full_settled p settled =
-      let s = settled_parts c p settled in
+  pub full_fixed : (p : ℕ) → is_fixed c p ≡ true → entry_at (full_of c versions) p ≡ Some (Write (changes_at versions p))
+  full_fixed p fixed =
+      let s = fixed_parts c p fixed in
       let within = s.within in
       ap (λ (h : List Entry). entry_at h p) (full_is c versions)
       ∙ entry_at_old (front c versions c.base) c.entries p (omega (arith, within, front_long c versions c.base))

@@ -44,16 +44,16 @@ abbrev pub is_carried : Cut → ℕ → Bool
 is_carried c p = is_some (carried_at c p)
 
 -- one of the numbers up to the base that is no carried prepare's
-abbrev pub is_settled : Cut → ℕ → Bool
-is_settled c p = nat_le 1 p && (nat_le p c.base && not (is_carried c p))
+abbrev pub is_fixed : Cut → ℕ → Bool
+is_fixed c p = nat_le 1 p && (nat_le p c.base && not (is_carried c p))
 
 abbrev pub value_in : Option Version → Option (List ℕ)
 value_in None = None
 value_in (Some v) = v.value
 
--- what a store's versions, which are in order, have under the key at the base: the value of the newest settled one
+-- what a store's versions, which are in order, have under the key at the base: the value of the newest fixed one
 abbrev pub base_value : Cut → List Version → List ℕ → Option (List ℕ)
-base_value c versions key = value_in (find (λ v. bytes_eq v.key key && is_settled c v.number) versions)
+base_value c versions key = value_in (find (λ v. bytes_eq v.key key && is_fixed c v.number) versions)
 
 -- ---- the full list
 

@@ -9,8 +9,8 @@ use Rattle.wp_model.specs.Batch.{key_of, are_ascending}
 use Rattle.wp_model.specs.History.{batch_at, is_changed, value_after}
 use Rattle.wp_model.specs.Legal.{change_that_leaves, IsOrderlyNext, log_end}
 use Rattle.wp_model.specs.Versions.{version_at}
-use Rattle.wp_history.specs.Growth.{AreAscending}
-use Rattle.wp_cuts.specs.Cut.{Cut, carried_at, is_settled, full_of}
+use Rattle.wp_history_laws.specs.Growth.{AreAscending}
+use Rattle.wp_cuts.specs.Cut.{Cut, carried_at, is_fixed, full_of}
 
 -- ---- what a base carries
 
@@ -59,9 +59,9 @@ pub record IsLegalCut (c : Cut) (values : List ℕ → Option (List ℕ)) : Type
   pub orderly : IsOrderlyCut c
   pub restores : (n : ℕ) (entry : Entry) → slice_get c.entries n ≡ Some entry → RestoresBehind (cut_front c n) values entry
 
--- a settled version of a carried prepare's key is below that prepare
+-- a fixed version of a carried prepare's key is below that prepare
 abbrev pub AreBelow : Cut → List Version → Type 0
-AreBelow c versions = (key : List ℕ) (q p : ℕ) (value : Option (List ℕ)) (x : Carried) → version_at versions key q ≡ Some value → is_settled c q ≡ true
+AreBelow c versions = (key : List ℕ) (q p : ℕ) (value : Option (List ℕ)) (x : Carried) → version_at versions key q ≡ Some value → is_fixed c q ≡ true
     → carried_at c p ≡ Some x → is_changed x.batch key ≡ true → q < p
 
 -- each of these entries is orderly behind a list and those of them that are before it

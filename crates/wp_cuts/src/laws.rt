@@ -13,7 +13,7 @@ ghost use Rattle.wp_keep.specs.Keep.{retained_of};
 ghost use Rattle.wp_keep.specs.MayGo.{MayGo};
 ghost use Rattle.wp_cuts.specs.Agree.{HaveSameValues, AgreeFrom, TellAlike};
 ghost use Rattle.wp_cuts.specs.Copied.{AreNewest};
-ghost use Rattle.wp_cuts.specs.Cut.{Cut, carried_of, cut_at, IsCut, carried_at, is_settled, base_value, changes_at, full_of};
+ghost use Rattle.wp_cuts.specs.Cut.{Cut, carried_of, cut_at, IsCut, carried_at, is_fixed, base_value, changes_at, full_of};
 ghost use Rattle.wp_cuts.specs.Kept.{carried_versions, HasKeysAt, AreKept, StayFrom};
 ghost use Rattle.wp_cuts.specs.LegalCut.{AreNumbered, cut_front, prepares_of, value_behind, IsLegalCut, AreBelow, AreOrderlyBehind};
 ghost use Rattle.wp_cuts.specs.Reopened.{AreFromBase, IsReopened};
@@ -61,7 +61,7 @@ pub fn full_list_has_the_cut()
         → undecided (take c.base (full_of c versions)) ≡ map (λ x. x.number) c.carried }
     ensures behind { (c : Cut) (versions : List Version) (p : ℕ) → c.base < p
         → entry_at (full_of c versions) p ≡ slice_get c.entries (p - 1 - c.base) }
-    ensures settled { (c : Cut) (versions : List Version) (p : ℕ) → is_settled c p ≡ true
+    ensures fixed { (c : Cut) (versions : List Version) (p : ℕ) → is_fixed c p ≡ true
         → entry_at (full_of c versions) p ≡ Some (entry.Write (changes_at versions p)) }
     ensures undone { (c : Cut) (versions : List Version) → undone_last (full_of c versions) ≡ undone_last c.entries }
     ensures front { (c : Cut) (versions : List Version) (n : ℕ) → c.base ≤ n → n ≤ c.base + length c.entries

@@ -1,3 +1,2 @@
-pub mod Growth
-pub mod Prepares
-pub mod Opened
+pub mod History
+pub mod Outline

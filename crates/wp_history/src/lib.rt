@@ -1,5 +1,23 @@
-//! How legal histories grow, which prepares they leave undecided, and what the store has under a key, as laws over plain lists.
-//! On a legal history that is the newest version of the key that is committed at the number.
+//! A history in memory, from a base on.
+//!
+//! In memory are the entries behind the base, the prepares that were undecided there, and what the store had under its keys
+//! there. Clauses see the full list, numbered from 1, that stands for these and the versions of the tables that the store was
+//! opened with: nothing counts up to the base, and what is asked is asked from the base on. A history without a base has the
+//! base 0 and nothing below.
+//!
+//! An `Outline` is what a log tells by itself: which entry may follow hangs on the undecided prepares alone, of which it knows
+//! the numbers, so that a put asks only these which keys are held. Its full list has no versions below the base yet. A
+//! `History` has the store's values at the base too, and stays legal: what an undo restores was judged.
 #![tactic(auto)]
 
+mod collision;
+mod history;
 pub mod laws;
+mod legality;
+mod outline;
+mod prepares;
+mod values;
+
+pub use collision::first_collision;
+pub use history::History;
+pub use outline::Outline;

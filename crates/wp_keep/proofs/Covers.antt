@@ -11,7 +11,7 @@ use Rattle.wp_model.specs.Legal.{IsLegal}
 use Rattle.wp_model.specs.Decision as decision
 use Rattle.wp_model.specs.declared.version.Version.{Version}
 use Rattle.wp_model.specs.Versions.{version_at}
-use Rattle.wp_keep.specs.Keep.{has_newer, stays, staying, is_settled_deletion, remains, retained_of}
+use Rattle.wp_keep.specs.Keep.{has_newer, stays, staying, is_fixed_deletion, remains, retained_of}
 use Rattle.wp_keep.specs.MayGo.{DecidesAt, MayGo}
 use Rattle.wp_model.specs.Covered.{GivesNewest, GivesNone, GivesStore, is_among, IsCovered}
 use Rattle.wp_keep.proofs.Order.{in_order_filter, bytes_eq-same}
@@ -94,12 +94,12 @@ module _ (committed : ℕ → ℕ → Bool) (history : List Entry) (newer versio
   -- ---- what remains of it
 
   abbrev older_passes : List ℕ → ℕ → Version → Bool
-  older_passes key p w = bytes_eq w.key key && (nat_le w.number p && not (is_settled_deletion committed floor w))
+  older_passes key p w = bytes_eq w.key key && (nat_le w.number p && not (is_fixed_deletion committed floor w))
 
   -- a version that stays remains where one as old says more than a deletion that is committed at the floor
-  remains_over : (key : List ℕ) (p q : ℕ) (value older : Option (List ℕ)) → version_at stayed key p ≡ Some value → q ≤ p → version_at stayed key q ≡ Some older → is_settled_deletion committed floor (version key q older) ≡ false → version_at retained key p ≡ Some value
+  remains_over : (key : List ℕ) (p q : ℕ) (value older : Option (List ℕ)) → version_at stayed key p ≡ Some value → q ≤ p → version_at stayed key q ≡ Some older → is_fixed_deletion committed floor (version key q older) ≡ false → version_at retained key p ≡ Some value
   remains_over key p q value older e le at says =
-      let passes : older_passes key p (version key q older) ≡ true = and_from (bytes_eq key key) (nat_le q p && not (is_settled_deletion committed floor (version key q older))) (bytes_eq-same key) (and_from (nat_le q p) (not (is_settled_deletion committed floor (version key q older))) (le-leb q p le) (not_from_false (is_settled_deletion committed floor (version key q older)) says)) in
+      let passes : older_passes key p (version key q older) ≡ true = and_from (bytes_eq key key) (nat_le q p && not (is_fixed_deletion committed floor (version key q older))) (bytes_eq-same key) (and_from (nat_le q p) (not (is_fixed_deletion committed floor (version key q older))) (le-leb q p le) (not_from_false (is_fixed_deletion committed floor (version key q older)) says)) in
       at_filter key p (remains committed stayed floor) stayed value e (any_found key q (older_passes key p) stayed older at passes)
 
   pub record IsDropped (key : List ℕ) (p : ℕ) (value : Option (List ℕ)) : Type 0 where
@@ -108,10 +108,10 @@ module _ (committed : ℕ → ℕ → Bool) (history : List Entry) (newer versio
 
   older_more : (key : List ℕ) (p q : ℕ) → q ≤ p → (w : Version) → older_passes key q w ≡ true → older_passes key p w ≡ true
   older_more key p q le w h =
-      let parts = and_parts (bytes_eq w.key key) (nat_le w.number q && not (is_settled_deletion committed floor w)) h in
-      let tests = and_parts (nat_le w.number q) (not (is_settled_deletion committed floor w)) parts.1 in
+      let parts = and_parts (bytes_eq w.key key) (nat_le w.number q && not (is_fixed_deletion committed floor w)) h in
+      let tests = and_parts (nat_le w.number q) (not (is_fixed_deletion committed floor w)) parts.1 in
       let first = leb-true w.number q tests.0 in
-      and_from (bytes_eq w.key key) (nat_le w.number p && not (is_settled_deletion committed floor w)) parts.0 (and_from (nat_le w.number p) (not (is_settled_deletion committed floor w)) (le-leb w.number p (omega arith)) tests.1)
+      and_from (bytes_eq w.key key) (nat_le w.number p && not (is_fixed_deletion committed floor w)) parts.0 (and_from (nat_le w.number p) (not (is_fixed_deletion committed floor w)) (le-leb w.number p (omega arith)) tests.1)
 
   none_value : (o : Option (List ℕ)) → is_none o ≡ true → o ≡ None
   none_value None h = refl
@@ -122,11 +122,11 @@ module _ (committed : ℕ → ℕ → Bool) (history : List Entry) (newer versio
     where
       by : (b : Bool) → remains committed stayed floor (version key p value) ≡ b → (version_at retained key p ≡ Some value) ⊎ IsDropped key p value
       by true is = inl (at_filter key p (remains committed stayed floor) stayed value e is)
-      by false is = inr (record { deletion = settled (is_settled_deletion committed floor (version key p value)) refl; below = λ q le. at q le (version_at retained key q) refl })
+      by false is = inr (record { deletion = fixed (is_fixed_deletion committed floor (version key p value)) refl; below = λ q le. at q le (version_at retained key q) refl })
         where
-          settled : (b : Bool) → is_settled_deletion committed floor (version key p value) ≡ b → value ≡ None
-          settled true h = none_value value (and_parts (is_none value) (committed p floor) h).0
-          settled false h = let remaining = passed_filter key p (remains committed stayed floor) stayed value (remains_over key p p value value e (omega arith) e h) in absurd (false≢true (sym is ∙ remaining))
+          fixed : (b : Bool) → is_fixed_deletion committed floor (version key p value) ≡ b → value ≡ None
+          fixed true h = none_value value (and_parts (is_none value) (committed p floor) h).0
+          fixed false h = let remaining = passed_filter key p (remains committed stayed floor) stayed value (remains_over key p p value value e (omega arith) e h) in absurd (false≢true (sym is ∙ remaining))
 
           at : (q : ℕ) → q ≤ p → (o : Option (Option (List ℕ))) → version_at retained key q ≡ o → o ≡ None
           at q le None h = refl
@@ -202,21 +202,21 @@ module _ (committed : ℕ → ℕ → Bool) (history : List Entry) (newer versio
 
     -- ---- what is undecided, and the last undo
 
-    undecided_unsettled : (key : List ℕ) (p : ℕ) (value : Option (List ℕ)) → is_undecided history p ≡ true → version_at versions key p ≡ Some value → committed p floor ≡ false
-    undecided_unsettled key p value undecided here = false_from_ne_true (committed p floor) (λ passes. undecided_uncommitted history p floor undecided (go.at_floor.true_only key p (ap is_some here) passes))
+    undecided_unfixed : (key : List ℕ) (p : ℕ) (value : Option (List ℕ)) → is_undecided history p ≡ true → version_at versions key p ≡ Some value → committed p floor ≡ false
+    undecided_unfixed key p value undecided here = false_from_ne_true (committed p floor) (λ passes. undecided_uncommitted history p floor undecided (go.at_floor.true_only key p (ap is_some here) passes))
 
-    unsettled : (key : List ℕ) (p : ℕ) (value : Option (List ℕ)) → committed p floor ≡ false → is_settled_deletion committed floor (version key p value) ≡ false
-    unsettled key p value is = and_right (is_none value) (committed p floor) is
+    unfixed : (key : List ℕ) (p : ℕ) (value : Option (List ℕ)) → committed p floor ≡ false → is_fixed_deletion committed floor (version key p value) ≡ false
+    unfixed key p value is = and_right (is_none value) (committed p floor) is
 
     undecided_stays : (key : List ℕ) (p : ℕ) (value : Option (List ℕ)) → is_undecided history p ≡ true → version_at versions key p ≡ Some value → version_at retained key p ≡ Some value
     undecided_stays key p value undecided here =
-        let open_ = undecided_unsettled key p value undecided here in
+        let open_ = undecided_unfixed key p value undecided here in
         let there = stays_uncommitted key p value here open_ in
-        remains_over key p p value value there (omega arith) there (unsettled key p value open_)
+        remains_over key p p value value there (omega arith) there (unfixed key p value open_)
 
     undo_stays : (key : List ℕ) (value : Option (List ℕ)) (last : (p : ℕ) × UndoesLast history key p) (numbers : List ℕ) (from : ℕ) → IsCovered (newer ++ versions) history numbers from → version_at versions key (length history) ≡ Some value → version_at retained key (length history) ≡ Some value
     undo_stays key value last numbers from covered here =
-        remains_over key (length history) last.0 value last.1.value stays_ (omega (arith, last.1.below)) prepare (unsettled key last.0 last.1.value (undecided_unsettled key last.0 last.1.value last.1.undecided prepare_here))
+        remains_over key (length history) last.0 value last.1.value stays_ (omega (arith, last.1.below)) prepare (unfixed key last.0 last.1.value (undecided_unfixed key last.0 last.1.value last.1.undecided prepare_here))
       where
         prepare_here : version_at versions key last.0 ≡ Some last.1.value
         prepare_here = by (version_at newer key last.0) refl (sym (at_both newer versions key last.0) ∙ covered.undecided key last.0 last.1.value last.1.undecided last.1.there)
@@ -226,7 +226,7 @@ module _ (committed : ℕ → ℕ → Bool) (history : List Entry) (newer versio
             by (Some x) is e = let lt = go.no_older key last.0 (length history) (ap is_some is) (ap is_some here) in let below = last.1.below in absurd (omega arith)
 
         prepare : version_at stayed key last.0 ≡ Some last.1.value
-        prepare = stays_uncommitted key last.0 last.1.value prepare_here (undecided_unsettled key last.0 last.1.value last.1.undecided prepare_here)
+        prepare = stays_uncommitted key last.0 last.1.value prepare_here (undecided_unfixed key last.0 last.1.value last.1.undecided prepare_here)
 
         past : (q : ℕ) → length history < q → decision.IsCommittedAt history q floor → version_at (newer ++ versions) key q ≡ None
         past q lt is = at (version_at (newer ++ versions) key q) refl

@@ -7,7 +7,7 @@ use Rattle.std.proofs.lemmas.List.{reverse-append}
 use Rattle.std.proofs.lemmas.Slice.Eq.{bytes_eq-Decides}
 use Rattle.wp_model.specs.declared.version.Version.{Version}
 use Rattle.wp_model.specs.Versions.{AreInOrder}
-use Rattle.wp_keep.specs.Keep.{is_settled_deletion, remains}
+use Rattle.wp_keep.specs.Keep.{is_fixed_deletion, remains}
 use Rattle.wp_keep.specs.Newer.{starts_with_key}
 use Rattle.wp_model.proofs.VersionLists.{IsBefore}
 use Rattle.wp_keep.proofs.Order.{placed_version}
@@ -16,7 +16,7 @@ use Rattle.wp_keep.proofs.Any.{any_of, any_older, none_ahead}
 module _ (committed : ℕ → ℕ → Bool) (all : List Version) (floor : ℕ) where
   -- no deletion that is committed at the floor
   abbrev says : Version → Bool
-  says w = not (is_settled_deletion committed floor w)
+  says w = not (is_fixed_deletion committed floor w)
 
   lasts_by : (front : List Version) (v : Version) (back : List Version) → all ≡ front ++ v ∷ back → AreInOrder all → remains committed all floor v ≡ (says v || any_of v.key says back)
   lasts_by front v back split order =

@@ -36,12 +36,12 @@ abbrev pub staying : (ℕ → ℕ → Bool) → List Version → List ℕ → �
 staying committed versions snapshots floor = filter (stays committed versions snapshots floor) versions
 
 -- a deletion that is committed at the floor
-abbrev pub is_settled_deletion : (ℕ → ℕ → Bool) → ℕ → Version → Bool
-is_settled_deletion committed floor v = is_none v.value && committed v.number floor
+abbrev pub is_fixed_deletion : (ℕ → ℕ → Bool) → ℕ → Version → Bool
+is_fixed_deletion committed floor v = is_none v.value && committed v.number floor
 
 -- the version, or an older one of its key, is no deletion that is committed at the floor
 abbrev pub remains : (ℕ → ℕ → Bool) → List Version → ℕ → Version → Bool
-remains committed versions floor v = list_any (λ w. bytes_eq w.key v.key && (nat_le w.number v.number && not (is_settled_deletion committed floor w))) versions
+remains committed versions floor v = list_any (λ w. bytes_eq w.key v.key && (nat_le w.number v.number && not (is_fixed_deletion committed floor w))) versions
 
 -- the versions without those deletions that are committed at the floor and have nothing else of their key after them
 abbrev pub remaining : (ℕ → ℕ → Bool) → List Version → ℕ → List Version

@@ -1,15 +1,15 @@
 ghost use Rattle.std.specs.Prelude.{◌≡◌, ◌≤◌, ◌||◌, ◌&&◌, not, ◌++◌, ◌∷◌, [], length, IfOk, OnOk, reverse, if◌then◌else◌};
 ghost use Rattle.wp_model.specs.Versions.{AreInOrder};
 ghost use Rattle.wp_keep.specs.Chosen.{chosen};
-ghost use Rattle.wp_keep.specs.Keep.{by_commits, is_settled_deletion, remaining};
+ghost use Rattle.wp_keep.specs.Keep.{by_commits, is_fixed_deletion, remaining};
 ghost use Rattle.wp_keep.specs.Newer.{starts_with_key};
 
 use crate::commits::Commits;
 use std::alloc::{AllocError, Global};
 use wp_model::{Key, Seq, Version};
 
-fn is_settled_deletion(version: &Version, commits: &Commits, floor: Seq) -> bool
-    ensures { result ≡ is_settled_deletion (by_commits commits.now) floor version.now }
+fn is_fixed_deletion(version: &Version, commits: &Commits, floor: Seq) -> bool
+    ensures { result ≡ is_fixed_deletion (by_commits commits.now) floor version.now }
 {
     if version.value.is_some() {
         return false;
@@ -38,12 +38,12 @@ fn push_lasting(
     commits: &Commits,
     floor: Seq,
 ) -> Result<(), AllocError>
-    ensures { OnOk result (retained.new.items ≡ (if stays && (not (is_settled_deletion (by_commits commits.now) floor version) || starts_with_key (reverse retained.old.items) version.key) then retained.old.items ++ version ∷ [] else retained.old.items)) }
+    ensures { OnOk result (retained.new.items ≡ (if stays && (not (is_fixed_deletion (by_commits commits.now) floor version) || starts_with_key (reverse retained.old.items) version.key) then retained.old.items ++ version ∷ [] else retained.old.items)) }
 {
     if !stays {
         return Ok(());
     }
-    if is_settled_deletion(&version, commits, floor) && !ends_with_key(retained, &version.key) {
+    if is_fixed_deletion(&version, commits, floor) && !ends_with_key(retained, &version.key) {
         return Ok(());
     }
     retained.push(version)?;

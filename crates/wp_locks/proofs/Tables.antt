@@ -12,7 +12,7 @@ use Rattle.wp_model.specs.declared.holder.Holder.TheVariants.{Txn, Client}
 use Rattle.wp_locks.specs.declared.error.LockError.TheVariants.{Unknown, InUse}
 use Rattle.wp_model.specs.Holder.{is_same_txn}
 use Rattle.wp_locks.specs.Locks.{RefusesTake, names_left, keys_without}
-use Rattle.wp_model.specs.LockTables.{LockTables, Keys}
+use Rattle.wp_model.specs.LockState.{LockState, Keys}
 use Rattle.wp_locks.proofs.Maps.{value_at, map_of, get-map_of, map_of_inserted, map_of_removed, UpdatedAt, insert_same}
 use Rattle.wp_model.proofs.Words.{same_word}
 
@@ -55,5 +55,5 @@ freed_one es ns keys changes i change within is so_far updated =
     ∙ ap (keys_without keys) (ap (λ (x : Change). take i changes ++ x ∷ []) is ∙ sym (take_more changes i change within))
 
 -- the tables with other keys that equal theirs
-pub with_keys : (t : LockTables) (keys : Keys) → t.keys ≡ keys → t ≡ record t { keys = keys }
+pub with_keys : (t : LockState) (keys : Keys) → t.keys ≡ keys → t ≡ record t { keys = keys }
 with_keys t keys is = ap (λ ks. record t { keys = ks }) is

@@ -9,10 +9,10 @@ use Rattle.wp_locks.specs.declared.error.LockError.{LockError}
 use Rattle.wp_locks.specs.declared.error.LockError.TheVariants.{Memory, Taken, Unknown, InUse, Busy}
 use Rattle.wp_locks.specs.declared.error.TakeRefused.{TakeRefused}
 use Rattle.wp_model.specs.Holder.{is_same_txn}
-use Rattle.wp_model.specs.LockTables.{Names, Keys, LockTables}
+use Rattle.wp_model.specs.LockState.{Names, Keys, LockState}
 
 -- what `claim_name` answers, and what it leaves
-abbrev pub Claims : LockTables → List ℕ → List ℕ → Result (Unit {0}) LockError → LockTables → Type 0
+abbrev pub Claims : LockState → List ℕ → List ℕ → Result (Unit {0}) LockError → LockState → Type 0
 Claims old name client (Ok done) new = (map.get old.names name ≡ None) × (new ≡ record old { names = map.insert old.names name (Some client) })
 Claims old name client (Err Memory) new = (map.get old.names name ≡ None) × (new ≡ old)
 Claims old name client (Err (Taken taken)) new = (is_some (map.get old.names name) ≡ true) × (taken ≡ name) × (new ≡ old)
@@ -31,7 +31,7 @@ RefusesTake (Some (Some client)) name (InUse used) = used ≡ name
 RefusesTake found name why = ⊥
 
 -- what `take_name` answers, and what it leaves
-abbrev pub TakesName : LockTables → List ℕ → List ℕ → Result (Unit {0}) TakeRefused → LockTables → Type 0
+abbrev pub TakesName : LockState → List ℕ → List ℕ → Result (Unit {0}) TakeRefused → LockState → Type 0
 TakesName old name client (Ok done) new = (map.get old.names name ≡ Some None) × (new ≡ record old { names = map.insert old.names name (Some client) })
 TakesName old name client (Err refused) new = RefusesTake (map.get old.names name) name refused.why × (refused.client ≡ client) × (new ≡ old)
 
@@ -41,7 +41,7 @@ is_free_for None holder = true
 is_free_for (Some other) holder = is_same_txn other holder
 
 -- what `lock` answers, and what it leaves
-abbrev pub Locking : LockTables → List ℕ → Holder → Result (Unit {0}) LockError → LockTables → Type 0
+abbrev pub Locking : LockState → List ℕ → Holder → Result (Unit {0}) LockError → LockState → Type 0
 Locking old key holder (Ok done) new = (is_free_for (map.get old.keys key) holder ≡ true) × (new ≡ record old { keys = map.insert old.keys key holder })
 Locking old key holder (Err Memory) new = new ≡ old
 Locking old key holder (Err (Busy other)) new = (map.get old.keys key ≡ Some other) × (is_same_txn other holder ≡ false) × (new ≡ old)

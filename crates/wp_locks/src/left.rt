@@ -6,12 +6,12 @@ ghost use Rattle.std.specs.Option.{option_map};
 ghost use Rattle.std.specs.FinMap.{from_entries};
 ghost use Rattle.wp_model.specs.Batch.{key_cmp, key_of};
 ghost use Rattle.wp_model.specs.declared.holder.Holder.TheVariants.{Txn};
-ghost use Rattle.wp_history.proofs.Opened.{name_left, keys_left, names_of, keys_of};
+ghost use Rattle.wp_history_laws.proofs.Opened.{name_left, keys_left, names_of, keys_of};
 ghost use Rattle.wp_locks.specs.Locks.{Joins};
 
 use std::alloc::{AllocError, Global};
 use std::collections::BTreeMap;
-use wp_ledger::History;
+use wp_history::History;
 use wp_model::{Batch, Change, Holder, Key, Name};
 
 /// The name, had by nobody.

@@ -3,15 +3,15 @@ ghost use Rattle.std.specs.FinMap as map;
 ghost use Rattle.std.specs.FinMap.{from_entries};
 ghost use Rattle.wp_model.specs.Batch.{key_cmp};
 ghost use Rattle.wp_locks.specs.Locks.{Claims, TakesName, Locking, names_left, keys_without};
-ghost use Rattle.wp_model.specs.LockTables.{nothing_locked};
-ghost use Rattle.wp_history.specs.Opened.{AreOpened};
+ghost use Rattle.wp_model.specs.LockState.{nothing_locked};
+ghost use Rattle.wp_history_laws.specs.Opened.{AreOpened};
 
 use crate::error::{LockError, TakeRefused};
 use crate::left::{keys_of, names_of};
 use std::alloc::{AllocError, Global};
 use std::collections::BTreeMap;
 use std::marker::Model;
-use wp_ledger::History;
+use wp_history::History;
 use wp_model::{Change, Holder, Key, Name, Seq};
 
 /// The live names, the held keys and the board, which the holder of the locks turn changes.
@@ -24,12 +24,12 @@ pub struct Locks {
 }
 
 impl Model for Locks {
-    ghost use Rattle.wp_model.specs.LockTables.{LockTables, lock_tables_code};
+    ghost use Rattle.wp_model.specs.LockState.{LockState, lock_state_code};
     ghost use Rattle.std.specs.FinMap as map;
 
-    ghost Value = { LockTables };
+    ghost Value = { LockState };
 
-    ghost coded = { lock_tables_code };
+    ghost coded = { lock_state_code };
 
     ghost view = { λ l. record { names = map.from_entries l.names.entries; keys = map.from_entries l.keys.entries; labels = map.from_entries l.labels.entries } };
 }

@@ -1,19 +1,19 @@
 //! The manifest and the log of a store, in the order in which they are opened.
 ghost use Rattle.std.specs.Prelude.{◌≡◌, IfOk, IfErr};
 ghost use Rattle.wp_gatelog.specs.Opening.{KeepsLog};
-ghost use Rattle.wp_ledger.specs.Outline.{cut_in};
+ghost use Rattle.wp_history.specs.Outline.{cut_in};
 ghost use Rattle.wp_cuts.specs.LegalCut.{prepares_of};
 ghost use Rattle.wp_manifest.specs.Edit.{place_of};
 ghost use Rattle.wp_manifest.specs.Opening.{IsUnopenedManifest};
 ghost use Rattle.wp_manifest.specs.Spelling.{MAGIC, head_stamp};
-ghost use Rattle.wp_devices.specs.Devices.{devices_of};
+ghost use Rattle.wp_contents.specs.Devices.{devices_of};
 ghost use Rattle.wp_refused.specs.Parts.{LogsOpened};
 ghost use Rattle.wp_refused.specs.Refused.{IsRefusedFrom};
 ghost use Rattle.wp_logs.specs.Logs.{WasMade};
 
 use std::alloc::Global;
 use wp_gatelog::DiskRefused;
-use wp_ledger::Outline;
+use wp_history::Outline;
 use wp_manifest::{Edit, Manifest, ManifestError, a_manifest_is_read_in_one_way, is_made};
 use wp_outside::{Device, Disk, Disks, Failed};
 use wp_refused::{

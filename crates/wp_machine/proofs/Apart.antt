@@ -5,8 +5,8 @@ use Rattle.std.specs.FinMap as finite
 use Rattle.wp_model.specs.declared.entry.Entry.{Entry}
 use Rattle.wp_judge.specs.Words.{CommitPair}
 use Rattle.wp_core.specs.World.{World, Participant, Actor}
-use Rattle.wp_core.specs.Tables.{WriteTable, StoreTable}
-use Rattle.wp_model.specs.LockTables.{LockTables}
+use Rattle.wp_core.specs.Tables.{WriteState, StoreState}
+use Rattle.wp_model.specs.LockState.{LockState}
 use Rattle.wp_core.specs.Reading.{Registration}
 use Rattle.wp_core.specs.Entries.{pending_pair}
 use Rattle.std.proofs.lemmas.List.{set-set}
@@ -109,7 +109,7 @@ of_snapshots p (snapshots.RegisterAgain number) s e = subst Acts (only (step.reg
 of_snapshots p (snapshots.Release place) s e = of_released (take place p.registered) (drop place p.registered) s e
 of_snapshots p (snapshots.AddOldCommit number v) s e = subst Acts (only (step.add_old_commit number v) _ e) tt
 
-of_stores : (d : WriteTable) (t : StoreTable) (k : StoreStep) (s : Step) → store_step d t k ≡ Some s → Acts s
+of_stores : (d : WriteState) (t : StoreState) (k : StoreStep) (s : Step) → store_step d t k ≡ Some s → Acts s
 of_stores d t store.AddVersions s e = subst Acts (only (step.add_versions (memory_with d t)) _ e) tt
 of_stores d t store.TakeVersions s e = subst Acts (only (step.take_versions (without_number (suc (length d.history)) t.memory)) _ e) tt
 of_stores d t (store.MoveVersions memory moved) s e = subst Acts (only (step.move_versions memory.items moved.items) _ e) tt
@@ -121,7 +121,7 @@ of_tabless (tables.Renew edit) s e = subst Acts (only (step.renew edit) _ e) tt
 of_tabless (tables.Halt edit) s e = subst Acts (only (step.halt edit) _ e) tt
 of_tabless tables.FindEdit s e = subst Acts (only (step.find_edit) _ e) tt
 
-of_lockss : (t : LockTables) (p : Participant) (k : LocksStep) (s : Step) → locks_step t p k ≡ Some s → Acts s
+of_lockss : (t : LockState) (p : Participant) (k : LocksStep) (s : Step) → locks_step t p k ≡ Some s → Acts s
 of_lockss t p (locks.ClaimName name) s e = subst Acts (only (step.claim_name name) _ e) tt
 of_lockss t p (locks.TakeName name number) s e = subst Acts (only (step.take_name name number) _ e) tt
 of_lockss t p (locks.LeaveName name) s e = subst Acts (only (step.leave_name name) _ e) tt

@@ -5,10 +5,10 @@ use mathlib.Core.Option.{some}
 use lib.ListN.{get_elem?}
 use Rattle.wp_model.specs.declared.entry.Entry.{Entry}
 use Rattle.wp_model.specs.declared.version.Version.{Version}
-use Rattle.wp_model.specs.LockTables.{LockTables}
+use Rattle.wp_model.specs.LockState.{LockState}
 use Rattle.wp_model.specs.Legal.{changes_in}
 use Rattle.wp_core.specs.World.{Participant, Actor, World}
-use Rattle.wp_core.specs.Tables.{WriteTable, StoreTable}
+use Rattle.wp_core.specs.Tables.{WriteState, StoreState}
 use Rattle.wp_core.specs.Reading.{Registration}
 use Rattle.wp_core.specs.Entries.{pending_pair}
 use Rattle.wp_model.specs.Flushed.{versions_under}
@@ -52,7 +52,7 @@ reader_step p (reader.Load which) = Some (step.load which)
 reader_step p reader.EndReading = Some step.end_reading
 
 -- once the first of them is published
-abbrev pub with_next : WriteTable → List Entry → WriteTable
+abbrev pub with_next : WriteState → List Entry → WriteState
 with_next t [] = t
 with_next t (entry ∷ others) = with_entry t entry others
 
@@ -61,7 +61,7 @@ abbrev pub published_step : List Entry → Option Step
 published_step [] = None
 published_step (entry ∷ others) = Some (step.store_published entry others)
 
-abbrev pub word_step : WriteTable → WordStep → Option Step
+abbrev pub word_step : WriteState → WordStep → Option Step
 word_step t word.StorePublished = published_step t.pending
 word_step t (word.StoreMaxEvicted m) = Some (step.store_max_evicted m)
 word_step t word.StoreWord = option_map step.store_word (pending_pair t.history t.pending)
@@ -109,10 +109,10 @@ versions_of_next n [] = []
 versions_of_next n (entry ∷ others) = versions_under n (changes_in entry)
 
 -- memory with the versions of the pending entry as its only ones under that number
-abbrev pub memory_with : WriteTable → StoreTable → List Version
+abbrev pub memory_with : WriteState → StoreState → List Version
 memory_with d t = versions_of_next (suc (length d.history)) d.pending ++ without_number (suc (length d.history)) t.memory
 
-abbrev pub store_step : WriteTable → StoreTable → StoreStep → Option Step
+abbrev pub store_step : WriteState → StoreState → StoreStep → Option Step
 store_step d t store.AddVersions = Some (step.add_versions (memory_with d t))
 store_step d t store.TakeVersions = Some (step.take_versions (without_number (suc (length d.history)) t.memory))
 store_step d t (store.MoveVersions memory moved) = Some (step.move_versions memory.items moved.items)
@@ -124,7 +124,7 @@ tables_step (tables.Renew edit) = Some (step.renew edit)
 tables_step (tables.Halt edit) = Some (step.halt edit)
 tables_step tables.FindEdit = Some step.find_edit
 
-abbrev pub locks_step : LockTables → Participant → LocksStep → Option Step
+abbrev pub locks_step : LockState → Participant → LocksStep → Option Step
 locks_step t p (locks.ClaimName name) = Some (step.claim_name name)
 locks_step t p (locks.TakeName name n) = Some (step.take_name name n)
 locks_step t p (locks.LeaveName name) = Some (step.leave_name name)

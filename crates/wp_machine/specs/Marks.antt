@@ -1,9 +1,9 @@
 -- What an actor noted and its steps have not ended.
 use Rattle.std.specs.Prelude.{ℕ, List, [], ◌∷◌, length, not, filter, Option, Some, None}
 use Rattle.wp_model.specs.declared.entry.Entry.{Entry}
-use Rattle.wp_model.specs.LockTables.{LockTables}
+use Rattle.wp_model.specs.LockState.{LockState}
 use Rattle.wp_core.specs.World.{Participant}
-use Rattle.wp_core.specs.Tables.{WriteTable, StoreTable}
+use Rattle.wp_core.specs.Tables.{WriteState, StoreState}
 use Rattle.wp_core.specs.Steps.{Step}
 use Rattle.wp_core.specs.Views.{Fact}
 use Rattle.wp_core.specs.Notes.{ends}
@@ -14,7 +14,7 @@ use Rattle.wp_machine.specs.declared.marks.Mark.{Mark}
 use Rattle.wp_machine.specs.declared.marks.Mark.TheVariants as mark
 
 -- the step that this kind is for an actor that makes and joins none
-abbrev pub apart_step : WriteTable → StoreTable → LockTables → Participant → Kind → Option Step
+abbrev pub apart_step : WriteState → StoreState → LockState → Participant → Kind → Option Step
 apart_step d t l p (kind.Reader k) = reader_step p k
 apart_step d t l p (kind.Word k) = word_step d k
 apart_step d t l p (kind.Turn k) = turn_step k

@@ -2,11 +2,11 @@
 ghost use Rattle.std.specs.Prelude.{◌≡◌};
 ghost use Rattle.std.specs.Option.{option_copied};
 
-use crate::store::{Installed, InstalledEdit, StoreTable};
-use crate::writes::WriteTable;
+use crate::store::{Installed, InstalledEdit, StoreState};
+use crate::writes::WriteState;
 use wp_model::{Entry, Segment, Seq, Version};
 
-impl StoreTable {
+impl StoreState {
     pub fn tables(&self) -> &[Version]
         ensures { result.now ≡ self.now.tables }
     {
@@ -46,7 +46,7 @@ impl Installed {
     }
 }
 
-impl WriteTable {
+impl WriteState {
     pub fn entries(&self) -> &[Entry]
         ensures { result.now ≡ self.now.history }
     {

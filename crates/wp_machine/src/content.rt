@@ -3,12 +3,12 @@ ghost use Rattle.wp_core.specs.Tables.{turn_of};
 ghost use Rattle.wp_core.specs.World.{content_of as content_in};
 ghost use Rattle.wp_actor.specs.Turns as turns;
 
-use crate::locks::LockTables;
-use crate::prepared::PreparedTables;
+use crate::locks::LockState;
+use crate::prepared::PreparedSets;
 use crate::snapshots::Snapshots;
-use crate::store::{Installed, StoreTable};
+use crate::store::{Installed, StoreState};
 use crate::world::World;
-use crate::writes::WriteTable;
+use crate::writes::WriteState;
 use std::marker::Model;
 use std::snapshot::Snapshot;
 use wp_actor::Turn;
@@ -16,11 +16,11 @@ use wp_actor::Turn;
 /// The table of one turn. No step reads it, so it has no bytes.
 #[derive(Drop)]
 pub enum Guarded {
-    Writes(Snapshot<WriteTable>),
-    Prepared(Snapshot<PreparedTables>),
+    Writes(Snapshot<WriteState>),
+    Prepared(Snapshot<PreparedSets>),
     Snapshots(Snapshot<Snapshots>),
-    Store(Snapshot<StoreTable>),
-    Locks(Snapshot<LockTables>),
+    Store(Snapshot<StoreState>),
+    Locks(Snapshot<LockState>),
     Installed(Snapshot<Installed>),
 }
 
@@ -31,14 +31,14 @@ pub struct Content {
 
 impl Model for Content {
     ghost use Rattle.std.specs.Coded.{codes};
-    ghost use Rattle.wp_model.specs.PreparedTables.{prepared_tables_code};
+    ghost use Rattle.wp_model.specs.PreparedSets.{prepared_sets_code};
     ghost use Rattle.wp_model.specs.Snapshots.{snapshots_code};
-    ghost use Rattle.wp_model.specs.LockTables.{lock_tables_code};
+    ghost use Rattle.wp_model.specs.LockState.{lock_state_code};
     ghost use Rattle.wp_core.specs.Tables.{Content};
 
     ghost Value = { Content };
 
-    ghost coded = { Prim.hlevel (codes, prepared_tables_code, snapshots_code, lock_tables_code) };
+    ghost coded = { Prim.hlevel (codes, prepared_sets_code, snapshots_code, lock_state_code) };
 
     ghost use Rattle.wp_machine.specs.Parts.{content_of};
 

@@ -3,10 +3,10 @@ ghost use Rattle.std.specs.Prelude.{◌≡◌, ◌++◌, map, IfOk, OnOk};
 ghost use Rattle.std.specs.Option.{option_map};
 ghost use Rattle.wp_model.specs.Batch.{key_of};
 ghost use Rattle.wp_model.specs.declared.holder.Holder.TheVariants.{Txn};
-ghost use Rattle.wp_history.proofs.Opened.{name_left, keys_left, names_of, keys_of};
+ghost use Rattle.wp_history_laws.proofs.Opened.{name_left, keys_left, names_of, keys_of};
 
 use std::alloc::{AllocError, Global};
-use wp_ledger::History;
+use wp_history::History;
 use wp_model::{Batch, Change, Holder, Key, Name};
 
 /// The name of a prepare, had by nobody.

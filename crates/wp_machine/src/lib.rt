@@ -44,18 +44,18 @@ pub use applied::{actor_at, apply};
 pub use cache::Cache;
 pub use content::Content;
 pub use copies::copy_versions;
-pub use locks::LockTables;
+pub use locks::LockState;
 pub use marks::Mark;
-pub use prepared::PreparedTables;
+pub use prepared::PreparedSets;
 pub use snapshots::{Snapshot, Snapshots};
 pub use step::{
     ActorsStep, Kind, LocksStep, OwnStep, PreparedStep, ReaderStep, SnapshotsStep, Step, StoreStep,
     TablesStep, TurnStep, WordStep, WriteStep,
 };
-pub use store::{Installed, InstalledEdit, StoreTable};
+pub use store::{Installed, InstalledEdit, StoreState};
 pub use turn::Holders;
 pub use versions::versions_of_next;
 pub use views::{Account, Event, Fact, Found, Noted};
 pub use world::World;
 pub use wp_actor::Turn;
-pub use writes::{WriteTable, entry_at};
+pub use writes::{WriteState, entry_at};

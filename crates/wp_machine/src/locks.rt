@@ -5,31 +5,31 @@ ghost use Rattle.std.specs.FinMap as finite;
 ghost use Rattle.wp_model.specs.Batch.{key_cmp};
 ghost use Rattle.wp_model.specs.declared.holder.Holder.TheVariants.{Txn};
 ghost use Rattle.wp_core.specs.Changes.{with_name, with_key, without_key, without_transaction, with_label, is_held_by, keys_of_holder};
-ghost use Rattle.wp_history.proofs.Opened.{names_of, keys_of};
+ghost use Rattle.wp_history_laws.proofs.Opened.{names_of, keys_of};
 
 use crate::left::{keys_left, names_left};
 use crate::lists::add_first;
 use crate::pairs::{newest_under, take_named};
 use std::alloc::{AllocError, Global};
 use std::marker::Model;
-use wp_ledger::History;
+use wp_history::History;
 use wp_model::{Holder, Key, Name, Seq};
 
 /// The live names, each with the client that has it, if one does; the held keys; and the labels. Each is a list whose
 /// newest pair comes first: of two pairs of one name the first counts.
-pub struct LockTables {
+pub struct LockState {
     pub names: Vec<(Name, Option<Name>)>,
     pub keys: Vec<(Key, Holder)>,
     pub labels: Vec<(Name, Seq)>,
 }
 
-impl Model for LockTables {
+impl Model for LockState {
     ghost use Rattle.std.specs.FinMap as map;
-    ghost use Rattle.wp_model.specs.LockTables.{LockTables, lock_tables_code};
+    ghost use Rattle.wp_model.specs.LockState.{LockState, lock_state_code};
 
-    ghost Value = { LockTables };
+    ghost Value = { LockState };
 
-    ghost coded = { lock_tables_code };
+    ghost coded = { lock_state_code };
 
     ghost view = { λ t. record { names = map.from_entries t.names.items; keys = map.from_entries t.keys.items; labels = map.from_entries t.labels.items } };
 }
@@ -52,7 +52,7 @@ fn take_key(keys: &mut Vec<(Key, Holder)>, key: &Key)
 /// The keys among these that the holder holds by the table.
 fn held_keys(
     pairs: &[(Key, Holder)],
-    table: &LockTables,
+    table: &LockState,
     holder: &Holder,
     alloc: Global,
 ) -> Result<Vec<Key>, AllocError>
@@ -70,7 +70,7 @@ fn held_keys(
 /// Those of these whose keys the holder does not hold by the table.
 fn other_keys(
     pairs: &[(Key, Holder)],
-    table: &LockTables,
+    table: &LockState,
     holder: &Holder,
     alloc: Global,
 ) -> Result<Vec<(Key, Holder)>, AllocError>
@@ -85,7 +85,7 @@ fn other_keys(
     Ok(keys)
 }
 
-impl LockTables {
+impl LockState {
     /// What a live name has: the client that has it, if one does. None where the name is not live.
     #[tactic(auto, using(crate::proofs::Maps::under_is_got))]
     pub fn name(&self, name: &Name) -> Option<&Option<Name>>
@@ -186,12 +186,12 @@ impl LockTables {
     }
 }
 
-impl LockTables {
+impl LockState {
     /// The undecided prepares of a history that is opened have their names live and their keys held.
-    pub fn left_by(history: &History, alloc: Global) -> Result<LockTables, AllocError>
+    pub fn left_by(history: &History, alloc: Global) -> Result<LockState, AllocError>
         ensures { IfOk result (λ t. t ≡ record { names = finite.from_entries (names_of history.now.entries); keys = finite.from_entries (keys_of history.now.entries); labels = finite.empty }) }
     {
-        Ok(LockTables {
+        Ok(LockState {
             names: names_left(history, alloc)?,
             keys: keys_left(history, alloc)?,
             labels: Vec::new(alloc),
@@ -200,7 +200,7 @@ impl LockTables {
 }
 
 // Written out, so that no crate above proves anew how all that it holds is let go.
-impl Drop for LockTables {
+impl Drop for LockState {
     fn drop(self) {
         let Self {
             names: _names,

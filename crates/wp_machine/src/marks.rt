@@ -3,12 +3,12 @@ ghost use Rattle.std.specs.Prelude.{◌≡◌, ◌∷◌, List, length};
 
 use crate::actor::Participant;
 use crate::cache::Cache;
-use crate::locks::LockTables;
+use crate::locks::LockState;
 use crate::step::Kind;
-use crate::store::StoreTable;
+use crate::store::StoreState;
 use crate::views::Fact;
 use crate::world::World;
-use crate::writes::WriteTable;
+use crate::writes::WriteState;
 use std::snapshot::Snapshot;
 
 /// A fact that the actor noted, or a step of its that may have ended some.
@@ -17,9 +17,9 @@ pub enum Mark {
     Noted(Snapshot<Fact>),
     /// A step of this kind by this participant, in a world with these tables and words.
     Made(
-        Snapshot<WriteTable>,
-        Snapshot<StoreTable>,
-        Snapshot<LockTables>,
+        Snapshot<WriteState>,
+        Snapshot<StoreState>,
+        Snapshot<LockState>,
         Snapshot<Cache>,
         Snapshot<Participant>,
         Snapshot<Kind>,

@@ -4,38 +4,38 @@ ghost use Rattle.wp_core.specs.Tables.{without_prepared, with_moved};
 ghost use Rattle.std.specs.FinSet as set;
 ghost use Rattle.std.specs.FinMap as finite;
 ghost use Rattle.wp_core.specs.Changes.{found_in};
-ghost use Rattle.wp_model.specs.PreparedTables.{is_prepared};
+ghost use Rattle.wp_model.specs.PreparedSets.{is_prepared};
 ghost use Rattle.wp_model.specs.History.{undecided};
 
 use crate::lists::add_first;
 use crate::pairs::{newest_of, take_of};
 use std::alloc::{AllocError, Global};
 use std::marker::Model;
+use wp_history::History;
 use wp_judge::InPrepared;
-use wp_ledger::History;
 use wp_model::Seq;
 
 /// The prepared heap, the delayed set and the delayed commits. Each is a list whose newest item comes first: of two pairs
 /// of one number the first counts.
-pub struct PreparedTables {
+pub struct PreparedSets {
     pub heap: Vec<Seq>,
     pub delayed: Vec<Seq>,
     pub delayed_commits: Vec<(Seq, Seq)>,
 }
 
-impl Model for PreparedTables {
+impl Model for PreparedSets {
     ghost use Rattle.std.specs.FinSet as set;
     ghost use Rattle.std.specs.FinMap as map;
-    ghost use Rattle.wp_model.specs.PreparedTables.{PreparedTables, prepared_tables_code};
+    ghost use Rattle.wp_model.specs.PreparedSets.{PreparedSets, prepared_sets_code};
 
-    ghost Value = { PreparedTables };
+    ghost Value = { PreparedSets };
 
-    ghost coded = { prepared_tables_code };
+    ghost coded = { prepared_sets_code };
 
     ghost view = { λ t. record { heap = set.from_list t.heap.items; delayed = set.from_list t.delayed.items; delayed_commits = map.from_entries t.delayed_commits.items } };
 }
 
-impl PreparedTables {
+impl PreparedSets {
     #[tactic(auto, using(crate::proofs::Maps::newest_is_got))]
     pub fn commit_of(&self, p: Seq) -> Option<Seq>
         ensures { result ≡ finite.get self.now.delayed_commits p }
@@ -95,7 +95,7 @@ fn move_up_to(heap: &mut Vec<Seq>, delayed: &mut Vec<Seq>, m: Seq) -> Result<(),
     Ok(())
 }
 
-impl PreparedTables {
+impl PreparedSets {
     pub fn add(&mut self, p: Seq) -> Result<(), AllocError>
         ensures { OnOk result (self.new ≡ record self.old { heap = set.insert self.old.heap p }) }
     {
@@ -129,12 +129,12 @@ impl PreparedTables {
     }
 }
 
-impl PreparedTables {
+impl PreparedSets {
     /// The undecided prepares of a history that is opened are delayed.
-    pub fn left_by(history: &History, alloc: Global) -> Result<PreparedTables, AllocError>
+    pub fn left_by(history: &History, alloc: Global) -> Result<PreparedSets, AllocError>
         ensures { IfOk result (λ t. t ≡ record { heap = set.empty; delayed = set.from_list (undecided history.now.entries); delayed_commits = finite.empty }) }
     {
-        Ok(PreparedTables {
+        Ok(PreparedSets {
             heap: Vec::new(alloc),
             delayed: Vec::from_slice(alloc, history.undecided())?,
             delayed_commits: Vec::new(alloc),
@@ -143,7 +143,7 @@ impl PreparedTables {
 }
 
 // Written out, so that no crate above proves anew how all that it holds is let go.
-impl Drop for PreparedTables {
+impl Drop for PreparedSets {
     fn drop(self) {
         let Self {
             heap: _heap,

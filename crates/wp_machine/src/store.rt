@@ -9,16 +9,16 @@ use std::marker::Model;
 use wp_model::{Entry, Segment, Seq, Version};
 
 /// The versions in memory and in tables, and the floor: at each number from it on a reader finds all that it needs.
-pub struct StoreTable {
+pub struct StoreState {
     pub memory: Vec<Version>,
     pub tables: Vec<Version>,
     pub floor: Seq,
 }
 
-impl Model for StoreTable {
-    ghost use Rattle.wp_core.specs.Tables.{StoreTable};
+impl Model for StoreState {
+    ghost use Rattle.wp_core.specs.Tables.{StoreState};
 
-    ghost Value = { StoreTable };
+    ghost Value = { StoreState };
 
     ghost view = { λ t. record { memory = t.memory.items; tables = t.tables.items; floor = t.floor } };
 }
@@ -65,7 +65,7 @@ impl Installed {
     }
 }
 
-impl StoreTable {
+impl StoreState {
     /// Memory has no versions with that number any more.
     pub fn take_number(&mut self, n: Seq)
         ensures { self.new ≡ record self.old { memory = without_number n self.old.memory } }
@@ -85,12 +85,12 @@ impl StoreTable {
     }
 }
 
-impl StoreTable {
+impl StoreState {
     /// All versions of the entries, in memory.
-    pub fn of(entries: &[Entry], alloc: Global) -> Result<StoreTable, AllocError>
+    pub fn of(entries: &[Entry], alloc: Global) -> Result<StoreState, AllocError>
         ensures { IfOk result (λ t. t ≡ all_in_memory entries.now) }
     {
-        Ok(StoreTable {
+        Ok(StoreState {
             memory: all_versions(entries, alloc)?,
             tables: Vec::new(alloc),
             floor: 0,
@@ -124,7 +124,7 @@ impl Installed {
 }
 
 // Written out, so that no crate above proves anew how all that it holds is let go.
-impl Drop for StoreTable {
+impl Drop for StoreState {
     fn drop(self) {
         let Self {
             memory: _memory,

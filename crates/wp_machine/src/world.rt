@@ -7,21 +7,21 @@ ghost use Rattle.wp_model.specs.Legal.{IsLegal, undone_last};
 ghost use Rattle.wp_core.specs.Runs.{IsOpening};
 ghost use Rattle.wp_core.specs.World.{new_actor};
 ghost use Rattle.wp_core.proofs.Openings.{opened_world, flag_of, all_in_memory};
-ghost use Rattle.wp_history.proofs.Opened.{names_of, keys_of};
+ghost use Rattle.wp_history_laws.proofs.Opened.{names_of, keys_of};
 
 use crate::actor::Actor;
 use crate::cache::Cache;
 use crate::copies::copy_entries;
-use crate::locks::LockTables;
-use crate::prepared::PreparedTables;
+use crate::locks::LockState;
+use crate::prepared::PreparedSets;
 use crate::snapshots::Snapshots;
-use crate::store::{Installed, InstalledEdit, StoreTable};
+use crate::store::{Installed, InstalledEdit, StoreState};
 use crate::turn::Holders;
-use crate::writes::WriteTable;
+use crate::writes::WriteState;
 use std::alloc::{AllocError, Global};
 use std::marker::Model;
 use std::snapshot::Snapshot;
-use wp_ledger::History;
+use wp_history::History;
 use wp_model::{Entry, Name, Seq};
 
 /// The words, the turns, the tables that they guard, and the actors.
@@ -34,11 +34,11 @@ pub struct World {
     pub old_flag: u64,
     pub cache: Cache,
     pub holders: Holders,
-    pub writes: WriteTable,
-    pub prepared: PreparedTables,
+    pub writes: WriteState,
+    pub prepared: PreparedSets,
     pub snapshots: Snapshots,
-    pub store: StoreTable,
-    pub locks: LockTables,
+    pub store: StoreState,
+    pub locks: LockState,
     pub installed: Installed,
     pub first_edit: InstalledEdit,
     pub actors: Vec<Actor>,
@@ -46,15 +46,15 @@ pub struct World {
 
 impl Model for World {
     ghost use Rattle.std.specs.Coded.{codes};
-    ghost use Rattle.wp_model.specs.PreparedTables.{prepared_tables_code};
+    ghost use Rattle.wp_model.specs.PreparedSets.{prepared_sets_code};
     ghost use Rattle.wp_model.specs.Snapshots.{snapshots_code};
-    ghost use Rattle.wp_model.specs.LockTables.{lock_tables_code};
+    ghost use Rattle.wp_model.specs.LockState.{lock_state_code};
     ghost use Rattle.wp_core.specs.World.{World};
     ghost use Rattle.wp_actor.specs.Codes.{transactions_code};
 
     ghost Value = { World };
 
-    ghost coded = { Prim.hlevel (codes, prepared_tables_code, snapshots_code, lock_tables_code, transactions_code) };
+    ghost coded = { Prim.hlevel (codes, prepared_sets_code, snapshots_code, lock_state_code, transactions_code) };
 
     ghost view = { λ w. record { opened = w.opened.value.items; max_evicted = w.max_evicted; delayed_flag = w.delayed_flag; old_flag = w.old_flag; cache = w.cache; holders = w.holders; writes = w.writes; prepared = w.prepared; snapshots = w.snapshots; store = w.store; locks = w.locks; installed = w.installed; first_edit = w.first_edit; actors = w.actors.items } };
 }
@@ -123,25 +123,22 @@ fn first_seat(alloc: Global, client: Name, entries: &[Entry]) -> Result<Vec<Acto
 }
 
 /// The history as it is logged and published, and its versions, all in memory.
-fn stored(entries: &[Entry], alloc: Global) -> Result<(WriteTable, StoreTable), AllocError>
+fn stored(entries: &[Entry], alloc: Global) -> Result<(WriteState, StoreState), AllocError>
     ensures writes { IfOk result (λ t. t.0 ≡ record { history = entries.now; pending = []; logged = false; log = entries.now; closed = false; stopped = false; failed = []; segment = first_segment; next = None }) }
     ensures store { IfOk result (λ t. t.1 ≡ all_in_memory entries.now) }
 {
-    let writes = WriteTable::of(entries, alloc)?;
-    let store = StoreTable::of(entries, alloc)?;
+    let writes = WriteState::of(entries, alloc)?;
+    let store = StoreState::of(entries, alloc)?;
     Ok((writes, store))
 }
 
 /// The undecided prepares: they are delayed, their names had by nobody and their keys held.
-fn left_undecided(
-    history: &History,
-    alloc: Global,
-) -> Result<(PreparedTables, LockTables), AllocError>
+fn left_undecided(history: &History, alloc: Global) -> Result<(PreparedSets, LockState), AllocError>
     ensures prepared { IfOk result (λ t. t.0 ≡ record { heap = set.empty; delayed = set.from_list (undecided history.now.entries); delayed_commits = finite.empty }) }
     ensures locks { IfOk result (λ t. t.1 ≡ record { names = finite.from_entries (names_of history.now.entries); keys = finite.from_entries (keys_of history.now.entries); labels = finite.empty }) }
 {
-    let prepared = PreparedTables::left_by(history, alloc)?;
-    let locks = LockTables::left_by(history, alloc)?;
+    let prepared = PreparedSets::left_by(history, alloc)?;
+    let locks = LockState::left_by(history, alloc)?;
     Ok((prepared, locks))
 }
 

@@ -15,7 +15,7 @@ use wp_model::{Batch, Entry, Segment, Seq};
 
 /// The history and its log, with the segment that this is in, and the one that was written beside it, if one was. What is pending is
 /// what is left of one record, the entry that comes next first.
-pub struct WriteTable {
+pub struct WriteState {
     pub history: Vec<Entry>,
     pub pending: Vec<Entry>,
     pub logged: bool,
@@ -29,10 +29,10 @@ pub struct WriteTable {
     pub next: Option<Segment>,
 }
 
-impl Model for WriteTable {
-    ghost use Rattle.wp_core.specs.Tables.{WriteTable};
+impl Model for WriteState {
+    ghost use Rattle.wp_core.specs.Tables.{WriteState};
 
-    ghost Value = { WriteTable };
+    ghost Value = { WriteState };
 
     ghost view = { λ t. record { history = t.history.items; pending = t.pending.items; logged = t.logged; log = t.log.items; closed = t.closed; stopped = t.stopped; failed = t.failed.value.items; segment = t.segment; next = t.next } };
 }
@@ -48,7 +48,7 @@ pub fn pair_by(n: Seq, entry: &Entry) -> Option<(Seq, Seq)>
     }
 }
 
-impl WriteTable {
+impl WriteState {
     pub fn published(&self) -> Seq
         ensures { result ≡ length self.now.history }
     {
@@ -145,7 +145,7 @@ pub fn entry_at(entries: &[Entry], n: Seq) -> Option<&Entry>
     entries.get(usize::try_from(before).ok()?)
 }
 
-impl WriteTable {
+impl WriteState {
     pub fn batch_at(&self, p: Seq, alloc: Global) -> Result<Batch, AllocError>
         ensures { IfOk result (λ batch. batch ≡ batch_at self.now.history p) }
     {
@@ -153,13 +153,13 @@ impl WriteTable {
     }
 }
 
-impl WriteTable {
+impl WriteState {
     /// Nothing is pending, and the log spells these entries, in the segment that begins its device.
-    pub fn of(entries: &[Entry], alloc: Global) -> Result<WriteTable, AllocError>
+    pub fn of(entries: &[Entry], alloc: Global) -> Result<WriteState, AllocError>
         ensures { IfOk result (λ t. t ≡ record { history = entries.now; pending = []; logged = false; log = entries.now; closed = false; stopped = false; failed = []; segment = first_segment; next = None }) }
     {
         let none = Vec::new(alloc);
-        Ok(WriteTable {
+        Ok(WriteState {
             history: copy_entries(entries, alloc)?,
             pending: Vec::new(alloc),
             logged: false,
@@ -174,7 +174,7 @@ impl WriteTable {
 }
 
 // Written out, so that no crate above proves anew how all that it holds is let go.
-impl Drop for WriteTable {
+impl Drop for WriteState {
     fn drop(self) {
         let Self {
             history: _history,

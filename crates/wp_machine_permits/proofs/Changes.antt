@@ -7,7 +7,7 @@ use Rattle.wp_model.specs.declared.version.Version.{Version}
 use Rattle.wp_model.specs.declared.holder.Holder.TheVariants.{Txn}
 use Rattle.wp_model.specs.Batch.{key_of, value_of, change_to}
 use Rattle.wp_model.specs.Versions.{version_at}
-use Rattle.wp_model.specs.LockTables.{LockTables}
+use Rattle.wp_model.specs.LockState.{LockState}
 use Rattle.wp_machine_permits.specs.Each.{Each}
 use Rattle.wp_machine_permits.specs.VersionLists.{HasChanges}
 use Rattle.wp_machine_permits.specs.Holding.{AreHeldFor}
@@ -43,15 +43,15 @@ there_has versions n batch has = at_changed (λ k. version_at versions k n ≡ c
 
 -- ---- keys that are held
 
-abbrev pub EachHeldFor : LockTables → List ℕ → List Change → Type 0
+abbrev pub EachHeldFor : LockState → List ℕ → List Change → Type 0
 EachHeldFor locks name changes = Each (λ (change : Change). finite.get locks.keys (key_of change) ≡ Some (Txn name)) changes
 
-pub held_from : (locks : LockTables) (name : List ℕ) (changes : List Change) → EachHeldFor locks name changes → AreHeldFor locks changes name
+pub held_from : (locks : LockState) (name : List ℕ) (changes : List Change) → EachHeldFor locks name changes → AreHeldFor locks changes name
 held_from locks name changes each key changed = by (change_to changes key) refl
   where
     by : (c : Option (Option (List ℕ))) → change_to changes key ≡ c → finite.get locks.keys key ≡ Some (Txn name)
     by None e = let no : is_some (change_to changes key) ≡ false = ap is_some e in absurd cc
     by (Some value) e = changed_at (λ k. finite.get locks.keys k ≡ Some (Txn name)) changes each key value e
 
-pub from_held : (locks : LockTables) (name : List ℕ) (changes : List Change) → AreHeldFor locks changes name → EachHeldFor locks name changes
+pub from_held : (locks : LockState) (name : List ℕ) (changes : List Change) → AreHeldFor locks changes name → EachHeldFor locks name changes
 from_held locks name changes held = at_changed (λ k. finite.get locks.keys k ≡ Some (Txn name)) changes (λ key value is. held key (ap is_some is))

@@ -2,7 +2,7 @@
 use Rattle.std.proofs.Common.{[], ◌∷◌, refl, arith}
 use Rattle.wp_model.specs.declared.entry.Entry.TheVariants.{Write, Commit, Undo, Close}
 use Rattle.wp_model.specs.Legal.{IsLegal}
-use Rattle.wp_history.proofs.Growth.{legal_next}
+use Rattle.wp_history_laws.proofs.Growth.{legal_next}
 use Rattle.wp_machine_permits.specs.Runs.{prepared, prior, direct}
 use Rattle.wp_machine_permits.proofs.Leading.{none_legal}
 

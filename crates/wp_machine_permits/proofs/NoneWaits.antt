@@ -5,7 +5,7 @@ use Rattle.std.specs.List.{list_any}
 use Rattle.std.specs.FinSet as set
 use Rattle.std.proofs.lemmas.Bool.{eqb-true}
 use Rattle.wp_model.specs.declared.entry.Entry.{Entry}
-use Rattle.wp_model.specs.PreparedTables.{PreparedTables}
+use Rattle.wp_model.specs.PreparedSets.{PreparedSets}
 use Rattle.wp_core.specs.Sound.Views.{NoneWaits}
 use Rattle.wp_machine_permits.specs.Each.{Each}
 use Rattle.wp_machine_permits.specs.Waiting.{IsInWord}
@@ -25,7 +25,7 @@ either : (P : Type 0) (a b : Bool) → (a || b) ≡ true → (a ≡ true → P) 
 either P true b e one two = one refl
 either P false b e one two = two e
 
-pub none_wait : (history : List Entry) (t : PreparedTables) (cache : List ℕ) (max : ℕ) (heap delayed : List ℕ) → t.heap ≡ set.from_list heap → t.delayed ≡ set.from_list delayed → Each (IsInWord history cache max) heap → Each (IsInWord history cache max) delayed
+pub none_wait : (history : List Entry) (t : PreparedSets) (cache : List ℕ) (max : ℕ) (heap delayed : List ℕ) → t.heap ≡ set.from_list heap → t.delayed ≡ set.from_list delayed → Each (IsInWord history cache max) heap → Each (IsInWord history cache max) delayed
     → NoneWaits history t cache max
 none_wait history t cache max heap delayed one two first second p c there decided low =
     either (IsInWord history cache max p) (set.contains t.heap p) (set.contains t.delayed p) there

@@ -10,7 +10,7 @@ use Rattle.std.specs.FinMap as finite
 use Rattle.std.specs.Str.{bytes_eq}
 use Rattle.std.specs.Option.{is_some}
 use Rattle.std.proofs.lemmas.Bool.{eqb-true, eq-eqb}
-use Rattle.wp_model.specs.PreparedTables.{PreparedTables, NoneDelayed}
+use Rattle.wp_model.specs.PreparedSets.{PreparedSets, NoneDelayed}
 use Rattle.wp_model.specs.Snapshots.{Snapshot, is_old_commit, NoOldCommits}
 use Rattle.wp_model.specs.Batch.{key_cmp}
 use Rattle.wp_machine_permits.specs.Each.{Each}
@@ -80,12 +80,12 @@ some_in (x ∷ xs) e = (x, first_in_set x xs)
 first_got : (pair : ℕ × ℕ) (pairs : List (ℕ × ℕ)) → finite.get (finite.from_entries {R = nat_cmp} (pair ∷ pairs)) pair.0 ≡ Some pair.1
 first_got pair pairs = finite.get-from_entries nat_cmp_total (pair ∷ pairs) pair.0 ∙ rw (unsigned_tied pair.0 pair.0, eq-eqb pair.0 pair.0 refl) refl
 
-pub none_delayed : (t : PreparedTables) (heap delayed : List ℕ) (commits : List (ℕ × ℕ)) → t ≡ record { heap = set.from_list heap; delayed = set.from_list delayed; delayed_commits = finite.from_entries commits } → nat_eq (length delayed) 0 ≡ true
+pub none_delayed : (t : PreparedSets) (heap delayed : List ℕ) (commits : List (ℕ × ℕ)) → t ≡ record { heap = set.from_list heap; delayed = set.from_list delayed; delayed_commits = finite.from_entries commits } → nat_eq (length delayed) 0 ≡ true
     → (b : Bool) → b ≡ nat_eq (length commits) 0 → (b ≡ true → NoneDelayed t) × (NoneDelayed t → b ≡ true)
 none_delayed t heap delayed [] is none b e = (λ _. rw is (none_in delayed none, λ p. finite.get-from_entries nat_cmp_total [] p), λ _. e)
 none_delayed t heap delayed (pair ∷ pairs) is none b e = (λ on. let none : suc (length pairs) ≡ 0 = eqb-true _ _ (sym e ∙ on) in absurd cc, λ nothing. let apart : Some pair.1 ≡ None = sym (first_got pair pairs) ∙ (rw is at nothing.1) pair.0 in absurd cc)
 
-pub some_delayed : (t : PreparedTables) (heap delayed : List ℕ) (commits : List (ℕ × ℕ)) → t ≡ record { heap = set.from_list heap; delayed = set.from_list delayed; delayed_commits = finite.from_entries commits } → nat_eq (length delayed) 0 ≡ false
+pub some_delayed : (t : PreparedSets) (heap delayed : List ℕ) (commits : List (ℕ × ℕ)) → t ≡ record { heap = set.from_list heap; delayed = set.from_list delayed; delayed_commits = finite.from_entries commits } → nat_eq (length delayed) 0 ≡ false
     → (b : Bool) → b ≡ false → (b ≡ true → NoneDelayed t) × (NoneDelayed t → b ≡ true)
 some_delayed t heap delayed commits is there b down =
     let some = some_in delayed there in

@@ -19,8 +19,8 @@ use Rattle.wp_model.specs.Batch.{key_cmp, key_of, value_of, change_to}
 use Rattle.wp_model.specs.Flushed.{versions_under}
 use Rattle.wp_model.specs.History.{is_changed}
 use Rattle.wp_model.specs.Legal.{changes_in}
-use Rattle.wp_model.specs.LockTables.{Keys}
-use Rattle.wp_model.specs.PreparedTables.{PreparedTables, is_prepared}
+use Rattle.wp_model.specs.LockState.{Keys}
+use Rattle.wp_model.specs.PreparedSets.{PreparedSets, is_prepared}
 use Rattle.wp_model.specs.Snapshots.{Snapshots, Snapshot, IsLive, is_old_commit, after_register, after_keep}
 use Rattle.wp_model.specs.Versions.{version_at}
 use Rattle.wp_model.proofs.Numbers.{in_inserted, in_removed, get_inserted}
@@ -134,7 +134,7 @@ retained : (s : set.FinSet nat_cmp) (test : ℕ → Bool) (p : ℕ) → set.cont
 retained s test p = set.contains-retain s test p (alike test p)
 
 -- a number that is in no table, as the bound rises
-pub still_out : (x : PreparedTables) (m p : ℕ) → set.contains x.heap p ≡ false → set.contains x.delayed p ≡ false → is_prepared (with_moved x m) p ≡ false
+pub still_out : (x : PreparedSets) (m p : ℕ) → set.contains x.heap p ≡ false → set.contains x.delayed p ≡ false → is_prepared (with_moved x m) p ≡ false
 still_out x m p not_heap not_delayed =
     let heap : set.contains (set.retain x.heap (λ q. not (nat_le q m))) p ≡ false = retained x.heap (λ q. not (nat_le q m)) p ∙ ap (λ (b : Bool). b && not (nat_le p m)) not_heap in
     let moved : set.contains (set.retain x.heap (λ q. nat_le q m)) p ≡ false = retained x.heap (λ q. nat_le q m) p ∙ ap (λ (b : Bool). b && nat_le p m) not_heap in

@@ -13,7 +13,7 @@ use Rattle.wp_model.specs.Decision.{entry_version}
 use Rattle.wp_model.specs.Flushed.{IsEditCovered}
 use Rattle.wp_model.specs.History.{is_changed}
 use Rattle.wp_model.specs.Snapshots.{Snapshot, Snapshots}
-use Rattle.wp_history.proofs.Listed.{zero_covered}
+use Rattle.wp_history_laws.proofs.Listed.{zero_covered}
 use Rattle.wp_judge.specs.Words.{CommitPair, word_of}
 use Rattle.wp_core.specs.Cache.{cached}
 use Rattle.wp_core.specs.Conditions.{MayBeEvicted}

@@ -7,15 +7,15 @@ use Rattle.wp_model.specs.declared.entry.Entry.{Entry}
 use Rattle.wp_model.specs.declared.holder.Holder.TheVariants.{Txn, Client}
 use Rattle.wp_model.specs.History.{named, batch_at, is_changed, holder_of}
 use Rattle.wp_model.specs.Legal.{prior}
-use Rattle.wp_model.specs.LockTables.{LockTables}
+use Rattle.wp_model.specs.LockState.{LockState}
 use Rattle.wp_core.specs.World.{Transaction, Participant}
 use Rattle.wp_core.specs.Sound.Views.{Owns}
 
 -- the keys of the changes are held for the transaction
-abbrev pub AreHeldFor : LockTables → List Change → List ℕ → Type 0
+abbrev pub AreHeldFor : LockState → List Change → List ℕ → Type 0
 AreHeldFor locks changes name = (key : List ℕ) → is_changed changes key ≡ true → finite.get locks.keys key ≡ Some (Txn name)
 
-abbrev pub IsUndecidedAt : List Entry → LockTables → Participant → List ℕ → ℕ → Type 0
+abbrev pub IsUndecidedAt : List Entry → LockState → Participant → List ℕ → ℕ → Type 0
 IsUndecidedAt history locks a name p = Owns a name × (named history name ≡ Some p) × (finite.get locks.names name ≡ Some (Some a.client)) × AreHeldFor locks (batch_at history p) name
 
 abbrev pub HasPrior : List Entry → Participant → List ℕ → ℕ → List Change → Type 0
@@ -28,5 +28,5 @@ NoneHeld history a name = (x : Transaction) (key : List ℕ) → finite.get a.tr
 abbrev pub IsUnprepared : List Entry → Participant → List ℕ → Type 0
 IsUnprepared history a name = Owns a name × (named history name ≡ None) × NoneHeld history a name
 
-abbrev pub IsDirectFree : List Entry → LockTables → Participant → List ℕ → Type 0
+abbrev pub IsDirectFree : List Entry → LockState → Participant → List ℕ → Type 0
 IsDirectFree history locks a key = (a.direct ≡ Some key) × (finite.get locks.keys key ≡ Some (Client a.client)) × (holder_of history key ≡ None)

@@ -5,7 +5,7 @@ use crate::play::played;
 use crate::step::first_word;
 use crate::trouble::{Tried, Trouble, number};
 use std::alloc::Global;
-use wp_ledger::History;
+use wp_history::History;
 use wp_machine::World;
 use wp_model::{Entry, Name};
 

@@ -11,9 +11,9 @@ use Rattle.wp_core.specs.Views.{Event, log_failed, log_stopped, stopped, tables_
 use Rattle.wp_core.specs.Views as event
 use Rattle.wp_core.specs.World.{Participant, World}
 use Rattle.wp_rule.specs.Words.{IsAt}
-use Rattle.wp_shared.specs.Edits.{EditsState, IsEdits}
+use Rattle.wp_shared.specs.VersionSet.{VersionSetState, IsEdits}
 use Rattle.wp_shared.specs.Parts.{EditsStand, set_first}
-use Rattle.wp_shared.specs.Calls.{Continues, remembering}
+use Rattle.wp_shared.specs.Calls.{Continues, with_events}
 use Rattle.wp_shared.specs.Seats.{SharedState, SeatState, Stands, place_at}
 use Rattle.wp_shared.proofs.Onward.{starts_equal}
 use Rattle.wp_maint.specs.declared.done.Done.{Done}
@@ -62,7 +62,7 @@ devices_more f (Err renewal.Nothing) k = f k
 -- ---- the tables were given back with the manifest's device uncalled
 
 -- a seat took them, which had seen no more than the one before, and gave them back
-module _ {D : Type 0} (z : SharedState D) (s t v : SeatState) (before after : EditsState) (stands : (w : World) × Stands z t w) (seat : IsSeat s t) (same : t.knows.participant ≡ s.knows.participant) (held : IsIn (installed before.table) t.knows.held)
+module _ {D : Type 0} (z : SharedState D) (s t v : SeatState) (before after : VersionSetState) (stands : (w : World) × Stands z t w) (seat : IsSeat s t) (same : t.knows.participant ≡ s.knows.participant) (held : IsIn (installed before.table) t.knows.held)
     (of_store : set_first z.first ≡ Some before.first) (still_of_store : set_first z.first ≡ Some after.first) (edits : IsEdits before) (still_edits : IsEdits after) (grown : StartsWith v.knows.participant.seen s.knows.participant.seen) where
   found : Finds z s v before.table
   found = record {
@@ -88,7 +88,7 @@ module _ {D : Type 0} (z : SharedState D) (s t v : SeatState) (before after : Ed
   kept_once stand same = (
     before.table,
     found,
-    record { before = before; after = after; of_store = of_store; still_of_store = still_of_store; before_is = refl; after_is = ap (λ (e : EditsState). e.table) same; edits = edits; still_edits = still_edits; so = (same, stand) },
+    record { before = before; after = after; of_store = of_store; still_of_store = still_of_store; before_is = refl; after_is = ap (λ (e : VersionSetState). e.table) same; edits = edits; still_edits = still_edits; so = (same, stand) },
   )
 
   pub left_each : AreLeft before after → LeavesEach z s v
@@ -107,10 +107,10 @@ module _ {D : Type 0} (z : SharedState D) (old new : SeatState) where
   p = old.knows.participant
 
   -- it remembers these events too, of which some are of an install
-  pub remembered : (events : List Event) → Continues z old new (remembering events p) → installs_of new.knows.participant ≡ installs_of p ++ filter is_of_install events
+  pub remembered : (events : List Event) → Continues z old new (with_events events p) → installs_of new.knows.participant ≡ installs_of p ++ filter is_of_install events
   remembered events goes = ap installs_of goes.participant ∙ filter-append is_of_install p.past events
 
-  pub none_remembered : (events : List Event) → filter is_of_install events ≡ [] → Continues z old new (remembering events p) → installs_of new.knows.participant ≡ installs_of p
+  pub none_remembered : (events : List Event) → filter is_of_install events ≡ [] → Continues z old new (with_events events p) → installs_of new.knows.participant ≡ installs_of p
   none_remembered events none goes = remembered events goes ∙ ap (λ (es : List Event). installs_of p ++ es) none ∙ append-nil (installs_of p)
 
   -- what it has seen since
@@ -153,7 +153,7 @@ pub refused_or_failed : (Leaves : Type 0) (old new : SeatState) (why : MaintErro
 refused_or_failed Leaves old new TableFault r = inr (refl, r)
 refused_or_failed Leaves old new other r = inl r
 
-pub left_or_broken : {D : Type 0} (z : SharedState D) (s u : SeatState) (e left : EditsState) (next : InstalledEdit) (why : MaintError) → NotInstalled z s e next why u left → UnlessFault (AreLeft e left) why → AreLeft e left ⊎ ((why ≡ TableFault) × HasBroken z s e next u left)
+pub left_or_broken : {D : Type 0} (z : SharedState D) (s u : SeatState) (e left : VersionSetState) (next : InstalledEdit) (why : MaintError) → NotInstalled z s e next why u left → UnlessFault (AreLeft e left) why → AreLeft e left ⊎ ((why ≡ TableFault) × HasBroken z s e next u left)
 left_or_broken z s u e left next TableFault k so = inr (refl, k)
 left_or_broken z s u e left next other k so = inl so
 

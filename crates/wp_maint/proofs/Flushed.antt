@@ -13,9 +13,9 @@ use Rattle.wp_core.specs.Views.{tables_failed, tables_stay, frozen_stay}
 use Rattle.wp_core.specs.Views as event
 use Rattle.wp_core.specs.World.{Participant}
 use Rattle.wp_rule.specs.Knows.{KnowsTables}
-use Rattle.wp_shared.specs.Edits.{EditsState}
+use Rattle.wp_shared.specs.VersionSet.{VersionSetState}
 use Rattle.wp_shared.specs.Installs.{SurvivesInstall}
-use Rattle.wp_shared.specs.Calls.{GoesOnAs, remembering}
+use Rattle.wp_shared.specs.Calls.{GoesOnAs, with_events}
 use Rattle.wp_shared.specs.Notes.{no_fact, GoesOn}
 use Rattle.wp_shared.specs.Seats.{SharedState, SeatState}
 use Rattle.wp_shared.proofs.Onward.{starts_equal, loose_none, goes_none, goes_same, goes_still}
@@ -30,20 +30,20 @@ use Rattle.wp_maint.proofs.Installed.{same_edit}
 use Rattle.wp_maint.proofs.Throughout.{opens_throughout}
 use Rattle.wp_maint.proofs.Onward.{changed_seat, held_left, found_later, flushed_free, tables_free, goes_remembering}
 
-module _ {D : Type 0} (z : SharedState D) (s u : SeatState) (e left : EditsState) (f : Frozen) (frozen : HasFrozen s.knows e.table f) where
+module _ {D : Type 0} (z : SharedState D) (s u : SeatState) (e left : VersionSetState) (f : Frozen) (frozen : HasFrozen s.knows e.table f) where
   abbrev next : InstalledEdit
   next = after_flush s.knows.participant.seen e.table.last
 
   module _ (versions : List Version) (versions_are : versions ≡ (versions_of f)) (k : HasInstalled z s e next false u left) where
     pub may_put : KnowsTables s.knows e.table.last → MayPut u.knows left.table f versions
-    may_put settled = record {
+    may_put in_step = record {
       flushed = ap (λ (x : Installed). x.last.flushed) k.table ∙ sym frozen.at;
       versions_are = versions_are;
       low = frozen.flushed;
       frozen = k.changes.goes.noted (frozen_stay f.at (versions_of f)) refl frozen.noted;
       before = e.table.last.versions;
-      floor = settled.1.0;
-      named = k.changes.goes.noted (tables_stay e.table.last.versions settled.1.0) refl settled.1.1;
+      floor = in_step.1.0;
+      named = k.changes.goes.noted (tables_stay e.table.last.versions in_step.1.0) refl in_step.1.1;
       tables = frozen.tables;
       room = frozen.room;
       last = ap (λ (x : Installed). x.last.versions) k.table ∙ sym (ap (λ (x : InstalledEdit). x.versions) (same_edit s.knows e.table f frozen));
@@ -54,7 +54,7 @@ module _ {D : Type 0} (z : SharedState D) (s u : SeatState) (e left : EditsState
         let before : u.knows.participant.seen ≡ s.knows.participant.seen = ap (λ (x : SeatState). x.knows.participant.seen) k.changes.goes.same in
         let seen : v.knows.participant.seen ≡ s.knows.participant.seen = ap (λ (x : SeatState). x.knows.participant.seen) put.same ∙ before in
         let found = found_later z s u v e.table (starts_equal u.knows.participant.seen v.knows.participant.seen (ap (λ (x : SeatState). x.knows.participant.seen) put.same)) k.changes.found in
-        let after : InstalledEdit → Participant = λ edit. remembering (found_by z s v e.table found ∷ event.installed edit false ∷ []) s.knows.participant in
+        let after : InstalledEdit → Participant = λ edit. with_events (found_by z s v e.table found ∷ event.installed edit false ∷ []) s.knows.participant in
         let first : GoesOnAs s u (after next) = goes_remembering s u (found_by z s v e.table found ∷ event.installed next false ∷ []) is_of_flushed (installed left.table ∷ []) s.turns k.changes.goes flushed_free in
         let second : GoesOnAs u v u.knows.participant = goes_same u v is_of_tables (installed left.table ∷ []) turns tables_free put in
         record {

@@ -6,9 +6,9 @@ use Rattle.wp_core.specs.Lists.{IsIn}
 use Rattle.wp_core.specs.Tables.{Installed, installed}
 use Rattle.wp_core.specs.Views.{Event, Fact, tables_stay, nothing_flushed}
 use Rattle.wp_rule.specs.Knows.{KnowsTables, KnowsInstalled}
-use Rattle.wp_shared.specs.Edits.{EditsState}
-use Rattle.wp_shared.specs.Calls.{remembering}
-use Rattle.wp_shared.specs.Notes.{being, GoesOn}
+use Rattle.wp_shared.specs.VersionSet.{VersionSetState}
+use Rattle.wp_shared.specs.Calls.{with_events}
+use Rattle.wp_shared.specs.Notes.{with_participant, GoesOn}
 use Rattle.wp_shared.specs.Seats.{SharedState, SeatState}
 use Rattle.wp_shared.proofs.Onward.{starts_equal}
 use Rattle.wp_maint.specs.declared.error.MaintError.{MaintError}
@@ -36,23 +36,23 @@ module _ {D : Type 0} (z : SharedState D) (s u : SeatState) (t : Installed) wher
 
 -- and remembers one event more
 pub then_changes : {D : Type 0} (z : SharedState D) (s u v : SeatState) (t : Installed) (k : Remembers z s t u) (left : Installed) (event : Event) (test : Fact → Bool)
-    → GoesOn test (installed left ∷ []) u.turns (being (remembering (event ∷ []) u.knows.participant) u) v → Changes z s t left event test v
+    → GoesOn test (installed left ∷ []) u.turns (with_participant (with_events (event ∷ []) u.knows.participant) u) v → Changes z s t left event test v
 then_changes z s u v t k left event test goes =
     let found = found_later z s u v t (starts_equal u.knows.participant.seen v.knows.participant.seen (ap (λ (x : SeatState). x.knows.participant.seen) goes.same)) k.found in
     let first = found_by z s v t found in
-    let both : being (remembering (event ∷ []) u.knows.participant) u ≡ being (remembering (first ∷ event ∷ []) s.knows.participant) s =
-    ap (λ (x : SeatState). being (remembering (event ∷ []) x.knows.participant) x) k.is
-    ∙ ap (λ (past : List Event). being (record s.knows.participant { past = past }) s) (append_assoc s.knows.participant.past (first ∷ []) (event ∷ [])) in
+    let both : with_participant (with_events (event ∷ []) u.knows.participant) u ≡ with_participant (with_events (first ∷ event ∷ []) s.knows.participant) s =
+    ap (λ (x : SeatState). with_participant (with_events (event ∷ []) x.knows.participant) x) k.is
+    ∙ ap (λ (past : List Event). with_participant (record s.knows.participant { past = past }) s) (append_assoc s.knows.participant.past (first ∷ []) (event ∷ [])) in
     record {
       found = found;
-      goes = subst (λ (b : SeatState). GoesOn test (installed left ∷ []) s.turns b v) both (subst (λ (x : SeatState). GoesOn test (installed left ∷ []) x.turns (being (remembering (event ∷ []) u.knows.participant) u) v) k.is goes);
+      goes = subst (λ (b : SeatState). GoesOn test (installed left ∷ []) s.turns b v) both (subst (λ (x : SeatState). GoesOn test (installed left ∷ []) x.turns (with_participant (with_events (event ∷ []) u.knows.participant) u) v) k.is goes);
     }
 
 -- what was noted of the tables is so still where the edit was refused
-pub settled_refused : {D : Type 0} (z : SharedState D) (s u : SeatState) (e left : EditsState) (next : InstalledEdit) (why : MaintError) → NotInstalled z s e next why u left → KnowsTables s.knows e.table.last → KnowsTables u.knows left.table.last
-settled_refused z s u e left next Memory k there = subst (λ (x : SeatState × Installed). KnowsTables x.0.knows x.1.last) (sym (λ i. (k.0 i, k.1 i))) there
-settled_refused z s u e left next TableFault k there =
+pub in_step_refused : {D : Type 0} (z : SharedState D) (s u : SeatState) (e left : VersionSetState) (next : InstalledEdit) (why : MaintError) → NotInstalled z s e next why u left → KnowsTables s.knows e.table.last → KnowsTables u.knows left.table.last
+in_step_refused z s u e left next Memory k there = subst (λ (x : SeatState × Installed). KnowsTables x.0.knows x.1.last) (sym (λ i. (k.0 i, k.1 i))) there
+in_step_refused z s u e left next TableFault k there =
     let last : left.table.last ≡ e.table.last = ap (λ (x : Installed). x.last) k.table ∙ failed_last e.table left.table.failed in
     subst (KnowsTables u.knows) (sym last) (k.changes.goes.noted nothing_flushed refl there.0, (there.1.0, k.changes.goes.noted (tables_stay e.table.last.versions there.1.0) refl there.1.1))
-settled_refused z s u e left next Nothing k there = absurd k
-settled_refused z s u e left next (TablesStopped flushed) k there = absurd k
+in_step_refused z s u e left next Nothing k there = absurd k
+in_step_refused z s u e left next (TablesStopped flushed) k there = absurd k

@@ -12,16 +12,16 @@ use Rattle.wp_replies.specs.Tables.{unflushed, after_flush, after_renewal}
 use Rattle.wp_core.specs.IsSound.{IsSound}
 use Rattle.wp_core.specs.Lists.{IsIn}
 use Rattle.wp_core.specs.Sound.Actors.{StartsWith}
-use Rattle.wp_core.specs.Tables.{Content, WriteTable, StoreTable, Installed, writes, store, installed}
+use Rattle.wp_core.specs.Tables.{Content, WriteState, StoreState, Installed, writes, store, installed}
 use Rattle.wp_core.specs.Turns.{write_turn, store_turn}
 use Rattle.wp_core.specs.Views.{Fact, tables_stay, nothing_flushed, frozen_stay}
 use Rattle.wp_core.specs.World.{Actor, World}
 use Rattle.wp_rule.specs.Knows.{KnowsTables, Noted}
 use Rattle.wp_rule.proofs.Knows.{at_sound, noted_is}
 use Rattle.wp_rule.specs.Words.{IsAt}
-use Rattle.wp_shared.specs.Edits.{EditsState}
+use Rattle.wp_shared.specs.VersionSet.{VersionSetState}
 use Rattle.wp_shared.specs.Log.{LogState}
-use Rattle.wp_shared.specs.Stock.{StockState, store_table}
+use Rattle.wp_shared.specs.Stock.{StockState, store_state}
 use Rattle.wp_shared.specs.Notes.{no_fact, is_under, noting, seeing, GoesOn}
 use Rattle.wp_shared.specs.Seats.{SharedState, SeatState, Stands, place_at}
 use Rattle.wp_shared.specs.Turns.{HoldsTurn, Taken, TookLog, Given}
@@ -35,12 +35,12 @@ use Rattle.wp_maint.specs.Holding.{HoldsEdits}
 use Rattle.wp_maint.specs.Renewal.{HasFrozenAll}
 use Rattle.wp_maint.specs.Renewing.{HasCopiedAll}
 use Rattle.wp_maint.proofs.Memory.{memory_is, all_numbered, all_flushed, count_is, rises, flush_covered, renewal_covered, none_in_memory, sorted_none}
-use Rattle.wp_maint.proofs.Onward.{settled_on}
+use Rattle.wp_maint.proofs.Onward.{in_step_on}
 
-module _ {D : Type 0} (z : SharedState D) (s : SeatState) (d : WriteTable) (stock : StockState) (e : Installed) (held : s.knows.held ≡ store (store_table stock) ∷ writes d ∷ installed e ∷ [])
-    (none : d.pending ≡ []) (seen : s.knows.participant.seen ≡ d.history) (settled : KnowsTables s.knows e.last) (w : World) (stands : Stands z s w) where
-  abbrev t : StoreTable
-  t = store_table stock
+module _ {D : Type 0} (z : SharedState D) (s : SeatState) (d : WriteState) (stock : StockState) (e : Installed) (held : s.knows.held ≡ store (store_state stock) ∷ writes d ∷ installed e ∷ [])
+    (none : d.pending ≡ []) (seen : s.knows.participant.seen ≡ d.history) (in_step : KnowsTables s.knows e.last) (w : World) (stands : Stands z s w) where
+  abbrev t : StoreState
+  t = store_state stock
 
   sound : IsSound w
   sound = at_sound (place_at z s.by) s.knows w stands
@@ -55,7 +55,7 @@ module _ {D : Type 0} (z : SharedState D) (s : SeatState) (d : WriteTable) (stoc
   installed_here = held_table (place_at z s.by) s.knows w (installed e) stands (subst (IsIn (installed e)) (sym held) (inr (inr (inl refl))))
 
   history_is : w.writes.history ≡ s.knows.participant.seen
-  history_is = ap (λ (x : WriteTable). x.history) writes_here ∙ sym seen
+  history_is = ap (λ (x : WriteState). x.history) writes_here ∙ sym seen
 
   pub seen_legal : IsLegal s.knows.participant.seen
   seen_legal = subst IsLegal history_is sound.history.legal
@@ -66,12 +66,12 @@ module _ {D : Type 0} (z : SharedState D) (s : SeatState) (d : WriteTable) (stoc
   -- all in memory is what the history has above the flushed number
   pub frozen_is : t.memory ≡ sorted_of (unflushed s.knows.participant.seen e.last)
   frozen_is =
-      memory_is w sound (ap (λ (x : WriteTable). x.pending) writes_here ∙ none) (noted_is (place_at z s.by) s.knows w nothing_flushed stands settled.0).is_so t.memory (in_order_sorted (joined (stock.parts.memory ∷ stock.parts.frozen))) (ap (λ (x : StoreTable). x.memory) store_here)
+      memory_is w sound (ap (λ (x : WriteState). x.pending) writes_here ∙ none) (noted_is (place_at z s.by) s.knows w nothing_flushed stands in_step.0).is_so t.memory (in_order_sorted (joined (stock.parts.memory ∷ stock.parts.frozen))) (ap (λ (x : StoreState). x.memory) store_here)
       ∙ (λ i. sorted_of (later_versions (history_is i) (installed_here i).last.flushed))
 
   -- and the versions in tables are the last edit's
   pub tables_are : t.tables ≡ e.last.versions
-  tables_are = ap (λ (x : StoreTable). x.tables) (sym store_here) ∙ (noted_is (place_at z s.by) s.knows w (tables_stay e.last.versions settled.1.0) stands settled.1.1).is_so.0
+  tables_are = ap (λ (x : StoreState). x.tables) (sym store_here) ∙ (noted_is (place_at z s.by) s.knows w (tables_stay e.last.versions in_step.1.0) stands in_step.1.1).is_so.0
 
   pub none_frozen : t.memory ≡ [] → Freezes s.knows e None
   none_frozen empty = none_in_memory s.knows.participant.seen seen_legal e.last seen_covered (sorted_none (unflushed s.knows.participant.seen e.last) (sym frozen_is ∙ empty))
@@ -155,7 +155,7 @@ all_still a b e f same still k = record {
 
 -- ---- the turns are taken and given
 
-module _ {D : Type 0} {z : SharedState D} {s0 s1 s2 : SeatState} {e : EditsState} {log : LogState} {t : StoreTable} (holds : HoldsEdits z s0 e) (first : TookLog z s0 s1 log) (second : Taken z s1 s2 (store t)) where
+module _ {D : Type 0} {z : SharedState D} {s0 s1 s2 : SeatState} {e : VersionSetState} {log : LogState} {t : StoreState} (holds : HoldsEdits z s0 e) (first : TookLog z s0 s1 log) (second : Taken z s1 s2 (store t)) where
   holds_log : HoldsTurn z s1 (writes log.table) (installed e.table ∷ []) (5 ∷ [])
   holds_log = record { same_table = first.holds.same_table; live = first.holds.live; held = first.holds.held ∙ ap (λ (l : List Content). writes log.table ∷ l) holds.turn.held; turns = first.holds.turns ∙ ap (λ (l : List ℕ). 0 ∷ l) holds.turn.turns }
 
@@ -165,18 +165,18 @@ module _ {D : Type 0} {z : SharedState D} {s0 s1 s2 : SeatState} {e : EditsState
   seen_two : s2.knows.participant.seen ≡ log.table.history
   seen_two = ap (λ (x : SeatState). x.knows.participant.seen) second.goes.same ∙ first.seen
 
-  pub settled_two : KnowsTables s0.knows e.table.last → KnowsTables s2.knows e.table.last
-  settled_two k =
-      settled_on s1 s2 no_fact (store t ∷ s1.knows.held) (3 ∷ s1.turns) refl (λ versions floor. refl) second.goes e.table.last
-      (settled_on (seeing log.table.history s0) s1 no_fact (writes log.table ∷ s0.knows.held) (0 ∷ s0.turns) refl (λ versions floor. refl) first.goes e.table.last k)
+  pub in_step_two : KnowsTables s0.knows e.table.last → KnowsTables s2.knows e.table.last
+  in_step_two k =
+      in_step_on s1 s2 no_fact (store t ∷ s1.knows.held) (3 ∷ s1.turns) refl (λ versions floor. refl) second.goes e.table.last
+      (in_step_on (seeing log.table.history s0) s1 no_fact (writes log.table ∷ s0.knows.held) (0 ∷ s0.turns) refl (λ versions floor. refl) first.goes e.table.last k)
 
   pub saw_whole : SawWhole z s0 log.table.history
   saw_whole = record {
     world = first.world;
     actor = s1.knows;
     there = subst (λ (b : ℕ). IsAt (place_at z b) s1.knows first.world) (ap (λ (x : SeatState). x.by) first.seat) first.stands;
-    held = subst (λ (d : WriteTable). IsIn (writes d) s1.knows.held) (sym first.is) (subst (IsIn (writes log.table)) (sym first.holds.held) (inl refl));
-    history_is = ap (λ (d : WriteTable). d.history) first.is;
+    held = subst (λ (d : WriteState). IsIn (writes d) s1.knows.held) (sym first.is) (subst (IsIn (writes log.table)) (sym first.holds.held) (inl refl));
+    history_is = ap (λ (d : WriteState). d.history) first.is;
     seen_is = first.seen;
     past_is = ap (λ (x : SeatState). x.knows.participant.past) first.seat;
     made = ap (λ (x : SeatState). x.knows.made) first.seat;
@@ -185,8 +185,8 @@ module _ {D : Type 0} {z : SharedState D} {s0 s1 s2 : SeatState} {e : EditsState
 
   -- the log is shown, and the versions are lent
   module _ {log1 : LogState} (shown : log1 ≡ log) where
-    pub holds_lent : {t1 : StoreTable} → t1 ≡ t → HoldsTurn z s2 (store t1) (writes log1.table ∷ installed e.table ∷ []) (0 ∷ 5 ∷ [])
-    holds_lent lent = subst (λ (x : LogState × StoreTable). HoldsTurn z s2 (store x.1) (writes x.0.table ∷ installed e.table ∷ []) (0 ∷ 5 ∷ [])) (λ i. ((sym shown) i, (sym lent) i)) holds_stock
+    pub holds_lent : {t1 : StoreState} → t1 ≡ t → HoldsTurn z s2 (store t1) (writes log1.table ∷ installed e.table ∷ []) (0 ∷ 5 ∷ [])
+    holds_lent lent = subst (λ (x : LogState × StoreState). HoldsTurn z s2 (store x.1) (writes x.0.table ∷ installed e.table ∷ []) (0 ∷ 5 ∷ [])) (λ i. ((sym shown) i, (sym lent) i)) holds_stock
 
     pub none_shown : log1.table.pending ≡ []
     none_shown = ap (λ (x : LogState). x.table.pending) shown ∙ first.knows.0
@@ -195,8 +195,8 @@ module _ {D : Type 0} {z : SharedState D} {s0 s1 s2 : SeatState} {e : EditsState
     seen_shown = seen_two ∙ ap (λ (x : LogState). x.table.history) (sym shown)
 
   -- the versions that are given are those that were taken
-  pub holds_given : {s3 : SeatState} → GoesOn no_fact s2.knows.held s2.turns s2 s3 → (left : StoreTable) → left ≡ t → HoldsTurn z s3 (store left) (writes log.table ∷ installed e.table ∷ []) (0 ∷ 5 ∷ [])
-  holds_given {s3 = s3} third left same = subst (λ (x : StoreTable). HoldsTurn z s3 (store x) (writes log.table ∷ installed e.table ∷ []) (0 ∷ 5 ∷ [])) (sym same) (holds_on holds_stock third)
+  pub holds_given : {s3 : SeatState} → GoesOn no_fact s2.knows.held s2.turns s2 s3 → (left : StoreState) → left ≡ t → HoldsTurn z s3 (store left) (writes log.table ∷ installed e.table ∷ []) (0 ∷ 5 ∷ [])
+  holds_given {s3 = s3} third left same = subst (λ (x : StoreState). HoldsTurn z s3 (store x) (writes log.table ∷ installed e.table ∷ []) (0 ∷ 5 ∷ [])) (sym same) (holds_on holds_stock third)
 
   module _ {s3 s4 : SeatState} (third : GoesOn no_fact s2.knows.held s2.turns s2 s3) (gave : Given z store_turn s3 s4 (writes log.table ∷ installed e.table ∷ []) (0 ∷ 5 ∷ [])) where
     pub holds_left : HoldsTurn z s4 (writes log.table) (installed e.table ∷ []) (5 ∷ [])

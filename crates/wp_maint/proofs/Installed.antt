@@ -11,14 +11,14 @@ use Rattle.wp_merge.proofs.Sorted.{at_append, at_sorted}
 use Rattle.wp_replies.specs.Tables.{unflushed, after_flush}
 use Rattle.wp_core.specs.Lists.{IsIn}
 use Rattle.wp_core.specs.Sound.Store.{NoneFlushed}
-use Rattle.wp_core.specs.Tables.{Content, StoreTable, Installed, store, installed}
+use Rattle.wp_core.specs.Tables.{Content, StoreState, Installed, store, installed}
 use Rattle.wp_core.specs.Views.{Fact, tables_stay, frozen_stay}
 use Rattle.wp_core.specs.World.{Participant, Actor, World}
 use Rattle.wp_core.proofs.Tests.{none_some}
 use Rattle.wp_rule.specs.Knows.{Noted, KnowsMoved, KnowsInstalled}
 use Rattle.wp_rule.proofs.Knows.{noted_is}
-use Rattle.wp_shared.specs.Edits.{EditsState}
-use Rattle.wp_shared.specs.Notes.{being, GoesOn}
+use Rattle.wp_shared.specs.VersionSet.{VersionSetState}
+use Rattle.wp_shared.specs.Notes.{with_participant, GoesOn}
 use Rattle.wp_shared.specs.Seats.{SharedState, SeatState, Stands, place_at}
 use Rattle.wp_shared.proofs.Tables.{held_table}
 use Rattle.wp_maint.specs.declared.frozen.Frozen.{Frozen}
@@ -53,7 +53,7 @@ pub asked_of : (so : InstalledEdit → Type 0) (edit : InstalledEdit) (failed : 
 asked_of so edit failed is (inl none) = subst (λ (o : Option InstalledEdit). IfSome o so) (sym none) tt
 asked_of so edit failed is (inr some) = subst (λ (o : Option InstalledEdit). IfSome o so) (sym some) is
 
-pub still_holds : {D : Type 0} (z : SharedState D) (s u : SeatState) (e left : EditsState) (p : Participant) (test : Fact → Bool) → HoldsEdits z s e → GoesOn test (installed left.table ∷ []) s.turns (being p s) u → left.first ≡ e.first → HoldsEdits z u left
+pub still_holds : {D : Type 0} (z : SharedState D) (s u : SeatState) (e left : VersionSetState) (p : Participant) (test : Fact → Bool) → HoldsEdits z s e → GoesOn test (installed left.table ∷ []) s.turns (with_participant p s) u → left.first ≡ e.first → HoldsEdits z u left
 still_holds z s u e left p test h k first = record {
   turn = record {
     same_table = ap (λ (x : SeatState). x.table) k.same ∙ h.turn.same_table;
@@ -70,16 +70,16 @@ or_same : (a b : Found) → a ≡ None → option_or a b ≡ b
 or_same a b none = ap (λ (o : Found). option_or o b) none
 
 module _ {D : Type 0} (z : SharedState D) (s : SeatState) (e : Installed) (f : Frozen) (versions : List Version) (may : MayPut s.knows e f versions) (u : SeatState) (w : World) (stands : Stands z u w)
-    (notes : (fact : Fact) → Noted s.knows fact → Noted u.knows fact) (t : StoreTable) (others : List Content) (held : u.knows.held ≡ store t ∷ others)
-    (now : StoreTable) (memory : (key : List ℕ) (p : ℕ) → version_at now.memory key p ≡ cond (nat_le p f.at) None (version_at t.memory key p)) (tables : List Version) (tables_is : now.tables ≡ sorted_of (versions ++ tables)) (before : sorted_of tables ≡ may.before) where
+    (notes : (fact : Fact) → Noted s.knows fact → Noted u.knows fact) (t : StoreState) (others : List Content) (held : u.knows.held ≡ store t ∷ others)
+    (now : StoreState) (memory : (key : List ℕ) (p : ℕ) → version_at now.memory key p ≡ cond (nat_le p f.at) None (version_at t.memory key p)) (tables : List Version) (tables_is : now.tables ≡ sorted_of (versions ++ tables)) (before : sorted_of tables ≡ may.before) where
   here : w.store ≡ t
   here = held_table (place_at z u.by) u.knows w (store t) stands (subst (IsIn (store t)) (sym held) (inl refl))
 
   frozen_at : (key : List ℕ) (q : ℕ) → q ≤ f.at → version_at t.memory key q ≡ version_at (versions_of f) key q
-  frozen_at key q low = ap (λ (x : StoreTable). version_at x.memory key q) (sym here) ∙ (noted_is (place_at z u.by) u.knows w (frozen_stay f.at (versions_of f)) stands (notes (frozen_stay f.at (versions_of f)) may.frozen)).is_so.1 key q low
+  frozen_at key q low = ap (λ (x : StoreState). version_at x.memory key q) (sym here) ∙ (noted_is (place_at z u.by) u.knows w (frozen_stay f.at (versions_of f)) stands (notes (frozen_stay f.at (versions_of f)) may.frozen)).is_so.1 key q low
 
   tables_then : t.tables ≡ may.before
-  tables_then = ap (λ (x : StoreTable). x.tables) (sym here) ∙ (noted_is (place_at z u.by) u.knows w (tables_stay may.before may.floor) stands (notes (tables_stay may.before may.floor) may.named)).is_so.0
+  tables_then = ap (λ (x : StoreState). x.tables) (sym here) ∙ (noted_is (place_at z u.by) u.knows w (tables_stay may.before may.floor) stands (notes (tables_stay may.before may.floor) may.named)).is_so.0
 
   gone_below : (key : List ℕ) (q : ℕ) → q ≤ f.at → version_at now.memory key q ≡ None
   gone_below key q low = memory key q ∙ ap (λ (b : Bool). cond b None (version_at t.memory key q)) (le-leb q f.at low)

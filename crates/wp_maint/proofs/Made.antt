@@ -10,7 +10,7 @@ use Rattle.wp_core.specs.Lists.{IsIn}
 use Rattle.wp_core.specs.Notes.{ends}
 use Rattle.wp_core.specs.Sound.Store.{NoneFlushed}
 use Rattle.wp_core.specs.Steps.{Step, install, halt, find_edit, move_versions, note}
-use Rattle.wp_core.specs.Tables.{Content, StoreTable, Installed, store, installed}
+use Rattle.wp_core.specs.Tables.{Content, StoreState, Installed, store, installed}
 use Rattle.wp_core.specs.Turns.{tables_turn}
 use Rattle.wp_core.specs.Sound.Pasts.{tables_due}
 use Rattle.wp_core.specs.Views.{Event, Fact, tables_failed, found_edit, tables_stay, nothing_flushed, frozen_stay}
@@ -24,8 +24,8 @@ use Rattle.wp_rule.proofs.MayBeMade.{known_made}
 use Rattle.wp_rule.proofs.Needed.{guarded, needed}
 use Rattle.wp_rule.proofs.Outlasting.{outlasts}
 use Rattle.wp_rule.proofs.Stores.{holder_is_live}
-use Rattle.wp_shared.specs.Calls.{remembering}
-use Rattle.wp_shared.specs.Notes.{no_fact, being, GoesOn}
+use Rattle.wp_shared.specs.Calls.{with_events}
+use Rattle.wp_shared.specs.Notes.{no_fact, with_participant, GoesOn}
 use Rattle.wp_shared.specs.Seats.{SharedState, SeatState, Stands, place_at}
 use Rattle.wp_shared.proofs.OneStep.{made, becomes}
 use Rattle.wp_shared.proofs.Goes.{goes_with}
@@ -72,7 +72,7 @@ found z so s u same t held m =
     let step = made (place_at z s.by) find_edit so s.knows u.knows find_ends m in
     let p : Participant = s.knows.participant in
     let table : step.world.installed ≡ t = held_table (place_at z s.by) s.knows step.world (installed t) step.before held in
-    let is : u ≡ being (remembering (find_of step.world.first_edit t p ∷ []) p) s = becomes s u (record s.knows { participant = remembering (find_of step.world.first_edit t p ∷ []) p }) same (step.actor ∙ ap (λ (x : Installed). record s.knows { participant = remembering (find_of step.world.first_edit x p ∷ []) p }) table) in
+    let is : u ≡ with_participant (with_events (find_of step.world.first_edit t p ∷ []) p) s = becomes s u (record s.knows { participant = with_events (find_of step.world.first_edit t p ∷ []) p }) same (step.actor ∙ ap (λ (x : Installed). record s.knows { participant = with_events (find_of step.world.first_edit x p ∷ []) p }) table) in
     record {
       found = record {
         world = step.world;
@@ -111,23 +111,23 @@ module _ (p : Place) (so : World → Type 0) (s u : SeatState) (same : (u.table 
   table_is w k = held_table p s.knows w (installed t) k (first_held s.knows (installed t) [] held)
 
   pub was_installed : (compacts : Bool) → e ≡ record t { last = e.last } → Moved p (λ w. install e.last compacts ∷ []) so s.knows u.knows
-      → GoesOn is_of_flushed (installed e ∷ []) s.turns (being (remembering (event.installed e.last compacts ∷ []) s.knows.participant) s) u
+      → GoesOn is_of_flushed (installed e ∷ []) s.turns (with_participant (with_events (event.installed e.last compacts ∷ []) s.knows.participant) s) u
   was_installed compacts is m =
       let w = m.world in
       let left : held_with s.knows.held (installed (record w.installed { last = e.last })) ≡ installed e ∷ [] =
       (λ i. held_with (held i) (installed (record (table_is w m.before i) { last = e.last }))) ∙ ap (λ (x : Installed). installed x ∷ []) (sym is) in
-      goes_from p so s u same (λ v. install e.last compacts ∷ []) m (record s.knows { participant = remembering (event.installed e.last compacts ∷ []) s.knows.participant }) is_of_flushed (installed e ∷ []) refl refl left
+      goes_from p so s u same (λ v. install e.last compacts ∷ []) m (record s.knows { participant = with_events (event.installed e.last compacts ∷ []) s.knows.participant }) is_of_flushed (installed e ∷ []) refl refl left
       (λ fact other. ((λ x. x), install_ends w.writes.history (length w.cache) e.last compacts fact other, tt))
 
   pub was_halted : e ≡ with_failed t e.failed → Moved p (λ w. halt e.failed ∷ []) so s.knows u.knows
-      → GoesOn no_fact (installed e ∷ []) s.turns (being (remembering (tables_failed e.last e.failed ∷ []) s.knows.participant) s) u
+      → GoesOn no_fact (installed e ∷ []) s.turns (with_participant (with_events (tables_failed e.last e.failed ∷ []) s.knows.participant) s) u
   was_halted is m =
       let w = m.world in
       let left : held_with s.knows.held (installed (with_failed w.installed e.failed)) ≡ installed e ∷ [] =
       (λ i. held_with (held i) (installed (with_failed (table_is w m.before i) e.failed))) ∙ ap (λ (x : Installed). installed x ∷ []) (sym is) in
       let last : w.installed.last ≡ e.last = ap (λ (x : Installed). x.last) (table_is w m.before) ∙ (sym (failed_last t e.failed) ∙ ap (λ (x : Installed). x.last) (sym is)) in
-      goes_from p so s u same (λ v. halt e.failed ∷ []) m (record s.knows { participant = remembering (tables_failed e.last e.failed ∷ []) s.knows.participant }) no_fact (installed e ∷ []) refl
-      (ap (λ (l : InstalledEdit). let b = actor_after (halt e.failed ∷ []) w p.by s.knows in record b { participant = remembering (tables_failed l e.failed ∷ []) s.knows.participant }) last) left
+      goes_from p so s u same (λ v. halt e.failed ∷ []) m (record s.knows { participant = with_events (tables_failed e.last e.failed ∷ []) s.knows.participant }) no_fact (installed e ∷ []) refl
+      (ap (λ (l : InstalledEdit). let b = actor_after (halt e.failed ∷ []) w p.by s.knows in record b { participant = with_events (tables_failed l e.failed ∷ []) s.knows.participant }) last) left
       (λ fact other. ((λ x. x), halt_ends w.writes.history (length w.cache) e.failed fact, tt))
     where
       halt_ends : (history : List Entry) (words : ℕ) (edit : Option InstalledEdit) (fact : Fact) → ends history words (halt edit) fact ≡ false
@@ -146,10 +146,10 @@ move_ends history words memory tables (frozen_stay n versions) e = absurd (true�
 move_ends history words memory tables nothing_flushed e = absurd (true≢false e)
 move_ends history words memory tables other e = refl
 
-abbrev pub moving : StoreTable → World → List Step
+abbrev pub moving : StoreState → World → List Step
 moving t w = move_versions t.memory t.tables ∷ note nothing_flushed ∷ note (tables_stay t.tables t.floor) ∷ []
 
-module _ (p : Place) (a : Actor) (t now : StoreTable) (e : Installed) (others : List Content) (at : IsIn (installed e) others) (held : a.held ≡ store t ∷ others) (floor : now.floor ≡ t.floor) where
+module _ (p : Place) (a : Actor) (t now : StoreState) (e : Installed) (others : List Content) (at : IsIn (installed e) others) (held : a.held ≡ store t ∷ others) (floor : now.floor ≡ t.floor) where
   store_there : IsIn (store t) a.held
   store_there = first_held a (store t) others held
 
@@ -166,9 +166,9 @@ module _ (p : Place) (a : Actor) (t now : StoreTable) (e : Installed) (others : 
       let holds = n.1 in
       let live = holder_is_live p a w tables_turn k holds in
       let guard = guarded p a w k tables_turn holds in
-      ((tt, (tt, (tt, tt))), (n, ((live, guard, subst (λ (x : Installed). NoneFlushed now.memory x.last.flushed) (sym are.0) gone), ((live, guard, (refl, ap (λ (x : StoreTable). x.floor) are.1 ∙ sym floor)), tt))))
+      ((tt, (tt, (tt, tt))), (n, ((live, guard, subst (λ (x : Installed). NoneFlushed now.memory x.last.flushed) (sym are.0) gone), ((live, guard, (refl, ap (λ (x : StoreState). x.floor) are.1 ∙ sym floor)), tt))))
 
-module _ (p : Place) (so : World → Type 0) (s u : SeatState) (same : (u.table ≡ s.table) × (u.by ≡ s.by) × (u.turns ≡ s.turns)) (t now : StoreTable) (others : List Content) (held : s.knows.held ≡ store t ∷ others) (floor : now.floor ≡ t.floor)
+module _ (p : Place) (so : World → Type 0) (s u : SeatState) (same : (u.table ≡ s.table) × (u.by ≡ s.by) × (u.turns ≡ s.turns)) (t now : StoreState) (others : List Content) (held : s.knows.held ≡ store t ∷ others) (floor : now.floor ≡ t.floor)
     (m : Moved p (moving now) so s.knows u.knows) where
   abbrev v : World
   v = m.world
@@ -186,7 +186,7 @@ module _ (p : Place) (so : World → Type 0) (s u : SeatState) (same : (u.table 
   noted_moved = (noted_by p so s u same (moving now) m nothing_flushed (inr (inl refl)), noted_by p so s u same (moving now) m (tables_stay now.tables now.floor) (inl refl))
 
 -- what is held beneath is one list
-pub same_others : (a : Actor) (one other : StoreTable) (ones others : List Content) → a.held ≡ store one ∷ ones → a.held ≡ store other ∷ others → ones ≡ others
+pub same_others : (a : Actor) (one other : StoreState) (ones others : List Content) → a.held ≡ store one ∷ ones → a.held ≡ store other ∷ others → ones ≡ others
 same_others a one other ones others is also = ap rest (sym is ∙ also)
   where
     rest : List Content → List Content

@@ -18,10 +18,10 @@ use Rattle.wp_core.specs.World.{Participant, World}
 use Rattle.wp_rule.specs.Knows.{KnowsTables}
 use Rattle.wp_rule.specs.Words.{IsAt}
 use Rattle.wp_tableset.specs.Changes.{compacted_parts}
-use Rattle.wp_shared.specs.Edits.{EditsState}
+use Rattle.wp_shared.specs.VersionSet.{VersionSetState}
 use Rattle.wp_shared.specs.Installs.{SurvivesInstall}
-use Rattle.wp_shared.specs.Calls.{IsLoose, GoesOnAs, remembering}
-use Rattle.wp_shared.specs.Notes.{seeing, being, GoesOn}
+use Rattle.wp_shared.specs.Calls.{IsLoose, GoesOnAs, with_events}
+use Rattle.wp_shared.specs.Notes.{seeing, with_participant, GoesOn}
 use Rattle.wp_shared.specs.Seats.{SharedState, SeatState, Stands, place_at}
 use Rattle.wp_shared.proofs.Onward.{starts_on, starts_equal, starts_same, goes_same, goes_then, goes_still, goes_seeing, goes_being}
 use Rattle.wp_maint.specs.declared.done.Done.{Done}
@@ -61,31 +61,31 @@ seat_still s t p k = (k.same_by, k.made, k.joined)
 pub changed_seat : {D : Type 0} {event : Event} {test : Fact → Bool} (z : SharedState D) (s u : SeatState) (e left : Installed) → Changes z s e left event test u → IsSeat s u
 changed_seat z s u e left k = let same = k.goes.same in (ap (λ (x : SeatState). x.by) same, ap (λ (x : SeatState). x.knows.made) same, ap (λ (x : SeatState). x.knows.joined) same)
 
-pub goes_more : (s t u : SeatState) (p : Participant) → GoesOnAs s t p → (events : List Event) → GoesOnAs t u (remembering events t.knows.participant) → GoesOnAs s u (remembering events p)
-goes_more s t u p first events second = goes_then s t u p (remembering events) (λ x h k. refl) first second
+pub goes_more : (s t u : SeatState) (p : Participant) → GoesOnAs s t p → (events : List Event) → GoesOnAs t u (with_events events t.knows.participant) → GoesOnAs s u (with_events events p)
+goes_more s t u p first events second = goes_then s t u p (with_events events) (λ x h k. refl) first second
 
 -- it has seen more, and is as it was but for what it holds and noted
 pub goes_saw : (s u : SeatState) (test : Fact → Bool) (held : List Content) (turns : List ℕ) → GoesOn test held turns (seeing u.knows.participant.seen s) u → StartsWith u.knows.participant.seen s.knows.participant.seen → ((fact : Fact) → IsLoose fact → test fact ≡ false) → GoesOnAs s u s.knows.participant
 goes_saw s u test held turns k grown free = let h = u.knows.participant.seen in goes_still s (seeing h s) u s.knows.participant (goes_seeing s h grown) (goes_same (seeing h s) u test held turns free k)
 
 -- it remembers these events more, and is as it was but for that, and for what it holds and noted
-pub goes_remembering : (s u : SeatState) (events : List Event) (test : Fact → Bool) (held : List Content) (turns : List ℕ) → GoesOn test held turns (being (remembering events s.knows.participant) s) u → ((fact : Fact) → IsLoose fact → test fact ≡ false) → GoesOnAs s u (remembering events s.knows.participant)
+pub goes_remembering : (s u : SeatState) (events : List Event) (test : Fact → Bool) (held : List Content) (turns : List ℕ) → GoesOn test held turns (with_participant (with_events events s.knows.participant) s) u → ((fact : Fact) → IsLoose fact → test fact ≡ false) → GoesOnAs s u (with_events events s.knows.participant)
 goes_remembering s u events test held turns k free =
-    let p : Participant = remembering events s.knows.participant in goes_still s (being p s) u p (goes_being s p refl) (goes_same (being p s) u test held turns free k)
+    let p : Participant = with_events events s.knows.participant in goes_still s (with_participant p s) u p (goes_being s p refl) (goes_same (with_participant p s) u test held turns free k)
 
 -- it remembers these events more, and is as it was but for that
-module _ {D : Type 0} (z : SharedState D) (s u : SeatState) (events : List Event) (is : u ≡ being (remembering events s.knows.participant) s) where
-  pub goes_is : GoesOnAs s u (remembering events s.knows.participant)
-  goes_is = let p : Participant = remembering events s.knows.participant in subst (λ (x : SeatState). GoesOnAs s x p) (sym is) (goes_being s p refl)
+module _ {D : Type 0} (z : SharedState D) (s u : SeatState) (events : List Event) (is : u ≡ with_participant (with_events events s.knows.participant) s) where
+  pub goes_is : GoesOnAs s u (with_events events s.knows.participant)
+  goes_is = let p : Participant = with_events events s.knows.participant in subst (λ (x : SeatState). GoesOnAs s x p) (sym is) (goes_being s p refl)
 
-  pub holds_being : (e : EditsState) → HoldsEdits z s e → HoldsEdits z u e
+  pub holds_being : (e : VersionSetState) → HoldsEdits z s e → HoldsEdits z u e
   holds_being e h = subst (λ (x : SeatState). HoldsEdits z x e) (sym is) (record { turn = record { same_table = h.turn.same_table; live = h.turn.live; held = h.turn.held; turns = h.turn.turns }; of_store = h.of_store })
 
-  pub settled_being : (edit : InstalledEdit) → KnowsTables s.knows edit → KnowsTables u.knows edit
-  settled_being edit k = subst (λ (x : SeatState). KnowsTables x.knows edit) (sym is) k
+  pub in_step_being : (edit : InstalledEdit) → KnowsTables s.knows edit → KnowsTables u.knows edit
+  in_step_being edit k = subst (λ (x : SeatState). KnowsTables x.knows edit) (sym is) k
 
 -- a seat that goes on with the tables turn alone holds the same tables still
-pub still_edits : {D : Type 0} {z : SharedState D} {s u : SeatState} {test : Fact → Bool} {e : EditsState} {h : List Entry} → HoldsEdits z s e → GoesOn test (installed e.table ∷ []) s.turns (seeing h s) u → HoldsEdits z u e
+pub still_edits : {D : Type 0} {z : SharedState D} {s u : SeatState} {test : Fact → Bool} {e : VersionSetState} {h : List Entry} → HoldsEdits z s e → GoesOn test (installed e.table ∷ []) s.turns (seeing h s) u → HoldsEdits z u e
 still_edits holds k = record {
   turn = record {
     same_table = ap (λ (x : SeatState). x.table) k.same ∙ holds.turn.same_table;
@@ -97,10 +97,10 @@ still_edits holds k = record {
 }
 
 -- which versions are in tables, and that no flushed one is in memory, is noted still
-pub settled_on : (s u : SeatState) (test : Fact → Bool) (held : List Content) (turns : List ℕ) → test nothing_flushed ≡ false → ((versions : List Version) (floor : ℕ) → test (tables_stay versions floor) ≡ false) → GoesOn test held turns s u
+pub in_step_on : (s u : SeatState) (test : Fact → Bool) (held : List Content) (turns : List ℕ) → test nothing_flushed ≡ false → ((versions : List Version) (floor : ℕ) → test (tables_stay versions floor) ≡ false) → GoesOn test held turns s u
     → (edit : InstalledEdit) → KnowsTables s.knows edit → KnowsTables u.knows edit
-settled_on s u test held turns gone named k edit settled =
-    (k.noted nothing_flushed gone settled.0, (settled.1.0, k.noted (tables_stay edit.versions settled.1.0) (named edit.versions settled.1.0) settled.1.1))
+in_step_on s u test held turns gone named k edit in_step =
+    (k.noted nothing_flushed gone in_step.0, (in_step.1.0, k.noted (tables_stay edit.versions in_step.1.0) (named edit.versions in_step.1.0) in_step.1.1))
 
 -- ---- the tables that it held
 
@@ -164,7 +164,7 @@ saw_so z s t history seen same past is k = record {
 -- ---- what a flush says, of a seat before and of one behind
 
 module _ {D : Type 0} (First Last : Participant → Type 0) (z : SharedState D) (s t u v : SeatState) (e : Installed) (same : IsSeat s t) (same_past : t.knows.participant.past ≡ s.knows.participant.past) (starts : StartsWith t.knows.participant.seen s.knows.participant.seen) (past : u.knows.participant.past ≡ v.knows.participant.past) (grown : StartsWith v.knows.participant.seen u.knows.participant.seen)
-    (more : (events : List Event) → First (remembering events t.knows.participant) → Last (remembering events s.knows.participant)) (still : First t.knows.participant → Last s.knows.participant) where
+    (more : (events : List Event) → First (with_events events t.knows.participant) → Last (with_events events s.knows.participant)) (still : First t.knows.participant → Last s.knows.participant) where
   pub holds_so : (left : Installed) → HeldTables z t u u.knows.participant.past left → HeldTables z s v v.knows.participant.past left
   holds_so left k = held_between z s t u v u.knows.participant.past v.knows.participant.past (installed left) same starts grown past k
 
@@ -172,11 +172,11 @@ module _ {D : Type 0} (First Last : Participant → Type 0) (z : SharedState D) 
   found_so k = held_between z s t u v t.knows.participant.past s.knows.participant.past (installed e) same starts grown same_past k
 
   -- what is remembered of the tables that were found, and then of these events
-  pub remembers_so : (k : Finds z t u e) (events : List Event) → First (remembering (found_by z t u e k ∷ events) t.knows.participant) → Last (remembering (found_by z s v e (found_so k) ∷ events) s.knows.participant)
+  pub remembers_so : (k : Finds z t u e) (events : List Event) → First (with_events (found_by z t u e k ∷ events) t.knows.participant) → Last (with_events (found_by z s v e (found_so k) ∷ events) s.knows.participant)
   remembers_so k events first =
-      subst (λ (past : List Event). Last (remembering (found_edit e.last.flushed e.last.segment.base e.last.tables (tables_due k.world.first_edit past) e.halted ∷ events) s.knows.participant)) same_past (more (found_by z t u e k ∷ events) first)
+      subst (λ (past : List Event). Last (with_events (found_edit e.last.flushed e.last.segment.base e.last.tables (tables_due k.world.first_edit past) e.halted ∷ events) s.knows.participant)) same_past (more (found_by z t u e k ∷ events) first)
 
-  pub throughout_so : (old new : EditsState) (next edit : InstalledEdit) → next ≡ edit → OpensThroughout t.knows.participant.seen u.knows.participant.seen old new next → OpensThroughout s.knows.participant.seen v.knows.participant.seen old new edit
+  pub throughout_so : (old new : VersionSetState) (next edit : InstalledEdit) → next ≡ edit → OpensThroughout t.knows.participant.seen u.knows.participant.seen old new next → OpensThroughout s.knows.participant.seen v.knows.participant.seen old new edit
   throughout_so old new next edit is k = throughout_between s.knows.participant.seen t.knows.participant.seen u.knows.participant.seen v.knows.participant.seen old new next edit starts grown is k
 
   pub nothing_so : (Idle : InstalledEdit → Type 0) → HasNothing First z t u e Idle → HasNothing Last z s v e Idle
@@ -208,7 +208,7 @@ module _ {D : Type 0} (First Last : Participant → Type 0) (z : SharedState D) 
     survives = subst (λ (h : List Entry). SurvivesInstall k.table.before k.table.after (after_flush h e.last)) seen k.survives;
     throughout = throughout_so k.table.before k.table.after (after_flush u.knows.participant.seen e.last) (after_flush v.knows.participant.seen e.last) (ap (λ (h : List Entry). after_flush h e.last) seen) k.throughout;
     goes_on = remembers_so k.found (event.installed (after_flush v.knows.participant.seen e.last) false ∷ [])
-        (subst (λ (h : List Entry). First (remembering (found_by z t u e k.found ∷ event.installed (after_flush h e.last) false ∷ []) t.knows.participant)) seen k.goes_on);
+        (subst (λ (h : List Entry). First (with_events (found_by z t u e k.found ∷ event.installed (after_flush h e.last) false ∷ []) t.knows.participant)) seen k.goes_on);
   }
   flushes_so seen (Err Memory) k = still k
   flushes_so seen (Err Nothing) (whole, k) = (saw_whole seen whole, subst (λ (h : List Entry). HasNothing Last z s v e (NoneInMemory h)) seen (nothing_so (NoneInMemory u.knows.participant.seen) k))
@@ -262,7 +262,7 @@ module _ {D : Type 0} (First Last : Participant → Type 0) (z : SharedState D) 
     log = subst (λ (h : List Entry). LogBecame z k.busy.unclosed.0 (record k.busy.unclosed.0 { segment = record { place = k.place; base = length h }; next = None })
         (λ before after. SurvivesBeside before after (Some after.table.segment) × NamesItsSegment k.table.before k.table.after before after (Some (after_renewal h k.place e.last)))) seen k.log;
     goes_on = remembers_so k.found (event.renewed (after_renewal v.knows.participant.seen k.place e.last) ∷ [])
-        (subst (λ (h : List Entry). First (remembering (found_by z t u e k.found ∷ event.renewed (after_renewal h k.place e.last) ∷ []) t.knows.participant)) seen k.goes_on);
+        (subst (λ (h : List Entry). First (with_events (found_by z t u e k.found ∷ event.renewed (after_renewal h k.place e.last) ∷ []) t.knows.participant)) seen k.goes_on);
   }
 
   broken_so : (seen : u.knows.participant.seen ≡ v.knows.participant.seen) → HasBrokenOff First z t u e → HasBrokenOff Last z s v e
@@ -323,7 +323,7 @@ module _ {D : Type 0} (z : SharedState D) (s u v : SeatState) (e : Installed) (f
   past_still : u.knows.participant.past ≡ s.knows.participant.past
   past_still = ap (λ (p : Participant). p.past) first.participant
 
-  found_then : GoesOnAs u v (remembering (found_by z u v e k.found ∷ []) u.knows.participant)
+  found_then : GoesOnAs u v (with_events (found_by z u v e k.found ∷ []) u.knows.participant)
   found_then = goes_is z u v (found_by z u v e k.found ∷ []) k.is
 
   seen_then : u.knows.participant.seen ≡ v.knows.participant.seen

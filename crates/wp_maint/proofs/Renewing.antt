@@ -17,11 +17,11 @@ use Rattle.wp_core.specs.IsSound.{IsSound}
 use Rattle.wp_core.specs.Runs.{Reaches}
 use Rattle.wp_core.specs.Sound.History.{IsHistory, logged_part}
 use Rattle.wp_core.specs.Sound.Segments.{AreCoupled}
-use Rattle.wp_core.specs.Tables.{WriteTable, Installed}
+use Rattle.wp_core.specs.Tables.{WriteState, Installed}
 use Rattle.wp_core.specs.World.{World, Participant}
 use Rattle.wp_core.proofs.EachStep.{reached_is_sound}
 use Rattle.wp_core.proofs.Tests.{none_some, same_some}
-use Rattle.wp_shared.specs.Edits.{EditsState}
+use Rattle.wp_shared.specs.VersionSet.{VersionSetState}
 use Rattle.wp_shared.specs.Log.{LogState, IsLog}
 use Rattle.wp_shared.specs.Opening.{IsOneStore}
 use Rattle.wp_shared.specs.Seats.{SharedState, SeatState}
@@ -33,7 +33,7 @@ use Rattle.wp_maint.proofs.Memory.{renewal_covered}
 use Rattle.wp_maint.proofs.Throughout.{log_based, opens_as}
 
 -- where no segment waits, the last edit names the one in use
-pub names_this : (t : WriteTable) (e : Installed) → (e.last.segment ≡ t.segment) ⊎ ((t.next ≡ Some e.last.segment) × (t.closed ≡ false)) → NoneNext t → e.last.segment ≡ t.segment
+pub names_this : (t : WriteState) (e : Installed) → (e.last.segment ≡ t.segment) ⊎ ((t.next ≡ Some e.last.segment) × (t.closed ≡ false)) → NoneNext t → e.last.segment ≡ t.segment
 names_this t e (inl same) waits = same
 names_this t e (inr next) (inl none) = absurd (none_some t.next e.last.segment none next.0)
 names_this t e (inr next) (inr closed) = absurd (true≢false (sym closed ∙ next.1))
@@ -47,7 +47,7 @@ whole_at w sound log g same based =
 
 -- ---- in a world with both tables as they were
 
-module _ (old : EditsState) (log : LogState) (g : IsLog log) (w : World) (sound : IsSound w) (here : w.installed ≡ old.table) (there : w.writes ≡ log.table) where
+module _ (old : VersionSetState) (log : LogState) (g : IsLog log) (w : World) (sound : IsSound w) (here : w.installed ≡ old.table) (there : w.writes ≡ log.table) where
   abbrev history : List Entry
   history = log.table.history
 
@@ -55,16 +55,16 @@ module _ (old : EditsState) (log : LogState) (g : IsLog log) (w : World) (sound 
   last = old.table.last
 
   of_history : IsHistory w.opened log.table w.max_evicted
-  of_history = subst (λ (t : WriteTable). IsHistory w.opened t w.max_evicted) there sound.history
+  of_history = subst (λ (t : WriteState). IsHistory w.opened t w.max_evicted) there sound.history
 
   covered_last : IsEditCovered history last
-  covered_last = subst (λ (x : WriteTable × Installed). IsEditCovered x.0.history x.1.last) (λ i. (there i, here i)) sound.versions.last
+  covered_last = subst (λ (x : WriteState × Installed). IsEditCovered x.0.history x.1.last) (λ i. (there i, here i)) sound.versions.last
 
   covered_renewed : (place : ℕ) → IsEditCovered history (after_renewal history place last)
   covered_renewed = renewal_covered history of_history.legal last covered_last
 
   names_used : last.segment ≡ log.table.segment
-  names_used = names_this log.table old.table (subst (λ (x : WriteTable × Installed). AreCoupled x.0 x.1 w.holders.write) (λ i. (there i, here i)) sound.coupled).last g.none_waits
+  names_used = names_this log.table old.table (subst (λ (x : WriteState × Installed). AreCoupled x.0 x.1 w.holders.write) (λ i. (there i, here i)) sound.coupled).last g.none_waits
 
   base_within : last.segment.base ≤ length history
   base_within = let low = covered_last.base in let fits = covered_last.flushed in omega (arith, low, fits)
@@ -88,7 +88,7 @@ module _ (old : EditsState) (log : LogState) (g : IsLog log) (w : World) (sound 
   renewed_at_end None made whole = tt
   renewed_at_end (Some edit) made whole = (whole, subst (λ (e : InstalledEdit). IsEditCovered history e) (sym made.1) (covered_renewed made.0), ap (λ (e : InstalledEdit). e.segment.base) made.1)
 
-  module _ (new : EditsState) (moved : LogState) (asked : Option InstalledEdit) (at_end : IfSome asked (IsAtEnd history)) (named : NamesItsSegment old new log moved asked) (fits : old.set.manifest.log.id < 2 ^ 32) (one : log.wal.id ≡ old.set.manifest.log.id) where
+  module _ (new : VersionSetState) (moved : LogState) (asked : Option InstalledEdit) (at_end : IfSome asked (IsAtEnd history)) (named : NamesItsSegment old new log moved asked) (fits : old.set.manifest.log.id < 2 ^ 32) (one : log.wal.id ≡ old.set.manifest.log.id) where
     stands : (edit : InstalledEdit) → (edit ≡ last) ⊎ (asked ≡ Some edit) → Stands edit
     stands edit (inl is) = subst Stands (sym is) (cut_last, covered_last)
     stands edit (inr is) = stands_at_end edit (subst (λ (o : Option InstalledEdit). IfSome o (IsAtEnd history)) is at_end)
@@ -102,7 +102,7 @@ module _ (old : EditsState) (log : LogState) (g : IsLog log) (w : World) (sound 
 
 -- ---- as callers see it
 
-pub opens_amid : (old new : EditsState) (log moved : LogState) (asked : Option InstalledEdit) → IsLog log → IfSome asked (IsAtEnd log.table.history) → NamesItsSegment old new log moved asked
+pub opens_amid : (old new : VersionSetState) (log moved : LogState) (asked : Option InstalledEdit) → IsLog log → IfSome asked (IsAtEnd log.table.history) → NamesItsSegment old new log moved asked
     → old.set.manifest.log.id < 2 ^ 32 → log.wal.id ≡ old.set.manifest.log.id → (w : World) → Reaches w → w.installed ≡ old.table → w.writes ≡ log.table → OpensInRenewal old new log moved asked
 opens_amid old new log moved asked g at_end named fits one w reached here there l m t left = opens_renewing old log g w (reached_is_sound w reached) here there new moved asked at_end named fits one l m t left
 
@@ -113,7 +113,7 @@ whole_waiting log g (Some edit) waits = (g.beside edit.segment waits).2
 
 module _ {D : Type 0} (z : SharedState D) (s u : SeatState) (e : Installed) (one : IsOneStore z.opened z.first) where
   -- of the devices of a call, in the world in which the seat held both turns
-  module _ (busy : IsBusy z s u e) (next : Installed) (Edits : EditsState → EditsState → Type 0) (tables : TablesBecame z e next Edits) (now : WriteTable) (Log : LogState → LogState → Type 0) (log : LogBecame z busy.unclosed.0 now Log) where
+  module _ (busy : IsBusy z s u e) (next : Installed) (VersionSet : VersionSetState → VersionSetState → Type 0) (tables : TablesBecame z e next VersionSet) (now : WriteState) (Log : LogState → LogState → Type 0) (log : LogBecame z busy.unclosed.0 now Log) where
     abbrev world : World
     world = busy.unclosed.1.world
 
@@ -134,7 +134,7 @@ module _ {D : Type 0} (z : SharedState D) (s u : SeatState) (e : Installed) (one
     id_of_tables = tables.edits.id ∙ ap (λ (x : TableSetState). x.manifest.log.id) (same_some tables.before.first one.set (sym tables.of_store ∙ one.tables)) ∙ one.id
 
     history_seen : u.knows.participant.seen ≡ log.before.table.history
-    history_seen = sym busy.history_is ∙ ap (λ (t : WriteTable). t.history) (sym log.before_is)
+    history_seen = sym busy.history_is ∙ ap (λ (t : WriteState). t.history) (sym log.before_is)
 
     opens_in : (asked : Option InstalledEdit) → IfSome asked (λ edit. (place : ℕ) × (edit ≡ after_renewal u.knows.participant.seen place e.last)) → NamesItsSegment tables.before tables.after log.before log.after asked
         → IfSome asked (λ edit. undone_last log.before.table.history ≡ None) → OpensInRenewal tables.before tables.after log.before log.after asked
@@ -146,9 +146,9 @@ module _ {D : Type 0} (z : SharedState D) (s u : SeatState) (e : Installed) (one
     -- where the log has a base at the end of its history, that is no undo
     whole_based : now.log ≡ busy.unclosed.0.log → now.segment.base ≡ length busy.unclosed.0.history → undone_last log.before.table.history ≡ None
     whole_based logs based =
-        ap (λ (t : WriteTable). undone_last t.history) (sym there)
-        ∙ whole_at world sound log.after log.still_log (ap (λ (t : WriteTable). t.log) log.after_is ∙ logs ∙ ap (λ (t : WriteTable). t.log) (sym busy.at_once.1))
-        (ap (λ (t : WriteTable). t.segment.base) log.after_is ∙ based ∙ ap (λ (t : WriteTable). length t.history) (sym busy.at_once.1))
+        ap (λ (t : WriteState). undone_last t.history) (sym there)
+        ∙ whole_at world sound log.after log.still_log (ap (λ (t : WriteState). t.log) log.after_is ∙ logs ∙ ap (λ (t : WriteState). t.log) (sym busy.at_once.1))
+        (ap (λ (t : WriteState). t.segment.base) log.after_is ∙ based ∙ ap (λ (t : WriteState). length t.history) (sym busy.at_once.1))
 
   module _ (Goes : Participant → Type 0) where
     pub opens_renewed : (done : Renewed) (k : HasRenewed Goes z s u e done) → OpensInRenewal k.table.before k.table.after k.log.before k.log.after (Some (after_renewal u.knows.participant.seen k.place e.last))
@@ -159,9 +159,9 @@ module _ {D : Type 0} (z : SharedState D) (s u : SeatState) (e : Installed) (one
     pub opens_broken : (k : HasBrokenOff Goes z s u e) → OpensInRenewal k.fault.before k.fault.after k.log.before k.log.after k.asked
     opens_broken k =
         let x = k.log in
-        let tables : x.after.table.history ≡ x.before.table.history = ap (λ (t : WriteTable). t.history) x.after_is ∙ ap (λ (t : WriteTable). t.history) (sym x.before_is) in
+        let tables : x.after.table.history ≡ x.before.table.history = ap (λ (t : WriteState). t.history) x.after_is ∙ ap (λ (t : WriteState). t.history) (sym x.before_is) in
         opens_in k.busy _ _ k.fault _ _ x k.asked k.next x.so.1
-        (subst (λ (h : List Entry). IfSome k.asked (λ edit. undone_last h ≡ None)) tables (whole_waiting x.after x.still_log k.asked (ap (λ (t : WriteTable). t.next) x.after_is)))
+        (subst (λ (h : List Entry). IfSome k.asked (λ edit. undone_last h ≡ None)) tables (whole_waiting x.after x.still_log k.asked (ap (λ (t : WriteState). t.next) x.after_is)))
 
     pub opens_log_fault : (k : HasLogFault Goes z s u e) → OpensInRenewal k.tables.before k.tables.after k.log.before k.log.after None
     opens_log_fault k = opens_in k.busy _ _ k.tables _ _ k.log None tt k.log.so.2 tt

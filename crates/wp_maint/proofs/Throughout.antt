@@ -32,7 +32,7 @@ use Rattle.wp_core.proofs.CrashImages.{left_by_crash}
 use Rattle.wp_core.proofs.EachStep.{reached_is_sound}
 use Rattle.wp_core.proofs.Tests.{none_some}
 use Rattle.wp_rule.proofs.Maintenance.{edit_later}
-use Rattle.wp_shared.specs.Edits.{EditsState, IsEdits, IsNamed}
+use Rattle.wp_shared.specs.VersionSet.{VersionSetState, IsEdits, IsNamed}
 use Rattle.wp_shared.specs.Installs.{SurvivesInstall}
 use Rattle.wp_shared.specs.Log.{LogState, IsLog, spells}
 use Rattle.wp_shared.proofs.Ended as ended
@@ -82,7 +82,7 @@ ends_since P old new image passes at = ([], passes.0, passes.1, subst (λ (ms : 
 -- ---- what opens
 
 -- where the manifest's last edit is this one, with its tables, and the log spells the entries from its base on
-pub opens_as : (old : EditsState) → old.set.manifest.log.id < 2 ^ 32 → (entries : List Entry) → IsLegal entries → (c : Cut) → IsCut entries c → (edit : InstalledEdit) → c.base ≡ edit.segment.base → IsEditCovered entries edit
+pub opens_as : (old : VersionSetState) → old.set.manifest.log.id < 2 ^ 32 → (entries : List Entry) → IsLegal entries → (c : Cut) → IsCut entries c → (edit : InstalledEdit) → c.base ≡ edit.segment.base → IsEditCovered entries edit
     → (log manifest tables : List ℕ) → IsLogAt old.set.manifest.log.id edit.segment.place c log → NamesEdit old manifest tables edit → OpensFromBase old.set.manifest.log.id entries edit log manifest tables
 opens_as old fits entries legal c cut edit based covered log manifest tables spelled named =
     let segment : edit.segment ≡ (installed_of edit.segment.base (last_edit named.edits) named.parts).segment = ap (λ (x : InstalledEdit). x.segment) named.is in
@@ -115,7 +115,7 @@ opens_as old fits entries legal c cut edit based covered log manifest tables spe
 
 -- ---- the tables' two devices
 
-module _ (old new : EditsState) (next : InstalledEdit) (k : IsEdits old) (running : old.table.halted ≡ false) (s : SurvivesInstall old new next) where
+module _ (old new : VersionSetState) (next : InstalledEdit) (k : IsEdits old) (running : old.table.halted ≡ false) (s : SurvivesInstall old new next) where
   abbrev id : ℕ
   id = old.set.manifest.log.id
 
@@ -264,7 +264,7 @@ module _ (old new : EditsState) (next : InstalledEdit) (k : IsEdits old) (runnin
 -- ---- no device is called in a renewal
 
 -- each image names the last edit, with its tables, and the log has the history at its place
-pub names_still : (e : EditsState) (log : LogState) → e.table.failed ≡ None → log.table.closed ≡ false → log.table.log ≡ log.table.history → log.table.segment ≡ e.table.last.segment
+pub names_still : (e : VersionSetState) (log : LogState) → e.table.failed ≡ None → log.table.closed ≡ false → log.table.log ≡ log.table.history → log.table.segment ≡ e.table.last.segment
     → ManifestTells (images e.set.manifest.log.moments) (IsNamed e) e.table → LogTells (images log.wal.moments) (spells log) log.table → NamesItsSegment e e log log None
 names_still e log none open_ whole coupled edits_tell log_tells l m t left =
     let found = edits_tell m (at_m left) in let named = found.1 in let spelled = (log_tells l (at_l left)).0 in
@@ -306,10 +306,10 @@ names_still e log none open_ whole coupled edits_tell log_tells l m t left =
 
 -- ---- as callers see it
 
-pub opens_from : (seen : List Entry) (old new : EditsState) (next : InstalledEdit) → IsEdits old → old.table.halted ≡ false → SurvivesInstall old new next → IsEditCovered seen next → next.segment ≡ old.table.last.segment → OpensFrom seen old new next
+pub opens_from : (seen : List Entry) (old new : VersionSetState) (next : InstalledEdit) → IsEdits old → old.table.halted ≡ false → SurvivesInstall old new next → IsEditCovered seen next → next.segment ≡ old.table.last.segment → OpensFrom seen old new next
 opens_from seen old new next k running s covers same fits w reached here starts entries may log manifest tables spelled left = opens_amid old new next k running s seen covers same fits w (reached_is_sound w reached) here starts entries may log manifest tables spelled left
 
-pub opens_throughout : (seen after : List Entry) (old new : EditsState) (next edit : InstalledEdit) → IsEdits old → old.table.halted ≡ false → SurvivesInstall old new next → IsEditCovered seen next → next.segment ≡ old.table.last.segment → after ≡ seen → next ≡ edit → OpensThroughout seen after old new edit
+pub opens_throughout : (seen after : List Entry) (old new : VersionSetState) (next edit : InstalledEdit) → IsEdits old → old.table.halted ≡ false → SurvivesInstall old new next → IsEditCovered seen next → next.segment ≡ old.table.last.segment → after ≡ seen → next ≡ edit → OpensThroughout seen after old new edit
 opens_throughout seen after old new next edit k running s covers there same is = record {
   seen = seen;
   later = starts_same seen;
@@ -318,7 +318,7 @@ opens_throughout seen after old new next edit k running s covers there same is =
 }
 
 -- of a call between two others, and so between two that are further apart
-pub throughout_between : (one two three four : List Entry) (old new : EditsState) (next edit : InstalledEdit) → StartsWith two one → StartsWith four three → next ≡ edit → OpensThroughout two three old new next → OpensThroughout one four old new edit
+pub throughout_between : (one two three four : List Entry) (old new : VersionSetState) (next edit : InstalledEdit) → StartsWith two one → StartsWith four three → next ≡ edit → OpensThroughout two three old new next → OpensThroughout one four old new edit
 throughout_between one two three four old new next edit starts grown is k = record {
   seen = k.seen;
   later = starts_on one two k.seen starts k.later;

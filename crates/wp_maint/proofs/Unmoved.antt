@@ -10,13 +10,13 @@ use Rattle.wp_wal.specs.Wal.{WalState}
 use Rattle.wp_core.specs.Images.{MayName, MaySpell}
 use Rattle.wp_core.specs.IsSound.{IsSound}
 use Rattle.wp_core.specs.Runs.{Reaches}
-use Rattle.wp_core.specs.Tables.{WriteTable, Installed, installed}
+use Rattle.wp_core.specs.Tables.{WriteState, Installed, installed}
 use Rattle.wp_core.specs.World.{World, Participant, history}
 use Rattle.wp_core.proofs.CrashImages.{segment_by_crash}
 use Rattle.wp_core.proofs.EachStep.{reached_is_sound}
 use Rattle.wp_core.proofs.Tests.{none_some, same_some}
 use Rattle.wp_rule.proofs.Maintenance.{edit_later}
-use Rattle.wp_shared.specs.Edits.{EditsState, IsEdits}
+use Rattle.wp_shared.specs.VersionSet.{VersionSetState, IsEdits}
 use Rattle.wp_shared.specs.Log.{LogState, IsLog}
 use Rattle.wp_shared.specs.Opening.{IsOneStore}
 use Rattle.wp_shared.specs.Opens.{installed_of}
@@ -31,7 +31,7 @@ use Rattle.wp_maint.proofs.Throughout.{log_amid, opens_as}
 -- ---- the manifest's last edit
 
 -- it is one that the table says, with its tables
-names_some : (e : EditsState) → EditsStand e → (m t : List ℕ) → images e.set.manifest.log.moments m → images e.set.moments t → (edit : InstalledEdit) × MayName e.table edit × NamesEdit e m t edit
+names_some : (e : VersionSetState) → EditsStand e → (m t : List ℕ) → images e.set.manifest.log.moments m → images e.set.moments t → (edit : InstalledEdit) × MayName e.table edit × NamesEdit e m t edit
 names_some e stand m t at_m at_t =
     let found = stand.0 m at_m in let named = found.1 in (
       found.0,
@@ -45,7 +45,7 @@ covered_named w sound edit (inr failed) = sound.versions.failed edit failed
 
 -- ---- in a world with these tables
 
-module _ (e : EditsState) (stand : EditsStand e) (fits : e.set.manifest.log.id < 2 ^ 32) (w : World) (sound : IsSound w) (here : w.installed ≡ e.table) where
+module _ (e : VersionSetState) (stand : EditsStand e) (fits : e.set.manifest.log.id < 2 ^ 32) (w : World) (sound : IsSound w) (here : w.installed ≡ e.table) where
   abbrev id : ℕ
   id = e.set.manifest.log.id
 
@@ -73,43 +73,43 @@ module _ (e : EditsState) (stand : EditsStand e) (fits : e.set.manifest.log.id <
           | inl same ↦ (
             told.0.0,
             told.0.2,
-            subst (λ (x : ℕ × Segment). SpellsCut x.0 x.1 told.0.0 l) (λ i. (same_id i, (ap (λ (t : WriteTable). t.segment) (sym there) ∙ sym same) i)) told.0.1,
+            subst (λ (x : ℕ × Segment). SpellsCut x.0 x.1 told.0.0 l) (λ i. (same_id i, (ap (λ (t : WriteState). t.segment) (sym there) ∙ sym same) i)) told.0.1,
           )
           | inr next ↦ (
             log.table.history,
-            subst (λ (t : WriteTable). MaySpell t t.history) there next.2,
-            subst (λ (n : ℕ). SpellsCut n edit.segment log.table.history l) same_id (told.1 edit.segment (ap (λ (t : WriteTable). t.next) (sym there) ∙ next.0)),
+            subst (λ (t : WriteState). MaySpell t t.history) there next.2,
+            subst (λ (n : ℕ). SpellsCut n edit.segment log.table.history l) same_id (told.1 edit.segment (ap (λ (t : WriteState). t.next) (sym there) ∙ next.0)),
           )
         ]
 
     opens_both : OpensUnmoved (MaySpell log.table) (MayName e.table) e log
-    opens_both l m t at_l at_m at_t = opens_named (MaySpell log.table) (λ entries may. inl (subst (λ (x : WriteTable). MaySpell x entries) (sym there) may)) l m t (spells_named l at_l) at_m at_t
+    opens_both l m t at_l at_m at_t = opens_named (MaySpell log.table) (λ entries may. inl (subst (λ (x : WriteState). MaySpell x entries) (sym there) may)) l m t (spells_named l at_l) at_m at_t
 
 -- ---- as callers see it
 
 module _ {D : Type 0} (z : SharedState D) (one : IsOneStore z.opened z.first) where
   -- the devices have the store's id
-  tables_id : (e : EditsState) → IsEdits e → set_first z.first ≡ Some e.first → e.set.manifest.log.id ≡ one.wal.id
+  tables_id : (e : VersionSetState) → IsEdits e → set_first z.first ≡ Some e.first → e.set.manifest.log.id ≡ one.wal.id
   tables_id e k of_store = k.id ∙ ap (λ (x : TableSetState). x.manifest.log.id) (same_some e.first one.set (sym of_store ∙ one.tables)) ∙ one.id
 
   log_id : (log : LogState) → IsLog log → log_first z.first ≡ Some log.first → log.wal.id ≡ one.wal.id
   log_id log k of_store = k.id ∙ ap (λ (w : WalState). w.id) (same_some log.first one.wal (sym of_store ∙ one.log))
 
-  fits_store : (e : EditsState) → IsEdits e → set_first z.first ≡ Some e.first → e.set.manifest.log.id < 2 ^ 32
+  fits_store : (e : VersionSetState) → IsEdits e → set_first z.first ≡ Some e.first → e.set.manifest.log.id < 2 ^ 32
   fits_store e k of_store = subst (λ (n : ℕ). n < 2 ^ 32) (sym (tables_id e k of_store)) one.id_fits
 
   -- any two values behind the turns
-  pub opens_each : (e : EditsState) → IsEdits e → EditsStand e → set_first z.first ≡ Some e.first → (log : LogState) → IsLog log → LogStands log → log_first z.first ≡ Some log.first
+  pub opens_each : (e : VersionSetState) → IsEdits e → EditsStand e → set_first z.first ≡ Some e.first → (log : LogState) → IsLog log → LogStands log → log_first z.first ≡ Some log.first
       → (w : World) → Reaches w → w.installed ≡ e.table → w.writes ≡ log.table → OpensUnmoved (MaySpell log.table) (MayName e.table) e log
   opens_each e k stand of_store log g stands log_of_store w reached here there = opens_both e stand (fits_store e k of_store) w (reached_is_sound w reached) here log stands (log_id log g log_of_store ∙ sym (tables_id e k of_store)) there
 
   -- one of them, and any log
-  pub opens_amid : (e : EditsState) → IsEdits e → EditsStand e → set_first z.first ≡ Some e.first → (w : World) → Reaches w → w.installed ≡ e.table
+  pub opens_amid : (e : VersionSetState) → IsEdits e → EditsStand e → set_first z.first ≡ Some e.first → (w : World) → Reaches w → w.installed ≡ e.table
       → (l m t : List ℕ) → SpellsNamed e.set.manifest.log.id w l → images e.set.manifest.log.moments m → images e.set.moments t → OpensToSuch (MaySpellAmid w.writes) (MayName e.table) e.set.manifest.log.id l m t
   opens_amid e k stand of_store w reached here l m t spells at_m at_t = opens_named e stand (fits_store e k of_store) w (reached_is_sound w reached) here (MaySpellAmid w.writes) (λ entries may. may) l m t spells at_m at_t
 
   -- the tables and the log are as they were, in one world
-  module _ (s u : SeatState) (e : Installed) (d : WriteTable) (tables : TablesBecame z e e AreSameTables) (log : LogBecame z d d IsSameLog) (running : e.halted ≡ false) (w : World) (reached : Reaches w) (at_once : (w.installed ≡ e) × (w.writes ≡ d)) where
+  module _ (s u : SeatState) (e : Installed) (d : WriteState) (tables : TablesBecame z e e AreSameTables) (log : LogBecame z d d IsSameLog) (running : e.halted ≡ false) (w : World) (reached : Reaches w) (at_once : (w.installed ≡ e) × (w.writes ≡ d)) where
     is_last : (edit : InstalledEdit) → MayName tables.before.table edit → edit ≡ e.last
     is_last edit (inl is) = is ∙ ap (λ (x : Installed). x.last) tables.before_is
     is_last edit (inr asked) = absurd (none_some tables.before.table.failed edit (tables.edits.none_failed (tables.edits.running (ap (λ (x : Installed). x.halted) tables.before_is ∙ running))) asked)
@@ -117,7 +117,7 @@ module _ {D : Type 0} (z : SharedState D) (one : IsOneStore z.opened z.first) wh
     pub opens_same : (Spells : List Entry → Type 0) → ((entries : List Entry) → MaySpell d entries → Spells entries) → OpensUnmoved Spells (λ edit. edit ≡ e.last) tables.before log.before
     opens_same Spells more l m t at_l at_m at_t =
         let k = opens_each tables.before tables.edits tables.so.1 tables.of_store log.before log.log log.so.1 log.of_store w reached (at_once.0 ∙ sym tables.before_is) (at_once.1 ∙ sym log.before_is) l m t at_l at_m at_t in
-        (k.0, is_last k.0 k.1, k.2, more k.2 (subst (λ (x : WriteTable). MaySpell x k.2) log.before_is k.3), k.4)
+        (k.0, is_last k.0 k.1, k.2, more k.2 (subst (λ (x : WriteState). MaySpell x k.2) log.before_is k.3), k.4)
 
   module _ (Goes : Participant → Type 0) (s u : SeatState) (e : Installed) where
     pub opens_closed : (n : ℕ) (k : IsClosed Goes z s u e n) → OpensUnmoved (MaySpell k.closed.0) (λ edit. edit ≡ e.last) k.tables.before k.log.before

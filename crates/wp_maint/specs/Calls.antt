@@ -15,10 +15,10 @@ use Rattle.wp_core.specs.Views.{Event, tables_failed, found_edit}
 use Rattle.wp_core.specs.Views as event
 use Rattle.wp_core.specs.World.{Actor, Participant, World}
 use Rattle.wp_rule.specs.Words.{IsAt}
-use Rattle.wp_shared.specs.Edits.{EditsState, IsEdits}
+use Rattle.wp_shared.specs.VersionSet.{VersionSetState, IsEdits}
 use Rattle.wp_shared.specs.Installs.{HadCause, SurvivesInstall}
 use Rattle.wp_shared.specs.Parts.{set_first}
-use Rattle.wp_shared.specs.Calls.{Continues, remembering}
+use Rattle.wp_shared.specs.Calls.{Continues, with_events}
 use Rattle.wp_shared.specs.Seats.{SharedState, SeatState, place_at}
 use Rattle.wp_maint.specs.Moments.{OpensThroughout}
 use Rattle.wp_maint.specs.declared.done.Done.{Done}
@@ -69,9 +69,9 @@ found_by z old new e found = found_edit e.last.flushed e.last.segment.base e.las
 -- the value behind the turn may be: the devices have the tables that it names, no fault since the opening was forgotten, and what was
 -- for good then is so still. No clause of a call on a shared store sees its devices: that the value was the one and became the
 -- other in this very call is what the install itself says, of the value that the call took out from behind the turn.
-pub record TablesBecame {D : Type 0} (z : SharedState D) (e next : Installed) (So : EditsState → EditsState → Type 0) : Type 0 where
-  pub before : EditsState
-  pub after : EditsState
+pub record TablesBecame {D : Type 0} (z : SharedState D) (e next : Installed) (So : VersionSetState → VersionSetState → Type 0) : Type 0 where
+  pub before : VersionSetState
+  pub after : VersionSetState
   pub of_store : set_first z.first ≡ Some before.first
   pub still_of_store : set_first z.first ≡ Some after.first
   pub before_is : before.table ≡ e
@@ -81,11 +81,11 @@ pub record TablesBecame {D : Type 0} (z : SharedState D) (e next : Installed) (S
   pub so : So before after
 
 -- a table of these versions is the newest of them, before those that were there
-abbrev pub HasNewest : List Version → EditsState → EditsState → Type 0
+abbrev pub HasNewest : List Version → VersionSetState → VersionSetState → Type 0
 HasNewest versions before after = after.parts ≡ versions ∷ before.parts
 
 -- a call to one of the two devices failed: its count rose
-abbrev pub HasFault : EditsState → EditsState → Type 0
+abbrev pub HasFault : VersionSetState → VersionSetState → Type 0
 HasFault before after = HadCause before.set after.set Fault
 
 -- ---- refusals
@@ -98,14 +98,14 @@ pub record IsStopped {D : Type 0} (Goes : Participant → Type 0) (z : SharedSta
   pub found : Finds z old new e
   pub halted : e.halted ≡ true
   pub flushed_is : flushed ≡ e.last.flushed
-  pub goes_on : Goes (remembering (found_by z old new e found ∷ []) old.knows.participant)
+  pub goes_on : Goes (with_events (found_by z old new e found ∷ []) old.knows.participant)
 
 -- no device had failed, and there was nothing to do
 pub record HasNothing {D : Type 0} (Goes : Participant → Type 0) (z : SharedState D) (old new : SeatState) (e : Installed) (Idle : InstalledEdit → Type 0) : Type 0 where
   pub found : Finds z old new e
   pub running : e.halted ≡ false
   pub idle : Idle e.last
-  pub goes_on : Goes (remembering (found_by z old new e found ∷ []) old.knows.participant)
+  pub goes_on : Goes (with_events (found_by z old new e found ∷ []) old.knows.participant)
 
 -- A device failed where there was something to do, as `Busy` says. The last edit stays; a later opening may find the one that was
 -- to be installed, where the manifest was called for it. As `TablesBecame` says, of two states: a device's count rose, and at each
@@ -120,7 +120,7 @@ pub record HasFailed {D : Type 0} (Goes : Participant → Type 0) (z : SharedSta
   pub left : HeldTables z old new new.knows.participant.past (with_failed e asked)
   pub fault : TablesBecame z e (with_failed e asked) HasFault
   pub survives : (edit : InstalledEdit) × IsNext edit × SurvivesInstall fault.before fault.after edit × OpensThroughout old.knows.participant.seen new.knows.participant.seen fault.before fault.after edit
-  pub goes_on : Goes (remembering (found_by z old new e found ∷ tables_failed e.last asked ∷ []) old.knows.participant)
+  pub goes_on : Goes (with_events (found_by z old new e found ∷ tables_failed e.last asked ∷ []) old.knows.participant)
 
 -- ---- a flush
 
@@ -143,7 +143,7 @@ pub record HasFlushed {D : Type 0} (Goes : Participant → Type 0) (z : SharedSt
   pub table : TablesBecame z e (record e { last = after_flush new.knows.participant.seen e.last }) (HasNewest (sorted_of (unflushed new.knows.participant.seen e.last)))
   pub survives : SurvivesInstall table.before table.after (after_flush new.knows.participant.seen e.last)
   pub throughout : OpensThroughout old.knows.participant.seen new.knows.participant.seen table.before table.after (after_flush new.knows.participant.seen e.last)
-  pub goes_on : Goes (remembering (found_by z old new e found ∷ event.installed (after_flush new.knows.participant.seen e.last) false ∷ []) old.knows.participant)
+  pub goes_on : Goes (with_events (found_by z old new e found ∷ event.installed (after_flush new.knows.participant.seen e.last) false ∷ []) old.knows.participant)
 
 -- What it answers and leaves where it finds these tables. Where there was nothing to flush, or a device failed, the seat had seen
 -- the whole history as well.
@@ -172,7 +172,7 @@ abbrev pub installs_of : Participant → List Event
 installs_of p = filter is_of_install p.past
 
 -- The manifest's device was not called: its count and its moments are as they were.
-abbrev pub IsUncalled : EditsState → EditsState → Type 0
+abbrev pub IsUncalled : VersionSetState → VersionSetState → Type 0
 IsUncalled before after = after.set.manifest ≡ before.set.manifest
 
 -- The call took these tables from behind the turn, and gave them back with the manifest's device uncalled.

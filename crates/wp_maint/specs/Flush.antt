@@ -8,7 +8,7 @@ use Rattle.wp_model.specs.Flushed.{IsEditCovered}
 use Rattle.wp_merge.specs.Merge.{joined, sorted_of}
 use Rattle.wp_replies.specs.Tables.{unflushed, after_flush}
 use Rattle.wp_table.specs.Table.{is_numbered, is_flushed}
-use Rattle.wp_core.specs.Tables.{StoreTable, Installed}
+use Rattle.wp_core.specs.Tables.{StoreState, Installed}
 use Rattle.wp_core.specs.Views.{tables_stay, frozen_stay}
 use Rattle.wp_core.specs.World.{Actor}
 use Rattle.wp_rule.specs.Knows.{Noted}
@@ -20,14 +20,14 @@ abbrev pub versions_of : Frozen → List Version
 versions_of f = sorted_of (joined f.parts)
 
 -- all that is in memory, and the tables
-pub record HasCopied (t : StoreTable) (at : ℕ) (f : Frozen) : Type 0 where
+pub record HasCopied (t : StoreState) (at : ℕ) (f : Frozen) : Type 0 where
   pub at_is : f.at ≡ at
   pub versions : versions_of f ≡ t.memory
   pub some : 1 ≤ length t.memory
   pub tables : sorted_of (joined (map arc_value f.tables.items)) ≡ t.tables
   pub room : length f.tables.items < vec_capacity f.tables
 
-abbrev pub IsCopied : StoreTable → ℕ → Option Frozen → Type 0
+abbrev pub IsCopied : StoreState → ℕ → Option Frozen → Type 0
 IsCopied t at (Some f) = HasCopied t at f
 IsCopied t at None = t.memory ≡ []
 

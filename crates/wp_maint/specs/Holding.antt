@@ -2,7 +2,7 @@
 use Rattle.std.specs.Prelude.{◌≡◌, Bool, true, false, [], Some}
 use Rattle.wp_core.specs.Tables.{installed}
 use Rattle.wp_core.specs.Views.{Fact, tables_stay, nothing_flushed, frozen_stay}
-use Rattle.wp_shared.specs.Edits.{EditsState}
+use Rattle.wp_shared.specs.VersionSet.{VersionSetState}
 use Rattle.wp_shared.specs.Parts.{set_first}
 use Rattle.wp_shared.specs.Seats.{SharedState, SeatState}
 use Rattle.wp_shared.specs.Turns.{HoldsTurn}
@@ -19,6 +19,6 @@ is_of_tables (frozen_stay n versions) = true
 is_of_tables other = is_of_flushed other
 
 -- The seat holds the tables turn alone, with these tables, which are the store's.
-pub record HoldsEdits {D : Type 0} (z : SharedState D) (s : SeatState) (e : EditsState) : Type 0 where
+pub record HoldsEdits {D : Type 0} (z : SharedState D) (s : SeatState) (e : VersionSetState) : Type 0 where
   pub turn : HoldsTurn z s (installed e.table) [] []
   pub of_store : set_first z.first ≡ Some e.first

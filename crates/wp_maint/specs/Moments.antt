@@ -10,9 +10,9 @@ use Rattle.wp_shared.specs.Opens.{OpensTo}
 use Rattle.wp_core.specs.Images.{MayName, MaySpell}
 use Rattle.wp_core.specs.Runs.{Reaches}
 use Rattle.wp_core.specs.Sound.Actors.{StartsWith}
-use Rattle.wp_core.specs.Tables.{WriteTable}
+use Rattle.wp_core.specs.Tables.{WriteState}
 use Rattle.wp_core.specs.World.{World, history}
-use Rattle.wp_shared.specs.Edits.{EditsState}
+use Rattle.wp_shared.specs.VersionSet.{VersionSetState}
 use Rattle.wp_shared.specs.Ended.{IsFrom}
 
 -- ---- the devices
@@ -23,14 +23,14 @@ LeftSince old new bytes = (later since : List Moment) × (new ≡ later ++ (sinc
 
 -- First the tables' device is called, and the manifest's is as it was; once that is done the manifest's is called. That the code
 -- calls them so, no clause tells: each device shows its own moments.
-abbrev pub LeftInInstall : EditsState → EditsState → (manifest tables : List ℕ) → Type 0
+abbrev pub LeftInInstall : VersionSetState → VersionSetState → (manifest tables : List ℕ) → Type 0
 LeftInInstall old new manifest tables =
     (images old.set.manifest.log.moments manifest × LeftSince old.set.moments new.set.moments tables)
     ⊎ (LeftSince old.set.manifest.log.moments new.set.manifest.log.moments manifest × images new.set.moments tables)
 
 -- What the log spells at a moment of such a world: what it may have between two steps; or that and the pending record, whole, where a
 -- crash falls into its append.
-abbrev pub MaySpellAmid : WriteTable → List Entry → Type 0
+abbrev pub MaySpellAmid : WriteState → List Entry → Type 0
 MaySpellAmid t entries = MaySpell t entries ⊎ (entries ≡ t.history ++ t.pending)
 
 -- In this segment the bytes have the log of these entries under the id, cut at its base.
@@ -45,7 +45,7 @@ OpensFromBase id entries edit log manifest tables = (history : List Entry) × Is
 
 -- In each reached world with the old tables, whose history begins with these entries: whatever a crash in the install leaves, the three
 -- devices open to just the entries that the log spells in its segment, from the segment's base on, and to the last edit or the next one.
-abbrev pub OpensFrom : List Entry → EditsState → EditsState → InstalledEdit → Type 0
+abbrev pub OpensFrom : List Entry → VersionSetState → VersionSetState → InstalledEdit → Type 0
 OpensFrom seen old new next =
     old.set.manifest.log.id < 2 ^ 32
     → (w : World) → Reaches w → w.installed ≡ old.table → StartsWith (history w) seen
@@ -55,7 +55,7 @@ OpensFrom seen old new next =
 
 -- ... of what a seat had seen as the install began, between what it had seen before the call and after it. So that is so of each world
 -- in which the seat was in the midst of the install.
-pub record OpensThroughout (before after : List Entry) (old new : EditsState) (next : InstalledEdit) : Type 0 where
+pub record OpensThroughout (before after : List Entry) (old new : VersionSetState) (next : InstalledEdit) : Type 0 where
   pub seen : List Entry
   pub later : StartsWith seen before
   pub within : StartsWith after seen

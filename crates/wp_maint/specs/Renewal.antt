@@ -25,16 +25,16 @@ use Rattle.wp_wal.specs.Segment.{NewSegmentState}
 use Rattle.wp_wal.specs.Spelling.{IsLogAt}
 use Rattle.wp_wal.specs.Wal.{LeavesCut, LosesNothingAt}
 use Rattle.wp_core.specs.Effects.{with_failed}
-use Rattle.wp_core.specs.Tables.{WriteTable, Installed, writes, installed}
+use Rattle.wp_core.specs.Tables.{WriteState, Installed, writes, installed}
 use Rattle.wp_core.specs.Views.{frozen_stay, tables_failed, log_failed, log_stopped, stopped}
 use Rattle.wp_core.specs.Views as event
 use Rattle.wp_core.specs.World.{Actor, Participant}
 use Rattle.wp_rule.specs.Knows.{Noted}
-use Rattle.wp_shared.specs.Edits.{EditsState}
+use Rattle.wp_shared.specs.VersionSet.{VersionSetState}
 use Rattle.wp_shared.specs.Installs.{SurvivesInstall}
 use Rattle.wp_shared.specs.Log.{LogState, IsLog, IsPlaceOf, IsSegmentOf}
 use Rattle.wp_shared.specs.Parts.{EditsStand, LogStands, log_first, set_first}
-use Rattle.wp_shared.specs.Calls.{Continues, remembering}
+use Rattle.wp_shared.specs.Calls.{Continues, with_events}
 use Rattle.wp_shared.specs.Seats.{SharedState, SeatState}
 use Rattle.wp_shared.specs.Turns.{HoldsTurn}
 use Rattle.wp_maint.specs.declared.frozen.Frozen.{Frozen}
@@ -49,7 +49,7 @@ use Rattle.wp_maint.specs.Moments.{LeftSince, OpensFromBase, OpensToSuch}
 
 -- The seat holds the write turn with this table of the log, taken last, and beneath it the tables turn with these tables; both are the
 -- store's.
-pub record HoldsBoth {D : Type 0} (z : SharedState D) (s : SeatState) (e : EditsState) (log : LogState) (table : WriteTable) : Type 0 where
+pub record HoldsBoth {D : Type 0} (z : SharedState D) (s : SeatState) (e : VersionSetState) (log : LogState) (table : WriteState) : Type 0 where
   pub turn : HoldsTurn z s (writes table) (installed e.table ∷ []) (5 ∷ [])
   pub edits_of_store : set_first z.first ≡ Some e.first
   pub log_of_store : log_first z.first ≡ Some log.first
@@ -70,7 +70,7 @@ pub record HasFrozenAll (a : Actor) (e : Installed) (f : Frozen) : Type 0 where
 -- ---- the devices
 
 -- The store's log on its device, with the one table and then with the other: as `TablesBecame` says it of the tables.
-pub record LogBecame {D : Type 0} (z : SharedState D) (t next : WriteTable) (So : LogState → LogState → Type 0) : Type 0 where
+pub record LogBecame {D : Type 0} (z : SharedState D) (t next : WriteState) (So : LogState → LogState → Type 0) : Type 0 where
   pub before : LogState
   pub after : LogState
   pub of_store : log_first z.first ≡ Some before.first
@@ -94,7 +94,7 @@ pub record SurvivesBeside (old new : LogState) (segment : Option Segment) : Type
 
 -- First the tables' device is called, then the log's, and then the manifest's, each while the others are as they are then. That the code
 -- calls them so, no clause tells: each device shows its own moments.
-abbrev pub LeftInRenewal : EditsState → EditsState → LogState → LogState → (log manifest tables : List ℕ) → Type 0
+abbrev pub LeftInRenewal : VersionSetState → VersionSetState → LogState → LogState → (log manifest tables : List ℕ) → Type 0
 LeftInRenewal old new log moved l m t =
     (images log.wal.moments l × images old.set.manifest.log.moments m × LeftSince old.set.moments new.set.moments t)
     ⊎ (LeftSince log.wal.moments moved.wal.moments l × images old.set.manifest.log.moments m × images new.set.moments t)
@@ -105,7 +105,7 @@ abbrev pub segment_of : Option InstalledEdit → Option Segment
 segment_of asked = option_map (λ (edit : InstalledEdit). edit.segment) asked
 
 -- The manifest's bytes spell edits of which this is the last one, as these bytes of the other device have its tables.
-pub record NamesEdit (s : EditsState) (manifest tables : List ℕ) (edit : InstalledEdit) : Type 0 where
+pub record NamesEdit (s : VersionSetState) (manifest tables : List ℕ) (edit : InstalledEdit) : Type 0 where
   pub edits : List Edit
   pub parts : List (List Version)
   pub spelled : IsManifestOf s.set.manifest.log.id edits manifest
@@ -114,7 +114,7 @@ pub record NamesEdit (s : EditsState) (manifest tables : List ℕ) (edit : Insta
 
 -- Whatever a crash in the renewal leaves, the manifest's last edit is the old one, or the one that was asked for, if one was, and is so
 -- with its tables; and at the place that this edit names the log spells the history, cut at the edit's base.
-abbrev pub NamesItsSegment : EditsState → EditsState → LogState → LogState → Option InstalledEdit → Type 0
+abbrev pub NamesItsSegment : VersionSetState → VersionSetState → LogState → LogState → Option InstalledEdit → Type 0
 NamesItsSegment old new log moved asked = (l m t : List ℕ) → LeftInRenewal old new log moved l m t
     → (edit : InstalledEdit) × ((edit ≡ old.table.last) ⊎ (asked ≡ Some edit)) × NamesEdit old m t edit × IsLogAt log.wal.id edit.segment.place (cut_at log.table.history edit.segment.base) l
 
@@ -124,21 +124,21 @@ IsAtEnd history edit = (undone_last history ≡ None) × IsEditCovered history e
 
 -- Whatever a crash in the renewal leaves, the three devices open to a list that is the history from the edit's base on, and to the last
 -- edit, or the one that was asked for, if one was.
-abbrev pub OpensInRenewal : EditsState → EditsState → LogState → LogState → Option InstalledEdit → Type 0
+abbrev pub OpensInRenewal : VersionSetState → VersionSetState → LogState → LogState → Option InstalledEdit → Type 0
 OpensInRenewal old new log moved asked =
     (l m t : List ℕ) → LeftInRenewal old new log moved l m t
     → (edit : InstalledEdit) × ((edit ≡ old.table.last) ⊎ (asked ≡ Some edit)) × OpensFromBase old.set.manifest.log.id log.table.history edit l m t
 
 -- While no device is called, whatever a crash leaves of the three opens to a list that is such entries from the base of such an edit on,
 -- and to that edit.
-abbrev pub OpensUnmoved : (Spells : List Entry → Type 0) → (Names : InstalledEdit → Type 0) → EditsState → LogState → Type 0
+abbrev pub OpensUnmoved : (Spells : List Entry → Type 0) → (Names : InstalledEdit → Type 0) → VersionSetState → LogState → Type 0
 OpensUnmoved Spells Names e log =
     (l m t : List ℕ) → images log.wal.moments l → images e.set.manifest.log.moments m → images e.set.moments t → OpensToSuch Spells Names e.set.manifest.log.id l m t
 
 -- ---- refusals
 
 -- The tables, and what their devices show of themselves, are as they were; and what a crash leaves of these is as the table says.
-abbrev pub AreSameTables : EditsState → EditsState → Type 0
+abbrev pub AreSameTables : VersionSetState → VersionSetState → Type 0
 AreSameTables before after = (after ≡ before) × EditsStand before
 
 -- ... of the log
@@ -150,12 +150,12 @@ pub record IsClosed {D : Type 0} (Goes : Participant → Type 0) (z : SharedStat
   pub found : Finds z old new e
   pub running : e.halted ≡ false
   pub whole : SawWhole z old new.knows.participant.seen
-  pub closed : (t : WriteTable) × HeldContent z old new old.knows.participant.past (writes t) × (t.closed ≡ true)
+  pub closed : (t : WriteState) × HeldContent z old new old.knows.participant.past (writes t) × (t.closed ≡ true)
   pub at_once : (closed.1.world.installed ≡ e) × (closed.1.world.writes ≡ closed.0)
   pub tables : TablesBecame z e e AreSameTables
   pub log : LogBecame z closed.0 closed.0 IsSameLog
   pub number : n ≡ length new.knows.participant.seen
-  pub goes_on : Goes (remembering (found_by z old new e found ∷ stopped n ∷ []) old.knows.participant)
+  pub goes_on : Goes (with_events (found_by z old new e found ∷ stopped n ∷ []) old.knows.participant)
 
 -- The log was not closed, and has the base already at which it would be renewed; it spells the whole history. Both are as they were, in one
 -- world.
@@ -163,20 +163,20 @@ pub record IsRenewed {D : Type 0} (Goes : Participant → Type 0) (z : SharedSta
   pub found : Finds z old new e
   pub running : e.halted ≡ false
   pub whole : SawWhole z old new.knows.participant.seen
-  pub unclosed : (t : WriteTable) × HeldContent z old new old.knows.participant.past (writes t) × (t.closed ≡ false)
+  pub unclosed : (t : WriteState) × HeldContent z old new old.knows.participant.past (writes t) × (t.closed ≡ false)
   pub at_once : (unclosed.1.world.installed ≡ e) × (unclosed.1.world.writes ≡ unclosed.0)
   pub spelled : unclosed.0.log ≡ new.knows.participant.seen
   pub tables : TablesBecame z e e AreSameTables
   pub log : LogBecame z unclosed.0 unclosed.0 IsSameLog
   pub based : e.last.segment.base ≡ length new.knows.participant.seen
-  pub goes_on : Goes (remembering (found_by z old new e found ∷ []) old.knows.participant)
+  pub goes_on : Goes (with_events (found_by z old new e found ∷ []) old.knows.participant)
 
 -- There was something to renew, and the log was not closed: one world of the store had these tables, and the log with the whole history,
 -- when the seat held the write turn.
 pub record IsBusy {D : Type 0} (z : SharedState D) (old new : SeatState) (e : Installed) : Type 0 where
   pub running : e.halted ≡ false
   pub whole : SawWhole z old new.knows.participant.seen
-  pub unclosed : (t : WriteTable) × HeldContent z old new old.knows.participant.past (writes t) × (t.closed ≡ false)
+  pub unclosed : (t : WriteState) × HeldContent z old new old.knows.participant.past (writes t) × (t.closed ≡ false)
   pub at_once : (unclosed.1.world.installed ≡ e) × (unclosed.1.world.writes ≡ unclosed.0)
   pub history_is : unclosed.0.history ≡ new.knows.participant.seen
   pub below : e.last.segment.base < length new.knows.participant.seen
@@ -195,7 +195,7 @@ pub record HasBrokenOff {D : Type 0} (Goes : Participant → Type 0) (z : Shared
   pub uncalled : asked ≡ None → IsUncalled fault.before fault.after
   pub log : LogBecame z busy.unclosed.0 (record busy.unclosed.0 { next = segment_of asked; closed = true; stopped = true })
       (λ before after. SurvivesBeside before after (segment_of asked) × NamesItsSegment fault.before fault.after before after asked)
-  pub goes_on : Goes (remembering (found_by z old new e found ∷ tables_failed e.last asked ∷ log_stopped ∷ []) old.knows.participant)
+  pub goes_on : Goes (with_events (found_by z old new e found ∷ tables_failed e.last asked ∷ log_stopped ∷ []) old.knows.participant)
 
 -- The log's device failed. Tables and manifest are as they were, but that the tables' device may have bytes that nothing names: of the
 -- table of an edit that was not asked for. While that was written, a crash left the tables that there were.
@@ -207,7 +207,7 @@ pub record HasLogFault {D : Type 0} (Goes : Participant → Type 0) (z : SharedS
   pub survives : (edit : InstalledEdit) × ((place : ℕ) × (edit ≡ after_renewal new.knows.participant.seen place e.last)) × SurvivesInstall tables.before tables.after edit
   pub log : LogBecame z busy.unclosed.0 (record busy.unclosed.0 { closed = true })
       (λ before after. Rose before.wal.faults after.wal.faults × SurvivesBeside before after None × NamesItsSegment tables.before tables.after before after None)
-  pub goes_on : Goes (remembering (found_by z old new e found ∷ log_failed [] ∷ []) old.knows.participant)
+  pub goes_on : Goes (with_events (found_by z old new e found ∷ log_failed [] ∷ []) old.knows.participant)
 
 -- Memory ran out before the first call of a device: tables, manifest and log are as they were. A crash left the last edit, with its
 -- tables, and the history at the place that it names.
@@ -235,7 +235,7 @@ pub record HasRenewed {D : Type 0} (Goes : Participant → Type 0) (z : SharedSt
   pub survives : SurvivesInstall table.before table.after (after_renewal new.knows.participant.seen place e.last)
   pub log : LogBecame z busy.unclosed.0 (record busy.unclosed.0 { segment = record { place = place; base = length new.knows.participant.seen }; next = None })
       (λ before after. SurvivesBeside before after (Some after.table.segment) × NamesItsSegment table.before table.after before after (Some (after_renewal new.knows.participant.seen place e.last)))
-  pub goes_on : Goes (remembering (found_by z old new e found ∷ event.renewed (after_renewal new.knows.participant.seen place e.last) ∷ []) old.knows.participant)
+  pub goes_on : Goes (with_events (found_by z old new e found ∷ event.renewed (after_renewal new.knows.participant.seen place e.last) ∷ []) old.knows.participant)
 
 -- what it answers and leaves where it finds these tables
 abbrev pub RenewsFrom : {D : Type 0} → (Participant → Type 0) → SharedState D → SeatState → Installed → Result Renewed RenewError → SeatState → Type 0

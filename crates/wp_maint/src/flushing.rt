@@ -19,7 +19,7 @@ use crate::steps::{find_edits, halt, install_flush, move_versions};
 use std::sync::{Arc, Wait};
 use wp_model::Versions;
 use wp_outside::Disk;
-use wp_shared::{Edits, Seat, Shared, Stock};
+use wp_shared::{Seat, Shared, Stock, VersionSet};
 use wp_table::Table;
 use wp_tableset::TableSetError;
 
@@ -27,12 +27,12 @@ use wp_tableset::TableSetError;
 fn install<D: Disk + Drop>(
     store: &Shared<D>,
     seat: &mut Seat<D>,
-    edits: &mut Edits<D>,
+    edits: &mut VersionSet<D>,
     frozen: &Frozen,
     versions: &Versions,
 ) -> Result<Arc<Table>, MaintError>
     requires holds { HoldsEdits store.now seat.old edits.old }
-    requires settled { KnowsTables seat.old.knows edits.old.table.last }
+    requires in_step { KnowsTables seat.old.knows edits.old.table.last }
     requires running { edits.old.table.halted ≡ false }
     requires frozen { HasFrozen seat.old.knows edits.old.table frozen.now }
     requires versions { versions.now ≡ versions_of frozen.now }
@@ -42,16 +42,16 @@ fn install<D: Disk + Drop>(
     ensures refused { IfErr result (λ why. NotInstalled store.now seat.old edits.old (after_flush seat.old.knows.participant.seen edits.old.table.last) why seat.new edits.new) }
     ensures manifest { IfErr result (UnlessFault (AreLeft edits.old edits.new)) }
 {
-    edits.shows_told();
+    edits.devices_agree();
     match edits.flush(versions, frozen.at) {
         Ok(table) => {
-            edits.shows_told();
+            edits.devices_agree();
             install_flush(store, seat, edits);
             Ok(table)
         }
         Err(TableSetError::Memory) => Err(MaintError::Memory),
         Err(TableSetError::Fault) => {
-            edits.shows_told();
+            edits.devices_agree();
             halt(store, seat, edits);
             Err(MaintError::TableFault)
         }
@@ -73,14 +73,14 @@ fn put_table<D: Disk + Drop, R: Wait>(
     store: &Shared<D>,
     rt: &R,
     seat: &mut Seat<D>,
-    edits: &Edits<D>,
+    edits: &VersionSet<D>,
     frozen: Frozen,
     table: Arc<Table>,
 )
     requires holds { HoldsEdits store.now seat.old edits.now }
     requires may { MayPut seat.old.knows edits.now.table frozen (arc_value table) }
     ensures goes { GoesOn is_of_tables (installed edits.now.table ∷ []) seat.old.turns seat.old seat.new }
-    ensures settled { KnowsTables seat.new.knows edits.now.table.last }
+    ensures in_step { KnowsTables seat.new.knows edits.now.table.last }
 {
     let Frozen {
         at,
@@ -99,18 +99,18 @@ fn flush_frozen<D: Disk + Drop, R: Wait>(
     store: &Shared<D>,
     rt: &R,
     seat: &mut Seat<D>,
-    edits: &mut Edits<D>,
+    edits: &mut VersionSet<D>,
     frozen: Frozen,
     versions: &Versions,
 ) -> Result<Done, MaintError>
     requires holds { HoldsEdits store.now seat.old edits.old }
-    requires settled { KnowsTables seat.old.knows edits.old.table.last }
+    requires in_step { KnowsTables seat.old.knows edits.old.table.last }
     requires running { edits.old.table.halted ≡ false }
     requires frozen { HasFrozen seat.old.knows edits.old.table frozen }
     requires versions { versions.now ≡ versions_of frozen }
     requires whole { SawWhole store.now seat.old seat.old.knows.participant.seen }
     ensures holds { HoldsEdits store.now seat.new edits.new }
-    ensures settled { KnowsTables seat.new.knows edits.new.table.last }
+    ensures in_step { KnowsTables seat.new.knows edits.new.table.last }
     ensures says { FlushesFrom (GoesOnAs seat.old seat.new) store.now seat.old edits.old.table result seat.new }
     ensures manifest { IfErr result (UnlessFault (AreLeft edits.old edits.new)) }
 {
@@ -132,13 +132,13 @@ fn flush_running<D: Disk + Drop, R: Wait>(
     store: &Shared<D>,
     rt: &R,
     seat: &mut Seat<D>,
-    edits: &mut Edits<D>,
+    edits: &mut VersionSet<D>,
 ) -> Result<Done, MaintError>
     requires holds { HoldsEdits store.now seat.old edits.old }
-    requires settled { KnowsTables seat.old.knows edits.old.table.last }
+    requires in_step { KnowsTables seat.old.knows edits.old.table.last }
     requires running { edits.old.table.halted ≡ false }
     ensures holds { HoldsEdits store.now seat.new edits.new }
-    ensures settled { KnowsTables seat.new.knows edits.new.table.last }
+    ensures in_step { KnowsTables seat.new.knows edits.new.table.last }
     ensures says { FlushesFrom (GoesOnAs seat.old seat.new) store.now seat.old edits.old.table result seat.new }
     ensures manifest { IfErr result (UnlessFault (AreLeft edits.old edits.new)) }
 {
@@ -160,12 +160,12 @@ fn flush_in<D: Disk + Drop, R: Wait>(
     store: &Shared<D>,
     rt: &R,
     seat: &mut Seat<D>,
-    edits: &mut Edits<D>,
+    edits: &mut VersionSet<D>,
 ) -> Result<Done, MaintError>
     requires holds { HoldsEdits store.now seat.old edits.old }
-    requires settled { KnowsTables seat.old.knows edits.old.table.last }
+    requires in_step { KnowsTables seat.old.knows edits.old.table.last }
     ensures holds { HoldsEdits store.now seat.new edits.new }
-    ensures settled { KnowsTables seat.new.knows edits.new.table.last }
+    ensures in_step { KnowsTables seat.new.knows edits.new.table.last }
     ensures says { FlushesFrom (GoesOnAs seat.old seat.new) store.now seat.old edits.old.table result seat.new }
     ensures manifest { IfErr result (UnlessFault (AreLeft edits.old edits.new)) }
 {
@@ -187,10 +187,10 @@ pub fn flush<D: Disk + Drop, R: Wait>(
     ensures answers { Flushes store.now seat.old result seat.new }
     ensures before_install { IfErr result (λ why. RefusesBeforeInstall (LeavesOnce store.now seat.old seat.new) seat.old why seat.new) }
 {
-    let mut edits = store.take_turn::<Edits<D>, R>(rt, seat);
-    edits.shows_told();
+    let mut edits = store.take_turn::<VersionSet<D>, R>(rt, seat);
+    edits.devices_agree();
     let result = flush_in(store, rt, seat, &mut edits);
-    edits.shows_told();
-    store.give_turn::<Edits<D>>(seat, edits);
+    edits.devices_agree();
+    store.give_turn::<VersionSet<D>>(seat, edits);
     result
 }

@@ -6,7 +6,7 @@ ghost use Rattle.wp_core.specs.Tables as table;
 ghost use Rattle.wp_core.specs.Turns.{write_turn};
 ghost use Rattle.wp_core.specs.World.{World};
 ghost use Rattle.wp_rule.specs.Knows.{KnowsTables};
-ghost use Rattle.wp_shared.specs.Stock.{store_table};
+ghost use Rattle.wp_shared.specs.Stock.{store_state};
 ghost use Rattle.wp_shared.specs.Notes.{no_fact, is_under, seeing, GoesOn};
 ghost use Rattle.wp_shared.specs.Seats.{Stands};
 ghost use Rattle.wp_shared.specs.Turns.{HoldsTurn};
@@ -19,7 +19,7 @@ use std::alloc::AllocError;
 use std::sync::{Arc, Wait};
 use wp_model::Seq;
 use wp_outside::Disk;
-use wp_shared::{Edits, Log, Seat, Shared, Stock};
+use wp_shared::{Log, Seat, Shared, Stock, VersionSet};
 use wp_store::FrozenParts;
 use wp_table::Table;
 
@@ -36,8 +36,8 @@ pub struct Frozen {
 
 /// Freezes what stands in memory, if something does.
 fn freeze(stock: &mut Stock, at: Seq) -> Result<Option<Frozen>, AllocError>
-    ensures copied { IfOk result (λ frozen. IsCopied (store_table stock.old) at frozen) }
-    ensures same { store_table stock.new ≡ store_table stock.old }
+    ensures copied { IfOk result (λ frozen. IsCopied (store_state stock.old) at frozen) }
+    ensures same { store_state stock.new ≡ store_state stock.old }
 {
     if stock.is_flushed() {
         return Ok(None);
@@ -51,17 +51,17 @@ fn freeze(stock: &mut Stock, at: Seq) -> Result<Option<Frozen>, AllocError>
 fn freeze_in<D: Disk + Drop>(
     store: &Shared<D>,
     seat: &mut Seat<D>,
-    edits: &Edits<D>,
+    edits: &VersionSet<D>,
     log: &Log<D>,
     stock: &mut Stock,
 ) -> Result<Option<Frozen>, AllocError>
-    requires holds { HoldsTurn store.now seat.old (table.store (store_table stock.old)) (writes log.now.table ∷ installed edits.now.table ∷ []) (0 ∷ 5 ∷ []) }
+    requires holds { HoldsTurn store.now seat.old (table.store (store_state stock.old)) (writes log.now.table ∷ installed edits.now.table ∷ []) (0 ∷ 5 ∷ []) }
     requires pending { log.now.table.pending ≡ [] }
     requires seen { seat.old.knows.participant.seen ≡ log.now.table.history }
-    requires settled { KnowsTables seat.old.knows edits.now.table.last }
+    requires in_step { KnowsTables seat.old.knows edits.now.table.last }
     requires stands { (w : World) × Stands store.now seat.old w }
     ensures goes { GoesOn no_fact seat.old.knows.held seat.old.turns seat.old seat.new }
-    ensures same { store_table stock.new ≡ store_table stock.old }
+    ensures same { store_state stock.new ≡ store_state stock.old }
     ensures frozen { IfOk result (λ frozen. Freezes seat.new.knows edits.now.table frozen) }
 {
     let Some(frozen) = freeze(stock, log.published())? else {
@@ -77,10 +77,10 @@ pub(crate) fn freeze_all<D: Disk + Drop, R: Wait>(
     store: &Shared<D>,
     rt: &R,
     seat: &mut Seat<D>,
-    edits: &Edits<D>,
+    edits: &VersionSet<D>,
 ) -> Result<Option<Frozen>, AllocError>
     requires holds { HoldsEdits store.now seat.old edits.now }
-    requires settled { KnowsTables seat.old.knows edits.now.table.last }
+    requires in_step { KnowsTables seat.old.knows edits.now.table.last }
     ensures goes { GoesOn (is_under write_turn) (installed edits.now.table ∷ []) seat.old.turns (seeing seat.new.knows.participant.seen seat.old) seat.new }
     ensures grown { StartsWith seat.new.knows.participant.seen seat.old.knows.participant.seen }
     ensures whole { SawWhole store.now seat.old seat.new.knows.participant.seen }

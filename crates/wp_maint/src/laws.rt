@@ -10,7 +10,7 @@ ghost use Rattle.wp_core.specs.Tables.{Installed};
 ghost use Rattle.wp_core.specs.Views as event;
 ghost use Rattle.wp_core.specs.World.{World};
 ghost use Rattle.wp_shared.specs.Calls.{Continues};
-ghost use Rattle.wp_shared.specs.Edits.{EditsState, IsEdits};
+ghost use Rattle.wp_shared.specs.VersionSet.{VersionSetState, IsEdits};
 ghost use Rattle.wp_shared.specs.Installs.{SurvivesInstall};
 ghost use Rattle.wp_shared.specs.Opening.{IsOneStore};
 ghost use Rattle.wp_shared.specs.Parts.{EditsStand, LogStands, log_first, set_first};
@@ -28,7 +28,7 @@ ghost use Rattle.wp_shared.specs.Log.{LogState, IsLog};
 /// and to the last edit or the next one. The install is any whose edit is covered by what was seen before it and names the segment in
 /// use: a flush's, or a compaction's.
 pub fn installs_open_throughout()
-    ensures { (seen : List Entry) (old new : EditsState) (next : InstalledEdit) → IsEdits old → old.table.halted ≡ false → SurvivesInstall old new next → IsEditCovered seen next
+    ensures { (seen : List Entry) (old new : VersionSetState) (next : InstalledEdit) → IsEdits old → old.table.halted ≡ false → SurvivesInstall old new next → IsEditCovered seen next
         → next.segment ≡ old.table.last.segment → OpensFrom seen old new next }
 {}
 
@@ -36,7 +36,7 @@ pub fn installs_open_throughout()
 /// at the place that the last of them names the log spells the history, cut at that edit's base. The renewal is any whose edit was
 /// installed, or failed in its install, behind the write of its segment; or that broke off before, with the manifest uncalled.
 pub fn a_renewal_leaves_each_edit_its_segment()
-    ensures { (old new : EditsState) (log moved : LogState) (next : InstalledEdit) → IsEdits old → old.table.halted ≡ false → SurvivesInstall old new next
+    ensures { (old new : VersionSetState) (log moved : LogState) (next : InstalledEdit) → IsEdits old → old.table.halted ≡ false → SurvivesInstall old new next
         → IsLog log → log.table.closed ≡ false → log.table.log ≡ log.table.history → log.table.segment ≡ old.table.last.segment
         → (asked : Option InstalledEdit) → IfSome asked (λ edit. edit ≡ next) → (asked ≡ None → IsUncalled old new) → SurvivesBeside log moved (segment_of asked) → NamesItsSegment old new log moved asked }
 {}
@@ -50,7 +50,7 @@ pub fn a_renewal_leaves_each_edit_its_segment()
 /// asked for or in its install; in which the log's device failed; or that wants memory. What the call tells is enough then, and that the
 /// devices are one store's, as `Shared::shows_one_store` tells.
 pub fn renewals_open_throughout<D>()
-    ensures amid { (old new : EditsState) (log moved : LogState) (asked : Option InstalledEdit) → IsLog log → IfSome asked (IsAtEnd log.table.history)
+    ensures amid { (old new : VersionSetState) (log moved : LogState) (asked : Option InstalledEdit) → IsLog log → IfSome asked (IsAtEnd log.table.history)
         → NamesItsSegment old new log moved asked → old.set.manifest.log.id < 2 ^ 32 → log.wal.id ≡ old.set.manifest.log.id
         → (w : World) → Reaches w → w.installed ≡ old.table → w.writes ≡ log.table → OpensInRenewal old new log moved asked }
     ensures renewed { (z : SharedState D) (old new : SeatState) (e : Installed) → IsOneStore z.opened z.first → (done : Renewed) (k : HasRenewed (Continues z old new) z old new e done)
@@ -73,10 +73,10 @@ pub fn renewals_open_throughout<D>()
 /// spells, or that and the record whose append failed; where there was nothing to renew it is the history; and the edit is the last one.
 /// Where the tables were halted others go on appending.
 pub fn refused_renewals_open_throughout<D>()
-    ensures each { (z : SharedState D) → IsOneStore z.opened z.first → (edits : EditsState) → IsEdits edits → EditsStand edits → set_first z.first ≡ Some edits.first
+    ensures each { (z : SharedState D) → IsOneStore z.opened z.first → (edits : VersionSetState) → IsEdits edits → EditsStand edits → set_first z.first ≡ Some edits.first
         → (log : LogState) → IsLog log → LogStands log → log_first z.first ≡ Some log.first
         → (w : World) → Reaches w → w.installed ≡ edits.table → w.writes ≡ log.table → OpensUnmoved (MaySpell log.table) (MayName edits.table) edits log }
-    ensures amid { (z : SharedState D) → IsOneStore z.opened z.first → (edits : EditsState) → IsEdits edits → EditsStand edits → set_first z.first ≡ Some edits.first
+    ensures amid { (z : SharedState D) → IsOneStore z.opened z.first → (edits : VersionSetState) → IsEdits edits → EditsStand edits → set_first z.first ≡ Some edits.first
         → (w : World) → Reaches w → w.installed ≡ edits.table
         → (l m t : List ℕ) → SpellsNamed edits.set.manifest.log.id w l → images edits.set.manifest.log.moments m → images edits.set.moments t
         → OpensToSuch (MaySpellAmid w.writes) (MayName edits.table) edits.set.manifest.log.id l m t }
@@ -99,7 +99,7 @@ pub fn behind_an_install_only_a_device_refuses<D>()
         → (MadeNoInstall old.knows.participant new.knows.participant × LeavesOnce z old new) ⊎ ((why ≡ TableFault) × FailedOnce old.knows.participant new.knows.participant) }
     ensures compaction { (z : SharedState D) (old new : SeatState) (why : MaintError) → RefusesBeforeInstall (LeavesEach z old new) old why new
         → (MadeNoInstall old.knows.participant new.knows.participant × LeavesEach z old new) ⊎ ((why ≡ TableFault) × FailedOnce old.knows.participant new.knows.participant) }
-    ensures install { (z : SharedState D) (old new : SeatState) (edits left : EditsState) (next : InstalledEdit) (why : MaintError) → NotInstalled z old edits next why new left → UnlessFault (AreLeft edits left) why
+    ensures install { (z : SharedState D) (old new : SeatState) (edits left : VersionSetState) (next : InstalledEdit) (why : MaintError) → NotInstalled z old edits next why new left → UnlessFault (AreLeft edits left) why
         → AreLeft edits left ⊎ ((why ≡ TableFault) × HasBroken z old edits next new left) }
     ensures installed { (z : SharedState D) (old new : SeatState) (why : MaintError) (edit : InstalledEdit) (compacts : Bool) → installs_of new.knows.participant ≡ installs_of old.knows.participant ++ event.installed edit compacts ∷ []
         → (RefusesBeforeInstall (LeavesOnce z old new) old why new → ⊥) × (RefusesBeforeInstall (LeavesEach z old new) old why new → ⊥) }

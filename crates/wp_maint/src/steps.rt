@@ -5,15 +5,15 @@ ghost use Rattle.wp_model.specs.Versions.{version_at};
 ghost use Rattle.wp_core.specs.Effects.{with_failed};
 ghost use Rattle.wp_core.specs.Lists.{IsIn};
 ghost use Rattle.wp_core.specs.Sound.Store.{NoneFlushed};
-ghost use Rattle.wp_core.specs.Tables.{Content, StoreTable, Installed, installed};
+ghost use Rattle.wp_core.specs.Tables.{Content, StoreState, Installed, installed};
 ghost use Rattle.wp_core.specs.Tables as table;
 ghost use Rattle.wp_core.specs.Views.{tables_failed, tables_stay, nothing_flushed, frozen_stay};
 ghost use Rattle.wp_core.specs.Views as event;
 ghost use Rattle.wp_core.specs.World.{World};
 ghost use Rattle.wp_rule.specs.Knows.{Noted, KnowsMoved, KnowsInstalled};
-ghost use Rattle.wp_shared.specs.Stock.{store_table};
-ghost use Rattle.wp_shared.specs.Calls.{remembering};
-ghost use Rattle.wp_shared.specs.Notes.{no_fact, being, noting, GoesOn};
+ghost use Rattle.wp_shared.specs.Stock.{store_state};
+ghost use Rattle.wp_shared.specs.Calls.{with_events};
+ghost use Rattle.wp_shared.specs.Notes.{no_fact, with_participant, noting, GoesOn};
 ghost use Rattle.wp_shared.specs.Seats.{Stands};
 ghost use Rattle.wp_maint.specs.Holding.{is_of_flushed, is_of_tables};
 ghost use Rattle.wp_maint.specs.Flush.{versions_of};
@@ -22,7 +22,7 @@ ghost use Rattle.wp_maint.specs.Finding.{Changes, Remembers};
 use crate::frozen::Frozen;
 use std::marker::Brand;
 use wp_outside::Disk;
-use wp_shared::{Edits, Seat, Shared, Stock};
+use wp_shared::{Seat, Shared, Stock, VersionSet};
 
 /// The seat remembers how it found the tables.
 pub fn find_edits<D: Disk + Drop>(store: &Shared<D>, seat: &mut Seat<D>)
@@ -34,29 +34,33 @@ pub fn find_edits<D: Disk + Drop>(store: &Shared<D>, seat: &mut Seat<D>)
 }
 
 /// The edit of a flush was installed.
-fn remember_flush<D: Disk + Drop>(store: &Shared<D>, seat: &mut Seat<D>, edits: &Edits<D>)
+fn remember_flush<D: Disk + Drop>(store: &Shared<D>, seat: &mut Seat<D>, edits: &VersionSet<D>)
     requires seat { seat.old.table ≡ store.now.table }
     requires held { (t : Installed) × (seat.old.knows.held ≡ installed t ∷ []) × (edits.now.table ≡ record t { last = edits.now.table.last }) × KnowsInstalled seat.old.knows t edits.now.table.last false }
-    ensures goes { GoesOn is_of_flushed (installed edits.now.table ∷ []) seat.old.turns (being (remembering (event.installed edits.now.table.last false ∷ []) seat.old.knows.participant) seat.old) seat.new }
+    ensures goes { GoesOn is_of_flushed (installed edits.now.table ∷ []) seat.old.turns (with_participant (with_events (event.installed edits.now.table.last false ∷ []) seat.old.knows.participant) seat.old) seat.new }
     ensures stands { (w : World) × Stands store.now seat.new w }
 {
-    store.make_about::<Brand, Edits<D>>(seat, edits);
+    store.make_about::<Brand, VersionSet<D>>(seat, edits);
 }
 
 /// A device of the tables failed.
-fn remember_fault<D: Disk + Drop>(store: &Shared<D>, seat: &mut Seat<D>, edits: &Edits<D>)
+fn remember_fault<D: Disk + Drop>(store: &Shared<D>, seat: &mut Seat<D>, edits: &VersionSet<D>)
     requires seat { seat.old.table ≡ store.now.table }
     requires held { (t : Installed) × (seat.old.knows.held ≡ installed t ∷ []) × (edits.now.table ≡ with_failed t edits.now.table.failed) × (t.halted ≡ false) }
     requires covered { IfSome edits.now.table.failed (IsEditCovered seat.old.knows.participant.seen) }
     requires segment { IfSome edits.now.table.failed (λ edit. edit.segment ≡ edits.now.table.last.segment) }
-    ensures goes { GoesOn no_fact (installed edits.now.table ∷ []) seat.old.turns (being (remembering (tables_failed edits.now.table.last edits.now.table.failed ∷ []) seat.old.knows.participant) seat.old) seat.new }
+    ensures goes { GoesOn no_fact (installed edits.now.table ∷ []) seat.old.turns (with_participant (with_events (tables_failed edits.now.table.last edits.now.table.failed ∷ []) seat.old.knows.participant) seat.old) seat.new }
     ensures stands { (w : World) × Stands store.now seat.new w }
 {
-    store.make_about::<Brand, Edits<D>>(seat, edits);
+    store.make_about::<Brand, VersionSet<D>>(seat, edits);
 }
 
 /// The edit of a flush was installed, where the tables were found so.
-pub(crate) fn install_flush<D: Disk + Drop>(store: &Shared<D>, seat: &mut Seat<D>, edits: &Edits<D>)
+pub(crate) fn install_flush<D: Disk + Drop>(
+    store: &Shared<D>,
+    seat: &mut Seat<D>,
+    edits: &VersionSet<D>,
+)
     requires seat { seat.old.table ≡ store.now.table }
     requires held { (t : Installed) × (seat.old.knows.held ≡ installed t ∷ []) × (edits.now.table ≡ record t { last = edits.now.table.last }) × KnowsInstalled seat.old.knows t edits.now.table.last false }
     ensures changes { (t : Installed) → seat.old.knows.held ≡ installed t ∷ [] → Changes store.now seat.old t edits.now.table (event.installed edits.now.table.last false) is_of_flushed seat.new }
@@ -67,7 +71,7 @@ pub(crate) fn install_flush<D: Disk + Drop>(store: &Shared<D>, seat: &mut Seat<D
 }
 
 /// A device of the tables failed, where they were found so.
-pub fn halt<D: Disk + Drop>(store: &Shared<D>, seat: &mut Seat<D>, edits: &Edits<D>)
+pub fn halt<D: Disk + Drop>(store: &Shared<D>, seat: &mut Seat<D>, edits: &VersionSet<D>)
     requires seat { seat.old.table ≡ store.now.table }
     requires held { (t : Installed) × (seat.old.knows.held ≡ installed t ∷ []) × (edits.now.table ≡ with_failed t edits.now.table.failed) × (t.halted ≡ false) }
     requires covered { IfSome edits.now.table.failed (IsEditCovered seat.old.knows.participant.seen) }
@@ -83,14 +87,14 @@ pub fn halt<D: Disk + Drop>(store: &Shared<D>, seat: &mut Seat<D>, edits: &Edits
 pub fn note_frozen<D: Disk + Drop>(
     store: &Shared<D>,
     seat: &mut Seat<D>,
-    edits: &Edits<D>,
+    edits: &VersionSet<D>,
     stock: &Stock,
     frozen: &Frozen,
 )
     requires seat { (seat.old.table ≡ store.now.table) × (seat.old.knows.live ≡ true) }
-    requires held { IsIn (installed edits.now.table) seat.old.knows.held × IsIn (table.store (store_table stock.now)) seat.old.knows.held }
+    requires held { IsIn (installed edits.now.table) seat.old.knows.held × IsIn (table.store (store_state stock.now)) seat.old.knows.held }
     requires seen { frozen.now.at ≤ length seat.old.knows.participant.seen }
-    requires are { (key : List ℕ) (q : ℕ) → q ≤ frozen.now.at → version_at (store_table stock.now).memory key q ≡ version_at (versions_of frozen.now) key q }
+    requires are { (key : List ℕ) (q : ℕ) → q ≤ frozen.now.at → version_at (store_state stock.now).memory key q ≡ version_at (versions_of frozen.now) key q }
     ensures { seat.new ≡ noting (frozen_stay frozen.now.at (versions_of frozen.now)) seat.old }
 {
     store.make_about::<Brand, Frozen>(seat, frozen);
@@ -100,17 +104,17 @@ pub fn note_frozen<D: Disk + Drop>(
 pub fn move_versions<D: Disk + Drop>(
     store: &Shared<D>,
     seat: &mut Seat<D>,
-    edits: &Edits<D>,
+    edits: &VersionSet<D>,
     stock: &Stock,
 )
     requires seat { seat.old.table ≡ store.now.table }
-    requires held { (t : StoreTable) × (others : List Content) × (seat.old.knows.held ≡ table.store t ∷ others) × IsIn (installed edits.now.table) others × ((store_table stock.now).floor ≡ t.floor)
-        × KnowsMoved t edits.now.table.last.flushed (store_table stock.now).memory (store_table stock.now).tables }
-    requires gone { NoneFlushed (store_table stock.now).memory edits.now.table.last.flushed }
-    ensures goes { (t : StoreTable) (others : List Content) → seat.old.knows.held ≡ table.store t ∷ others
-        → GoesOn is_of_tables (table.store (store_table stock.now) ∷ others) seat.old.turns seat.old seat.new }
+    requires held { (t : StoreState) × (others : List Content) × (seat.old.knows.held ≡ table.store t ∷ others) × IsIn (installed edits.now.table) others × ((store_state stock.now).floor ≡ t.floor)
+        × KnowsMoved t edits.now.table.last.flushed (store_state stock.now).memory (store_state stock.now).tables }
+    requires gone { NoneFlushed (store_state stock.now).memory edits.now.table.last.flushed }
+    ensures goes { (t : StoreState) (others : List Content) → seat.old.knows.held ≡ table.store t ∷ others
+        → GoesOn is_of_tables (table.store (store_state stock.now) ∷ others) seat.old.turns seat.old seat.new }
     ensures flushed { Noted seat.new.knows nothing_flushed }
-    ensures named { Noted seat.new.knows (tables_stay (store_table stock.now).tables (store_table stock.now).floor) }
+    ensures named { Noted seat.new.knows (tables_stay (store_state stock.now).tables (store_state stock.now).floor) }
 {
     store.make_about::<Brand, Stock>(seat, stock);
 }

@@ -8,7 +8,7 @@ ghost use Rattle.wp_make.specs.Totals.{keys_in, has_key, with_key, with_keys, ke
 
 use std::alloc::{AllocError, Global};
 use std::collections::BTreeMap;
-use wp_ledger::History;
+use wp_history::History;
 use wp_model::{Carried, Change, Entry, Key, Value};
 
 /// How many keys have a value, and how many bytes they and their values have together.

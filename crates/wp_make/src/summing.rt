@@ -6,7 +6,7 @@ use crate::kind::{Kind, count_of};
 use crate::sizes::{Sizes, store_of};
 use std::alloc::{AllocError, Global};
 use std::collections::BTreeMap;
-use wp_ledger::History;
+use wp_history::History;
 use wp_model::{Key, Value};
 use wp_text::{Reply, end_line};
 

@@ -9,6 +9,6 @@ pub mod Versions
 pub mod Covered
 pub mod Flushed
 pub mod Holder
-pub mod LockTables
-pub mod PreparedTables
+pub mod LockState
+pub mod PreparedSets
 pub mod Snapshots

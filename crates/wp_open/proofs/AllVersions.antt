@@ -7,13 +7,13 @@ use Rattle.wp_model.specs.Covered.{GivesStore, IsCovered}
 use Rattle.wp_model.specs.Flushed.{later_versions}
 use Rattle.wp_model.specs.Legal.{IsLegal}
 use Rattle.wp_model.specs.Versions.{version_at}
-use Rattle.wp_history.proofs.Listed.{none_listed}
+use Rattle.wp_history_laws.proofs.Listed.{none_listed}
 use Rattle.wp_cuts.specs.Cut.{Cut}
 use Rattle.wp_cuts.specs.LegalCut.{AreBelow, AreNumbered}
 use Rattle.wp_manifest.specs.Edit.{Edit}
 use Rattle.wp_merge.specs.Merge.{joined}
 use Rattle.wp_merge.proofs.Sorted.{at_append, at_sorted}
-use Rattle.wp_devices.specs.Opens.{AreCovering, all_in, history_over}
+use Rattle.wp_contents.specs.Opens.{AreCovering, all_in, history_over}
 use Rattle.wp_open.proofs.Base.{base_covered}
 
 -- ---- what covers a history hangs on look-ups alone

@@ -14,21 +14,21 @@ use Rattle.wp_model.specs.Flushed.{later_versions}
 use Rattle.wp_model.specs.History.{entry_at, is_prepare}
 use Rattle.wp_model.specs.Legal.{IsLegal, undone_last}
 use Rattle.wp_model.specs.Versions.{AreInOrder, version_at}
-use Rattle.wp_history.proofs.Listed.{only_listed}
+use Rattle.wp_history_laws.proofs.Listed.{only_listed}
 use Rattle.wp_cuts.specs.Cut.{Cut, IsCut, carried_at, full_of, is_start, value_in}
 use Rattle.wp_cuts.specs.Cut as cut
 use Rattle.wp_cuts.specs.LegalCut.{AreNumbered}
-use Rattle.wp_cuts.proofs.FullList.{full_carried, full_is_cut, full_value, settled_from, settled_parts}
-use Rattle.wp_cuts.proofs.Settled.{committed_settled, settled_committed}
+use Rattle.wp_cuts.proofs.FullList.{full_carried, full_is_cut, full_value, fixed_from, fixed_parts}
+use Rattle.wp_cuts.proofs.Fixed.{committed_fixed, fixed_committed}
 use Rattle.wp_cuts.proofs.UpTo.{gives_by_same, later_above, same_with_later}
 use Rattle.wp_cuts.proofs.Versions.{changes_to, newest_passing, found_none, found_some}
-use Rattle.wp_cuts.proofs.Whole.{full_settled}
-use Rattle.wp_ledger.specs.History.{RoomyHistory}
-use Rattle.wp_cover.specs.Sources.{AreSettled, is_settled}
+use Rattle.wp_cuts.proofs.Whole.{full_fixed}
+use Rattle.wp_history.specs.History.{RoomyHistory}
+use Rattle.wp_cover.specs.Sources.{AreFixed, is_fixed}
 use Rattle.wp_cover.proofs.Places.{none_later, or_none}
 use Rattle.wp_merge.specs.Merge.{joined}
 use Rattle.wp_merge.proofs.Sorted.{at_append, at_sorted, in_order_sorted}
-use Rattle.wp_devices.specs.Opens.{all_in, history_over}
+use Rattle.wp_contents.specs.Opens.{all_in, history_over}
 
 -- ---- a base
 
@@ -46,16 +46,16 @@ starts_undone (Close p ∷ entries) starts = let no = starts.0 in absurd cc
 pub has_cut : (h : RoomyHistory) → h.base ≤ length h.entries → AllByRecursion (λ entry. is_start entry ≡ true) (take h.base h.entries) → IsCut h.entries (cut.cut_at h.entries h.base)
 has_cut h within starts = record { within = within; whole = starts_undone (take h.base h.entries) starts; is = refl }
 
--- ---- settled numbers
+-- ---- fixed numbers
 
--- a number is settled by what stands there, and by what is carried
-pub same_settled : (h : RoomyHistory) (c : Cut) (versions : List Version) (p : ℕ) → AreNumbered c → h.base ≡ c.base → h.entries ≡ full_of c versions → is_settled h p ≡ cut.is_settled c p
-same_settled h c versions p numbered base_is entries_are =
+-- a number is fixed by what stands there, and by what is carried
+pub same_fixed : (h : RoomyHistory) (c : Cut) (versions : List Version) (p : ℕ) → AreNumbered c → h.base ≡ c.base → h.entries ≡ full_of c versions → is_fixed h p ≡ cut.is_fixed c p
+same_fixed h c versions p numbered base_is entries_are =
     (λ i. nat_le 1 p && (nat_le p (base_is i) && not (is_prepare (entry_at (entries_are i) p))))
     ∙ by (nat_le 1 p) refl (nat_le p c.base) refl
   where
     carries : 1 ≤ p → p ≤ c.base → (o : Option Carried) → carried_at c p ≡ o → is_prepare (entry_at (full_of c versions) p) ≡ cut.is_carried c p
-    carries low le None e = ap is_prepare (full_settled c versions p (settled_from c p low le (ap is_some e))) ∙ sym (ap is_some e)
+    carries low le None e = ap is_prepare (full_fixed c versions p (fixed_from c p low le (ap is_some e))) ∙ sym (ap is_some e)
     carries low le (Some x) e = ap is_prepare (full_carried c versions p x numbered e) ∙ sym (ap is_some e)
 
     by : (a : Bool) → nat_le 1 p ≡ a → (b : Bool) → nat_le p c.base ≡ b → (a && (b && not (is_prepare (entry_at (full_of c versions) p)))) ≡ (a && (b && not (cut.is_carried c p)))
@@ -73,11 +73,11 @@ module _ (c : Cut) (parts : List (List Version)) (numbered : AreNumbered c) wher
   order : AreInOrder all
   order = in_order_sorted (joined parts)
 
-  -- what the tables have under settled numbers is the list's
-  pub settled_own : (h : RoomyHistory) (flushed : ℕ) → h.base ≡ c.base → h.entries ≡ full → c.base ≤ flushed → AreSettled h (joined parts ++ later_versions h.entries flushed)
-  settled_own h flushed base_is entries_are low key p value settled there =
-      let its : cut.is_settled c p ≡ true = sym (same_settled h c all p numbered base_is entries_are) ∙ settled in
-      let within = (settled_parts c p its).within in
+  -- what the tables have under fixed numbers is the list's
+  pub fixed_own : (h : RoomyHistory) (flushed : ℕ) → h.base ≡ c.base → h.entries ≡ full → c.base ≤ flushed → AreFixed h (joined parts ++ later_versions h.entries flushed)
+  fixed_own h flushed base_is entries_are low key p value fixed there =
+      let its : cut.is_fixed c p ≡ true = sym (same_fixed h c all p numbered base_is entries_are) ∙ fixed in
+      let within = (fixed_parts c p its).within in
       let none = none_later h.entries flushed key p (omega (arith, within, low)) in
       let here : version_at (joined parts) key p ≡ Some value =
       sym (or_none (version_at (joined parts) key p))
@@ -85,7 +85,7 @@ module _ (c : Cut) (parts : List (List Version)) (numbered : AreNumbered c) wher
       ∙ sym (at_append (joined parts) (later_versions h.entries flushed) key p)
       ∙ there in
       ap (λ (es : List Entry). entry_version es p key) entries_are
-      ∙ ap (λ (o : Option Entry). version_in o key) (full_settled c all p its)
+      ∙ ap (λ (o : Option Entry). version_in o key) (full_fixed c all p its)
       ∙ changes_to all p key
       ∙ at_sorted (joined parts) key p
       ∙ here
@@ -93,29 +93,29 @@ module _ (c : Cut) (parts : List (List Version)) (numbered : AreNumbered c) wher
   -- ---- readers at the base
 
   module _ (legal : IsLegal full) (part : (key : List ℕ) (p : ℕ) (value : Option (List ℕ)) → version_at all key p ≡ Some value → entry_version full p key ≡ Some value) where
-    only_settled : (key : List ℕ) (p : ℕ) → (cut.is_settled c p ≡ true → version_at all key p ≡ None) → IsCommittedAt full p c.base → version_at all key p ≡ None
-    only_settled key p none committed = by (version_at all key p) refl
+    only_fixed : (key : List ℕ) (p : ℕ) → (cut.is_fixed c p ≡ true → version_at all key p ≡ None) → IsCommittedAt full p c.base → version_at all key p ≡ None
+    only_fixed key p none committed = by (version_at all key p) refl
       where
         by : (o : Option (Option (List ℕ))) → version_at all key p ≡ o → version_at all key p ≡ None
         by None e = e
-        by (Some value) e = none (committed_settled full c all legal (full_is_cut c all numbered) part key p value e committed)
+        by (Some value) e = none (committed_fixed full c all legal (full_is_cut c all numbered) part key p value e committed)
 
     gives_at_base : (key : List ℕ) → GivesStore all full key c.base
-    gives_at_base key = by (newest_passing (cut.is_settled c) key all) refl
+    gives_at_base key = by (newest_passing (cut.is_fixed c) key all) refl
       where
-        by : (o : Option Version) → newest_passing (cut.is_settled c) key all ≡ o → GivesStore all full key c.base
+        by : (o : Option Version) → newest_passing (cut.is_fixed c) key all ≡ o → GivesStore all full key c.base
         by None e = inr (record {
-          none = λ p committed. only_settled key p (found_none (cut.is_settled c) key all e p) committed;
+          none = λ p committed. only_fixed key p (found_none (cut.is_fixed c) key all e p) committed;
           missing = full_value c all key numbered order ∙ ap value_in e;
         })
         by (Some v) e =
-            let it = found_some (cut.is_settled c) key all v order e in
+            let it = found_some (cut.is_fixed c) key all v order e in
             inl (record {
               number = v.number;
               value = v.value;
               there = it.there;
-              committed = settled_committed full c all legal (full_is_cut c all numbered) part key v.number v.value it.passing it.there;
-              newest = λ q above committed. only_settled key q (it.newest q above) committed;
+              committed = fixed_committed full c all legal (full_is_cut c all numbered) part key v.number v.value it.passing it.there;
+              newest = λ q above committed. only_fixed key q (it.newest q above) committed;
               stored = full_value c all key numbered order ∙ ap value_in e;
             })
 

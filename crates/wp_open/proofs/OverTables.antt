@@ -14,23 +14,23 @@ use Rattle.wp_model.specs.declared.version.Version.{Version}
 use Rattle.wp_model.specs.Batch.{key_cmp}
 use Rattle.wp_model.specs.History.{is_changed}
 use Rattle.wp_model.specs.Versions.{AreInOrder, version_at}
-use Rattle.wp_history.specs.Growth.{AreAscending}
+use Rattle.wp_history_laws.specs.Growth.{AreAscending}
 use Rattle.wp_cuts.specs.Cut.{Cut, base_value, carried_at, full_of, value_in}
 use Rattle.wp_cuts.specs.Cut as cut
 use Rattle.wp_cuts.specs.LegalCut.{AreBelow, AreNumbered}
-use Rattle.wp_cuts.proofs.FullList.{front, full_is, full_is_cut, full_long, full_value, settled_parts}
+use Rattle.wp_cuts.proofs.FullList.{front, full_is, full_is_cut, full_long, full_value, fixed_parts}
 use Rattle.wp_cuts.proofs.Members.{IsIn, at_in, in_at, version}
-use Rattle.wp_ledger.specs.History.{RoomyHistory, IsStore, HasBaseValues}
-use Rattle.wp_ledger.specs.Outline.{IsFirstWrong, RestoreUpTo, cut_in, full_with}
-use Rattle.wp_cover.specs.Sources.{is_settled}
+use Rattle.wp_history.specs.History.{RoomyHistory, IsStore, HasBaseValues}
+use Rattle.wp_history.specs.Outline.{IsFirstWrong, RestoreUpTo, cut_in, full_with}
+use Rattle.wp_cover.specs.Sources.{is_fixed}
 use Rattle.wp_refused.specs.declared.bad.Bad.{Bad}
 use Rattle.wp_refused.specs.declared.bad.Bad.TheVariants as bad
 use Rattle.wp_refused.specs.declared.error.OpenError.TheVariants as open_error
 use Rattle.wp_refused.specs.Damage.{UndosRestore, IsWrongUndo, end_of, standing}
-use Rattle.wp_devices.specs.Opens.{all_in, history_over}
+use Rattle.wp_contents.specs.Opens.{all_in, history_over}
 use Rattle.wp_open.specs.Standing.{IsOverCause, Leaves, fits, is_under}
 use Rattle.wp_refused.specs.Tables.{IsHistoryCause}
-use Rattle.wp_open.proofs.Base.{same_settled}
+use Rattle.wp_open.proofs.Base.{same_fixed}
 
 -- ---- all of a list
 
@@ -87,17 +87,17 @@ all_carried test (y ∷ ys) ascend each =
 -- ---- below what is carried
 
 module _ (h : RoomyHistory) (its versions : List Version) (order : AreInOrder versions) (numbered : AreNumbered (cut_in h)) (full : h.entries ≡ full_of (cut_in h) its) where
-  settled_is : (p : ℕ) → is_settled h p ≡ cut.is_settled (cut_in h) p
-  settled_is p = same_settled h (cut_in h) its p numbered refl full
+  fixed_is : (p : ℕ) → is_fixed h p ≡ cut.is_fixed (cut_in h) p
+  fixed_is p = same_fixed h (cut_in h) its p numbered refl full
 
   under_by : (b : Bool) (n m : ℕ) → (not b || nat_lt n m) ≡ true → b ≡ true → n < m
   under_by true n m held is = ltb-true n m held
   under_by false n m held is = absurd cc
 
   below_from : list_all (fits h) versions ≡ true → AreBelow (cut_in h) versions
-  below_from all key q p value x there settled found changed =
+  below_from all key q p value x there fixed found changed =
       let one : fits h (version key q value) ≡ true = all_at (fits h) versions (version key q value) all (at_in versions key q value there) in
-      let under = carried_there (is_under (version key q value)) (cut_in h).carried p x (by (is_settled h q) (settled_is q ∙ settled) one) found in
+      let under = carried_there (is_under (version key q value)) (cut_in h).carried p x (by (is_fixed h q) (fixed_is q ∙ fixed) one) found in
       let lt = under_by (is_changed x.batch key) q x.number under changed in
       omega (arith, lt, found_number (cut_in h).carried p x found)
     where
@@ -106,15 +106,15 @@ module _ (h : RoomyHistory) (its versions : List Version) (order : AreInOrder ve
       by false is held = absurd cc
 
   below_to : AreBelow (cut_in h) versions → list_all (fits h) versions ≡ true
-  below_to below = all_from (fits h) versions (λ v there. by v (in_at versions v order there) (is_settled h v.number) refl)
+  below_to below = all_from (fits h) versions (λ v there. by v (in_at versions v order there) (is_fixed h v.number) refl)
     where
-      under : (v : Version) (p : ℕ) (x : Carried) → version_at versions v.key v.number ≡ Some v.value → is_settled h v.number ≡ true → carried_at (cut_in h) p ≡ Some x → (b : Bool) → is_changed x.batch v.key ≡ b → is_under v x ≡ true
-      under v p x there settled found false is = ap (λ (b : Bool). not b || nat_lt v.number x.number) is
-      under v p x there settled found true is =
-          let lt = below v.key v.number p v.value x there (sym (settled_is v.number) ∙ settled) found is in
+      under : (v : Version) (p : ℕ) (x : Carried) → version_at versions v.key v.number ≡ Some v.value → is_fixed h v.number ≡ true → carried_at (cut_in h) p ≡ Some x → (b : Bool) → is_changed x.batch v.key ≡ b → is_under v x ≡ true
+      under v p x there fixed found false is = ap (λ (b : Bool). not b || nat_lt v.number x.number) is
+      under v p x there fixed found true is =
+          let lt = below v.key v.number p v.value x there (sym (fixed_is v.number) ∙ fixed) found is in
           ap (λ (b : Bool). not b || nat_lt v.number x.number) is ∙ lt-ltb v.number x.number (omega (arith, lt, found_number (cut_in h).carried p x found))
 
-      by : (v : Version) → version_at versions v.key v.number ≡ Some v.value → (b : Bool) → is_settled h v.number ≡ b → fits h v ≡ true
+      by : (v : Version) → version_at versions v.key v.number ≡ Some v.value → (b : Bool) → is_fixed h v.number ≡ b → fits h v ≡ true
       by v there false is = ap (λ (b : Bool). not b || list_all (is_under v) (cut_in h).carried) is
       by v there true is =
           ap (λ (b : Bool). not b || list_all (is_under v) (cut_in h).carried) is
@@ -144,24 +144,24 @@ pub nothing_left : (c : Cut) (store : BTreeMap (List ℕ) (List ℕ)) → store.
 nothing_left c store empty ordered = record { ordered = ordered; each = λ key. ap (λ (es : List (List ℕ × List ℕ)). lookup (is_at (key_cmp key)) es) empty }
 
 module _ (c : Cut) (v : Version) (seen : List Version) (store new : BTreeMap (List ℕ) (List ℕ)) where
-  with_settled : (b : Bool) (o : Option Version) → cond b v.value (value_in o) ≡ value_in (cond (b && true) (Some v) o)
-  with_settled true o = refl
-  with_settled false o = refl
+  with_fixed : (b : Bool) (o : Option Version) → cond b v.value (value_in o) ≡ value_in (cond (b && true) (Some v) o)
+  with_fixed true o = refl
+  with_fixed false o = refl
 
   without : (b : Bool) (o : Option Version) → value_in o ≡ value_in (cond (b && false) (Some v) o)
   without true o = refl
   without false o = refl
 
-  pub one_left : cut.is_settled c v.number ≡ true → IsStore (base_value c seen) store → Leaves v.key v.value store new → IsStore (base_value c (v ∷ seen)) new
-  one_left settled had left =
+  pub one_left : cut.is_fixed c v.number ≡ true → IsStore (base_value c seen) store → Leaves v.key v.value store new → IsStore (base_value c (v ∷ seen)) new
+  one_left fixed had left =
       as_values (λ key. cond (bytes_eq v.key key) v.value (base_value c seen key)) (base_value c (v ∷ seen)) new
-      (λ key. with_settled (bytes_eq v.key key) (find (λ w. bytes_eq w.key key && cut.is_settled c w.number) seen) ∙ ap (λ (s : Bool). value_in (cond (bytes_eq v.key key && s) (Some v) (find (λ w. bytes_eq w.key key && cut.is_settled c w.number) seen))) (sym settled))
+      (λ key. with_fixed (bytes_eq v.key key) (find (λ w. bytes_eq w.key key && cut.is_fixed c w.number) seen) ∙ ap (λ (s : Bool). value_in (cond (bytes_eq v.key key && s) (Some v) (find (λ w. bytes_eq w.key key && cut.is_fixed c w.number) seen))) (sym fixed))
       (left (base_value c seen) had)
 
-  pub one_passed : cut.is_settled c v.number ≡ false → IsStore (base_value c seen) store → IsStore (base_value c (v ∷ seen)) store
+  pub one_passed : cut.is_fixed c v.number ≡ false → IsStore (base_value c seen) store → IsStore (base_value c (v ∷ seen)) store
   one_passed other had =
       as_values (base_value c seen) (base_value c (v ∷ seen)) store
-      (λ key. without (bytes_eq v.key key) (find (λ w. bytes_eq w.key key && cut.is_settled c w.number) seen) ∙ ap (λ (s : Bool). value_in (cond (bytes_eq v.key key && s) (Some v) (find (λ w. bytes_eq w.key key && cut.is_settled c w.number) seen))) (sym other)) had
+      (λ key. without (bytes_eq v.key key) (find (λ w. bytes_eq w.key key && cut.is_fixed c w.number) seen) ∙ ap (λ (s : Bool). value_in (cond (bytes_eq v.key key && s) (Some v) (find (λ w. bytes_eq w.key key && cut.is_fixed c w.number) seen))) (sym other)) had
 
 -- of all versions these are left, the last ones are taken, and their values are in the map
 pub record AreTaken (c : Cut) (all left : List Version) (store : BTreeMap (List ℕ) (List ℕ)) : Type 0 where
@@ -175,10 +175,10 @@ none_taken c all left store is empty ordered = record { seen = []; parts = appen
 one_more : (all left rest seen : List Version) (v : Version) → left ≡ rest ++ v ∷ [] → left ++ seen ≡ all → rest ++ v ∷ seen ≡ all
 one_more all left rest seen v is parts = sym (append_assoc rest (v ∷ []) seen) ∙ ap (λ (vs : List Version). vs ++ seen) (sym is) ∙ parts
 
-pub taken_settled : (c : Cut) (all left rest : List Version) (v : Version) (store new : BTreeMap (List ℕ) (List ℕ)) → left ≡ rest ++ v ∷ [] → cut.is_settled c v.number ≡ true → AreTaken c all left store → Leaves v.key v.value store new → AreTaken c all rest new
-taken_settled c all left rest v store new is settled t one = record { seen = v ∷ t.seen; parts = one_more all left rest t.seen v is t.parts; has = one_left c v t.seen store new settled t.has one }
+pub taken_fixed : (c : Cut) (all left rest : List Version) (v : Version) (store new : BTreeMap (List ℕ) (List ℕ)) → left ≡ rest ++ v ∷ [] → cut.is_fixed c v.number ≡ true → AreTaken c all left store → Leaves v.key v.value store new → AreTaken c all rest new
+taken_fixed c all left rest v store new is fixed t one = record { seen = v ∷ t.seen; parts = one_more all left rest t.seen v is t.parts; has = one_left c v t.seen store new fixed t.has one }
 
-pub taken_other : (c : Cut) (all left rest : List Version) (v : Version) (store : BTreeMap (List ℕ) (List ℕ)) → left ≡ rest ++ v ∷ [] → cut.is_settled c v.number ≡ false → AreTaken c all left store → AreTaken c all rest store
+pub taken_other : (c : Cut) (all left rest : List Version) (v : Version) (store : BTreeMap (List ℕ) (List ℕ)) → left ≡ rest ++ v ∷ [] → cut.is_fixed c v.number ≡ false → AreTaken c all left store → AreTaken c all rest store
 taken_other c all left rest v store is other t = record { seen = v ∷ t.seen; parts = one_more all left rest t.seen v is t.parts; has = one_passed c v t.seen store store other t.has }
 
 pub all_taken : (c : Cut) (all left : List Version) (store : BTreeMap (List ℕ) (List ℕ)) → length left ≡ 0 → AreTaken c all left store → IsStore (base_value c all) store
@@ -190,8 +190,8 @@ all_taken c all (v ∷ left) store none t = absurd (omega (arith, none))
 no_front : (c : Cut) (versions : List Version) → c.base ≡ 0 → full_of c versions ≡ c.entries
 no_front c versions none = full_is c versions ∙ ap (λ (n : ℕ). front c versions n ++ c.entries) none
 
-nothing_settled : (c : Cut) (p : ℕ) → c.base ≡ 0 → cut.is_settled c p ≡ true → ⊥
-nothing_settled c p none settled = let s = settled_parts c p settled in let low = s.low in let within = s.within in omega (arith, none, low, within)
+nothing_fixed : (c : Cut) (p : ℕ) → c.base ≡ 0 → cut.is_fixed c p ≡ true → ⊥
+nothing_fixed c p none fixed = let s = fixed_parts c p fixed in let low = s.low in let within = s.within in omega (arith, none, low, within)
 
 module _ (c : Cut) (versions : List Version) (parts : List (List Version)) (either : (versions ≡ all_in parts) ⊎ (c.base ≡ 0)) where
   pub full_either : full_of c versions ≡ history_over c parts
@@ -203,13 +203,13 @@ module _ (c : Cut) (versions : List Version) (parts : List (List Version)) (eith
   pub below_either : AreBelow c versions → AreBelow c (all_in parts)
   below_either below = elim either [
     | inl same ↦ subst (AreBelow c) same below
-    | inr none ↦ λ key q p value x there settled. absurd (nothing_settled c q none settled)
+    | inr none ↦ λ key q p value x there fixed. absurd (nothing_fixed c q none fixed)
   ]
 
   pub not_either : (AreBelow c versions → ⊥) → AreBelow c (all_in parts) → ⊥
   not_either not below = elim either [
     | inl same ↦ not (subst (AreBelow c) (sym same) below)
-    | inr none ↦ not (λ key q p value x there settled. absurd (nothing_settled c q none settled))
+    | inr none ↦ not (λ key q p value x there fixed. absurd (nothing_fixed c q none fixed))
   ]
 
 -- ---- what is said of an outline with its versions

@@ -7,12 +7,12 @@ use Rattle.wp_model.specs.Decision.{entry_version}
 use Rattle.wp_model.specs.Flushed.{later_versions}
 use Rattle.wp_model.specs.Legal.{IsLegal}
 use Rattle.wp_model.specs.Versions.{version_at}
-use Rattle.wp_history.proofs.NewestVersion.{one_or_none, newest_is_value, none_is_no_value}
+use Rattle.wp_history_laws.proofs.NewestVersion.{one_or_none, newest_is_value, none_is_no_value}
 use Rattle.wp_cuts.specs.Cut.{Cut}
 use Rattle.wp_cuts.specs.LegalCut.{AreNumbered}
 use Rattle.wp_manifest.specs.Edit.{Edit}
 use Rattle.wp_cover.proofs.Places.{none_later, own_later}
-use Rattle.wp_devices.specs.Opens.{AreCovering, history_over}
+use Rattle.wp_contents.specs.Opens.{AreCovering, history_over}
 use Rattle.wp_open.proofs.Base.{base_covered}
 
 own_version : (history : List Entry) (key : List ℕ) (p : ℕ) → version_at (later_versions history 0) key p ≡ entry_version history p key

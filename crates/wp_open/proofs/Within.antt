@@ -8,8 +8,8 @@ use Rattle.wp_outside.specs.Disk.{Moment, added, after_sync}
 use Rattle.wp_outside.specs.Faults.{Rose}
 use Rattle.wp_cuts.specs.Cut.{Cut}
 use Rattle.wp_cuts.proofs.FullList.{full_long}
-use Rattle.wp_ledger.specs.History.{RoomyHistory}
-use Rattle.wp_ledger.specs.Outline.{cut_in}
+use Rattle.wp_history.specs.History.{RoomyHistory}
+use Rattle.wp_history.specs.Outline.{cut_in}
 use Rattle.wp_manifest.specs.Edit.{Edit}
 use Rattle.wp_table.specs.declared.error.TableError.{TableError}
 use Rattle.wp_table.specs.declared.error.TableError.TheVariants as table
@@ -17,7 +17,7 @@ use Rattle.wp_refused.specs.declared.bad.Bad.TheVariants as bad
 use Rattle.wp_refused.specs.declared.error.OpenError.{OpenError}
 use Rattle.wp_refused.specs.declared.error.OpenError.TheVariants as open_error
 use Rattle.wp_refused.specs.Damage.{IsFirstBadTable, IsWithin, UndosRestore, end_of, standing}
-use Rattle.wp_devices.specs.Opens.{all_in, history_over}
+use Rattle.wp_contents.specs.Opens.{all_in, history_over}
 use Rattle.wp_refused.specs.Refused.{IsApart}
 use Rattle.wp_refused.specs.Tables.{AreTablesCause, IsFirstWrong, IsHistoryCause, IsStoreCause, ahead, behind, of_tables, not_legal, not_covered, LeavesSynced, WereTables}
 use Rattle.wp_refused.proofs.Stages.{known_before}

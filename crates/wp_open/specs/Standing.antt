@@ -6,9 +6,9 @@ use Rattle.std.specs.Str.{bytes_eq}
 use Rattle.wp_model.specs.declared.carried.Carried.{Carried}
 use Rattle.wp_model.specs.declared.version.Version.{Version}
 use Rattle.wp_model.specs.History.{is_changed}
-use Rattle.wp_ledger.specs.History.{RoomyHistory, IsStore}
-use Rattle.wp_ledger.specs.Outline.{IsFirstWrong, RestoreUpTo, cut_in}
-use Rattle.wp_cover.specs.Sources.{is_settled}
+use Rattle.wp_history.specs.History.{RoomyHistory, IsStore}
+use Rattle.wp_history.specs.Outline.{IsFirstWrong, RestoreUpTo, cut_in}
+use Rattle.wp_cover.specs.Sources.{is_fixed}
 use Rattle.wp_refused.specs.declared.bad.Bad.{Bad}
 use Rattle.wp_refused.specs.declared.bad.Bad.TheVariants as bad
 
@@ -16,9 +16,9 @@ use Rattle.wp_refused.specs.declared.bad.Bad.TheVariants as bad
 abbrev pub is_under : Version → Carried → Bool
 is_under v x = not (is_changed x.batch v.key) || nat_lt v.number x.number
 
--- its number is not settled, or it is below each carried prepare that has its key
+-- its number is not fixed, or it is below each carried prepare that has its key
 abbrev pub fits : RoomyHistory → Version → Bool
-fits h v = not (is_settled h v.number) || list_all (is_under v) (cut_in h).carried
+fits h v = not (is_fixed h v.number) || list_all (is_under v) (cut_in h).carried
 
 -- the value is left under the key, or nothing
 abbrev pub Leaves : List ℕ → Option (List ℕ) → BTreeMap (List ℕ) (List ℕ) → BTreeMap (List ℕ) (List ℕ) → Type 0

@@ -4,12 +4,12 @@ ghost use Rattle.wp_model.specs.Legal.{IsLegal};
 ghost use Rattle.wp_cuts.specs.Cut.{IsCut};
 ghost use Rattle.wp_cuts.specs.LegalCut.{AreBelow};
 ghost use Rattle.wp_manifest.specs.Edit.{Edit};
-ghost use Rattle.wp_ledger.specs.Outline.{cut_in};
-ghost use Rattle.wp_devices.specs.Opens.{AreCovering, all_in, history_over};
+ghost use Rattle.wp_history.specs.Outline.{cut_in};
+ghost use Rattle.wp_contents.specs.Opens.{AreCovering, all_in, history_over};
 
 use std::alloc::{AllocError, Global};
 use wp_cover::tables_cover;
-use wp_ledger::History;
+use wp_history::History;
 use wp_model::Seq;
 use wp_store::Store;
 

@@ -7,7 +7,7 @@ ghost use Rattle.wp_memtable.specs.Memtable.{HasChanges};
 ghost use Rattle.wp_merge.specs.Merge.{sorted_of};
 
 use std::alloc::{AllocError, Global};
-use wp_ledger::History;
+use wp_history::History;
 use wp_memtable::Memtable;
 use wp_model::{Entry, Seq};
 

@@ -5,10 +5,10 @@ ghost use Rattle.std.specs.List.{list_all};
 ghost use Rattle.wp_model.specs.Versions.{AreInOrder};
 ghost use Rattle.wp_cuts.specs.Cut.{base_value};
 ghost use Rattle.wp_cuts.specs.LegalCut.{AreBelow, AreNumbered, prepares_of};
-ghost use Rattle.wp_ledger.specs.History.{HasBaseValues, IsStore};
-ghost use Rattle.wp_ledger.specs.Outline.{cut_in};
-ghost use Rattle.wp_cover.specs.Sources.{is_settled};
-ghost use Rattle.wp_devices.specs.Opens.{all_in, history_over};
+ghost use Rattle.wp_history.specs.History.{HasBaseValues, IsStore};
+ghost use Rattle.wp_history.specs.Outline.{cut_in};
+ghost use Rattle.wp_cover.specs.Sources.{is_fixed};
+ghost use Rattle.wp_contents.specs.Opens.{all_in, history_over};
 ghost use Rattle.wp_open.specs.Standing.{Leaves, IsOverCause, fits, is_under};
 ghost use Rattle.wp_refused.specs.Tables.{IsHistoryCause};
 
@@ -16,7 +16,7 @@ use std::alloc::{AllocError, Global};
 use std::collections::{BTreeMap, VecDeque};
 use std::snapshot::Snapshot;
 use std::sync::Arc;
-use wp_ledger::{History, Outline};
+use wp_history::{History, Outline};
 use wp_merge::merged_lists_are_sorted;
 use wp_model::{Carried, Key, Seq, Value, Version, Versions};
 use wp_refused::{Bad, OpenError};
@@ -24,8 +24,8 @@ use wp_store::merged_tables;
 use wp_table::Table;
 
 /// Whether the number is one up to the base that is no carried prepare's.
-fn is_settled(outline: &Outline, p: Seq) -> bool
-    ensures { result ≡ is_settled outline.now p }
+fn is_fixed(outline: &Outline, p: Seq) -> bool
+    ensures { result ≡ is_fixed outline.now p }
 {
     1 <= p && p <= outline.base() && outline.prepare_at(p).is_none()
 }
@@ -72,14 +72,14 @@ fn is_under_each(outline: &Outline, version: &Version) -> bool
     outline.carried().iter().all(|x| is_under(version, x))
 }
 
-/// Whether the version's number is not settled, or it is below each carried prepare that has its key.
+/// Whether the version's number is not fixed, or it is below each carried prepare that has its key.
 fn fits(outline: &Outline, version: &Version) -> bool
     ensures { result ≡ fits outline.now version.now }
 {
-    !is_settled(outline, version.number) || is_under_each(outline, version)
+    !is_fixed(outline, version.number) || is_under_each(outline, version)
 }
 
-/// Whether each version with a settled number is below each carried prepare that has its key.
+/// Whether each version with a fixed number is below each carried prepare that has its key.
 fn are_below(outline: &Outline, versions: &Versions) -> bool
     ensures value { result ≡ list_all (fits outline.now) versions.now }
     ensures in_order { AreInOrder versions.now }
@@ -107,7 +107,7 @@ fn leave(store: &mut BTreeMap<Key, Value>, version: Version) -> Result<(), Alloc
     Ok(())
 }
 
-/// What a store had at the base by its versions: under each key what the newest settled one has. The last one is taken first, so
+/// What a store had at the base by its versions: under each key what the newest fixed one has. The last one is taken first, so
 /// that of one key the newest stays.
 fn base_store(
     alloc: Global,
@@ -121,7 +121,7 @@ fn base_store(
     let mut store = BTreeMap::new(alloc);
     let mut rest = versions.into_vec();
     while let Some(version) = rest.pop() {
-        if is_settled(outline, version.number) {
+        if is_fixed(outline, version.number) {
             leave(&mut store, version)?;
         }
     }

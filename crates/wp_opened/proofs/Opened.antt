@@ -28,15 +28,15 @@ use Rattle.wp_core.specs.Turns.{write_turn, tables_turn}
 use Rattle.wp_rule.specs.Shows.{WasLast}
 use Rattle.wp_rule.specs.Words.{first_edit_of}
 use Rattle.wp_parts.specs.Log.{LogState}
-use Rattle.wp_parts.specs.Edits.{EditsState}
+use Rattle.wp_parts.specs.VersionSet.{VersionSetState}
 use Rattle.wp_opened.specs.Filled.{AreFilled, running_set}
 use Rattle.wp_parts.specs.Parts.{content, log_first, set_first, IsGuardedBy}
-use Rattle.wp_parts.specs.declared.part.Part.{Part}
-use Rattle.wp_parts.specs.declared.part.Part.TheVariants as part
+use Rattle.wp_parts.specs.declared.part.TurnValue.{TurnValue}
+use Rattle.wp_parts.specs.declared.part.TurnValue.TheVariants as part
 use Rattle.wp_parts.specs.Devices.{DevicesLeft, devices_behind}
 use Rattle.wp_shared.specs.Opening.{IsOneStore}
 
-pub one_store : {D : Type 0} (opened history : List Entry) (slots : List (Part D)) (wal : WalState) (set : TableSetState) (edit : InstalledEdit) → opened ≡ history → log_first slots ≡ Some wal → set_first slots ≡ Some set
+pub one_store : {D : Type 0} (opened history : List Entry) (slots : List (TurnValue D)) (wal : WalState) (set : TableSetState) (edit : InstalledEdit) → opened ≡ history → log_first slots ≡ Some wal → set_first slots ≡ Some set
     → WasLast content slots edit → set.manifest.log.id ≡ wal.id → wal.id < 2 ^ 32 → edit.segment ≡ wal.segment → IsCut history (cut_at history edit.segment.base) → IsOneStore opened slots
 one_store opened history slots wal set edit same log tables last id fits segment cut =
     subst (λ (x : List Entry). IsOneStore x slots) (sym same)
@@ -47,54 +47,54 @@ pub segment_named : (asked : ℕ) (log manifest tables : List Moment) (wal : Wal
     → (installed_of wal.segment.base edits.edit versions.tables).segment ≡ wal.segment
 segment_named asked log manifest tables wal history edits tables_now versions p = λ i. record { place = sym p.opened.placed i; base = wal.segment.base }
 
-abbrev log_in : {D : Type 0} → Part D → LogState → LogState
+abbrev log_in : {D : Type 0} → TurnValue D → LogState → LogState
 log_in (part.Write log) d = log.value
 log_in other d = d
 
-abbrev edits_in : {D : Type 0} → Part D → EditsState → EditsState
+abbrev edits_in : {D : Type 0} → TurnValue D → VersionSetState → VersionSetState
 edits_in (part.Tables edits) d = edits.value
 edits_in other d = d
 
 -- ---- the values in their slots
 
-module _ {D : Type 0} (slots : List (Part D)) (wal : WalState) (history : List Entry) (set : TableSetState) (store : StoreParts) (f : AreFilled wal history set store slots) where
+module _ {D : Type 0} (slots : List (TurnValue D)) (wal : WalState) (history : List Entry) (set : TableSetState) (store : StoreParts) (f : AreFilled wal history set store slots) where
   pub log_there : log_first slots ≡ Some wal
   log_there = ap log_first f.are ∙ ap (λ (log : LogState). Some log.first) f.log_is
 
   pub set_there : set_first slots ≡ Some set
-  set_there = ap set_first f.are ∙ ap (λ (edits : EditsState). Some edits.first) f.edits_are
+  set_there = ap set_first f.are ∙ ap (λ (edits : VersionSetState). Some edits.first) f.edits_are
 
-  pub last_edit_is : (first : List (Part D)) → first ≡ slots → WasLast content first (installed_of wal.segment.base set.manifest.edit store.tables)
-  last_edit_is first same = ap (first_edit_of content) (same ∙ f.are) ∙ ap (λ (edits : EditsState). Some edits.table.last) f.edits_are
+  pub last_edit_is : (first : List (TurnValue D)) → first ≡ slots → WasLast content first (installed_of wal.segment.base set.manifest.edit store.tables)
+  last_edit_is first same = ap (first_edit_of content) (same ∙ f.are) ∙ ap (λ (edits : VersionSetState). Some edits.table.last) f.edits_are
 
   -- the slots came back: the last one is taken out, and then the first
-  module _ (back : List (Part D)) (same : back ≡ slots) where
+  module _ (back : List (TurnValue D)) (same : back ≡ slots) where
     abbrev shown : back ≡ part.Write f.log ∷ part.Prepared f.prepared ∷ part.Snapshots f.snaps ∷ part.Store f.stock ∷ part.Locks f.locks ∷ part.Tables f.edits ∷ []
     shown = same ∙ f.are
 
-    pub last_slot : (x : Part D) → x ≡ slice_index_or back 5 x → x ≡ part.Tables f.edits
-    last_slot x at = at ∙ ap (λ (xs : List (Part D)). slice_index_or xs 5 x) shown
+    pub last_slot : (x : TurnValue D) → x ≡ slice_index_or back 5 x → x ≡ part.Tables f.edits
+    last_slot x at = at ∙ ap (λ (xs : List (TurnValue D)). slice_index_or xs 5 x) shown
 
-    pub first_slot : (others : List (Part D)) (x : Part D) → others ≡ remove back 5 → x ≡ slice_index_or others 0 x → x ≡ part.Write f.log
-    first_slot others x left at = at ∙ ap (λ (xs : List (Part D)). slice_index_or xs 0 x) (left ∙ ap (λ (xs : List (Part D)). remove xs 5) shown)
+    pub first_slot : (others : List (TurnValue D)) (x : TurnValue D) → others ≡ remove back 5 → x ≡ slice_index_or others 0 x → x ≡ part.Write f.log
+    first_slot others x left at = at ∙ ap (λ (xs : List (TurnValue D)). slice_index_or xs 0 x) (left ∙ ap (λ (xs : List (TurnValue D)). remove xs 5) shown)
 
-    pub last_guarded : (x : Part D) → x ≡ slice_index_or back 5 x → IsGuardedBy tables_turn x
+    pub last_guarded : (x : TurnValue D) → x ≡ slice_index_or back 5 x → IsGuardedBy tables_turn x
     last_guarded x at = (installed f.edits.value.table, ap content (last_slot x at), refl)
 
-    pub first_guarded : (others : List (Part D)) (x : Part D) → others ≡ remove back 5 → x ≡ slice_index_or others 0 x → IsGuardedBy write_turn x
+    pub first_guarded : (others : List (TurnValue D)) (x : TurnValue D) → others ≡ remove back 5 → x ≡ slice_index_or others 0 x → IsGuardedBy write_turn x
     first_guarded others x left at = (writes f.log.value.table, ap content (first_slot others x left at), refl)
 
-    pub same_edits : (x : Part D) (edits : Box EditsState Global) → x ≡ slice_index_or back 5 x → x ≡ part.Tables edits → edits.value.set ≡ set
-    same_edits x edits at is = ap (λ (y : Part D). (edits_in y edits.value).set) (sym is ∙ last_slot x at) ∙ ap (λ (e : EditsState). e.set) f.edits_are
+    pub same_edits : (x : TurnValue D) (edits : Box VersionSetState Global) → x ≡ slice_index_or back 5 x → x ≡ part.Tables edits → edits.value.set ≡ set
+    same_edits x edits at is = ap (λ (y : TurnValue D). (edits_in y edits.value).set) (sym is ∙ last_slot x at) ∙ ap (λ (e : VersionSetState). e.set) f.edits_are
 
-    pub same_log : (others : List (Part D)) (x : Part D) (log : Box LogState Global) → others ≡ remove back 5 → x ≡ slice_index_or others 0 x → x ≡ part.Write log → log.value.wal ≡ wal
-    same_log others x log left at is = ap (λ (y : Part D). (log_in y log.value).wal) (sym is ∙ first_slot others x left at) ∙ ap (λ (l : LogState). l.wal) f.log_is
+    pub same_log : (others : List (TurnValue D)) (x : TurnValue D) (log : Box LogState Global) → others ≡ remove back 5 → x ≡ slice_index_or others 0 x → x ≡ part.Write log → log.value.wal ≡ wal
+    same_log others x log left at is = ap (λ (y : TurnValue D). (log_in y log.value).wal) (sym is ∙ first_slot others x left at) ∙ ap (λ (l : LogState). l.wal) f.log_is
 
     -- their devices are those of the store
-    pub devices_back : (others : List (Part D)) (x y : Part D) (edits_box : Box EditsState Global) (log_box : Box LogState Global) (log : LogState) (edits : EditsState) (left : DevicesLeft) → x ≡ slice_index_or back 5 x → x ≡ part.Tables edits_box
+    pub devices_back : (others : List (TurnValue D)) (x y : TurnValue D) (edits_box : Box VersionSetState Global) (log_box : Box LogState Global) (log : LogState) (edits : VersionSetState) (left : DevicesLeft) → x ≡ slice_index_or back 5 x → x ≡ part.Tables edits_box
         → others ≡ remove back 5 → y ≡ slice_index_or others 0 y → y ≡ part.Write log_box → log ≡ log_box.value → edits ≡ edits_box.value → left ≡ devices_behind log.wal edits.set → left ≡ devices_behind wal set
     devices_back others x y edits_box log_box log edits left at out left_are there log_is inside edits_inside e =
-        e ∙ (λ i. devices_behind ((ap (λ (l : LogState). l.wal) inside ∙ same_log others y log_box left_are there log_is) i) ((ap (λ (s : EditsState). s.set) edits_inside ∙ same_edits x edits_box at out) i))
+        e ∙ (λ i. devices_behind ((ap (λ (l : LogState). l.wal) inside ∙ same_log others y log_box left_are there log_is) i) ((ap (λ (s : VersionSetState). s.set) edits_inside ∙ same_edits x edits_box at out) i))
 
 -- ---- all is read, and memory is wanting
 

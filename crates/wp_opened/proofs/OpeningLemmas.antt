@@ -55,12 +55,12 @@ use Rattle.wp_core.proofs.SnapshotsStep.{among_live}
 use Rattle.wp_core.proofs.Tests.{none_some}
 use Rattle.wp_rule.specs.Shows.{Founds, IsPart}
 use Rattle.wp_parts.specs.Log.{LogState, log_state, open_ending}
-use Rattle.wp_parts.specs.Stock.{StockState, store_table}
-use Rattle.wp_parts.specs.Edits.{EditsState, edits_state}
+use Rattle.wp_parts.specs.Stock.{StockState, store_state}
+use Rattle.wp_parts.specs.VersionSet.{VersionSetState, edits_state}
 use Rattle.wp_opened.specs.Filled.{AreFilled, IsFlagOf, running_set}
 use Rattle.wp_parts.specs.Parts.{content, LogStands, EditsStand, tells}
-use Rattle.wp_parts.specs.declared.part.Part.{Part}
-use Rattle.wp_parts.specs.declared.part.Part.TheVariants as part
+use Rattle.wp_parts.specs.declared.part.TurnValue.{TurnValue}
+use Rattle.wp_parts.specs.declared.part.TurnValue.TheVariants as part
 use Rattle.wp_parts.proofs.StockLemmas.{at_parts}
 use Rattle.wp_parts.proofs.EditsLemmas.{none_asked}
 use Rattle.wp_parts.proofs.LaterVersions.{later_none, later_each, later_past, tables_none}
@@ -226,7 +226,7 @@ module _ (asked : ℕ) (log manifest tables : List Moment) (wal : WalState) (his
 
   -- ---- the world
 
-  module _ {D : Type 0} (faults : ℕ) (slots : List (Part D)) (f : AreFilled wal history (running_set edits now faults) store slots) (client : List ℕ) (cells flag : ℕ) (some_cells : 1 ≤ cells) (flagged : IsFlagOf history flag) where
+  module _ {D : Type 0} (faults : ℕ) (slots : List (TurnValue D)) (f : AreFilled wal history (running_set edits now faults) store slots) (client : List ℕ) (cells flag : ℕ) (some_cells : 1 ≤ cells) (flagged : IsFlagOf history flag) where
     abbrev installed : Installed
     installed = (edits_state (running_set edits now faults) (running_set edits now faults) wal.segment.base store.tables None).table
 
@@ -241,7 +241,7 @@ module _ (asked : ℕ) (log manifest tables : List Moment) (wal : WalState) (his
       writes = (log_state wal wal history [] false open_ending).table;
       prepared = f.prepared.value;
       snapshots = finite.empty;
-      store = store_table (record { parts = store; floor = length history });
+      store = store_state (record { parts = store; floor = length history });
       locks = f.locks.value;
       installed = installed;
       first_edit = last;
@@ -275,7 +275,7 @@ module _ (asked : ℕ) (log manifest tables : List Moment) (wal : WalState) (his
       old_flag = refl;
       snapshots = refl;
       versions = stored installed.failed none_failed;
-      settled = (none_flushed, refl);
+      fixed = (none_flushed, refl);
       first_edit = refl;
       not_failed = none_failed;
       running = refl;
@@ -285,19 +285,19 @@ module _ (asked : ℕ) (log manifest tables : List Moment) (wal : WalState) (his
     }
 
     module _ (log_told : LogStands f.log.value) (set_told : EditsStand f.edits.value) where
-      abbrev list : List (Part D)
+      abbrev list : List (TurnValue D)
       list = part.Write f.log ∷ part.Prepared f.prepared ∷ part.Snapshots f.snaps ∷ part.Store f.stock ∷ part.Locks f.locks ∷ part.Tables f.edits ∷ []
 
-      each : (turn : Turn) → (x : Part D) × (get_elem? list (turn_index turn) ≡ some x) × IsPart content (tells list) x (content_of opened_world turn)
+      each : (turn : Turn) → (x : TurnValue D) × (get_elem? list (turn_index turn) ≡ some x) × IsPart content (tells list) x (content_of opened_world turn)
       each write_turn = (part.Write f.log, refl, (ap (λ (l : LogState). Some (table.writes l.table)) f.log_is, (log_told, refl)))
       each prepared_turn = (part.Prepared f.prepared, refl, (refl, (tt, tt)))
       each snapshots_turn = (part.Snapshots f.snaps, refl, (ap (λ (m : Snapshots). Some (table.snapshots m)) f.none_live, (tt, tt)))
-      each store_turn = (part.Store f.stock, refl, (ap (λ (s : StockState). Some (table.store (store_table s))) f.stock_is, (tt, tt)))
+      each store_turn = (part.Store f.stock, refl, (ap (λ (s : StockState). Some (table.store (store_state s))) f.stock_is, (tt, tt)))
       each locks_turn = (part.Locks f.locks, refl, (refl, (tt, tt)))
-      each tables_turn = (part.Tables f.edits, refl, (ap (λ (e : EditsState). Some (table.installed e.table)) f.edits_are, (set_told, refl)))
+      each tables_turn = (part.Tables f.edits, refl, (ap (λ (e : VersionSetState). Some (table.installed e.table)) f.edits_are, (set_told, refl)))
 
       pub founds : Founds content (tells slots) client history cells flag slots
-      founds = subst (λ (xs : List (Part D)). Founds content (tells xs) client history cells flag xs) (sym f.are) record {
+      founds = subst (λ (xs : List (TurnValue D)). Founds content (tells xs) client history cells flag xs) (sym f.are) record {
         world = opened_world;
         opening = opens;
         opened_is = refl;

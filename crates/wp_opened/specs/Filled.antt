@@ -5,23 +5,23 @@ use Rattle.std.specs.FinSet as set
 use Rattle.std.specs.FinMap as finite
 use Rattle.wp_model.specs.declared.entry.Entry.{Entry}
 use Rattle.wp_model.specs.History.{undecided}
-use Rattle.wp_model.specs.LockTables.{LockTables}
-use Rattle.wp_model.specs.PreparedTables.{PreparedTables}
+use Rattle.wp_model.specs.LockState.{LockState}
+use Rattle.wp_model.specs.PreparedSets.{PreparedSets}
 use Rattle.wp_model.specs.Snapshots.{Snapshots}
-use Rattle.wp_history.specs.Opened.{AreOpened}
+use Rattle.wp_history_laws.specs.Opened.{AreOpened}
 use Rattle.wp_manifest.specs.Manifest.{ManifestState}
 use Rattle.wp_outside.specs.Disk.{Moment}
 use Rattle.wp_store.specs.Store.{StoreParts}
 use Rattle.wp_tableset.specs.Set.{TableSetState}
 use Rattle.wp_wal.specs.Wal.{WalState}
 use Rattle.wp_parts.specs.Log.{LogState, log_state, open_ending}
-use Rattle.wp_parts.specs.Edits.{EditsState, edits_state}
+use Rattle.wp_parts.specs.VersionSet.{VersionSetState, edits_state}
 use Rattle.wp_parts.specs.Stock.{StockState}
-use Rattle.wp_parts.specs.declared.part.Part.{Part}
-use Rattle.wp_parts.specs.declared.part.Part.TheVariants as part
+use Rattle.wp_parts.specs.declared.part.TurnValue.{TurnValue}
+use Rattle.wp_parts.specs.declared.part.TurnValue.TheVariants as part
 
 -- just the history's undecided prepares are delayed, and no number is in the heap
-pub record AreDelayed (history : List Entry) (t : PreparedTables) : Type 0 where
+pub record AreDelayed (history : List Entry) (t : PreparedSets) : Type 0 where
   pub heap : t.heap ≡ set.empty
   pub delayed : t.delayed ≡ set.from_list (undecided history)
   pub delayed_commits : t.delayed_commits ≡ finite.empty
@@ -37,13 +37,13 @@ running_set manifest moments faults = record { manifest = manifest; moments = mo
 -- The values behind the turns, in the turns' order, as they were opened: nothing is pending; just the undecided prepares are
 -- delayed; no snapshot is live; the store's versions serve a reader at the history's end; and just the keys of the undecided
 -- prepares are locked.
-pub record AreFilled {D : Type 0} (wal : WalState) (history : List Entry) (set : TableSetState) (store : StoreParts) (slots : List (Part D)) : Type 0 where
+pub record AreFilled {D : Type 0} (wal : WalState) (history : List Entry) (set : TableSetState) (store : StoreParts) (slots : List (TurnValue D)) : Type 0 where
   pub log : Box LogState Global
-  pub prepared : Box PreparedTables Global
+  pub prepared : Box PreparedSets Global
   pub snaps : Box Snapshots Global
   pub stock : Box StockState Global
-  pub locks : Box LockTables Global
-  pub edits : Box EditsState Global
+  pub locks : Box LockState Global
+  pub edits : Box VersionSetState Global
   pub are : slots ≡ part.Write log ∷ part.Prepared prepared ∷ part.Snapshots snaps ∷ part.Store stock ∷ part.Locks locks ∷ part.Tables edits ∷ []
   pub log_is : log.value ≡ log_state wal wal history [] false open_ending
   pub delayed : AreDelayed history prepared.value

@@ -3,21 +3,21 @@ ghost use Rattle.std.specs.FinMap as finite;
 ghost use Rattle.std.specs.Prelude.{◌≡◌, ◌≤◌, ℕ, false, List, [], ◌∷◌, None, length, ◌+◌, vec_len, vec_capacity, IfOk, IfErr};
 ghost use Rattle.wp_outside.specs.Disk.{Moment};
 ghost use Rattle.wp_refused.specs.Parts.{PartsOpened};
-ghost use Rattle.wp_history.specs.Opened.{AreOpened};
+ghost use Rattle.wp_history_laws.specs.Opened.{AreOpened};
 ghost use Rattle.wp_rule.specs.Shows.{Founds};
 ghost use Rattle.wp_parts.specs.Devices.{devices_of, devices_behind};
-ghost use Rattle.wp_parts.specs.Edits.{edits_state};
+ghost use Rattle.wp_parts.specs.VersionSet.{edits_state};
 ghost use Rattle.wp_parts.specs.Log.{log_state, open_ending};
 ghost use Rattle.wp_parts.specs.Parts.{content, tells, LogStands, EditsStand};
-ghost use Rattle.wp_parts.specs.declared.part.Part.TheVariants as part;
+ghost use Rattle.wp_parts.specs.declared.part.TurnValue.TheVariants as part;
 ghost use Rattle.wp_opened.specs.Filled.{AreDelayed, AreFilled, IsFlagOf, running_set};
 
 use std::alloc::{AllocError, Global};
-use wp_ledger::History;
+use wp_history::History;
 use wp_locks::Locks;
 use wp_open::Parts;
 use wp_outside::{Disk, Disks};
-use wp_parts::{Edits, Log, Part, Stock, TableVersions, take_apart};
+use wp_parts::{Log, Stock, TableVersions, TurnValue, VersionSet, take_apart};
 use wp_prepared::Prepared;
 use wp_snaps::Snaps;
 use wp_store::Store;
@@ -29,7 +29,7 @@ struct Room<D: Disk> {
     prepared: Box<Prepared>,
     snaps: Box<Snaps>,
     locks: Box<Locks>,
-    slots: Vec<Part<D>>,
+    slots: Vec<TurnValue<D>>,
 }
 
 /// What each of the store's tables has, for clauses.
@@ -64,7 +64,7 @@ fn room_for<D: Disk + Drop>(alloc: Global, history: &History) -> Result<Room<D>,
 struct Guarded<D: Disk> {
     log: Box<Log<D>>,
     stock: Box<Stock>,
-    edits: Box<Edits<D>>,
+    edits: Box<VersionSet<D>>,
 }
 
 /// Makes them of the parts. Where memory is wanting the devices come back.
@@ -92,7 +92,7 @@ fn make_guarded<D: Disk + Drop>(
     let stock = Box::new(alloc, Stock::new(store, history.published()));
     let base = history.base();
     let log = Log::new(alloc, wal, history);
-    let edits = Edits::new(
+    let edits = VersionSet::new(
         alloc,
         TableSet::new(alloc, manifest, tables),
         base,
@@ -112,7 +112,7 @@ fn make_guarded<D: Disk + Drop>(
 }
 
 /// The values behind their turns, in memory that was taken.
-fn fill<D: Disk>(guarded: Guarded<D>, room: Room<D>) -> Vec<Part<D>>
+fn fill<D: Disk>(guarded: Guarded<D>, room: Room<D>) -> Vec<TurnValue<D>>
     requires slots { (room.slots.items ≡ []) × (vec_len room.slots + 6 ≤ vec_capacity room.slots) }
     ensures slots { result.items ≡ part.Write guarded.log ∷ part.Prepared room.prepared ∷ part.Snapshots room.snaps ∷ part.Store guarded.stock ∷ part.Locks room.locks ∷ part.Tables guarded.edits ∷ [] }
     ensures log { LogStands guarded.log.value }
@@ -126,14 +126,14 @@ fn fill<D: Disk>(guarded: Guarded<D>, room: Room<D>) -> Vec<Part<D>>
         mut slots,
         ..
     } = room;
-    log.shows_told();
-    edits.shows_told();
-    slots.push(Part::Write(log)).unwrap();
-    slots.push(Part::Prepared(prepared)).unwrap();
-    slots.push(Part::Snapshots(snaps)).unwrap();
-    slots.push(Part::Store(stock)).unwrap();
-    slots.push(Part::Locks(locks)).unwrap();
-    slots.push(Part::Tables(edits)).unwrap();
+    log.devices_agree();
+    edits.devices_agree();
+    slots.push(TurnValue::Write(log)).unwrap();
+    slots.push(TurnValue::Prepared(prepared)).unwrap();
+    slots.push(TurnValue::Snapshots(snaps)).unwrap();
+    slots.push(TurnValue::Store(stock)).unwrap();
+    slots.push(TurnValue::Locks(locks)).unwrap();
+    slots.push(TurnValue::Tables(edits)).unwrap();
     slots
 }
 
@@ -158,7 +158,7 @@ fn disks_of<D: Disk>(parts: Parts<D>) -> Disks<D>
 pub(crate) fn guard<D: Disk + Drop>(
     alloc: Global,
     parts: Parts<D>,
-) -> Result<Vec<Part<D>>, Disks<D>>
+) -> Result<Vec<TurnValue<D>>, Disks<D>>
     requires opened { (asked : ℕ) × (log : List Moment) × (manifest : List Moment) × (tables : List Moment)
         × PartsOpened asked log manifest tables parts.wal parts.history.entries parts.manifest (D.moments parts.tables) parts.store }
     requires base { parts.history.base ≡ parts.wal.segment.base }

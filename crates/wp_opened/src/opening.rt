@@ -21,7 +21,7 @@ use std::snapshot::Snapshot;
 use wp_model::{Name, Seq};
 use wp_open::{Parts, open_parts};
 use wp_outside::{Disk, Disks};
-use wp_parts::{BehindTurn, Edits, Log, take_apart};
+use wp_parts::{BehindTurn, Log, VersionSet, take_apart};
 use wp_refused::{OpenError, OpenRefused};
 use wp_shared::{Seat, Shared};
 
@@ -57,7 +57,7 @@ pub fn share<D: Disk + Drop>(
     match Shared::new(alloc, client, history, published, flag, slots, bits, limit) {
         Ok(shared) => Ok(shared),
         Err(mut slots) => {
-            let tables = Box::into_inner(Edits::out_of(slots.remove(5)));
+            let tables = Box::into_inner(VersionSet::out_of(slots.remove(5)));
             let log = Box::into_inner(Log::out_of(slots.remove(0)));
             Err(take_apart(log, tables).1)
         }

@@ -7,7 +7,7 @@ use Rattle.wp_model.specs.Legal.{undone_last}
 use Rattle.wp_cuts.specs.Cut.{carried_of}
 use Rattle.wp_cuts.proofs.Growing.{cut_at_end}
 use Rattle.wp_cuts.proofs.Standing.{cut_numbered}
-use Rattle.wp_history.specs.Growth.{AreAscending}
+use Rattle.wp_history_laws.specs.Growth.{AreAscending}
 use Rattle.wp_entry.specs.Base.{AscendUpTo}
 
 abbrev number_of : Carried → ℕ

@@ -7,10 +7,10 @@ use Rattle.wp_outside.specs.Disk.{images}
 use Rattle.wp_gatelog.proofs.SurvivalLemmas.{rest_spells}
 use Rattle.wp_manifest.specs.Spelling.{MAGIC, IsManifestOf, head_stamp}
 use Rattle.wp_manifest.proofs.EditLemmas.{last-push}
-use Rattle.wp_devices.specs.Opens.{installed_of}
+use Rattle.wp_contents.specs.Opens.{installed_of}
 use Rattle.wp_table.specs.File.{HasTables}
 use Rattle.wp_core.specs.Images.{MayName}
-use Rattle.wp_parts.specs.Edits.{EditsState, failed_edit, IsNamed, IsEdits}
+use Rattle.wp_parts.specs.VersionSet.{VersionSetState, failed_edit, IsNamed, IsEdits}
 use Rattle.wp_parts.proofs.LogLemmas.{known_image}
 
 -- ---- as it is opened
@@ -21,7 +21,7 @@ none_asked false parts = refl
 
 -- ---- what a crash leaves
 
-module _ (s : EditsState) (k : IsEdits s) (base : ℕ) (last_is : s.table.last ≡ installed_of base s.set.manifest.edit s.parts) where
+module _ (s : VersionSetState) (k : IsEdits s) (base : ℕ) (last_is : s.table.last ≡ installed_of base s.set.manifest.edit s.parts) where
   last_there : (tables : List ℕ) → images s.set.moments tables → HasTables s.set.manifest.log.id s.set.manifest.edit.flushed tables s.set.manifest.edit.tables s.parts
   last_there tables at = known_image _ s.set.moments tables at k.stores.left
 

@@ -18,7 +18,7 @@ use Rattle.wp_manifest.specs.Spelling.{MAGIC, last_edit, IsManifestOrNext}
 use Rattle.wp_merge.specs.Merge.{first_at, joined, sorted_of}
 use Rattle.wp_merge.proofs.Merged.{or_none}
 use Rattle.wp_merge.proofs.Sorted.{at_append, at_sorted, in_order_sorted, in_order_same}
-use Rattle.wp_devices.specs.Opens.{installed_of}
+use Rattle.wp_contents.specs.Opens.{installed_of}
 use Rattle.wp_store.specs.Store.{with_newest}
 use Rattle.wp_table.specs.Table.{is_flushed}
 use Rattle.wp_tableset.specs.Changes.{compacted_parts, compacted_places, moved_edit, one_part, NewestIsWritten, NextInstalled, NextRefused, TablesFailed, LosesNoTable}
@@ -32,7 +32,7 @@ use Rattle.wp_tableset.proofs.SetLemmas.{Grows, left_of, none_left, passes_grown
 use Rattle.wp_core.specs.Effects.{with_failed}
 use Rattle.wp_core.specs.Tables.{Installed}
 use Rattle.wp_parts.specs.declared.edits.FailedInstall.{FailedInstall}
-use Rattle.wp_parts.specs.Edits.{EditsState, edits_state, asked_for, failed_edit, IsEdits}
+use Rattle.wp_parts.specs.VersionSet.{VersionSetState, edits_state, asked_for, failed_edit, IsEdits}
 use Rattle.wp_parts.specs.Installs.{with_table, in_one_table, in_segment, HadCause, HasHalted, IsRefused, SurvivesInstall}
 use Rattle.wp_parts.specs.Renewal.{SegmentState, IsBehind, IsWritten}
 use Rattle.wp_parts.proofs.FlushedVersions.{both_flushed, later_flushed}
@@ -128,7 +128,7 @@ module _ (set first : TableSetState) (base : ℕ) (parts : List (List Version)) 
 
   -- ---- while it is being installed
 
-  pub survives : (next : Edit) (after : List (List Version) → List (List Version)) (edit : InstalledEdit) (now : EditsState) → edit ≡ installed_of edit.segment.base next (after parts) → now.set ≡ new
+  pub survives : (next : Edit) (after : List (List Version) → List (List Version)) (edit : InstalledEdit) (now : VersionSetState) → edit ≡ installed_of edit.segment.base next (after parts) → now.set ≡ new
       → ((edits : List Edit) → StoresEdits set.manifest edits no_edit → set.manifest.log.closed ≡ false → Passes (Leaves (IsManifestOrNext set.manifest.log.id edits next)) set.manifest.log.moments new.manifest.log.moments)
       → ((edits : List Edit) (ps : List (List Version)) → StoresTables set edits no_edit ps [] → (new.manifest.log.moments ≡ set.manifest.log.moments) ⊎ IfKnown new.moments (LeavesTables set.manifest.log.id next (after ps)))
       → SurvivesInstall (edits_state set first base parts failed) now edit
@@ -217,7 +217,7 @@ module _ (set first : TableSetState) (base : ℕ) (parts : List (List Version)) 
   stage_refused (Err why) refused = (refused.0, table_refused refused.1 refused.2)
 
   -- whatever the edit is to be, a crash leaves those that there are
-  pub survives_write : new.manifest ≡ set.manifest → (versions : List Version) (flushed : ℕ) (segment : Segment) (now : EditsState) → now.set ≡ new → SurvivesInstall (edits_state set first base parts failed) now (in_segment versions flushed segment (installed_of base set.manifest.edit parts))
+  pub survives_write : new.manifest ≡ set.manifest → (versions : List Version) (flushed : ℕ) (segment : Segment) (now : VersionSetState) → now.set ≡ new → SurvivesInstall (edits_state set first base parts failed) now (in_segment versions flushed segment (installed_of base set.manifest.edit parts))
   survives_write same versions flushed segment now is =
       let last : set.manifest.edit ≡ last_edit k.edits = k.stores.manifest.last in
       let next : Edit = record { flushed = flushed; place = Some segment.place; tables = [] } in
@@ -359,7 +359,7 @@ moved_flushed old flushed [] parts later now before = later_flushed old flushed 
 moved_flushed old flushed (v ∷ versions) parts later now before = rw (front_sorted (v ∷ versions) parts) (both_flushed old flushed (v ∷ versions) (sorted_of (joined parts)) later now before)
 
 -- what was made ready says so of the set that was
-module _ (before : EditsState) (versions : List Version) (flushed : ℕ) (ready : SegmentState) (now : EditsState) (b : IsBehind before now versions flushed ready) where
+module _ (before : VersionSetState) (versions : List Version) (flushed : ℕ) (ready : SegmentState) (now : VersionSetState) (b : IsBehind before now versions flushed ready) where
   was_open : now.table.halted ≡ false → before.set.manifest.log.closed ≡ false
   was_open running = b.was.running (ap (λ (t : Installed). t.halted) (sym b.table) ∙ running)
 
@@ -369,7 +369,7 @@ module _ (before : EditsState) (versions : List Version) (flushed : ℕ) (ready 
   same_manifest : now.set.manifest ≡ before.set.manifest
   same_manifest = ap (λ (s : TableSetState). s.manifest) b.written.changed
 
-module _ (set first : TableSetState) (base : ℕ) (parts : List (List Version)) (failed : Option FailedInstall) (running : set.halted ≡ false) (before : EditsState) (versions : List Version) (segment : Segment) (ready : SegmentState) (b : IsBehind before (edits_state set first base parts failed) versions segment.base ready) where
+module _ (set first : TableSetState) (base : ℕ) (parts : List (List Version)) (failed : Option FailedInstall) (running : set.halted ≡ false) (before : VersionSetState) (versions : List Version) (segment : Segment) (ready : SegmentState) (b : IsBehind before (edits_state set first base parts failed) versions segment.base ready) where
   abbrev next_edit : Edit
   next_edit = moved_edit before.set versions segment.base segment.place b.place
 
@@ -388,7 +388,7 @@ module _ (set first : TableSetState) (base : ℕ) (parts : List (List Version)) 
   next_rests : IfKnown set.moments (RestsWith before.set.manifest.log.id next_edit next_tables)
   next_rests = subst (λ (ps : List (List Version)). IfKnown set.moments (RestsWith before.set.manifest.log.id next_edit (compacted_parts versions ++ ps))) (sym b.parts) (b.written.there segment.place b.was.edits before.parts stored_before)
 
-  pub survives_moved : {T : Type 0} (new : TableSetState) (result : Result T TableSetError) (now : EditsState) → now.set ≡ new → InstallsEdit set new (record ready.edit.edit { place = Some segment.place }) result
+  pub survives_moved : {T : Type 0} (new : TableSetState) (result : Result T TableSetError) (now : VersionSetState) → now.set ≡ new → InstallsEdit set new (record ready.edit.edit { place = Some segment.place }) result
       → SurvivesInstall before now (in_segment versions segment.base segment (installed_of base set.manifest.edit parts))
   survives_moved new result now is installs =
       let id : ℕ = before.set.manifest.log.id in
@@ -485,7 +485,7 @@ stage_manifest old new asked ready (Ok table) written refused versions flushed i
 stage_manifest old new asked ready (Err why) written refused versions flushed is = refused.2.manifest
 
 -- an install that called no device
-pub nothing_called : (set first : TableSetState) (base : ℕ) (parts : List (List Version)) (failed : Option FailedInstall) → IsEdits (edits_state set first base parts failed) → set.halted ≡ false → (next : Edit) (after : List (List Version) → List (List Version)) (edit : InstalledEdit) (now : EditsState)
+pub nothing_called : (set first : TableSetState) (base : ℕ) (parts : List (List Version)) (failed : Option FailedInstall) → IsEdits (edits_state set first base parts failed) → set.halted ≡ false → (next : Edit) (after : List (List Version) → List (List Version)) (edit : InstalledEdit) (now : VersionSetState)
     → edit ≡ installed_of edit.segment.base next (after parts) → now.set ≡ set → SurvivesInstall (edits_state set first base parts failed) now edit
 nothing_called set first base parts failed k running next after edit now made same = rw same record {
   edits = k.edits;

@@ -11,7 +11,7 @@ use Rattle.wp_model.specs.Legal.{IsLegal, IsLegalNext, undone_last}
 use Rattle.wp_model.proofs.Entries.{undecided_within}
 use Rattle.wp_cuts.specs.Cut.{Cut, IsCut, carried_of, cut_at}
 use Rattle.wp_cuts.proofs.Growing.{cut_again, cut_grows, entries_long}
-use Rattle.wp_history.proofs.Growth.{after_front, legal_before}
+use Rattle.wp_history_laws.proofs.Growth.{after_front, legal_before}
 use Rattle.wp_outside.specs.Disk.{Moment, IfKnown, images}
 use Rattle.wp_outside.specs.Faults.{Rose}
 use Rattle.wp_fields.specs.declared.format.Format.{Format}

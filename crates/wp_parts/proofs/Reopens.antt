@@ -11,11 +11,11 @@ use Rattle.wp_model.specs.Flushed.{InstalledEdit, IsEditCovered, later_versions,
 use Rattle.wp_model.specs.Legal.{IsLegal}
 use Rattle.wp_model.specs.Versions.{AreInOrder, version_at}
 use Rattle.wp_cuts.specs.Agree.{AgreeFrom}
-use Rattle.wp_cuts.specs.Cut.{Cut, IsCut, carried_at, change_in, changes_at, front_entry, front_entry_of, full_of, is_settled}
+use Rattle.wp_cuts.specs.Cut.{Cut, IsCut, carried_at, change_in, changes_at, front_entry, front_entry_of, full_of, is_fixed}
 use Rattle.wp_cuts.specs.LegalCut.{IsOrderlyCut, AreBelow}
 use Rattle.wp_cuts.specs.Reopened.{AreFromBase, IsReopened}
 use Rattle.wp_cuts.specs.UpTo.{HaveSameUpTo}
-use Rattle.wp_cuts.proofs.FullList.{full_is, full_is_cut, settled_parts}
+use Rattle.wp_cuts.proofs.FullList.{full_is, full_is_cut, fixed_parts}
 use Rattle.wp_cuts.proofs.Members.{some_order}
 use Rattle.wp_cuts.proofs.Reopening.{reopened}
 use Rattle.wp_cuts.proofs.Standing.{cut_numbered}
@@ -146,12 +146,12 @@ module _ (history : List Entry) (c : Cut) (edit : InstalledEdit) (legal : IsLega
   reopens_edit = record {
     orderly = of_all.legal.orderly;
     entries = λ none. subst IsLegal (sym (ap (λ (d : Cut). d.entries) cut.is ∙ ap (λ n. drop n history) none)) legal;
-    below = λ key q p value x there settled carried changes. of_all.below key q p value x (same_low key q (settled_low q settled) ∙ there) settled carried changes;
+    below = λ key q p value x there in_step carried changes. of_all.below key q p value x (same_low key q (in_step_low q in_step) ∙ there) in_step carried changes;
     cut = full_is_cut c edit.versions (cut_numbered history c cut);
     legal = subst IsLegal one_list of_all.full;
     agree = agree_full;
     covered = covered_full;
   }
     where
-      settled_low : (q : ℕ) → is_settled c q ≡ true → q ≤ c.base
-      settled_low q settled = (settled_parts c q settled).within
+      in_step_low : (q : ℕ) → is_fixed c q ≡ true → q ≤ c.base
+      in_step_low q in_step = (fixed_parts c q in_step).within

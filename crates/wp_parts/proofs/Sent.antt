@@ -8,7 +8,7 @@ use Rattle.std.proofs.alloc.Global.TheSendSync as heap
 use Rattle.wp_outside.specs.declared.disk.Peek.{Ghosts}
 use Rattle.wp_model.proofs.entry.Entry.TheSendSync as entry
 use Rattle.wp_model.proofs.segment.Segment.TheSendSync as segment
-use Rattle.wp_ledger.proofs.Sent.{history_send}
+use Rattle.wp_history.proofs.Sent.{history_send}
 use Rattle.wp_wal.proofs.wal.Wal.TheSendSync as wal
 use Rattle.wp_parts.proofs.gone.Gone.TheSendSync as gone
 use Rattle.wp_tableset.proofs.set.TableSet.TheSendSync as set
@@ -18,12 +18,12 @@ use Rattle.wp_locks.proofs.locks.Locks.TheSendSync as locks
 use Rattle.wp_parts.proofs.stock.Stock.TheSendSync as stock
 use Rattle.wp_parts.specs.contracts.log.Log as Log
 use Rattle.wp_parts.specs.contracts.log.Log.TheInside as LogInside
-use Rattle.wp_parts.specs.contracts.edits.Edits as Edits
-use Rattle.wp_parts.specs.contracts.edits.Edits.TheInside as EditsInside
+use Rattle.wp_parts.specs.contracts.edits.VersionSet as VersionSet
+use Rattle.wp_parts.specs.contracts.edits.VersionSet.TheInside as EditsInside
 use Rattle.wp_parts.specs.contracts.edits.FailedInstall as FailedInstall
 use Rattle.wp_parts.specs.contracts.table_versions.TableVersions as TableVersions
 use Rattle.wp_parts.specs.contracts.table_versions.TableVersions.TheInside as VersionsInside
-use Rattle.wp_parts.specs.contracts.part.Part as Part
+use Rattle.wp_parts.specs.contracts.part.TurnValue as TurnValue
 
 pub log_send : (D : RattleType) (g : Ghosts D.Denot) → IsSend D → IsSend (Log.the_row D g)
 log_send D g d =
@@ -40,13 +40,13 @@ versions_send =
     view_send VersionsInside.the_row _ _ _ _
     (recorded_send (VersionsInside.the_field).row _ _ (VersionsInside.the_type).to_one (struct_send (shape VersionsInside.the_type) (search crosses, tt)))
 
-pub edits_send : (D : RattleType) (g : Ghosts D.Denot) → IsSend D → IsSend (Edits.the_row D g)
+pub edits_send : (D : RattleType) (g : Ghosts D.Denot) → IsSend D → IsSend (VersionSet.the_row D g)
 edits_send D g d =
     view_send (EditsInside.the_row D g) _ _ _ _
     (recorded_send (EditsInside.the_field D g).row _ _ (EditsInside.the_type D g).to_one
     (struct_send (shape (EditsInside.the_type D g)) (heap.the_field_send, (set.the_send D g d, (plain_send _ _ _ _ _, (Vec-send _ versions_send, (search (sendable, failed_send), (search crosses, tt))))))))
 
-pub part_send : (D : RattleType) (g : Ghosts D.Denot) → IsSend D → IsSend (Part.the_row D g)
+pub part_send : (D : RattleType) (g : Ghosts D.Denot) → IsSend D → IsSend (TurnValue.the_row D g)
 part_send D g d =
-    recorded_send (Part.the_field D g).row _ _ (Part.the_type D g).to_one
-    (enum_send (E.shape (Part.the_type D g)) (tt, ((Box-send _ (log_send D g d), tt), ((Box-send _ prepared.the_send, tt), ((Box-send _ snaps.the_send, tt), ((Box-send _ stock.the_send, tt), ((Box-send _ locks.the_send, tt), ((Box-send _ (edits_send D g d), tt), tt))))))))
+    recorded_send (TurnValue.the_field D g).row _ _ (TurnValue.the_type D g).to_one
+    (enum_send (E.shape (TurnValue.the_type D g)) (tt, ((Box-send _ (log_send D g d), tt), ((Box-send _ prepared.the_send, tt), ((Box-send _ snaps.the_send, tt), ((Box-send _ stock.the_send, tt), ((Box-send _ locks.the_send, tt), ((Box-send _ (edits_send D g d), tt), tt))))))))

@@ -162,8 +162,8 @@ up_to_or_above n p x = elim (cases_lt n p) [
   | inr within ↦ rw (le-ltb n p within, le-leb p n within) refl
 ]
 
-pub settled : (n : ℕ) (memory : List Version) (frozen : List (List Version)) (key : List ℕ) (p : ℕ) → version_at (sorted_of (joined (above n memory ∷ parts_above n frozen))) key p ≡ cond (nat_le p n) None (version_at (sorted_of (joined (memory ∷ frozen))) key p)
-settled n memory frozen key p =
+pub in_step : (n : ℕ) (memory : List Version) (frozen : List (List Version)) (key : List ℕ) (p : ℕ) → version_at (sorted_of (joined (above n memory ∷ parts_above n frozen))) key p ≡ cond (nat_le p n) None (version_at (sorted_of (joined (memory ∷ frozen))) key p)
+in_step n memory frozen key p =
     at_parts (above n memory ∷ parts_above n frozen) key p
     ∙ ap (option_or (version_at (above n memory) key p)) (at_filled (map (above n) frozen) key p)
     ∙ first_left (nat_lt n) key p (memory ∷ frozen)

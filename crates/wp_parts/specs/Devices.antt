@@ -1,5 +1,5 @@
 -- What is left of a store's three devices.
-pub use Rattle.wp_devices.specs.Devices.{DevicesLeft, devices_of}
+pub use Rattle.wp_contents.specs.Devices.{DevicesLeft, devices_of}
 use Rattle.wp_tableset.specs.Set.{TableSetState}
 use Rattle.wp_wal.specs.Wal.{WalState}
 

@@ -9,13 +9,13 @@ use Rattle.wp_gatelog.specs.Moments.{Leaves}
 use Rattle.wp_manifest.specs.Edit.{Edit, no_edit}
 use Rattle.wp_manifest.specs.Spelling.{last_edit, IsManifestOrNext}
 use Rattle.wp_merge.specs.Merge.{sorted_of}
-use Rattle.wp_devices.specs.Opens.{installed_of}
+use Rattle.wp_contents.specs.Opens.{installed_of}
 use Rattle.wp_core.specs.Effects.{with_failed}
 use Rattle.wp_core.specs.Tables.{Installed}
 use Rattle.wp_tableset.specs.Set.{TableSetState, LeavesTables, StoresTables}
 use Rattle.wp_tableset.specs.declared.error.TableSetError.{TableSetError}
 use Rattle.wp_tableset.specs.declared.error.TableSetError.TheVariants.{Memory, Fault, Halted}
-use Rattle.wp_parts.specs.Edits.{EditsState}
+use Rattle.wp_parts.specs.VersionSet.{VersionSetState}
 
 -- these versions are in one table more, the newest, and the entries up to this number are flushed
 abbrev pub with_table : List Version → ℕ → InstalledEdit → InstalledEdit
@@ -52,7 +52,7 @@ HadCause old new other = Unit {0}
 -- What a crash leaves while an edit is being installed. The set stored the edits up to the last one, and its tables. At each moment
 -- since then the manifest spells those, or those and this one, and the tables' device has the last one's tables. Where the manifest's device was called for it, the tables'
 -- device has this one's tables too in the end.
-pub record SurvivesInstall (old new : EditsState) (edit : InstalledEdit) : Type 0 where
+pub record SurvivesInstall (old new : VersionSetState) (edit : InstalledEdit) : Type 0 where
   pub edits : List Edit
   pub next : Edit
   pub next_parts : List (List Version)

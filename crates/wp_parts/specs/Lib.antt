@@ -1,11 +1,11 @@
 pub mod Log
 pub mod Stock
-pub mod Edits
+pub mod VersionSet
 pub mod Installs
 pub mod Renewal
 pub mod Parts
 pub mod Devices
-pub use Rattle.wp_devices.specs.Opens
+pub use Rattle.wp_contents.specs.Opens
 pub use Rattle.wp_cuts.specs.Agree
 pub use Rattle.wp_cuts.specs.Cut
 pub use Rattle.wp_table.specs.File

@@ -16,12 +16,12 @@ use Rattle.wp_wal.specs.Segment.{NewSegmentState, WrittenState, IsBeside, base_o
 use Rattle.wp_wal.specs.Spelling.{MAGIC, IsLogAt}
 use Rattle.wp_wal.specs.Wal.{WalState, LeavesCut, LosesNothingAt, StoresCut, IsReserved}
 use Rattle.wp_core.specs.Conditions.{NoneNext}
-use Rattle.wp_core.specs.Tables.{WriteTable}
+use Rattle.wp_core.specs.Tables.{WriteState}
 
 -- The table of the machine that it is, its log now, and its log as it was opened. The log may be closed while its device may be called
 -- still, where it was stopped behind a failure of the tables' devices.
 pub record LogState : Type 0 where
-  pub table : WriteTable
+  pub table : WriteState
   pub wal : WalState
   pub first : WalState
 
@@ -105,11 +105,11 @@ abbrev pub IsPlaceOf : LogState → NewSegmentState → ℕ → Type 0
 IsPlaceOf s new place = (length new.bytes ≤ s.table.segment.place → place ≡ 0) × (s.table.segment.place < length new.bytes → IfKnown s.wal.moments (λ m. place ≡ length m.reads))
 
 -- the table once this segment waits beside the one in use
-abbrev pub with_next : WriteTable → Segment → WriteTable
+abbrev pub with_next : WriteState → Segment → WriteState
 with_next t segment = record t { next = Some segment }
 
 -- ... and once it is the one in use
-abbrev pub with_segment : WriteTable → Segment → WriteTable
+abbrev pub with_segment : WriteState → Segment → WriteState
 with_segment t segment = record t { segment = segment; next = None }
 
 -- The segment was written beside the log: it has the history, cut at its end, which is behind the log's base and is no undo, and stands

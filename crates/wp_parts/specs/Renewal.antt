@@ -4,7 +4,7 @@ use Rattle.wp_model.specs.declared.segment.Segment.{Segment}
 use Rattle.wp_model.specs.declared.version.Version.{Version}
 use Rattle.wp_tableset.specs.Changes.{moved_edit}
 use Rattle.wp_tableset.specs.Install.{ReadyState, MayMove, IsReadyEdit, TableWritten}
-use Rattle.wp_parts.specs.Edits.{EditsState, IsEdits}
+use Rattle.wp_parts.specs.VersionSet.{VersionSetState, IsEdits}
 use Rattle.wp_parts.specs.Installs.{SurvivesInstall, in_segment}
 
 -- the edit, with its table, and for what of how many tables there is room
@@ -14,7 +14,7 @@ pub record SegmentState : Type 0 where
 
 -- Of a set as it was, and as it is now that the edit's table is written, if it has one: nothing else was made of it, and the ready
 -- edit names the table's place.
-pub record IsBehind (before now : EditsState) (versions : List Version) (flushed : ℕ) (ready : SegmentState) : Type 0 where
+pub record IsBehind (before now : VersionSetState) (versions : List Version) (flushed : ℕ) (ready : SegmentState) : Type 0 where
   pub was : IsEdits before
   pub may : MayMove before.set versions flushed
   pub place : ℕ
@@ -26,9 +26,9 @@ pub record IsBehind (before now : EditsState) (versions : List Version) (flushed
   pub first : now.first ≡ before.first
 
 -- whatever versions the edit was made ready with, its table is written
-abbrev pub IsWritten : EditsState → EditsState → SegmentState → SegmentState → Type 0
+abbrev pub IsWritten : VersionSetState → VersionSetState → SegmentState → SegmentState → Type 0
 IsWritten before now asked ready = (versions : List Version) (flushed : ℕ) → IsReadyEdit before.set versions flushed asked.edit → IsBehind before now versions flushed ready
 
 -- What a crash leaves while the table is being written, which the edit was made ready with: the edits as they were, and their tables.
-abbrev pub SurvivesWrite : EditsState → EditsState → SegmentState → Type 0
+abbrev pub SurvivesWrite : VersionSetState → VersionSetState → SegmentState → Type 0
 SurvivesWrite before now asked = (versions : List Version) (flushed : ℕ) → IsReadyEdit before.set versions flushed asked.edit → (segment : Segment) → SurvivesInstall before now (in_segment versions flushed segment before.table.last)

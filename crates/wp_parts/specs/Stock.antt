@@ -4,7 +4,7 @@ use Rattle.wp_model.specs.declared.version.Version.{Version}
 use Rattle.wp_model.specs.Versions.{version_at}
 use Rattle.wp_merge.specs.Merge.{joined, sorted_of}
 use Rattle.wp_store.specs.Store.{StoreParts}
-use Rattle.wp_core.specs.Tables.{StoreTable}
+use Rattle.wp_core.specs.Tables.{StoreState}
 
 -- the parts of the store, and the number from which on a reader finds all that it needs
 pub record StockState : Type 0 where
@@ -12,8 +12,8 @@ pub record StockState : Type 0 where
   pub floor : ℕ
 
 -- the table of the machine that it is: the frozen parts are in memory
-abbrev pub store_table : StockState → StoreTable
-store_table s = record { memory = sorted_of (joined (s.parts.memory ∷ s.parts.frozen)); tables = sorted_of (joined s.parts.tables); floor = s.floor }
+abbrev pub store_state : StockState → StoreState
+store_state s = record { memory = sorted_of (joined (s.parts.memory ∷ s.parts.frozen)); tables = sorted_of (joined s.parts.tables); floor = s.floor }
 
 -- no version has the number
 abbrev pub HasNoneAt : ℕ → List Version → Type 0

@@ -8,7 +8,7 @@ ghost use Rattle.wp_wal.specs.Segment.{base_of};
 
 use std::alloc::{AllocError, Global};
 use wp_entry::Base;
-use wp_ledger::History;
+use wp_history::History;
 use wp_model::{Carried, Seq};
 
 /// The prepare with this number, which is undecided, as a base carries it.

@@ -5,13 +5,13 @@ ghost use Rattle.wp_core.specs.Tables as tables;
 ghost use Rattle.wp_core.specs.Turns.{Turn, write_turn, prepared_turn, snapshots_turn, store_turn, locks_turn, tables_turn};
 ghost use Rattle.wp_actor.specs.Turns.{turn_of};
 ghost use Rattle.wp_parts.specs.Parts.{content, tells, log_first, set_first, IsGuardedBy};
-ghost use Rattle.wp_parts.specs.Stock.{store_table};
-ghost use Rattle.wp_parts.specs.declared.part.Part.{Part};
-ghost use Rattle.wp_parts.specs.declared.part.Part.TheVariants as variant;
+ghost use Rattle.wp_parts.specs.Stock.{store_state};
+ghost use Rattle.wp_parts.specs.declared.part.TurnValue.{TurnValue};
+ghost use Rattle.wp_parts.specs.declared.part.TurnValue.TheVariants as variant;
 
-use crate::edits::Edits;
+use crate::edits::VersionSet;
 use crate::log::Log;
-use crate::part::Part;
+use crate::part::TurnValue;
 use crate::stock::Stock;
 use wp_locks::Locks;
 use wp_outside::Disk;
@@ -50,7 +50,7 @@ pub trait BehindTurn<S: HoldsPart>: Sized {
         ensures tells { (first : List S) → is_of first value.value → S.tells first result };
 }
 
-impl<D: Disk> BehindTurn<Part<D>> for Log<D> {
+impl<D: Disk> BehindTurn<TurnValue<D>> for Log<D> {
     ghost turn = { write_turn };
 
     ghost table = { λ x. writes x.table };
@@ -63,28 +63,28 @@ impl<D: Disk> BehindTurn<Part<D>> for Log<D> {
         rule::Turn::Write
     }
 
-    fn out_of(part: Part<D>) -> Box<Log<D>>
+    fn out_of(part: TurnValue<D>) -> Box<Log<D>>
         requires { IsGuardedBy write_turn part }
         ensures table { content part ≡ Some (writes result.value.table) }
-        ensures of { (first : List (Part D)) → tells first part → log_first first ≡ Some result.value.first }
+        ensures of { (first : List (TurnValue D)) → tells first part → log_first first ≡ Some result.value.first }
         ensures exact { part ≡ variant.Write result }
     {
         match part {
-            Part::Write(value) => value,
+            TurnValue::Write(value) => value,
             _ => unreachable!(),
         }
     }
 
-    fn into_part(value: Box<Log<D>>) -> Part<D>
+    fn into_part(value: Box<Log<D>>) -> TurnValue<D>
         ensures table { content result ≡ Some (writes value.value.table) }
-        ensures tells { (first : List (Part D)) → log_first first ≡ Some value.value.first → tells first result }
+        ensures tells { (first : List (TurnValue D)) → log_first first ≡ Some value.value.first → tells first result }
     {
-        value.shows_told();
-        Part::Write(value)
+        value.devices_agree();
+        TurnValue::Write(value)
     }
 }
 
-impl<D: Disk> BehindTurn<Part<D>> for Prepared {
+impl<D: Disk> BehindTurn<TurnValue<D>> for Prepared {
     ghost turn = { prepared_turn };
 
     ghost table = { λ x. prepared x };
@@ -97,26 +97,26 @@ impl<D: Disk> BehindTurn<Part<D>> for Prepared {
         rule::Turn::Prepared
     }
 
-    fn out_of(part: Part<D>) -> Box<Prepared>
+    fn out_of(part: TurnValue<D>) -> Box<Prepared>
         requires { IsGuardedBy prepared_turn part }
         ensures table { content part ≡ Some (prepared result.value) }
-        ensures of { (first : List (Part D)) → tells first part → Unit {0} }
+        ensures of { (first : List (TurnValue D)) → tells first part → Unit {0} }
     {
         match part {
-            Part::Prepared(value) => value,
+            TurnValue::Prepared(value) => value,
             _ => unreachable!(),
         }
     }
 
-    fn into_part(value: Box<Prepared>) -> Part<D>
+    fn into_part(value: Box<Prepared>) -> TurnValue<D>
         ensures table { content result ≡ Some (prepared value.value) }
-        ensures tells { (first : List (Part D)) → Unit {0} → tells first result }
+        ensures tells { (first : List (TurnValue D)) → Unit {0} → tells first result }
     {
-        Part::Prepared(value)
+        TurnValue::Prepared(value)
     }
 }
 
-impl<D: Disk> BehindTurn<Part<D>> for Snaps {
+impl<D: Disk> BehindTurn<TurnValue<D>> for Snaps {
     ghost turn = { snapshots_turn };
 
     ghost table = { λ x. snapshots x };
@@ -129,29 +129,29 @@ impl<D: Disk> BehindTurn<Part<D>> for Snaps {
         rule::Turn::Snapshots
     }
 
-    fn out_of(part: Part<D>) -> Box<Snaps>
+    fn out_of(part: TurnValue<D>) -> Box<Snaps>
         requires { IsGuardedBy snapshots_turn part }
         ensures table { content part ≡ Some (snapshots result.value) }
-        ensures of { (first : List (Part D)) → tells first part → Unit {0} }
+        ensures of { (first : List (TurnValue D)) → tells first part → Unit {0} }
     {
         match part {
-            Part::Snapshots(value) => value,
+            TurnValue::Snapshots(value) => value,
             _ => unreachable!(),
         }
     }
 
-    fn into_part(value: Box<Snaps>) -> Part<D>
+    fn into_part(value: Box<Snaps>) -> TurnValue<D>
         ensures table { content result ≡ Some (snapshots value.value) }
-        ensures tells { (first : List (Part D)) → Unit {0} → tells first result }
+        ensures tells { (first : List (TurnValue D)) → Unit {0} → tells first result }
     {
-        Part::Snapshots(value)
+        TurnValue::Snapshots(value)
     }
 }
 
-impl<D: Disk> BehindTurn<Part<D>> for Stock {
+impl<D: Disk> BehindTurn<TurnValue<D>> for Stock {
     ghost turn = { store_turn };
 
-    ghost table = { λ x. store (store_table x) };
+    ghost table = { λ x. store (store_state x) };
 
     ghost is_of = { λ first x. Unit {0} };
 
@@ -161,26 +161,26 @@ impl<D: Disk> BehindTurn<Part<D>> for Stock {
         rule::Turn::Store
     }
 
-    fn out_of(part: Part<D>) -> Box<Stock>
+    fn out_of(part: TurnValue<D>) -> Box<Stock>
         requires { IsGuardedBy store_turn part }
-        ensures table { content part ≡ Some (store (store_table result.value)) }
-        ensures of { (first : List (Part D)) → tells first part → Unit {0} }
+        ensures table { content part ≡ Some (store (store_state result.value)) }
+        ensures of { (first : List (TurnValue D)) → tells first part → Unit {0} }
     {
         match part {
-            Part::Store(value) => value,
+            TurnValue::Store(value) => value,
             _ => unreachable!(),
         }
     }
 
-    fn into_part(value: Box<Stock>) -> Part<D>
-        ensures table { content result ≡ Some (store (store_table value.value)) }
-        ensures tells { (first : List (Part D)) → Unit {0} → tells first result }
+    fn into_part(value: Box<Stock>) -> TurnValue<D>
+        ensures table { content result ≡ Some (store (store_state value.value)) }
+        ensures tells { (first : List (TurnValue D)) → Unit {0} → tells first result }
     {
-        Part::Store(value)
+        TurnValue::Store(value)
     }
 }
 
-impl<D: Disk> BehindTurn<Part<D>> for Locks {
+impl<D: Disk> BehindTurn<TurnValue<D>> for Locks {
     ghost turn = { locks_turn };
 
     ghost table = { λ x. locks x };
@@ -193,26 +193,26 @@ impl<D: Disk> BehindTurn<Part<D>> for Locks {
         rule::Turn::Locks
     }
 
-    fn out_of(part: Part<D>) -> Box<Locks>
+    fn out_of(part: TurnValue<D>) -> Box<Locks>
         requires { IsGuardedBy locks_turn part }
         ensures table { content part ≡ Some (locks result.value) }
-        ensures of { (first : List (Part D)) → tells first part → Unit {0} }
+        ensures of { (first : List (TurnValue D)) → tells first part → Unit {0} }
     {
         match part {
-            Part::Locks(value) => value,
+            TurnValue::Locks(value) => value,
             _ => unreachable!(),
         }
     }
 
-    fn into_part(value: Box<Locks>) -> Part<D>
+    fn into_part(value: Box<Locks>) -> TurnValue<D>
         ensures table { content result ≡ Some (locks value.value) }
-        ensures tells { (first : List (Part D)) → Unit {0} → tells first result }
+        ensures tells { (first : List (TurnValue D)) → Unit {0} → tells first result }
     {
-        Part::Locks(value)
+        TurnValue::Locks(value)
     }
 }
 
-impl<D: Disk> BehindTurn<Part<D>> for Edits<D> {
+impl<D: Disk> BehindTurn<TurnValue<D>> for VersionSet<D> {
     ghost turn = { tables_turn };
 
     ghost table = { λ x. installed x.table };
@@ -225,23 +225,23 @@ impl<D: Disk> BehindTurn<Part<D>> for Edits<D> {
         rule::Turn::Tables
     }
 
-    fn out_of(part: Part<D>) -> Box<Edits<D>>
+    fn out_of(part: TurnValue<D>) -> Box<VersionSet<D>>
         requires { IsGuardedBy tables_turn part }
         ensures table { content part ≡ Some (installed result.value.table) }
-        ensures of { (first : List (Part D)) → tells first part → set_first first ≡ Some result.value.first }
+        ensures of { (first : List (TurnValue D)) → tells first part → set_first first ≡ Some result.value.first }
         ensures exact { part ≡ variant.Tables result }
     {
         match part {
-            Part::Tables(value) => value,
+            TurnValue::Tables(value) => value,
             _ => unreachable!(),
         }
     }
 
-    fn into_part(value: Box<Edits<D>>) -> Part<D>
+    fn into_part(value: Box<VersionSet<D>>) -> TurnValue<D>
         ensures table { content result ≡ Some (installed value.value.table) }
-        ensures tells { (first : List (Part D)) → set_first first ≡ Some value.value.first → tells first result }
+        ensures tells { (first : List (TurnValue D)) → set_first first ≡ Some value.value.first → tells first result }
     {
-        value.shows_told();
-        Part::Tables(value)
+        value.devices_agree();
+        TurnValue::Tables(value)
     }
 }

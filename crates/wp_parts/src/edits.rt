@@ -16,7 +16,7 @@ ghost use Rattle.wp_tableset.specs.Set.{StoresTables};
 ghost use Rattle.wp_tableset.specs.declared.error.TableSetError.TheVariants.{Fault, Memory};
 ghost use Rattle.wp_core.specs.Effects.{with_failed};
 ghost use Rattle.wp_core.specs.Images.{ManifestTells, TablesTell};
-ghost use Rattle.wp_parts.specs.Edits.{EditsState, IsEdits, IsNamed, HasTablesOf, edits_state};
+ghost use Rattle.wp_parts.specs.VersionSet.{VersionSetState, IsEdits, IsNamed, HasTablesOf, edits_state};
 ghost use Rattle.wp_parts.specs.Renewal.{IsBehind, IsWritten, SurvivesWrite};
 ghost use Rattle.wp_parts.specs.Installs.{with_table, in_one_table, in_segment, HadCause, IsRefused, SurvivesInstall};
 
@@ -62,7 +62,7 @@ impl Model for ReadySegment {
 
 /// The set of tables, and what the tables of its last edit have, the newest first. Clauses see the table of the machine that it
 /// is, the set, the versions of each table, and the set as it was when this value was made.
-pub struct Edits<D: Disk> {
+pub struct VersionSet<D: Disk> {
     alloc: Global,
     set: TableSet<D>,
     /// The base of the log, at the place that the last edit names.
@@ -72,10 +72,10 @@ pub struct Edits<D: Disk> {
     first: Snapshot<TableSet<D>>,
 }
 
-impl<D: Disk> Model for Edits<D> {
-    ghost use Rattle.wp_parts.specs.Edits.{EditsState, edits_state, IsEdits};
+impl<D: Disk> Model for VersionSet<D> {
+    ghost use Rattle.wp_parts.specs.VersionSet.{VersionSetState, edits_state, IsEdits};
 
-    ghost Value = { EditsState };
+    ghost Value = { VersionSetState };
 
     ghost view = { λ e. edits_state e.set e.first.value e.base e.tables.items e.failed };
 
@@ -124,16 +124,21 @@ fn shows_order(versions: &Versions)
     versions.as_slice();
 }
 
-impl<D: Disk> Edits<D> {
+impl<D: Disk> VersionSet<D> {
     /// The set as an opening gives it, with the log's base, and what the tables of its last edit have, the newest first.
-    pub fn new(alloc: Global, set: TableSet<D>, base: Seq, tables: Vec<TableVersions>) -> Edits<D>
+    pub fn new(
+        alloc: Global,
+        set: TableSet<D>,
+        base: Seq,
+        tables: Vec<TableVersions>,
+    ) -> VersionSet<D>
         requires stores { (edits : List Edit) × StoresTables set edits no_edit tables.items [] }
         requires flushed { list_all (is_flushed set.manifest.edit.flushed) (sorted_of (joined tables.items)) ≡ true }
         requires running { set.halted ≡ false }
         ensures { result ≡ edits_state set set base tables.items None }
     {
         shows_running(&set);
-        Edits {
+        VersionSet {
             alloc,
             first: Snapshot::of(&set),
             set,
@@ -296,12 +301,12 @@ impl<D: Disk> Edits<D> {
     ) -> Result<(), TableSetError>
         requires running { self.old.table.halted ≡ false }
         requires table { option_map arc_value table.now ≡ one_part versions.now }
-        requires written { (before : EditsState) × IsBehind before self.old versions.now segment.base ready }
+        requires written { (before : VersionSetState) × IsBehind before self.old versions.now segment.base ready }
         ensures installed { OnOk result (self.new.table ≡ record self.old.table { last = in_segment versions.now segment.base segment self.old.table.last }) }
         ensures parts { OnOk result (self.new.parts ≡ compacted_parts versions.now ++ self.old.parts) }
         ensures refused { IfErr result (λ why. (why ≡ Fault) × (self.new.table ≡ with_failed self.old.table (Some (in_segment versions.now segment.base segment self.old.table.last)))) }
         ensures cause { IfErr result (HadCause self.old.set self.new.set) }
-        ensures survives { (before : EditsState) → IsBehind before self.old versions.now segment.base ready
+        ensures survives { (before : VersionSetState) → IsBehind before self.old versions.now segment.base ready
             → SurvivesInstall before self.new (in_segment versions.now segment.base segment self.old.table.last) }
         ensures tables { (self.new.set.moments ≡ self.old.set.moments) × (self.new.set.faults ≡ self.old.set.faults) }
         ensures first { self.new.first ≡ self.old.first }
@@ -328,7 +333,7 @@ impl<D: Disk> Edits<D> {
     }
 
     /// For the proof alone: what a crash leaves of the devices is as the table says.
-    pub fn shows_told(&self)
+    pub fn devices_agree(&self)
         ensures manifest { ManifestTells (images self.now.set.manifest.log.moments) (IsNamed self.now) self.now.table }
         ensures tables { TablesTell (images self.now.set.moments) (HasTablesOf self.now) self.now.table }
         ensures edits { IsEdits self.now }
@@ -342,7 +347,7 @@ impl<D: Disk> Edits<D> {
         ensures tables { (D.moments result.tables ≡ self.set.moments) × (D.faults result.tables ≡ self.set.faults) }
         ensures edits { IsEdits self }
     {
-        let Edits {
+        let VersionSet {
             alloc: _alloc,
             set,
             base: _base,
@@ -355,7 +360,7 @@ impl<D: Disk> Edits<D> {
 }
 
 // Written out, so that no crate above proves anew how all that it holds is let go.
-impl<D: Disk + Drop> Drop for Edits<D> {
+impl<D: Disk + Drop> Drop for VersionSet<D> {
     fn drop(self) {
         let Self {
             alloc: _alloc,

@@ -6,7 +6,7 @@
 //! stands for one table of the machine, and a call on it makes of that table what a step of the machine does: so a seat that
 //! tells the rule the step may put the value home.
 //!
-//! A `Log` and `Edits` also keep what their devices have: whatever a crash leaves of them is as the table says, and since they
+//! A `Log` and `VersionSet` also keep what their devices have: whatever a crash leaves of them is as the table says, and since they
 //! were opened no fault was forgotten and nothing acknowledged was lost. A record is made pending with all the memory that its
 //! log and its history will need, since neither may be refused once an append has begun. An install takes its memory before the
 //! manifest is called, and what moves flushed versions from memory to tables takes none.
@@ -24,8 +24,8 @@ mod table_versions;
 
 pub use apart::take_apart;
 pub use behind_turn::BehindTurn;
-pub use edits::{Edits, ReadySegment};
+pub use edits::{ReadySegment, VersionSet};
 pub use log::Log;
-pub use part::Part;
+pub use part::TurnValue;
 pub use stock::Stock;
 pub use table_versions::TableVersions;

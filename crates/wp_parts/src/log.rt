@@ -24,7 +24,7 @@ use std::mem;
 use std::snapshot::Snapshot;
 use wp_fields::Format;
 use wp_gatelog::AppendError;
-use wp_ledger::History;
+use wp_history::History;
 use wp_model::{Entry, Segment, Seq};
 use wp_outside::{Disk, Failed};
 use wp_wal::{NewSegment, Wal, Written};
@@ -314,7 +314,7 @@ impl<D: Disk> Log<D> {
     }
 
     /// For the proof alone: what a crash leaves of the device is as the table says, and no other segment waits.
-    pub fn shows_told(&self)
+    pub fn devices_agree(&self)
         ensures tells { LogTells (images self.now.wal.moments) (spells self.now) self.now.table }
         ensures next { NoneNext self.now.table }
         ensures log { IsLog self.now }

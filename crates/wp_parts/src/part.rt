@@ -1,5 +1,5 @@
 //! What lies in the slot of a turn.
-use crate::edits::Edits;
+use crate::edits::VersionSet;
 use crate::log::Log;
 use crate::stock::Stock;
 use wp_locks::Locks;
@@ -10,17 +10,17 @@ use wp_snaps::Snaps;
 
 /// What a turn guards, or what lies in its slot while that is out. The value stays where it is in memory as it goes out and home.
 #[derive(Drop)]
-pub enum Part<D: Disk> {
+pub enum TurnValue<D: Disk> {
     Away,
     Write(Box<Log<D>>),
     Prepared(Box<Prepared>),
     Snapshots(Box<Snaps>),
     Store(Box<Stock>),
     Locks(Box<Locks>),
-    Tables(Box<Edits<D>>),
+    Tables(Box<VersionSet<D>>),
 }
 
-impl<D: Disk> HoldsPart for Part<D> {
+impl<D: Disk> HoldsPart for TurnValue<D> {
     ghost use Rattle.wp_parts.specs.Parts.{content, tells};
 
     ghost content = { content };

@@ -9,7 +9,7 @@ ghost use Rattle.wp_merge.specs.Merge.{joined, sorted_of};
 ghost use Rattle.wp_store.specs.Store.{newest_of};
 ghost use Rattle.wp_core.specs.Entries.{HasVersionsAt};
 ghost use Rattle.wp_core.specs.Tables.{all_in};
-ghost use Rattle.wp_parts.specs.Stock.{store_table, HasNoneAt};
+ghost use Rattle.wp_parts.specs.Stock.{store_state, HasNoneAt};
 
 use std::alloc::AllocError;
 use std::marker::Model;
@@ -52,8 +52,8 @@ impl Stock {
     /// an entry with these changes. A refused call may keep memory that it took, and nothing else.
     pub fn insert(&mut self, n: Seq, batch: &Batch) -> Result<(), AllocError>
         ensures changes { OnOk result (HasChanges n batch.now self.old.parts.memory self.new.parts.memory) }
-        ensures entry { OnOk result ((entry : Entry) → changes_in entry ≡ batch.now → HasNoneAt n (store_table self.old).memory
-            → HasVersionsAt (Some entry) n (store_table self.old).memory (store_table self.new).memory) }
+        ensures entry { OnOk result ((entry : Entry) → changes_in entry ≡ batch.now → HasNoneAt n (store_state self.old).memory
+            → HasVersionsAt (Some entry) n (store_state self.old).memory (store_state self.new).memory) }
         ensures err { OnErr result (self.new ≡ self.old) }
         ensures others { self.new ≡ record self.old { parts = record self.old.parts { memory = self.new.parts.memory } } }
     {
@@ -62,23 +62,23 @@ impl Stock {
 
     /// Takes each version with a number from `n` on out of memory.
     pub fn remove_from(&mut self, n: Seq)
-        ensures memory { (key : List ℕ) (p : ℕ) → version_at (store_table self.new).memory key p ≡ (if nat_le n p then None else version_at (store_table self.old).memory key p) }
-        ensures others { store_table self.new ≡ record (store_table self.old) { memory = (store_table self.new).memory } }
+        ensures memory { (key : List ℕ) (p : ℕ) → version_at (store_state self.new).memory key p ≡ (if nat_le n p then None else version_at (store_state self.old).memory key p) }
+        ensures others { store_state self.new ≡ record (store_state self.old) { memory = (store_state self.new).memory } }
     {
         self.store.remove_from(n);
     }
 
     /// The newest `n` versions of the key, in memory and in tables.
     pub fn collect(&self, key: &Key, n: usize) -> Result<Versions, AllocError>
-        ensures { IfOk result (λ found. found ≡ newest_of n key.now (sorted_of (all_in (store_table self.now)))) }
+        ensures { IfOk result (λ found. found ≡ newest_of n key.now (sorted_of (all_in (store_state self.now)))) }
     {
         self.store.collect(key, n)
     }
 
     /// Whether no version is in memory.
     pub fn is_flushed(&self) -> bool
-        ensures none { result ≡ true → (store_table self.now).memory ≡ [] }
-        ensures some { result ≡ false → 1 ≤ length (store_table self.now).memory }
+        ensures none { result ≡ true → (store_state self.now).memory ≡ [] }
+        ensures some { result ≡ false → 1 ≤ length (store_state self.now).memory }
     {
         self.store.is_flushed()
     }
@@ -86,8 +86,8 @@ impl Stock {
     /// Freezes all that stands in memory: its parts, with the versions, for a flush. It copies no version. Readers find them as
     /// before, where memory was wanting too.
     pub fn freeze(&mut self) -> Result<FrozenParts, AllocError>
-        ensures versions { IfOk result (λ parts. sorted_of (joined parts) ≡ (store_table self.old).memory) }
-        ensures same { store_table self.new ≡ store_table self.old }
+        ensures versions { IfOk result (λ parts. sorted_of (joined parts) ≡ (store_state self.old).memory) }
+        ensures same { store_state self.new ≡ store_state self.old }
     {
         self.store.freeze()?;
         self.store.share_frozen()
@@ -95,7 +95,7 @@ impl Stock {
 
     /// The tables, the newest first, in memory that has room for one more.
     pub fn copy_tables(&self) -> Result<Vec<Arc<Table>>, AllocError>
-        ensures tables { IfOk result (λ tables. sorted_of (joined (map arc_value tables.items)) ≡ (store_table self.now).tables) }
+        ensures tables { IfOk result (λ tables. sorted_of (joined (map arc_value tables.items)) ≡ (store_state self.now).tables) }
         ensures room { IfOk result (λ tables. length tables.items < vec_capacity tables) }
     {
         let mut tables = self.store.copy_tables()?;
@@ -106,8 +106,8 @@ impl Stock {
     /// Takes each version with a number up to `flushed` out of memory, and puts these tables, the newest first, in place of all.
     /// It takes no memory.
     pub fn install_flushed(&mut self, flushed: Seq, tables: Vec<Arc<Table>>)
-        ensures memory { (key : List ℕ) (p : ℕ) → version_at (store_table self.new).memory key p ≡ (if nat_le p flushed then None else version_at (store_table self.old).memory key p) }
-        ensures tables { (store_table self.new).tables ≡ sorted_of (joined (map arc_value tables.items)) }
+        ensures memory { (key : List ℕ) (p : ℕ) → version_at (store_state self.new).memory key p ≡ (if nat_le p flushed then None else version_at (store_state self.old).memory key p) }
+        ensures tables { (store_state self.new).tables ≡ sorted_of (joined (map arc_value tables.items)) }
         ensures floor { self.new.floor ≡ self.old.floor }
     {
         self.store.remove_flushed(flushed);
@@ -117,7 +117,7 @@ impl Stock {
     /// Puts these tables, the newest first, in place of all. A reader at each number from `floor` on finds all that it needs. It
     /// takes no memory.
     pub fn replace(&mut self, tables: Vec<Arc<Table>>, floor: Seq)
-        ensures { store_table self.new ≡ record (store_table self.old) { tables = sorted_of (joined (map arc_value tables.items)); floor = floor } }
+        ensures { store_state self.new ≡ record (store_state self.old) { tables = sorted_of (joined (map arc_value tables.items)); floor = floor } }
     {
         self.store.put_tables(tables);
         self.floor = floor;

@@ -14,7 +14,7 @@ use Rattle.std.proofs.lemmas.List.Folds.{list_any_at, list_any_none}
 use Rattle.std.proofs.lemmas.List.Sorted.{list_any-IsPermutation, IsPermutation-insert, IsPermutation-remove}
 use Rattle.std.proofs.lemmas.Map.Keys.{sorted_from_strictly_increasing, IsDistinct-from_sorted, IsDistinct-head, IsDistinct-IsPermutation}
 use Rattle.wp_prepared.specs.DelayedSet.{IsPlace}
-use Rattle.wp_prepared.proofs.Sets.{has, set_of_numbers, same_either_way, from_list_same, from_list_inserted, from_list_removed, has_none, has-tail, has_settled}
+use Rattle.wp_prepared.proofs.Sets.{has, set_of_numbers, same_either_way, from_list_same, from_list_inserted, from_list_removed, has_none, has-tail, has_in_step}
 
 pub distinct_from_rising : (xs : List ℕ) → IsStrictlyIncreasing xs → IsDistinct (eq_by_cmp nat_cmp) xs
 distinct_from_rising xs rising = IsDistinct-from_sorted nat_cmp xs (sorted_from_strictly_increasing xs rising)
@@ -89,8 +89,8 @@ set_of-remove xs p i rising place =
 
 -- where p is, the set has it already
 pub set_of-present : (xs : List ℕ) (p i : ℕ) → IsPlace xs p (Ok i) → set_of_numbers xs ≡ set.insert (set_of_numbers xs) p
-set_of-present xs p i place = from_list_inserted xs xs p (has_settled xs p (sym (is_ok-place xs p (Ok i) place)))
+set_of-present xs p i place = from_list_inserted xs xs p (has_in_step xs p (sym (is_ok-place xs p (Ok i) place)))
 
 -- where p has only a place to go, the set lacks it already
 pub set_of-absent : (xs : List ℕ) (p i : ℕ) → IsPlace xs p (Err i) → set_of_numbers xs ≡ set.remove (set_of_numbers xs) p
-set_of-absent xs p i place = from_list_removed xs xs p (has_settled xs p (sym (is_ok-place xs p (Err i) place)))
+set_of-absent xs p i place = from_list_removed xs xs p (has_in_step xs p (sym (is_ok-place xs p (Err i) place)))

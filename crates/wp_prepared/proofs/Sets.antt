@@ -60,10 +60,10 @@ has-tail p q rest once =
     ]
 
 -- what a list says of p it says of each number that equals p
-pub has_settled : (xs : List ℕ) (p : ℕ) {b : Bool} → has xs p ≡ b → (q : ℕ) → has xs q ≡ cond (eq_by_cmp nat_cmp p q) b (has xs q)
-has_settled xs p settled q =
+pub has_in_step : (xs : List ℕ) (p : ℕ) {b : Bool} → has xs p ≡ b → (q : ℕ) → has xs q ≡ cond (eq_by_cmp nat_cmp p q) b (has xs q)
+has_in_step xs p in_step q =
     elim (cases_eq p q) [
-      | inl same ↦ rw (unsigned_tied p q, eq-eqb p q same) (ap (has xs) (sym same) ∙ settled)
+      | inl same ↦ rw (unsigned_tied p q, eq-eqb p q same) (ap (has xs) (sym same) ∙ in_step)
       | inr apart ↦ rw (unsigned_tied p q, ne_eqb p q apart) refl
     ]
 

@@ -2,7 +2,7 @@ ghost use Rattle.std.specs.Prelude.{◌≡◌, ℕ, ◌≤◌, ◌&&◌, ◌||�
 ghost use Rattle.std.specs.FinSet as set;
 ghost use Rattle.std.specs.FinMap as map;
 ghost use Rattle.std.specs.List.Sorted.{IsStrictlyIncreasing};
-ghost use Rattle.wp_model.specs.PreparedTables.{nothing_prepared, commits_with, NonePrepared, IsSmallest, NoneDelayed};
+ghost use Rattle.wp_model.specs.PreparedSets.{nothing_prepared, commits_with, NonePrepared, IsSmallest, NoneDelayed};
 ghost use Rattle.wp_prepared.specs.Least.{AreBelow};
 ghost use Rattle.wp_prepared.specs.Passed.{NonePassed, IsFirstPassed};
 
@@ -25,11 +25,11 @@ pub struct Prepared {
 impl Model for Prepared {
     ghost use Rattle.std.specs.Prelude.{◌≤◌};
     ghost use Rattle.std.specs.FinSet as set;
-    ghost use Rattle.wp_model.specs.PreparedTables.{PreparedTables, prepared_tables_code};
+    ghost use Rattle.wp_model.specs.PreparedSets.{PreparedSets, prepared_sets_code};
 
-    ghost Value = { PreparedTables };
+    ghost Value = { PreparedSets };
 
-    ghost coded = { prepared_tables_code };
+    ghost coded = { prepared_sets_code };
 
     ghost view = { λ t. record { heap = t.heap; delayed = t.delayed.numbers; delayed_commits = t.delayed.commits } };
 

@@ -9,9 +9,9 @@ use Rattle.wp_model.specs.Batch.{change_to}
 use Rattle.wp_model.specs.History.{is_prepare, batch_at, decides, is_changed, is_undecided, changes_of}
 use Rattle.wp_model.specs.Legal.{IsLegal, IsLegalNext, prior}
 use Rattle.wp_model.proofs.Entries.{undecided_within}
-use Rattle.wp_history.proofs.Above.{is_changed_from}
-use Rattle.wp_history.proofs.Growth.{by_growth}
-use Rattle.wp_history.proofs.Held.{not_free, free_key}
+use Rattle.wp_history_laws.proofs.Above.{is_changed_from}
+use Rattle.wp_history_laws.proofs.Growth.{by_growth}
+use Rattle.wp_history_laws.proofs.Held.{not_free, free_key}
 use Rattle.wp_core.proofs.HistoryGrows.{none_is, undecided_before_or_now, batch_at_grown, newest_kept, prior_same}
 use Rattle.wp_core.proofs.OneHolder.{holder_is}
 use Rattle.wp_core.proofs.Tests.{same_some}

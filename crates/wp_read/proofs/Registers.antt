@@ -8,7 +8,7 @@ use Rattle.std.specs.Option.{option_map_or}
 use Rattle.std.specs.Ordering.{nat_cmp}
 use Rattle.std.specs.FinSet as set
 use Rattle.std.specs.FinMap as finite
-use Rattle.wp_model.specs.PreparedTables.{PreparedTables, IsSmallest, NonePrepared}
+use Rattle.wp_model.specs.PreparedSets.{PreparedSets, IsSmallest, NonePrepared}
 use Rattle.wp_model.specs.Snapshots as snaps
 use Rattle.wp_model.specs.Snapshots.{Snapshots, IsLive, is_old_commit, ChangesWhere, after_register, after_release, NoOldCommits}
 use Rattle.wp_core.specs.Changes.{sees, registers, releases, held_with, is_same_registration, placed, with_registered, with_released}
@@ -189,7 +189,7 @@ module _ {D : Type 0} (z : SharedState D) (p : Place) (steps : World → List St
   pub may_register : (m : Snapshots) → IsIn (snapshots m) s.knows.held → MayRegister s.knows.held smallest → MayMake p s.knows steps
   may_register m held may = subst (MayMake p s.knows) (sym is) (⊎_elim
       (λ (one : smallest ≡ Some 1). subst (λ (o : Option ℕ). MayMake p s.knows (λ w. registering o w ∷ [])) (sym one) (known_made p s.knows (register 1) tt (record { table = m; held = held; so_is = inl refl })))
-      (λ (known : (t : PreparedTables) × IsIn (prepared t) s.knows.held × MatchOption smallest (NonePrepared t) (IsSmallest t)). registers_at p s.knows smallest (record { table = m; held = held; so_is = tt }) (record { table = known.0; held = known.1; so_is = known.2 }))
+      (λ (known : (t : PreparedSets) × IsIn (prepared t) s.knows.held × MatchOption smallest (NonePrepared t) (IsSmallest t)). registers_at p s.knows smallest (record { table = m; held = held; so_is = tt }) (record { table = known.0; held = known.1; so_is = known.2 }))
       may)
 
   pub register_keeps : (w : World) → KeepClient (steps w)

@@ -3,7 +3,7 @@ use Rattle.std.proofs.Common.{◌≡◌, inl, inr, ℕ, suc, ◌≤◌, List, []
 use Rattle.std.specs.Prelude.{MatchOption, Result, Ok, unwrap_or}
 use Rattle.std.specs.FinMap as finite
 use Rattle.wp_model.specs.declared.entry.Entry.{Entry}
-use Rattle.wp_model.specs.PreparedTables.{PreparedTables, IsSmallest, NonePrepared}
+use Rattle.wp_model.specs.PreparedSets.{PreparedSets, IsSmallest, NonePrepared}
 use Rattle.wp_model.specs.Snapshots as snaps
 use Rattle.wp_model.specs.Snapshots.{Snapshots, NoOldCommits}
 use Rattle.wp_judge.specs.declared.observed.Observed.{Observed}
@@ -116,12 +116,12 @@ module _ {D : Type 0} {z : SharedState D} {s t : SeatState} {n : ℕ} {least : O
       number = ap (λ (x : Registration). x.number) is ∙ k.number_is;
     }
 
-    pub was_taken : (taken : IsTakenAt z s t.knows.participant.seen r m) × ((tables : PreparedTables) → IsIn (prepared tables) s.knows.held → MatchOption least (NonePrepared tables) (IsSmallest tables) → HasLeast taken.world r)
+    pub was_taken : (taken : IsTakenAt z s t.knows.participant.seen r m) × ((tables : PreparedSets) → IsIn (prepared tables) s.knows.held → MatchOption least (NonePrepared tables) (IsSmallest tables) → HasLeast taken.world r)
     was_taken = (taken_at, λ tables there found. by tables least (held_table (place_at z s.by) s.knows k.world (prepared tables) k.there there) smallest_is found)
       where
-        by : (tables : PreparedTables) (o : Option ℕ) → k.world.prepared ≡ tables → r.smallest ≡ unwrap_or o (suc r.number) → MatchOption o (NonePrepared tables) (IsSmallest tables) → HasLeast k.world r
+        by : (tables : PreparedSets) (o : Option ℕ) → k.world.prepared ≡ tables → r.smallest ≡ unwrap_or o (suc r.number) → MatchOption o (NonePrepared tables) (IsSmallest tables) → HasLeast k.world r
         by tables None are e none = inl (subst NonePrepared (sym are) none, e)
-        by tables (Some p) are e least = inr (subst (λ (x : PreparedTables × ℕ). IsSmallest x.0 x.1) (λ i. ((sym are) i, (sym e) i)) least)
+        by tables (Some p) are e least = inr (subst (λ (x : PreparedSets × ℕ). IsSmallest x.0 x.1) (λ i. ((sym are) i, (sym e) i)) least)
 
   pub none_zero : (x : snaps.Snapshot) → finite.get m n ≡ Some x → 1 ≤ x.registrations
   none_zero x e = ((at_sound (place_at z s.by) s.knows k.world k.there).registrations.live n x (ap (λ (y : Snapshots). finite.get y n) snapshots_are ∙ e)).0
@@ -140,17 +140,17 @@ kept_before m m' n same none = kept_by_register m n (subst NoOldCommits same non
 
 -- ---- the prepared turn and then the snapshots turn are taken, lent, and given in the other order
 
-module _ {D : Type 0} {z : SharedState D} {s0 s1 s2 : SeatState} {m : Snapshots} {tables : PreparedTables} (free : IsFree z.table s0) (first : Taken z s0 s1 (prepared tables)) (second : Taken z s1 s2 (snapshots m)) where
+module _ {D : Type 0} {z : SharedState D} {s0 s1 s2 : SeatState} {m : Snapshots} {tables : PreparedSets} (free : IsFree z.table s0) (first : Taken z s0 s1 (prepared tables)) (second : Taken z s1 s2 (snapshots m)) where
   pub took_both : GoesOn no_fact (snapshots m ∷ s1.knows.held) (2 ∷ s1.turns) s0 s2
   took_both = then no_fact s0 s1 s2 (prepared tables ∷ s0.knows.held) (snapshots m ∷ s1.knows.held) (1 ∷ s0.turns) (2 ∷ s1.turns) first.goes second.goes
 
-  module _ {m1 : Snapshots} {tables1 : PreparedTables} (lent : m1 ≡ m) (shown : tables1 ≡ tables) where
+  module _ {m1 : Snapshots} {tables1 : PreparedSets} (lent : m1 ≡ m) (shown : tables1 ≡ tables) where
     pub holds_both : HoldsTurn z s2 (snapshots m1) (prepared tables1 ∷ []) (1 ∷ [])
-    holds_both = subst (λ (x : Snapshots × PreparedTables). HoldsTurn z s2 (snapshots x.0) (prepared x.1 ∷ []) (1 ∷ [])) (λ i. ((sym lent) i, (sym shown) i)) (holds_two (holds_alone free first) second)
+    holds_both = subst (λ (x : Snapshots × PreparedSets). HoldsTurn z s2 (snapshots x.0) (prepared x.1 ∷ []) (1 ∷ [])) (λ i. ((sym lent) i, (sym shown) i)) (holds_two (holds_alone free first) second)
 
     module _ {s3 : SeatState} {m' : Snapshots} {after : Participant} (changes : ChangesSnapshots z s2 s3 after m' (prepared tables1 ∷ []) (1 ∷ [])) where
       pub holds_changed : HoldsTurn z s3 (snapshots m') (prepared tables ∷ []) (1 ∷ [])
-      holds_changed = subst (λ (x : PreparedTables). HoldsTurn z s3 (snapshots m') (prepared x ∷ []) (1 ∷ [])) shown changes.holds
+      holds_changed = subst (λ (x : PreparedSets). HoldsTurn z s3 (snapshots m') (prepared x ∷ []) (1 ∷ [])) shown changes.holds
 
       -- the old commit map has nothing that it did not have
       pub gives_snaps : (NoOldCommits m' → NoOldCommits m1) → KnowsToGive s3.knows (snapshots m')
@@ -218,12 +218,12 @@ module _ {D : Type 0} {z : SharedState D} {s0 s1 : SeatState} {m : Snapshots} (f
 -- ---- a registration is taken back under the snapshots turn alone, and the old-map flag is seen to
 
 module _ {D : Type 0} {z : SharedState D} {s0 s1 s2 s3 s4 : SeatState} {m m' : Snapshots} (rs : List Registration) (first : Taken z s0 s1 (snapshots m)) (changes : ChangesSnapshots z s1 s2 (record s1.knows.participant { registered = rs }) m' [] [])
-    (settled : GoesOn (is_under snapshots_turn) s2.knows.held s2.turns s2 s3) (gave : Given z snapshots_turn s3 s4 [] []) where
+    (in_step : GoesOn (is_under snapshots_turn) s2.knows.held s2.turns s2 s3) (gave : Given z snapshots_turn s3 s4 [] []) where
   pub continues_one : Continues z s0 s4 (record s0.knows.participant { registered = rs })
   continues_one =
       let p : Participant = record s1.knows.participant { registered = rs } in
       let changed : GoesOnAs s1 s2 p = goes_fewer s1 s2 p (λ fact loose. tt) changes.goes in
-      continues_under first s3 s4 (λ q. record q { registered = rs }) (λ q h k. refl) (goes_still s1 s2 s3 p changed (goes_same s2 s3 (is_under snapshots_turn) s2.knows.held s2.turns (loose_under snapshots_turn) settled)) gave
+      continues_under first s3 s4 (λ q. record q { registered = rs }) (λ q h k. refl) (goes_still s1 s2 s3 p changed (goes_same s2 s3 (is_under snapshots_turn) s2.knows.held s2.turns (loose_under snapshots_turn) in_step)) gave
 
 -- ---- a look under a turn
 

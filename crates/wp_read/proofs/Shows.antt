@@ -15,7 +15,7 @@ use Rattle.wp_model.proofs.Entries.{entry_at_old}
 use Rattle.wp_core.specs.Lists.{IsIn}
 use Rattle.wp_core.specs.Reading.{Registration}
 use Rattle.wp_core.specs.Sound.Snapshots.{has_versions, has_versions_at}
-use Rattle.wp_core.specs.Tables.{StoreTable, live_numbers, up_to, all_in}
+use Rattle.wp_core.specs.Tables.{StoreState, live_numbers, up_to, all_in}
 use Rattle.wp_core.specs.World.{World}
 use Rattle.wp_core.proofs.HistoryLaws.{decided_late, decision_stays}
 use Rattle.wp_core.proofs.Registered.{registered_live}
@@ -25,7 +25,7 @@ use Rattle.wp_merge.proofs.Sorted.{in_order_sorted, at_sorted}
 use Rattle.wp_rule.specs.Words.{IsAt}
 use Rattle.wp_rule.proofs.Knows.{at_sound, seen_is}
 use Rattle.wp_store.specs.Store.{of_key, newest_of}
-use Rattle.wp_shared.specs.Stock.{StockState, store_table}
+use Rattle.wp_shared.specs.Stock.{StockState, store_state}
 use Rattle.wp_shared.specs.Seats.{SharedState, SeatState, Stands, place_at}
 use Rattle.wp_read.specs.Values.{ShowsValue}
 use Rattle.wp_read.proofs.Readings.{right_before, registered_low}
@@ -120,8 +120,8 @@ module _ {D : Type 0} (z : SharedState D) (s : SeatState) (w : World) (key : Lis
   }
 
 -- what was copied under the store turn shows it
-pub copies_show : {D E : Type 0} (z : SharedState D) (s : SeatState) (stock : StockState) (key : List ℕ) (most : ℕ) (result : Result (List Version) E) → (w : World) × Stands z s w × (w.store ≡ store_table stock) → IfOk result (λ found. found ≡ newest_of most key (sorted_of (all_in (store_table stock))))
+pub copies_show : {D E : Type 0} (z : SharedState D) (s : SeatState) (stock : StockState) (key : List ℕ) (most : ℕ) (result : Result (List Version) E) → (w : World) × Stands z s w × (w.store ≡ store_state stock) → IfOk result (λ found. found ≡ newest_of most key (sorted_of (all_in (store_state stock))))
     → IfOk result (λ found. (r : Registration) → IsIn r s.knows.participant.registered → ShowsValue s.knows.participant.seen key r.number most found)
 copies_show z s stock key most (Ok found) took is = λ (r : Registration) (mine : IsIn r s.knows.participant.registered).
-    subst (ShowsValue s.knows.participant.seen key r.number most) (ap (λ (x : StoreTable). newest_of most key (sorted_of (all_in x))) took.2 ∙ sym is) (shows_value z s took.0 key r most took.1 mine)
+    subst (ShowsValue s.knows.participant.seen key r.number most) (ap (λ (x : StoreState). newest_of most key (sorted_of (all_in x))) took.2 ∙ sym is) (shows_value z s took.0 key r most took.1 mine)
 copies_show z s stock key most (Err error) took is = is

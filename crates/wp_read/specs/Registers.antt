@@ -5,7 +5,7 @@ use Rattle.std.specs.List.{Contains, list_any}
 use Rattle.std.specs.List.Sorted.{IsStrictlyIncreasing}
 use Rattle.wp_model.specs.declared.entry.Entry.{Entry}
 use Rattle.wp_model.specs.Covered.{is_among}
-use Rattle.wp_model.specs.PreparedTables.{PreparedTables, IsSmallest, NonePrepared}
+use Rattle.wp_model.specs.PreparedSets.{PreparedSets, IsSmallest, NonePrepared}
 use Rattle.wp_model.specs.Snapshots as snaps
 use Rattle.wp_model.specs.Snapshots.{Snapshots, IsLive}
 use Rattle.wp_core.specs.Changes.{sees, registers, releases, held_with, is_same_registration, with_registered, with_released}
@@ -55,7 +55,7 @@ registration_of number smallest = record { number = number; smallest = unwrap_or
 -- A snapshot may be registered with this smallest by who holds these tables: 1, or the least number that is prepared in one of them,
 -- or none where none is.
 abbrev pub MayRegister : List Content → Option ℕ → Type 0
-MayRegister held smallest = (smallest ≡ Some 1) ⊎ ((t : PreparedTables) × IsIn (prepared t) held × MatchOption smallest (NonePrepared t) (IsSmallest t))
+MayRegister held smallest = (smallest ≡ Some 1) ⊎ ((t : PreparedSets) × IsIn (prepared t) held × MatchOption smallest (NonePrepared t) (IsSmallest t))
 
 -- The number that is published was loaded and registered, with this smallest: the seat has seen the history then. These are
 -- the live snapshots that it held.

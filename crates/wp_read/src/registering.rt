@@ -1,6 +1,6 @@
 //! Snapshots are registered and released.
 ghost use Rattle.std.specs.Prelude.{◌≡◌, suc, true, ℕ, List, [], ◌∷◌, ◌++◌, length, unwrap_or, Some, MatchOption, IfOk, OnOk, OnErr, IsTrue};
-ghost use Rattle.wp_model.specs.PreparedTables.{PreparedTables, IsSmallest, NonePrepared};
+ghost use Rattle.wp_model.specs.PreparedSets.{PreparedSets, IsSmallest, NonePrepared};
 ghost use Rattle.wp_model.specs.Snapshots.{IsLive, NoOldCommits};
 ghost use Rattle.wp_core.specs.Changes.{with_registered, with_released};
 ghost use Rattle.wp_core.specs.Lists.{IsIn};
@@ -67,7 +67,7 @@ pub fn register_in<D: Disk + Drop>(
     ensures number { IfOk result (λ s. s.number ≡ length seat.new.knows.participant.seen) }
     ensures smallest { IfOk result (λ s. s.smallest ≡ unwrap_or smallest (suc s.number)) }
     ensures taken { IfOk result (λ s. (taken : IsTakenAt store.now seat.old seat.new.knows.participant.seen s snaps.old)
-        × ((t : PreparedTables) → IsIn (table.prepared t) seat.old.knows.held → MatchOption smallest (NonePrepared t) (IsSmallest t) → HasLeast taken.world s)) }
+        × ((t : PreparedSets) → IsIn (table.prepared t) seat.old.knows.held → MatchOption smallest (NonePrepared t) (IsSmallest t) → HasLeast taken.world s)) }
     ensures entered { IfOk result (λ s. snaps.new ≡ with_registered snaps.old s.number) }
     ensures kept { NoOldCommits snaps.new → NoOldCommits snaps.old }
 {

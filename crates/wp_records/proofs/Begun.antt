@@ -3,7 +3,7 @@ use Rattle.std.proofs.Common.{◌≡◌, false, List, [], ◌∷◌, ◌++◌, l
 use Rattle.wp_model.specs.declared.entry.Entry.{Entry}
 use Rattle.wp_model.specs.Legal.{IsLegal}
 use Rattle.wp_core.specs.Entries.{IsOneRecord}
-use Rattle.wp_core.specs.Tables.{WriteTable, writes}
+use Rattle.wp_core.specs.Tables.{WriteState, writes}
 use Rattle.wp_core.specs.Views.{versions_nowhere, number_not_in_heap, pair_not_delayed}
 use Rattle.wp_rule.specs.Knows.{Noted}
 use Rattle.wp_shared.specs.Log.{LogState}
@@ -17,10 +17,10 @@ use Rattle.wp_records.proofs.Holding.{holds_with, as_pending, as_write, words_ke
 
 module _ (log left : LogState) (entries : List Entry) (is : left.table ≡ record log.table { pending = entries; logged = false }) where
   pending_is : left.table.pending ≡ entries
-  pending_is = ap (λ (t : WriteTable). t.pending) is
+  pending_is = ap (λ (t : WriteState). t.pending) is
 
   history_is : left.table.history ≡ log.table.history
-  history_is = ap (λ (t : WriteTable). t.history) is
+  history_is = ap (λ (t : WriteState). t.history) is
 
   pub begins_as : left.table ≡ record log.table { pending = left.table.pending; logged = false }
   begins_as = is ∙ ap (λ (e : List Entry). record log.table { pending = e; logged = false }) (sym pending_is)

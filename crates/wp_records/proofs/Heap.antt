@@ -6,10 +6,10 @@ use Rattle.std.specs.FinSet as set
 use Rattle.std.specs.FinSet.{nat_cmp-IsAntisymmetric}
 use Rattle.std.specs.FinMap as finite
 use Rattle.std.proofs.lemmas.Bool.{false_from_ne_true, cases_eq}
-use Rattle.wp_model.specs.PreparedTables.{PreparedTables, NoneDelayed}
+use Rattle.wp_model.specs.PreparedSets.{PreparedSets, NoneDelayed}
 use Rattle.wp_prepared.specs.Least.{AreBelow}
 use Rattle.wp_core.specs.Lists.{IsIn}
-use Rattle.wp_core.specs.Tables.{WriteTable, Content, writes, prepared}
+use Rattle.wp_core.specs.Tables.{WriteState, Content, writes, prepared}
 use Rattle.wp_core.specs.Views.{delayed_flag_stays, number_not_in_heap}
 use Rattle.wp_core.specs.World.{Actor, World}
 use Rattle.wp_core.proofs.HistoryGrows.{none_is}
@@ -31,7 +31,7 @@ use Rattle.wp_records.specs.Stages.{is_of_heap, is_of_number, HasPrepare}
 use Rattle.wp_records.proofs.Facts.{heap_alone}
 
 -- a seat that holds both tables, in a world of the store
-module _ {D : Type 0} (z : SharedState D) (s t : SeatState) (d : WriteTable) (tables : PreparedTables) (same : t ≡ s) (at : (w : World) × Stands z t w) (held : s.knows.held ≡ prepared tables ∷ writes d ∷ []) where
+module _ {D : Type 0} (z : SharedState D) (s t : SeatState) (d : WriteState) (tables : PreparedSets) (same : t ≡ s) (at : (w : World) × Stands z t w) (held : s.knows.held ≡ prepared tables ∷ writes d ∷ []) where
   abbrev w : World
   w = at.0
 
@@ -48,12 +48,12 @@ module _ {D : Type 0} (z : SharedState D) (s t : SeatState) (d : WriteTable) (ta
   n = suc (length d.history)
 
   next_is : suc (length w.writes.history) ≡ n
-  next_is = ap (λ (x : WriteTable). suc (length x.history)) writes_is
+  next_is = ap (λ (x : WriteState). suc (length x.history)) writes_is
 
   -- the next number is above those of the heap, if it is not there
   pub heap_below : Noted s.knows number_not_in_heap → AreBelow tables.heap n
   heap_below below q in_heap =
-      let here : set.contains w.prepared.heap q ≡ true = ap (λ (x : PreparedTables). set.contains x.heap q) tables_are ∙ in_heap in
+      let here : set.contains w.prepared.heap q ≡ true = ap (λ (x : PreparedSets). set.contains x.heap q) tables_are ∙ in_heap in
       let low = within_next (place_at z s.by) s.knows w there q (ap (λ (b : Bool). b || set.contains w.prepared.delayed q) here) in
       let none : set.contains w.prepared.heap (suc (length w.writes.history)) ≡ false = (noted_is (place_at z s.by) s.knows w number_not_in_heap there below).is_so in
       elim (cases_eq q (suc (length w.writes.history))) [
@@ -63,17 +63,17 @@ module _ {D : Type 0} (z : SharedState D) (s t : SeatState) (d : WriteTable) (ta
 
   not_delayed : set.contains tables.delayed n ≡ false
   not_delayed = false_from_ne_true (set.contains tables.delayed n) (λ in_delayed.
-      let here : set.contains w.prepared.delayed n ≡ true = ap (λ (x : PreparedTables). set.contains x.delayed n) tables_are ∙ in_delayed in
+      let here : set.contains w.prepared.delayed n ≡ true = ap (λ (x : PreparedSets). set.contains x.delayed n) tables_are ∙ in_delayed in
       let low = (at_sound (place_at z s.by) s.knows w there).undecided.delayed_passed n here in let most = (at_sound (place_at z s.by) s.knows w there).history.bounded in
       let len = next_is in absurd (omega (arith, low, most, len)))
 
   not_committed : HasPrepare d → finite.get tables.delayed_commits n ≡ None
   not_committed prepare = none_is (finite.get tables.delayed_commits n) (λ c is.
-      let here : finite.get w.prepared.delayed_commits n ≡ Some c = ap (λ (x : PreparedTables). finite.get x.delayed_commits n) tables_are ∙ is in
+      let here : finite.get w.prepared.delayed_commits n ≡ Some c = ap (λ (x : PreparedSets). finite.get x.delayed_commits n) tables_are ∙ is in
       let sound = at_sound (place_at z s.by) s.knows w there in let len = next_is in
       let next = sound.delayed.commits n c here in
       let late = decided_late (extended w.writes.history w.writes.pending) n c (extended_legal w.writes.history w.writes.pending sound.history.legal sound.history.legal_next) next in
-      let none : pending_pair w.writes.history w.writes.pending ≡ None = ap (λ (x : WriteTable). pending_pair x.history x.pending) writes_is ∙ ap (pending_pair d.history) prepare.3 in
+      let none : pending_pair w.writes.history w.writes.pending ≡ None = ap (λ (x : WriteState). pending_pair x.history x.pending) writes_is ∙ ap (pending_pair d.history) prepare.3 in
       let low = (decided_without w.writes.history w.writes.pending (record { number = n; decision = c }) (λ e. none_some (pending_pair w.writes.history w.writes.pending) (record { number = n; decision = c }) none e) late next).1 in absurd (omega (arith, low, late, len)))
 
   removed_same : set.remove tables.delayed n ≡ tables.delayed
@@ -89,16 +89,16 @@ module _ {D : Type 0} (z : SharedState D) (s t : SeatState) (d : WriteTable) (ta
   ])
 
   -- the next number was in the heap at most
-  pub left_heap : HasPrepare d → (after : PreparedTables) → after.heap ≡ set.remove tables.heap n → after.delayed ≡ set.remove tables.delayed n → after.delayed_commits ≡ finite.remove tables.delayed_commits n → after ≡ record tables { heap = set.remove tables.heap n }
+  pub left_heap : HasPrepare d → (after : PreparedSets) → after.heap ≡ set.remove tables.heap n → after.delayed ≡ set.remove tables.delayed n → after.delayed_commits ≡ finite.remove tables.delayed_commits n → after ≡ record tables { heap = set.remove tables.heap n }
   left_heap prepare after heap delayed commits = let one = delayed ∙ removed_same in let two = commits ∙ commits_same prepare in λ i. record { heap = heap i; delayed = one i; delayed_commits = two i }
 
 -- the flag tells the same of tables with another heap
-pub flag_still : (a b : Actor) (t u : PreparedTables) (heap : set.FinSet nat_cmp) → u ≡ record t { heap = heap } → ((value : ℕ) → Noted a (delayed_flag_stays value) → Noted b (delayed_flag_stays value)) → DelayedFlagTells a t → DelayedFlagTells b u
+pub flag_still : (a b : Actor) (t u : PreparedSets) (heap : set.FinSet nat_cmp) → u ≡ record t { heap = heap } → ((value : ℕ) → Noted a (delayed_flag_stays value) → Noted b (delayed_flag_stays value)) → DelayedFlagTells a t → DelayedFlagTells b u
 flag_still a b t u heap is keeps f = record { value = f.value; noted = keeps f.value f.noted; empty = λ e. subst NoneDelayed (sym is) (f.empty e); down = λ none. f.down (subst NoneDelayed is none) }
 
 -- ---- the number comes, or goes
 
-module _ (s t : SeatState) (d : WriteTable) (old now : PreparedTables) (same : t ≡ s) (held : s.knows.held ≡ prepared old ∷ writes d ∷ []) where
+module _ (s t : SeatState) (d : WriteState) (old now : PreparedSets) (same : t ≡ s) (held : s.knows.held ≡ prepared old ∷ writes d ∷ []) where
   pub same_held : t.knows.held ≡ prepared old ∷ writes d ∷ []
   same_held = ap (λ (x : SeatState). x.knows.held) same ∙ held
 
@@ -106,10 +106,10 @@ module _ (s t : SeatState) (d : WriteTable) (old now : PreparedTables) (same : t
   pub not_added : now ≡ old → GoesOn is_of_number (prepared now ∷ writes d ∷ []) s.turns s t
   not_added refused =
       subst (λ (x : SeatState). GoesOn is_of_number (prepared now ∷ writes d ∷ []) s.turns s x) (sym same)
-      (subst (λ (h : List Content). GoesOn is_of_number h s.turns s s) (held ∙ ap (λ (x : PreparedTables). prepared x ∷ writes d ∷ []) (sym refused)) (stays is_of_number s s s))
+      (subst (λ (h : List Content). GoesOn is_of_number h s.turns s s) (held ∙ ap (λ (x : PreparedSets). prepared x ∷ writes d ∷ []) (sym refused)) (stays is_of_number s s s))
 
   pub added_to : (n : ℕ) → n ≡ suc (length d.history) → now ≡ record old { heap = set.insert old.heap n }
-      → (x : PreparedTables) × (t.knows.held ≡ prepared x ∷ writes d ∷ []) × (now ≡ record x { heap = set.insert x.heap (suc (length d.history)) })
+      → (x : PreparedSets) × (t.knows.held ≡ prepared x ∷ writes d ∷ []) × (now ≡ record x { heap = set.insert x.heap (suc (length d.history)) })
   added_to n number is = (old, same_held, is ∙ ap (λ (m : ℕ). record old { heap = set.insert old.heap m }) number)
 
   -- the seat went on from the one that loaded

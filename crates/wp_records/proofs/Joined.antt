@@ -9,7 +9,7 @@ use Rattle.wp_judge.specs.Words.{CommitPair}
 use Rattle.wp_core.specs.Cache.{cache_place}
 use Rattle.wp_core.specs.Conditions.{HasTransaction, IsPrepare}
 use Rattle.wp_core.specs.Entries.{next_of, pair_by, pending_pair, IsOneRecord}
-use Rattle.wp_core.specs.Tables.{WriteTable, writes}
+use Rattle.wp_core.specs.Tables.{WriteState, writes}
 use Rattle.wp_core.specs.Views as view
 use Rattle.wp_core.specs.Views.{Fact, passed, in_old_commits, words_stay, versions_in_memory, versions_nowhere, number_in_heap, number_not_in_heap}
 use Rattle.wp_core.specs.World.{Transaction, Participant, Actor}
@@ -230,7 +230,7 @@ module _ {D : Type 0} (z : SharedState D) (s t u : SeatState) (log left : LogSta
           )
 
 -- they may do so still where the participant is the same, and no note is gone
-pub joins_still : (a b : Actor) (cells : ℕ) (d : WriteTable) → b.participant ≡ a.participant → ((fact : Fact) → Noted a fact → Noted b fact) → MayJoin a cells d → MayJoin b cells d
+pub joins_still : (a b : Actor) (cells : ℕ) (d : WriteState) → b.participant ≡ a.participant → ((fact : Fact) → Noted a fact → Noted b fact) → MayJoin a cells d → MayJoin b cells d
 joins_still a b cells d same noted k =
     let keeps : KeepsReady a b = record {
       words = λ bound words there. (bound, noted (words_stay bound words) there, omega arith);
@@ -245,7 +245,7 @@ joins_still a b cells d same noted k =
       behind = k.behind;
     }
 
-pub noted_join : (s t : SeatState) (fact : Fact) (cells : ℕ) (d : WriteTable) → t ≡ noting fact s → MayJoin s.knows cells d → MayJoin t.knows cells d
+pub noted_join : (s t : SeatState) (fact : Fact) (cells : ℕ) (d : WriteState) → t ≡ noting fact s → MayJoin s.knows cells d → MayJoin t.knows cells d
 noted_join s t fact cells d is k = joins_still s.knows t.knows cells d (ap (λ (x : SeatState). x.knows.participant) is) (λ other there. subst (λ (x : SeatState). Noted x.knows other) (sym is) (inr there)) k
 
 -- ---- the record is ready, and was logged
@@ -254,10 +254,10 @@ pub logged_join : {D : Type 0} (z : SharedState D) (s t : SeatState) (log mid : 
     → IsLogged z s log t mid → MayJoin t.knows cells mid.table × Noted t.knows versions_in_memory
 logged_join z s t log mid cells one may apart ready k =
     let noted : (fact : Fact) → Noted s.knows fact → Noted t.knows fact = λ fact there. subst (λ (x : SeatState). Noted x.knows fact) (sym k.seat) there in
-    let history : mid.table.history ≡ log.table.history = ap (λ (x : WriteTable). x.history) k.table in
-    let pending : mid.table.pending ≡ log.table.pending = ap (λ (x : WriteTable). x.pending) k.table in (
+    let history : mid.table.history ≡ log.table.history = ap (λ (x : WriteState). x.history) k.table in
+    let pending : mid.table.pending ≡ log.table.pending = ap (λ (x : WriteState). x.pending) k.table in (
       joins_still s.knows t.knows cells mid.table (ap (λ (x : SeatState). x.knows.participant) k.seat) noted (record {
-        logged = ap (λ (x : WriteTable). x.logged) k.table;
+        logged = ap (λ (x : WriteState). x.logged) k.table;
         may = subst (λ (x : List Entry × List Entry). MayPut s.knows x.0 x.1) (λ i. (sym history i, sym pending i)) may;
         number = λ is. ready.number (ap (λ (e : List Entry). is_prepare (next_of e)) (sym pending) ∙ is);
         pairs = subst (λ (x : List Entry × List Entry). AreReady s.knows cells (length x.0) (ways_of cells (suc (length x.0)) x.1)) (λ i. (sym history i, sym pending i)) ready.pairs;

@@ -7,13 +7,13 @@ use Rattle.wp_wal.specs.Wal.{WalState, LosesNothingAt}
 use Rattle.wp_core.specs.Entries.{pair_by, transaction_of}
 use Rattle.wp_core.specs.Lists.{IsIn}
 use Rattle.wp_core.specs.Sound.Views.{guarded_by}
-use Rattle.wp_core.specs.Tables.{WriteTable, Content, writes}
+use Rattle.wp_core.specs.Tables.{WriteState, Content, writes}
 use Rattle.wp_core.specs.Views.{Fact, words_stay, versions_in_memory, none_waits}
 use Rattle.wp_core.specs.World.{Participant, World}
 use Rattle.wp_rule.specs.Knows.{Noted}
 use Rattle.wp_shared.specs.Log.{LogState}
 use Rattle.wp_shared.specs.Seats.{SharedState, SeatState, Stands}
-use Rattle.wp_shared.specs.Notes.{is_about, being, noting, GoesOn}
+use Rattle.wp_shared.specs.Notes.{is_about, with_participant, noting, GoesOn}
 use Rattle.wp_shared.proofs.Goes.{holds, notes}
 use Rattle.wp_commits.specs.declared.way.Way.{Way}
 use Rattle.wp_commits.specs.Bound.{bound_with, bound_for}
@@ -32,7 +32,7 @@ use Rattle.wp_records.proofs.Holding.{as_write}
 
 module _ {D : Type 0} (z : SharedState D) (s new : SeatState) (log left : LogState) (holds : HoldsWrite z new left) where
   -- what was done was taken back
-  pub not_put : (closed : Bool) (after : Participant) → GoesOn is_of_stage (writes left.table ∷ []) s.turns (being after s) new → left.table.history ≡ log.table.history → left.table.closed ≡ closed → IsNotPut z s log [] closed after new left
+  pub not_put : (closed : Bool) (after : Participant) → GoesOn is_of_stage (writes left.table ∷ []) s.turns (with_participant after s) new → left.table.history ≡ log.table.history → left.table.closed ≡ closed → IsNotPut z s log [] closed after new left
   not_put closed after k history is = record {
     holds = holds;
     same_by = ap (λ (x : SeatState). x.by) k.same;
@@ -44,7 +44,7 @@ module _ {D : Type 0} (z : SharedState D) (s new : SeatState) (log left : LogSta
   }
 
   -- where the log call failed
-  pub failed_put : (t : SeatState) (d : WriteTable) (entries : List Entry) → t ≡ holding d (as_failed entries s) → GoesOn is_of_stage (writes left.table ∷ []) t.turns t new → left.table.history ≡ log.table.history → left.table.closed ≡ true → IsNotPut z s log [] true (failing entries s.knows.participant) new left
+  pub failed_put : (t : SeatState) (d : WriteState) (entries : List Entry) → t ≡ holding d (as_failed entries s) → GoesOn is_of_stage (writes left.table ∷ []) t.turns t new → left.table.history ≡ log.table.history → left.table.closed ≡ true → IsNotPut z s log [] true (failing entries s.knows.participant) new left
   failed_put t d entries is k history closed =
       not_put true (failing entries s.knows.participant)
       (record {
@@ -58,7 +58,7 @@ pub fails : (log mid left : LogState) → log.table.logged ≡ false → mid.tab
     → Rose log.wal.faults mid.wal.faults → LeavesAll log.wal log.table log.table.pending mid.wal.moments → LosesNothingAt log.table.segment.place log.wal.moments mid.wal.moments → FailsAppend log log.table.pending left
 fails log mid left unlogged closed back rose passed durable =
     let wal : left.wal ≡ mid.wal = ap (λ (x : LogState). x.wal) back in record {
-      table = ap (λ (x : LogState). x.table) back ∙ ap (λ (t : WriteTable). record t { pending = [] }) closed ∙ ap (λ (b : Bool). record log.table { pending = []; logged = b; closed = true; failed = log.table.pending }) unlogged;
+      table = ap (λ (x : LogState). x.table) back ∙ ap (λ (t : WriteState). record t { pending = [] }) closed ∙ ap (λ (b : Bool). record log.table { pending = []; logged = b; closed = true; failed = log.table.pending }) unlogged;
       rose = subst (λ (w : WalState). Rose log.wal.faults w.faults) (sym wal) rose;
       passed = subst (λ (w : WalState). LeavesAll log.wal log.table log.table.pending w.moments) (sym wal) passed;
       durable = subst (λ (w : WalState). LosesNothingAt log.table.segment.place log.wal.moments w.moments) (sym wal) durable;
@@ -67,8 +67,8 @@ fails log mid left unlogged closed back rose passed durable =
 -- ---- a stage before
 
 -- the table with nothing pending
-abbrev pub settled : WriteTable → WriteTable
-settled t = record t { pending = []; logged = false }
+abbrev pub in_step : WriteState → WriteState
+in_step t = record t { pending = []; logged = false }
 
 -- the log with no record ready
 abbrev pub unreserved : WalState → WalState
@@ -112,13 +112,13 @@ module _ {D : Type 0} (z : SharedState D) (s t new : SeatState) (log mid left : 
     }
 
   -- in which it did not rise
-  module _ (rises : RisesFor z.cells n s.knows t.knows []) (table : settled mid.table ≡ settled log.table) (wal : unreserved mid.wal ≡ unreserved log.wal) where
+  module _ (rises : RisesFor z.cells n s.knows t.knows []) (table : in_step mid.table ≡ in_step log.table) (wal : unreserved mid.wal ≡ unreserved log.wal) where
     fails_before : (entries : List Entry) → FailsAppend mid entries left → FailsAppend log entries left
     fails_before entries f = record {
-      table = f.table ∙ ap (λ (x : WriteTable). record x { closed = true; failed = entries }) table;
+      table = f.table ∙ ap (λ (x : WriteState). record x { closed = true; failed = entries }) table;
       rose = subst (λ (w : WalState). Rose w.faults left.wal.faults) wal f.rose;
-      passed = subst (λ (x : WalState × WriteTable). LeavesAll x.0 x.1 entries left.wal.moments) (λ i. (wal i, table i)) f.passed;
-      durable = subst (λ (x : WalState × WriteTable). LosesNothingAt x.1.segment.place x.0.moments left.wal.moments) (λ i. (wal i, table i)) f.durable;
+      passed = subst (λ (x : WalState × WriteState). LeavesAll x.0 x.1 entries left.wal.moments) (λ i. (wal i, table i)) f.passed;
+      durable = subst (λ (x : WalState × WriteState). LosesNothingAt x.1.segment.place x.0.moments left.wal.moments) (λ i. (wal i, table i)) f.durable;
     }
 
     ways_are : (entries : List Entry) → ways_of z.cells (suc (length mid.table.history)) entries ≡ ways_of z.cells (suc n) entries
@@ -253,8 +253,8 @@ pub put_logged : {D : Type 0} (z : SharedState D) (s t u new : SeatState) (log m
     → (AnyClears (ways_of z.cells (suc (length log.table.history)) log.table.pending) → HasCleared z s log.table.history log.table.pending) → IsLogged z t log u mid → IsPutWith z u mid [] mid.table.pending new left
     → IsPut z s log log.table.pending new left
 put_logged z s t u new log mid left k rises waited logged p =
-    let history : mid.table.history ≡ log.table.history = ap (λ (x : WriteTable). x.history) logged.table in
-    let pending : mid.table.pending ≡ log.table.pending = ap (λ (x : WriteTable). x.pending) logged.table in
+    let history : mid.table.history ≡ log.table.history = ap (λ (x : WriteState). x.history) logged.table in
+    let pending : mid.table.pending ≡ log.table.pending = ap (λ (x : WriteState). x.pending) logged.table in
     let ways = ways_of z.cells (suc (length log.table.history)) log.table.pending in
     let behind = put_before z t u new log mid left _ _ (holds is_guarded t u u (writes mid.table ∷ []) logged.seat) history [] (λ bound words there. subst (λ (x : SeatState). Noted x.knows (words_stay bound words)) (sym logged.seat) there)
     [] log.table.pending (λ none. absurd none) (subst (λ (e : List Entry). IsPutWith z u mid [] e new left) pending p) in

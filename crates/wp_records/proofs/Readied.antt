@@ -3,7 +3,7 @@ use Rattle.std.proofs.Common.{◌≡◌, ℕ, suc, false, List, length, refl, sy
 use Rattle.std.specs.Prelude.{Result}
 use Rattle.wp_model.specs.declared.entry.Entry.{Entry}
 use Rattle.wp_core.specs.Entries.{IsOneRecord}
-use Rattle.wp_core.specs.Tables.{WriteTable}
+use Rattle.wp_core.specs.Tables.{WriteState}
 use Rattle.wp_core.specs.Views.{words_stay}
 use Rattle.wp_core.specs.World.{Participant, Actor}
 use Rattle.wp_rule.specs.Knows.{Noted}
@@ -19,7 +19,7 @@ use Rattle.wp_records.specs.Stages.{is_guarded, is_of_pending, HoldsPending, IsU
 use Rattle.wp_records.proofs.Facts.{not_pending}
 use Rattle.wp_records.proofs.Holding.{still_holds, words_still}
 use Rattle.wp_records.proofs.Joined.{own_still, one_some}
-use Rattle.wp_records.proofs.Puts.{settled, unreserved, puts_before}
+use Rattle.wp_records.proofs.Puts.{in_step, unreserved, puts_before}
 
 -- words were cleared
 pub cleared_holds : {D : Type 0} (z : SharedState D) (s t : SeatState) (log : LogState) → HoldsPending z s log → GoesOn is_of_words s.knows.held s.turns s t
@@ -32,13 +32,13 @@ may_still a b history entries same may = record { legal = may.legal; owned = own
 
 module _ {D : Type 0} (z : SharedState D) (s t : SeatState) (log mid : LogState) (es : List Entry) (b : IsBegun z s log es t mid) where
   pending_is : mid.table.pending ≡ es
-  pending_is = ap (λ (x : WriteTable). x.pending) b.table
+  pending_is = ap (λ (x : WriteState). x.pending) b.table
 
   history_is : mid.table.history ≡ log.table.history
-  history_is = ap (λ (x : WriteTable). x.history) b.table
+  history_is = ap (λ (x : WriteState). x.history) b.table
 
   pub begun_unlogged : IsOneRecord mid.table.pending → log.table.closed ≡ false → IsUnlogged mid.table
-  begun_unlogged one running = record { some = one_some mid.table.pending one; unlogged = ap (λ (x : WriteTable). x.logged) b.table; running = ap (λ (x : WriteTable). x.closed) b.table ∙ running }
+  begun_unlogged one running = record { some = one_some mid.table.pending one; unlogged = ap (λ (x : WriteState). x.logged) b.table; running = ap (λ (x : WriteState). x.closed) b.table ∙ running }
 
   pub begun_may : MayPut s.knows log.table.history es → MayPut t.knows mid.table.history mid.table.pending
   begun_may may =
@@ -50,4 +50,4 @@ module _ {D : Type 0} (z : SharedState D) (s t : SeatState) (log mid : LogState)
 
   pub begun_puts : (new : SeatState) (left : LogState) (answer : Result (Unit {0}) WriteError) → Puts z t mid mid.table.pending answer new left → Puts z s log es answer new left
   begun_puts new left answer p =
-      puts_before z s t new log mid left _ _ (wider is_of_pending s t t is_guarded _ _ not_pending b.seat) history_is (λ bound words there. b.seat.noted (words_stay bound words) refl there) (ap settled b.table) (ap unreserved b.uncalled) es answer (subst (λ (e : List Entry). Puts z t mid e answer new left) pending_is p)
+      puts_before z s t new log mid left _ _ (wider is_of_pending s t t is_guarded _ _ not_pending b.seat) history_is (λ bound words there. b.seat.noted (words_stay bound words) refl there) (ap in_step b.table) (ap unreserved b.uncalled) es answer (subst (λ (e : List Entry). Puts z t mid e answer new left) pending_is p)

@@ -10,7 +10,7 @@ use Rattle.wp_model.specs.declared.entry.Entry.TheVariants.{Write, Prepare, Comm
 use Rattle.wp_judge.specs.Words.{CommitPair, delta_of, delta_bound, fits, word_of, is_pair, pair_with, pair_of, decision_if}
 use Rattle.wp_core.specs.Cache.{cache_place, cached, pair_at, with_pair}
 use Rattle.wp_core.specs.Entries.{pair_by, pending_pair}
-use Rattle.wp_core.specs.Tables.{WriteTable}
+use Rattle.wp_core.specs.Tables.{WriteState}
 use Rattle.wp_core.specs.World.{Actor}
 use Rattle.wp_core.proofs.StoresWord.{pending_next}
 use Rattle.wp_core.proofs.Tests.{same_some}
@@ -37,7 +37,7 @@ pub pending_order : (history pending : List Entry) (pair : CommitPair) → IsLeg
 pending_order history pending pair legal e = ((pending_next history pending pair legal e).2.ordered, pending_decides history pending pair e)
 
 -- it is in no word
-pub unentered : (a : Actor) (cells : ℕ) (d : WriteTable) → KnowsWords a (length d.history) → IsUnentered a cells d
+pub unentered : (a : Actor) (cells : ℕ) (d : WriteState) → KnowsWords a (length d.history) → IsUnentered a cells d
 unentered a cells d k pair is = (
   k.bound,
   k.words,
@@ -52,7 +52,7 @@ decided_as found p c e = by_test (found.number == p) e
     by_test true h = same_some found.decision c h
     by_test false h = let no : None ≡ Some c = h in absurd (cc)
 
-pub uncached : (a : Actor) (d : WriteTable) (k : KnowsWords a (length d.history)) (pair : CommitPair) → pending_pair d.history d.pending ≡ Some pair → cached k.words pair.number ≢ Some pair.decision
+pub uncached : (a : Actor) (d : WriteState) (k : KnowsWords a (length d.history)) (pair : CommitPair) → pending_pair d.history d.pending ≡ Some pair → cached k.words pair.number ≢ Some pair.decision
 uncached a d k pair is there = by_pair (pair_at k.words (cache_place (length k.words) pair.number)) refl there
   where
     by_pair : (o : Option CommitPair) → pair_at k.words (cache_place (length k.words) pair.number) ≡ o → decision_if pair.number o ≡ Some pair.decision → ⊥

@@ -13,7 +13,7 @@ use Rattle.wp_core.specs.Conditions.{HasTransaction}
 use Rattle.wp_core.specs.Entries.{transaction_of, changes_under}
 use Rattle.wp_core.specs.Lists.{IsIn}
 use Rattle.wp_core.specs.Sound.Views.{guarded_by}
-use Rattle.wp_core.specs.Tables.{WriteTable, writes}
+use Rattle.wp_core.specs.Tables.{WriteState, writes}
 use Rattle.wp_core.specs.Views.{Fact, words_stay, none_waits, log_failed}
 use Rattle.wp_core.specs.World.{Transaction, Actor, Participant, World}
 use Rattle.wp_rule.specs.Knows.{KnowsHeld, Noted}
@@ -71,7 +71,7 @@ pub record HasCleared {D : Type 0} (z : SharedState D) (old : SeatState) (histor
   pub stands : Stands z seat world
   pub same_by : seat.by ≡ old.by
   pub participant : seat.knows.participant ≡ old.knows.participant
-  pub table : WriteTable
+  pub table : WriteState
   pub held : seat.knows.held ≡ writes table ∷ []
   pub history_is : table.history ≡ history
   pub pending_is : table.pending ≡ entries
@@ -117,7 +117,7 @@ abbrev pub IsUncalled : LogState → LogState → Type 0
 IsUncalled log left = left.wal ≡ record log.wal { reserved = left.wal.reserved }
 
 -- since then a crash left the history in the log's segment, or it and these entries, whole
-abbrev pub LeavesAll : WalState → WriteTable → List Entry → List Moment → Type 0
+abbrev pub LeavesAll : WalState → WriteState → List Entry → List Moment → Type 0
 LeavesAll wal table entries moments =
     (c : Cut) → IsCut table.history c → c.base ≡ table.segment.base → Passes (Leaves (IsLogOrNextAt wal.id table.segment.place c entries)) wal.moments moments
 

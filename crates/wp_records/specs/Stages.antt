@@ -11,7 +11,7 @@ use Rattle.wp_core.specs.Conditions.{IsPrepare}
 use Rattle.wp_core.specs.Effects.{with_entry, publishes}
 use Rattle.wp_core.specs.Entries.{next_of, pair_by, transaction_of}
 use Rattle.wp_core.specs.Sound.Views.{guarded_by}
-use Rattle.wp_core.specs.Tables.{WriteTable, writes}
+use Rattle.wp_core.specs.Tables.{WriteState, writes}
 use Rattle.wp_core.specs.Views.{Fact, versions_in_memory, versions_nowhere, number_in_heap, number_not_in_heap, pair_delayed, pair_not_delayed, none_waits, words_stay, log_failed}
 use Rattle.wp_core.specs.World.{Actor}
 use Rattle.wp_rule.specs.Knows.{Noted}
@@ -73,7 +73,7 @@ may_end history entry fact = is_guarded fact || is_about (transaction_of history
 -- ---- the seat
 
 -- the seat with this log as the one table that it holds
-abbrev pub holding : WriteTable → SeatState → SeatState
+abbrev pub holding : WriteState → SeatState → SeatState
 holding t s = record s { knows = record s.knows { held = writes t ∷ [] } }
 
 -- the seat, to which the log call for these entries failed
@@ -95,13 +95,13 @@ pub record HoldsPending {D : Type 0} (z : SharedState D) (s : SeatState) (log : 
 -- ---- before the log call
 
 -- something is pending that is not logged, and the log is not closed
-pub record IsUnlogged (d : WriteTable) : Type 0 where
+pub record IsUnlogged (d : WriteState) : Type 0 where
   pub some : d.pending ≢ []
   pub unlogged : d.logged ≡ false
   pub running : d.closed ≡ false
 
 -- a Prepare is pending
-abbrev pub HasPrepare : WriteTable → Type 0
+abbrev pub HasPrepare : WriteState → Type 0
 HasPrepare d = (name : List ℕ) × (batch : List Change) × (others : List Entry) × (d.pending ≡ Prepare name batch ∷ others)
 
 -- the entries were made pending, and nothing of them is anywhere
@@ -116,7 +116,7 @@ pub record IsBegun {D : Type 0} (z : SharedState D) (old : SeatState) (log : Log
 
 -- what the log call needs of the record: its versions are in memory, the number of a Prepare is in the heap, and its pairs may be
 -- entered
-pub record IsReadied (a : Actor) (cells : ℕ) (d : WriteTable) : Type 0 where
+pub record IsReadied (a : Actor) (cells : ℕ) (d : WriteState) : Type 0 where
   pub versions : Noted a versions_in_memory
   pub number : is_prepare (next_of d.pending) ≡ true → Noted a number_in_heap
   pub pairs : AreReady a cells (length d.history) (ways_of cells (suc (length d.history)) d.pending)
@@ -138,7 +138,7 @@ Logs z old log (Err LogFault) new left = IsNotPut z old log [] true (failing log
 -- ---- behind it
 
 -- the first of the pending entries may join the history, as far as its word and its number may be there
-pub record IsNext (a : Actor) (d : WriteTable) (entry : Entry) (others : List Entry) : Type 0 where
+pub record IsNext (a : Actor) (d : WriteState) (entry : Entry) (others : List Entry) : Type 0 where
   pub pending : d.pending ≡ entry ∷ others
   pub logged : d.logged ≡ true
   pub legal : IsLegal (d.history ++ entry ∷ [])
@@ -147,7 +147,7 @@ pub record IsNext (a : Actor) (d : WriteTable) (entry : Entry) (others : List En
 
 -- the number of a Prepare is in the heap, and the pair of any other entry is in its word, or where it fits none it is a delayed commit,
 -- and the bound has come to its number
-pub record IsInPlace (a : Actor) (cells : ℕ) (d : WriteTable) (entry : Entry) : Type 0 where
+pub record IsInPlace (a : Actor) (cells : ℕ) (d : WriteState) (entry : Entry) : Type 0 where
   pub number : IsPrepare entry → Noted a number_in_heap
   pub pair : (pair : CommitPair) → pair_by (suc (length d.history)) entry ≡ Some pair → (bound : ℕ) × (words : List ℕ) × Noted a (words_stay bound words) × IsEntered a cells words (way_of cells (Some pair)) × ((fits cells pair ≡ false) → pair.number ≤ bound)
 
@@ -176,7 +176,7 @@ rest_of [] = []
 rest_of (entry ∷ entries) = entries
 
 -- the pending entries, which are logged, may join the history one after another, as far as the versions of the first may be nowhere
-pub record MayJoin (a : Actor) (cells : ℕ) (d : WriteTable) : Type 0 where
+pub record MayJoin (a : Actor) (cells : ℕ) (d : WriteState) : Type 0 where
   pub logged : d.logged ≡ true
   pub may : MayPut a d.history d.pending
   pub number : is_prepare (next_of d.pending) ≡ true → Noted a number_in_heap

@@ -11,7 +11,7 @@ ghost use Rattle.wp_core.specs.Tables.{writes, prepared};
 ghost use Rattle.wp_core.specs.Tables as table;
 ghost use Rattle.wp_core.specs.Views.{versions_in_memory, versions_nowhere, number_in_heap, number_not_in_heap, pair_not_delayed};
 ghost use Rattle.wp_rule.specs.Knows.{HasNoVersions, Noted};
-ghost use Rattle.wp_shared.specs.Stock.{store_table};
+ghost use Rattle.wp_shared.specs.Stock.{store_state};
 ghost use Rattle.wp_shared.specs.Notes.{GoesOn, DelayedFlagTells};
 ghost use Rattle.wp_records.specs.Stages.{is_of_versions, is_of_number, is_of_stage, HoldsPending, HasPrepare, IsBegun};
 ghost use Rattle.wp_records.specs.Writing.{HoldsWrite};
@@ -46,7 +46,7 @@ pub(crate) fn make_pending<D: Disk + Drop>(
     let Ok(()) = log.reserve(entries.into_entries()) else {
         return Err(AllocError);
     };
-    log.shows_told();
+    log.devices_agree();
     store.make_about::<Brand, Log<D>>(seat, log);
     Ok(())
 }
@@ -72,10 +72,10 @@ fn insert_versions<D: Disk + Drop>(
     batch: &Batch,
 ) -> Result<(), AllocError>
     requires seat { seat.old.table ≡ store.now.table }
-    requires held { seat.old.knows.held ≡ table.store (store_table stock.old) ∷ writes log.now.table ∷ [] }
+    requires held { seat.old.knows.held ≡ table.store (store_state stock.old) ∷ writes log.now.table ∷ [] }
     requires entry { (entry : Entry) × (next_of log.now.table.pending ≡ Some entry) × (changes_in entry ≡ batch.now) }
-    requires nowhere { IsNowhere log.now.table (store_table stock.old) }
-    ensures seat { GoesOn is_of_versions (table.store (store_table stock.new) ∷ writes log.now.table ∷ []) seat.old.turns seat.old seat.new }
+    requires nowhere { IsNowhere log.now.table (store_state stock.old) }
+    ensures seat { GoesOn is_of_versions (table.store (store_state stock.new) ∷ writes log.now.table ∷ []) seat.old.turns seat.old seat.new }
     ensures ok { OnOk result (Noted seat.new.knows versions_in_memory) }
 {
     stock.insert(log.published() + 1, batch)?;
@@ -115,8 +115,8 @@ fn remove_versions<D: Disk + Drop>(
     stock: &mut Stock,
 )
     requires seat { seat.old.table ≡ store.now.table }
-    requires held { seat.old.knows.held ≡ table.store (store_table stock.old) ∷ writes log.now.table ∷ [] }
-    ensures seat { GoesOn is_of_versions (table.store (store_table stock.new) ∷ writes log.now.table ∷ []) seat.old.turns seat.old seat.new }
+    requires held { seat.old.knows.held ≡ table.store (store_state stock.old) ∷ writes log.now.table ∷ [] }
+    ensures seat { GoesOn is_of_versions (table.store (store_state stock.new) ∷ writes log.now.table ∷ []) seat.old.turns seat.old seat.new }
     ensures nowhere { Noted seat.new.knows versions_nowhere }
 {
     store.shows_world(seat);

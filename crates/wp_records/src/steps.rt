@@ -3,7 +3,7 @@ ghost use Rattle.std.specs.Prelude.{◌≡◌, true, false, [], ◌∷◌, ◌++
 ghost use Rattle.wp_model.specs.History.{is_prepare};
 ghost use Rattle.wp_core.specs.Entries.{next_of};
 ghost use Rattle.wp_core.specs.Lists.{IsIn};
-ghost use Rattle.wp_core.specs.Tables.{WriteTable, writes};
+ghost use Rattle.wp_core.specs.Tables.{WriteState, writes};
 ghost use Rattle.wp_core.specs.Views.{versions_in_memory, number_not_in_heap};
 ghost use Rattle.wp_rule.specs.Knows.{HasNoVersions};
 ghost use Rattle.wp_shared.specs.Notes.{noting};
@@ -18,7 +18,7 @@ use wp_shared::{Log, Seat, Shared};
 /// The pending record was appended to the log.
 pub(crate) fn log_pending<D: Disk + Drop>(store: &Shared<D>, seat: &mut Seat<D>, log: &Log<D>)
     requires seat { seat.old.table ≡ store.now.table }
-    requires held { (t : WriteTable) × (seat.old.knows.held ≡ writes t ∷ []) × IsUnlogged t × (log.now.table ≡ record t { logged = true; log = t.log ++ t.pending }) }
+    requires held { (t : WriteState) × (seat.old.knows.held ≡ writes t ∷ []) × IsUnlogged t × (log.now.table ≡ record t { logged = true; log = t.log ++ t.pending }) }
     ensures { seat.new ≡ holding log.now.table seat.old }
 {
     store.make::<Brand>(seat);
@@ -27,7 +27,7 @@ pub(crate) fn log_pending<D: Disk + Drop>(store: &Shared<D>, seat: &mut Seat<D>,
 /// The append of the pending record failed, and the log is closed.
 pub(crate) fn close_log<D: Disk + Drop>(store: &Shared<D>, seat: &mut Seat<D>, log: &Log<D>)
     requires seat { seat.old.table ≡ store.now.table }
-    requires held { (t : WriteTable) × (seat.old.knows.held ≡ writes t ∷ []) × IsUnlogged t × (log.now.table ≡ record t { closed = true; failed = t.pending }) }
+    requires held { (t : WriteState) × (seat.old.knows.held ≡ writes t ∷ []) × IsUnlogged t × (log.now.table ≡ record t { closed = true; failed = t.pending }) }
     ensures { seat.new ≡ holding log.now.table (as_failed log.now.table.failed seat.old) }
 {
     store.make::<Brand>(seat);

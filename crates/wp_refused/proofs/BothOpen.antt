@@ -8,8 +8,8 @@ use Rattle.wp_gatelog.specs.Left.{IsLeftAtRest}
 use Rattle.wp_gatelog.specs.Opening.{KeepsLog, SurvivesThrough}
 use Rattle.wp_gatelog.specs.Spelling.{IsUnmade}
 use Rattle.wp_gatelog.proofs.MomentLemmas.{known_map}
-use Rattle.wp_ledger.specs.History.{RoomyHistory}
-use Rattle.wp_ledger.specs.Outline.{cut_in}
+use Rattle.wp_history.specs.History.{RoomyHistory}
+use Rattle.wp_history.specs.Outline.{cut_in}
 use Rattle.wp_wal.specs.declared.error.WalError.{WalError}
 use Rattle.wp_wal.specs.Opening.{IsOpenedLog, IsUnopenedLog, KeepsWal}
 use Rattle.wp_wal.specs.Wal.{LeavesCut, StoresCut, WalState}
@@ -22,7 +22,7 @@ use Rattle.wp_refused.specs.declared.bad.Bad.TheVariants as bad
 use Rattle.wp_refused.specs.declared.error.OpenError.{OpenError}
 use Rattle.wp_refused.specs.declared.error.OpenError.TheVariants as open_error
 use Rattle.wp_refused.specs.Damage.{IsOther}
-use Rattle.wp_devices.specs.Devices.{DevicesLeft}
+use Rattle.wp_contents.specs.Devices.{DevicesLeft}
 use Rattle.wp_refused.specs.Parts.{LogsOpened, stored_cut}
 use Rattle.wp_refused.specs.Refused.{WasRead, WereRead, of_manifest, of_log, of_place, of_ids, of_edit, IsLogReason, IsManifestReason, IsLogLeft, IsManifestLeft, IsManifestSeen, AreLeft, at_manifest, at_log, at_new_manifest, at_place, at_ids, IsRefusedFrom}
 use Rattle.wp_refused.specs.Tables.{IsStoreCause, LeavesSynced}

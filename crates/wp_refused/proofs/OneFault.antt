@@ -18,8 +18,8 @@ use Rattle.wp_table.specs.File.{HasTables}
 use Rattle.wp_refused.specs.declared.bad.Bad.{Bad}
 use Rattle.wp_refused.specs.declared.bad.Bad.TheVariants as bad
 use Rattle.wp_refused.specs.Damage.{IsLogDamaged, Finds, IsOther, IsManifestDamaged, bytes_at, end_of, standing, IsWrongUndo, UndosRestore, IsIllegalOver, IsUncovered, IsBadTable, IsFirstBadTable, IsOwnFault, IsTableNamed, IsEditDamaged, base_ahead, log_behind, in_tables, wrong_undo, uncovered, IsDamaged, in_manifest, in_log, in_ids, in_edit}
-use Rattle.wp_devices.specs.Opens.{all_in}
-use Rattle.wp_ledger.proofs.Judged.{entry_within}
+use Rattle.wp_contents.specs.Opens.{all_in}
+use Rattle.wp_history.proofs.Judged.{entry_within}
 use Rattle.wp_refused.proofs.OneWay.{SpellOneId, SpellOneIdAt, LogLaws, ManifestLaws, TableLaws, log_is_right, found_id, manifest_id, manifest_is_right, table_is_right, none_named, same_parts}
 use Rattle.wp_refused.proofs.Undos.{not_wrong, one_wrong}
 

@@ -24,7 +24,7 @@ use Rattle.wp_table.specs.Table.{SpellsTable}
 use Rattle.wp_refused.specs.declared.bad.Bad.{Bad}
 use Rattle.wp_refused.specs.declared.bad.Bad.TheVariants as bad
 use Rattle.wp_refused.specs.Damage.{IsLogDamaged, Finds, IsManifestDamaged, bytes_at, IsWrongUndo, IsBadTable, IsFirstBadTable, IsTableNamed, IsEditDamaged, base_ahead, log_behind, in_tables, wrong_undo, uncovered, IsDamaged, in_manifest, in_log, in_ids, in_edit}
-use Rattle.wp_devices.specs.Opens.{AreCovering, HasAsked, Opens, all_in, history_over, installed_of}
+use Rattle.wp_contents.specs.Opens.{AreCovering, HasAsked, Opens, all_in, history_over, installed_of}
 use Rattle.wp_refused.proofs.Undos.{no_wrong}
 
 -- ---- what the laws below say

@@ -12,7 +12,7 @@ use Rattle.wp_manifest.specs.Manifest.{ManifestState, Opened}
 use Rattle.wp_manifest.specs.Spelling as edits
 use Rattle.wp_store.specs.Store.{StoreParts}
 use Rattle.wp_table.specs.File.{HasTables}
-use Rattle.wp_devices.specs.Opens.{AllKnown, AreCovering, OpensTo, installed_of}
+use Rattle.wp_contents.specs.Opens.{AllKnown, AreCovering, OpensTo, installed_of}
 use Rattle.wp_refused.specs.Parts.{PartsOpened, stored_cut}
 
 log_spells : (state : WalState) (c : Cut) (image : List ℕ) → StoresCut state c [] → state.closed ≡ false → images state.moments image → IsLogAt state.id state.segment.place c image

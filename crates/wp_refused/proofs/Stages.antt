@@ -37,8 +37,8 @@ use Rattle.wp_refused.specs.declared.bad.Bad.TheVariants as bad
 use Rattle.wp_refused.specs.declared.error.OpenError.{OpenError}
 use Rattle.wp_refused.specs.declared.error.OpenError.TheVariants as open_error
 use Rattle.wp_refused.specs.Damage.{Finds, IsLogDamaged, IsManifestDamaged, IsTableNamed, IsEditDamaged, base_ahead, log_behind, in_tables, wrong_undo, uncovered, IsDamaged, in_manifest, in_log, in_ids, in_edit}
-use Rattle.wp_devices.specs.Devices.{DevicesLeft}
-use Rattle.wp_devices.specs.Opens.{HasAsked, Opens, AllKnown}
+use Rattle.wp_contents.specs.Devices.{DevicesLeft}
+use Rattle.wp_contents.specs.Opens.{HasAsked, Opens, AllKnown}
 use Rattle.wp_refused.specs.Refused.{WasRead, WereRead, IsCause, of_manifest, of_log, of_place, of_ids, of_edit, IsOfTables, IsOutside, IsLogReason, IsManifestReason, AreLeft, IsLeft, at_edit, at_tables, IsRefusedFrom}
 use Rattle.wp_refused.specs.Tables.{AreTablesCause, WereTables, IsStoreCause, ahead, behind, of_tables, not_legal, not_covered, LeavesSynced}
 use Rattle.wp_refused.proofs.OneWay.{unmade_spells}

@@ -5,10 +5,10 @@ use Rattle.std.proofs.lemmas.Bool.{cases_order}
 use Rattle.wp_model.specs.declared.version.Version.{Version}
 use Rattle.wp_model.specs.Legal.{IsLegal}
 use Rattle.wp_cuts.specs.Cut.{Cut}
-use Rattle.wp_ledger.specs.History.{RoomyHistory}
-use Rattle.wp_ledger.specs.Outline.{RestoreUpTo, IsFirstWrong}
+use Rattle.wp_history.specs.History.{RoomyHistory}
+use Rattle.wp_history.specs.Outline.{RestoreUpTo, IsFirstWrong}
 use Rattle.wp_refused.specs.Damage.{IsWrongUndo, standing}
-use Rattle.wp_devices.specs.Opens.{history_over}
+use Rattle.wp_contents.specs.Opens.{history_over}
 
 pub legal_restores : (h : RoomyHistory) (m : ℕ) → IsLegal h.entries → RestoreUpTo h m
 legal_restores h m legal n entry from lt there = (legal.each n entry there).restores_prior

@@ -3,8 +3,8 @@ use Rattle.std.specs.Prelude.{◌≡◌, ◌≢◌, ◌⊎◌, ℕ, ◌+◌, ◌
 use Rattle.wp_model.specs.declared.version.Version.{Version}
 use Rattle.wp_outside.specs.declared.disk.Device.TheVariants as device
 use Rattle.wp_cuts.specs.Cut.{Cut}
-use Rattle.wp_ledger.specs.History.{RoomyHistory}
-use Rattle.wp_ledger.specs.Outline.{IsFirstWrong, RestoreUpTo}
+use Rattle.wp_history.specs.History.{RoomyHistory}
+use Rattle.wp_history.specs.Outline.{IsFirstWrong, RestoreUpTo}
 use Rattle.wp_gatelog.specs.Damage.{IsBadHead, IsBadHeadAt}
 use Rattle.wp_gatelog.specs.Spelling.{IsUnmade, IsUnmadeAt}
 use Rattle.wp_wal.specs.Opening.{IsBadLog, IsIllegalLog}
@@ -21,7 +21,7 @@ use Rattle.wp_table.specs.File.{HasTables}
 use Rattle.wp_table.specs.Table.{SpellsTable}
 use Rattle.wp_refused.specs.declared.bad.Bad.{Bad}
 use Rattle.wp_refused.specs.declared.bad.Bad.TheVariants as bad
-use Rattle.wp_devices.specs.Opens.{AreCovering, history_over}
+use Rattle.wp_contents.specs.Opens.{AreCovering, history_over}
 
 -- ---- the manifest
 

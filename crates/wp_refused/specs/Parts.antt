@@ -16,8 +16,8 @@ use Rattle.wp_table.specs.File.{HasTables}
 use Rattle.wp_table.specs.Table.{IsTable}
 use Rattle.wp_merge.specs.Merge.{sorted_of}
 use Rattle.wp_store.specs.Store.{StoreParts}
-use Rattle.wp_devices.specs.Devices.{DevicesLeft}
-use Rattle.wp_devices.specs.Opens.{AreCovering, OpensTo, AllKnown, history_over, installed_of}
+use Rattle.wp_contents.specs.Devices.{DevicesLeft}
+use Rattle.wp_contents.specs.Opens.{AreCovering, OpensTo, AllKnown, history_over, installed_of}
 
 -- ---- the log and the manifest
 

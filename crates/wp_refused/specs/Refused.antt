@@ -26,8 +26,8 @@ use Rattle.wp_refused.specs.declared.bad.Bad.TheVariants as bad
 use Rattle.wp_refused.specs.declared.error.OpenError.{OpenError}
 use Rattle.wp_refused.specs.declared.error.OpenError.TheVariants as open_error
 use Rattle.wp_refused.specs.Damage.{Finds, IsOther, IsOwnFault, IsWithin, end_of}
-use Rattle.wp_devices.specs.Devices.{DevicesLeft}
-use Rattle.wp_devices.specs.Opens.{Opens, AllKnown, HasAsked}
+use Rattle.wp_contents.specs.Devices.{DevicesLeft}
+use Rattle.wp_contents.specs.Opens.{Opens, AllKnown, HasAsked}
 use Rattle.wp_refused.specs.Tables.{IsStoreCause, LeavesSynced}
 
 -- ---- what the errors of the parts mean

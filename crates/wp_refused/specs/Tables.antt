@@ -16,7 +16,7 @@ use Rattle.wp_refused.specs.declared.bad.Bad.TheVariants as bad
 use Rattle.wp_refused.specs.declared.error.OpenError.{OpenError}
 use Rattle.wp_refused.specs.declared.error.OpenError.TheVariants as open_error
 use Rattle.wp_refused.specs.Damage.{HasTableFault, IsFirstBadTable, IsOwnFault, end_of, IsWithin, UndosRestore, IsWrongUndo}
-use Rattle.wp_devices.specs.Opens.{AreCovering, all_in}
+use Rattle.wp_contents.specs.Opens.{AreCovering, all_in}
 use Rattle.wp_refused.specs.Shown.{Sometime, WereShown}
 
 -- ---- why

@@ -9,7 +9,7 @@ ghost use Rattle.wp_manifest.specs.Manifest.{ManifestState};
 ghost use Rattle.wp_store.specs.Store.{StoreParts};
 ghost use Rattle.wp_refused.specs.declared.bad.Bad.{Bad};
 ghost use Rattle.wp_refused.specs.Damage.{IsDamaged};
-ghost use Rattle.wp_devices.specs.Opens.{HasAsked, Opens, OpensTo, installed_of};
+ghost use Rattle.wp_contents.specs.Opens.{HasAsked, Opens, OpensTo, installed_of};
 ghost use Rattle.wp_refused.specs.Parts.{PartsOpened};
 
 use wp_gatelog::{bytes_are_read_in_one_way, logs_at_a_place_are_read_in_one_way};

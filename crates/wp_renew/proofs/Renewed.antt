@@ -24,21 +24,21 @@ use Rattle.wp_core.specs.Effects.{with_failed}
 use Rattle.wp_core.specs.Lists.{IsIn}
 use Rattle.wp_core.specs.Sound.Actors.{StartsWith}
 use Rattle.wp_core.specs.Sound.Pasts.{tables_due}
-use Rattle.wp_core.specs.Tables.{WriteTable, Installed, writes, installed}
+use Rattle.wp_core.specs.Tables.{WriteState, Installed, writes, installed}
 use Rattle.wp_core.specs.Views.{Event, found_edit, frozen_stay, log_failed, log_stopped, stopped, tables_failed, tables_stay}
 use Rattle.wp_core.specs.Views as event
 use Rattle.wp_core.specs.World.{Participant, World}
 use Rattle.wp_core.proofs.Tests.{none_some}
 use Rattle.wp_rule.specs.Knows.{KnowsTables, Noted}
 use Rattle.wp_rule.specs.Words.{IsAt}
-use Rattle.wp_shared.specs.Edits.{EditsState, IsEdits}
+use Rattle.wp_shared.specs.VersionSet.{VersionSetState, IsEdits}
 use Rattle.wp_shared.specs.Installs.{SurvivesInstall, in_segment}
 use Rattle.wp_shared.specs.Installs as parts
 use Rattle.wp_shared.specs.Log.{LogState, IsLog}
 use Rattle.wp_shared.specs.Parts.{EditsStand, LogStands}
 use Rattle.wp_shared.specs.Renewal.{SegmentState, IsBehind}
-use Rattle.wp_shared.specs.Calls.{GoesOnAs, remembering}
-use Rattle.wp_shared.specs.Notes.{being, no_fact, GoesOn}
+use Rattle.wp_shared.specs.Calls.{GoesOnAs, with_events}
+use Rattle.wp_shared.specs.Notes.{with_participant, no_fact, GoesOn}
 use Rattle.wp_shared.specs.Seats.{SharedState, SeatState, Stands, place_at}
 use Rattle.wp_shared.proofs.Onward.{starts_equal, starts_on, starts_same, goes_same, goes_still, holds_as, loose_none}
 use Rattle.wp_shared.proofs.Tables.{held_table}
@@ -54,7 +54,7 @@ use Rattle.wp_maint.specs.Renewing.{HasClosed, HasMoved, HasStopped, MayPutAll, 
 use Rattle.wp_maint.proofs.Found.{failed_last}
 use Rattle.wp_maint.proofs.Made.{first_held, second_held}
 use Rattle.wp_maint.proofs.Memory.{sorted_none}
-use Rattle.wp_maint.proofs.Onward.{IsSeat, flushed_free, tables_free, found_later, goes_is, goes_more, goes_remembering, held_left, seat_still, settled_being, settled_on}
+use Rattle.wp_maint.proofs.Onward.{IsSeat, flushed_free, tables_free, found_later, goes_is, goes_more, goes_remembering, held_left, seat_still, in_step_being, in_step_on}
 use Rattle.wp_maint.proofs.Throughout.{names_its_segment}
 use Rattle.wp_maint.proofs.Versions.{Found, same_sorted}
 
@@ -101,7 +101,7 @@ beside_still old new later segment same k = record {
 
 -- The seat began with both turns, s0. A stage later it is s1, with what it was then but for tables and notes; the log has the table that it
 -- had, and so have the edits.
-module _ {D : Type 0} (z : SharedState D) (s0 s1 : SeatState) (e0 e1 : EditsState) (log0 log1 : LogState) (holds : HoldsBoth z s0 e0 log0 log0.table) (running : e0.table.halted ≡ false) (open_ : log0.table.closed ≡ false) (nothing : log0.table.pending ≡ []) (coupled : log0.table.segment ≡ e0.table.last.segment) (below : log0.table.segment.base < length log0.table.history)
+module _ {D : Type 0} (z : SharedState D) (s0 s1 : SeatState) (e0 e1 : VersionSetState) (log0 log1 : LogState) (holds : HoldsBoth z s0 e0 log0 log0.table) (running : e0.table.halted ≡ false) (open_ : log0.table.closed ≡ false) (nothing : log0.table.pending ≡ []) (coupled : log0.table.segment ≡ e0.table.last.segment) (below : log0.table.segment.base < length log0.table.history)
     (seen : s0.knows.participant.seen ≡ log0.table.history) (whole : log0.table.log ≡ log0.table.history) (w0 : (w : World) × Stands z s0 w) (is_edits : IsEdits e0) (is_log : IsLog log0) (first : GoesOnAs s0 s1 s0.knows.participant) (still : s1.knows.participant ≡ s0.knows.participant) (same_table : e1.table ≡ e0.table) (same_log : log1.table ≡ log0.table) where
   log_held : IsIn (writes log0.table) s0.knows.held
   log_held = first_held s0.knows (writes log0.table) (installed e0.table ∷ []) holds.turn.held
@@ -126,8 +126,8 @@ module _ {D : Type 0} (z : SharedState D) (s0 s1 : SeatState) (e0 e1 : EditsStat
     world = w0.0;
     actor = s0.knows;
     there = w0.1;
-    held = subst (λ (d : WriteTable). IsIn (writes d) s0.knows.held) (sym here) log_held;
-    history_is = ap (λ (d : WriteTable). d.history) here ∙ sym seen;
+    held = subst (λ (d : WriteState). IsIn (writes d) s0.knows.held) (sym here) log_held;
+    history_is = ap (λ (d : WriteState). d.history) here ∙ sym seen;
     seen_is = refl;
     past_is = refl;
     made = refl;
@@ -190,19 +190,19 @@ module _ {D : Type 0} (z : SharedState D) (s0 s1 : SeatState) (e0 e1 : EditsStat
   unfolding found_of
   same_found u v grown k = λ i. found_edit (same_table i).last.flushed (same_table i).last.segment.base (same_table i).last.tables (tables_due k.world.first_edit (past_still i)) (same_table i).halted
 
-  goes_of : (u v : SeatState) (grown : StartsWith v.knows.participant.seen u.knows.participant.seen) (k : Finds z s1 u e1.table) (events : List Event) → GoesOnAs s1 u (remembering (found_by z s1 u e1.table k ∷ events) s1.knows.participant) → GoesOnAs s0 u (remembering (found_by z s0 v e0.table (found_of u v grown k) ∷ events) s0.knows.participant)
+  goes_of : (u v : SeatState) (grown : StartsWith v.knows.participant.seen u.knows.participant.seen) (k : Finds z s1 u e1.table) (events : List Event) → GoesOnAs s1 u (with_events (found_by z s1 u e1.table k ∷ events) s1.knows.participant) → GoesOnAs s0 u (with_events (found_by z s0 v e0.table (found_of u v grown k) ∷ events) s0.knows.participant)
   goes_of u v grown k events second =
-      subst (λ (x : Event). GoesOnAs s0 u (remembering (x ∷ events) s0.knows.participant)) (same_found u v grown k)
+      subst (λ (x : Event). GoesOnAs s0 u (with_events (x ∷ events) s0.knows.participant)) (same_found u v grown k)
       (goes_more s0 s1 u s0.knows.participant first (found_by z s1 u e1.table k ∷ events) second)
 
   -- ---- a device of the tables failed
 
-  module _ (Survives : EditsState → EditsState → Type 0) (asked : Option InstalledEdit) (u : SeatState) (left : EditsState) (now : LogState) (k : HasStopped z Survives s1 e1 log1 asked u left now)
+  module _ (Survives : VersionSetState → VersionSetState → Type 0) (asked : Option InstalledEdit) (u : SeatState) (left : VersionSetState) (now : LogState) (k : HasStopped z Survives s1 e1 log1 asked u left now)
       (edit : InstalledEdit) (made : (place : ℕ) × (edit ≡ after_renewal s0.knows.participant.seen place e0.table.last)) (is_asked : IfSome asked (λ next. next ≡ edit)) (survived : SurvivesInstall e0 left edit) (uncalled : asked ≡ None → IsUncalled e0 left) (beside : SurvivesBeside log0 now (segment_of asked)) (fault : HasFault e0 left) where
     broken_seen : u.knows.participant.seen ≡ s0.knows.participant.seen
     broken_seen = ap (λ (x : SeatState). x.knows.participant.seen) k.goes.same ∙ seen_still
 
-    broken_goes : GoesOnAs s0 u (remembering (found_by z s0 u e0.table (found_of u u (starts_same u.knows.participant.seen) k.found) ∷ tables_failed e1.table.last asked ∷ log_stopped ∷ []) s0.knows.participant)
+    broken_goes : GoesOnAs s0 u (with_events (found_by z s0 u e0.table (found_of u u (starts_same u.knows.participant.seen) k.found) ∷ tables_failed e1.table.last asked ∷ log_stopped ∷ []) s0.knows.participant)
     broken_goes =
         goes_of u u (starts_same u.knows.participant.seen) k.found (tables_failed e1.table.last asked ∷ log_stopped ∷ [])
         (goes_remembering s1 u (found_by z s1 u e1.table k.found ∷ tables_failed e1.table.last asked ∷ log_stopped ∷ []) no_fact (writes now.table ∷ installed left.table ∷ []) s1.turns k.goes loose_none)
@@ -229,20 +229,20 @@ module _ {D : Type 0} (z : SharedState D) (s0 s1 : SeatState) (e0 e1 : EditsStat
         of_store = holds.log_of_store;
         still_of_store = k.holds.log_of_store;
         before_is = refl;
-        after_is = ap (λ (l : LogState). l.table) k.stopped ∙ ap (λ (t : WriteTable). record t { next = segment_of asked; closed = true; stopped = true }) same_log;
+        after_is = ap (λ (l : LogState). l.table) k.stopped ∙ ap (λ (t : WriteState). record t { next = segment_of asked; closed = true; stopped = true }) same_log;
         log = is_log;
         still_log = k.still_log;
         so = (beside, names_its_segment e0 left edit is_edits running survived log0 now is_log open_ whole coupled asked is_asked uncalled beside);
       };
-      goes_on = subst (λ (t : Installed). GoesOnAs s0 u (remembering (found_by z s0 u e0.table (found_of u u (starts_same u.knows.participant.seen) k.found) ∷ tables_failed t.last asked ∷ log_stopped ∷ []) s0.knows.participant)) same_table broken_goes;
+      goes_on = subst (λ (t : Installed). GoesOnAs s0 u (with_events (found_by z s0 u e0.table (found_of u u (starts_same u.knows.participant.seen) k.found) ∷ tables_failed t.last asked ∷ log_stopped ∷ []) s0.knows.participant)) same_table broken_goes;
     }
 
     pub broken_holding : KnowsTables s1.knows e1.table.last → RenewsHolding (GoesOnAs s0 u) z s0 e0 log0 (Err TableFault) u left now
-    broken_holding settled = record {
+    broken_holding in_step = record {
       holds = k.holds;
-      nothing = ap (λ (l : LogState). l.table.pending) k.stopped ∙ ap (λ (t : WriteTable). t.pending) same_log ∙ nothing;
-      settled = subst (KnowsTables u.knows) (sym (ap (λ (x : Installed). x.last) k.table ∙ failed_last e1.table asked))
-          (settled_on (being (remembering (found_by z s1 u e1.table k.found ∷ tables_failed e1.table.last asked ∷ log_stopped ∷ []) s1.knows.participant) s1) u no_fact (writes now.table ∷ installed left.table ∷ []) s1.turns refl (λ versions floor. refl) k.goes e1.table.last settled);
+      nothing = ap (λ (l : LogState). l.table.pending) k.stopped ∙ ap (λ (t : WriteState). t.pending) same_log ∙ nothing;
+      in_step = subst (KnowsTables u.knows) (sym (ap (λ (x : Installed). x.last) k.table ∙ failed_last e1.table asked))
+          (in_step_on (with_participant (with_events (found_by z s1 u e1.table k.found ∷ tables_failed e1.table.last asked ∷ log_stopped ∷ []) s1.knows.participant) s1) u no_fact (writes now.table ∷ installed left.table ∷ []) s1.turns refl (λ versions floor. refl) k.goes e1.table.last in_step);
       says = broken_off;
       manifest = tt;
       untouched = tt;
@@ -263,7 +263,7 @@ module _ {D : Type 0} (z : SharedState D) (s0 s1 : SeatState) (e0 e1 : EditsStat
     pub covered_next : IsEditCovered s1.knows.participant.seen (in_segment versions written.segment.base written.segment e1.table.last)
     covered_next = subst (λ (x : List Entry × InstalledEdit). IsEditCovered x.0 x.1) (λ i. (sym seen_still i, sym is_next i)) (frozen.covered written.segment.place)
 
-    module _ (u : SeatState) (left : EditsState) (now : LogState) (k : HasMoved z s1 e1 log1 written ready versions u left now) (behind : IsBehind e0 e1 versions written.segment.base ready) (beside : SurvivesBeside log0 log1 (Some written.segment)) where
+    module _ (u : SeatState) (left : VersionSetState) (now : LogState) (k : HasMoved z s1 e1 log1 written ready versions u left now) (behind : IsBehind e0 e1 versions written.segment.base ready) (beside : SurvivesBeside log0 log1 (Some written.segment)) where
       moved_table : left.table ≡ record e0.table { last = next }
       moved_table = k.table ∙ (λ i. record (same_table i) { last = is_next i })
 
@@ -275,14 +275,14 @@ module _ {D : Type 0} (z : SharedState D) (s0 s1 : SeatState) (e0 e1 : EditsStat
 
       -- what is frozen may be let go
       pub may_put_all : (table : Option (List Version)) → table ≡ one_part versions → KnowsTables s1.knows e1.table.last → (Noted s0.knows (frozen_stay f.at (versions_of f)) → Noted s1.knows (frozen_stay f.at (versions_of f))) → MayPutAll u.knows left.table f table
-      may_put_all table table_is settled noted = record {
+      may_put_all table table_is in_step noted = record {
         flushed = ap (λ (x : Installed). x.last.flushed) moved_table ∙ sym frozen.at;
         table_is = table_is ∙ ap one_part versions_are;
         low = frozen.flushed;
         frozen = k.goes.noted (frozen_stay f.at (versions_of f)) refl (noted frozen.noted);
         before = e1.table.last;
-        floor = settled.1.0;
-        named = k.goes.noted (tables_stay e1.table.last.versions settled.1.0) refl settled.1.1;
+        floor = in_step.1.0;
+        named = k.goes.noted (tables_stay e1.table.last.versions in_step.1.0) refl in_step.1.1;
         tables = frozen.tables ∙ ap (λ (x : Installed). x.last.versions) (sym same_table);
         room = frozen.room;
         last = ap (λ (x : Installed). x.last.versions) k.table ∙ ap (λ (vs : List Version). (parts.with_some vs e1.table.last).versions) versions_are;
@@ -314,7 +314,7 @@ module _ {D : Type 0} (z : SharedState D) (s0 s1 : SeatState) (e0 e1 : EditsStat
         last_table : left.table ≡ record e0.table { last = last_edit }
         last_table = moved_table ∙ ap (λ (x : InstalledEdit). record e0.table { last = x }) is_last
 
-        moved_goes : GoesOnAs s0 u (remembering (found_by z s0 v e0.table found ∷ event.renewed left.table.last ∷ []) s0.knows.participant)
+        moved_goes : GoesOnAs s0 u (with_events (found_by z s0 v e0.table found ∷ event.renewed left.table.last ∷ []) s0.knows.participant)
         unfolding found found_of
         moved_goes =
             goes_of u v grown k.found (event.renewed left.table.last ∷ [])
@@ -356,19 +356,19 @@ module _ {D : Type 0} (z : SharedState D) (s0 s1 : SeatState) (e0 e1 : EditsStat
             log = is_log;
             still_log = k.still_log;
             so = (
-              subst (λ (x : Segment). SurvivesBeside log0 now (Some x)) (sym (ap (λ (t : WriteTable). t.segment) k.log_table)) moved_beside,
+              subst (λ (x : Segment). SurvivesBeside log0 now (Some x)) (sym (ap (λ (t : WriteState). t.segment) k.log_table)) moved_beside,
               names_its_segment e0 left last_edit is_edits running (subst (SurvivesInstall e0 left) is_last moved_survived) log0 now is_log open_ whole coupled (Some last_edit) refl (λ none. absurd (none_some (Some last_edit) last_edit none refl))
                   (subst (λ (x : Segment). SurvivesBeside log0 now (Some x)) base_is moved_beside),
             );
           };
-          goes_on = subst (λ (x : InstalledEdit). GoesOnAs s0 v (remembering (found_by z s0 v e0.table found ∷ event.renewed x ∷ []) s0.knows.participant)) (ap (λ (t : Installed). t.last) last_table) (goes_still s0 u v (remembering (found_by z s0 v e0.table found ∷ event.renewed left.table.last ∷ []) s0.knows.participant) moved_goes put_goes);
+          goes_on = subst (λ (x : InstalledEdit). GoesOnAs s0 v (with_events (found_by z s0 v e0.table found ∷ event.renewed x ∷ []) s0.knows.participant)) (ap (λ (t : Installed). t.last) last_table) (goes_still s0 u v (with_events (found_by z s0 v e0.table found ∷ event.renewed left.table.last ∷ []) s0.knows.participant) moved_goes put_goes);
         }
 
         pub renewed_holding : KnowsTables v.knows left.table.last → RenewsHolding (GoesOnAs s0 v) z s0 e0 log0 (Ok done) v left now
-        renewed_holding settled = record {
+        renewed_holding in_step = record {
           holds = record { turn = holds_as k.holds.turn put refl; edits_of_store = k.holds.edits_of_store; log_of_store = k.holds.log_of_store };
-          nothing = ap (λ (t : WriteTable). t.pending) k.log_table ∙ ap (λ (t : WriteTable). t.pending) same_log ∙ nothing;
-          settled = settled;
+          nothing = ap (λ (t : WriteState). t.pending) k.log_table ∙ ap (λ (t : WriteState). t.pending) same_log ∙ nothing;
+          in_step = in_step;
           says = renewed;
           manifest = tt;
           untouched = tt;
@@ -380,7 +380,7 @@ module _ {D : Type 0} (z : SharedState D) (s0 s1 : SeatState) (e0 e1 : EditsStat
     closed_seen : u.knows.participant.seen ≡ s0.knows.participant.seen
     closed_seen = ap (λ (x : SeatState). x.knows.participant.seen) k.goes.same ∙ seen_still
 
-    closed_goes : GoesOnAs s0 u (remembering (found_by z s0 u e0.table (found_of u u (starts_same u.knows.participant.seen) k.found) ∷ log_failed [] ∷ []) s0.knows.participant)
+    closed_goes : GoesOnAs s0 u (with_events (found_by z s0 u e0.table (found_of u u (starts_same u.knows.participant.seen) k.found) ∷ log_failed [] ∷ []) s0.knows.participant)
     closed_goes =
         goes_of u u (starts_same u.knows.participant.seen) k.found (log_failed [] ∷ [])
         (goes_remembering s1 u (found_by z s1 u e1.table k.found ∷ log_failed [] ∷ []) no_fact (writes now.table ∷ installed e1.table ∷ []) s1.turns k.goes loose_none)
@@ -392,15 +392,15 @@ module _ {D : Type 0} (z : SharedState D) (s0 s1 : SeatState) (e0 e1 : EditsStat
       left = held_left z s0 u u e0.table k.stands (seat_still s0 u _ closed_goes) closed_seen refl (subst (λ (t : Installed). IsIn (installed t) u.knows.held) same_table (second_held u.knows (writes now.table) (installed e1.table) k.holds.turn.held));
       tables = record { before = e0; after = e1; of_store = holds.edits_of_store; still_of_store = holds.edits_of_store ∙ ap Some (sym left_first); before_is = refl; after_is = same_table; edits = is_edits; still_edits = is_left; so = manifest };
       survives = (after_renewal s0.knows.participant.seen place e0.table.last, (place, ap (λ (h : List Entry). after_renewal h place e0.table.last) (sym closed_seen)), survived);
-      log = record { before = log0; after = now; of_store = holds.log_of_store; still_of_store = k.holds.log_of_store; before_is = refl; after_is = k.table ∙ ap (λ (t : WriteTable). record t { closed = true }) same_log; log = is_log; still_log = k.still_log; so = (rose, beside, names_its_segment e0 e1 (after_renewal s0.knows.participant.seen place e0.table.last) is_edits running survived log0 now is_log open_ whole coupled None tt (λ none. manifest) beside) };
+      log = record { before = log0; after = now; of_store = holds.log_of_store; still_of_store = k.holds.log_of_store; before_is = refl; after_is = k.table ∙ ap (λ (t : WriteState). record t { closed = true }) same_log; log = is_log; still_log = k.still_log; so = (rose, beside, names_its_segment e0 e1 (after_renewal s0.knows.participant.seen place e0.table.last) is_edits running survived log0 now is_log open_ whole coupled None tt (λ none. manifest) beside) };
       goes_on = closed_goes;
     }
 
     pub closed_holding : KnowsTables s1.knows e1.table.last → RenewsHolding (GoesOnAs s0 u) z s0 e0 log0 (Err LogFault) u e1 now
-    closed_holding settled = record {
+    closed_holding in_step = record {
       holds = k.holds;
-      nothing = ap (λ (t : WriteTable). t.pending) k.table ∙ ap (λ (t : WriteTable). t.pending) same_log ∙ nothing;
-      settled = settled_on (being (remembering (found_by z s1 u e1.table k.found ∷ log_failed [] ∷ []) s1.knows.participant) s1) u no_fact (writes now.table ∷ installed e1.table ∷ []) s1.turns refl (λ versions floor. refl) k.goes e1.table.last settled;
+      nothing = ap (λ (t : WriteState). t.pending) k.table ∙ ap (λ (t : WriteState). t.pending) same_log ∙ nothing;
+      in_step = in_step_on (with_participant (with_events (found_by z s1 u e1.table k.found ∷ log_failed [] ∷ []) s1.knows.participant) s1) u no_fact (writes now.table ∷ installed e1.table ∷ []) s1.turns refl (λ versions floor. refl) k.goes e1.table.last in_step;
       says = log_fault;
       manifest = (same_table, manifest);
       untouched = tt;
@@ -408,7 +408,7 @@ module _ {D : Type 0} (z : SharedState D) (s0 s1 : SeatState) (e0 e1 : EditsStat
 
 -- ---- there was nothing to renew, or the log was closed before
 
-module _ {D : Type 0} (z : SharedState D) (s : SeatState) (e : EditsState) (log : LogState) (holds : HoldsBoth z s e log log.table) (running : e.table.halted ≡ false) (seen : s.knows.participant.seen ≡ log.table.history) (nothing : log.table.pending ≡ []) (settled : KnowsTables s.knows e.table.last) (w0 : (w : World) × Stands z s w) (is_edits : IsEdits e) (edits_stand : EditsStand e) (is_log : IsLog log) (log_stands : LogStands log) where
+module _ {D : Type 0} (z : SharedState D) (s : SeatState) (e : VersionSetState) (log : LogState) (holds : HoldsBoth z s e log log.table) (running : e.table.halted ≡ false) (seen : s.knows.participant.seen ≡ log.table.history) (nothing : log.table.pending ≡ []) (in_step : KnowsTables s.knows e.table.last) (w0 : (w : World) × Stands z s w) (is_edits : IsEdits e) (edits_stand : EditsStand e) (is_log : IsLog log) (log_stands : LogStands log) where
   log_stays : LogBecame z log.table log.table IsSameLog
   log_stays = record { before = log; after = log; of_store = holds.log_of_store; still_of_store = holds.log_of_store; before_is = refl; after_is = refl; log = is_log; still_log = is_log; so = (refl, log_stands) }
 
@@ -429,15 +429,15 @@ module _ {D : Type 0} (z : SharedState D) (s : SeatState) (e : EditsState) (log 
     world = w0.0;
     actor = s.knows;
     there = w0.1;
-    held = subst (λ (d : WriteTable). IsIn (writes d) s.knows.held) (sym both_here.1) log_there;
-    history_is = ap (λ (d : WriteTable). d.history) both_here.1 ∙ sym seen;
+    held = subst (λ (d : WriteState). IsIn (writes d) s.knows.held) (sym both_here.1) log_there;
+    history_is = ap (λ (d : WriteState). d.history) both_here.1 ∙ sym seen;
     seen_is = refl;
     past_is = refl;
     made = refl;
     joined = refl;
   }
 
-  module _ (u : SeatState) (events : List Event) (is : u ≡ being (remembering events s.knows.participant) s) where
+  module _ (u : SeatState) (events : List Event) (is : u ≡ with_participant (with_events events s.knows.participant) s) where
     seen_now : u.knows.participant.seen ≡ s.knows.participant.seen
     seen_now = ap (λ (x : SeatState). x.knows.participant.seen) is
 
@@ -466,7 +466,7 @@ module _ {D : Type 0} (z : SharedState D) (s : SeatState) (e : EditsState) (log 
       let events : List Event = found_by z s u e.table k.found ∷ [] in record {
         holds = holds_now u events k.is;
         nothing = nothing;
-        settled = settled_being z s u events k.is e.table.last settled;
+        in_step = in_step_being z s u events k.is e.table.last in_step;
         says = record {
           found = k.found;
           running = running;
@@ -483,17 +483,17 @@ module _ {D : Type 0} (z : SharedState D) (s : SeatState) (e : EditsState) (log 
         untouched = (refl, refl);
       }
 
-  pub closed_before : (t u : SeatState) (n : ℕ) → Remembers z s e.table t → n ≡ length log.table.history → u ≡ being (remembering (stopped n ∷ []) t.knows.participant) t → log.table.closed ≡ true → RenewsHolding (GoesOnAs s u) z s e log (Err (Stopped n)) u e log
+  pub closed_before : (t u : SeatState) (n : ℕ) → Remembers z s e.table t → n ≡ length log.table.history → u ≡ with_participant (with_events (stopped n ∷ []) t.knows.participant) t → log.table.closed ≡ true → RenewsHolding (GoesOnAs s u) z s e log (Err (Stopped n)) u e log
   closed_before t u n k counted is closed =
       let found : Finds z s u e.table = found_later z s t u e.table (starts_equal t.knows.participant.seen u.knows.participant.seen (ap (λ (x : SeatState). x.knows.participant.seen) is)) k.found in
       let events : List Event = found_by z s u e.table found ∷ stopped n ∷ [] in
-      let both : u ≡ being (remembering events s.knows.participant) s =
+      let both : u ≡ with_participant (with_events events s.knows.participant) s =
       is
-      ∙ ap (λ (x : SeatState). being (remembering (stopped n ∷ []) x.knows.participant) x) k.is
-      ∙ ap (λ (past : List Event). being (record s.knows.participant { past = past }) s) (append_assoc s.knows.participant.past (found_by z s u e.table found ∷ []) (stopped n ∷ [])) in record {
+      ∙ ap (λ (x : SeatState). with_participant (with_events (stopped n ∷ []) x.knows.participant) x) k.is
+      ∙ ap (λ (past : List Event). with_participant (record s.knows.participant { past = past }) s) (append_assoc s.knows.participant.past (found_by z s u e.table found ∷ []) (stopped n ∷ [])) in record {
         holds = holds_now u events both;
         nothing = nothing;
-        settled = settled_being z s u events both e.table.last settled;
+        in_step = in_step_being z s u events both e.table.last in_step;
         says = record {
           found = found;
           running = running;

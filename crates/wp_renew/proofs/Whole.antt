@@ -14,12 +14,12 @@ use Rattle.wp_table.specs.Walk.{BuiltTable}
 use Rattle.wp_tableset.specs.Install.{IsReadyEdit, built_of}
 use Rattle.wp_tableset.specs.Set.{TableSetState}
 use Rattle.wp_tableset.specs.declared.error.TableSetError.TheVariants.{Fault}
-use Rattle.wp_core.specs.Tables.{WriteTable, Installed, writes, installed}
+use Rattle.wp_core.specs.Tables.{WriteState, Installed, writes, installed}
 use Rattle.wp_core.specs.Views.{frozen_stay}
 use Rattle.wp_core.specs.World.{Participant, World}
 use Rattle.wp_core.proofs.Tests.{none_some}
 use Rattle.wp_rule.specs.Knows.{KnowsTables}
-use Rattle.wp_shared.specs.Edits.{EditsState, IsEdits}
+use Rattle.wp_shared.specs.VersionSet.{VersionSetState, IsEdits}
 use Rattle.wp_shared.specs.Installs.{HadCause, SurvivesInstall, in_segment}
 use Rattle.wp_shared.specs.Log.{LogState, IsLog, with_next}
 use Rattle.wp_shared.specs.Parts.{EditsStand, LogStands}
@@ -37,7 +37,7 @@ use Rattle.wp_maint.specs.Flush.{versions_of}
 use Rattle.wp_maint.specs.Holding.{is_of_tables}
 use Rattle.wp_maint.specs.Renewal.{HasFrozenAll, HoldsBoth}
 use Rattle.wp_maint.specs.Renewing.{HasMoved, HasPlace, HasSegment, IsTold, LeavesSegment, MayPutAll, RenewsHolding, SurvivesEdit, WritesTable}
-use Rattle.wp_maint.proofs.Onward.{goes_more, renews_so, settled_on}
+use Rattle.wp_maint.proofs.Onward.{goes_more, renews_so, in_step_on}
 use Rattle.wp_maint.proofs.Throughout.{names_still}
 use Rattle.wp_renew.proofs.Renewed.{beside_still, broken_holding, closed_holding, covered_next, is_next, may_put_all, no_memory, renewed_holding, same_renewal}
 use Rattle.wp_stages.proofs.StageLemmas.{beside_same}
@@ -56,11 +56,11 @@ fault_since old mid new same later (inl rose) = inl (subst (λ (n : ℕ). Rose n
 fault_since old mid new same later (inr rose) = inr (omega (arith, rose, later))
 
 -- the seat and the log are as they were
-pub at_start : {D : Type 0} (z : SharedState D) (s u : SeatState) (e : EditsState) (log now : LogState) → u ≡ s → now ≡ log → HoldsBoth z u e now now.table → HoldsBoth z s e log log.table
+pub at_start : {D : Type 0} (z : SharedState D) (s u : SeatState) (e : VersionSetState) (log now : LogState) → u ≡ s → now ≡ log → HoldsBoth z u e now now.table → HoldsBoth z s e log log.table
 at_start z s u e log now same same_log holds = subst (λ (x : SeatState × LogState). HoldsBoth z x.0 e x.1 x.1.table) (λ i. (same i, same_log i)) holds
 
-module _ {D : Type 0} (z : SharedState D) (s0 : SeatState) (e0 : EditsState) (log0 : LogState) (holds : HoldsBoth z s0 e0 log0 log0.table) (running : e0.table.halted ≡ false) (open_ : log0.table.closed ≡ false) (nothing : log0.table.pending ≡ []) (coupled : e0.table.last.segment ≡ log0.table.segment) (below : log0.table.segment.base < length log0.table.history)
-    (seen : s0.knows.participant.seen ≡ log0.table.history) (whole : log0.table.log ≡ log0.table.history) (w0 : (w : World) × Stands z s0 w) (settled : KnowsTables s0.knows e0.table.last) (is_edits : IsEdits e0) (is_log : IsLog log0)
+module _ {D : Type 0} (z : SharedState D) (s0 : SeatState) (e0 : VersionSetState) (log0 : LogState) (holds : HoldsBoth z s0 e0 log0 log0.table) (running : e0.table.halted ≡ false) (open_ : log0.table.closed ≡ false) (nothing : log0.table.pending ≡ []) (coupled : e0.table.last.segment ≡ log0.table.segment) (below : log0.table.segment.base < length log0.table.history)
+    (seen : s0.knows.participant.seen ≡ log0.table.history) (whole : log0.table.log ≡ log0.table.history) (w0 : (w : World) × Stands z s0 w) (in_step : KnowsTables s0.knows e0.table.last) (is_edits : IsEdits e0) (is_log : IsLog log0)
     (f : Frozen) (versions : List Version) (versions_are : versions ≡ versions_of f) (frozen : HasFrozenAll s0.knows e0.table f) (ready : SegmentState) (is_ready : IsReadyEdit e0.set versions f.at ready.edit) where
   begun : GoesOnAs s0 s0 s0.knows.participant
   begun = goes_none s0
@@ -68,12 +68,12 @@ module _ {D : Type 0} (z : SharedState D) (s0 : SeatState) (e0 : EditsState) (lo
   -- ---- the table was not written
 
   -- a crash meanwhile left the tables that there were
-  while_written : (left : EditsState) → SurvivesWrite e0 left ready → SurvivesInstall e0 left (after_renewal s0.knows.participant.seen 0 e0.table.last)
+  while_written : (left : VersionSetState) → SurvivesWrite e0 left ready → SurvivesInstall e0 left (after_renewal s0.knows.participant.seen 0 e0.table.last)
   while_written left survives =
       let segment : Segment = record { place = 0; base = f.at } in
       subst (SurvivesInstall e0 left) (same_renewal s0.knows.participant.seen e0.table.last versions segment (versions_are ∙ frozen.versions) frozen.at) (survives versions f.at is_ready segment)
 
-  pub not_written : (T : Type 0) (why : RenewError) (u : SeatState) (left : EditsState) (now : LogState) (behind : SegmentState) → WritesTable {T = T} z s0 e0 log0 ready (Err why) u left now behind → RenewsHolding (GoesOnAs s0 u) z s0 e0 log0 (Err why) u left now
+  pub not_written : (T : Type 0) (why : RenewError) (u : SeatState) (left : VersionSetState) (now : LogState) (behind : SegmentState) → WritesTable {T = T} z s0 e0 log0 ready (Err why) u left now behind → RenewsHolding (GoesOnAs s0 u) z s0 e0 log0 (Err why) u left now
   not_written T Memory u left now behind wrong = absurd wrong
   not_written T (TablesStopped n) u left now behind wrong = absurd wrong
   not_written T (Stopped n) u left now behind wrong = absurd wrong
@@ -82,11 +82,11 @@ module _ {D : Type 0} (z : SharedState D) (s0 : SeatState) (e0 : EditsState) (lo
   not_written T TableFault u left now behind k =
       broken_holding z s0 s0 e0 e0 log0 log0 holds running open_ nothing (sym coupled) below seen whole w0 is_edits is_log begun refl refl refl (λ before after. SurvivesWrite before after ready × IsUncalled before after) None u left now k
       (after_renewal s0.knows.participant.seen 0 e0.table.last) (0, refl) tt (while_written left k.survives.0) (λ none. k.survives.1)
-      (beside_same log0 now (ap (λ (l : LogState). l.wal.moments) k.stopped)) k.fault settled
+      (beside_same log0 now (ap (λ (l : LogState). l.wal.moments) k.stopped)) k.fault in_step
 
   -- ---- the table is written, if there is one
 
-  module _ (e1 : EditsState) (behind : SegmentState) (same_table : e1.table ≡ e0.table) (wrote : IsWritten e0 e1 ready behind) (holds1 : HoldsBoth z s0 e1 log0 log0.table) where
+  module _ (e1 : VersionSetState) (behind : SegmentState) (same_table : e1.table ≡ e0.table) (wrote : IsWritten e0 e1 ready behind) (holds1 : HoldsBoth z s0 e1 log0 log0.table) where
     its : IsBehind e0 e1 versions f.at behind
     its = wrote versions f.at is_ready
 
@@ -94,7 +94,7 @@ module _ {D : Type 0} (z : SharedState D) (s0 : SeatState) (e0 : EditsState) (lo
     same_manifest = ap (λ (s : TableSetState). s.manifest) its.written.changed
 
     settled1 : KnowsTables s0.knows e1.table.last
-    settled1 = subst (λ (t : Installed). KnowsTables s0.knows t.last) (sym same_table) settled
+    settled1 = subst (λ (t : Installed). KnowsTables s0.knows t.last) (sym same_table) in_step
 
     -- the segment was not
     pub not_placed : (why : RenewError) (u : SeatState) (now : LogState) → IsEdits e1 → SurvivesWrite e0 e1 ready → HasPlace z s0 e1 log0 (Err why) u now → RenewsHolding (GoesOnAs s0 u) z s0 e0 log0 (Err why) u e1 now
@@ -110,7 +110,7 @@ module _ {D : Type 0} (z : SharedState D) (s0 : SeatState) (e0 : EditsState) (lo
 
     module _ (written : WrittenState) (u : SeatState) (log1 : LogState) (p : HasSegment z s0 e1 log0 written u log1) where
       based : written.segment.base ≡ length log0.table.history
-      based = p.waits.based ∙ ap (λ (t : WriteTable). length t.history) p.table
+      based = p.waits.based ∙ ap (λ (t : WriteState). length t.history) p.table
 
       at_base : written.segment.base ≡ f.at
       at_base = based ∙ ap (λ (h : List Entry). length h) (sym seen) ∙ sym frozen.at
@@ -125,19 +125,19 @@ module _ {D : Type 0} (z : SharedState D) (s0 : SeatState) (e0 : EditsState) (lo
       its_now = subst (λ (n : ℕ). IsBehind e0 e1 versions n behind) (sym at_base) its
 
       settled2 : KnowsTables u.knows e1.table.last
-      settled2 = settled_on s0 u no_fact (writes (with_next log1.table written.segment) ∷ installed e1.table ∷ []) s0.turns refl (λ vs floor. refl) p.goes e1.table.last settled1
+      settled2 = in_step_on s0 u no_fact (writes (with_next log1.table written.segment) ∷ installed e1.table ∷ []) s0.turns refl (λ vs floor. refl) p.goes e1.table.last settled1
 
       pub told : log0.table.next ≡ None → IsTold z u e1 log1 written behind versions
       told none_next = record {
         holds = p.holds;
         running = ap (λ (t : Installed). t.halted) same_table ∙ running;
-        unclosed = ap (λ (t : WriteTable). t.closed) p.table ∙ open_;
-        nothing = ap (λ (t : WriteTable). t.pending) p.table ∙ nothing;
-        none_next = ap (λ (t : WriteTable). t.next) p.table ∙ none_next;
-        seen = ap (λ (x : SeatState). x.knows.participant.seen) p.goes.same ∙ seen ∙ ap (λ (t : WriteTable). t.history) (sym p.table);
+        unclosed = ap (λ (t : WriteState). t.closed) p.table ∙ open_;
+        nothing = ap (λ (t : WriteState). t.pending) p.table ∙ nothing;
+        none_next = ap (λ (t : WriteState). t.next) p.table ∙ none_next;
+        seen = ap (λ (x : SeatState). x.knows.participant.seen) p.goes.same ∙ seen ∙ ap (λ (t : WriteState). t.history) (sym p.table);
         waits = p.waits;
-        apart = λ is. p.survives.beside.1 (is ∙ ap (λ (t : WriteTable). t.segment.place) p.table);
-        coupled = ap (λ (t : Installed). t.last.segment) same_table ∙ coupled ∙ ap (λ (t : WriteTable). t.segment) (sym p.table);
+        apart = λ is. p.survives.beside.1 (is ∙ ap (λ (t : WriteState). t.segment.place) p.table);
+        coupled = ap (λ (t : Installed). t.last.segment) same_table ∙ coupled ∙ ap (λ (t : WriteState). t.segment) (sym p.table);
         before = e0;
         behind = its_now;
         covered = covered_next z s0 u e0 e1 log0 log1 holds running open_ nothing (sym coupled) below seen whole w0 is_edits is_log first still same_table p.table written behind f versions versions_are frozen based;
@@ -145,7 +145,7 @@ module _ {D : Type 0} (z : SharedState D) (s0 : SeatState) (e0 : EditsState) (lo
       }
 
       -- the edit was not installed
-      pub not_installed : (T : Type 0) (why : RenewError) (v : SeatState) (left : EditsState) (now : LogState) → LeavesSegment {T = T} z u e1 log1 written behind versions (Err why) v left now → RenewsHolding (GoesOnAs s0 v) z s0 e0 log0 (Err why) v left now
+      pub not_installed : (T : Type 0) (why : RenewError) (v : SeatState) (left : VersionSetState) (now : LogState) → LeavesSegment {T = T} z u e1 log1 written behind versions (Err why) v left now → RenewsHolding (GoesOnAs s0 v) z s0 e0 log0 (Err why) v left now
       not_installed T Memory v left now wrong = absurd wrong
       not_installed T (TablesStopped n) v left now wrong = absurd wrong
       not_installed T (Stopped n) v left now wrong = absurd wrong
@@ -162,7 +162,7 @@ module _ {D : Type 0} (z : SharedState D) (s0 : SeatState) (e0 : EditsState) (lo
           (fault_since e0.set e1.set left.set (ap (λ (s : TableSetState). s.manifest.log.faults) its.written.changed) its.written.later k.fault) settled2
 
       -- it was
-      module _ (v : SeatState) (left : EditsState) (now : LogState) (k : HasMoved z u e1 log1 written behind versions v left now) where
+      module _ (v : SeatState) (left : VersionSetState) (now : LogState) (k : HasMoved z u e1 log1 written behind versions v left now) where
         pub may_put : (table : Option (List Version)) → table ≡ one_part versions → MayPutAll v.knows left.table f table
         may_put table is =
             may_put_all z s0 u e0 e1 log0 log1 holds running open_ nothing (sym coupled) below seen whole w0 is_edits is_log first still same_table p.table written behind f versions versions_are frozen based v left now k its_now p.survives table is settled2
@@ -184,16 +184,16 @@ base_below log is whole apart =
     let based : is.cut.base ≡ log.table.segment.base = is.stores.based ∙ ap (λ (g : Segment). g.base) (sym is.segment) in
     strictly log.table.segment.base (length log.table.history) (subst (λ (x : ℕ × List Entry). x.0 ≤ length x.1) (λ i. (based i, whole i)) cut_base) apart
 
-module _ {D : Type 0} (z : SharedState D) (s t u : SeatState) (e : EditsState) (log : LogState) (goes : GoesOn no_fact s.knows.held s.turns s t) where
+module _ {D : Type 0} (z : SharedState D) (s t u : SeatState) (e : VersionSetState) (log : LogState) (goes : GoesOn no_fact s.knows.held s.turns s t) where
   so_far : GoesOnAs s t s.knows.participant
   so_far = goes_same s t no_fact s.knows.held s.turns loose_none goes
 
   -- what the stages behind it leave, since the beginning
-  pub held_later : (left : EditsState) (now : LogState) (result : Result Renewed RenewError) → RenewsHolding (GoesOnAs t u) z t e log result u left now → RenewsHolding (GoesOnAs s u) z s e log result u left now
+  pub held_later : (left : VersionSetState) (now : LogState) (result : Result Renewed RenewError) → RenewsHolding (GoesOnAs t u) z t e log result u left now → RenewsHolding (GoesOnAs s u) z s e log result u left now
   held_later left now result k = record {
     holds = k.holds;
     nothing = k.nothing;
-    settled = k.settled;
+    in_step = k.in_step;
     says = renews_so (GoesOnAs t u) (GoesOnAs s u) z s t u u e.table (so_far.same_by, so_far.made, so_far.joined) (ap (λ (p : Participant). p.past) so_far.participant) so_far.seen refl (starts_same u.knows.participant.seen)
         (λ events h. goes_more s t u s.knows.participant so_far events h) (λ h. goes_still s t u s.knows.participant so_far h) refl result k.says;
     manifest = k.manifest;
@@ -213,16 +213,16 @@ module _ {D : Type 0} (z : SharedState D) (s t u : SeatState) (e : EditsState) (
     log_of_store = holds.log_of_store;
   }
 
-  pub settled_still : KnowsTables s.knows e.table.last → KnowsTables t.knows e.table.last
-  settled_still settled = settled_on s t no_fact s.knows.held s.turns refl (λ vs floor. refl) goes e.table.last settled
+  pub in_step_still : KnowsTables s.knows e.table.last → KnowsTables t.knows e.table.last
+  in_step_still in_step = in_step_on s t no_fact s.knows.held s.turns refl (λ vs floor. refl) goes e.table.last in_step
 
   -- there is no memory for it
   pub no_room : HoldsBoth z s e log log.table → e.table.halted ≡ false → log.table.closed ≡ false → log.table.pending ≡ [] → e.table.last.segment ≡ log.table.segment → log.table.segment.base < length log.table.history → s.knows.participant.seen ≡ log.table.history → log.table.log ≡ log.table.history
       → (w : World) × Stands z s w → IsEdits e → IsLog log → EditsStand e → LogStands log → KnowsTables s.knows e.table.last → RenewsHolding (GoesOnAs s t) z s e log (Err Memory) t e log
-  no_room holds running open_ nothing coupled below seen whole w0 is_edits is_log edits_stand log_stands settled = record {
+  no_room holds running open_ nothing coupled below seen whole w0 is_edits is_log edits_stand log_stands in_step = record {
     holds = holds_both_still holds;
     nothing = nothing;
-    settled = settled_still settled;
+    in_step = in_step_still in_step;
     says = no_memory z s s e e log log holds running open_ nothing (sym coupled) below seen whole w0 is_edits is_log (goes_none s) refl refl refl t so_far (ap (λ (x : SeatState). x.knows.participant.seen) goes.same)
         edits_stand log_stands (names_still e log (is_edits.none_failed (is_edits.running running)) open_ whole (sym coupled) edits_stand.0 log_stands.0);
     manifest = (refl, refl);

@@ -8,9 +8,9 @@ ghost use Rattle.wp_core.specs.Tables.{installed, writes};
 ghost use Rattle.wp_core.specs.Tables as table;
 ghost use Rattle.wp_core.specs.World.{World};
 ghost use Rattle.wp_rule.specs.Knows.{KnowsTables};
-ghost use Rattle.wp_shared.specs.Edits.{IsEdits};
+ghost use Rattle.wp_shared.specs.VersionSet.{IsEdits};
 ghost use Rattle.wp_shared.specs.Log.{IsLog};
-ghost use Rattle.wp_shared.specs.Stock.{store_table};
+ghost use Rattle.wp_shared.specs.Stock.{store_state};
 ghost use Rattle.wp_shared.specs.Calls.{GoesOnAs};
 ghost use Rattle.wp_shared.specs.Notes.{no_fact, GoesOn};
 ghost use Rattle.wp_shared.specs.Seats.{IsFree, Stands};
@@ -26,7 +26,7 @@ use std::sync::{Arc, Wait};
 use wp_maint::{Frozen, RenewError, Renewed, find_edits, move_versions, note_frozen};
 use wp_model::{Seq, Versions};
 use wp_outside::Disk;
-use wp_shared::{Edits, Log, ReadySegment, Seat, Shared, Stock};
+use wp_shared::{Log, ReadySegment, Seat, Shared, Stock, VersionSet};
 use wp_stages::{find_closed, install, write_segment, write_table};
 use wp_table::Table;
 use wp_wal::NewSegment;
@@ -43,8 +43,8 @@ struct Room {
 
 /// Freezes what stands in memory, also where nothing does.
 fn freeze(stock: &mut Stock, at: Seq) -> Result<Frozen, AllocError>
-    ensures copied { IfOk result (HasCopiedAll (store_table stock.old) at) }
-    ensures same { store_table stock.new ≡ store_table stock.old }
+    ensures copied { IfOk result (HasCopiedAll (store_state stock.old) at) }
+    ensures same { store_state stock.new ≡ store_state stock.old }
 {
     let parts = stock.freeze()?;
     let tables = stock.copy_tables()?;
@@ -55,17 +55,17 @@ fn freeze(stock: &mut Stock, at: Seq) -> Result<Frozen, AllocError>
 fn freeze_in<D: Disk + Drop>(
     store: &Shared<D>,
     seat: &mut Seat<D>,
-    edits: &Edits<D>,
+    edits: &VersionSet<D>,
     log: &Log<D>,
     stock: &mut Stock,
 ) -> Result<Frozen, AllocError>
-    requires holds { HoldsTurn store.now seat.old (table.store (store_table stock.old)) (writes log.now.table ∷ installed edits.now.table ∷ []) (0 ∷ 5 ∷ []) }
+    requires holds { HoldsTurn store.now seat.old (table.store (store_state stock.old)) (writes log.now.table ∷ installed edits.now.table ∷ []) (0 ∷ 5 ∷ []) }
     requires pending { log.now.table.pending ≡ [] }
     requires seen { seat.old.knows.participant.seen ≡ log.now.table.history }
-    requires settled { KnowsTables seat.old.knows edits.now.table.last }
+    requires in_step { KnowsTables seat.old.knows edits.now.table.last }
     requires stands { (w : World) × Stands store.now seat.old w }
     ensures goes { GoesOn no_fact seat.old.knows.held seat.old.turns seat.old seat.new }
-    ensures same { store_table stock.new ≡ store_table stock.old }
+    ensures same { store_state stock.new ≡ store_state stock.old }
     ensures frozen { IfOk result (HasFrozenAll seat.new.knows edits.now.table) }
 {
     let frozen = freeze(stock, log.published())?;
@@ -78,11 +78,11 @@ fn freeze_held<D: Disk + Drop, R: Wait>(
     store: &Shared<D>,
     rt: &R,
     seat: &mut Seat<D>,
-    edits: &Edits<D>,
+    edits: &VersionSet<D>,
     log: &Log<D>,
 ) -> Result<Frozen, AllocError>
     requires holds { HoldsBoth store.now seat.old edits.now log.now log.now.table }
-    requires settled { KnowsTables seat.old.knows edits.now.table.last }
+    requires in_step { KnowsTables seat.old.knows edits.now.table.last }
     requires seen { (seat.old.knows.participant.seen ≡ log.now.table.history) × (log.now.table.pending ≡ []) }
     ensures goes { GoesOn no_fact seat.old.knows.held seat.old.turns seat.old seat.new }
     ensures frozen { IfOk result (HasFrozenAll seat.new.knows edits.now.table) }
@@ -99,11 +99,11 @@ fn take_room<D: Disk + Drop, R: Wait>(
     store: &Shared<D>,
     rt: &R,
     seat: &mut Seat<D>,
-    edits: &Edits<D>,
+    edits: &VersionSet<D>,
     log: &Log<D>,
 ) -> Result<Room, AllocError>
     requires holds { HoldsBoth store.now seat.old edits.now log.now log.now.table }
-    requires settled { KnowsTables seat.old.knows edits.now.table.last }
+    requires in_step { KnowsTables seat.old.knows edits.now.table.last }
     requires seen { (seat.old.knows.participant.seen ≡ log.now.table.history) × (log.now.table.pending ≡ []) }
     requires whole { undone_last log.now.table.history ≡ None }
     ensures goes { GoesOn no_fact seat.old.knows.held seat.old.turns seat.old seat.new }
@@ -138,7 +138,7 @@ fn put_table<D: Disk + Drop, R: Wait>(
     store: &Shared<D>,
     rt: &R,
     seat: &mut Seat<D>,
-    edits: &Edits<D>,
+    edits: &VersionSet<D>,
     log: &Log<D>,
     frozen: Frozen,
     table: Option<Arc<Table>>,
@@ -146,7 +146,7 @@ fn put_table<D: Disk + Drop, R: Wait>(
     requires holds { HoldsBoth store.now seat.old edits.now log.now log.now.table }
     requires may { MayPutAll seat.old.knows edits.now.table frozen (option_map arc_value table) }
     ensures goes { GoesOn is_of_tables (writes log.now.table ∷ installed edits.now.table ∷ []) seat.old.turns seat.old seat.new }
-    ensures settled { KnowsTables seat.new.knows edits.now.table.last }
+    ensures in_step { KnowsTables seat.new.knows edits.now.table.last }
 {
     let Frozen {
         at,
@@ -165,7 +165,7 @@ fn renew_in<D: Disk + Drop, R: Wait>(
     store: &Shared<D>,
     rt: &R,
     seat: &mut Seat<D>,
-    edits: &mut Edits<D>,
+    edits: &mut VersionSet<D>,
     log: &mut Log<D>,
     room: Room,
 ) -> Result<Renewed, RenewError>
@@ -174,7 +174,7 @@ fn renew_in<D: Disk + Drop, R: Wait>(
     requires coupled { edits.old.table.last.segment ≡ log.old.table.segment }
     requires below { log.old.table.segment.base < length log.old.table.history }
     requires whole { undone_last log.old.table.history ≡ None }
-    requires settled { KnowsTables seat.old.knows edits.old.table.last }
+    requires in_step { KnowsTables seat.old.knows edits.old.table.last }
     requires seen { (seat.old.knows.participant.seen ≡ log.old.table.history) × (log.old.table.log ≡ log.old.table.history) }
     requires room { HasRoom seat.old.knows edits.old log.old room.frozen room.versions room.edit room.segment }
     requires edits { IsEdits edits.old }
@@ -204,7 +204,7 @@ fn renew_in<D: Disk + Drop, R: Wait>(
 fn shows_segment<D: Disk + Drop>(
     store: &Shared<D>,
     seat: &mut Seat<D>,
-    edits: &Edits<D>,
+    edits: &VersionSet<D>,
     log: &Log<D>,
 )
     requires { HoldsBoth store.now seat.old edits.now log.now log.now.table }
@@ -213,7 +213,7 @@ fn shows_segment<D: Disk + Drop>(
     ensures whole { log.now.table.pending ≡ [] → (undone_last log.now.table.history ≡ None) × (log.now.table.log ≡ log.now.table.history) }
 {
     let _ = edits;
-    log.shows_told();
+    log.devices_agree();
     store.shows_world(seat);
 }
 
@@ -222,18 +222,18 @@ fn renew_held<D: Disk + Drop, R: Wait>(
     store: &Shared<D>,
     rt: &R,
     seat: &mut Seat<D>,
-    edits: &mut Edits<D>,
+    edits: &mut VersionSet<D>,
     log: &mut Log<D>,
 ) -> Result<Renewed, RenewError>
     requires holds { HoldsBoth store.now seat.old edits.old log.old log.old.table }
     requires running { edits.old.table.halted ≡ false }
     requires seen { (seat.old.knows.participant.seen ≡ log.old.table.history) × (log.old.table.pending ≡ []) }
-    requires settled { KnowsTables seat.old.knows edits.old.table.last }
+    requires in_step { KnowsTables seat.old.knows edits.old.table.last }
     requires stands { (w : World) × Stands store.now seat.old w }
     ensures { RenewsHolding (GoesOnAs seat.old seat.new) store.now seat.old edits.old log.old result seat.new edits.new log.new }
 {
-    edits.shows_told();
-    log.shows_told();
+    edits.devices_agree();
+    log.devices_agree();
     if log.is_closed() {
         find_edits(store, seat);
         find_closed(store, seat, log);
@@ -253,12 +253,12 @@ fn renew_tables<D: Disk + Drop, R: Wait>(
     store: &Shared<D>,
     rt: &R,
     seat: &mut Seat<D>,
-    edits: &mut Edits<D>,
+    edits: &mut VersionSet<D>,
 ) -> Result<Renewed, RenewError>
     requires holds { HoldsEdits store.now seat.old edits.old }
-    requires settled { KnowsTables seat.old.knows edits.old.table.last }
+    requires in_step { KnowsTables seat.old.knows edits.old.table.last }
     ensures holds { HoldsEdits store.now seat.new edits.new }
-    ensures settled { KnowsTables seat.new.knows edits.new.table.last }
+    ensures in_step { KnowsTables seat.new.knows edits.new.table.last }
     ensures says { RenewsFrom (GoesOnAs seat.old seat.new) store.now seat.old edits.old.table result seat.new }
     ensures manifest { IfErr result (UnlessDeviceFault (AreLeft edits.old edits.new)) }
     ensures untouched { IfErr result (BeforeDevices (edits.new ≡ edits.old)) }
@@ -269,7 +269,7 @@ fn renew_tables<D: Disk + Drop, R: Wait>(
     }
     let mut log = store.take_log(rt, seat);
     let result = renew_held(store, rt, seat, edits, &mut log);
-    log.shows_told();
+    log.devices_agree();
     store.give_turn::<Log<D>>(seat, log);
     result
 }
@@ -294,10 +294,10 @@ pub fn renew<D: Disk + Drop, R: Wait>(
     ensures before_install { IfErr result (λ why. IsRefusedBefore (LeavesOnce store.now seat.old seat.new) seat.old why seat.new) }
     ensures untouched { IfErr result (BeforeDevices (KeepsOnce store.now seat.old seat.new)) }
 {
-    let mut edits = store.take_turn::<Edits<D>, R>(rt, seat);
-    edits.shows_told();
+    let mut edits = store.take_turn::<VersionSet<D>, R>(rt, seat);
+    edits.devices_agree();
     let result = renew_tables(store, rt, seat, &mut edits);
-    edits.shows_told();
-    store.give_turn::<Edits<D>>(seat, edits);
+    edits.devices_agree();
+    store.give_turn::<VersionSet<D>>(seat, edits);
     result
 }

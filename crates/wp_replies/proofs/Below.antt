@@ -14,7 +14,7 @@ use Rattle.wp_model.specs.Decision.{entry_version, decision_in, is_by, is_commit
 use Rattle.wp_model.specs.Flushed.{InstalledEdit}
 use Rattle.wp_model.specs.History.{entry_at, prepared_name, prepared_batch, is_changed, value_at}
 use Rattle.wp_model.proofs.Entries.{entry_at_past}
-use Rattle.wp_history.proofs.Counting.{entry_version_old}
+use Rattle.wp_history_laws.proofs.Counting.{entry_version_old}
 use Rattle.wp_merge.specs.Merge.{sorted_of}
 use Rattle.wp_keep.specs.Keep.{retained_of}
 use Rattle.wp_keep.proofs.Tests.{retained_same}
@@ -31,7 +31,7 @@ use Rattle.wp_replies.specs.declared.client.Txn.TheVariants.{Idle, Open, Prepare
 use Rattle.wp_replies.specs.Alike.{HasEach, IsLike, TxnIsFrom, AreFrom, IsFrom}
 use Rattle.wp_replies.specs.Client.{Client, number_of}
 use Rattle.wp_replies.specs.Progress.{Progress}
-use Rattle.wp_replies.specs.Replies.{Evidence, IsFresh, IsLoggedAt, WasUndecided, HadKey, IsBusy, IsNameTaken, OwnSays, PreparesAt, CommitsAt, RollsBackAt, IsFlushCount, IsCompactionCount, HasNothingToFlush, FailsFlush, FailsCompaction, FailsRenewal, Row}
+use Rattle.wp_replies.specs.Replies.{Evidence, IsFresh, IsLoggedAt, WasUndecided, HadKey, IsBusy, IsNameTaken, OwnSays, PreparesAt, CommitsAt, RollsBackAt, IsFlushCount, IsCompactionCount, HasNothingToFlush, FailsFlush, FailsCompaction, FailsRenewal, Condition}
 use Rattle.wp_replies.specs.Tables.{unflushed, after_flush, listed, retained, after_compaction, with_table, after_renewal}
 
 -- ---- snapshots
@@ -234,47 +234,47 @@ module _ (e : Evidence) (other : List Entry) (k : IsLike e other) where
   snapshot_from : (client : Client) (label : List ℕ) (n : ℕ) → AreFrom e.base client.snapshots → number_of client.snapshots label ≡ Some n → e.base ≤ n
   snapshot_from client label n from is = subst (λ (o : Option ℕ). IfSome o (λ m. e.base ≤ m)) is (number_from e.base client.snapshots label from)
 
-  pub row_other : (progress : Progress) (client : Client) (p : ℕ) (c : Command) (r : Reply) → IsFrom e.base e.history progress.last client → Row e progress client p c r → Row with_other progress client p c r
-  row_other progress client p c (reply.Full published most) f k = (k.0, fresh_other progress.last published k.1, k.2, k.3)
-  row_other progress client p c reply.FaultLog f k = k
-  row_other progress client p c (reply.Stopped n) f k = (k.0, fresh_other progress.last n k.1, k.2)
-  row_other progress client p (command.Put key value) (reply.Put n) f k = (k.0, logged_other progress.last n _ f.last k.1)
-  row_other progress client p (command.Put key value) reply.Held f k = k
-  row_other progress client p (command.Put key value) (reply.Busy holder) f k = busy_other progress.last key holder f.last k
-  row_other progress client p (command.Del key) (reply.Del n) f k = (k.0, logged_other progress.last n _ f.last k.1)
-  row_other progress client p (command.Del key) reply.Held f k = k
-  row_other progress client p (command.Del key) (reply.Busy holder) f k = busy_other progress.last key holder f.last k
-  row_other progress client p (command.Get key) (reply.Got value n) f k = (own_other client.txn key _ f.txn k.0, fresh_other progress.last n k.1, value_other key n _ (let low = f.last in omega (arith, low, k.1.0)) k.1.1 k.2)
-  row_other progress client p (command.Get key) (reply.Missing n) f k = (own_other client.txn key _ f.txn k.0, fresh_other progress.last n k.1, value_other key n _ (let low = f.last in omega (arith, low, k.1.0)) k.1.1 k.2)
-  row_other progress client p (command.Get key) (reply.GotOwn value) f k = own_other client.txn key _ f.txn k
-  row_other progress client p (command.Get key) reply.MissingOwn f k = own_other client.txn key _ f.txn k
-  row_other progress client p (command.GetAt key label) (reply.Got value n) f k = ((k.0.0, within_other n k.0.1), value_other key n _ (snapshot_from client label n f.snapshots k.0.0) k.0.1 k.1)
-  row_other progress client p (command.GetAt key label) (reply.Missing n) f k = ((k.0.0, within_other n k.0.1), value_other key n _ (snapshot_from client label n f.snapshots k.0.0) k.0.1 k.1)
-  row_other progress client p (command.Snap label) (reply.Snapped n) f k = fresh_other progress.last n k
-  row_other progress client p (command.Free label) reply.Freed f k = k
-  row_other progress client p (command.Begin name) reply.Begun f k = k
-  row_other progress client p (command.Begin name) (reply.Taken other) f k = (k.0, taken_other progress.last name f.last k.1)
-  row_other progress client p command.Prepare (reply.Prepared n) f k = prepares_other progress.last client.txn n f.last k
-  row_other progress client p command.Commit (reply.Committed n) f k = commits_other progress.last client.txn n f.last k
-  row_other progress client p command.Rollback reply.Dropped f k = k
-  row_other progress client p command.Rollback (reply.RolledBack n) f k = rolls_other progress.last client.txn n f.last k
-  row_other progress client p command.Leave reply.Left f k = k
-  row_other progress client p (command.Take name) reply.Took f k = was_other progress.last name p f.last k
-  row_other progress client p (command.Take name) (reply.Unknown other n) f k = (k.0, fresh_other progress.last n k.1, sym (a.whole.names name n (let low = f.last in omega (arith, low, k.1.0)) k.1.1) ∙ k.2)
-  row_other progress client p (command.Take name) (reply.InUse other) f k = k
-  row_other progress client p command.Flush (reply.Flushed n versions) f k = (fresh_other progress.last n k.0, k.1, flush_count_other n versions k.0.1 k.2)
-  row_other progress client p command.Flush reply.Nothing f k = nothing_to_flush_other progress.last k
-  row_other progress client p command.Flush (reply.Halted flushed) f k = k
-  row_other progress client p command.Flush reply.FaultTables f k = flush_fails_other progress.last f.last k
-  row_other progress client p command.Compact (reply.Compacted n versions) f k = (fresh_other progress.last n k.0, compaction_count_other n versions k.0.1 k.1)
-  row_other progress client p command.Compact reply.Nothing f k = k
-  row_other progress client p command.Compact (reply.Halted flushed) f k = k
-  row_other progress client p command.Compact reply.FaultTables f k = compaction_fails_other progress.last client f.last k
-  row_other progress client p command.Renew (reply.Renewed n carried) f k = (fresh_other progress.last n k.0, k.1, k.2 ∙ ap (λ (ns : List ℕ). length ns) (a.whole.prepares n (let low = f.last in omega (arith, low, k.0.0)) k.0.1))
-  row_other progress client p command.Renew reply.Nothing f k = k
-  row_other progress client p command.Renew (reply.Halted flushed) f k = k
-  row_other progress client p command.Renew reply.FaultTables f k = renewal_fails_other progress.last f.last k
-  row_other progress client p (command.Tell label) (reply.Told n) f k = fresh_other progress.last n k
-  row_other progress client p (command.Hear label) (reply.Heard n) f k = (fresh_other progress.last n k.0, k.1)
-  row_other progress client p (command.Hear label) (reply.Silent other) f k = k
-  row_other progress client p c r f k = absurd k
+  pub condition_other : (progress : Progress) (client : Client) (p : ℕ) (c : Command) (r : Reply) → IsFrom e.base e.history progress.last client → Condition e progress client p c r → Condition with_other progress client p c r
+  condition_other progress client p c (reply.Full published most) f k = (k.0, fresh_other progress.last published k.1, k.2, k.3)
+  condition_other progress client p c reply.FaultLog f k = k
+  condition_other progress client p c (reply.Stopped n) f k = (k.0, fresh_other progress.last n k.1, k.2)
+  condition_other progress client p (command.Put key value) (reply.Put n) f k = (k.0, logged_other progress.last n _ f.last k.1)
+  condition_other progress client p (command.Put key value) reply.Held f k = k
+  condition_other progress client p (command.Put key value) (reply.Busy holder) f k = busy_other progress.last key holder f.last k
+  condition_other progress client p (command.Del key) (reply.Del n) f k = (k.0, logged_other progress.last n _ f.last k.1)
+  condition_other progress client p (command.Del key) reply.Held f k = k
+  condition_other progress client p (command.Del key) (reply.Busy holder) f k = busy_other progress.last key holder f.last k
+  condition_other progress client p (command.Get key) (reply.Got value n) f k = (own_other client.txn key _ f.txn k.0, fresh_other progress.last n k.1, value_other key n _ (let low = f.last in omega (arith, low, k.1.0)) k.1.1 k.2)
+  condition_other progress client p (command.Get key) (reply.Missing n) f k = (own_other client.txn key _ f.txn k.0, fresh_other progress.last n k.1, value_other key n _ (let low = f.last in omega (arith, low, k.1.0)) k.1.1 k.2)
+  condition_other progress client p (command.Get key) (reply.GotOwn value) f k = own_other client.txn key _ f.txn k
+  condition_other progress client p (command.Get key) reply.MissingOwn f k = own_other client.txn key _ f.txn k
+  condition_other progress client p (command.GetAt key label) (reply.Got value n) f k = ((k.0.0, within_other n k.0.1), value_other key n _ (snapshot_from client label n f.snapshots k.0.0) k.0.1 k.1)
+  condition_other progress client p (command.GetAt key label) (reply.Missing n) f k = ((k.0.0, within_other n k.0.1), value_other key n _ (snapshot_from client label n f.snapshots k.0.0) k.0.1 k.1)
+  condition_other progress client p (command.Snap label) (reply.Snapped n) f k = fresh_other progress.last n k
+  condition_other progress client p (command.Free label) reply.Freed f k = k
+  condition_other progress client p (command.Begin name) reply.Begun f k = k
+  condition_other progress client p (command.Begin name) (reply.Taken other) f k = (k.0, taken_other progress.last name f.last k.1)
+  condition_other progress client p command.Prepare (reply.Prepared n) f k = prepares_other progress.last client.txn n f.last k
+  condition_other progress client p command.Commit (reply.Committed n) f k = commits_other progress.last client.txn n f.last k
+  condition_other progress client p command.Rollback reply.Dropped f k = k
+  condition_other progress client p command.Rollback (reply.RolledBack n) f k = rolls_other progress.last client.txn n f.last k
+  condition_other progress client p command.Leave reply.Left f k = k
+  condition_other progress client p (command.Take name) reply.Took f k = was_other progress.last name p f.last k
+  condition_other progress client p (command.Take name) (reply.Unknown other n) f k = (k.0, fresh_other progress.last n k.1, sym (a.whole.names name n (let low = f.last in omega (arith, low, k.1.0)) k.1.1) ∙ k.2)
+  condition_other progress client p (command.Take name) (reply.InUse other) f k = k
+  condition_other progress client p command.Flush (reply.Flushed n versions) f k = (fresh_other progress.last n k.0, k.1, flush_count_other n versions k.0.1 k.2)
+  condition_other progress client p command.Flush reply.Nothing f k = nothing_to_flush_other progress.last k
+  condition_other progress client p command.Flush (reply.Halted flushed) f k = k
+  condition_other progress client p command.Flush reply.FaultTables f k = flush_fails_other progress.last f.last k
+  condition_other progress client p command.Compact (reply.Compacted n versions) f k = (fresh_other progress.last n k.0, compaction_count_other n versions k.0.1 k.1)
+  condition_other progress client p command.Compact reply.Nothing f k = k
+  condition_other progress client p command.Compact (reply.Halted flushed) f k = k
+  condition_other progress client p command.Compact reply.FaultTables f k = compaction_fails_other progress.last client f.last k
+  condition_other progress client p command.Renew (reply.Renewed n carried) f k = (fresh_other progress.last n k.0, k.1, k.2 ∙ ap (λ (ns : List ℕ). length ns) (a.whole.prepares n (let low = f.last in omega (arith, low, k.0.0)) k.0.1))
+  condition_other progress client p command.Renew reply.Nothing f k = k
+  condition_other progress client p command.Renew (reply.Halted flushed) f k = k
+  condition_other progress client p command.Renew reply.FaultTables f k = renewal_fails_other progress.last f.last k
+  condition_other progress client p (command.Tell label) (reply.Told n) f k = fresh_other progress.last n k
+  condition_other progress client p (command.Hear label) (reply.Heard n) f k = (fresh_other progress.last n k.0, k.1)
+  condition_other progress client p (command.Hear label) (reply.Silent other) f k = k
+  condition_other progress client p c r f k = absurd k

@@ -18,11 +18,11 @@ use Rattle.wp_replies.specs.Alike.{IsLike, TxnIsFrom, AreFrom, IsFrom}
 use Rattle.wp_replies.specs.Client.{Client}
 use Rattle.wp_replies.specs.Kind.{fresh_in}
 use Rattle.wp_replies.specs.Progress.{Progress, progress_after}
-use Rattle.wp_replies.specs.Replies.{Evidence, refusal_of, IsFresh, PreparesAt, Row, Allows}
+use Rattle.wp_replies.specs.Replies.{Evidence, refusal_of, IsFresh, PreparesAt, Condition, Allows}
 use Rattle.wp_replies.specs.Session.{IsSession}
-use Rattle.wp_replies.proofs.Rows.{snapshots_after, unless_refused_more}
-use Rattle.wp_replies.proofs.SessionLemmas.{refusal_plain, allowed_gives, row_fresh, fresh_none, took_by_row}
-use Rattle.wp_replies.proofs.Below.{row_other}
+use Rattle.wp_replies.proofs.Conditions.{snapshots_after, unless_refused_more}
+use Rattle.wp_replies.proofs.SessionLemmas.{refusal_plain, allowed_gives, condition_fresh, fresh_none, took_by_condition}
+use Rattle.wp_replies.proofs.Below.{condition_other}
 
 pub from_same : (base : ℕ) (front back : List LabelledSnapshot) → AreFrom base front → AreFrom base back → AreFrom base (front ++ back)
 from_same base [] back f b = b
@@ -52,19 +52,19 @@ module _ (e : Evidence) (progress : Progress) (client : Client) (p : ℕ) where
   prepares_late (Open name batch) n l = l.0
   prepares_late _ n l = absurd l
 
-  row_late : (c : Command) (n : ℕ) → Row e progress client p c (reply.Prepared n) → progress.last < n
-  row_late command.Prepare n k = prepares_late client.txn n k
-  row_late c n k = absurd k
+  condition_late : (c : Command) (n : ℕ) → Condition e progress client p c (reply.Prepared n) → progress.last < n
+  condition_late command.Prepare n k = prepares_late client.txn n k
+  condition_late c n k = absurd k
 
   late : (c : Command) (n : ℕ) → Allows e progress client p c (reply.Prepared n) → progress.last < n
-  late c n allowed = allowed_gives (progress.last < n) (refusal_of client c) (reply.Prepared n) _ (refusal_plain client c) (row_late c n) (λ plain. absurd cc) allowed
+  late c n allowed = allowed_gives (progress.last < n) (refusal_of client c) (reply.Prepared n) _ (refusal_plain client c) (condition_late c n) (λ plain. absurd cc) allowed
 
   txn_from : (c : Command) (r : Reply) → IsFrom e.base e.history progress.last client → Allows e progress client p c r → TxnIsFrom e.base e.history (after_reply p client c r).txn
   txn_from (command.Put key value) reply.Held f allowed = staged_from e.base e.history client.txn (change.Put key value) f.txn
   txn_from (command.Del key) reply.Held f allowed = staged_from e.base e.history client.txn (change.Del key) f.txn
   txn_from (command.Begin name) reply.Begun f allowed = tt
   txn_from (command.Take name) reply.Took f allowed =
-      let w = took_by_row client.txn _ allowed in let low = f.last in
+      let w = took_by_condition client.txn _ allowed in let low = f.last in
       inr (w.at, omega (arith, low, w.fresh.0), w.fresh.1, w.undecided)
   txn_from c (reply.Prepared n) f allowed = let low = f.last in let after = late c n allowed in inl (omega (arith, low, after))
   txn_from c (reply.Committed n) f allowed = tt
@@ -76,14 +76,14 @@ module _ (e : Evidence) (progress : Progress) (client : Client) (p : ℕ) where
   labels_from : (c : Command) (r : Reply) → IsFrom e.base e.history progress.last client → Allows e progress client p c r → AreFrom e.base (labels_after client.snapshots c r)
   labels_from (command.Snap label) (reply.Snapped n) f allowed =
       let low = f.last in
-      let fresh = allowed_gives (IsFresh e.history progress.last n) (refusal_of client (command.Snap label)) (reply.Snapped n) _ (refusal_plain client (command.Snap label)) (λ row. row) (λ plain. absurd cc) allowed in
+      let fresh = allowed_gives (IsFresh e.history progress.last n) (refusal_of client (command.Snap label)) (reply.Snapped n) _ (refusal_plain client (command.Snap label)) (λ condition. condition) (λ plain. absurd cc) allowed in
       from_same e.base client.snapshots _ f.snapshots (omega (arith, low, fresh.0), tt)
   labels_from (command.Free label) reply.Freed f allowed = from_filter e.base _ client.snapshots f.snapshots
   labels_from c r f allowed = f.snapshots
 
   after_from : (c : Command) (r : Reply) → IsFrom e.base e.history progress.last client → Allows e progress client p c r → IsFrom e.base e.history (progress_after progress c r).last (after_reply p client c r)
   after_from c r f allowed = record {
-    last = last_from e.base progress.last e.history (fresh_in c r) f.last (allowed_gives _ (refusal_of client c) r _ (refusal_plain client c) (row_fresh e progress client p r c) (fresh_none e.history progress.last c r) allowed);
+    last = last_from e.base progress.last e.history (fresh_in c r) f.last (allowed_gives _ (refusal_of client c) r _ (refusal_plain client c) (condition_fresh e progress client p r c) (fresh_none e.history progress.last c r) allowed);
     txn = txn_from c r f allowed;
     snapshots = subst (AreFrom e.base) (sym (snapshots_after p client c r)) (labels_from c r f allowed);
   }
@@ -94,4 +94,4 @@ session_other e other like progress client [] [] f s = tt
 session_other e other like progress client [] (r ∷ rs) f s = absurd s
 session_other e other like progress client (c ∷ cs) [] f s = absurd s
 session_other e other like progress client (c ∷ cs) (r ∷ rs) f (p, allowed, rest) =
-    (p, unless_refused_more (refusal_of client c) r _ _ (row_other e other like progress client p c r f) allowed, session_other e other like (progress_after progress c r) (after_reply p client c r) cs rs (after_from e progress client p c r f allowed) rest)
+    (p, unless_refused_more (refusal_of client c) r _ _ (condition_other e other like progress client p c r f) allowed, session_other e other like (progress_after progress c r) (after_reply p client c r) cs rs (after_from e progress client p c r f allowed) rest)

@@ -36,8 +36,8 @@ use Rattle.wp_replies.specs.Session.{IsSession}
 use Rattle.wp_model.proofs.Found.{found_holder, found_named}
 use Rattle.wp_model.proofs.Entries.{undecided_within, batch_at_old}
 use Rattle.wp_replies.proofs.Within.{within_same, within_filter, within_more, number_within}
-use Rattle.wp_replies.proofs.Rows.{snapshots_after}
-use Rattle.wp_replies.proofs.Scenes.{entry_in_front, next_entry, value_in_front, Scene, front, store_in, RowOf, IsAllowed, front_size, front_fresh, say_refused, say_allowed, board_allowed, log_allowed, entries_in, one_allowed}
+use Rattle.wp_replies.proofs.Conditions.{snapshots_after}
+use Rattle.wp_replies.proofs.Scenes.{entry_in_front, next_entry, value_in_front, Scene, front, store_in, ConditionOf, IsAllowed, front_size, front_fresh, say_refused, say_allowed, board_allowed, log_allowed, entries_in, one_allowed}
 use Rattle.wp_replies.proofs.BelowAll.{from_same, from_filter}
 use Rattle.wp_replies.proofs.DueTables.{flush_allowed, compact_allowed, renew_allowed}
 
@@ -55,10 +55,10 @@ option_cases (Some a) = inr (a, refl)
 
 change_allowed : {client : Client} {c : Command} {answer : Reply} (s : Scene client c answer) (change : Change) (made : Reply)
     → plan (front s) client c ≡ change_plan (front s) client.txn change made → refusal_of client c ≡ refuses_change client.txn (key_of change) → (client.txn ≡ Idle → needed client.txn c ≡ 1) → (client.txn ≡ Idle → AsksFor client.txn c (entry.Write (change ∷ []) ∷ [])) → is_logged made ≡ true
-    → (client.txn ≡ Idle → IsLoggedAt s.evidence.history s.progress.last (next (front s)) (entry.Write (change ∷ [])) → RowOf s made)
-    → ((by : Holder) → IsBusy s.evidence s.progress.last (key_of change) by → RowOf s (reply.Busy by))
-    → (TxnIsOpen client.txn → RowOf s reply.Held) → IsAllowed s
-change_allowed {client = client} {c = c} s change made plan_is refusal_is needs asks logs row busy held = by client.txn refl
+    → (client.txn ≡ Idle → IsLoggedAt s.evidence.history s.progress.last (next (front s)) (entry.Write (change ∷ [])) → ConditionOf s made)
+    → ((by : Holder) → IsBusy s.evidence s.progress.last (key_of change) by → ConditionOf s (reply.Busy by))
+    → (TxnIsOpen client.txn → ConditionOf s reply.Held) → IsAllowed s
+change_allowed {client = client} {c = c} s change made plan_is refusal_is needs asks logs condition busy held = by client.txn refl
   where
     on_holder : (other : Plan) → plan (front s) client c ≡ busy_or (front s) (holder_of (front s) (key_of change)) other → refusal_of client c ≡ None → (plan (front s) client c ≡ other → IsAllowed s) → IsAllowed s
     on_holder other is free rest =
@@ -71,7 +71,7 @@ change_allowed {client = client} {c = c} s change made plan_is refusal_is needs 
     by Idle is =
         let asked : plan (front s) client c ≡ change_plan (front s) Idle change made = plan_is ∙ ap (λ (t : Txn). change_plan (front s) t change made) is in
         let free : refusal_of client c ≡ None = refusal_is ∙ ap (λ (t : Txn). refuses_change t (key_of change)) is in
-        on_holder (Log (entry.Write (change ∷ [])) made) asked free (λ log. one_allowed s (entry.Write (change ∷ [])) made log logs free (needs is) (asks is) (row is))
+        on_holder (Log (entry.Write (change ∷ [])) made) asked free (λ log. one_allowed s (entry.Write (change ∷ [])) made log logs free (needs is) (asks is) (condition is))
     by (Open name batch) is =
         let asked : plan (front s) client c ≡ change_plan (front s) (Open name batch) change made = plan_is ∙ ap (λ (t : Txn). change_plan (front s) t change made) is in
         let refuses : refusal_of client c ≡ refuses_change (Open name batch) (key_of change) = refusal_is ∙ ap (λ (t : Txn). refuses_change t (key_of change)) is in

@@ -27,7 +27,7 @@ use Rattle.wp_replies.specs.Replies.{LogStopped, OtherCompacted, IsKnown, refusa
 use Rattle.wp_replies.specs.Due.{unless_halted, flushed, due, IsReply}
 use Rattle.wp_replies.specs.Tables.{unflushed, listed, retained}
 use Rattle.wp_replies.proofs.Below.{joined_from}
-use Rattle.wp_replies.proofs.Scenes.{front_take, value_in_front, Scene, front, store_in, RowOf, IsAllowed, front_size, front_fresh, none_of, by_row}
+use Rattle.wp_replies.proofs.Scenes.{front_take, value_in_front, Scene, front, store_in, ConditionOf, IsAllowed, front_size, front_fresh, none_of, by_condition}
 
 append_empty : {A : Type 0} (xs ys : List A) → xs ++ ys ≡ [] → (xs ≡ []) × (ys ≡ [])
 append_empty [] ys is = (refl, is)
@@ -49,13 +49,13 @@ none_above (e ∷ front) more k (suc n) none = none_above front more k n none
 
 -- the row of a flush or a compaction where the tables take an edit, or fail
 on_tables : {client : Client} {c : Command} {answer : Reply} (s : Scene client c answer) (made : Reply) → refusal_of client c ≡ None → due (store_in s) client c ≡ unless_halted (store_in s) made
-    → calls_log made ≡ false → RowOf s made → (is_tables_fault answer ≡ true → is_installed made ≡ true → RowOf s reply.FaultTables) → (IsHaltedAt s.evidence s.given.devices.installed.flushed → RowOf s (reply.Halted s.given.devices.installed.flushed)) → IsAllowed s
-on_tables {client = client} {c = c} {answer = answer} s made free due_is unlogged row fault halted = by_row s free (by s.given.replied)
+    → calls_log made ≡ false → ConditionOf s made → (is_tables_fault answer ≡ true → is_installed made ≡ true → ConditionOf s reply.FaultTables) → (IsHaltedAt s.evidence s.given.devices.installed.flushed → ConditionOf s (reply.Halted s.given.devices.installed.flushed)) → IsAllowed s
+on_tables {client = client} {c = c} {answer = answer} s made free due_is unlogged condition fault halted = by_condition s free (by s.given.replied)
   where
-    by_halted : (r : Reply) → r ≡ unless_halted (store_in s) made → RowOf s r
+    by_halted : (r : Reply) → r ≡ unless_halted (store_in s) made → ConditionOf s r
     by_halted r is = elim (cases_Bool s.given.devices.halted) [
-      | inl failed ↦ let answered : r ≡ reply.Halted s.given.devices.installed.flushed = rw failed at is in subst (RowOf s) (sym answered) (halted (s.given.known.halted failed))
-      | inr runs ↦ let answered : r ≡ made = rw runs at is in subst (RowOf s) (sym answered) row
+      | inl failed ↦ let answered : r ≡ reply.Halted s.given.devices.installed.flushed = rw failed at is in subst (ConditionOf s) (sym answered) (halted (s.given.known.halted failed))
+      | inr runs ↦ let answered : r ≡ made = rw runs at is in subst (ConditionOf s) (sym answered) condition
     ]
 
     uncalled_log : calls_log (unless_halted (store_in s) made) ≡ true → ⊥
@@ -70,10 +70,10 @@ on_tables {client = client} {c = c} {answer = answer} s made free due_is unlogge
       | inr runs ↦ rw runs at is
     ]
 
-    by : IsReply (store_in s) client c answer → RowOf s answer
+    by : IsReply (store_in s) client c answer → ConditionOf s answer
     by (inl is) = by_halted answer (is ∙ due_is)
     by (inr (inl failed)) = absurd (uncalled_log (subst (λ (r : Reply). calls_log r ≡ true) due_is failed.1))
-    by (inr (inr failed)) = subst (RowOf s) (sym failed.0) (fault (ap is_tables_fault failed.0) (installs (subst (λ (r : Reply). is_installed r ≡ true) due_is failed.1)))
+    by (inr (inr failed)) = subst (ConditionOf s) (sym failed.0) (fault (ap is_tables_fault failed.0) (installs (subst (λ (r : Reply). is_installed r ≡ true) due_is failed.1)))
 
 -- the history at the moment of the scene
 at_front : {client : Client} {c : Command} {answer : Reply} (s : Scene client c answer) → take (length (front s)) s.evidence.history ≡ front s
@@ -199,27 +199,27 @@ renewal_fails s differs f =
     }
 
 pub renew_allowed : {client : Client} {answer : Reply} (s : Scene client command.Renew answer) → IsAllowed s
-renew_allowed {client = client} {answer = answer} s = by_row s refl (by s.given.replied)
+renew_allowed {client = client} {answer = answer} s = by_condition s refl (by s.given.replied)
   where
     -- ... above the one that the client knows of
     below : (s.given.devices.installed.segment.base == length (front s)) ≡ false → s.progress.base < length (front s)
     below differs = let risen = s.given.known.risen in let installed = base_below s differs in omega (arith, risen.0, installed)
 
-    by_due : (r : Reply) → r ≡ due (store_in s) client command.Renew → RowOf s r
+    by_due : (r : Reply) → r ≡ due (store_in s) client command.Renew → ConditionOf s r
     by_due r is = elim (cases_Bool s.given.devices.halted) [
-      | inl failed ↦ let answered : r ≡ reply.Halted s.given.devices.installed.flushed = rw failed at is in subst (RowOf s) (sym answered) (s.given.known.halted failed)
+      | inl failed ↦ let answered : r ≡ reply.Halted s.given.devices.installed.flushed = rw failed at is in subst (ConditionOf s) (sym answered) (s.given.known.halted failed)
       | inr runs ↦ elim (cases_Bool s.given.devices.stopped) [
         | inl closed ↦
             let answered : r ≡ reply.Stopped (length (front s)) = rw (runs, closed) at is in
-            subst (RowOf s) (sym answered) (inr refl, front_fresh s, subst (λ (n : ℕ). IsKnown s.evidence (LogStopped n)) (sym (front_size s)) (s.given.known.stopped closed))
+            subst (ConditionOf s) (sym answered) (inr refl, front_fresh s, subst (λ (n : ℕ). IsKnown s.evidence (LogStopped n)) (sym (front_size s)) (s.given.known.stopped closed))
         | inr open_ ↦ elim (cases_Bool (s.given.devices.installed.segment.base == length (front s))) [
           | inl same ↦
               let answered : r ≡ reply.Nothing = rw (runs, open_, same) at is in
               let at = eqb-true s.given.devices.installed.segment.base (length (front s)) same in
-              subst (RowOf s) (sym answered) (s.given.devices.installed.segment.base, s.given.known.based, omega (arith, at, (front_fresh s).0))
+              subst (ConditionOf s) (sym answered) (s.given.devices.installed.segment.base, s.given.known.based, omega (arith, at, (front_fresh s).0))
           | inr differs ↦
               let answered : r ≡ reply.Renewed (length (front s)) (length (undecided (front s))) = rw (runs, open_, differs) at is in
-              subst (RowOf s) (sym answered) (front_fresh s, below differs, ap (λ (f : List Entry). length (undecided f)) (sym (at_front s)))
+              subst (ConditionOf s) (sym answered) (front_fresh s, below differs, ap (λ (f : List Entry). length (undecided f)) (sym (at_front s)))
         ]
       ]
     ]
@@ -237,7 +237,7 @@ renew_allowed {client = client} {answer = answer} s = by_row s refl (by s.given.
       ]
     ]
 
-    by : IsReply (store_in s) client command.Renew answer → RowOf s answer
+    by : IsReply (store_in s) client command.Renew answer → ConditionOf s answer
     by (inl is) = by_due answer is
-    by (inr (inl failed)) = subst (RowOf s) (sym failed.0) (asks_none client.txn s.evidence.failed.entries (s.given.asked (ap is_fault failed.0)))
-    by (inr (inr failed)) = subst (RowOf s) (sym failed.0) (renewal_fails s (differs failed.1) (ap is_tables_fault failed.0))
+    by (inr (inl failed)) = subst (ConditionOf s) (sym failed.0) (asks_none client.txn s.evidence.failed.entries (s.given.asked (ap is_fault failed.0)))
+    by (inr (inr failed)) = subst (ConditionOf s) (sym failed.0) (renewal_fails s (differs failed.1) (ap is_tables_fault failed.0))

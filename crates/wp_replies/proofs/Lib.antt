@@ -1,5 +1,5 @@
 pub mod Within
-pub mod Rows
+pub mod Conditions
 pub mod Scenes
 pub mod DueTables
 pub mod DueLemmas

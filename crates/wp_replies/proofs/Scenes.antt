@@ -14,11 +14,11 @@ use Rattle.wp_replies.specs.Alike.{AreFrom}
 use Rattle.wp_replies.specs.Client.{Client, AreWithin}
 use Rattle.wp_replies.specs.Kind.{Kind, Logged, RolledBack, kind, is_logged, says_logged, is_fault, is_installed, says_installed, calls_log}
 use Rattle.wp_replies.specs.Progress.{Progress}
-use Rattle.wp_replies.specs.Replies.{LogStopped, Evidence, IsKnown, refusal_of, IsFresh, IsLoggedAt, TxnIsWithin, needed, AsksFor, Row, UnlessRefused, Allows}
+use Rattle.wp_replies.specs.Replies.{LogStopped, Evidence, IsKnown, refusal_of, IsFresh, IsLoggedAt, TxnIsWithin, needed, AsksFor, Condition, UnlessRefused, Allows}
 use Rattle.wp_replies.specs.Plan.{plan, asked_of, next}
 use Rattle.wp_replies.specs.Due.{Store, logged, reply_to, due, IsReply, logged_entries, taken}
 use Rattle.wp_replies.specs.Moments.{store_at, IsDueFrom}
-use Rattle.wp_replies.proofs.Rows.{slice_get_more}
+use Rattle.wp_replies.proofs.Conditions.{slice_get_more}
 
 -- ---- the history at a moment
 
@@ -74,8 +74,8 @@ abbrev pub store_in : {client : Client} {c : Command} {answer : Reply} → Scene
 store_in s = store_at s.evidence s.given.devices s.given.before
 
 -- a reply's row
-abbrev pub RowOf : {client : Client} {c : Command} {answer : Reply} → Scene client c answer → Reply → Type 0
-RowOf {client = client} {c = c} s made = Row s.evidence s.progress client (taken (front s) c) c made
+abbrev pub ConditionOf : {client : Client} {c : Command} {answer : Reply} → Scene client c answer → Reply → Type 0
+ConditionOf {client = client} {c = c} s made = Condition s.evidence s.progress client (taken (front s) c) c made
 
 abbrev pub IsAllowed : {client : Client} {c : Command} {answer : Reply} → Scene client c answer → Type 0
 IsAllowed {client = client} {c = c} {answer = answer} s = Allows s.evidence s.progress client (taken (front s) c) c answer
@@ -113,16 +113,16 @@ said : {client : Client} {c : Command} {answer : Reply} (s : Scene client c answ
 said {client = client} s made is plain = answered s made (ap (reply_to (store_in s) client) is) plain
 
 pub say_refused : {client : Client} {c : Command} {answer : Reply} (s : Scene client c answer) (made : Reply) → plan (front s) client c ≡ Say made → may_fail made ≡ false → refusal_of client c ≡ Some made → IsAllowed s
-say_refused {client = client} {c = c} {answer = answer} s made is plain refused = subst (λ (o : Option Reply). UnlessRefused o answer (RowOf s answer)) (sym refused) (said s made is plain)
+say_refused {client = client} {c = c} {answer = answer} s made is plain refused = subst (λ (o : Option Reply). UnlessRefused o answer (ConditionOf s answer)) (sym refused) (said s made is plain)
 
-pub by_row : {client : Client} {c : Command} {answer : Reply} (s : Scene client c answer) → refusal_of client c ≡ None → RowOf s answer → IsAllowed s
-by_row {client = client} {c = c} {answer = answer} s free row = subst (λ (o : Option Reply). UnlessRefused o answer (RowOf s answer)) (sym free) row
+pub by_condition : {client : Client} {c : Command} {answer : Reply} (s : Scene client c answer) → refusal_of client c ≡ None → ConditionOf s answer → IsAllowed s
+by_condition {client = client} {c = c} {answer = answer} s free condition = subst (λ (o : Option Reply). UnlessRefused o answer (ConditionOf s answer)) (sym free) condition
 
-pub say_allowed : {client : Client} {c : Command} {answer : Reply} (s : Scene client c answer) (made : Reply) → plan (front s) client c ≡ Say made → may_fail made ≡ false → refusal_of client c ≡ None → RowOf s made → IsAllowed s
-say_allowed s made is plain free row = by_row s free (subst (RowOf s) (sym (said s made is plain)) row)
+pub say_allowed : {client : Client} {c : Command} {answer : Reply} (s : Scene client c answer) (made : Reply) → plan (front s) client c ≡ Say made → may_fail made ≡ false → refusal_of client c ≡ None → ConditionOf s made → IsAllowed s
+say_allowed s made is plain free condition = by_condition s free (subst (ConditionOf s) (sym (said s made is plain)) condition)
 
-pub board_allowed : {client : Client} {c : Command} {answer : Reply} (s : Scene client c answer) (made : Reply) → due (store_in s) client c ≡ made → may_fail made ≡ false → refusal_of client c ≡ None → RowOf s made → IsAllowed s
-board_allowed s made is plain free row = by_row s free (subst (RowOf s) (sym (answered s made is plain)) row)
+pub board_allowed : {client : Client} {c : Command} {answer : Reply} (s : Scene client c answer) (made : Reply) → due (store_in s) client c ≡ made → may_fail made ≡ false → refusal_of client c ≡ None → ConditionOf s made → IsAllowed s
+board_allowed s made is plain free condition = by_condition s free (subst (ConditionOf s) (sym (answered s made is plain)) condition)
 
 -- a reply that acknowledges entries tells of no edit
 logged_or_installed : (k : Kind) → says_logged k ≡ true → says_installed k ≡ true → ⊥
@@ -142,32 +142,32 @@ logged_uninstalled store count made logs installs =
 
 -- the log takes so many entries, and the reply is this one; or it refuses them
 pub log_allowed : {client : Client} {c : Command} {answer : Reply} (s : Scene client c answer) (count : ℕ) (made : Reply) → refusal_of client c ≡ None → needed client.txn c ≡ count → 1 ≤ count → AsksFor client.txn c (asked_of (plan (front s) client c))
-    → due (store_in s) client c ≡ logged (store_in s) count made → is_logged made ≡ true → (answer ≡ made → RowOf s made) → IsAllowed s
-log_allowed {client = client} {c = c} {answer = answer} s count made free needs some asks due_is logs row = by_row s free (by s.given.replied)
+    → due (store_in s) client c ≡ logged (store_in s) count made → is_logged made ≡ true → (answer ≡ made → ConditionOf s made) → IsAllowed s
+log_allowed {client = client} {c = c} {answer = answer} s count made free needs some asks due_is logs condition = by_condition s free (by s.given.replied)
   where
     needs_some : 1 ≤ needed client.txn c
     needs_some = omega (arith, needs, some)
 
-    on_log : answer ≡ logged (store_in s) count made → RowOf s answer
+    on_log : answer ≡ logged (store_in s) count made → ConditionOf s answer
     on_log is =
         elim (cases_Bool s.given.devices.stopped) [
           | inl failed ↦
               let answered : answer ≡ reply.Stopped (length (front s)) = rw failed at is in
-              subst (RowOf s) (sym answered) (inl needs_some, front_fresh s, subst (λ (n : ℕ). IsKnown s.evidence (LogStopped n)) (sym (front_size s)) (s.given.known.stopped failed))
+              subst (ConditionOf s) (sym answered) (inl needs_some, front_fresh s, subst (λ (n : ℕ). IsKnown s.evidence (LogStopped n)) (sym (front_size s)) (s.given.known.stopped failed))
           | inr runs ↦ elim (cases_Bool (nat_lt s.given.devices.limit (length (front s) + count))) [
             | inl over ↦
                 let answered : answer ≡ reply.Full (length (front s)) s.given.devices.limit = rw (runs, over) at is in
                 let past : s.given.devices.limit < length (front s) + needed client.txn c = omega (arith, needs, ltb-true _ _ over) in
-                subst (RowOf s) (sym answered) (needs_some, front_fresh s, s.given.known.limit, past)
+                subst (ConditionOf s) (sym answered) (needs_some, front_fresh s, s.given.known.limit, past)
             | inr room ↦
                 let answered : answer ≡ made = rw (runs, room) at is in
-                subst (RowOf s) (sym answered) (row answered)
+                subst (ConditionOf s) (sym answered) (condition answered)
           ]
         ]
 
-    by : IsReply (store_in s) client c answer → RowOf s answer
+    by : IsReply (store_in s) client c answer → ConditionOf s answer
     by (inl is) = on_log (is ∙ due_is)
-    by (inr (inl fault)) = subst (RowOf s) (sym fault.0) (subst (AsksFor client.txn c) (sym (s.given.asked (ap is_fault fault.0))) asks)
+    by (inr (inl fault)) = subst (ConditionOf s) (sym fault.0) (subst (AsksFor client.txn c) (sym (s.given.asked (ap is_fault fault.0))) asks)
     by (inr (inr fault)) = let installs : is_installed (logged (store_in s) count made) ≡ true = subst (λ (r : Reply). is_installed r ≡ true) due_is fault.1 in absurd (logged_uninstalled (store_in s) count made logs installs)
 
 -- the entries of a reply that acknowledges them
@@ -178,9 +178,9 @@ entries_in {client = client} {c = c} s p made is logs answered =
 
 -- a plan with one entry
 pub one_allowed : {client : Client} {c : Command} {answer : Reply} (s : Scene client c answer) (e : Entry) (made : Reply) → plan (front s) client c ≡ Log e made → is_logged made ≡ true → refusal_of client c ≡ None → needed client.txn c ≡ 1 → AsksFor client.txn c (e ∷ [])
-    → (IsLoggedAt s.evidence.history s.progress.last (next (front s)) e → RowOf s made) → IsAllowed s
-one_allowed {client = client} {c = c} s e made is logs free needs asks row =
+    → (IsLoggedAt s.evidence.history s.progress.last (next (front s)) e → ConditionOf s made) → IsAllowed s
+one_allowed {client = client} {c = c} s e made is logs free needs asks condition =
     log_allowed s 1 made free needs (omega arith) (subst (AsksFor client.txn c) (sym (ap asked_of is)) asks) (ap (reply_to (store_in s) client) is) logs (λ answered.
     let all = entries_in s (Log e made) made is logs answered in
     let here = entry_in_front s.evidence.history s.given.after (next (front s)) e (subst (λ (xs : List Entry). entry_at xs (next (front s)) ≡ Some e) (sym all) (next_entry (front s) [] e (next (front s)) refl)) in
-    row (omega (arith, (front_fresh s).0), here))
+    condition (omega (arith, (front_fresh s).0), here))

@@ -19,10 +19,10 @@ use Rattle.wp_replies.specs.Client.{Client, number_of, has_no_room}
 use Rattle.wp_replies.specs.After.{after_reply}
 use Rattle.wp_replies.specs.Kind.{Plain, kind, number_in, number_of_kind, numbers_logged, acknowledged, fresh_in, last_after}
 use Rattle.wp_replies.specs.Progress.{Progress, progress_after}
-use Rattle.wp_replies.specs.Replies.{Evidence, refuses_change, unless_idle, unless_open, unless_prepared, if_idle, unless_labelled, refuses_label, refusal_of, IsFresh, IsLoggedAt, PreparesAt, CommitsAt, RollsBackAt, Row, UnlessRefused, Allows}
+use Rattle.wp_replies.specs.Replies.{Evidence, refuses_change, unless_idle, unless_open, unless_prepared, if_idle, unless_labelled, refuses_label, refusal_of, IsFresh, IsLoggedAt, PreparesAt, CommitsAt, RollsBackAt, Condition, UnlessRefused, Allows}
 use Rattle.wp_replies.specs.Session.{IsSession}
 use Rattle.wp_replies.specs.Laws.{ReadsValue, AreReads, NeverFall, AsksLog, AreAsked, Takes, AreLogged}
-use Rattle.wp_replies.proofs.Rows.{snapshots_after}
+use Rattle.wp_replies.proofs.Conditions.{snapshots_after}
 
 -- ---- refusals speak of no entry
 
@@ -70,17 +70,17 @@ refusal_plain client (command.Tell label) = tt
 refusal_plain client (command.Hear label) = tt
 
 -- what is true by the row, and where the reply speaks of no entry
-pub allowed_gives : (Q : Type 0) (refusal : Option Reply) (r : Reply) (row : Type 0) → IsPlainIfSome refusal → (row → Q) → (kind r ≡ Plain → Q) → UnlessRefused refusal r row → Q
-allowed_gives Q None r row plain by_row by_kind allowed = by_row allowed
-allowed_gives Q (Some refusal) r row plain by_row by_kind allowed = by_kind (ap kind allowed ∙ plain)
+pub allowed_gives : (Q : Type 0) (refusal : Option Reply) (r : Reply) (condition : Type 0) → IsPlainIfSome refusal → (condition → Q) → (kind r ≡ Plain → Q) → UnlessRefused refusal r condition → Q
+allowed_gives Q None r condition plain by_condition by_kind allowed = by_condition allowed
+allowed_gives Q (Some refusal) r condition plain by_condition by_kind allowed = by_kind (ap kind allowed ∙ plain)
 
 -- ---- reads
 
 allowed_read : (e : Evidence) (progress : Progress) (client : Client) (p : ℕ) (c : Command) (r : Reply) → Allows e progress client p c r → ReadsValue e.history progress.last client.snapshots c r
 allowed_read e progress client p (command.Get key) (reply.Got value n) a = (a.1, a.2)
 allowed_read e progress client p (command.Get key) (reply.Missing n) a = (a.1, a.2)
-allowed_read e progress client p (command.GetAt key label) (reply.Got value n) a = allowed_gives _ (unless_labelled (number_of client.snapshots label) label) (reply.Got value n) _ (labelled_plain (number_of client.snapshots label) label) (λ row. (row.0.0, row.0.1, row.1)) (λ plain. absurd cc) a
-allowed_read e progress client p (command.GetAt key label) (reply.Missing n) a = allowed_gives _ (unless_labelled (number_of client.snapshots label) label) (reply.Missing n) _ (labelled_plain (number_of client.snapshots label) label) (λ row. (row.0.0, row.0.1, row.1)) (λ plain. absurd cc) a
+allowed_read e progress client p (command.GetAt key label) (reply.Got value n) a = allowed_gives _ (unless_labelled (number_of client.snapshots label) label) (reply.Got value n) _ (labelled_plain (number_of client.snapshots label) label) (λ condition. (condition.0.0, condition.0.1, condition.1)) (λ plain. absurd cc) a
+allowed_read e progress client p (command.GetAt key label) (reply.Missing n) a = allowed_gives _ (unless_labelled (number_of client.snapshots label) label) (reply.Missing n) _ (labelled_plain (number_of client.snapshots label) label) (λ condition. (condition.0.0, condition.0.1, condition.1)) (λ plain. absurd cc) a
 allowed_read e progress client p c r a = tt
 
 pub session_reads : (e : Evidence) (progress : Progress) (client : Client) (cs : List Command) (rs : List Reply) → IsSession e progress client cs rs → AreReads e.history progress.last client.snapshots cs rs
@@ -118,38 +118,38 @@ unnumbered_fresh : (h : List Entry) (last : ℕ) (c : Command) (r : Reply) → n
 unnumbered_fresh h last (command.GetAt key label) r none = tt
 unnumbered_fresh h last c r none = subst (λ (o : Option ℕ). IfSome o (IsFresh h last)) (sym none) tt
 
-pub row_fresh : (e : Evidence) (progress : Progress) (client : Client) (p : ℕ) (r : Reply) (c : Command) → Row e progress client p c r → IfSome (fresh_in c r) (IsFresh e.history progress.last)
-row_fresh e progress client p (reply.Put n) (command.Put key value) k = logged_fresh e.history progress.last n _ k.1
-row_fresh e progress client p (reply.Put n) c k = absurd k
-row_fresh e progress client p (reply.Del n) (command.Del key) k = logged_fresh e.history progress.last n _ k.1
-row_fresh e progress client p (reply.Del n) c k = absurd k
-row_fresh e progress client p (reply.Got value n) (command.Get key) k = k.1
-row_fresh e progress client p (reply.Got value n) (command.GetAt key label) k = tt
-row_fresh e progress client p (reply.Got value n) c k = absurd k
-row_fresh e progress client p (reply.Missing n) (command.Get key) k = k.1
-row_fresh e progress client p (reply.Missing n) (command.GetAt key label) k = tt
-row_fresh e progress client p (reply.Missing n) c k = absurd k
-row_fresh e progress client p (reply.Snapped n) (command.Snap label) k = k
-row_fresh e progress client p (reply.Snapped n) c k = absurd k
-row_fresh e progress client p (reply.Prepared n) command.Prepare k = prepares_fresh e.history progress.last client.txn n k
-row_fresh e progress client p (reply.Prepared n) c k = absurd k
-row_fresh e progress client p (reply.Committed n) command.Commit k = commits_fresh e.history progress.last client.txn n k
-row_fresh e progress client p (reply.Committed n) c k = absurd k
-row_fresh e progress client p (reply.RolledBack n) command.Rollback k = rolls_fresh e.history progress.last client.txn n k
-row_fresh e progress client p (reply.RolledBack n) c k = absurd k
-row_fresh e progress client p (reply.Unknown other n) (command.Take name) k = k.1
-row_fresh e progress client p (reply.Unknown other n) c k = absurd k
-row_fresh e progress client p (reply.Flushed n versions) command.Flush k = k.0
-row_fresh e progress client p (reply.Flushed n versions) c k = absurd k
-row_fresh e progress client p (reply.Compacted n versions) command.Compact k = k.0
-row_fresh e progress client p (reply.Compacted n versions) c k = absurd k
-row_fresh e progress client p (reply.Renewed n carried) command.Renew k = k.0
-row_fresh e progress client p (reply.Renewed n carried) c k = absurd k
-row_fresh e progress client p (reply.Told n) (command.Tell label) k = k
-row_fresh e progress client p (reply.Told n) c k = absurd k
-row_fresh e progress client p (reply.Heard n) (command.Hear label) k = k.0
-row_fresh e progress client p (reply.Heard n) c k = absurd k
-row_fresh e progress client p r c k = unnumbered_fresh e.history progress.last c r refl
+pub condition_fresh : (e : Evidence) (progress : Progress) (client : Client) (p : ℕ) (r : Reply) (c : Command) → Condition e progress client p c r → IfSome (fresh_in c r) (IsFresh e.history progress.last)
+condition_fresh e progress client p (reply.Put n) (command.Put key value) k = logged_fresh e.history progress.last n _ k.1
+condition_fresh e progress client p (reply.Put n) c k = absurd k
+condition_fresh e progress client p (reply.Del n) (command.Del key) k = logged_fresh e.history progress.last n _ k.1
+condition_fresh e progress client p (reply.Del n) c k = absurd k
+condition_fresh e progress client p (reply.Got value n) (command.Get key) k = k.1
+condition_fresh e progress client p (reply.Got value n) (command.GetAt key label) k = tt
+condition_fresh e progress client p (reply.Got value n) c k = absurd k
+condition_fresh e progress client p (reply.Missing n) (command.Get key) k = k.1
+condition_fresh e progress client p (reply.Missing n) (command.GetAt key label) k = tt
+condition_fresh e progress client p (reply.Missing n) c k = absurd k
+condition_fresh e progress client p (reply.Snapped n) (command.Snap label) k = k
+condition_fresh e progress client p (reply.Snapped n) c k = absurd k
+condition_fresh e progress client p (reply.Prepared n) command.Prepare k = prepares_fresh e.history progress.last client.txn n k
+condition_fresh e progress client p (reply.Prepared n) c k = absurd k
+condition_fresh e progress client p (reply.Committed n) command.Commit k = commits_fresh e.history progress.last client.txn n k
+condition_fresh e progress client p (reply.Committed n) c k = absurd k
+condition_fresh e progress client p (reply.RolledBack n) command.Rollback k = rolls_fresh e.history progress.last client.txn n k
+condition_fresh e progress client p (reply.RolledBack n) c k = absurd k
+condition_fresh e progress client p (reply.Unknown other n) (command.Take name) k = k.1
+condition_fresh e progress client p (reply.Unknown other n) c k = absurd k
+condition_fresh e progress client p (reply.Flushed n versions) command.Flush k = k.0
+condition_fresh e progress client p (reply.Flushed n versions) c k = absurd k
+condition_fresh e progress client p (reply.Compacted n versions) command.Compact k = k.0
+condition_fresh e progress client p (reply.Compacted n versions) c k = absurd k
+condition_fresh e progress client p (reply.Renewed n carried) command.Renew k = k.0
+condition_fresh e progress client p (reply.Renewed n carried) c k = absurd k
+condition_fresh e progress client p (reply.Told n) (command.Tell label) k = k
+condition_fresh e progress client p (reply.Told n) c k = absurd k
+condition_fresh e progress client p (reply.Heard n) (command.Hear label) k = k.0
+condition_fresh e progress client p (reply.Heard n) c k = absurd k
+condition_fresh e progress client p r c k = unnumbered_fresh e.history progress.last c r refl
 
 pub fresh_none : (h : List Entry) (last : ℕ) (c : Command) (r : Reply) → kind r ≡ Plain → IfSome (fresh_in c r) (IsFresh h last)
 fresh_none h last c r plain = unnumbered_fresh h last c r (ap number_of_kind plain)
@@ -159,7 +159,7 @@ session_numbers e progress client [] [] s = tt
 session_numbers e progress client [] (r ∷ rs) s = tt
 session_numbers e progress client (c ∷ cs) [] s = tt
 session_numbers e progress client (c ∷ cs) (r ∷ rs) (p, allowed, rest) = (
-  allowed_gives _ (refusal_of client c) r _ (refusal_plain client c) (row_fresh e progress client p r c) (fresh_none e.history progress.last c r) allowed,
+  allowed_gives _ (refusal_of client c) r _ (refusal_plain client c) (condition_fresh e progress client p r c) (fresh_none e.history progress.last c r) allowed,
   session_numbers e (progress_after progress c r) (after_reply p client c r) cs rs rest,
 )
 
@@ -178,30 +178,30 @@ rolls_asked : (h : List Entry) (last : ℕ) (txn : Txn) (n : ℕ) → RollsBackA
 rolls_asked h last (Prepared p) n (closed, (batch, undone)) = ((_, undone, inr (batch, refl)), ((_, closed, inl refl), tt))
 rolls_asked h last _ n l = absurd l
 
-row_asked : (e : Evidence) (progress : Progress) (client : Client) (p : ℕ) (r : Reply) (c : Command) → Row e progress client p c r → AreAsked e.history progress.last client.txn c (acknowledged r)
-row_asked e progress client p (reply.Put n) (command.Put key value) k = ((entry.Write (change.Put key value ∷ []), k.1, subst (λ (t : Txn). AsksLog t (command.Put key value) (entry.Write (change.Put key value ∷ []))) (sym k.0) refl), tt)
-row_asked e progress client p (reply.Put n) c k = absurd k
-row_asked e progress client p (reply.Del n) (command.Del key) k = ((entry.Write (change.Del key ∷ []), k.1, subst (λ (t : Txn). AsksLog t (command.Del key) (entry.Write (change.Del key ∷ []))) (sym k.0) refl), tt)
-row_asked e progress client p (reply.Del n) c k = absurd k
-row_asked e progress client p (reply.Prepared n) command.Prepare k = prepares_asked e.history progress.last client.txn n k
-row_asked e progress client p (reply.Prepared n) c k = absurd k
-row_asked e progress client p (reply.Committed n) command.Commit k = commits_asked e.history progress.last client.txn n k
-row_asked e progress client p (reply.Committed n) c k = absurd k
-row_asked e progress client p (reply.RolledBack n) command.Rollback k = rolls_asked e.history progress.last client.txn n k
-row_asked e progress client p (reply.RolledBack n) c k = absurd k
-row_asked e progress client p r c k = tt
+condition_asked : (e : Evidence) (progress : Progress) (client : Client) (p : ℕ) (r : Reply) (c : Command) → Condition e progress client p c r → AreAsked e.history progress.last client.txn c (acknowledged r)
+condition_asked e progress client p (reply.Put n) (command.Put key value) k = ((entry.Write (change.Put key value ∷ []), k.1, subst (λ (t : Txn). AsksLog t (command.Put key value) (entry.Write (change.Put key value ∷ []))) (sym k.0) refl), tt)
+condition_asked e progress client p (reply.Put n) c k = absurd k
+condition_asked e progress client p (reply.Del n) (command.Del key) k = ((entry.Write (change.Del key ∷ []), k.1, subst (λ (t : Txn). AsksLog t (command.Del key) (entry.Write (change.Del key ∷ []))) (sym k.0) refl), tt)
+condition_asked e progress client p (reply.Del n) c k = absurd k
+condition_asked e progress client p (reply.Prepared n) command.Prepare k = prepares_asked e.history progress.last client.txn n k
+condition_asked e progress client p (reply.Prepared n) c k = absurd k
+condition_asked e progress client p (reply.Committed n) command.Commit k = commits_asked e.history progress.last client.txn n k
+condition_asked e progress client p (reply.Committed n) c k = absurd k
+condition_asked e progress client p (reply.RolledBack n) command.Rollback k = rolls_asked e.history progress.last client.txn n k
+condition_asked e progress client p (reply.RolledBack n) c k = absurd k
+condition_asked e progress client p r c k = tt
 
 asked_none : (h : List Entry) (last : ℕ) (txn : Txn) (c : Command) (r : Reply) → kind r ≡ Plain → AreAsked h last txn c (acknowledged r)
 asked_none h last txn c r plain = subst (AreAsked h last txn c) (sym (ap numbers_logged plain)) tt
 
 -- only an idle client is answered `took`
-pub took_by_row : (txn : Txn) (row : Type 0) → UnlessRefused (unless_idle txn) reply.Took row → row
-took_by_row Idle row a = a
-took_by_row (Open name batch) row a = absurd cc
-took_by_row (Prepared p) row a = absurd cc
+pub took_by_condition : (txn : Txn) (condition : Type 0) → UnlessRefused (unless_idle txn) reply.Took condition → condition
+took_by_condition Idle condition a = a
+took_by_condition (Open name batch) condition a = absurd cc
+took_by_condition (Prepared p) condition a = absurd cc
 
 allowed_takes : (e : Evidence) (progress : Progress) (client : Client) (p : ℕ) (c : Command) (r : Reply) → Allows e progress client p c r → Takes e.history progress.last p c r
-allowed_takes e progress client p (command.Take name) reply.Took a = took_by_row client.txn _ a
+allowed_takes e progress client p (command.Take name) reply.Took a = took_by_condition client.txn _ a
 allowed_takes e progress client p c r a = tt
 
 pub session_logged : (e : Evidence) (progress : Progress) (client : Client) (cs : List Command) (rs : List Reply) → IsSession e progress client cs rs → AreLogged e.history progress.last client cs rs
@@ -209,6 +209,6 @@ session_logged e progress client [] [] s = tt
 session_logged e progress client [] (r ∷ rs) s = tt
 session_logged e progress client (c ∷ cs) [] s = tt
 session_logged e progress client (c ∷ cs) (r ∷ rs) (p, allowed, rest) = (
-  allowed_gives _ (refusal_of client c) r _ (refusal_plain client c) (row_asked e progress client p r c) (asked_none e.history progress.last client.txn c r) allowed,
+  allowed_gives _ (refusal_of client c) r _ (refusal_plain client c) (condition_asked e progress client p r c) (asked_none e.history progress.last client.txn c r) allowed,
   (p, allowed_takes e progress client p c r allowed, session_logged e (progress_after progress c r) (after_reply p client c r) cs rs rest),
 )

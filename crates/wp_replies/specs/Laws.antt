@@ -16,7 +16,7 @@ use Rattle.wp_replies.specs.Client.{Client, new_client, number_of}
 use Rattle.wp_replies.specs.After.{labels_after, after_reply}
 use Rattle.wp_replies.specs.Kind.{acknowledged, fresh_in, last_after}
 use Rattle.wp_replies.specs.Progress.{Progress}
-use Rattle.wp_replies.specs.Replies.{Claim, Evidence, IsKnown, IsFresh, IsLoggedAt, WasUndecided, Row}
+use Rattle.wp_replies.specs.Replies.{Claim, Evidence, IsKnown, IsFresh, IsLoggedAt, WasUndecided, Condition}
 use Rattle.wp_replies.specs.Alike.{IsLike, IsFrom}
 use Rattle.wp_replies.specs.Moments.{AreDueFrom}
 use Rattle.wp_replies.specs.Session.{IsSession}
@@ -47,11 +47,11 @@ SessionsTellAlike = (evidence : Evidence) (other : List Entry) (progress : Progr
     → IsSession (record evidence { history = other }) progress new_client commands answers
 
 -- Likewise each row by itself, where what the client has is from the base on.
-abbrev pub RowsTellAlike : Type 0
-RowsTellAlike = (evidence : Evidence) (other : List Entry) (progress : Progress) (client : Client) (p : ℕ) (command : Command) (answer : Reply)
+abbrev pub ConditionsTellAlike : Type 0
+ConditionsTellAlike = (evidence : Evidence) (other : List Entry) (progress : Progress) (client : Client) (p : ℕ) (command : Command) (answer : Reply)
     → IsLike evidence other → IsFrom evidence.base evidence.history progress.last client
-    → Row evidence progress client p command answer
-    → Row (record evidence { history = other }) progress client p command answer
+    → Condition evidence progress client p command answer
+    → Condition (record evidence { history = other }) progress client p command answer
 
 -- ---- reads
 

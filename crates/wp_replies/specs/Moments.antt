@@ -6,7 +6,7 @@ use Rattle.wp_model.specs.Covered.{GivesStore}
 use Rattle.wp_model.specs.Decision.{entry_version}
 use Rattle.wp_model.specs.Flushed.{InstalledEdit}
 use Rattle.wp_model.specs.Legal.{IsLegal, undone_last}
-use Rattle.wp_model.specs.LockTables.{Labels}
+use Rattle.wp_model.specs.LockState.{Labels}
 use Rattle.wp_model.specs.Versions.{AreInOrder, version_at}
 use Rattle.wp_text.specs.declared.script.Command.{Command}
 use Rattle.wp_text.specs.declared.reply.Reply.{Reply}

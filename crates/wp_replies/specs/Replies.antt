@@ -276,57 +276,57 @@ IsHaltedAt evidence flushed = (flushed ≡ evidence.installed.flushed) × IsKnow
 
 -- A row for each command and reply, by what the client knows then; `took` gives the prepare with the number p. Of `held`,
 -- `freed`, `begun`, `dropped` and `left` the client's state alone decides.
-abbrev pub Row : Evidence → Progress → Client → ℕ → Command → Reply → Type 0
-Row evidence progress client p command (reply.Full published most) = (1 ≤ needed client.txn command) × IsFresh evidence.history progress.last published × IsLimit evidence progress.base most × (most < published + needed client.txn command)
-Row evidence progress client p command reply.FaultLog = AsksFor client.txn command evidence.failed.entries
-Row evidence progress client p command (reply.Stopped n) = IsOfLog client.txn command × IsFresh evidence.history progress.last n × IsKnown evidence (LogStopped n)
-Row evidence progress client p (command.Put key value) (reply.Put n) = (client.txn ≡ Idle) × IsLoggedAt evidence.history progress.last n (entry.Write (change.Put key value ∷ []))
-Row evidence progress client p (command.Put key value) reply.Held = TxnIsOpen client.txn
-Row evidence progress client p (command.Put key value) (reply.Busy holder) = IsBusy evidence progress.last key holder
-Row evidence progress client p (command.Del key) (reply.Del n) = (client.txn ≡ Idle) × IsLoggedAt evidence.history progress.last n (entry.Write (change.Del key ∷ []))
-Row evidence progress client p (command.Del key) reply.Held = TxnIsOpen client.txn
-Row evidence progress client p (command.Del key) (reply.Busy holder) = IsBusy evidence progress.last key holder
-Row evidence progress client p (command.Get key) (reply.Got value n) = OwnSays evidence.history client.txn key None × IsFresh evidence.history progress.last n × (value_at evidence.history key n ≡ Some value)
-Row evidence progress client p (command.Get key) (reply.Missing n) = OwnSays evidence.history client.txn key None × IsFresh evidence.history progress.last n × (value_at evidence.history key n ≡ None)
-Row evidence progress client p (command.Get key) (reply.GotOwn value) = OwnSays evidence.history client.txn key (Some (Some value))
-Row evidence progress client p (command.Get key) reply.MissingOwn = OwnSays evidence.history client.txn key (Some None)
-Row evidence progress client p (command.GetAt key label) (reply.Got value n) = IsSnapshot evidence.history client label n × (value_at evidence.history key n ≡ Some value)
-Row evidence progress client p (command.GetAt key label) (reply.Missing n) = IsSnapshot evidence.history client label n × (value_at evidence.history key n ≡ None)
-Row evidence progress client p (command.Snap label) (reply.Snapped n) = IsFresh evidence.history progress.last n
-Row evidence progress client p (command.Free label) reply.Freed = Unit {0}
-Row evidence progress client p (command.Begin name) reply.Begun = Unit {0}
-Row evidence progress client p (command.Begin name) (reply.Taken other) = (other ≡ name) × IsNameTaken evidence progress.last name
-Row evidence progress client p command.Prepare (reply.Prepared n) = PreparesAt evidence.history progress.last client.txn n
-Row evidence progress client p command.Commit (reply.Committed n) = CommitsAt evidence.history progress.last client.txn n
-Row evidence progress client p command.Rollback reply.Dropped = TxnIsOpen client.txn
-Row evidence progress client p command.Rollback (reply.RolledBack n) = RollsBackAt evidence.history progress.last client.txn n
-Row evidence progress client p command.Leave reply.Left = Unit {0}
-Row evidence progress client p (command.Take name) reply.Took = WasUndecided evidence.history progress.last name p
-Row evidence progress client p (command.Take name) (reply.Unknown other n) = (other ≡ name) × IsFresh evidence.history progress.last n × (named (take n evidence.history) name ≡ None)
-Row evidence progress client p (command.Take name) (reply.InUse other) = (other ≡ name) × IsKnown evidence (HasName name)
-Row evidence progress client p command.Flush (reply.Flushed n versions) = IsFresh evidence.history progress.last n × (1 ≤ versions) × IsFlushCount evidence n versions
-Row evidence progress client p command.Flush reply.Nothing = HasNothingToFlush evidence progress.last
-Row evidence progress client p command.Flush (reply.Halted flushed) = IsHaltedAt evidence flushed
-Row evidence progress client p command.Flush reply.FaultTables = FailsFlush evidence progress.last
-Row evidence progress client p command.Compact (reply.Compacted n versions) = IsFresh evidence.history progress.last n × IsCompactionCount evidence.history evidence.base n versions
-Row evidence progress client p command.Compact reply.Nothing = HasNothingToMerge evidence progress.tables
-Row evidence progress client p command.Compact (reply.Halted flushed) = IsHaltedAt evidence flushed
-Row evidence progress client p command.Compact reply.FaultTables = FailsCompaction evidence progress.last client
-Row evidence progress client p command.Renew (reply.Renewed n carried) = IsFresh evidence.history progress.last n × (progress.base < n) × (carried ≡ length (undecided (take n evidence.history)))
-Row evidence progress client p command.Renew reply.Nothing = HasNothingToRenew evidence progress.last
-Row evidence progress client p command.Renew (reply.Halted flushed) = IsHaltedAt evidence flushed
-Row evidence progress client p command.Renew reply.FaultTables = FailsRenewal evidence progress.last
-Row evidence progress client p (command.Tell label) (reply.Told n) = IsFresh evidence.history progress.last n
-Row evidence progress client p (command.Hear label) (reply.Heard n) = IsFresh evidence.history progress.last n × IsKnown evidence (WasTold label n)
-Row evidence progress client p (command.Hear label) (reply.Silent other) = (other ≡ label) × (knows_label progress.labels label ≡ false)
-Row evidence progress client p command answer = ⊥
+abbrev pub Condition : Evidence → Progress → Client → ℕ → Command → Reply → Type 0
+Condition evidence progress client p command (reply.Full published most) = (1 ≤ needed client.txn command) × IsFresh evidence.history progress.last published × IsLimit evidence progress.base most × (most < published + needed client.txn command)
+Condition evidence progress client p command reply.FaultLog = AsksFor client.txn command evidence.failed.entries
+Condition evidence progress client p command (reply.Stopped n) = IsOfLog client.txn command × IsFresh evidence.history progress.last n × IsKnown evidence (LogStopped n)
+Condition evidence progress client p (command.Put key value) (reply.Put n) = (client.txn ≡ Idle) × IsLoggedAt evidence.history progress.last n (entry.Write (change.Put key value ∷ []))
+Condition evidence progress client p (command.Put key value) reply.Held = TxnIsOpen client.txn
+Condition evidence progress client p (command.Put key value) (reply.Busy holder) = IsBusy evidence progress.last key holder
+Condition evidence progress client p (command.Del key) (reply.Del n) = (client.txn ≡ Idle) × IsLoggedAt evidence.history progress.last n (entry.Write (change.Del key ∷ []))
+Condition evidence progress client p (command.Del key) reply.Held = TxnIsOpen client.txn
+Condition evidence progress client p (command.Del key) (reply.Busy holder) = IsBusy evidence progress.last key holder
+Condition evidence progress client p (command.Get key) (reply.Got value n) = OwnSays evidence.history client.txn key None × IsFresh evidence.history progress.last n × (value_at evidence.history key n ≡ Some value)
+Condition evidence progress client p (command.Get key) (reply.Missing n) = OwnSays evidence.history client.txn key None × IsFresh evidence.history progress.last n × (value_at evidence.history key n ≡ None)
+Condition evidence progress client p (command.Get key) (reply.GotOwn value) = OwnSays evidence.history client.txn key (Some (Some value))
+Condition evidence progress client p (command.Get key) reply.MissingOwn = OwnSays evidence.history client.txn key (Some None)
+Condition evidence progress client p (command.GetAt key label) (reply.Got value n) = IsSnapshot evidence.history client label n × (value_at evidence.history key n ≡ Some value)
+Condition evidence progress client p (command.GetAt key label) (reply.Missing n) = IsSnapshot evidence.history client label n × (value_at evidence.history key n ≡ None)
+Condition evidence progress client p (command.Snap label) (reply.Snapped n) = IsFresh evidence.history progress.last n
+Condition evidence progress client p (command.Free label) reply.Freed = Unit {0}
+Condition evidence progress client p (command.Begin name) reply.Begun = Unit {0}
+Condition evidence progress client p (command.Begin name) (reply.Taken other) = (other ≡ name) × IsNameTaken evidence progress.last name
+Condition evidence progress client p command.Prepare (reply.Prepared n) = PreparesAt evidence.history progress.last client.txn n
+Condition evidence progress client p command.Commit (reply.Committed n) = CommitsAt evidence.history progress.last client.txn n
+Condition evidence progress client p command.Rollback reply.Dropped = TxnIsOpen client.txn
+Condition evidence progress client p command.Rollback (reply.RolledBack n) = RollsBackAt evidence.history progress.last client.txn n
+Condition evidence progress client p command.Leave reply.Left = Unit {0}
+Condition evidence progress client p (command.Take name) reply.Took = WasUndecided evidence.history progress.last name p
+Condition evidence progress client p (command.Take name) (reply.Unknown other n) = (other ≡ name) × IsFresh evidence.history progress.last n × (named (take n evidence.history) name ≡ None)
+Condition evidence progress client p (command.Take name) (reply.InUse other) = (other ≡ name) × IsKnown evidence (HasName name)
+Condition evidence progress client p command.Flush (reply.Flushed n versions) = IsFresh evidence.history progress.last n × (1 ≤ versions) × IsFlushCount evidence n versions
+Condition evidence progress client p command.Flush reply.Nothing = HasNothingToFlush evidence progress.last
+Condition evidence progress client p command.Flush (reply.Halted flushed) = IsHaltedAt evidence flushed
+Condition evidence progress client p command.Flush reply.FaultTables = FailsFlush evidence progress.last
+Condition evidence progress client p command.Compact (reply.Compacted n versions) = IsFresh evidence.history progress.last n × IsCompactionCount evidence.history evidence.base n versions
+Condition evidence progress client p command.Compact reply.Nothing = HasNothingToMerge evidence progress.tables
+Condition evidence progress client p command.Compact (reply.Halted flushed) = IsHaltedAt evidence flushed
+Condition evidence progress client p command.Compact reply.FaultTables = FailsCompaction evidence progress.last client
+Condition evidence progress client p command.Renew (reply.Renewed n carried) = IsFresh evidence.history progress.last n × (progress.base < n) × (carried ≡ length (undecided (take n evidence.history)))
+Condition evidence progress client p command.Renew reply.Nothing = HasNothingToRenew evidence progress.last
+Condition evidence progress client p command.Renew (reply.Halted flushed) = IsHaltedAt evidence flushed
+Condition evidence progress client p command.Renew reply.FaultTables = FailsRenewal evidence progress.last
+Condition evidence progress client p (command.Tell label) (reply.Told n) = IsFresh evidence.history progress.last n
+Condition evidence progress client p (command.Hear label) (reply.Heard n) = IsFresh evidence.history progress.last n × IsKnown evidence (WasTold label n)
+Condition evidence progress client p (command.Hear label) (reply.Silent other) = (other ≡ label) × (knows_label progress.labels label ≡ false)
+Condition evidence progress client p command answer = ⊥
 
 -- the reply is the refusal, where there is one
 abbrev pub UnlessRefused : Option Reply → Reply → Type 0 → Type 0
-UnlessRefused None answer row = row
-UnlessRefused (Some refusal) answer row = answer ≡ refusal
+UnlessRefused None answer condition = condition
+UnlessRefused (Some refusal) answer condition = answer ≡ refusal
 
 -- `state`, `toomany`, `taken S` and `unknown S` come exactly where the client's state and labels say so; else the row
 -- has the last word.
 abbrev pub Allows : Evidence → Progress → Client → ℕ → Command → Reply → Type 0
-Allows evidence progress client p command answer = UnlessRefused (refusal_of client command) answer (Row evidence progress client p command answer)
+Allows evidence progress client p command answer = UnlessRefused (refusal_of client command) answer (Condition evidence progress client p command answer)

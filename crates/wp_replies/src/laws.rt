@@ -1,7 +1,7 @@
 //! What is true of every session.
 ghost use Rattle.std.specs.Prelude.{◌≡◌};
 ghost use Rattle.wp_replies.specs.declared.client.TheConstants.{MOST_SNAPSHOTS};
-ghost use Rattle.wp_replies.specs.Laws.{SessionGrows, SessionsTellAlike, RowsTellAlike, DueIsSession, ReadsAreValues, FreshNumbersNeverFall, AcknowledgedAreLogged};
+ghost use Rattle.wp_replies.specs.Laws.{SessionGrows, SessionsTellAlike, ConditionsTellAlike, DueIsSession, ReadsAreValues, FreshNumbersNeverFall, AcknowledgedAreLogged};
 
 /// A session stays one as the history grows, and as more is known of the other clients.
 pub fn session_grows()
@@ -10,7 +10,7 @@ pub fn session_grows()
 
 /// No row depends on what stands below the base of the log that the store was opened from, and so no session does.
 pub fn nothing_below_the_base_tells()
-    ensures rows { RowsTellAlike }
+    ensures conditions { ConditionsTellAlike }
     ensures sessions { SessionsTellAlike }
 {}
 

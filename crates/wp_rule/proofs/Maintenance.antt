@@ -10,11 +10,11 @@ use Rattle.wp_model.specs.Flushed.{InstalledEdit, IsEditCovered}
 use Rattle.wp_model.specs.Legal.{IsLegal}
 use Rattle.wp_model.specs.Snapshots.{Snapshots, IsLive}
 use Rattle.wp_model.specs.Versions.{version_at}
-use Rattle.wp_history.proofs.Counting.{entry_version_old}
-use Rattle.wp_history.proofs.Growth.{legal_before}
+use Rattle.wp_history_laws.proofs.Counting.{entry_version_old}
+use Rattle.wp_history_laws.proofs.Growth.{legal_before}
 use Rattle.wp_core.specs.Sound.Actors.{StartsWith}
 use Rattle.wp_core.specs.Sound.Store.{IsStored}
-use Rattle.wp_core.specs.Tables.{StoreTable, Installed, live_numbers, up_to}
+use Rattle.wp_core.specs.Tables.{StoreState, Installed, live_numbers, up_to}
 use Rattle.wp_core.specs.World.{Actor}
 use Rattle.wp_core.proofs.CoveredGrows.{covered_grows}
 use Rattle.wp_core.proofs.HistoryGrows.{none_is, grown_length, version_new}
@@ -50,7 +50,7 @@ at_start (v ∷ xs) ys key p value e = by (bytes_eq v.key key && (v.number == p)
     by true e' rest = e'
     by false e' rest = rest e'
 
-module _ (history pending : List Entry) (base : ℕ) (snapshots : Snapshots) (t : StoreTable) (e : Installed) (k : IsStored history pending base snapshots t e) where
+module _ (history pending : List Entry) (base : ℕ) (snapshots : Snapshots) (t : StoreState) (e : Installed) (k : IsStored history pending base snapshots t e) where
   of_history : (key : List ℕ) (p : ℕ) (value : Option (List ℕ)) → p ≤ length history → version_at t.memory key p ≡ Some value → entry_version history p key ≡ Some value
   of_history key p value le there = k.covered.part key p value (up_to_within (length history) (t.memory ++ t.tables) key p le ∙ at_start t.memory t.tables key p value there)
 

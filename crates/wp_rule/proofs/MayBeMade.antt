@@ -12,7 +12,7 @@ use Rattle.wp_model.specs.declared.holder.Holder.TheVariants.{Txn}
 use Rattle.wp_model.specs.Decision.{version_in, decision_of}
 use Rattle.wp_model.specs.History.{named, name_at, is_prepare, batch_at}
 use Rattle.wp_model.proofs.Found.{found_named}
-use Rattle.wp_model.specs.PreparedTables.{IsSmallest, NonePrepared}
+use Rattle.wp_model.specs.PreparedSets.{IsSmallest, NonePrepared}
 use Rattle.wp_core.specs.Turns.{write_turn, prepared_turn, snapshots_turn, locks_turn}
 use Rattle.wp_core.specs.Views.{words_stay, versions_nowhere, number_not_in_heap, unprepared, delayed_flag_stays, old_flag_stays, pair_not_delayed}
 use Rattle.wp_core.specs.World.{Transaction, Actor, World}

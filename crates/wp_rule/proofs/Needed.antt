@@ -12,17 +12,17 @@ use Rattle.wp_model.specs.declared.holder.Holder.TheVariants.{Txn, Client}
 use Rattle.wp_model.specs.Decision.{decision_of, version_in}
 use Rattle.wp_model.specs.Flushed.{InstalledEdit, IsEditCovered}
 use Rattle.wp_model.specs.History.{entry_at, name_at, batch_at, named, is_changed, is_prepare, holder_of}
-use Rattle.wp_model.specs.PreparedTables.{PreparedTables, is_prepared}
+use Rattle.wp_model.specs.PreparedSets.{PreparedSets, is_prepared}
 use Rattle.wp_model.specs.Snapshots.{Snapshots, Snapshot, IsLive}
 use Rattle.wp_model.specs.Versions.{version_at}
-use Rattle.wp_model.specs.LockTables.{LockTables}
+use Rattle.wp_model.specs.LockState.{LockState}
 use Rattle.wp_judge.specs.Words.{CommitPair, fits, delta_of, delta_bound}
 use Rattle.wp_judge.specs.declared.observed.Load.{Load}
 use Rattle.wp_judge.specs.declared.observed.Load.TheVariants.{FirstWord, FirstMax, DelayedFlag, InPrepared, SecondWord, SecondMax, OldFlag, IsOldCommit}
 use Rattle.wp_core.specs.Lists.{IsIn}
 use Rattle.wp_core.specs.Turns.{Turn, write_turn, prepared_turn, snapshots_turn, store_turn, locks_turn, tables_turn, Holds}
 use Rattle.wp_core.specs.Cache.{cache_place, cached, pair_at}
-use Rattle.wp_core.specs.Tables.{Content, WriteTable, StoreTable, Installed, writes, prepared, snapshots, store, locks, installed}
+use Rattle.wp_core.specs.Tables.{Content, WriteState, StoreState, Installed, writes, prepared, snapshots, store, locks, installed}
 use Rattle.wp_core.specs.Views.{Fact, passed, in_old_commits, apart, words_stay, has_left, versions_in_memory, versions_nowhere, number_in_heap, number_not_in_heap, undecided_at, prior_values, unprepared, direct_free, tables_stay, live_listed, nothing_flushed, frozen_stay, delayed_flag_stays, old_flag_stays, pair_delayed, pair_not_delayed, none_waits}
 use Rattle.wp_core.specs.World.{Transaction, Actor, World}
 use Rattle.wp_core.specs.Entries.{next_of, batch_of_name, extended, pending_pair, pair_by, pairs_of, IsOneRecord}
@@ -99,11 +99,11 @@ rest_short entries (inr (inr closes)) = let e = ap length closes.1 in omega (ari
 module _ (p : Place) (a : Actor) (w : World) (k : IsAt p a w) where
   -- ---- tables
 
-  abbrev writes_in : WriteTable → Content → WriteTable
+  abbrev writes_in : WriteState → Content → WriteState
   writes_in t (writes d) = d
   writes_in t other = t
 
-  abbrev prepared_in : PreparedTables → Content → PreparedTables
+  abbrev prepared_in : PreparedSets → Content → PreparedSets
   prepared_in t (prepared d) = d
   prepared_in t other = t
 
@@ -111,11 +111,11 @@ module _ (p : Place) (a : Actor) (w : World) (k : IsAt p a w) where
   snapshots_in t (snapshots d) = d
   snapshots_in t other = t
 
-  abbrev store_in : StoreTable → Content → StoreTable
+  abbrev store_in : StoreState → Content → StoreState
   store_in t (store d) = d
   store_in t other = t
 
-  abbrev locks_in : LockTables → Content → LockTables
+  abbrev locks_in : LockState → Content → LockState
   locks_in t (locks d) = d
   locks_in t other = t
 
@@ -123,19 +123,19 @@ module _ (p : Place) (a : Actor) (w : World) (k : IsAt p a w) where
   installed_in t (installed d) = d
   installed_in t other = t
 
-  pub has_writes : (so : WriteTable → Type 0) → Holding a writes so → Holds w.holders write_turn p.by × so w.writes
+  pub has_writes : (so : WriteState → Type 0) → Holding a writes so → Holds w.holders write_turn p.by × so w.writes
   has_writes so n = let h = held_is p a w (writes n.table) k n.held in (h.0, subst so (sym (ap (writes_in n.table) h.1)) n.so_is)
 
-  pub has_prepared : (so : PreparedTables → Type 0) → Holding a prepared so → Holds w.holders prepared_turn p.by × so w.prepared
+  pub has_prepared : (so : PreparedSets → Type 0) → Holding a prepared so → Holds w.holders prepared_turn p.by × so w.prepared
   has_prepared so n = let h = held_is p a w (prepared n.table) k n.held in (h.0, subst so (sym (ap (prepared_in n.table) h.1)) n.so_is)
 
   pub has_snapshots : (so : Snapshots → Type 0) → Holding a snapshots so → Holds w.holders snapshots_turn p.by × so w.snapshots
   has_snapshots so n = let h = held_is p a w (snapshots n.table) k n.held in (h.0, subst so (sym (ap (snapshots_in n.table) h.1)) n.so_is)
 
-  has_store : (so : StoreTable → Type 0) → Holding a store so → Holds w.holders store_turn p.by × so w.store
+  has_store : (so : StoreState → Type 0) → Holding a store so → Holds w.holders store_turn p.by × so w.store
   has_store so n = let h = held_is p a w (store n.table) k n.held in (h.0, subst so (sym (ap (store_in n.table) h.1)) n.so_is)
 
-  pub has_locks : (so : LockTables → Type 0) → Holding a locks so → Holds w.holders locks_turn p.by × so w.locks
+  pub has_locks : (so : LockState → Type 0) → Holding a locks so → Holds w.holders locks_turn p.by × so w.locks
   has_locks so n = let h = held_is p a w (locks n.table) k n.held in (h.0, subst so (sym (ap (locks_in n.table) h.1)) n.so_is)
 
   has_installed : (so : Installed → Type 0) → Holding a installed so → Holds w.holders tables_turn p.by × so w.installed

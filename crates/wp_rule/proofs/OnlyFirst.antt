@@ -218,7 +218,7 @@ module _ (w : World) (a : Actor) (others : List Actor) (is : w.actors ≡ a ∷ 
     viewed = λ j i x there. s.viewed j i x (up view_of j i x there);
     flags = s.flags;
     versions = s.versions;
-    settled = s.settled;
+    in_step = s.in_step;
     coupled = s.coupled;
     locks = locks_down;
     holders = holders_down;

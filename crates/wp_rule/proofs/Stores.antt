@@ -5,7 +5,7 @@ use Rattle.wp_model.specs.declared.entry.Entry.{Entry}
 use Rattle.wp_judge.specs.Words.{CommitPair, word_of}
 use Rattle.wp_core.specs.Lists.{IsIn}
 use Rattle.wp_core.specs.Cache.{cache_place, with_pair}
-use Rattle.wp_core.specs.Tables.{WriteTable, Content, writes, prepared, with_moved}
+use Rattle.wp_core.specs.Tables.{WriteState, Content, writes, prepared, with_moved}
 use Rattle.wp_core.specs.Turns.{Turn, write_turn, prepared_turn, snapshots_turn, Holds}
 use Rattle.wp_core.specs.Views.{Fact, words_stay, delayed_flag_stays, old_flag_stays}
 use Rattle.wp_core.specs.World.{Actor, World}
@@ -96,12 +96,12 @@ may_word p a i word pair found is back place may w k =
     })
     (holder_is_live p a w write_turn k n.0, guarded p a w k write_turn n.0, (refl, refl)))
 
-abbrev writes_or : WriteTable → Content → WriteTable
+abbrev writes_or : WriteState → Content → WriteState
 writes_or t (writes d) = d
 writes_or t other = t
 
 -- the table of the write turn that a view has is the world's
-pub same_writes : (p : Place) (a : Actor) (w : World) (t : WriteTable) → IsAt p a w → IsIn (writes t) a.held → w.writes ≡ t
+pub same_writes : (p : Place) (a : Actor) (w : World) (t : WriteState) → IsAt p a w → IsIn (writes t) a.held → w.writes ≡ t
 same_writes p a w t k held = ap (writes_or t) (held_is p a w (writes t) k held).1
 
 pub may_publish : (p : Place) (a : Actor) (number : ℕ) → MayPublishAs p a number → MayStore p a (λ w. publishing w.writes.pending) 0 number
@@ -109,9 +109,9 @@ may_publish p a number m w k =
     let same : w.writes ≡ m.table = same_writes p a w m.table k m.held in
     let step : Step = store_published m.entry m.others in let n = m.may w k in
     let b : Actor = actor_after_step w a step in let t : Content = writes (with_entry w.writes m.entry m.others) in
-    let l = length-append w.writes.history (m.entry ∷ []) in let q : length w.writes.history ≡ length m.table.history = ap (λ (x : WriteTable). length x.history) same in
+    let l = length-append w.writes.history (m.entry ∷ []) in let q : length w.writes.history ≡ length m.table.history = ap (λ (x : WriteState). length x.history) same in
     let counts : length (w.writes.history ++ m.entry ∷ []) ≡ number = l ∙ (let i = m.number_is in omega (arith, q, i)) in
-    subst (λ (entries : List Entry). LeadTo p a w (publishing entries) (set (words_of w) 0 number)) (sym (ap (λ (x : WriteTable). x.pending) same ∙ m.pending)) (
+    subst (λ (entries : List Entry). LeadTo p a w (publishing entries) (set (words_of w) 0 number)) (sym (ap (λ (x : WriteState). x.pending) same ∙ m.pending)) (
       (n, tt),
       reached_next w p.by a step k.there k.reached n,
       record {

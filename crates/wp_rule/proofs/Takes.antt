@@ -3,7 +3,7 @@ use Rattle.std.proofs.Common.{◌≡◌, inl, inr, ℕ, Bool, true, false, List,
 use mathlib.Core.Option.{some}
 use lib.ListN.{get_elem?}
 use Rattle.wp_core.specs.Turns.{Turn, write_turn, prepared_turn, snapshots_turn, store_turn, locks_turn, tables_turn, turn_holder, with_holder, Holds}
-use Rattle.wp_core.specs.Tables.{Content, WriteTable, Installed, turn_of}
+use Rattle.wp_core.specs.Tables.{Content, WriteState, Installed, turn_of}
 use Rattle.wp_model.specs.declared.segment.Segment.{Segment}
 use Rattle.wp_model.specs.declared.version.Version.{Version}
 use Rattle.wp_core.specs.Views.{Fact, tables_stay, nothing_flushed, delayed_flag_stays, old_flag_stays}
@@ -33,7 +33,7 @@ table_of w tables_turn = refl
 -- ---- a free turn is as it has to be to give it, and so it is once its table is held and its facts are noted
 
 -- while the write turn is free no segment waits
-none_waits : (t : WriteTable) (e : Installed) {holder : Option ℕ} → AreCoupled t e holder → holder ≡ None → NoneNext t
+none_waits : (t : WriteState) (e : Installed) {holder : Option ℕ} → AreCoupled t e holder → holder ≡ None → NoneNext t
 none_waits t e k free = by_next t.next refl
   where
     by_closed : (segment : Segment) → t.next ≡ Some segment → (closed : Bool) → t.closed ≡ closed → NoneNext t
@@ -50,7 +50,7 @@ may_give w prepared_turn s free = s.flags.delayed_free free
 may_give w snapshots_turn s free = s.flags.old_free free
 may_give w store_turn s free = tt
 may_give w locks_turn s free = tt
-may_give w tables_turn s free = s.settled free
+may_give w tables_turn s free = s.in_step free
 
 pub knows_give : (w : World) (a : Actor) (turn : Turn) → MayGive w turn → KnowsGive (with_turn turn w a) turn
 knows_give w a write_turn may = record { table = w.writes; held = inl refl; so_is = may }
@@ -71,7 +71,7 @@ taking_is_met w by a s live prepared_turn free = ((free, live), ((live, holds_no
 taking_is_met w by a s live snapshots_turn free = ((free, live), ((live, holds_now w by snapshots_turn, refl), tt))
 taking_is_met w by a s live store_turn free = ((free, live), tt)
 taking_is_met w by a s live locks_turn free = ((free, live), tt)
-taking_is_met w by a s live tables_turn free = ((free, live), ((live, holds_now w by tables_turn, (refl, refl)), ((live, holds_now w by tables_turn, (s.settled free).0), tt)))
+taking_is_met w by a s live tables_turn free = ((free, live), ((live, holds_now w by tables_turn, (refl, refl)), ((live, holds_now w by tables_turn, (s.in_step free).0), tt)))
 
 abbrev noted : Actor → Fact → Actor
 noted a fact = record a { notes = fact ∷ a.notes }

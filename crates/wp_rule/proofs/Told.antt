@@ -4,7 +4,7 @@ use Rattle.wp_model.specs.declared.entry.Entry.{Entry}
 use Rattle.wp_model.specs.Legal.{IsLegal}
 use Rattle.wp_judge.specs.Words.{CommitPair}
 use Rattle.wp_core.specs.Lists.{IsIn}
-use Rattle.wp_core.specs.Tables.{WriteTable, writes}
+use Rattle.wp_core.specs.Tables.{WriteState, writes}
 use Rattle.wp_core.specs.World.{Actor, World}
 use Rattle.wp_core.specs.Changes.{sees}
 use Rattle.wp_core.specs.Steps.{Step, load_published, store_published}
@@ -30,11 +30,11 @@ moved_so p steps so so' a b says m = record { world = m.world; before = m.before
 pub word_told : (p : Place) (a b : Actor) (pair : CommitPair) (found : Option CommitPair) → found ≡ Some pair → Moved p (storing found) (λ w. Unit {0}) a b → Moved p (storing_word pair) (λ w. Unit {0}) a b
 word_told p a b pair found is m = moved_as p (storing found) (storing_word pair) (λ w. Unit {0}) (λ w. Unit {0}) a b (λ w k. (ap (λ (x : Option CommitPair). storing x w) is, λ so. so)) m
 
-pub publish_told : (p : Place) (a b : Actor) → Moved p (λ w. publishing w.writes.pending) (λ w. Unit {0}) a b → (t : WriteTable) (entry : Entry) (others : List Entry) → IsIn (writes t) a.held → t.pending ≡ entry ∷ others
+pub publish_told : (p : Place) (a b : Actor) → Moved p (λ w. publishing w.writes.pending) (λ w. Unit {0}) a b → (t : WriteState) (entry : Entry) (others : List Entry) → IsIn (writes t) a.held → t.pending ≡ entry ∷ others
     → Moved p (λ w. store_published entry others ∷ []) (λ w. w.writes ≡ t) a b
 publish_told p a b m t entry others held pending =
     moved_as p (λ w. publishing w.writes.pending) (λ w. store_published entry others ∷ []) (λ w. Unit {0}) (λ w. w.writes ≡ t) a b
-    (λ w k. let same : w.writes ≡ t = same_writes p a w t k held in (ap publishing (ap (λ (x : WriteTable). x.pending) same ∙ pending), λ so. same)) m
+    (λ w k. let same : w.writes ≡ t = same_writes p a w t k held in (ap publishing (ap (λ (x : WriteState). x.pending) same ∙ pending), λ so. same)) m
 
 pub sees_it : (p : Place) (a b : Actor) (found : ℕ) → Moved p (λ w. load_published ∷ []) (λ w. found ≡ length w.writes.history) a b
     → (h : List Entry) × (b ≡ sees h a) × (found ≡ length h) × StartsWith h a.participant.seen × StartsWith h a.learned × IsLegal h

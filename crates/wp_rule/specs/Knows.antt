@@ -13,7 +13,7 @@ use Rattle.wp_model.specs.Decision.{decision_of, version_in}
 use Rattle.wp_model.specs.History.{named, batch_at, is_changed, is_prepare}
 use Rattle.wp_model.specs.Versions.{version_at}
 use Rattle.wp_model.specs.Legal.{IsLegal, prior}
-use Rattle.wp_model.specs.PreparedTables.{is_prepared, NoneDelayed}
+use Rattle.wp_model.specs.PreparedSets.{is_prepared, NoneDelayed}
 use Rattle.wp_model.specs.Snapshots.{IsLive, NoOldCommits}
 use Rattle.wp_judge.specs.Words.{CommitPair, fits}
 use Rattle.wp_judge.specs.Order.{ask}
@@ -24,7 +24,7 @@ use Rattle.wp_judge.specs.declared.observed.Load.TheVariants.{InPrepared, IsOldC
 use Rattle.wp_core.specs.Lists.{IsIn}
 use Rattle.wp_core.specs.Turns.{Turn, write_turn, prepared_turn, snapshots_turn, store_turn, locks_turn, tables_turn}
 use Rattle.wp_core.specs.Cache.{cached, cache_place, pair_at}
-use Rattle.wp_core.specs.Tables.{WriteTable, StoreTable, Installed, Content, writes, prepared, snapshots, store, locks, installed, up_to}
+use Rattle.wp_core.specs.Tables.{WriteState, StoreState, Installed, Content, writes, prepared, snapshots, store, locks, installed, up_to}
 use Rattle.wp_core.specs.Views.{Fact, passed, in_old_commits, apart, words_stay, has_left, versions_in_memory, versions_nowhere, number_in_heap, number_not_in_heap, pair_delayed, pair_not_delayed, none_waits, undecided_at, prior_values, unprepared, direct_free, tables_stay, live_listed, nothing_flushed, frozen_stay, delayed_flag_stays, old_flag_stays}
 use Rattle.wp_core.specs.World.{Transaction, Actor}
 use Rattle.wp_core.specs.Entries.{next_of, pair_by, pending_pair, pairs_of, transaction_of, changes_under, IsOneRecord, HasVersionsAt}
@@ -82,7 +82,7 @@ KnowsPair a published place pair so = (max : ℕ) × (words : List ℕ) × Noted
 
 -- One of the pairs that are left of the pending record is to come into its word, where one stands that is published and that the bound
 -- has not reached; and m is as far as the bound rises past that one.
-pub record IsRiseForWord (a : Actor) (cells : ℕ) (d : WriteTable) (m : ℕ) : Type 0 where
+pub record IsRiseForWord (a : Actor) (cells : ℕ) (d : WriteState) (m : ℕ) : Type 0 where
   pub pair : CommitPair
   pub pending : IsIn pair (pairs_of (suc (length d.history)) d.pending)
   pub narrow : fits cells pair ≡ true
@@ -91,7 +91,7 @@ pub record IsRiseForWord (a : Actor) (cells : ℕ) (d : WriteTable) (m : ℕ) : 
   pub past : m ≡ bound_past cells (length d.history) gone.decision
 
 -- One of them is too wide for a word, and the bound has not reached its number, which is m.
-pub record IsRiseForWide (a : Actor) (cells : ℕ) (d : WriteTable) (m : ℕ) : Type 0 where
+pub record IsRiseForWide (a : Actor) (cells : ℕ) (d : WriteState) (m : ℕ) : Type 0 where
   pub pair : CommitPair
   pub pending : IsIn pair (pairs_of (suc (length d.history)) d.pending)
   pub wide : fits cells pair ≡ false
@@ -99,7 +99,7 @@ pub record IsRiseForWide (a : Actor) (cells : ℕ) (d : WriteTable) (m : ℕ) : 
   pub is : m ≡ pair.number
 
 -- The bound may rise to m: for one of the pairs that are left of the pending record, and no further.
-abbrev pub IsRise : Actor → ℕ → WriteTable → ℕ → Type 0
+abbrev pub IsRise : Actor → ℕ → WriteState → ℕ → Type 0
 IsRise a cells d m = IsRiseForWord a cells d m ⊎ IsRiseForWide a cells d m
 
 -- the entry, if there is one, has no versions
@@ -139,7 +139,7 @@ KnowsEntered a cells pair =
     (max : ℕ) × (words : List ℕ) × Noted a (words_stay max words) × ((cached words pair.number ≡ Some pair.decision) ⊎ ((fits cells pair ≡ false) × Noted a pair_delayed × (pair.number ≤ max)))
 
 -- the first of the pending entries may be published
-pub record KnowsPublish (a : Actor) (cells : ℕ) (d : WriteTable) (entry : Entry) (others : List Entry) : Type 0 where
+pub record KnowsPublish (a : Actor) (cells : ℕ) (d : WriteState) (entry : Entry) (others : List Entry) : Type 0 where
   pub pending : d.pending ≡ entry ∷ others
   pub logged : d.logged ≡ true
   pub legal : IsLegal (d.history ++ entry ∷ [])
@@ -158,14 +158,14 @@ KnowsLeft a name x = (q : ℕ) × Noted a (undecided_at name q) × (q ≤ length
 
 -- Versions may move from memory to tables: none comes or goes, those in memory above the flushed number stay there, and in
 -- tables is what was there or was in memory up to that number.
-pub record KnowsMoved (t : StoreTable) (flushed : ℕ) (memory tables : List Version) : Type 0 where
+pub record KnowsMoved (t : StoreState) (flushed : ℕ) (memory tables : List Version) : Type 0 where
   pub same : (key : List ℕ) (q : ℕ) → version_at (memory ++ tables) key q ≡ version_at (t.memory ++ t.tables) key q
   pub above : (key : List ℕ) (q : ℕ) → flushed < q → version_at memory key q ≡ version_at t.memory key q
   pub below : (key : List ℕ) (q : ℕ) (value : Option (List ℕ)) → version_at tables key q ≡ Some value → (version_at t.tables key q ≡ Some value) ⊎ ((q ≤ flushed) × (version_at t.memory key q ≡ Some value))
 
 -- Old versions may go from tables: what is left shows the history that the seat has seen at the listed numbers, and at each
 -- from the new floor on; and the live ones are listed or are not below that floor, and so is the base at which the log was opened.
-pub record KnowsReplaced (a : Actor) (t : StoreTable) (flushed base : ℕ) (tables : List Version) (floor : ℕ) : Type 0 where
+pub record KnowsReplaced (a : Actor) (t : StoreState) (flushed base : ℕ) (tables : List Version) (floor : ℕ) : Type 0 where
   pub rises : t.floor ≤ floor
   pub seen_floor : floor ≤ length a.participant.seen
   pub seen_flushed : flushed ≤ length a.participant.seen
@@ -177,7 +177,7 @@ pub record KnowsReplaced (a : Actor) (t : StoreTable) (flushed base : ℕ) (tabl
   pub covered : IsCovered (up_to (length a.participant.seen) (t.memory ++ tables)) a.participant.seen listed floor
 
 -- the edit names the next segment of the log, which is not closed, and flushes the whole history
-abbrev pub NextNamed : WriteTable → InstalledEdit → Type 0
+abbrev pub NextNamed : WriteState → InstalledEdit → Type 0
 NextNamed d edit = (d.closed ≡ false) × (d.next ≡ Some edit.segment) × (edit.flushed ≡ length d.history)
 
 -- An edit may be installed: its tables answer for the history that the seat has seen, it flushes no less than the last, and it names the
@@ -192,7 +192,7 @@ pub record KnowsInstalled (a : Actor) (e : Installed) (edit : InstalledEdit) (co
 
 -- An edit may be installed that names the log's next segment: its tables answer for the history that the seat has seen, it flushes all of
 -- it, and has as many tables as the last one, at least.
-pub record KnowsRenewed (a : Actor) (d : WriteTable) (e : Installed) (edit : InstalledEdit) : Type 0 where
+pub record KnowsRenewed (a : Actor) (d : WriteState) (e : Installed) (edit : InstalledEdit) : Type 0 where
   pub running : e.halted ≡ false
   pub covered : IsEditCovered a.participant.seen edit
   pub next : NextNamed d edit

@@ -4,7 +4,7 @@ ghost use Rattle.std.specs.Prelude.{◌≡◌, ℕ, suc, true, List, [], ◌∷�
 ghost use Rattle.wp_model.specs.declared.entry.Entry.{Entry};
 ghost use Rattle.wp_model.specs.declared.holder.Holder.{Holder};
 ghost use Rattle.wp_model.specs.Flushed.{InstalledEdit};
-ghost use Rattle.wp_model.specs.PreparedTables.{IsSmallest, NonePrepared};
+ghost use Rattle.wp_model.specs.PreparedSets.{IsSmallest, NonePrepared};
 ghost use Rattle.wp_core.specs.Lists.{IsIn};
 ghost use Rattle.wp_core.specs.Turns.{Holds};
 ghost use Rattle.wp_core.specs.Tables.{Content, writes, prepared, snapshots, locks, turn_of};

@@ -1,6 +1,6 @@
 //! What the rule is told once, when a table is made.
 use std::snapshot::Snapshot;
-use wp_ledger::History;
+use wp_history::History;
 use wp_model::Name;
 
 /// How many words the cache has, and for the proof alone the client of the first seat, the history that is opened and the values

@@ -17,7 +17,7 @@ ghost use Rattle.wp_rule.specs.Shows.{Founds, Leaves};
 ghost use Rattle.wp_rule.specs.Ends.{part_of};
 ghost use Rattle.wp_rule.specs.Plays.{Claimed, WasHeld, MayLie, MayUnclaim};
 ghost use Rattle.wp_core.specs.Lists.{IsIn};
-ghost use Rattle.wp_core.specs.Tables.{WriteTable, writes};
+ghost use Rattle.wp_core.specs.Tables.{WriteState, writes};
 ghost use Rattle.wp_core.specs.Cache.{cache_place};
 ghost use Rattle.wp_judge.specs.Words.{CommitPair, word_of, pair_of};
 
@@ -32,7 +32,7 @@ use std::marker::{Brand, Model};
 use std::snapshot::Snapshot;
 use std::sync::Wait;
 use wp_actor::{Actor, Turn};
-use wp_ledger::History;
+use wp_history::History;
 use wp_model::{Name, Seq};
 
 const PUBLISHED: usize = 0;
@@ -195,7 +195,7 @@ impl<S: HoldsPart + Drop> Words<S> {
         requires seat { seat.old.table_id ≡ self.now.table }
         requires next { MayPublishAs (place_of S.content self.now seat.old.id) seat.old.me.0 p }
         ensures same { (seat.new.table_id ≡ seat.old.table_id) × (seat.new.id ≡ seat.old.id) × (seat.new.me.1 ≡ seat.old.me.1) }
-        ensures published { (t : WriteTable) (entry : Entry) (others : List Entry) → IsIn (writes t) seat.old.me.0.held → t.pending ≡ entry ∷ others
+        ensures published { (t : WriteState) (entry : Entry) (others : List Entry) → IsIn (writes t) seat.old.me.0.held → t.pending ≡ entry ∷ others
             → Moved (place_of S.content self.now seat.old.id) (λ w. step.store_published entry others ∷ []) (λ w. w.writes ≡ t) seat.old.me.0 seat.new.me.0 }
     {
         steps::store::<S, Brand>(&self.table.shared, seat, PUBLISHED, p);

@@ -4,7 +4,7 @@ use Rattle.wp_model.specs.declared.entry.Entry.{Entry}
 use Rattle.wp_model.specs.Flushed.{InstalledEdit}
 use Rattle.wp_outside.specs.Disk.{Moment, images}
 use Rattle.wp_core.specs.Lists.{one_if}
-use Rattle.wp_core.specs.Tables.{WriteTable, Installed}
+use Rattle.wp_core.specs.Tables.{WriteState, Installed}
 use Rattle.wp_replies.specs.Known.{StoredState}
 use Rattle.wp_replies.specs.Replies.{Untaken}
 use Rattle.wp_shared.specs.Ended.{IsFrom, OpensAsLeft}
@@ -20,7 +20,7 @@ spelled (suc faults) base closed log failed history entries opened is none (inr 
 none_is : (edit : InstalledEdit) → None ≡ Some edit → ⊥
 none_is edit e = absurd cc
 
-module _ (writes : WriteTable) (edits : Installed) (history : List Entry) where
+module _ (writes : WriteState) (edits : Installed) (history : List Entry) where
   abbrev left : StoredState
   left = record { history = history; edit = edits.last }
 

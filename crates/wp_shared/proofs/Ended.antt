@@ -23,7 +23,7 @@ use Rattle.wp_parts.specs.Set.{TableSetState}
 use Rattle.wp_core.specs.Conditions.{NoneNext}
 use Rattle.wp_core.specs.Images.{MaySpell, MayName}
 use Rattle.wp_core.specs.IsSound.{participants}
-use Rattle.wp_core.specs.Tables.{WriteTable, Installed, Content, writes, installed}
+use Rattle.wp_core.specs.Tables.{WriteState, Installed, Content, writes, installed}
 use Rattle.wp_core.specs.Turns.{Turn, write_turn, tables_turn}
 use Rattle.wp_core.specs.Views.{Event}
 use Rattle.wp_core.specs.World.{Participant, World}
@@ -35,11 +35,11 @@ use Rattle.wp_core.proofs.PendingSteps.{none_logged}
 use Rattle.wp_core.proofs.Tests.{same_some}
 use Rattle.wp_rule.specs.Shows.{IsPart, Leaves, WasLast}
 use Rattle.wp_parts.specs.Log.{LogState, IsLog}
-use Rattle.wp_parts.specs.Edits.{EditsState, IsEdits}
+use Rattle.wp_parts.specs.VersionSet.{VersionSetState, IsEdits}
 use Rattle.wp_parts.specs.Opens.{installed_of}
 use Rattle.wp_parts.specs.Parts.{content, tells, IsGuardedBy}
-use Rattle.wp_parts.specs.declared.part.Part.{Part}
-use Rattle.wp_parts.specs.declared.part.Part.TheVariants as part
+use Rattle.wp_parts.specs.declared.part.TurnValue.{TurnValue}
+use Rattle.wp_parts.specs.declared.part.TurnValue.TheVariants as part
 use Rattle.wp_parts.specs.Devices.{DevicesLeft, devices_behind}
 use Rattle.wp_shared.proofs.Tables.{in_place}
 use Rattle.wp_shared.specs.Opening.{IsOneStore}
@@ -47,7 +47,7 @@ use Rattle.wp_shared.specs.Seats.{SharedState, SeatState, place_at}
 use Rattle.wp_shared.specs.Ending.{AreAll, participant_of, all_joined, Remains}
 use Rattle.wp_shared.specs.Ended.{of_seats, IsFrom, OpensAsLeft, IsSince, IsEnded}
 
-abbrev writes_in : Option Content → WriteTable → WriteTable
+abbrev writes_in : Option Content → WriteState → WriteState
 writes_in (Some (writes t)) d = t
 writes_in other d = d
 
@@ -81,11 +81,11 @@ opens_from left c edit base within at r = subst (λ (n : ℕ). IsFrom n left (fu
   values = λ key. sym (r.agree.values key c.base (omega arith) within);
 })
 
-module _ {D : Type 0} (z : SharedState D) (first : SeatState) (others : List SeatState) (parts : Turn → Part D) (log_box : Box LogState Global) (edits_box : Box EditsState Global) (o : IsOneStore z.opened z.first) (none_joined : first.knows.joined ≡ []) (l : Leaves content (tells z.first) z.first (place_at z 0) (all_joined first.knows others) parts) (is_log : parts write_turn ≡ part.Write log_box) (is_edits : parts tables_turn ≡ part.Tables edits_box) (k : IsLog log_box.value) (e : IsEdits edits_box.value) where
+module _ {D : Type 0} (z : SharedState D) (first : SeatState) (others : List SeatState) (parts : Turn → TurnValue D) (log_box : Box LogState Global) (edits_box : Box VersionSetState Global) (o : IsOneStore z.opened z.first) (none_joined : first.knows.joined ≡ []) (l : Leaves content (tells z.first) z.first (place_at z 0) (all_joined first.knows others) parts) (is_log : parts write_turn ≡ part.Write log_box) (is_edits : parts tables_turn ≡ part.Tables edits_box) (k : IsLog log_box.value) (e : IsEdits edits_box.value) where
   abbrev log : LogState
   log = log_box.value
 
-  abbrev edits : EditsState
+  abbrev edits : VersionSetState
   edits = edits_box.value
 
   -- the world with the first seat alone
@@ -98,10 +98,10 @@ module _ {D : Type 0} (z : SharedState D) (first : SeatState) (others : List Sea
   -- ---- the two values with devices
 
   log_part : IsPart content (tells z.first) (part.Write log_box) (writes w.writes)
-  log_part = subst (λ (x : Part D). IsPart content (tells z.first) x (writes w.writes)) is_log (l.are_parts write_turn)
+  log_part = subst (λ (x : TurnValue D). IsPart content (tells z.first) x (writes w.writes)) is_log (l.are_parts write_turn)
 
   edits_part : IsPart content (tells z.first) (part.Tables edits_box) (installed w.installed)
-  edits_part = subst (λ (x : Part D). IsPart content (tells z.first) x (installed w.installed)) is_edits (l.are_parts tables_turn)
+  edits_part = subst (λ (x : TurnValue D). IsPart content (tells z.first) x (installed w.installed)) is_edits (l.are_parts tables_turn)
 
   same_writes : log.table ≡ w.writes
   same_writes = ap (λ (c : Option Content). writes_in c log.table) log_part.0
@@ -127,13 +127,13 @@ module _ {D : Type 0} (z : SharedState D) (first : SeatState) (others : List Sea
   log_is = l.alone.history.log ∙ (ap (λ (xs : List Entry). w.writes.history ++ xs) (ap (logged_part w.writes.logged) (l.alone.pending (l.free write_turn)) ∙ none_logged w.writes.logged) ∙ append-nil w.writes.history)
 
   log_was : log.table.log ≡ w.writes.history
-  log_was = ap (λ (t : WriteTable). t.log) same_writes ∙ log_is
+  log_was = ap (λ (t : WriteState). t.log) same_writes ∙ log_is
 
   segment_is : log.wal.segment ≡ w.writes.segment
-  segment_is = sym k.segment ∙ ap (λ (t : WriteTable). t.segment) same_writes
+  segment_is = sym k.segment ∙ ap (λ (t : WriteState). t.segment) same_writes
 
   failed_is : log.table.failed ≡ w.writes.failed
-  failed_is = ap (λ (t : WriteTable). t.failed) same_writes
+  failed_is = ap (λ (t : WriteState). t.failed) same_writes
 
   cut_left : IsCut w.writes.history k.cut
   cut_left = subst (λ (xs : List Entry). IsCut xs k.cut) log_was k.is_cut
@@ -163,13 +163,13 @@ module _ {D : Type 0} (z : SharedState D) (first : SeatState) (others : List Sea
       elim (segment_by_crash w l.alone edit named) [
         | inl same ↦ (
           told.0.0,
-          subst (λ (t : WriteTable). MaySpell t told.0.0) same_writes told.0.2,
-          subst (λ (x : ℕ × Segment). HasCutAt x.0 x.1 image told.0.0) (λ i. (log_id i, (ap (λ (t : WriteTable). t.segment) same_writes ∙ sym same) i)) told.0.1,
+          subst (λ (t : WriteState). MaySpell t told.0.0) same_writes told.0.2,
+          subst (λ (x : ℕ × Segment). HasCutAt x.0 x.1 image told.0.0) (λ i. (log_id i, (ap (λ (t : WriteState). t.segment) same_writes ∙ sym same) i)) told.0.1,
         )
         | inr next ↦ (
           w.writes.history,
           next.2,
-          subst (λ (x : ℕ × List Entry). HasCutAt x.0 edit.segment image x.1) (λ i. (log_id i, ap (λ (t : WriteTable). t.history) same_writes i)) (told.1 edit.segment (ap (λ (t : WriteTable). t.next) same_writes ∙ next.0)),
+          subst (λ (x : ℕ × List Entry). HasCutAt x.0 edit.segment image x.1) (λ i. (log_id i, ap (λ (t : WriteState). t.history) same_writes i)) (told.1 edit.segment (ap (λ (t : WriteState). t.next) same_writes ∙ next.0)),
         )
       ]
 
@@ -211,7 +211,7 @@ module _ {D : Type 0} (z : SharedState D) (first : SeatState) (others : List Sea
       }
 
   log_caused : w.writes.closed ≡ true → w.writes.stopped ≡ false → Rose log.first.faults log.wal.faults
-  log_caused closed not = subst (λ (t : WriteTable). t.closed ≡ true → t.stopped ≡ false → Rose log.first.faults log.wal.faults) same_writes (λ c n. k.cause (k.by_fault c n)) closed not
+  log_caused closed not = subst (λ (t : WriteState). t.closed ≡ true → t.stopped ≡ false → Rose log.first.faults log.wal.faults) same_writes (λ c n. k.cause (k.by_fault c n)) closed not
 
   since_opened : IsSince o.wal o.set w.writes w.installed (devices_behind log.wal edits.set)
   since_opened = subst (λ (x : WalState × TableSetState). IsSince x.0 x.1 w.writes w.installed (devices_behind log.wal edits.set)) (λ i. (wal_is i, set_is i)) (record {
@@ -270,20 +270,20 @@ module _ {D : Type 0} (z : SharedState D) (first : SeatState) (others : List Sea
 
   ended_as : (history : List Entry) (left : DevicesLeft) → history ≡ log.table.history → left ≡ devices_behind log.wal edits.set → IsEnded z (first ∷ others) history left × IsBasedAsOpened z log
   ended_as history left same devices = (
-    subst (λ (x : List Entry × DevicesLeft). IsEnded z (first ∷ others) x.0 x.1) (λ i. (sym (same ∙ ap (λ (t : WriteTable). t.history) same_writes) i, sym devices i)) ended_first,
+    subst (λ (x : List Entry × DevicesLeft). IsEnded z (first ∷ others) x.0 x.1) (λ i. (sym (same ∙ ap (λ (t : WriteState). t.history) same_writes) i, sym devices i)) ended_first,
     based_left,
   )
 
 -- the values behind the write turn and the tables turn are theirs
-pub writes_left : {D : Type 0} (z : SharedState D) (seats : List SeatState) (parts : Turn → Part D) → AreAll seats → Remains z seats parts → IsGuardedBy write_turn (parts write_turn)
+pub writes_left : {D : Type 0} (z : SharedState D) (seats : List SeatState) (parts : Turn → TurnValue D) → AreAll seats → Remains z seats parts → IsGuardedBy write_turn (parts write_turn)
 writes_left z [] parts all l = absurd all
 writes_left z (first ∷ others) parts all l = (writes l.world.writes, (l.are_parts write_turn).0, refl)
 
-pub edits_left : {D : Type 0} (z : SharedState D) (seats : List SeatState) (parts : Turn → Part D) → AreAll seats → Remains z seats parts → IsGuardedBy tables_turn (parts tables_turn)
+pub edits_left : {D : Type 0} (z : SharedState D) (seats : List SeatState) (parts : Turn → TurnValue D) → AreAll seats → Remains z seats parts → IsGuardedBy tables_turn (parts tables_turn)
 edits_left z [] parts all l = absurd all
 edits_left z (first ∷ others) parts all l = (installed l.world.installed, (l.are_parts tables_turn).0, refl)
 
-pub ended : {D : Type 0} (z : SharedState D) (seats : List SeatState) (parts : Turn → Part D) (log_box : Box LogState Global) (edits_box : Box EditsState Global) (log : LogState) (edits : EditsState) (history : List Entry) (left : DevicesLeft)
+pub ended : {D : Type 0} (z : SharedState D) (seats : List SeatState) (parts : Turn → TurnValue D) (log_box : Box LogState Global) (edits_box : Box VersionSetState Global) (log : LogState) (edits : VersionSetState) (history : List Entry) (left : DevicesLeft)
     → log ≡ log_box.value → edits ≡ edits_box.value → IsOneStore z.opened z.first → AreAll seats → Remains z seats parts → parts write_turn ≡ part.Write log_box → parts tables_turn ≡ part.Tables edits_box → IsLog log → IsEdits edits
     → history ≡ log.table.history → left ≡ devices_behind log.wal edits.set → IsEnded z seats history left × IsBasedAsOpened z log
 ended z [] parts log_box edits_box log edits history left inside edits_inside o all l is_log is_edits k e same devices = absurd all

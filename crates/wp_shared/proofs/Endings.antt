@@ -6,12 +6,12 @@ use Rattle.atomic_table.specs.Seated.{TableId}
 use Rattle.wp_core.specs.Turns.{Turn}
 use Rattle.wp_core.specs.World.{Actor}
 use Rattle.wp_rule.specs.Shows.{Leaves}
-use Rattle.wp_parts.specs.declared.part.Part.{Part}
+use Rattle.wp_parts.specs.declared.part.TurnValue.{TurnValue}
 use Rattle.wp_parts.specs.Parts.{content, tells}
 use Rattle.wp_shared.specs.Seats.{SharedState, SeatState, IsFree, turns_of, place_at}
 use Rattle.wp_shared.specs.Ending.{AllFree, AreAll, participant_of, all_joined, Remains}
 
-pub none_carried : {D : Type 0} (cs : List (ℕ × Part D)) → turns_of cs ≡ [] → cs ≡ []
+pub none_carried : {D : Type 0} (cs : List (ℕ × TurnValue D)) → turns_of cs ≡ [] → cs ≡ []
 none_carried [] e = refl
 none_carried (c ∷ cs) e = absurd cc
 
@@ -53,7 +53,7 @@ all_made a first others gone is same none made =
     let joined : a.joined ≡ map participant_of gone ++ [] = ap (λ (x : Actor). x.joined) is ∙ ap (λ x. map participant_of gone ++ x) none in
     ap (λ (x : Actor). x.made) is ∙ (made ∙ (ap length same ∙ (sym (count_joined gone) ∙ sym (ap length joined))))
 
-pub remains : {D : Type 0} (y z : SharedState D) (seats others : List SeatState) (first : SeatState) (a : Actor) (parts : Turn → Part D) → y ≡ z → seats ≡ first ∷ others → a ≡ all_joined first.knows others
+pub remains : {D : Type 0} (y z : SharedState D) (seats others : List SeatState) (first : SeatState) (a : Actor) (parts : Turn → TurnValue D) → y ≡ z → seats ≡ first ∷ others → a ≡ all_joined first.knows others
     → Leaves content (tells y.first) y.first (place_at y 0) a parts → Remains z seats parts
 remains {D} y z seats others first a parts store all same l =
     subst (λ (x : SharedState D × List SeatState). Remains x.0 x.1 parts) (λ i. (store i, sym all i)) (subst (λ (b : Actor). Leaves content (tells y.first) y.first (place_at y 0) b parts) same l)

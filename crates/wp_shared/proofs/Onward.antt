@@ -10,7 +10,7 @@ use Rattle.wp_core.specs.Turns.{Turn}
 use Rattle.wp_core.specs.Views.{Fact}
 use Rattle.wp_core.specs.World.{Participant}
 use Rattle.wp_shared.specs.Calls.{IsLoose, GoesOnWith, ContinuesWith}
-use Rattle.wp_shared.specs.Notes.{no_fact, is_under, seeing, being, GoesOn}
+use Rattle.wp_shared.specs.Notes.{no_fact, is_under, seeing, with_participant, GoesOn}
 use Rattle.wp_shared.specs.Seats.{SharedState, SeatState, IsFree}
 use Rattle.wp_shared.specs.Turns.{HoldsTurn, Taken}
 
@@ -92,7 +92,7 @@ goes_none s = record { same_table = refl; same_by = refl; live = refl; seen = st
 pub goes_seeing : {Stays : Fact → Type 0} (s : SeatState) (h : List Entry) → StartsWith h s.knows.participant.seen → GoesOnWith Stays s (seeing h s) s.knows.participant
 goes_seeing s h grown = record { same_table = refl; same_by = refl; live = refl; seen = grown; participant = refl; notes = λ fact stays there. there; made = refl; joined = refl }
 
-pub goes_being : {Stays : Fact → Type 0} (s : SeatState) (p : Participant) → p.seen ≡ s.knows.participant.seen → GoesOnWith Stays s (being p s) p
+pub goes_being : {Stays : Fact → Type 0} (s : SeatState) (p : Participant) → p.seen ≡ s.knows.participant.seen → GoesOnWith Stays s (with_participant p s) p
 goes_being s p same = record { same_table = refl; same_by = refl; live = refl; seen = starts_equal s.knows.participant.seen p.seen same; participant = refl; notes = λ fact stays there. there; made = refl; joined = refl }
 
 -- ---- the seat is free

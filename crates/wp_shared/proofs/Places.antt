@@ -5,7 +5,7 @@ use Rattle.wp_core.specs.Steps.{Step}
 use Rattle.wp_rule.specs.Words.{Place, IsAt, SawAll}
 use Rattle.wp_rule.specs.Moves.{MayStep, Moved}
 use Rattle.wp_shared.specs.Seats.{SharedState, SeatState, Stands, AllAway, place_at}
-use Rattle.wp_parts.specs.declared.part.Part.{Part}
+use Rattle.wp_parts.specs.declared.part.TurnValue.{TurnValue}
 
 -- the seat moved, and so it did by its view
 pub moved_from : (p : Place) (steps : World → List Step) (so : World → Type 0) (s t : SeatState) (b : Actor) → s ≡ t → Moved p steps so s.knows b → Moved p steps so t.knows b
@@ -27,6 +27,6 @@ pub found : {D : Type 0} (z : SharedState D) (so : World → Type 0) (s t : Seat
 found {D} z so s t a same m = (m.world, subst (λ (by : ℕ). IsAt (place_at z by) t.knows m.world) (sym (ap (λ (x : SeatState). x.by) same)) m.after, m.so_is)
 
 -- a seat that holds the turns that it held, and is the same client's, is one
-pub still_sits : {D : Type 0} (cs ds : List (ℕ × Part D)) (client : List ℕ) (a b : Actor) → ds ≡ cs → b.participant.client ≡ a.participant.client → AllAway cs × (client ≡ a.participant.client)
+pub still_sits : {D : Type 0} (cs ds : List (ℕ × TurnValue D)) (client : List ℕ) (a b : Actor) → ds ≡ cs → b.participant.client ≡ a.participant.client → AllAway cs × (client ≡ a.participant.client)
     → AllAway ds × (client ≡ b.participant.client)
 still_sits cs ds client a b same keeps sat = (subst AllAway (sym same) sat.0, sat.1 ∙ sym keeps)

@@ -5,8 +5,8 @@ use Rattle.std.proofs.Math.Nat.{mod-le}
 use Rattle.std.proofs.lemmas.List.{get_or_past}
 use Rattle.wp_judge.specs.Words.{pair_of, CommitPair, is_pair, delta_bound}
 use Rattle.wp_model.specs.Decision.{decision_of}
-use Rattle.wp_model.specs.LockTables.{LockTables}
-use Rattle.wp_model.specs.PreparedTables.{PreparedTables, NoneDelayed}
+use Rattle.wp_model.specs.LockState.{LockState}
+use Rattle.wp_model.specs.PreparedSets.{PreparedSets, NoneDelayed}
 use Rattle.wp_model.specs.Snapshots.{Snapshots, NoOldCommits}
 use Rattle.wp_model.specs.declared.entry.Entry.{Entry}
 use Rattle.wp_model.specs.declared.segment.Segment.{Segment}
@@ -16,7 +16,7 @@ use Rattle.wp_core.specs.Entries.{extended}
 use Rattle.wp_core.specs.IsSound.{IsSound}
 use Rattle.wp_core.specs.Lists.{IsIn}
 use Rattle.wp_core.specs.Steps.{give_turn}
-use Rattle.wp_core.specs.Tables.{Content, WriteTable, StoreTable, Installed, writes, prepared, snapshots, store, locks, installed, turn_of}
+use Rattle.wp_core.specs.Tables.{Content, WriteState, StoreState, Installed, writes, prepared, snapshots, store, locks, installed, turn_of}
 use Rattle.wp_core.specs.Views.{Fact, words_stay, tables_stay, nothing_flushed, delayed_flag_stays, old_flag_stays}
 use Rattle.wp_core.specs.World.{Actor, World, content_of}
 use Rattle.wp_core.proofs.HistoryLaws.{decision_within}
@@ -28,9 +28,9 @@ use Rattle.wp_rule.specs.Words.{Place, IsAt}
 use Rattle.wp_rule.proofs.Knows.{held_is}
 use Rattle.wp_rule.proofs.Needed.{needed}
 use Rattle.wp_parts.specs.Parts.{content, Tells}
-use Rattle.wp_parts.specs.Stock.{store_table}
-use Rattle.wp_parts.specs.declared.part.Part.{Part}
-use Rattle.wp_parts.specs.declared.part.Part.TheVariants as part
+use Rattle.wp_parts.specs.Stock.{store_state}
+use Rattle.wp_parts.specs.declared.part.TurnValue.{TurnValue}
+use Rattle.wp_parts.specs.declared.part.TurnValue.TheVariants as part
 use Rattle.wp_shared.specs.Notes.{ArePublished}
 use Rattle.wp_shared.specs.Turns.{KnowsTaken, KnowsToGive, IsTableOf}
 use Rattle.wp_judge.proofs.Packing.{pair_parts, with_test}
@@ -38,18 +38,18 @@ use Rattle.wp_judge.proofs.Packing.{pair_parts, with_test}
 -- ---- where the log is
 
 -- it is in the segment that the last edit names, where none waits beside it
-pub in_place : (t : WriteTable) (last : Segment) → (last ≡ t.segment) ⊎ ((t.next ≡ Some last) × (t.closed ≡ false)) → NoneNext t → last ≡ t.segment
+pub in_place : (t : WriteState) (last : Segment) → (last ≡ t.segment) ⊎ ((t.next ≡ Some last) × (t.closed ≡ false)) → NoneNext t → last ≡ t.segment
 in_place t last (inl same) free = same
 in_place t last (inr waits) (inl none) = absurd (none_some t.next last none waits.0)
 in_place t last (inr waits) (inr closed) = absurd (true≢false (sym closed ∙ waits.1))
 
 -- ---- which table it is
 
-abbrev writes_in : WriteTable → Content → WriteTable
+abbrev writes_in : WriteState → Content → WriteState
 writes_in t (writes d) = d
 writes_in t other = t
 
-abbrev prepared_in : PreparedTables → Content → PreparedTables
+abbrev prepared_in : PreparedSets → Content → PreparedSets
 prepared_in t (prepared d) = d
 prepared_in t other = t
 
@@ -57,11 +57,11 @@ abbrev snapshots_in : Snapshots → Content → Snapshots
 snapshots_in m (snapshots d) = d
 snapshots_in m other = m
 
-abbrev store_in : StoreTable → Content → StoreTable
+abbrev store_in : StoreState → Content → StoreState
 store_in t (store d) = d
 store_in t other = t
 
-abbrev locks_in : LockTables → Content → LockTables
+abbrev locks_in : LockState → Content → LockState
 locks_in t (locks d) = d
 locks_in t other = t
 
@@ -107,12 +107,12 @@ abbrev pub NoneWaits : Content → Type 0
 NoneWaits (writes t) = NoneNext t
 NoneWaits other = Unit {0}
 
-pub none_in : {D : Type 0} (x : Part D) (c : Content) → content x ≡ Some c → Tells x → NoneWaits c
+pub none_in : {D : Type 0} (x : TurnValue D) (c : Content) → content x ≡ Some c → Tells x → NoneWaits c
 none_in part.Away c is told = let q : None ≡ Some c = is in absurd (cc)
 none_in (part.Write log) c is told = subst NoneWaits (same_some (writes log.value.table) c is) told.1
 none_in (part.Prepared t) c is told = subst NoneWaits (same_some (prepared t.value) c is) tt
 none_in (part.Snapshots m) c is told = subst NoneWaits (same_some (snapshots m.value) c is) tt
-none_in (part.Store t) c is told = subst NoneWaits (same_some (store (store_table t.value)) c is) tt
+none_in (part.Store t) c is told = subst NoneWaits (same_some (store (store_state t.value)) c is) tt
 none_in (part.Locks t) c is told = subst NoneWaits (same_some (locks t.value) c is) tt
 none_in (part.Tables e) c is told = subst NoneWaits (same_some (installed e.value.table) c is) tt
 
@@ -121,12 +121,12 @@ none_in (part.Tables e) c is told = subst NoneWaits (same_some (installed e.valu
 -- once it is taken
 pub knows_taken : (w : World) (a : Actor) (table : Content) → IsSound w → MayGive w (turn_of table) → IsTableOf w table → ((fact : Fact) → IsIn fact (facts_at (turn_of table) w) → Noted a fact) → KnowsTaken a table
 knows_taken w a (writes t) s may is noted = (
-  ap (λ (d : WriteTable). d.pending) (sym is) ∙ may.0,
+  ap (λ (d : WriteState). d.pending) (sym is) ∙ may.0,
   record {
     bound = w.max_evicted;
     words = w.cache;
     noted = noted (words_stay w.max_evicted w.cache) (inl refl);
-    are_published = λ place pair there. subst (λ (d : WriteTable). pair.decision ≤ length d.history) is (world_published w s may.0 place pair there);
+    are_published = λ place pair there. subst (λ (d : WriteState). pair.decision ≤ length d.history) is (world_published w s may.0 place pair there);
   },
 )
 knows_taken w a (prepared t) s may is noted = record {

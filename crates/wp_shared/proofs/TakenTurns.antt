@@ -5,7 +5,7 @@ use Rattle.wp_core.specs.Changes.{turn_index, held_without, sees}
 use Rattle.wp_core.specs.Conditions.{MayGive}
 use Rattle.wp_core.specs.Lists.{IsIn}
 use Rattle.wp_core.specs.Steps.{give_turn}
-use Rattle.wp_core.specs.Tables.{Content, WriteTable, writes, turn_of}
+use Rattle.wp_core.specs.Tables.{Content, WriteState, writes, turn_of}
 use Rattle.wp_core.specs.Turns.{Turn, turn_holder}
 use Rattle.wp_core.specs.Views.{Fact, words_stay}
 use Rattle.wp_core.specs.World.{Actor, World, content_of}
@@ -15,7 +15,7 @@ use Rattle.wp_rule.specs.Moves.{MayStep}
 use Rattle.wp_rule.specs.Plays.{facts_at}
 use Rattle.wp_rule.proofs.Knows.{at_sound}
 use Rattle.wp_rule.proofs.Takes.{table_of}
-use Rattle.wp_parts.specs.declared.part.Part.{Part}
+use Rattle.wp_parts.specs.declared.part.TurnValue.{TurnValue}
 use Rattle.wp_parts.specs.Log.{LogState}
 use Rattle.wp_parts.specs.Parts.{content, tells, log_first, IsGuardedBy}
 use Rattle.wp_shared.specs.Notes.{is_under, seeing, SawHistory, GoesOn}
@@ -35,7 +35,7 @@ in_back x (y ∷ xs) ys there = inr (in_back x xs ys there)
 
 -- ---- a turn is taken
 
-module _ {D : Type 0} (z : SharedState D) (turn : Turn) (old new : SeatState) (value : Part D) (k : TookPart z turn old new value) where
+module _ {D : Type 0} (z : SharedState D) (turn : Turn) (old new : SeatState) (value : TurnValue D) (k : TookPart z turn old new value) where
   pub guarded : IsGuardedBy turn value
   guarded = (content_of k.world turn, k.is, table_of k.world turn)
 
@@ -90,7 +90,7 @@ module _ {D : Type 0} (z : SharedState D) (old s new : SeatState) (log : LogStat
   log_there = held_table (place_at z new.by) new.knows saw.world (writes log.table) saw.stands (subst (λ (x : SeatState). IsIn (writes log.table) x.knows.held) (sym now_is) (inl refl))
 
   all_seen : saw.history ≡ log.table.history
-  all_seen = sym saw.is ∙ ap (λ (t : WriteTable). t.history) log_there
+  all_seen = sym saw.is ∙ ap (λ (t : WriteState). t.history) log_there
 
   now_is_all : new ≡ saw_as log.table.history
   now_is_all = now_is ∙ ap saw_as all_seen
@@ -135,7 +135,7 @@ module _ {D : Type 0} (z : SharedState D) (turn : Turn) (old : SeatState) (table
   taken_last : old.turns ≡ turn_index turn ∷ beneath
   taken_last = h.turns ∙ ap (λ (u : Turn). turn_index u ∷ beneath) (sym of_turn)
 
-  pub may_give_part : (value : Part D) → content value ≡ Some table → tells z.first value → KnowsToGive old.knows table → MayGivePart z turn old value
+  pub may_give_part : (value : TurnValue D) → content value ≡ Some table → tells z.first value → KnowsToGive old.knows table → MayGivePart z turn old value
   may_give_part value is told known =
       let held : IsIn table old.knows.held = subst (IsIn table) (sym h.held) (inl refl) in record {
         table = table;

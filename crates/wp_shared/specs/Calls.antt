@@ -8,8 +8,8 @@ use Rattle.wp_core.specs.Sound.Views.{guarded_by}
 use Rattle.wp_shared.specs.Seats.{SharedState, SeatState, IsFree}
 
 -- it remembers these events too
-abbrev pub remembering : List Event → Participant → Participant
-remembering events p = record p { past = p.past ++ events }
+abbrev pub with_events : List Event → Participant → Participant
+with_events events p = record p { past = p.past ++ events }
 
 -- it needs no turn: what is noted so stays when turns are given
 abbrev pub IsLoose : Fact → Type 0

@@ -3,7 +3,7 @@ use Rattle.std.specs.Prelude.{◌≡◌, ◌⊎◌, ℕ, ◌+◌, ◌≤◌, tru
 use Rattle.wp_model.specs.declared.entry.Entry.{Entry}
 use Rattle.wp_model.specs.Flushed.{InstalledEdit}
 use Rattle.wp_model.specs.Legal.{IsLegal}
-use Rattle.wp_model.specs.LockTables.{LockTables}
+use Rattle.wp_model.specs.LockState.{LockState}
 use Rattle.wp_outside.specs.Disk.{images, IfKnown}
 use Rattle.wp_outside.specs.Faults.{Rose}
 use Rattle.wp_fields.specs.declared.format.Format.{Format}
@@ -19,7 +19,7 @@ use Rattle.wp_parts.specs.Device.{KeepsFronts}
 use Rattle.wp_parts.specs.Set.{TableSetState}
 use Rattle.wp_parts.specs.Opens.{OpensTo}
 use Rattle.wp_core.specs.Images.{MaySpell, MayName}
-use Rattle.wp_core.specs.Tables.{WriteTable, Installed}
+use Rattle.wp_core.specs.Tables.{WriteState, Installed}
 use Rattle.wp_core.specs.World.{Participant}
 use Rattle.wp_core.specs.Sound.Actors.{StartsWith, AreSeen, AreOwned, seen_of, own_of}
 use Rattle.wp_core.specs.Sound.Pasts.{AreHolders, IsBoard, AreFaults, AreEdits, past_of}
@@ -42,7 +42,7 @@ pub record IsFrom (base : ℕ) (left history : List Entry) : Type 0 where
 
 -- The bytes of the three devices open to a list that is, from the edit's base on, one that the log may spell, and to an edit that the
 -- manifest may name.
-pub record OpensAsLeft (id : ℕ) (writes : WriteTable) (edits : Installed) (log manifest tables : List ℕ) : Type 0 where
+pub record OpensAsLeft (id : ℕ) (writes : WriteState) (edits : Installed) (log manifest tables : List ℕ) : Type 0 where
   pub left : List Entry
   pub history : List Entry
   pub edit : InstalledEdit
@@ -53,7 +53,7 @@ pub record OpensAsLeft (id : ℕ) (writes : WriteTable) (edits : Installed) (log
 
 -- Since the devices were opened no fault was forgotten, and none was made up: a log that was closed and not stopped had a fault. What was
 -- for good then is so still; of the log, as long as it is in the segment of then. Its base never falls.
-pub record IsSince (wal : WalState) (set : TableSetState) (writes : WriteTable) (edits : Installed) (left : DevicesLeft) : Type 0 where
+pub record IsSince (wal : WalState) (set : TableSetState) (writes : WriteState) (edits : Installed) (left : DevicesLeft) : Type 0 where
   pub log_later : wal.faults ≤ left.log_faults
   pub manifest_later : set.manifest.log.faults ≤ left.manifest_faults
   pub tables_later : set.faults ≤ left.tables_faults
@@ -66,8 +66,8 @@ pub record IsSince (wal : WalState) (set : TableSetState) (writes : WriteTable) 
 
 pub record IsEnded {D : Type 0} (z : SharedState D) (seats : List SeatState) (history : List Entry) (left : DevicesLeft) : Type 0 where
   -- the tables at the end, and the last edit as the store was opened
-  pub writes : WriteTable
-  pub locks : LockTables
+  pub writes : WriteState
+  pub locks : LockState
   pub edits : Installed
   pub first_edit : InstalledEdit
   pub first_is : WasLast content z.first first_edit

@@ -4,7 +4,7 @@ use Rattle.atomic_table.specs.Seated.{TableId}
 use Rattle.wp_core.specs.Turns.{Turn}
 use Rattle.wp_core.specs.World.{Actor, Participant}
 use Rattle.wp_rule.specs.Shows.{Leaves}
-use Rattle.wp_parts.specs.declared.part.Part.{Part}
+use Rattle.wp_parts.specs.declared.part.TurnValue.{TurnValue}
 use Rattle.wp_parts.specs.Parts.{content, tells}
 use Rattle.wp_shared.specs.Seats.{SharedState, SeatState, IsFree, place_at}
 
@@ -26,6 +26,6 @@ all_joined a seats = record a { joined = map participant_of seats ++ a.joined }
 
 -- What is left of the store: its world, in which no turn is held and whose only participants are those of the seats, and behind
 -- each turn its table. The world is sound with these participants alone.
-abbrev pub Remains : {D : Type 0} → SharedState D → List SeatState → (Turn → Part D) → Type 0
+abbrev pub Remains : {D : Type 0} → SharedState D → List SeatState → (Turn → TurnValue D) → Type 0
 Remains z [] parts = ⊥
 Remains z (first ∷ others) parts = Leaves content (tells z.first) z.first (place_at z 0) (all_joined first.knows others) parts

@@ -10,7 +10,7 @@ pub mod Ended
 pub use Rattle.wp_parts.specs.Cut
 pub use Rattle.wp_parts.specs.Log
 pub use Rattle.wp_parts.specs.Stock
-pub use Rattle.wp_parts.specs.Edits
+pub use Rattle.wp_parts.specs.VersionSet
 pub use Rattle.wp_parts.specs.Installs
 pub use Rattle.wp_parts.specs.Renewal
 pub use Rattle.wp_parts.specs.Parts

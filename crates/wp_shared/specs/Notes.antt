@@ -12,7 +12,7 @@
 use Rattle.std.specs.Prelude.{◌≡◌, ℕ, ◌≤◌, Bool, true, false, List, ◌∷◌, Option, Some}
 use Rattle.wp_judge.specs.Words.{CommitPair}
 use Rattle.wp_model.specs.Legal.{IsLegal}
-use Rattle.wp_model.specs.PreparedTables.{PreparedTables, NoneDelayed}
+use Rattle.wp_model.specs.PreparedSets.{PreparedSets, NoneDelayed}
 use Rattle.wp_model.specs.Snapshots.{Snapshots, NoOldCommits}
 use Rattle.wp_model.specs.declared.entry.Entry.{Entry}
 use Rattle.wp_core.specs.Cache.{pair_at}
@@ -78,8 +78,8 @@ abbrev pub seeing : List Entry → SeatState → SeatState
 seeing history s = seat_of s (sees history s.knows)
 
 -- the seat as this participant
-abbrev pub being : Participant → SeatState → SeatState
-being p s = seat_of s (record s.knows { participant = p })
+abbrev pub with_participant : Participant → SeatState → SeatState
+with_participant p s = seat_of s (record s.knows { participant = p })
 
 -- The seat holds these tables by these turns now, and is otherwise as it was but for its notes. Of those that do not pass the
 -- test none is gone.
@@ -106,7 +106,7 @@ pub record FlagTells (a : Actor) (flag : ℕ → Fact) (none : Type 0) : Type 0 
   pub empty : value ≡ 0 → none
   pub down : none → value ≡ 0
 
-abbrev pub DelayedFlagTells : Actor → PreparedTables → Type 0
+abbrev pub DelayedFlagTells : Actor → PreparedSets → Type 0
 DelayedFlagTells a t = FlagTells a delayed_flag_stays (NoneDelayed t)
 
 abbrev pub OldFlagTells : Actor → Snapshots → Type 0

@@ -5,13 +5,13 @@ use Rattle.wp_model.specs.Flushed.{InstalledEdit}
 use Rattle.wp_model.specs.Legal.{undone_last}
 use Rattle.wp_parts.specs.Set.{TableSetState}
 use Rattle.wp_wal.specs.Wal.{WalState}
-use Rattle.wp_parts.specs.declared.part.Part.{Part}
+use Rattle.wp_parts.specs.declared.part.TurnValue.{TurnValue}
 use Rattle.wp_rule.specs.Shows.{WasLast}
 use Rattle.wp_parts.specs.Parts.{content, log_first, set_first}
 
 -- The values behind the turns were those of one store: its log, and its tables under the log's id, whose last edit names the log's
 -- segment. Its base is within the history that was opened, and there is no undo.
-pub record IsOneStore {D : Type 0} (opened : List Entry) (first : List (Part D)) : Type 0 where
+pub record IsOneStore {D : Type 0} (opened : List Entry) (first : List (TurnValue D)) : Type 0 where
   pub wal : WalState
   pub set : TableSetState
   pub log : log_first first ≡ Some wal

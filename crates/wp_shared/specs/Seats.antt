@@ -4,8 +4,8 @@ use Rattle.atomic_table.specs.Seated.{TableId}
 use Rattle.wp_model.specs.declared.entry.Entry.{Entry}
 use Rattle.wp_core.specs.World.{Actor, World}
 use Rattle.wp_rule.specs.Words.{SharedWords, Place, place_of, IsAt}
-use Rattle.wp_parts.specs.declared.part.Part.{Part}
-use Rattle.wp_parts.specs.declared.part.Part.TheVariants as part
+use Rattle.wp_parts.specs.declared.part.TurnValue.{TurnValue}
+use Rattle.wp_parts.specs.declared.part.TurnValue.TheVariants as part
 use Rattle.wp_parts.specs.Parts.{content}
 
 -- The store: which table it is, the history that was opened, how many words its cache has, the values behind the turns as
@@ -14,7 +14,7 @@ pub record SharedState (D : Type 0) : Type 0 where
   pub table : TableId
   pub opened : List Entry
   pub cells : ℕ
-  pub first : List (Part D)
+  pub first : List (TurnValue D)
   pub limit : ℕ
 
 -- a seat: at which table, its number there, what it knows, and which turns it holds, the one taken last first
@@ -25,11 +25,11 @@ pub record SeatState : Type 0 where
   pub turns : List ℕ
 
 -- between calls each slot of a turn that is held has what stands in for its value
-abbrev pub AllAway : {D : Type 0} → List (ℕ × Part D) → Type 0
+abbrev pub AllAway : {D : Type 0} → List (ℕ × TurnValue D) → Type 0
 AllAway [] = Unit {0}
 AllAway (c ∷ cs) = (c.1 ≡ part.Away) × AllAway cs
 
-abbrev pub turns_of : {D : Type 0} → List (ℕ × Part D) → List ℕ
+abbrev pub turns_of : {D : Type 0} → List (ℕ × TurnValue D) → List ℕ
 turns_of [] = []
 turns_of (c ∷ cs) = c.0 ∷ turns_of cs
 
@@ -41,7 +41,7 @@ pub record IsFree (table : TableId) (s : SeatState) : Type 0 where
   pub held : s.knows.held ≡ []
 
 -- its words
-abbrev pub words_in : {D : Type 0} → SharedState D → SharedWords (Part D)
+abbrev pub words_in : {D : Type 0} → SharedState D → SharedWords (TurnValue D)
 words_in z = record { table = z.table; opened = z.opened; cells = z.cells; first = z.first }
 
 -- the seat's place

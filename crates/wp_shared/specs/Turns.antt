@@ -6,7 +6,7 @@ use Rattle.wp_core.specs.Lists.{IsIn}
 use Rattle.wp_core.specs.Sound.Actors.{StartsWith}
 use Rattle.wp_core.specs.Steps.{give_turn}
 use Rattle.wp_core.specs.Tables.{Content, writes, prepared, snapshots, store, locks, installed, turn_of}
-use Rattle.wp_model.specs.PreparedTables.{NoneDelayed}
+use Rattle.wp_model.specs.PreparedSets.{NoneDelayed}
 use Rattle.wp_model.specs.Snapshots.{NoOldCommits}
 use Rattle.wp_core.specs.Turns.{Turn, write_turn, turn_holder}
 use Rattle.wp_core.specs.Views.{Fact, words_stay, delayed_flag_stays, old_flag_stays}
@@ -16,7 +16,7 @@ use Rattle.wp_rule.specs.Moves.{MayStep}
 use Rattle.wp_rule.specs.Plays.{facts_at, with_turn}
 use Rattle.wp_parts.specs.Log.{LogState}
 use Rattle.wp_parts.specs.Parts.{content, tells, log_first}
-use Rattle.wp_parts.specs.declared.part.Part.{Part}
+use Rattle.wp_parts.specs.declared.part.TurnValue.{TurnValue}
 use Rattle.wp_shared.specs.Notes.{no_fact, is_under, seeing, GoesOn, DelayedFlagTells, OldFlagTells, KnowsWords}
 use Rattle.wp_shared.specs.Seats.{SharedState, SeatState, IsFree, Stands, place_at}
 
@@ -54,7 +54,7 @@ IsTableOf w (installed e) = w.installed ≡ e
 
 -- The turn was free and is the seat's now. The value is the turn's table, which the seat has, with what the turn guards besides
 -- as notes. All is so as it has to be to give it.
-pub record TookPart {D : Type 0} (z : SharedState D) (turn : Turn) (old new : SeatState) (part : Part D) : Type 0 where
+pub record TookPart {D : Type 0} (z : SharedState D) (turn : Turn) (old new : SeatState) (part : TurnValue D) : Type 0 where
   pub world : World
   pub before : Stands z old world
   pub free : turn_holder world.holders turn ≡ None
@@ -65,7 +65,7 @@ pub record TookPart {D : Type 0} (z : SharedState D) (turn : Turn) (old new : Se
   pub stands : (w : World) × Stands z new w
 
 -- The value may go home: it is the table of the turn, which was taken last, as the seat left it, and the turn may be given.
-pub record MayGivePart {D : Type 0} (z : SharedState D) (turn : Turn) (s : SeatState) (part : Part D) : Type 0 where
+pub record MayGivePart {D : Type 0} (z : SharedState D) (turn : Turn) (s : SeatState) (part : TurnValue D) : Type 0 where
   pub table : Content
   pub is : content part ≡ Some table
   pub of_turn : turn ≡ turn_of table

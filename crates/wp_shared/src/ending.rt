@@ -12,9 +12,9 @@ ghost use Rattle.wp_shared.specs.Ended.{IsEnded};
 
 use crate::seat::Seat;
 use crate::shared::Shared;
-use wp_ledger::History;
+use wp_history::History;
 use wp_outside::{Disk, Disks};
-use wp_parts::{BehindTurn, Edits, Log, Part, take_apart};
+use wp_parts::{BehindTurn, Log, TurnValue, VersionSet, take_apart};
 use wp_rule::Parts;
 
 /// What an ended store leaves.
@@ -36,7 +36,7 @@ impl<D: Disk + Drop> Shared<D> {
 
     /// Ends the store, and gives what lay behind the turns. The seats are the first one and then all that it made, none of which
     /// holds a turn.
-    fn close(self, seats: Vec<Seat<D>>) -> Parts<Part<D>>
+    fn close(self, seats: Vec<Seat<D>>) -> Parts<TurnValue<D>>
         requires free { AllFree self.table seats.items }
         requires all { AreAll seats.items }
         ensures { Remains self seats.items (part_of result) }
@@ -62,7 +62,7 @@ impl<D: Disk + Drop> Shared<D> {
         let Parts { write, tables, .. } = self.close(seats);
         let (history, disks) = take_apart(
             Box::into_inner(Log::out_of(write)),
-            Box::into_inner(Edits::out_of(tables)),
+            Box::into_inner(VersionSet::out_of(tables)),
         );
         Finished { history, disks }
     }

@@ -28,4 +28,4 @@ pub use ending::Finished;
 pub use note::Note;
 pub use seat::Seat;
 pub use shared::Shared;
-pub use wp_parts::{Edits, Log, ReadySegment, Stock};
+pub use wp_parts::{Log, ReadySegment, Stock, VersionSet};

@@ -12,7 +12,7 @@ use atomic_table::Badge;
 use std::marker::Model;
 use wp_model::Seq;
 use wp_outside::Disk;
-use wp_parts::Part;
+use wp_parts::TurnValue;
 use wp_rule::{Actor, WordSeat};
 
 /// What a seat had seen when it wrote the note. It may go to any thread, and a seat of the same store learns it.
@@ -55,7 +55,7 @@ impl<D: Disk + Drop> Shared<D> {
         ensures rest { seat.new.knows ≡ sees seat.new.knows.participant.seen seat.old.knows }
     {
         let Note { badge } = note;
-        let other: WordSeat<Part<D>> = badge.into_seat();
+        let other: WordSeat<TurnValue<D>> = badge.into_seat();
         self.words.learn(&mut seat.seat, other)
     }
 }

@@ -13,11 +13,11 @@ use crate::seat::Seat;
 use crate::shared::Shared;
 use std::alloc::Global;
 use std::snapshot::Snapshot;
+use wp_history::History;
 use wp_judge::count_words;
-use wp_ledger::History;
 use wp_model::{Name, Seq};
 use wp_outside::Disk;
-use wp_parts::Part;
+use wp_parts::TurnValue;
 use wp_rule::Words;
 
 impl<D: Disk + Drop> Shared<D> {
@@ -30,10 +30,10 @@ impl<D: Disk + Drop> Shared<D> {
         history: Snapshot<History>,
         published: Seq,
         delayed_flag: u64,
-        slots: Vec<Part<D>>,
+        slots: Vec<TurnValue<D>>,
         bits: u32,
         limit: Seq,
-    ) -> Result<(Shared<D>, Seat<D>), Vec<Part<D>>>
+    ) -> Result<(Shared<D>, Seat<D>), Vec<TurnValue<D>>>
         requires published { published ≡ length history.value.entries }
         requires founds { (cells : ℕ) → 1 ≤ cells → Founds content (tells slots.items) client history.value.entries cells delayed_flag slots.items }
         requires store { IsOneStore history.value.entries slots.items }

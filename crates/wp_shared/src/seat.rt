@@ -5,28 +5,28 @@ ghost use Rattle.wp_shared.specs.Seats.{turns_of};
 use std::marker::Model;
 use wp_model::Name;
 use wp_outside::Disk;
-use wp_parts::Part;
+use wp_parts::TurnValue;
 use wp_rule::WordSeat;
 
 /// A client's seat at a store. Clauses see the table that it is at, its number there, what its actor of the machine knows, and
 /// which turns it holds, the one taken last first.
 pub struct Seat<D: Disk + Drop> {
-    pub(crate) seat: WordSeat<Part<D>>,
+    pub(crate) seat: WordSeat<TurnValue<D>>,
     pub(crate) client: Name,
 }
 
 impl<D: Disk + Drop> Model for Seat<D> {
     ghost use Rattle.std.specs.Prelude.{◌≡◌};
     ghost use Rattle.std.specs.Coded.{codes};
-    ghost use Rattle.wp_model.specs.PreparedTables.{prepared_tables_code};
+    ghost use Rattle.wp_model.specs.PreparedSets.{prepared_sets_code};
     ghost use Rattle.wp_model.specs.Snapshots.{snapshots_code};
-    ghost use Rattle.wp_model.specs.LockTables.{lock_tables_code};
+    ghost use Rattle.wp_model.specs.LockState.{lock_state_code};
     ghost use Rattle.wp_actor.specs.Codes.{transactions_code};
     ghost use Rattle.wp_shared.specs.Seats.{SeatState, AllAway, turns_of};
 
     ghost Value = { SeatState };
 
-    ghost coded = { Prim.hlevel (codes, prepared_tables_code, snapshots_code, lock_tables_code, transactions_code) };
+    ghost coded = { Prim.hlevel (codes, prepared_sets_code, snapshots_code, lock_state_code, transactions_code) };
 
     ghost view = { λ s. record { table = s.seat.table_id; by = s.seat.id; knows = s.seat.me.0; turns = turns_of s.seat.me.1 } };
 
@@ -42,7 +42,7 @@ impl<D: Disk + Drop> Seat<D> {
     }
 
     /// Its seat of the words.
-    pub(crate) fn into_words(self) -> WordSeat<Part<D>>
+    pub(crate) fn into_words(self) -> WordSeat<TurnValue<D>>
         ensures { self ≡ record { table = result.table_id; by = result.id; knows = result.me.0; turns = turns_of result.me.1 } }
     {
         let Seat {

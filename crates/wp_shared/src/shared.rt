@@ -18,12 +18,12 @@ use crate::seat::Seat;
 use std::marker::{Brand, Model};
 use wp_model::{Name, Seq};
 use wp_outside::Disk;
-use wp_parts::Part;
+use wp_parts::TurnValue;
 use wp_rule::{Moves, WordSeat, Words};
 
 /// The store that clients share: words, and the values behind the turns.
 pub struct Shared<D: Disk + Drop> {
-    pub(crate) words: Words<Part<D>>,
+    pub(crate) words: Words<TurnValue<D>>,
     pub(crate) bits: u32,
     pub(crate) limit: Seq,
 }
@@ -33,15 +33,15 @@ impl<D: Disk + Drop> Model for Shared<D> {
     ghost use Rattle.std.specs.Coded.{codes};
     ghost use Rattle.wp_fields.specs.declared.format.Format.TheVariants.{Two};
     ghost use Rattle.wp_entry.specs.Record.{last_number};
-    ghost use Rattle.wp_model.specs.PreparedTables.{prepared_tables_code};
+    ghost use Rattle.wp_model.specs.PreparedSets.{prepared_sets_code};
     ghost use Rattle.wp_model.specs.Snapshots.{snapshots_code};
-    ghost use Rattle.wp_model.specs.LockTables.{lock_tables_code};
+    ghost use Rattle.wp_model.specs.LockState.{lock_state_code};
     ghost use Rattle.wp_shared.specs.Opening.{IsOneStore};
     ghost use Rattle.wp_shared.specs.Seats.{SharedState};
 
     ghost Value = { SharedState D };
 
-    ghost coded = { Prim.hlevel (codes, prepared_tables_code, snapshots_code, lock_tables_code) };
+    ghost coded = { Prim.hlevel (codes, prepared_sets_code, snapshots_code, lock_state_code) };
 
     ghost view = { λ s. record { table = s.words.table; opened = s.words.opened; cells = s.words.cells; first = s.words.first; limit = s.limit } };
 
@@ -50,8 +50,8 @@ impl<D: Disk + Drop> Model for Shared<D> {
 
 /// Says whose the seat is, which did nothing yet.
 fn name_seat<D: Disk + Drop, J: Moves>(
-    words: &Words<Part<D>>,
-    seat: &mut WordSeat<Part<D>>,
+    words: &Words<TurnValue<D>>,
+    seat: &mut WordSeat<TurnValue<D>>,
     client: &Name,
 )
     requires seat { (seat.old.table_id ≡ words.now.table) × (J.place ≡ place_of content words.now seat.old.id) }
@@ -160,7 +160,7 @@ impl<D: Disk + Drop> Shared<D> {
     }
 
     /// Its words.
-    pub(crate) fn into_words(self) -> Words<Part<D>>
+    pub(crate) fn into_words(self) -> Words<TurnValue<D>>
         ensures { self ≡ record { table = result.table; opened = result.opened; cells = result.cells; first = result.first; limit = self.limit } }
     {
         let Shared {

@@ -5,7 +5,7 @@ ghost use Rattle.wp_model.specs.declared.entry.Entry.{Entry};
 ghost use Rattle.wp_judge.specs.Words.{CommitPair, word_of, pair_of};
 ghost use Rattle.wp_core.specs.Cache.{cache_place};
 ghost use Rattle.wp_core.specs.Lists.{IsIn};
-ghost use Rattle.wp_core.specs.Tables.{WriteTable, writes};
+ghost use Rattle.wp_core.specs.Tables.{WriteState, writes};
 ghost use Rattle.wp_core.specs.Steps as step;
 ghost use Rattle.wp_core.specs.Steps.{store_max_evicted, note};
 ghost use Rattle.wp_core.specs.Views.{delayed_flag_stays, old_flag_stays};
@@ -94,7 +94,7 @@ impl<D: Disk + Drop> Shared<D> {
         requires seat { seat.old.table ≡ self.now.table }
         requires next { MayPublishAs (place_at self.now seat.old.by) seat.old.knows p }
         ensures same { (seat.new.table ≡ seat.old.table) × (seat.new.by ≡ seat.old.by) × (seat.new.turns ≡ seat.old.turns) }
-        ensures published { (t : WriteTable) (entry : Entry) (others : List Entry) → IsIn (writes t) seat.old.knows.held → t.pending ≡ entry ∷ others
+        ensures published { (t : WriteState) (entry : Entry) (others : List Entry) → IsIn (writes t) seat.old.knows.held → t.pending ≡ entry ∷ others
             → Moved (place_at self.now seat.old.by) (λ w. step.store_published entry others ∷ []) (λ w. w.writes ≡ t) seat.old.knows seat.new.knows }
     {
         self.words.store_published(&mut seat.seat, p);

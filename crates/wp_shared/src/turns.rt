@@ -10,7 +10,7 @@ use crate::shared::Shared;
 use std::sync::Wait;
 use std::{hint, thread};
 use wp_outside::Disk;
-use wp_parts::{BehindTurn, Log, Part};
+use wp_parts::{BehindTurn, Log, TurnValue};
 use wp_rule::Turn;
 
 /// How many pauses of the processor a seat waits at first for a turn that is held. That is longer than most turns are held: who has
@@ -37,7 +37,7 @@ fn is_long(turn: Turn) -> bool {
 
 impl<D: Disk + Drop> Shared<D> {
     /// Waits for the turn, and takes it with what lies in its slot.
-    fn take_part<R: Wait>(&self, rt: &R, seat: &mut Seat<D>, turn: Turn) -> Part<D>
+    fn take_part<R: Wait>(&self, rt: &R, seat: &mut Seat<D>, turn: Turn) -> TurnValue<D>
         requires seat { seat.old.table ≡ self.now.table }
         requires live { seat.old.knows.live ≡ true }
         ensures same { (seat.new.table ≡ seat.old.table) × (seat.new.by ≡ seat.old.by) × (seat.new.turns ≡ turn_index (turn_of turn) ∷ seat.old.turns) }
@@ -46,7 +46,7 @@ impl<D: Disk + Drop> Shared<D> {
         let mut tries = 0;
         for _ in rt.forever() {
             if self.words.claim(&mut seat.seat, turn) {
-                return self.words.exchange(&mut seat.seat, turn, Part::Away);
+                return self.words.exchange(&mut seat.seat, turn, TurnValue::Away);
             }
             tries = self.wait(rt, turn, tries);
         }
@@ -66,7 +66,7 @@ impl<D: Disk + Drop> Shared<D> {
     }
 
     /// Gives the turn that was taken last, with what goes into its slot.
-    fn give_part(&self, seat: &mut Seat<D>, turn: Turn, part: Part<D>)
+    fn give_part(&self, seat: &mut Seat<D>, turn: Turn, part: TurnValue<D>)
         requires seat { seat.old.table ≡ self.now.table }
         requires may { MayGivePart self.now (turn_of turn) seat.old part }
         ensures { GavePart self.now (turn_of turn) seat.old seat.new }
@@ -79,7 +79,11 @@ impl<D: Disk + Drop> Shared<D> {
     }
 
     /// Waits for the value's turn, and takes it with the value.
-    pub fn take_turn<G: BehindTurn<Part<D>>, R: Wait>(&self, rt: &R, seat: &mut Seat<D>) -> Box<G>
+    pub fn take_turn<G: BehindTurn<TurnValue<D>>, R: Wait>(
+        &self,
+        rt: &R,
+        seat: &mut Seat<D>,
+    ) -> Box<G>
         requires { (seat.old.table ≡ self.now.table) × (seat.old.knows.live ≡ true) }
         ensures taken { Taken self.now seat.old seat.new (G.table result.value) }
         ensures of_store { G.is_of self.now.first result.value }
@@ -98,7 +102,7 @@ impl<D: Disk + Drop> Shared<D> {
     }
 
     /// Gives the turn that was taken last, with the value that was taken with it, as the seat left its table.
-    pub fn give_turn<G: BehindTurn<Part<D>>>(&self, seat: &mut Seat<D>, value: Box<G>)
+    pub fn give_turn<G: BehindTurn<TurnValue<D>>>(&self, seat: &mut Seat<D>, value: Box<G>)
         requires holds { (others : List Content) × (beneath : List ℕ) × HoldsTurn self.now seat.old (G.table value.value) others beneath }
         requires of_store { G.is_of self.now.first value.value }
         requires knows { KnowsToGive seat.old.knows (G.table value.value) }

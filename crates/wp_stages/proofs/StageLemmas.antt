@@ -13,16 +13,16 @@ use Rattle.wp_model.specs.declared.version.Version.{Version}
 use Rattle.wp_model.specs.Flushed.{InstalledEdit}
 use Rattle.wp_core.specs.Conditions.{NoneNext}
 use Rattle.wp_core.specs.Effects.{with_failed}
-use Rattle.wp_core.specs.Tables.{Content, WriteTable, Installed, writes, installed}
+use Rattle.wp_core.specs.Tables.{Content, WriteState, Installed, writes, installed}
 use Rattle.wp_core.specs.Views.{Event, Fact, log_stopped, renewed, tables_failed}
 use Rattle.wp_core.specs.World.{Participant, World}
 use Rattle.wp_core.proofs.Tests.{none_some}
-use Rattle.wp_shared.specs.Calls.{remembering}
+use Rattle.wp_shared.specs.Calls.{with_events}
 use Rattle.wp_rule.specs.Knows.{NextNamed}
-use Rattle.wp_shared.specs.Edits.{EditsState, IsEdits}
+use Rattle.wp_shared.specs.VersionSet.{VersionSetState, IsEdits}
 use Rattle.wp_shared.specs.Installs.{in_segment}
 use Rattle.wp_shared.specs.Log.{LogState, IsLog, IsPlaceOf, IsSegmentOf, IsWaiting, with_next, with_segment}
-use Rattle.wp_shared.specs.Notes.{being, no_fact, GoesOn}
+use Rattle.wp_shared.specs.Notes.{with_participant, no_fact, GoesOn}
 use Rattle.wp_shared.specs.Renewal.{SegmentState}
 use Rattle.wp_shared.specs.Seats.{SharedState, SeatState, Stands}
 use Rattle.wp_shared.proofs.Goes.{none_too, then, wider}
@@ -37,19 +37,19 @@ use Rattle.wp_maint.proofs.Onward.{found_later}
 -- ---- the log
 
 -- a log that is not closed has no segment beside it
-pub none_waits : (t : WriteTable) → NoneNext t → t.closed ≡ false → t.next ≡ None
+pub none_waits : (t : WriteState) → NoneNext t → t.closed ≡ false → t.next ≡ None
 none_waits t none open_ = elim none [
   | inl nothing ↦ nothing
   | inr closed ↦ absurd (true≢false (sym closed ∙ open_))
 ]
 
-pub waits_not : (t : WriteTable) (segment : Segment) → t.next ≡ None → t.next ≢ Some segment
+pub waits_not : (t : WriteState) (segment : Segment) → t.next ≡ None → t.next ≢ Some segment
 waits_not t segment none is = none_some t.next segment none is
 
 -- ---- the edit
 
 -- it names the segment that waits, and flushes the whole history
-pub next_named : (d : WriteTable) (segment : Segment) (versions : List Version) (last : InstalledEdit) → d.closed ≡ false → segment.base ≡ length d.history → NextNamed (with_next d segment) (in_segment versions segment.base segment last)
+pub next_named : (d : WriteState) (segment : Segment) (versions : List Version) (last : InstalledEdit) → d.closed ≡ false → segment.base ≡ length d.history → NextNamed (with_next d segment) (in_segment versions segment.base segment last)
 next_named d segment versions last open_ based = (open_, refl, based)
 
 -- it has no fewer tables
@@ -67,7 +67,7 @@ module _ (log now : LogState) (passed : (c : Cut) → IsCut log.table.history c 
   pub beside_some : (written : WrittenState) → IsWaiting now written → written.segment.place ≢ log.table.segment.place → now.table ≡ log.table → now.wal.id ≡ log.wal.id → (segment : NewSegmentState) → IsSegmentOf log segment → IsPlaceOf log segment written.segment.place
       → SurvivesBeside log now (Some written.segment)
   beside_some written waits apart same id segment its at =
-      let history : now.table.history ≡ log.table.history = ap (λ (t : WriteTable). t.history) same in record {
+      let history : now.table.history ≡ log.table.history = ap (λ (t : WriteState). t.history) same in record {
         still = passed;
         durable = durable;
         beside = (
@@ -89,9 +89,9 @@ beside_same log now same = record {
 
 -- ---- what is held
 
-module _ {D : Type 0} (z : SharedState D) (s u : SeatState) (e left : EditsState) (log now : LogState) (table : WriteTable) (test : Fact → Bool) (holds : HoldsBoth z s e log table) where
+module _ {D : Type 0} (z : SharedState D) (s u : SeatState) (e left : VersionSetState) (log now : LogState) (table : WriteState) (test : Fact → Bool) (holds : HoldsBoth z s e log table) where
   -- both have other tables, and are the store's still, whatever it remembers
-  pub both_on : (p : Participant) (d : WriteTable) → GoesOn test (writes d ∷ installed left.table ∷ []) s.turns (being p s) u → left.first ≡ e.first → now.first ≡ log.first → HoldsBoth z u left now d
+  pub both_on : (p : Participant) (d : WriteState) → GoesOn test (writes d ∷ installed left.table ∷ []) s.turns (with_participant p s) u → left.first ≡ e.first → now.first ≡ log.first → HoldsBoth z u left now d
   both_on p d goes edits_first log_first_is = record {
     turn = record {
       same_table = ap (λ (x : SeatState). x.table) goes.same ∙ holds.turn.same_table;
@@ -105,67 +105,67 @@ module _ {D : Type 0} (z : SharedState D) (s u : SeatState) (e left : EditsState
 
 -- ---- it found the tables, and then remembers more
 
-module _ {D : Type 0} (z : SharedState D) (s t u : SeatState) (e : Installed) (k : Remembers z s e t) (held : List Content) (test : Fact → Bool) (events : List Event) (goes : GoesOn test held t.turns (being (remembering events t.knows.participant) t) u) where
+module _ {D : Type 0} (z : SharedState D) (s t u : SeatState) (e : Installed) (k : Remembers z s e t) (held : List Content) (test : Fact → Bool) (events : List Event) (goes : GoesOn test held t.turns (with_participant (with_events events t.knows.participant) t) u) where
   found_seen : u.knows.participant.seen ≡ t.knows.participant.seen
   found_seen = ap (λ (x : SeatState). x.knows.participant.seen) goes.same
 
   pub found_then : Finds z s u e
   found_then = found_later z s t u e (starts_equal t.knows.participant.seen u.knows.participant.seen found_seen) k.found
 
-  both : being (remembering events t.knows.participant) t ≡ being (remembering (found_by z s u e found_then ∷ events) s.knows.participant) s
+  both : with_participant (with_events events t.knows.participant) t ≡ with_participant (with_events (found_by z s u e found_then ∷ events) s.knows.participant) s
   unfolding found_then
   both =
-      ap (λ (x : SeatState). being (remembering events x.knows.participant) x) k.is
-      ∙ ap (λ (past : List Event). being (record s.knows.participant { past = past }) s) (append_assoc s.knows.participant.past (found_by z s u e found_then ∷ []) events)
+      ap (λ (x : SeatState). with_participant (with_events events x.knows.participant) x) k.is
+      ∙ ap (λ (past : List Event). with_participant (record s.knows.participant { past = past }) s) (append_assoc s.knows.participant.past (found_by z s u e found_then ∷ []) events)
 
-  pub goes_then_more : GoesOn test held s.turns (being (remembering (found_by z s u e found_then ∷ events) s.knows.participant) s) u
-  goes_then_more = subst (λ (b : SeatState). GoesOn test held s.turns b u) both (subst (λ (x : SeatState). GoesOn test held x.turns (being (remembering events t.knows.participant) t) u) k.is goes)
+  pub goes_then_more : GoesOn test held s.turns (with_participant (with_events (found_by z s u e found_then ∷ events) s.knows.participant) s) u
+  goes_then_more = subst (λ (b : SeatState). GoesOn test held s.turns b u) both (subst (λ (x : SeatState). GoesOn test held x.turns (with_participant (with_events events t.knows.participant) t) u) k.is goes)
 
 -- ---- it remembers one thing, and then another
 
-module _ (t u v : SeatState) (test : Fact → Bool) (first second : List Content) (turns later : List ℕ) (one two : List Event) (k : GoesOn test first turns (being (remembering one t.knows.participant) t) u) where
-  more_events : GoesOn test first turns (being (remembering (one ++ two) t.knows.participant) t) (being (remembering two u.knows.participant) u)
+module _ (t u v : SeatState) (test : Fact → Bool) (first second : List Content) (turns later : List ℕ) (one two : List Event) (k : GoesOn test first turns (with_participant (with_events one t.knows.participant) t) u) where
+  more_events : GoesOn test first turns (with_participant (with_events (one ++ two) t.knows.participant) t) (with_participant (with_events two u.knows.participant) u)
   more_events = record {
-    same = ap (λ (x : SeatState). being (remembering two x.knows.participant) x) k.same
-        ∙ ap (λ (past : List Event). let x = being (record t.knows.participant { past = past }) t in record x { knows = record x.knows { held = first; notes = u.knows.notes }; turns = turns }) (append_assoc t.knows.participant.past one two);
+    same = ap (λ (x : SeatState). with_participant (with_events two x.knows.participant) x) k.same
+        ∙ ap (λ (past : List Event). let x = with_participant (record t.knows.participant { past = past }) t in record x { knows = record x.knows { held = first; notes = u.knows.notes }; turns = turns }) (append_assoc t.knows.participant.past one two);
     noted = k.noted;
   }
 
-  pub goes_two : GoesOn test second later (being (remembering two u.knows.participant) u) v → GoesOn test second later (being (remembering (one ++ two) t.knows.participant) t) v
-  goes_two l = then test (being (remembering (one ++ two) t.knows.participant) t) (being (remembering two u.knows.participant) u) v first second turns later more_events l
+  pub goes_two : GoesOn test second later (with_participant (with_events two u.knows.participant) u) v → GoesOn test second later (with_participant (with_events (one ++ two) t.knows.participant) t) v
+  goes_two l = then test (with_participant (with_events (one ++ two) t.knows.participant) t) (with_participant (with_events two u.knows.participant) u) v first second turns later more_events l
 
 -- ---- what a stage leaves, once the seat has found the tables
 
-module _ {D : Type 0} (z : SharedState D) (s t u v : SeatState) (e left : EditsState) (log now : LogState) (d : WriteTable) (holds : HoldsBoth z s e log d) (k : Remembers z s e.table t) where
+module _ {D : Type 0} (z : SharedState D) (s t u v : SeatState) (e left : VersionSetState) (log now : LogState) (d : WriteState) (holds : HoldsBoth z s e log d) (k : Remembers z s e.table t) where
   -- a device of the tables failed, and the log is stopped
   module _ (asked : Option InstalledEdit) (last : left.table.last ≡ e.table.last) (failed : left.table.failed ≡ asked)
-      (first : GoesOn no_fact (writes d ∷ installed left.table ∷ []) t.turns (being (remembering (tables_failed left.table.last left.table.failed ∷ []) t.knows.participant) t) u)
-      (second : GoesOn no_fact (writes now.table ∷ installed left.table ∷ []) u.turns (being (remembering (log_stopped ∷ []) u.knows.participant) u) v) where
+      (first : GoesOn no_fact (writes d ∷ installed left.table ∷ []) t.turns (with_participant (with_events (tables_failed left.table.last left.table.failed ∷ []) t.knows.participant) t) u)
+      (second : GoesOn no_fact (writes now.table ∷ installed left.table ∷ []) u.turns (with_participant (with_events (log_stopped ∷ []) u.knows.participant) u) v) where
     abbrev events : List Event
     events = tables_failed e.table.last asked ∷ log_stopped ∷ []
 
-    failed_first : GoesOn no_fact (writes d ∷ installed left.table ∷ []) t.turns (being (remembering (tables_failed e.table.last asked ∷ []) t.knows.participant) t) u
-    failed_first = subst (λ (x : InstalledEdit × Option InstalledEdit). GoesOn no_fact (writes d ∷ installed left.table ∷ []) t.turns (being (remembering (tables_failed x.0 x.1 ∷ []) t.knows.participant) t) u) (λ i. (last i, failed i)) first
+    failed_first : GoesOn no_fact (writes d ∷ installed left.table ∷ []) t.turns (with_participant (with_events (tables_failed e.table.last asked ∷ []) t.knows.participant) t) u
+    failed_first = subst (λ (x : InstalledEdit × Option InstalledEdit). GoesOn no_fact (writes d ∷ installed left.table ∷ []) t.turns (with_participant (with_events (tables_failed x.0 x.1 ∷ []) t.knows.participant) t) u) (λ i. (last i, failed i)) first
 
-    stopped_next : GoesOn no_fact (writes now.table ∷ installed left.table ∷ []) t.turns (being (remembering (log_stopped ∷ []) u.knows.participant) u) v
-    stopped_next = subst (λ (m : List ℕ). GoesOn no_fact (writes now.table ∷ installed left.table ∷ []) m (being (remembering (log_stopped ∷ []) u.knows.participant) u) v) (ap (λ (x : SeatState). x.turns) first.same) second
+    stopped_next : GoesOn no_fact (writes now.table ∷ installed left.table ∷ []) t.turns (with_participant (with_events (log_stopped ∷ []) u.knows.participant) u) v
+    stopped_next = subst (λ (m : List ℕ). GoesOn no_fact (writes now.table ∷ installed left.table ∷ []) m (with_participant (with_events (log_stopped ∷ []) u.knows.participant) u) v) (ap (λ (x : SeatState). x.turns) first.same) second
 
-    stops : GoesOn no_fact (writes now.table ∷ installed left.table ∷ []) t.turns (being (remembering events t.knows.participant) t) v
+    stops : GoesOn no_fact (writes now.table ∷ installed left.table ∷ []) t.turns (with_participant (with_events events t.knows.participant) t) v
     stops = goes_two t u v no_fact (writes d ∷ installed left.table ∷ []) (writes now.table ∷ installed left.table ∷ []) t.turns t.turns (tables_failed e.table.last asked ∷ []) (log_stopped ∷ []) failed_first stopped_next
 
     stopped_found : Finds z s v e.table
     stopped_found = found_then z s t v e.table k (writes now.table ∷ installed left.table ∷ []) no_fact events stops
 
-    stops_since : GoesOn no_fact (writes now.table ∷ installed left.table ∷ []) s.turns (being (remembering (found_by z s v e.table stopped_found ∷ events) s.knows.participant) s) v
+    stops_since : GoesOn no_fact (writes now.table ∷ installed left.table ∷ []) s.turns (with_participant (with_events (found_by z s v e.table stopped_found ∷ events) s.knows.participant) s) v
     unfolding stopped_found
     stops_since = goes_then_more z s t v e.table k (writes now.table ∷ installed left.table ∷ []) no_fact events stops
 
-    pub has_stopped : (Survives : EditsState → EditsState → Type 0) → left.table ≡ with_failed e.table asked → now ≡ record log { table = record log.table { next = segment_of asked; closed = true; stopped = true } }
+    pub has_stopped : (Survives : VersionSetState → VersionSetState → Type 0) → left.table ≡ with_failed e.table asked → now ≡ record log { table = record log.table { next = segment_of asked; closed = true; stopped = true } }
         → left.first ≡ e.first → HasFault e left → Survives e left → IsEdits e → IsEdits left → IsLog log → IsLog now → (w : World) × Stands z v w → HasStopped z Survives s e log asked v left now
     has_stopped Survives halted stopped edits_first fault survives edits still_edits log_is still_log stands = record {
       table = halted;
       stopped = stopped;
-      holds = both_on z s v e left log now d no_fact holds (remembering (found_by z s v e.table stopped_found ∷ events) s.knows.participant) now.table stops_since edits_first (ap (λ (l : LogState). l.first) stopped);
+      holds = both_on z s v e left log now d no_fact holds (with_events (found_by z s v e.table stopped_found ∷ events) s.knows.participant) now.table stops_since edits_first (ap (λ (l : LogState). l.first) stopped);
       found = stopped_found;
       goes = stops_since;
       fault = fault;
@@ -178,20 +178,20 @@ module _ {D : Type 0} (z : SharedState D) (s t u v : SeatState) (e left : EditsS
     }
 
   -- the edit is installed, and the log has moved
-  module _ (first : GoesOn is_of_flushed (writes d ∷ installed left.table ∷ []) t.turns (being (remembering (renewed left.table.last ∷ []) t.knows.participant) t) u)
+  module _ (first : GoesOn is_of_flushed (writes d ∷ installed left.table ∷ []) t.turns (with_participant (with_events (renewed left.table.last ∷ []) t.knows.participant) t) u)
       (second : GoesOn no_fact (writes now.table ∷ installed left.table ∷ []) u.turns u v) where
     moved_next : GoesOn is_of_flushed (writes now.table ∷ installed left.table ∷ []) t.turns u v
     moved_next =
         subst (λ (m : List ℕ). GoesOn is_of_flushed (writes now.table ∷ installed left.table ∷ []) m u v) (ap (λ (x : SeatState). x.turns) first.same)
         (wider no_fact u v v is_of_flushed (writes now.table ∷ installed left.table ∷ []) u.turns (none_too is_of_flushed) second)
 
-    moves : GoesOn is_of_flushed (writes now.table ∷ installed left.table ∷ []) t.turns (being (remembering (renewed left.table.last ∷ []) t.knows.participant) t) v
-    moves = then is_of_flushed (being (remembering (renewed left.table.last ∷ []) t.knows.participant) t) u v (writes d ∷ installed left.table ∷ []) (writes now.table ∷ installed left.table ∷ []) t.turns t.turns first moved_next
+    moves : GoesOn is_of_flushed (writes now.table ∷ installed left.table ∷ []) t.turns (with_participant (with_events (renewed left.table.last ∷ []) t.knows.participant) t) v
+    moves = then is_of_flushed (with_participant (with_events (renewed left.table.last ∷ []) t.knows.participant) t) u v (writes d ∷ installed left.table ∷ []) (writes now.table ∷ installed left.table ∷ []) t.turns t.turns first moved_next
 
     moved_found : Finds z s v e.table
     moved_found = found_then z s t v e.table k (writes now.table ∷ installed left.table ∷ []) is_of_flushed (renewed left.table.last ∷ []) moves
 
-    moves_since : GoesOn is_of_flushed (writes now.table ∷ installed left.table ∷ []) s.turns (being (remembering (found_by z s v e.table moved_found ∷ renewed left.table.last ∷ []) s.knows.participant) s) v
+    moves_since : GoesOn is_of_flushed (writes now.table ∷ installed left.table ∷ []) s.turns (with_participant (with_events (found_by z s v e.table moved_found ∷ renewed left.table.last ∷ []) s.knows.participant) s) v
     unfolding moved_found
     moves_since = goes_then_more z s t v e.table k (writes now.table ∷ installed left.table ∷ []) is_of_flushed (renewed left.table.last ∷ []) moves
 
@@ -202,7 +202,7 @@ module _ {D : Type 0} (z : SharedState D) (s t u v : SeatState) (e left : EditsS
       table = table;
       log_table = log_table;
       device = device;
-      holds = both_on z s v e left log now d is_of_flushed holds (remembering (found_by z s v e.table moved_found ∷ renewed left.table.last ∷ []) s.knows.participant) now.table moves_since edits_first log_first;
+      holds = both_on z s v e left log now d is_of_flushed holds (with_events (found_by z s v e.table moved_found ∷ renewed left.table.last ∷ []) s.knows.participant) now.table moves_since edits_first log_first;
       found = moved_found;
       goes = moves_since;
       parts = parts;

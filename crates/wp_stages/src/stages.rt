@@ -7,7 +7,7 @@ ghost use Rattle.wp_model.specs.Legal.{undone_last};
 ghost use Rattle.wp_tableset.specs.Changes.{one_part};
 ghost use Rattle.wp_tableset.specs.Install.{IsReadyEdit};
 ghost use Rattle.wp_core.specs.World.{World};
-ghost use Rattle.wp_shared.specs.Edits.{IsEdits};
+ghost use Rattle.wp_shared.specs.VersionSet.{IsEdits};
 ghost use Rattle.wp_shared.specs.Log.{IsSegmentOf};
 ghost use Rattle.wp_shared.specs.Seats.{Stands};
 ghost use Rattle.wp_maint.specs.Renewal.{HoldsBoth};
@@ -21,7 +21,7 @@ use std::sync::Arc;
 use wp_maint::{RenewError, find_edits};
 use wp_model::Versions;
 use wp_outside::Disk;
-use wp_shared::{Edits, Log, ReadySegment, Seat, Shared};
+use wp_shared::{Log, ReadySegment, Seat, Shared, VersionSet};
 use wp_table::Table;
 use wp_wal::{NewSegment, Written};
 
@@ -29,7 +29,7 @@ use wp_wal::{NewSegment, Written};
 pub fn write_table<D: Disk + Drop>(
     store: &Shared<D>,
     seat: &mut Seat<D>,
-    edits: &mut Edits<D>,
+    edits: &mut VersionSet<D>,
     log: &mut Log<D>,
     edit: &mut ReadySegment,
 ) -> Result<Option<Arc<Table>>, RenewError>
@@ -41,19 +41,19 @@ pub fn write_table<D: Disk + Drop>(
     ensures table { IfOk result (λ table. option_map arc_value table ≡ option_map (λ built. built.versions) edit.old.edit.built) }
     ensures edits { IsEdits edits.new }
 {
-    edits.shows_told();
-    log.shows_told();
+    edits.devices_agree();
+    log.devices_agree();
     match edits.write_table(edit) {
         Ok(table) => {
-            edits.shows_told();
+            edits.devices_agree();
             Ok(table)
         }
         Err(_) => {
-            edits.shows_told();
+            edits.devices_agree();
             find_edits(store, seat);
             remember_tables_fault(store, seat, edits);
             log.stop();
-            log.shows_told();
+            log.devices_agree();
             remember_stop(store, seat, edits, log);
             Err(RenewError::TableFault)
         }
@@ -64,7 +64,7 @@ pub fn write_table<D: Disk + Drop>(
 pub fn write_segment<D: Disk + Drop>(
     store: &Shared<D>,
     seat: &mut Seat<D>,
-    edits: &Edits<D>,
+    edits: &VersionSet<D>,
     log: &mut Log<D>,
     segment: &NewSegment,
 ) -> Result<Written, RenewError>
@@ -76,15 +76,15 @@ pub fn write_segment<D: Disk + Drop>(
     requires stands { (w : World) × Stands store.now seat.old w }
     ensures { HasPlace store.now seat.old edits.now log.old result seat.new log.new }
 {
-    log.shows_told();
+    log.devices_agree();
     match log.write_segment(segment) {
         Ok(written) => {
-            log.shows_told();
+            log.devices_agree();
             remember_segment(store, seat, edits, log, &written);
             Ok(written)
         }
         Err(_) => {
-            log.shows_told();
+            log.devices_agree();
             find_edits(store, seat);
             remember_log_fault(store, seat, edits, log);
             Err(RenewError::LogFault)
@@ -96,7 +96,7 @@ pub fn write_segment<D: Disk + Drop>(
 pub fn install<D: Disk + Drop>(
     store: &Shared<D>,
     seat: &mut Seat<D>,
-    edits: &mut Edits<D>,
+    edits: &mut VersionSet<D>,
     log: &mut Log<D>,
     written: Written,
     edit: ReadySegment,
@@ -107,23 +107,23 @@ pub fn install<D: Disk + Drop>(
     requires table { option_map arc_value table.now ≡ one_part versions.now }
     ensures { LeavesSegment store.now seat.old edits.old log.old written edit versions.now result seat.new edits.new log.new }
 {
-    edits.shows_told();
-    log.shows_told();
+    edits.devices_agree();
+    log.devices_agree();
     find_edits(store, seat);
     match edits.install_segment(edit, versions, table, written.segment()) {
         Ok(()) => {
-            edits.shows_told();
+            edits.devices_agree();
             remember_renewal(store, seat, edits, &written);
             log.use_segment(written);
-            log.shows_told();
+            log.devices_agree();
             use_segment(store, seat, edits, log);
             Ok(())
         }
         Err(_) => {
-            edits.shows_told();
+            edits.devices_agree();
             remember_tables_fault(store, seat, edits);
             log.stop_with(written);
-            log.shows_told();
+            log.devices_agree();
             remember_stop(store, seat, edits, log);
             Err(RenewError::TableFault)
         }

@@ -2,27 +2,27 @@
 ghost use Rattle.std.specs.Prelude.{◌≡◌, ◌≢◌, true, false, [], ◌∷◌, length, None, Some, IfSome};
 ghost use Rattle.wp_core.specs.Effects.{with_failed};
 ghost use Rattle.wp_core.specs.Lists.{IsIn};
-ghost use Rattle.wp_core.specs.Tables.{WriteTable, Installed, installed, writes};
+ghost use Rattle.wp_core.specs.Tables.{WriteState, Installed, installed, writes};
 ghost use Rattle.wp_core.specs.Views.{log_failed, log_stopped, renewed, stopped, tables_failed};
 ghost use Rattle.wp_core.specs.World.{World};
 ghost use Rattle.wp_model.specs.Flushed.{IsEditCovered};
 ghost use Rattle.wp_rule.specs.Knows.{KnowsRenewed, NextNamed};
 ghost use Rattle.wp_shared.specs.Log.{with_next, with_segment};
-ghost use Rattle.wp_shared.specs.Calls.{remembering};
-ghost use Rattle.wp_shared.specs.Notes.{no_fact, being, GoesOn};
+ghost use Rattle.wp_shared.specs.Calls.{with_events};
+ghost use Rattle.wp_shared.specs.Notes.{no_fact, with_participant, GoesOn};
 ghost use Rattle.wp_shared.specs.Seats.{Stands};
 ghost use Rattle.wp_maint.specs.Holding.{is_of_flushed};
 
 use std::marker::Brand;
 use wp_outside::Disk;
-use wp_shared::{Edits, Log, Seat, Shared};
+use wp_shared::{Log, Seat, Shared, VersionSet};
 use wp_wal::Written;
 
 /// The seat remembers that it found the log closed.
 pub fn find_closed<D: Disk + Drop>(store: &Shared<D>, seat: &mut Seat<D>, log: &Log<D>)
     requires seat { seat.old.table ≡ store.now.table }
     requires held { IsIn (writes log.now.table) seat.old.knows.held × (log.now.table.closed ≡ true) }
-    ensures { seat.new ≡ being (remembering (stopped (length log.now.table.history) ∷ []) seat.old.knows.participant) seat.old }
+    ensures { seat.new ≡ with_participant (with_events (stopped (length log.now.table.history) ∷ []) seat.old.knows.participant) seat.old }
 {
     store.make_about::<Brand, Log<D>>(seat, log);
 }
@@ -31,7 +31,7 @@ pub fn find_closed<D: Disk + Drop>(store: &Shared<D>, seat: &mut Seat<D>, log: &
 pub(crate) fn remember_segment<D: Disk + Drop>(
     store: &Shared<D>,
     seat: &mut Seat<D>,
-    edits: &Edits<D>,
+    edits: &VersionSet<D>,
     log: &Log<D>,
     written: &Written,
 )
@@ -49,13 +49,13 @@ pub(crate) fn remember_segment<D: Disk + Drop>(
 pub(crate) fn remember_log_fault<D: Disk + Drop>(
     store: &Shared<D>,
     seat: &mut Seat<D>,
-    edits: &Edits<D>,
+    edits: &VersionSet<D>,
     log: &Log<D>,
 )
     requires seat { seat.old.table ≡ store.now.table }
-    requires held { (d : WriteTable) × (seat.old.knows.held ≡ writes d ∷ installed edits.now.table ∷ []) × (log.now.table ≡ record d { closed = true })
+    requires held { (d : WriteState) × (seat.old.knows.held ≡ writes d ∷ installed edits.now.table ∷ []) × (log.now.table ≡ record d { closed = true })
         × (d.closed ≡ false) × (d.pending ≡ []) × (d.failed ≡ []) × (d.next ≡ None) }
-    ensures goes { GoesOn no_fact (writes log.now.table ∷ installed edits.now.table ∷ []) seat.old.turns (being (remembering (log_failed [] ∷ []) seat.old.knows.participant) seat.old) seat.new }
+    ensures goes { GoesOn no_fact (writes log.now.table ∷ installed edits.now.table ∷ []) seat.old.turns (with_participant (with_events (log_failed [] ∷ []) seat.old.knows.participant) seat.old) seat.new }
     ensures stands { (w : World) × Stands store.now seat.new w }
 {
     store.make_about::<Brand, Log<D>>(seat, log);
@@ -65,28 +65,28 @@ pub(crate) fn remember_log_fault<D: Disk + Drop>(
 pub(crate) fn remember_renewal<D: Disk + Drop>(
     store: &Shared<D>,
     seat: &mut Seat<D>,
-    edits: &Edits<D>,
+    edits: &VersionSet<D>,
     written: &Written,
 )
     requires seat { seat.old.table ≡ store.now.table }
-    requires held { (t : Installed) × (d : WriteTable) × (seat.old.knows.held ≡ writes d ∷ installed t ∷ []) × (edits.now.table ≡ record t { last = edits.now.table.last })
+    requires held { (t : Installed) × (d : WriteState) × (seat.old.knows.held ≡ writes d ∷ installed t ∷ []) × (edits.now.table ≡ record t { last = edits.now.table.last })
         × (d.next ≡ Some written.now.segment) × KnowsRenewed seat.old.knows d t edits.now.table.last }
-    ensures goes { (d : WriteTable) (t : Installed) → seat.old.knows.held ≡ writes d ∷ installed t ∷ []
-        → GoesOn is_of_flushed (writes d ∷ installed edits.now.table ∷ []) seat.old.turns (being (remembering (renewed edits.now.table.last ∷ []) seat.old.knows.participant) seat.old) seat.new }
+    ensures goes { (d : WriteState) (t : Installed) → seat.old.knows.held ≡ writes d ∷ installed t ∷ []
+        → GoesOn is_of_flushed (writes d ∷ installed edits.now.table ∷ []) seat.old.turns (with_participant (with_events (renewed edits.now.table.last ∷ []) seat.old.knows.participant) seat.old) seat.new }
     ensures stands { (w : World) × Stands store.now seat.new w }
 {
-    store.make_about::<Brand, Edits<D>>(seat, edits);
+    store.make_about::<Brand, VersionSet<D>>(seat, edits);
 }
 
 /// The segment that the last edit names is the one in use.
 pub(crate) fn use_segment<D: Disk + Drop>(
     store: &Shared<D>,
     seat: &mut Seat<D>,
-    edits: &Edits<D>,
+    edits: &VersionSet<D>,
     log: &Log<D>,
 )
     requires seat { seat.old.table ≡ store.now.table }
-    requires held { (d : WriteTable) × (seat.old.knows.held ≡ writes d ∷ installed edits.now.table ∷ []) × (d.closed ≡ false)
+    requires held { (d : WriteState) × (seat.old.knows.held ≡ writes d ∷ installed edits.now.table ∷ []) × (d.closed ≡ false)
         × (d.next ≡ Some edits.now.table.last.segment) × (log.now.table ≡ with_segment d edits.now.table.last.segment) }
     ensures goes { GoesOn no_fact (writes log.now.table ∷ installed edits.now.table ∷ []) seat.old.turns seat.old seat.new }
     ensures stands { (w : World) × Stands store.now seat.new w }
@@ -98,29 +98,29 @@ pub(crate) fn use_segment<D: Disk + Drop>(
 pub(crate) fn remember_tables_fault<D: Disk + Drop>(
     store: &Shared<D>,
     seat: &mut Seat<D>,
-    edits: &Edits<D>,
+    edits: &VersionSet<D>,
 )
     requires seat { seat.old.table ≡ store.now.table }
-    requires held { (t : Installed) × (d : WriteTable) × (seat.old.knows.held ≡ writes d ∷ installed t ∷ []) × (edits.now.table ≡ with_failed t edits.now.table.failed) × (t.halted ≡ false)
+    requires held { (t : Installed) × (d : WriteState) × (seat.old.knows.held ≡ writes d ∷ installed t ∷ []) × (edits.now.table ≡ with_failed t edits.now.table.failed) × (t.halted ≡ false)
         × IfSome edits.now.table.failed (λ edit. IsEditCovered seat.old.knows.participant.seen edit × NextNamed d edit) }
-    ensures goes { (d : WriteTable) (t : Installed) → seat.old.knows.held ≡ writes d ∷ installed t ∷ []
-        → GoesOn no_fact (writes d ∷ installed edits.now.table ∷ []) seat.old.turns (being (remembering (tables_failed edits.now.table.last edits.now.table.failed ∷ []) seat.old.knows.participant) seat.old) seat.new }
+    ensures goes { (d : WriteState) (t : Installed) → seat.old.knows.held ≡ writes d ∷ installed t ∷ []
+        → GoesOn no_fact (writes d ∷ installed edits.now.table ∷ []) seat.old.turns (with_participant (with_events (tables_failed edits.now.table.last edits.now.table.failed ∷ []) seat.old.knows.participant) seat.old) seat.new }
     ensures stands { (w : World) × Stands store.now seat.new w }
 {
-    store.make_about::<Brand, Edits<D>>(seat, edits);
+    store.make_about::<Brand, VersionSet<D>>(seat, edits);
 }
 
 /// The log is stopped, since a device of the tables failed.
 pub(crate) fn remember_stop<D: Disk + Drop>(
     store: &Shared<D>,
     seat: &mut Seat<D>,
-    edits: &Edits<D>,
+    edits: &VersionSet<D>,
     log: &Log<D>,
 )
     requires seat { seat.old.table ≡ store.now.table }
-    requires held { (d : WriteTable) × (seat.old.knows.held ≡ writes d ∷ installed edits.now.table ∷ []) × (log.now.table ≡ record d { closed = true; stopped = true })
+    requires held { (d : WriteState) × (seat.old.knows.held ≡ writes d ∷ installed edits.now.table ∷ []) × (log.now.table ≡ record d { closed = true; stopped = true })
         × (d.closed ≡ false) × (d.pending ≡ []) × (d.next ≢ Some edits.now.table.last.segment) × (edits.now.table.halted ≡ true) }
-    ensures goes { GoesOn no_fact (writes log.now.table ∷ installed edits.now.table ∷ []) seat.old.turns (being (remembering (log_stopped ∷ []) seat.old.knows.participant) seat.old) seat.new }
+    ensures goes { GoesOn no_fact (writes log.now.table ∷ installed edits.now.table ∷ []) seat.old.turns (with_participant (with_events (log_stopped ∷ []) seat.old.knows.participant) seat.old) seat.new }
     ensures stands { (w : World) × Stands store.now seat.new w }
 {
     store.make_about::<Brand, Log<D>>(seat, log);

@@ -13,7 +13,7 @@ use crate::threads::run_all;
 use std::alloc::Global;
 use std::sync::Wait;
 use std::thread::Threads;
-use wp_ledger::History;
+use wp_history::History;
 use wp_outside::{Disk, Disks, Gate};
 use wp_seats::{Session, part_all};
 use wp_shared::{Finished, Seat, Shared};

@@ -11,7 +11,7 @@ use crate::transcript::transcript;
 use std::alloc::{AllocError, Global};
 use std::collections::BTreeMap;
 use wp_args::Action;
-use wp_ledger::History;
+use wp_history::History;
 use wp_make::summary;
 use wp_model::{Key, Value};
 use wp_text::{Answered, Part, Reply};

@@ -6,7 +6,7 @@ ghost use Rattle.wp_transcript.specs.Transcript.{client_text, client_lines, open
 
 use std::alloc::{AllocError, Global};
 use std::collections::BTreeMap;
-use wp_ledger::History;
+use wp_history::History;
 use wp_model::{Carried, Entry, Key, Seq, Value};
 use wp_text::{
     Answered, Part, Reply, base_line, carried_line, client_line, end_line, has_line, history_line,

@@ -15,18 +15,18 @@ use Rattle.wp_records.specs.declared.error.WriteError.{WriteError}
 use Rattle.wp_records.specs.declared.error.WriteError.TheVariants as write_error
 use Rattle.wp_records.specs.Records.{Puts, IsUncalled, FailsAppend}
 use Rattle.wp_rule.specs.Accounts.{account_of}
-use Rattle.wp_shared.specs.Calls.{Continues, remembering}
+use Rattle.wp_shared.specs.Calls.{Continues, with_events}
 use Rattle.wp_shared.specs.Seats.{SharedState, SeatState}
-use Rattle.wp_names.specs.Calls.{Keeps}
+use Rattle.wp_open_txns.specs.Calls.{Keeps}
 use Rattle.wp_txn.specs.Writes.{Refuses, failed_appends, MadeNoAppend, FailedOnce, LeavesDevice, MayLeaveDevice, RefusesBeforeLog, wrote_direct, writing_direct, WritesDirect}
-use Rattle.wp_names.specs.declared.error.TxnError.{TxnError}
-use Rattle.wp_names.specs.declared.error.TxnError.TheVariants as why
+use Rattle.wp_open_txns.specs.declared.error.TxnError.{TxnError}
+use Rattle.wp_open_txns.specs.declared.error.TxnError.TheVariants as why
 
 as_it_was : (p : Participant) → MadeNoAppend p p
 as_it_was p = record { own = refl; failed = refl }
 
 -- what it remembers else is no append that failed
-remembers_more : (old p : Participant) (events : List Event) → filter is_log_fault events ≡ [] → MadeNoAppend old p → MadeNoAppend old (remembering events p)
+remembers_more : (old p : Participant) (events : List Event) → filter is_log_fault events ≡ [] → MadeNoAppend old p → MadeNoAppend old (with_events events p)
 remembers_more old p events none so = record {
   own = so.own;
   failed = filter-append is_log_fault p.past events ∙ ap (λ (es : List Event). failed_appends p ++ es) none ∙ append-nil (failed_appends p) ∙ so.failed;
@@ -38,7 +38,7 @@ goes_unlogged z old new p so goes = record { own = ap (λ (x : Participant). x.o
 pub refused_before : {D : Type 0} (z : SharedState D) (old new : SeatState) (needed : ℕ) (Asks : List Entry → Type 0) (first after : Participant) (reason : TxnError) → MadeNoAppend old.knows.participant after
     → Refuses z old new needed Asks first after reason → MayLeaveDevice z first old reason new → RefusesBeforeLog z first old reason new
 refused_before z old new needed Asks first after why.Memory so c d = (goes_unlogged z old new after so c, d)
-refused_before z old new needed Asks first after (why.Stopped n) so c d = (goes_unlogged z old new (remembering (stopped n ∷ []) after) (remembers_more old.knows.participant after (stopped n ∷ []) refl so) c.2, d)
+refused_before z old new needed Asks first after (why.Stopped n) so c d = (goes_unlogged z old new (with_events (stopped n ∷ []) after) (remembers_more old.knows.participant after (stopped n ∷ []) refl so) c.2, d)
 refused_before z old new needed Asks first after (why.NumbersFull published limit) so c d = (goes_unlogged z old new after so c.4, d)
 refused_before z old new needed Asks first after why.LogFault so c d =
     let entries : List Entry = c.2.0 in let goes = c.2.2 in record {
@@ -78,7 +78,7 @@ module _ {D : Type 0} (z : SharedState D) (old new : SeatState) (change : Change
   written_before (Err why.Memory) c d = (⊎_elim (λ (k : Keeps z old new). goes_unlogged z old new was (as_it_was was) k) (λ (k : Continues z old new wrote). goes_unlogged z old new wrote so_wrote k) c, d)
   written_before (Err (why.Busy holder)) c d =
       let events : List Event = found (Some (key_of change)) holder (length was.seen) (account_of was c.world.locks c.published (Some (key_of change)) holder) ∷ [] in
-      (goes_unlogged z old new (remembering events was) (remembers_more was was events refl (as_it_was was)) c.goes_on, d)
+      (goes_unlogged z old new (with_events events was) (remembers_more was was events refl (as_it_was was)) c.goes_on, d)
   written_before (Err (why.Stopped n)) c d = also_refused (why.Stopped n) c.0 d
   written_before (Err (why.NumbersFull published limit)) c d = also_refused (why.NumbersFull published limit) c.0 d
   written_before (Err why.LogFault) c d = also_refused why.LogFault c.0 d

@@ -4,7 +4,7 @@ use Rattle.std.specs.Prelude.{Result, Ok, Err, IfErr}
 use Rattle.std.specs.FinMap as finite
 use Rattle.wp_model.specs.Batch.{key_of}
 use Rattle.wp_model.specs.History.{holder_of}
-use Rattle.wp_model.specs.LockTables.{LockTables}
+use Rattle.wp_model.specs.LockState.{LockState}
 use Rattle.wp_model.specs.declared.change.Change.{Change}
 use Rattle.wp_model.specs.declared.entry.Entry.{Entry}
 use Rattle.wp_model.specs.declared.entry.Entry.TheVariants.{Write}
@@ -34,22 +34,22 @@ use Rattle.wp_rule.proofs.Needed.{has_locks, alone}
 use Rattle.wp_rule.proofs.Outlasting.{outlasts}
 use Rattle.wp_records.specs.Records.{numbers_behind}
 use Rattle.wp_shared.specs.Notes.{is_about}
-use Rattle.wp_shared.specs.Calls.{IsLoose, ContinuesWith, Continues, remembering}
+use Rattle.wp_shared.specs.Calls.{IsLoose, ContinuesWith, Continues, with_events}
 use Rattle.wp_shared.specs.Seats.{SharedState, SeatState, IsFree, Stands, place_at}
 use Rattle.wp_shared.specs.Turns.{HoldsTurn, Taken, Given}
 use Rattle.wp_shared.proofs.OneStep.{becomes}
 use Rattle.wp_shared.proofs.Onward.{holds_alone}
-use Rattle.wp_names.specs.declared.error.TxnError.{TxnError}
-use Rattle.wp_names.specs.declared.error.TxnError.TheVariants as why
-use Rattle.wp_names.specs.Actors.{with_direct, ending_direct}
-use Rattle.wp_names.specs.Calls.{Finds}
+use Rattle.wp_open_txns.specs.declared.error.TxnError.{TxnError}
+use Rattle.wp_open_txns.specs.declared.error.TxnError.TheVariants as why
+use Rattle.wp_open_txns.specs.Actors.{with_direct, ending_direct}
+use Rattle.wp_open_txns.specs.Calls.{Finds}
 use Rattle.wp_txn.specs.Recording.{Records, HasDirect, HoldsDirect, EndsDirect, without_direct}
-use Rattle.wp_names.specs.Turns.{is_of_direct, IsNoDirect, IsWithoutDirect}
-use Rattle.wp_names.specs.Under.{LocksDirect}
+use Rattle.wp_open_txns.specs.Turns.{is_of_direct, IsNoDirect, IsWithoutDirect}
+use Rattle.wp_open_txns.specs.Under.{LocksDirect}
 use Rattle.wp_txn.specs.Writes.{Refuses, WritesDirect, wrote_direct, writing_direct, SawNoMore, LeavesDevice, MayLeaveDevice}
-use Rattle.wp_names.proofs.GoesOn.{held_last, holds_tables, locks_found, locks_left, with_locks, under, back, back_at_once, noted_back, nothing_done, finds}
+use Rattle.wp_open_txns.proofs.GoesOn.{held_last, holds_tables, locks_found, locks_left, with_locks, under, back, back_at_once, noted_back, nothing_done, finds}
 use Rattle.wp_txn.proofs.Goes.{chain, put_within, refused_within, refused_still, refused_free, left_within}
-use Rattle.wp_names.proofs.Made.{all_made, locks_are, but_notes}
+use Rattle.wp_open_txns.proofs.Made.{all_made, locks_are, but_notes}
 
 -- ---- steps
 
@@ -67,18 +67,18 @@ free_there : (p : Place) (a : Actor) (w : World) (key : List ℕ) → IsAt p a w
 free_there p a w key k free = none_is (holder_of w.writes.history key) (λ q e.
     let f = found_holder w.writes.history key q e in some_none _ (sym ((at_sound p a w k).locks.prepared_keys q key f.0 f.1) ∙ free))
 
-pub may_lock_direct : (p : Place) (a : Actor) (t : LockTables) (key : List ℕ) → a.live ≡ true → a.participant.direct ≡ None → IsIn (locks t) a.held → is_free_for (finite.get t.keys key) (Client a.participant.client) ≡ true
+pub may_lock_direct : (p : Place) (a : Actor) (t : LockState) (key : List ℕ) → a.live ≡ true → a.participant.direct ≡ None → IsIn (locks t) a.held → is_free_for (finite.get t.keys key) (Client a.participant.client) ≡ true
     → MayMake p a (λ w. lock_direct key ∷ note (direct_free key) ∷ [])
 may_lock_direct p a t key live none held free w k =
     let h = has_locks p a w k (λ l. is_free_for (finite.get l.keys key) (Client a.participant.client) ≡ true) (record { table = t; held = held; so_is = free }) in
     let nobody = none_there (finite.get w.locks.keys key) a.participant.client h.1 in
     ((tt, (tt, tt)), ((h.0, none, nobody), ((live, alone p a w k, (refl, at_inserted w.locks.keys key (Client a.participant.client) key refl, free_there p a w key k nobody)), tt)))
 
-pub direct_locked : (p : Place) (so : World → Type 0) (a b : Actor) (t : LockTables) (key : List ℕ) → Moved p (λ w. lock_direct key ∷ note (direct_free key) ∷ []) so a b → IsIn (locks t) a.held → b ≡ with_direct t key a
+pub direct_locked : (p : Place) (so : World → Type 0) (a b : Actor) (t : LockState) (key : List ℕ) → Moved p (λ w. lock_direct key ∷ note (direct_free key) ∷ []) so a b → IsIn (locks t) a.held → b ≡ with_direct t key a
 direct_locked p so a b t key m held =
-    all_made p (λ w. lock_direct key ∷ note (direct_free key) ∷ []) so a b m (lock_ends key, (note_ends (direct_free key), tt)) ∙ ap (λ (l : LockTables). with_direct l key a) (locks_are p a m.world t m.before held)
+    all_made p (λ w. lock_direct key ∷ note (direct_free key) ∷ []) so a b m (lock_ends key, (note_ends (direct_free key), tt)) ∙ ap (λ (l : LockState). with_direct l key a) (locks_are p a m.world t m.before held)
 
-pub may_free_direct : (p : Place) (a : Actor) (t : LockTables) (key : List ℕ) → a.participant.direct ≡ Some key → IsIn (locks t) a.held → MayMake p a (λ w. free_direct key ∷ [])
+pub may_free_direct : (p : Place) (a : Actor) (t : LockState) (key : List ℕ) → a.participant.direct ≡ Some key → IsIn (locks t) a.held → MayMake p a (λ w. free_direct key ∷ [])
 may_free_direct p a t key has held = known_made p a (free_direct key) tt (record { table = t; held = held; so_is = has })
 
 free_ends : (history : List Entry) (words : ℕ) (key : List ℕ) (fact : Fact) → IsNoDirect fact → ends history words (free_direct key) fact ≡ false
@@ -105,12 +105,12 @@ free_ends history words key (frozen_stay n versions) e = let m = e.0 in absurd c
 free_ends history words key (delayed_flag_stays value) e = let n = e.0 in absurd cc
 free_ends history words key (old_flag_stays value) e = let n = e.0 in absurd cc
 
-pub direct_freed : (p : Place) (so : World → Type 0) (s new : SeatState) (same : (new.table ≡ s.table) × (new.by ≡ s.by) × (new.turns ≡ s.turns)) (t : LockTables) (key : List ℕ) → IsIn (locks t) s.knows.held
+pub direct_freed : (p : Place) (so : World → Type 0) (s new : SeatState) (same : (new.table ≡ s.table) × (new.by ≡ s.by) × (new.turns ≡ s.turns)) (t : LockState) (key : List ℕ) → IsIn (locks t) s.knows.held
     → Moved p (λ w. free_direct key ∷ []) so s.knows new.knows → IsWithoutDirect s new (without_key t key)
 direct_freed p so s new same t key held m =
     let after = actor_after (free_direct key ∷ []) m.world p.by s.knows in
     let e : new.knows ≡ record (ending_direct (without_key t key) s.knows) { notes = after.notes } =
-    m.actor ∙ ap (λ (l : LockTables). record (ending_direct (without_key l key) s.knows) { notes = after.notes }) (locks_are p s.knows m.world t m.before held) in
+    m.actor ∙ ap (λ (l : LockState). record (ending_direct (without_key l key) s.knows) { notes = after.notes }) (locks_are p s.knows m.world t m.before held) in
     record {
       seat = becomes s new (record (ending_direct (without_key t key) s.knows) { notes = new.knows.notes }) same (but_notes (ending_direct (without_key t key) s.knows) new.knows after e);
       notes = λ fact stays there.
@@ -119,11 +119,11 @@ direct_freed p so s new same t key held m =
 
 -- ---- the key is held, and given back
 
-module _ {D : Type 0} (z : SharedState D) (old : SeatState) (t : LockTables) (key : List ℕ) (s r : SeatState) (k : Taken z old s (locks t)) where
+module _ {D : Type 0} (z : SharedState D) (old : SeatState) (t : LockState) (key : List ℕ) (s r : SeatState) (k : Taken z old s (locks t)) where
   saw_no_more : (new : SeatState) → r.knows.participant.seen ≡ s.knows.participant.seen → Given z locks_turn r new [] [] → SawNoMore old new
   saw_no_more new same gave = ap (λ (x : SeatState). x.knows.participant.seen) gave.goes.same ∙ same ∙ ap (λ (x : SeatState). x.knows.participant.seen) k.seat
 
-  pub direct_held : old.knows.participant.direct ≡ None → (u : LockTables) (new : SeatState) (answer : Result (Unit {0}) TxnError) → LocksDirect t s key answer u r → Given z locks_turn r new [] [] → HoldsDirect z old key answer new
+  pub direct_held : old.knows.participant.direct ≡ None → (u : LockState) (new : SeatState) (answer : Result (Unit {0}) TxnError) → LocksDirect t s key answer u r → Given z locks_turn r new [] [] → HoldsDirect z old key answer new
   direct_held none u new (Ok done) c gave =
       let b : Actor = with_direct t key (with_locks t old).knows in let is = under z old t s k (with_direct t key) r c.1 in
       record {
@@ -142,16 +142,16 @@ module _ {D : Type 0} (z : SharedState D) (old : SeatState) (t : LockTables) (ke
     ending a = record (ending_direct (without_key t key) a) { notes = r.knows.notes }
 
     -- it holds the tables without the key
-    pub ended_holds : IsFree z.table old → (m : LockTables) → m ≡ without_key t key → HoldsTurn z r (locks m) [] []
+    pub ended_holds : IsFree z.table old → (m : LockState) → m ≡ without_key t key → HoldsTurn z r (locks m) [] []
     ended_holds free m same = holds_tables (ending s.knows) (without_key t key) m (holds_alone free k) same without.seat refl refl
 
-    pub ended_direct : (new : SeatState) (m : LockTables) → m ≡ without_key t key → HoldsTurn z r (locks m) [] [] → (w : World) × Stands z r w → Given z locks_turn r new [] [] → EndsDirect z old new key
+    pub ended_direct : (new : SeatState) (m : LockState) → m ≡ without_key t key → HoldsTurn z r (locks m) [] [] → (w : World) × Stands z r w → Given z locks_turn r new [] [] → EndsDirect z old new key
     ended_direct new m same held stands gave =
         let is = under z old t s k ending r without.seat in record {
           goes_on = back z old t s k IsNoDirect (ending (with_locks t old).knows) r new is gave refl refl ([], sym (append-nil old.knows.participant.seen))
               (λ fact stays there. without.notes fact stays (subst (λ (x : SeatState). IsIn fact x.knows.notes) (sym k.seat) there));
           same = ap (λ (x : SeatState). x.knows.participant) gave.goes.same ∙ ap (λ (x : SeatState). x.knows.participant) is;
-          freed = locks_left z r new m (λ l. finite.get l.keys key ≡ None) stands (held_last held) gave (ap (λ (l : LockTables). finite.get l.keys key) same ∙ at_removed t.keys key key refl);
+          freed = locks_left z r new m (λ l. finite.get l.keys key ≡ None) stands (held_last held) gave (ap (λ (l : LockState). finite.get l.keys key) same ∙ at_removed t.keys key key refl);
         }
 
 -- ---- the whole call
@@ -218,7 +218,7 @@ module _ {D : Type 0} (z : SharedState D) (old mid left new : SeatState) (change
   refused reason c =
       refused_within IsLoose z old mid left new 1 (writing_direct key was) (wrote_direct key was) held.goes_on same_seen
       (λ goes. given IsLoose (λ x. x) (λ fact loose. loose) (λ x seen. refl) goes)
-      (λ events goes. given IsLoose (remembering events) (λ fact loose. loose) (λ x seen. refl) goes) (λ asked. asked ≡ Write (change ∷ []) ∷ []) (λ asked. asked ≡ Write (change ∷ []) ∷ []) (λ asked is legal. is) reason c
+      (λ events goes. given IsLoose (with_events events) (λ fact loose. loose) (λ x seen. refl) goes) (λ asked. asked ≡ Write (change ∷ []) ∷ []) (λ asked. asked ≡ Write (change ∷ []) ∷ []) (λ asked is legal. is) reason c
 
   pub not_written : (reason : TxnError) → Refuses z mid left 1 (λ asked. asked ≡ Write (change ∷ []) ∷ []) mid.knows.participant mid.knows.participant reason → WritesDirect z old change (Err reason) new
   not_written why.Memory c = inr (refused why.Memory c)

@@ -9,7 +9,7 @@ use Rattle.wp_model.specs.declared.change.Change.{Change}
 use Rattle.wp_model.specs.declared.entry.Entry.{Entry}
 use Rattle.wp_model.specs.declared.entry.Entry.TheVariants.{Write, Prepare, Commit}
 use Rattle.wp_model.proofs.Entries.{entry_at_old, undecided_within}
-use Rattle.wp_history.proofs.Growth.{after_front, entry_at_next, length_next}
+use Rattle.wp_history_laws.proofs.Growth.{after_front, entry_at_next, length_next}
 use Rattle.wp_judge.specs.Words.{seq_end}
 use Rattle.wp_core.specs.Lists.{IsIn}
 use Rattle.wp_core.specs.Views.{Fact, undecided_at}
@@ -19,18 +19,18 @@ use Rattle.wp_core.specs.Sound.Views.{guarded_by}
 use Rattle.wp_core.proofs.HistoryLaws.{next_decides_prepare}
 use Rattle.wp_records.specs.Records.{numbers_behind, IsAboutNone}
 use Rattle.wp_shared.specs.Notes.{is_about}
-use Rattle.wp_shared.specs.Calls.{IsLoose, ContinuesWith, Continues, remembering}
+use Rattle.wp_shared.specs.Calls.{IsLoose, ContinuesWith, Continues, with_events}
 use Rattle.wp_rule.specs.Words.{IsAt}
 use Rattle.wp_shared.specs.Seats.{SharedState, SeatState, place_at}
-use Rattle.wp_names.specs.Calls.{without_transaction, Frees}
+use Rattle.wp_open_txns.specs.Calls.{without_transaction, Frees}
 use Rattle.wp_txn.specs.Recording.{Records}
-use Rattle.wp_names.specs.Turns.{IsApartFrom}
-use Rattle.wp_names.specs.Txn.{OpenState, PreparedState, HasLocked, HasOpen, HasPrepared}
+use Rattle.wp_open_txns.specs.Turns.{IsApartFrom}
+use Rattle.wp_open_txns.specs.Txn.{OpenState, PreparedState, HasLocked, HasOpen, HasPrepared}
 use Rattle.wp_txn.specs.Writes.{HasPut, Refuses, Prepares, Ends, RefusesOpen, RefusesPrepared}
-use Rattle.wp_names.specs.declared.error.TxnError.{TxnError}
+use Rattle.wp_open_txns.specs.declared.error.TxnError.{TxnError}
 use Rattle.wp_txn.proofs.DirectWrites.{none_about}
 use Rattle.wp_txn.proofs.Goes.{chain, put_within, refused_within, refused_still}
-use Rattle.wp_names.proofs.Still.{open_still, prepared_still}
+use Rattle.wp_open_txns.proofs.Still.{open_still, prepared_still}
 
 -- ---- the transaction is freed
 
@@ -84,8 +84,8 @@ refused_from z old start new needed Asks More wider begins why c =
     refused_within IsLoose z old start new new needed it it begins refl
     (λ goes. chain IsLoose IsLoose IsLoose z old start new it start.knows.participant it (λ fact stays. stays) (λ fact stays. stays) begins goes (ap (λ (p : Participant). record p { seen = new.knows.participant.seen }) begins.participant))
     (λ events goes.
-    chain IsLoose IsLoose IsLoose z old start new it (remembering events start.knows.participant) (remembering events it) (λ fact stays. stays) (λ fact stays. stays) begins goes
-    (ap (λ (p : Participant). record (remembering events p) { seen = new.knows.participant.seen }) begins.participant))
+    chain IsLoose IsLoose IsLoose z old start new it (with_events events start.knows.participant) (with_events events it) (λ fact stays. stays) (λ fact stays. stays) begins goes
+    (ap (λ (p : Participant). record (with_events events p) { seen = new.knows.participant.seen }) begins.participant))
     Asks More wider why c
 
 -- what was noted of a transaction outlasts a record that is of none

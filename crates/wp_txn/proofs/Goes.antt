@@ -7,13 +7,13 @@ use Rattle.wp_core.specs.World.{Participant}
 use Rattle.wp_rule.specs.Words.{IsAt}
 use Rattle.wp_records.specs.Writing.{FoundLog}
 use Rattle.wp_records.specs.Records.{numbers_behind, failing, IsUncalled}
-use Rattle.wp_shared.specs.Calls.{ContinuesWith, Continues, remembering}
+use Rattle.wp_shared.specs.Calls.{ContinuesWith, Continues, with_events}
 use Rattle.wp_shared.specs.Limits.{limit_at}
 use Rattle.wp_shared.specs.Seats.{SharedState, SeatState, IsFree, place_at}
 use Rattle.wp_shared.proofs.Onward.{starts_on}
-use Rattle.wp_names.specs.declared.error.TxnError.{TxnError}
-use Rattle.wp_names.specs.declared.error.TxnError.TheVariants.{Memory, Taken, Busy, TooMany, Silent, Unknown, InUse, NumbersFull, LogFault, Stopped}
-use Rattle.wp_names.proofs.Still.{HasStill, still}
+use Rattle.wp_open_txns.specs.declared.error.TxnError.{TxnError}
+use Rattle.wp_open_txns.specs.declared.error.TxnError.TheVariants.{Memory, Taken, Busy, TooMany, Silent, Unknown, InUse, NumbersFull, LogFault, Stopped}
+use Rattle.wp_open_txns.proofs.Still.{HasStill, still}
 use Rattle.wp_txn.specs.Writes.{HasPut, Refuses, SawNoMore, HadLog, LeavesDevice}
 
 -- the participant that it is in the end, whatever it had seen on the way
@@ -68,7 +68,7 @@ left_within First z old mid left new found to same saw d = ⊎_elim
 -- ... and what it was refused for, the call was
 module _ {D : Type 0} (First : Fact → Type 0) (z : SharedState D) (old mid left new : SeatState) (needed : ℕ) (found after : Participant) (to : ContinuesWith First z old mid found)
     (same : new.knows.participant.seen ≡ left.knows.participant.seen) (plain : Continues z mid left mid.knows.participant → Continues z old new after)
-    (more : (events : List Event) → Continues z mid left (remembering events mid.knows.participant) → Continues z old new (remembering events after)) where
+    (more : (events : List Event) → Continues z mid left (with_events events mid.knows.participant) → Continues z old new (with_events events after)) where
   abbrev found_in : (b : Bool) → FoundLog z mid mid.knows.participant left.knows.participant.seen b → FoundLog z old found new.knows.participant.seen b
   found_in b k = found_from First z old mid found left.knows.participant.seen new.knows.participant.seen b to same k
 
@@ -109,7 +109,7 @@ refused_for z old new needed Asks found after (InUse name) c = c
 
 pub refused_still : {D : Type 0} (z : SharedState D) (old new : SeatState) (needed : ℕ) (Asks : List Entry → Type 0) (why : TxnError) → Refuses z old new needed Asks old.knows.participant old.knows.participant why → HasStill old new
 refused_still z old new needed Asks Memory c = still z old new old.knows.participant refl refl c
-refused_still z old new needed Asks (Stopped n) c = still z old new (remembering (stopped n ∷ []) old.knows.participant) refl refl c.2
+refused_still z old new needed Asks (Stopped n) c = still z old new (with_events (stopped n ∷ []) old.knows.participant) refl refl c.2
 refused_still z old new needed Asks (NumbersFull published limit) c = still z old new old.knows.participant refl refl c.4
 refused_still z old new needed Asks LogFault c = still z old new (failing c.2.0 old.knows.participant) refl refl c.2.2
 refused_still z old new needed Asks (Taken name) c = absurd c

@@ -13,16 +13,16 @@ use Rattle.wp_model.specs.declared.entry.Entry.TheVariants.{Write, Prepare, Comm
 use Rattle.wp_model.proofs.BatchLemmas.{batch_ascends}
 use Rattle.wp_model.proofs.Entries.{entry_at_old, undecided_within}
 use Rattle.wp_model.proofs.Found.{found_named}
-use Rattle.wp_history.proofs.Growth.{legal_next, length_next}
-use Rattle.wp_history.proofs.Held.{prior_to}
-use Rattle.wp_history.proofs.Undecided.{close_follows}
+use Rattle.wp_history_laws.proofs.Growth.{legal_next, length_next}
+use Rattle.wp_history_laws.proofs.Held.{prior_to}
+use Rattle.wp_history_laws.proofs.Undecided.{close_follows}
 use Rattle.wp_fields.specs.declared.format.Format.{Format}
 use Rattle.wp_fields.specs.declared.format.Format.TheVariants.{One, Two}
 use Rattle.wp_entry.specs.Record.{last_number}
 use Rattle.wp_core.specs.Conditions.{HasTransaction}
 use Rattle.wp_core.specs.Entries.{transaction_of, changes_under}
 use Rattle.wp_core.specs.Lists.{IsIn}
-use Rattle.wp_core.specs.Tables.{WriteTable}
+use Rattle.wp_core.specs.Tables.{WriteState}
 use Rattle.wp_core.specs.Views.{direct_free, undecided_at, unprepared}
 use Rattle.wp_core.specs.World.{Transactions, Participant}
 use Rattle.wp_core.proofs.HistoryGrows.{none_is}
@@ -32,8 +32,8 @@ use Rattle.wp_shared.specs.Log.{LogState}
 use Rattle.wp_records.specs.Records.{OwnsEntry, MayPut}
 use Rattle.wp_shared.specs.Seats.{SharedState, SeatState, place_at}
 use Rattle.wp_txn.specs.Recording.{OpensLog}
-use Rattle.wp_names.specs.Txn.{HasOpen, HasPrepared}
-use Rattle.wp_names.proofs.Adding.{changed_one}
+use Rattle.wp_open_txns.specs.Txn.{HasOpen, HasPrepared}
+use Rattle.wp_open_txns.proofs.Adding.{changed_one}
 
 -- ---- numbers
 
@@ -82,11 +82,11 @@ module _ {D : Type 0} (z : SharedState D) (old new : SeatState) (log : LogState)
 
   nothing_undone : undone_last history ≡ None
   nothing_undone = none_is (undone_last history) (λ p e.
-      let closing = (at_sound (place_at z new.by) new.knows o.took.world o.took.stands).history.undo_closes p (ap (λ (d : WriteTable). undone_last d.history) o.took.is ∙ e) in
-      let none : [] ≡ Close p ∷ [] = sym o.holds.pending ∙ ap (λ (d : WriteTable). d.pending) (sym o.took.is) ∙ closing.0 in absurd (cc))
+      let closing = (at_sound (place_at z new.by) new.knows o.took.world o.took.stands).history.undo_closes p (ap (λ (d : WriteState). undone_last d.history) o.took.is ∙ e) in
+      let none : [] ≡ Close p ∷ [] = sym o.holds.pending ∙ ap (λ (d : WriteState). d.pending) (sym o.took.is) ∙ closing.0 in absurd (cc))
 
   pub legal_now : IsLegal history
-  legal_now = subst (λ (d : WriteTable). IsLegal d.history) o.took.is (at_sound (place_at z new.by) new.knows o.took.world o.took.stands).history.legal
+  legal_now = subst (λ (d : WriteState). IsLegal d.history) o.took.is (at_sound (place_at z new.by) new.knows o.took.world o.took.stands).history.legal
 
   grows_by : (entry : Entry) → 1 ≤ needed → IsLegalNext history entry → IsLegal (history ++ entry ∷ [])
   grows_by entry one next = let a = o.numbers in let b = numbers_end log.wal.format in legal_next history entry legal_now next (omega (arith, a, b, one))
@@ -100,7 +100,7 @@ module _ {D : Type 0} (z : SharedState D) (old new : SeatState) (log : LogState)
       → MayPut new.knows history (Write (change ∷ []) ∷ [])
   may_write_direct one key change is whole direct noted =
       let so = (noted_is (place_at z new.by) new.knows o.took.world (direct_free key) o.took.stands (o.took.goes.noted (direct_free key) refl noted)).is_so in
-      let free : holder_of history key ≡ None = ap (λ (d : WriteTable). holder_of d.history key) (sym o.took.is) ∙ so.2 in
+      let free : holder_of history key ≡ None = ap (λ (d : WriteState). holder_of d.history key) (sym o.took.is) ∙ so.2 in
       record {
         legal = grows_by (Write (change ∷ [])) one (writes_next (change ∷ []) whole (λ k changed. ap (holder_of history) (only_key change k changed ∙ sym is) ∙ free));
         owned = (
@@ -121,8 +121,8 @@ module _ {D : Type 0} (z : SharedState D) (old new : SeatState) (log : LogState)
     open_so : (named history name ≡ None) × ((key : List ℕ) → is_changed batch key ≡ true → holder_of history key ≡ None)
     open_so =
         let so = (noted_is (place_at z new.by) new.knows o.took.world (unprepared name) o.took.stands (o.took.goes.noted (unprepared name) refl h.noted)).is_so in (
-          ap (λ (d : WriteTable). named d.history name) (sym o.took.is) ∙ so.1,
-          λ key changed. ap (λ (d : WriteTable). holder_of d.history key) (sym o.took.is) ∙ so.2 h.transaction key has (h.keys key ∙ changed),
+          ap (λ (d : WriteState). named d.history name) (sym o.took.is) ∙ so.1,
+          λ key changed. ap (λ (d : WriteState). holder_of d.history key) (sym o.took.is) ∙ so.2 h.transaction key has (h.keys key ∙ changed),
         )
 
     pub may_write_open : MayPut new.knows history (Write batch ∷ [])
@@ -156,7 +156,7 @@ module _ {D : Type 0} (z : SharedState D) (old new : SeatState) (log : LogState)
     pub named_still : named history name ≡ Some number
     named_still =
         let so = (noted_is (place_at z new.by) new.knows o.took.world (undecided_at name number) o.took.stands (o.took.goes.noted (undecided_at name number) refl h.noted)).is_so in
-        ap (λ (d : WriteTable). named d.history name) (sym o.took.is) ∙ so.1
+        ap (λ (d : WriteState). named d.history name) (sym o.took.is) ∙ so.1
 
     pub undecided_still : is_undecided history number ≡ true
     undecided_still = (found_named history name number named_still).0

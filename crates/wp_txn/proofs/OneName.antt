@@ -7,7 +7,7 @@ use Rattle.wp_model.specs.History.{is_prepare, prepared_name, name_at, is_undeci
 use Rattle.wp_model.specs.Legal.{IsLegal, IsLegalNext}
 use Rattle.wp_model.proofs.Entries.{undecided_within}
 use Rattle.wp_model.proofs.Found.{found_named}
-use Rattle.wp_history.proofs.Growth.{by_growth}
+use Rattle.wp_history_laws.proofs.Growth.{by_growth}
 use Rattle.wp_core.proofs.HistoryGrows.{none_is, before, after, at_next, undecided_before_or_now, name_at_old}
 use Rattle.wp_core.proofs.HistoryHolders.{none_named}
 

@@ -9,7 +9,7 @@ use Rattle.wp_model.specs.declared.change.Change.{Change}
 use Rattle.wp_model.specs.declared.entry.Entry.{Entry}
 use Rattle.wp_model.specs.declared.entry.Entry.TheVariants.{Undo, Close}
 use Rattle.wp_model.proofs.Entries.{undecided_within}
-use Rattle.wp_history.proofs.Growth.{after_front, legal_before}
+use Rattle.wp_history_laws.proofs.Growth.{after_front, legal_before}
 use Rattle.wp_judge.specs.Words.{fits, seq_end}
 use Rattle.wp_core.specs.Lists.{IsIn}
 use Rattle.wp_core.specs.Reading.{Registration}
@@ -25,14 +25,14 @@ use Rattle.wp_shared.specs.Notes.{is_about}
 use Rattle.wp_shared.specs.Calls.{IsLoose, Continues}
 use Rattle.wp_shared.specs.Seats.{SharedState, SeatState}
 use Rattle.wp_shared.proofs.Onward.{continues_none}
-use Rattle.wp_names.specs.Calls.{without_transaction, Frees}
+use Rattle.wp_open_txns.specs.Calls.{without_transaction, Frees}
 use Rattle.wp_txn.specs.Recording.{OpensLog, Records, HadPrior, IsPriorSince}
-use Rattle.wp_names.specs.Turns.{IsApartFrom}
-use Rattle.wp_names.specs.Txn.{HasLocked, HasPrepared}
+use Rattle.wp_open_txns.specs.Turns.{IsApartFrom}
+use Rattle.wp_open_txns.specs.Txn.{HasLocked, HasPrepared}
 use Rattle.wp_txn.specs.Writes.{HasPut, RollsBack, AsksRollback}
 use Rattle.wp_txn.proofs.Ends.{put_and_freed, number_still, locked_until, name_before, stands_before}
 use Rattle.wp_txn.proofs.Goes.{chain}
-use Rattle.wp_names.proofs.Still.{still, prepared_locked, prepared_still}
+use Rattle.wp_open_txns.proofs.Still.{still, prepared_locked, prepared_still}
 use Rattle.wp_txn.proofs.MayPut.{legal_now, stands_still, undecided_still}
 use Rattle.wp_txn.proofs.OneName.{name_is_free}
 

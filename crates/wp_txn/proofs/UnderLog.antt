@@ -20,14 +20,14 @@ use Rattle.wp_core.specs.Conditions.{NoneNext}
 use Rattle.wp_core.specs.Entries.{transaction_of, pair_by}
 use Rattle.wp_core.specs.Lists.{IsIn}
 use Rattle.wp_core.specs.Steps.{find_log_closed}
-use Rattle.wp_core.specs.Tables.{Content, WriteTable, writes}
+use Rattle.wp_core.specs.Tables.{Content, WriteState, writes}
 use Rattle.wp_core.specs.Turns.{write_turn}
 use Rattle.wp_core.specs.Views.{Fact, stopped, undecided_at, unprepared}
 use Rattle.wp_core.specs.World.{Participant, Actor, World}
 use Rattle.wp_core.specs.Sound.Actors.{StartsWith}
 use Rattle.wp_core.specs.Sound.Views.{guarded_by}
-use Rattle.wp_history.proofs.Growth.{entry_at_next, length_next}
-use Rattle.wp_history.proofs.Undecided.{undecided_at_next}
+use Rattle.wp_history_laws.proofs.Growth.{entry_at_next, length_next}
+use Rattle.wp_history_laws.proofs.Undecided.{undecided_at_next}
 use Rattle.wp_core.proofs.HistoryGrows.{before}
 use Rattle.wp_rule.specs.Moves.{MayMake, Moved}
 use Rattle.wp_rule.specs.Words.{Place, IsAt}
@@ -43,18 +43,18 @@ use Rattle.wp_records.specs.declared.error.WriteError.{WriteError}
 use Rattle.wp_records.specs.declared.error.WriteError.TheVariants as write_error
 use Rattle.wp_records.specs.Records.{numbers_behind, putting, IsAboutNone, failing, MayPut, IsPut, IsNotPut, IsUncalled}
 use Rattle.wp_records.specs.Writing.{HoldsWrite, FoundLog}
-use Rattle.wp_shared.specs.Calls.{IsLoose, ContinuesWith, Continues, remembering}
+use Rattle.wp_shared.specs.Calls.{IsLoose, ContinuesWith, Continues, with_events}
 use Rattle.wp_shared.specs.Seats.{SharedState, SeatState, IsFree, place_at}
 use Rattle.wp_shared.specs.Turns.{HoldsTurn, TookLog, Given}
 use Rattle.wp_shared.proofs.Onward.{starts_on, loose_under}
-use Rattle.wp_names.specs.Actors.{with_stopped}
+use Rattle.wp_open_txns.specs.Actors.{with_stopped}
 use Rattle.wp_shared.specs.Notes.{with_note, seat_of}
 use Rattle.wp_txn.specs.Recording.{OpensLog, notes_of, PutsNoting, Records, answer_of}
 use Rattle.wp_txn.specs.declared.recording.Noting.{Noting}
 use Rattle.wp_txn.specs.declared.recording.Noting.TheVariants as note
 use Rattle.wp_txn.specs.Writes.{HasPut, Refuses, LeavesDevice}
-use Rattle.wp_names.specs.declared.error.TxnError.TheVariants.{NumbersFull, Stopped}
-use Rattle.wp_names.proofs.Made.{all_made}
+use Rattle.wp_open_txns.specs.declared.error.TxnError.TheVariants.{NumbersFull, Stopped}
+use Rattle.wp_open_txns.proofs.Made.{all_made}
 use Rattle.wp_txn.proofs.OneName.{named_is, name_is_free}
 use Rattle.wp_txn.proofs.RollsBack.{rollback_frees}
 
@@ -63,12 +63,12 @@ use Rattle.wp_txn.proofs.RollsBack.{rollback_frees}
 closed_ends : EndsNothing find_log_closed
 closed_ends = record { guard = λ turn. refl; place = λ words place. refl; words = refl; delayed_flag = refl; old_flag = refl; pending = refl; adds = refl; takes = refl; prepared = refl; unprepared = refl; delays = refl; transaction = λ history name. refl; direct = refl; moves = refl; replaces = refl; installing = refl }
 
-pub may_find_closed : (p : Place) (a : Actor) (d : WriteTable) → IsIn (writes d) a.held → d.closed ≡ true → MayMake p a (λ w. find_log_closed ∷ [])
+pub may_find_closed : (p : Place) (a : Actor) (d : WriteState) → IsIn (writes d) a.held → d.closed ≡ true → MayMake p a (λ w. find_log_closed ∷ [])
 may_find_closed p a d held closed = known_made p a find_log_closed tt (record { table = d; held = held; so_is = closed })
 
-pub closed_found : (p : Place) (so : World → Type 0) (a b : Actor) (d : WriteTable) → Moved p (λ w. find_log_closed ∷ []) so a b → IsIn (writes d) a.held → b ≡ with_stopped (length d.history) a
+pub closed_found : (p : Place) (so : World → Type 0) (a b : Actor) (d : WriteState) → Moved p (λ w. find_log_closed ∷ []) so a b → IsIn (writes d) a.held → b ≡ with_stopped (length d.history) a
 closed_found p so a b d m held =
-    all_made p (λ w. find_log_closed ∷ []) so a b m (closed_ends, tt) ∙ ap (λ (t : WriteTable). with_stopped (length t.history) a) (held_table p a m.world (writes d) m.before held)
+    all_made p (λ w. find_log_closed ∷ []) so a b m (closed_ends, tt) ∙ ap (λ (t : WriteState). with_stopped (length t.history) a) (held_table p a m.world (writes d) m.before held)
 
 -- ---- the turn is given
 
@@ -122,12 +122,12 @@ module _ {D : Type 0} (z : SharedState D) (old s : SeatState) (log : LogState) (
     world = took.world;
     actor = s.knows;
     there = subst (λ (n : ℕ). IsAt (place_at z n) s.knows took.world) same_by took.stands;
-    held = subst (λ (d : WriteTable). IsIn (writes d) s.knows.held) (sym took.is) (subst (IsIn (writes log.table)) (sym took.holds.held) (inl refl));
+    held = subst (λ (d : WriteState). IsIn (writes d) s.knows.held) (sym took.is) (subst (IsIn (writes log.table)) (sym took.holds.held) (inl refl));
     participant = participant_then ∙ ap (λ (h : List Entry). record was { seen = h }) (sym is);
     made = made_then;
     joined = joined_then;
-    history_is = ap (λ (d : WriteTable). d.history) took.is ∙ sym is;
-    closed_is = ap (λ (d : WriteTable). d.closed) took.is ∙ closed;
+    history_is = ap (λ (d : WriteState). d.history) took.is ∙ sym is;
+    closed_is = ap (λ (d : WriteState). d.closed) took.is ∙ closed;
   }
 
   -- it was given back with its device uncalled
@@ -146,7 +146,7 @@ module _ {D : Type 0} (z : SharedState D) (old s : SeatState) (log : LogState) (
   in_place_then : IsLog log → took.world.installed.last.segment ≡ log.wal.segment
   in_place_then k =
       in_place took.world.writes took.world.installed.last.segment (at_sound (place_at z s.by) s.knows took.world took.stands).coupled.last (subst NoneNext (sym took.is) k.none_waits)
-      ∙ ap (λ (d : WriteTable). d.segment) took.is ∙ k.segment
+      ∙ ap (λ (d : WriteState). d.segment) took.is ∙ k.segment
 
   -- so the limit is that of its version
   limit_then : IsLog log → min z.limit (last_number log.wal.format) ≡ limit_at z took.world.installed.last.segment.base
@@ -177,10 +177,10 @@ module _ {D : Type 0} (z : SharedState D) (old s : SeatState) (log : LogState) (
           (
             number ∙ ap (λ (es : List Entry). length es) (sym seen),
             found_then new.knows.participant.seen true seen closed,
-            given_back IsLoose z old t new (remembering (stopped n ∷ []) was) gives (ap (λ (x : SeatState). x.by) found ∙ same_by)
+            given_back IsLoose z old t new (with_events (stopped n ∷ []) was) gives (ap (λ (x : SeatState). x.by) found ∙ same_by)
                 (took.grown.0, seen_there ∙ took.grown.1)
-                (ap (λ (x : SeatState). x.knows.participant) found ∙ ap (remembering (stopped (length history) ∷ [])) is_then
-                ∙ ap (λ (x : ℕ × List Entry). record (remembering (stopped x.0 ∷ []) was) { seen = x.1 }) (λ i. (sym number i, (took.seen ∙ sym seen_there) i)))
+                (ap (λ (x : SeatState). x.knows.participant) found ∙ ap (with_events (stopped (length history) ∷ [])) is_then
+                ∙ ap (λ (x : ℕ × List Entry). record (with_events (stopped x.0 ∷ []) was) { seen = x.1 }) (λ i. (sym number i, (took.seen ∙ sym seen_there) i)))
                 (λ fact loose. loose)
                 (λ fact loose there. subst (λ (x : SeatState). IsIn fact x.knows.notes) (sym found) (noted_then fact there))
                 (ap (λ (x : SeatState). x.knows.made) found ∙ made_then)

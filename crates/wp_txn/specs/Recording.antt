@@ -20,12 +20,12 @@ use Rattle.wp_shared.specs.Calls.{ContinuesWith, Continues}
 use Rattle.wp_shared.specs.Limits.{limit_at}
 use Rattle.wp_shared.specs.Seats.{SharedState, SeatState}
 use Rattle.wp_shared.specs.Turns.{TookLog}
-use Rattle.wp_names.specs.declared.error.TxnError.{TxnError}
+use Rattle.wp_open_txns.specs.declared.error.TxnError.{TxnError}
 use Rattle.wp_txn.specs.declared.recording.Noting.{Noting}
 use Rattle.wp_txn.specs.declared.recording.Noting.TheVariants as noting
-use Rattle.wp_names.specs.declared.error.TxnError.TheVariants.{Memory, Busy, LogFault}
-use Rattle.wp_names.specs.Calls.{Keeps, Finds, LocksWere}
-use Rattle.wp_names.specs.Turns.{IsNoDirect}
+use Rattle.wp_open_txns.specs.declared.error.TxnError.TheVariants.{Memory, Busy, LogFault}
+use Rattle.wp_open_txns.specs.Calls.{Keeps, Finds, LocksWere}
+use Rattle.wp_open_txns.specs.Turns.{IsNoDirect}
 use Rattle.wp_txn.specs.Writes.{HasPut, Refuses, SawNoMore, MayLeaveDevice, writing_direct}
 
 -- what is noted of a record once it is put, where so many entries are published

@@ -10,7 +10,7 @@ use Rattle.wp_model.specs.Legal.{IsLegal, prior}
 use Rattle.wp_judge.specs.Words.{fits}
 use Rattle.wp_core.specs.Sound.Actors.{StartsWith}
 use Rattle.wp_core.specs.Sound.Views.{guarded_by}
-use Rattle.wp_core.specs.Tables.{WriteTable}
+use Rattle.wp_core.specs.Tables.{WriteState}
 use Rattle.wp_core.specs.Lists.{IsIn}
 use Rattle.wp_core.specs.Sound.Pasts.{is_log_fault}
 use Rattle.wp_core.specs.Views.{Event, Fact, has_left, locked, log_failed, stopped}
@@ -19,14 +19,14 @@ use Rattle.wp_shared.specs.Log.{LogState, IsLog}
 use Rattle.wp_shared.specs.Parts.{log_first}
 use Rattle.wp_records.specs.Writing.{FoundLog}
 use Rattle.wp_records.specs.Records.{numbers_behind, failing, FailsAppend, IsUncalled}
-use Rattle.wp_shared.specs.Calls.{ContinuesWith, Continues, remembering}
+use Rattle.wp_shared.specs.Calls.{ContinuesWith, Continues, with_events}
 use Rattle.wp_shared.specs.Limits.{limit_at}
 use Rattle.wp_shared.specs.Seats.{SharedState, SeatState}
-use Rattle.wp_names.specs.declared.error.TxnError.{TxnError}
-use Rattle.wp_names.specs.declared.error.TxnError.TheVariants.{Memory, Busy, NumbersFull, LogFault, Stopped}
-use Rattle.wp_names.specs.Calls.{Keeps, Finds, LocksWere, IsFreeName, without_transaction}
-use Rattle.wp_names.specs.Turns.{IsApartFrom}
-use Rattle.wp_names.specs.Txn.{OpenState, PreparedState, HasOpen, HasPrepared}
+use Rattle.wp_open_txns.specs.declared.error.TxnError.{TxnError}
+use Rattle.wp_open_txns.specs.declared.error.TxnError.TheVariants.{Memory, Busy, NumbersFull, LogFault, Stopped}
+use Rattle.wp_open_txns.specs.Calls.{Keeps, Finds, LocksWere, IsFreeName, without_transaction}
+use Rattle.wp_open_txns.specs.Turns.{IsApartFrom}
+use Rattle.wp_open_txns.specs.Txn.{OpenState, PreparedState, HasOpen, HasPrepared}
 
 -- ---- any entries
 
@@ -48,7 +48,7 @@ HasPutThese Stays z old new found after entries = (history : List Entry) × HasP
 -- what the value behind the turn may be: the device has what the table says that the log spells, no fault since the opening was
 -- forgotten, and what was acknowledged then is so still. No clause of a call on a shared store sees its device: that the value was the
 -- one and became the other in this very call is what `put` says, of the value that the call took out from behind the turn.
-pub record HadLog {D : Type 0} (z : SharedState D) (found : WriteTable) (CameAbout : LogState → LogState → Type 0) : Type 0 where
+pub record HadLog {D : Type 0} (z : SharedState D) (found : WriteState) (CameAbout : LogState → LogState → Type 0) : Type 0 where
   pub before : LogState
   pub left : LogState
   pub of_store : log_first z.first ≡ Some before.first
@@ -59,7 +59,7 @@ pub record HadLog {D : Type 0} (z : SharedState D) (found : WriteTable) (CameAbo
   pub came_about : CameAbout before left
 
 -- ... the append of these entries failed
-abbrev pub HadFault : {D : Type 0} → SharedState D → WriteTable → List Entry → Type 0
+abbrev pub HadFault : {D : Type 0} → SharedState D → WriteState → List Entry → Type 0
 HadFault z found entries = HadLog z found (λ before left. FailsAppend before entries left)
 
 -- Why a call put no entries there, of which it needs so many, and asks for such. It was the first participant as it found the log,
@@ -67,7 +67,7 @@ HadFault z found entries = HadLog z found (λ before left. FailsAppend before en
 abbrev pub Refuses : {D : Type 0} → SharedState D → SeatState → SeatState → ℕ → (List Entry → Type 0) → Participant → Participant → TxnError → Type 0
 Refuses z old new needed Asks found after Memory = Continues z old new after
 Refuses z old new needed Asks found after (Stopped n) =
-    (n ≡ length new.knows.participant.seen) × FoundLog z old found new.knows.participant.seen true × Continues z old new (remembering (stopped n ∷ []) after)
+    (n ≡ length new.knows.participant.seen) × FoundLog z old found new.knows.participant.seen true × Continues z old new (with_events (stopped n ∷ []) after)
 Refuses z old new needed Asks found after (NumbersFull published limit) =
     (published ≡ length new.knows.participant.seen) × (limit < published + needed)
     × (found_log : FoundLog z old found new.knows.participant.seen false) × (limit ≡ limit_at z found_log.world.installed.last.segment.base) × Continues z old new after
@@ -125,7 +125,7 @@ RefusesBehindRead z old why new = (read : SeatState) × Continues z old read old
 
 -- the participant, which locked the key for its direct write and freed it again
 abbrev pub wrote_direct : List ℕ → Participant → Participant
-wrote_direct key p = remembering (locked key (Client p.client) ∷ []) p
+wrote_direct key p = with_events (locked key (Client p.client) ∷ []) p
 
 -- ... while it holds the key
 abbrev pub writing_direct : List ℕ → Participant → Participant

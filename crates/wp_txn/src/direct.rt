@@ -6,7 +6,7 @@ ghost use Rattle.wp_model.specs.declared.holder.Holder.TheVariants.{Client};
 ghost use Rattle.wp_shared.specs.Seats.{IsFree};
 ghost use Rattle.wp_shared.specs.Turns.{HoldsTurn};
 ghost use Rattle.wp_txn.specs.Recording.{HoldsDirect, EndsDirect};
-ghost use Rattle.wp_names.specs.Under.{LocksDirect};
+ghost use Rattle.wp_open_txns.specs.Under.{LocksDirect};
 ghost use Rattle.wp_txn.specs.Writes.{RefusesBeforeLog, WritesDirect, writing_direct};
 
 use crate::recording::record_write;
@@ -15,7 +15,7 @@ use std::alloc::Global;
 use std::sync::Wait;
 use wp_locks::Locks;
 use wp_model::{Batch, Change, Holder, Key, Seq};
-use wp_names::{TxnError, lock_for};
+use wp_open_txns::{TxnError, lock_for};
 use wp_outside::Disk;
 use wp_shared::{Seat, Shared};
 

@@ -7,8 +7,8 @@ ghost use Rattle.wp_records.specs.declared.error.WriteError.{WriteError};
 ghost use Rattle.wp_records.specs.declared.error.WriteError.TheVariants as write_error;
 ghost use Rattle.wp_records.specs.Records.{Puts, IsUncalled, FailsAppend};
 ghost use Rattle.wp_shared.specs.Seats.{SharedState, SeatState};
-ghost use Rattle.wp_names.specs.declared.error.TxnError.{TxnError};
-ghost use Rattle.wp_names.specs.declared.error.TxnError.TheVariants.{LogFault};
+ghost use Rattle.wp_open_txns.specs.declared.error.TxnError.{TxnError};
+ghost use Rattle.wp_open_txns.specs.declared.error.TxnError.TheVariants.{LogFault};
 ghost use Rattle.wp_txn.specs.Writes.{MadeNoAppend, FailedOnce, LeavesDevice, RefusesBeforeLog};
 
 /// From the append of a record to the reply nothing is refused but by the log's device.

@@ -1,4 +1,4 @@
-//! Transactions on a shared store that make entries: direct writes, prepares, commits and rollbacks. With them the calls of `wp_names`,
+//! Transactions on a shared store that make entries: direct writes, prepares, commits and rollbacks. With them the calls of `wp_open_txns`,
 //! by which transactions begin, change and change hands, are passed on.
 //!
 //! Each call is a free function over the store and the caller's seat, and begins and ends with a seat that holds no turn. Its clause
@@ -30,7 +30,7 @@ pub use direct::write;
 pub use laws::behind_an_append_only_the_device_refuses;
 pub use preparing::{commit_now, prepare};
 pub use undoing::rollback;
-pub use wp_names::{
+pub use wp_open_txns::{
     OpenTxn, PreparedTxn, Refused, TxnError, abandon, begin, del, hear, leave, put, take_prepared,
     tell,
 };

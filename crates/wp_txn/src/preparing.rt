@@ -1,7 +1,7 @@
 //! An open transaction is prepared, or committed at once.
 ghost use Rattle.std.specs.Prelude.{◌≡◌, IfOk, IfErr};
 ghost use Rattle.wp_shared.specs.Seats.{IsFree};
-ghost use Rattle.wp_names.specs.Txn.{HasOpen};
+ghost use Rattle.wp_open_txns.specs.Txn.{HasOpen};
 ghost use Rattle.wp_model.specs.declared.entry.Entry.TheVariants.{Write, Prepare};
 ghost use Rattle.wp_txn.specs.Writes.{RefusesBeforeLog, Prepares, CommitsNow, RefusesOpen};
 
@@ -9,7 +9,7 @@ use crate::recording::{record_prepare, record_write, shows_batch};
 use std::alloc::Global;
 use std::sync::Wait;
 use wp_model::Seq;
-use wp_names::{OpenTxn, PreparedTxn, Refused, free};
+use wp_open_txns::{OpenTxn, PreparedTxn, Refused, free};
 use wp_outside::Disk;
 use wp_shared::{Seat, Shared};
 

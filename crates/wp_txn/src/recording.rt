@@ -13,7 +13,7 @@ ghost use Rattle.wp_records.specs.Writing.{HoldsWrite};
 ghost use Rattle.wp_shared.specs.Seats.{IsFree, SeatState};
 ghost use Rattle.wp_shared.specs.Turns.{Given};
 ghost use Rattle.wp_txn.specs.Recording.{OpensLog, MayNote, notes_of, PutsNoting, Records, HadPrior, answer_of};
-ghost use Rattle.wp_names.specs.Txn.{HasOpen, HasPrepared};
+ghost use Rattle.wp_open_txns.specs.Txn.{HasOpen, HasPrepared};
 ghost use Rattle.wp_txn.specs.Writes.{Refuses, MayLeaveDevice};
 
 use crate::steps::{find_log_closed, note_undecided, note_unprepared};
@@ -21,7 +21,7 @@ use std::alloc::Global;
 use std::sync::Wait;
 use wp_fields::Format;
 use wp_model::{Batch, Name, Seq};
-use wp_names::{OpenTxn, PreparedTxn, TxnError};
+use wp_open_txns::{OpenTxn, PreparedTxn, TxnError};
 use wp_outside::Disk;
 use wp_read::laws::held_keys_keep_their_values;
 use wp_records::{Record, WriteError, put};
@@ -62,7 +62,7 @@ fn open_log<D: Disk + Drop, R: Wait>(
     ensures refused { IfErr result (λ why. Refuses store.now seat.old seat.new needed (λ asked. ⊥) seat.old.knows.participant seat.old.knows.participant why × MayLeaveDevice store.now seat.old.knows.participant seat.old why seat.new) }
 {
     let log = store.take_log(rt, seat);
-    log.shows_told();
+    log.devices_agree();
     let published = log.published();
     if log.is_closed() {
         find_log_closed(store, seat, &log);
@@ -89,7 +89,7 @@ fn close_log<D: Disk + Drop>(
     ensures answer { result ≡ answer_of outcome (length log.value.table.history) }
     ensures log { IsLog log.value }
 {
-    log.shows_told();
+    log.devices_agree();
     let published = log.published();
     store.give_turn(seat, log);
     match outcome {

@@ -3,7 +3,7 @@ ghost use Rattle.std.specs.Prelude.{◌≡◌, true, length, Some, None, is_some
 ghost use Rattle.std.specs.FinMap as finite;
 ghost use Rattle.wp_model.specs.declared.holder.Holder.TheVariants.{Client};
 ghost use Rattle.wp_model.specs.History.{named};
-ghost use Rattle.wp_model.specs.LockTables.{LockTables};
+ghost use Rattle.wp_model.specs.LockState.{LockState};
 ghost use Rattle.wp_locks.specs.Locks.{is_free_for};
 ghost use Rattle.wp_core.specs.Changes.{without_key};
 ghost use Rattle.wp_core.specs.Lists.{IsIn};
@@ -12,8 +12,8 @@ ghost use Rattle.wp_core.specs.Views.{unprepared, undecided_at};
 ghost use Rattle.wp_core.specs.World.{World};
 ghost use Rattle.wp_shared.specs.Notes.{with_note, seat_of};
 ghost use Rattle.wp_shared.specs.Seats.{Stands};
-ghost use Rattle.wp_names.specs.Actors.{with_direct, with_stopped};
-ghost use Rattle.wp_names.specs.Turns.{IsWithoutDirect};
+ghost use Rattle.wp_open_txns.specs.Actors.{with_direct, with_stopped};
+ghost use Rattle.wp_open_txns.specs.Turns.{IsWithoutDirect};
 
 use std::marker::Brand;
 use wp_locks::Locks;
@@ -25,8 +25,8 @@ use wp_shared::{Log, Seat, Shared};
 pub(crate) fn lock_direct<D: Disk + Drop>(store: &Shared<D>, seat: &mut Seat<D>, key: &Key)
     requires seat { (seat.old.table ≡ store.now.table) × (seat.old.knows.live ≡ true) }
     requires none { seat.old.knows.participant.direct ≡ None }
-    requires free { (t : LockTables) × IsIn (locks t) seat.old.knows.held × (is_free_for (finite.get t.keys key.now) (Client seat.old.knows.participant.client) ≡ true) }
-    ensures { (t : LockTables) → IsIn (locks t) seat.old.knows.held → seat.new ≡ seat_of seat.old (with_direct t key.now seat.old.knows) }
+    requires free { (t : LockState) × IsIn (locks t) seat.old.knows.held × (is_free_for (finite.get t.keys key.now) (Client seat.old.knows.participant.client) ≡ true) }
+    ensures { (t : LockState) → IsIn (locks t) seat.old.knows.held → seat.new ≡ seat_of seat.old (with_direct t key.now seat.old.knows) }
 {
     store.make_about::<Brand, Key>(seat, key);
 }

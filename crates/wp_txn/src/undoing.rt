@@ -3,7 +3,7 @@ ghost use Rattle.std.specs.Prelude.{IfOk, IfErr};
 ghost use Rattle.wp_shared.specs.Calls.{Continues};
 ghost use Rattle.wp_shared.specs.Seats.{IsFree};
 ghost use Rattle.wp_txn.specs.Recording.{IsPriorSince};
-ghost use Rattle.wp_names.specs.Txn.{HasPrepared};
+ghost use Rattle.wp_open_txns.specs.Txn.{HasPrepared};
 ghost use Rattle.wp_txn.specs.Writes.{RefusesBehindRead, RollsBack, RefusesPrepared, AsksRollback};
 
 use crate::deciding::end;
@@ -11,7 +11,7 @@ use crate::recording::record_rollback;
 use std::alloc::{AllocError, Global};
 use std::sync::Wait;
 use wp_model::{Batch, Seq};
-use wp_names::{PreparedTxn, Refused, TxnError};
+use wp_open_txns::{PreparedTxn, Refused, TxnError};
 use wp_outside::Disk;
 use wp_read::{brief_snapshot, prior, release};
 use wp_shared::{Seat, Shared};

@@ -16,7 +16,7 @@ use Rattle.wp_entry.specs.Record.{IsRecord, record_bytes}
 use Rattle.wp_entry.specs.Reading.{record_at}
 use Rattle.wp_gatelog.specs.Damage.{IsBadHeadAt, IsCut}
 use Rattle.wp_gatelog.specs.Spelling.{Stamp, stamped, IsUpTo, SpellsAt}
-use Rattle.wp_ledger.specs.Outline.{collision_of}
+use Rattle.wp_history.specs.Outline.{collision_of}
 use Rattle.wp_wal.specs.Spelling.{MAGIC, NEWEST, AreCut, AreEntries, IsBegun, IsLogAt, base_of_cut, longer}
 use Rattle.wp_wal.specs.Opening.{IsBadLog, IsIllegalLog}
 use Rattle.wp_wal.specs.Reading.{IsBadBase, IsBadRecord, IsIllegal, IsIllegalAmong, IsIllegalCarried, IsIllegalRecord, IsJudged, IsMissing, MayCome, IsNoRecord, LiesAt, next_number}

@@ -14,8 +14,8 @@ use Rattle.wp_model.specs.Batch.{are_ascending, is_batch, key_cmp}
 use Rattle.wp_model.specs.History.{value_at}
 use Rattle.wp_model.specs.Legal.{IsLegalNext, IsOrderlyNext, RestoresPrior, log_end}
 use Rattle.wp_model.specs.Word.{is_name}
-use Rattle.wp_history.specs.Growth.{AreAscending}
-use Rattle.wp_history.proofs.Growth.{legal_next}
+use Rattle.wp_history_laws.specs.Growth.{AreAscending}
+use Rattle.wp_history_laws.proofs.Growth.{legal_next}
 use Rattle.wp_cuts.specs.Cut.{Cut, carried_of, cut_at, front_entry, full_of}
 use Rattle.wp_cuts.specs.LegalCut.{AreNumbered, prepares_of}
 use Rattle.wp_cuts.proofs.FullLegal.{orderly_next}
@@ -29,11 +29,11 @@ use Rattle.wp_entry.specs.declared.error.RecordError.TheVariants.{Short}
 use Rattle.wp_entry.specs.Base.{AscendUpTo, Base, IsBase, base_bytes, is_carried}
 use Rattle.wp_entry.specs.Reading.{record_at}
 use Rattle.wp_entry.specs.Record.{IsRecord, record_bytes}
-use Rattle.wp_ledger.specs.History.{RoomyHistory, HasBaseValues, cut_of}
-use Rattle.wp_ledger.specs.Outline.{collision_of, cut_in}
-use Rattle.wp_ledger.proofs.Apart.{are_apart}
-use Rattle.wp_ledger.proofs.Judged.{legal_by_both}
-use Rattle.wp_ledger.proofs.Kept.{kept_at_base}
+use Rattle.wp_history.specs.History.{RoomyHistory, HasBaseValues, cut_of}
+use Rattle.wp_history.specs.Outline.{collision_of, cut_in}
+use Rattle.wp_history.proofs.Apart.{are_apart}
+use Rattle.wp_history.proofs.Judged.{legal_by_both}
+use Rattle.wp_history.proofs.Kept.{kept_at_base}
 use Rattle.wp_wal.specs.declared.error.WalError.{WalError}
 use Rattle.wp_wal.specs.declared.error.WalError.TheVariants.{BadRecord}
 use Rattle.wp_wal.specs.Reading.{BeginsWith, IsBaseCause, IsBaseOf, IsIllegalAmong, IsIllegalRecord, IsJudged, IsNoRecord, IsRecordCause, IsTold, MayCome, TakesRecord, next_number}

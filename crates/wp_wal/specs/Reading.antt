@@ -12,8 +12,8 @@ use Rattle.wp_entry.specs.Base.{Base, IsBase, base_bytes}
 use Rattle.wp_entry.specs.BaseReading.{base_at}
 use Rattle.wp_entry.specs.Record.{IsRecord, record_bytes}
 use Rattle.wp_entry.specs.Reading.{record_at}
-use Rattle.wp_ledger.specs.History.{RoomyHistory}
-use Rattle.wp_ledger.specs.Outline.{collision_of, cut_in}
+use Rattle.wp_history.specs.History.{RoomyHistory}
+use Rattle.wp_history.specs.Outline.{collision_of, cut_in}
 use Rattle.wp_wal.specs.declared.error.WalError.{WalError}
 use Rattle.wp_wal.specs.declared.error.WalError.TheVariants.{Memory, DiskFault, BadHead, BadRecord, Illegal}
 use Rattle.wp_wal.specs.Spelling.{AreCut, IsBegun, base_of_cut, longer}

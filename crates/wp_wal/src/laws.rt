@@ -16,8 +16,8 @@ use wp_entry::{bases_are_read, records_are_read, spellings_differ};
 use wp_gatelog::{
     acknowledged_records_come_first, bytes_are_read_in_one_way, logs_at_a_place_are_read_in_one_way,
 };
-use wp_history::laws::{legal_at_each_entry, legal_front};
-use wp_ledger::laws::orderly_cuts;
+use wp_history::laws::orderly_cuts;
+use wp_history_laws::laws::{legal_at_each_entry, legal_front};
 
 /// From a place on bytes spell a cut whose entries may come so, or have a bad head, or a bad record, or an illegal entry: at most one of these, in
 /// one way.

@@ -2,7 +2,7 @@
 ghost use Rattle.std.specs.Prelude.{◌≡◌, ◌↔◌, true, ◌+◌, ◌-◌, ◌≤◌, ◌<◌, ◌∷◌, ◌++◌, [], length, IfOk, IfErr, OnOk};
 ghost use Rattle.wp_cuts.specs.LegalCut.{prepares_of};
 ghost use Rattle.wp_model.specs.Legal.{log_end};
-ghost use Rattle.wp_ledger.specs.Outline.{cut_in};
+ghost use Rattle.wp_history.specs.Outline.{cut_in};
 ghost use Rattle.wp_wal.specs.Spelling.{AreCut};
 ghost use Rattle.wp_wal.specs.Reading.{BeginsWith, IsBaseCause, IsBaseOf, IsRecordCause, IsRefusedRecord, IsIllegalAmong, IsTold, MayCome, TakesRecord};
 
@@ -12,7 +12,7 @@ use std::collections::BTreeMap;
 use wp_entry::{RecordError, read_base, read_record};
 use wp_fields::Format;
 use wp_gatelog::Record;
-use wp_ledger::{Outline, first_collision};
+use wp_history::{Outline, first_collision};
 use wp_model::{Entry, Seq};
 
 /// Whether the entry may come next, as far as a log tells: what an undo restores is known where there is no base.

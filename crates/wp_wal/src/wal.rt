@@ -5,7 +5,7 @@ ghost use Rattle.wp_cuts.specs.Cut.{Cut};
 ghost use Rattle.wp_cuts.specs.LegalCut.{prepares_of};
 ghost use Rattle.wp_outside.specs.Disk.{IfKnown};
 ghost use Rattle.wp_entry.specs.Record.{FormRecord, IsRecord};
-ghost use Rattle.wp_ledger.specs.Outline.{cut_in};
+ghost use Rattle.wp_history.specs.Outline.{cut_in};
 ghost use Rattle.wp_wal.specs.Opening.{IsOpenedLog, IsUnopenedLog, KeepsWal};
 ghost use Rattle.wp_wal.specs.Wal.{LosesNothingAt, StoresCut, IsReserved, LeavesCut, AppendsNext, Appended, Refuses, reserved_of};
 
@@ -17,7 +17,7 @@ use std::alloc::{AllocError, Global};
 use std::marker::Model;
 use wp_fields::Format;
 use wp_gatelog::{AppendError, DiskRefused, GateLog};
-use wp_ledger::Outline;
+use wp_history::Outline;
 use wp_model::{Entry, Segment, Seq};
 use wp_outside::Disk;
 

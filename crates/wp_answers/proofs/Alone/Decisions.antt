@@ -14,7 +14,7 @@ use Rattle.wp_core.specs.Sound.Views.{guarded_by}
 use Rattle.wp_core.specs.World.{Participant, World}
 use Rattle.wp_txn.specs.Writing.{FoundLog}
 use Rattle.wp_shared.specs.Seats.{SharedState, SeatState, Stands}
-use Rattle.wp_names.specs.declared.error.TxnError.TheVariants.{NumbersFull, LogFault, Stopped}
+use Rattle.wp_open_txns.specs.declared.error.TxnError.TheVariants.{NumbersFull, LogFault, Stopped}
 use Rattle.wp_txn.specs.Calls.{GivesUp, without_transaction}
 use Rattle.wp_txn.specs.Turns.{IsApartFrom}
 use Rattle.wp_txn.specs.Txn.{OpenState, PreparedState, HasPrepared}

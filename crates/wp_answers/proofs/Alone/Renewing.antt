@@ -11,7 +11,7 @@ use Rattle.wp_core.specs.Lists.{IsIn, one_if}
 use Rattle.wp_core.specs.Sound.Pasts.{is_tables_fault}
 use Rattle.wp_core.specs.Views.{Event, log_failed, log_stopped, tables_failed, stopped, told}
 use Rattle.wp_core.specs.Views as event
-use Rattle.wp_core.specs.Tables.{WriteTable, Installed, writes}
+use Rattle.wp_core.specs.Tables.{WriteState, Installed, writes}
 use Rattle.wp_core.specs.World.{World}
 use Rattle.wp_rule.specs.Shows.{WasLast}
 use Rattle.wp_shared.specs.Parts.{content}
@@ -69,13 +69,13 @@ module _ {D : Type 0} (z : SharedState D) (first : InstalledEdit) (old new : Sea
 
     -- the log was found running
     abbrev FoundOpen : Type 0
-    FoundOpen = (t : WriteTable) × HeldContent z old new old.knows.participant.past (writes t) × (t.closed ≡ false)
+    FoundOpen = (t : WriteState) × HeldContent z old new old.knows.participant.past (writes t) × (t.closed ≡ false)
 
     log_runs : FoundOpen → store.stopped ≡ false
     log_runs (t, k, open_) =
         let held : writes k.world.writes ≡ writes t = (held_is (place_at z old.by) k.actor k.world (writes t) k.there k.held).1 in
         let same : k.world.writes ≡ t = cc in
-        let none = no_log_fault k.world k.there.reached old.by k.actor k.there.there (ap (λ (x : WriteTable). x.closed) same ∙ open_) in
+        let none = no_log_fault k.world k.there.reached old.by k.actor k.there.there (ap (λ (x : WriteState). x.closed) same ∙ open_) in
         none_if store.stopped (is.stopped ∙ (ap log_faults (sym k.past_is) ∙ none))
 
     -- so a renewal is due, where the last edit has another base

@@ -3,7 +3,7 @@
 use Rattle.std.proofs.Common.{◌≡◌, inl, inr, ℕ, ◌≤◌, Bool, true, false, List, [], ◌∷◌, ◌++◌, refl, sym, subst, ap, ◌∙◌, append-nil, Option, Some, arith}
 use Rattle.std.specs.Prelude.{IfSome, if◌then◌else◌}
 use Rattle.wp_model.specs.Flushed.{InstalledEdit}
-use Rattle.wp_model.specs.LockTables.{Labels}
+use Rattle.wp_model.specs.LockState.{Labels}
 use Rattle.wp_text.specs.declared.script.Command.{Command}
 use Rattle.wp_text.specs.declared.reply.Reply.{Reply}
 use Rattle.wp_text.specs.declared.reply.Reply.TheVariants as reply
@@ -17,7 +17,7 @@ use Rattle.wp_core.specs.World.{World}
 use Rattle.wp_rule.specs.Shows.{WasLast}
 use Rattle.wp_rule.proofs.Knows.{held_is, one_was_first}
 use Rattle.wp_shared.specs.Parts.{content}
-use Rattle.wp_shared.specs.Calls.{Continues, remembering}
+use Rattle.wp_shared.specs.Calls.{Continues, with_events}
 use Rattle.wp_shared.specs.Limits.{limit_at}
 use Rattle.wp_shared.specs.Seats.{SharedState, SeatState, Stands, place_at}
 use Rattle.wp_maint.specs.Calls.{Finds, found_by}
@@ -117,11 +117,11 @@ module _ {D : Type 0} (z : SharedState D) (first : InstalledEdit) (old new : Sea
       found_quiet : AreQuiet (found_event ∷ [])
       found_quiet = one_quiet found_event refl refl (λ edit. refl) (λ label n same. absurd cc)
 
-      found_follows : Continues z old new (remembering (found_event ∷ []) old.knows.participant) → Follows old new [] (found_event ∷ [])
+      found_follows : Continues z old new (with_events (found_event ∷ []) old.knows.participant) → Follows old new [] (found_event ∷ [])
       found_follows goes = follows_on _ z old new _ goes (found_event ∷ []) refl refl
 
       -- a device had failed
-      pub halted_answers : (flushed : ℕ) → flushed ≡ e.last.flushed → e.halted ≡ true → Continues z old new (remembering (found_event ∷ []) old.knows.participant) → AnswersAlone z first old new was was c (reply.Halted flushed) store
+      pub halted_answers : (flushed : ℕ) → flushed ≡ e.last.flushed → e.halted ≡ true → Continues z old new (with_events (found_event ∷ []) old.knows.participant) → AnswersAlone z first old new was was c (reply.Halted flushed) store
       halted_answers flushed flushed_is halted goes =
           let f = found_follows goes in
           let a = asks (seen_still z first old new only store is stood (found_event ∷ []) f) in
@@ -131,7 +131,7 @@ module _ {D : Type 0} (z : SharedState D) (first : InstalledEdit) (old new : Sea
           (inl (ap reply.Halted number ∙ sym (a.due_is ∙ ap (λ (b : Bool). if b then reply.Halted store.installed.flushed else ready) (stopped halted)))) refl
 
       -- there was nothing to do
-      pub nothing_answers : ready ≡ reply.Nothing → e.halted ≡ false → Continues z old new (remembering (found_event ∷ []) old.knows.participant) → AnswersAlone z first old new was was c reply.Nothing store
+      pub nothing_answers : ready ≡ reply.Nothing → e.halted ≡ false → Continues z old new (with_events (found_event ∷ []) old.knows.participant) → AnswersAlone z first old new was was c reply.Nothing store
       nothing_answers none running goes =
           let f = found_follows goes in
           let a = asks (seen_still z first old new only store is stood (found_event ∷ []) f) in
@@ -141,7 +141,7 @@ module _ {D : Type 0} (z : SharedState D) (first : InstalledEdit) (old new : Sea
 
       -- the edit is installed
       pub installs_answers : (r : Reply) → ready ≡ r → is_logged r ≡ false → is_fault r ≡ false → is_installed r ≡ true → kind.is_tables_fault r ≡ false → was ≡ client_after store.history was c r → e.halted ≡ false
-          → store.installed.segment.base ≤ next.segment.base → limit_after store r ≡ limit_at z next.segment.base → (edit : InstalledEdit) (made : Event) → Installs made edit → edit ≡ next → Continues z old new (remembering (found_event ∷ made ∷ []) old.knows.participant) → AnswersAlone z first old new was was c r store
+          → store.installed.segment.base ≤ next.segment.base → limit_after store r ≡ limit_at z next.segment.base → (edit : InstalledEdit) (made : Event) → Installs made edit → edit ≡ next → Continues z old new (with_events (found_event ∷ made ∷ []) old.knows.participant) → AnswersAlone z first old new was was c r store
       installs_answers r ready_is logged fault takes tables client running higher limit_is edit made makes edit_is goes =
           let events : List Event = found_event ∷ made ∷ [] in
           let log : log_faults events ≡ 0 = (let m = makes.log in omega (arith, m)) in
@@ -183,7 +183,7 @@ module _ {D : Type 0} (z : SharedState D) (first : InstalledEdit) (old new : Sea
 
       -- a device failed, in no renewal
       pub failed_answers : is_renewal c ≡ false → is_installed ready ≡ true → e.halted ≡ false → (asked : Option InstalledEdit) → (new.knows.participant.seen ≡ store.history → IfSome asked (λ edit. edit ≡ next))
-          → Continues z old new (remembering (found_event ∷ tables_failed e.last asked ∷ []) old.knows.participant) → AnswersAlone z first old new was was c reply.FaultTables store
+          → Continues z old new (with_events (found_event ∷ tables_failed e.last asked ∷ []) old.knows.participant) → AnswersAlone z first old new was was c reply.FaultTables store
       failed_answers plain installs running asked edit_is goes =
           let events : List Event = found_event ∷ tables_failed e.last asked ∷ [] in
           let f = follows_on _ z old new _ goes events refl refl in

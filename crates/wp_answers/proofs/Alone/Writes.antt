@@ -11,7 +11,7 @@ use Rattle.wp_model.specs.declared.holder.Holder.TheVariants.{Client, Txn}
 use Rattle.wp_model.specs.Batch.{key_of}
 use Rattle.wp_model.specs.Flushed.{InstalledEdit}
 use Rattle.wp_model.specs.History.{name_at, holder_of}
-use Rattle.wp_history.proofs.Growth.{after_front}
+use Rattle.wp_history_laws.proofs.Growth.{after_front}
 use Rattle.wp_text.specs.declared.reply.Reply.TheVariants as reply
 use Rattle.wp_core.specs.Views.{Event, locked, found}
 use Rattle.wp_core.specs.World.{Participant, World}
@@ -19,7 +19,7 @@ use Rattle.wp_core.specs.Sound.Views.{guarded_by}
 use Rattle.wp_txn.specs.Writing.{FoundLog}
 use Rattle.wp_rule.specs.Accounts.{account_of}
 use Rattle.wp_shared.specs.Seats.{SharedState, SeatState, Stands}
-use Rattle.wp_names.specs.declared.error.TxnError.TheVariants.{Busy, NumbersFull, LogFault, Stopped}
+use Rattle.wp_open_txns.specs.declared.error.TxnError.TheVariants.{Busy, NumbersFull, LogFault, Stopped}
 use Rattle.wp_txn.specs.Writes.{wrote_direct, writing_direct, WritesDirect}
 use Rattle.wp_replies.specs.declared.client.LabelledSnapshot.{LabelledSnapshot}
 use Rattle.wp_replies.specs.declared.client.Txn.TheVariants.{Idle}

@@ -14,8 +14,8 @@ use Rattle.wp_core.proofs.Keyed.{is_word_same, at_inserted, else_inserted, some_
 use Rattle.wp_core.proofs.PastsGrow.{in_front, in_last}
 use Rattle.wp_core.proofs.Tests.{some_there}
 use Rattle.wp_shared.specs.Seats.{SharedState, SeatState, Stands}
-use Rattle.wp_names.specs.declared.error.TxnError.TheVariants.{Silent}
-use Rattle.wp_names.specs.Calls.{Tells, Hears}
+use Rattle.wp_open_txns.specs.declared.error.TxnError.TheVariants.{Silent}
+use Rattle.wp_open_txns.specs.Calls.{Tells, Hears}
 use Rattle.wp_replies.specs.Client.{Client}
 use Rattle.wp_replies.specs.Due.{Store, store_after}
 use Rattle.wp_replies.specs.Due as due

@@ -13,7 +13,7 @@ use Rattle.wp_model.specs.declared.entry.Entry.TheVariants as entry
 use Rattle.wp_model.specs.declared.holder.Holder.TheVariants as holder
 use Rattle.wp_model.specs.Batch.{key_cmp, key_of, value_of, change_to, by_order, with_change, are_ascending, is_batch}
 use Rattle.wp_model.specs.History.{name_at, holder_of, is_changed}
-use Rattle.wp_model.specs.LockTables.{Labels}
+use Rattle.wp_model.specs.LockState.{Labels}
 use Rattle.wp_text.specs.declared.script.Command.{Command}
 use Rattle.wp_text.specs.declared.script.Command.TheVariants as command
 use Rattle.wp_text.specs.declared.reply.Reply.{Reply}
@@ -25,7 +25,7 @@ use Rattle.wp_replies.specs.declared.client.Txn.TheVariants.{Idle, Open}
 use Rattle.wp_replies.specs.Client.{Client, has_no_room}
 use Rattle.wp_replies.specs.Due.{board_after, client_after}
 use Rattle.wp_replies.specs.Plan.{plan, next, busy_or, refused_or, unless_busy}
-use Rattle.wp_names.specs.Calls.{IsFull}
+use Rattle.wp_open_txns.specs.Calls.{IsFull}
 
 -- the command that asks for the change, and the reply that acknowledges it
 abbrev pub asking : Change → Command

@@ -13,9 +13,9 @@ use Rattle.wp_core.specs.World.{Actor, Participant, World}
 use Rattle.wp_core.proofs.Tests.{none_some}
 use Rattle.wp_rule.specs.Accounts.{account_of}
 use Rattle.wp_shared.specs.Seats.{SharedState, SeatState, Stands}
-use Rattle.wp_names.specs.declared.error.TxnError.TheVariants.{Taken, Unknown, InUse}
-use Rattle.wp_names.specs.Calls.{Begins, TakesPrepared}
-use Rattle.wp_names.specs.Txn.{OpenState, PreparedState}
+use Rattle.wp_open_txns.specs.declared.error.TxnError.TheVariants.{Taken, Unknown, InUse}
+use Rattle.wp_open_txns.specs.Calls.{Begins, TakesPrepared}
+use Rattle.wp_open_txns.specs.Txn.{OpenState, PreparedState}
 use Rattle.wp_replies.specs.declared.client.LabelledSnapshot.{LabelledSnapshot}
 use Rattle.wp_replies.specs.declared.client.Txn.TheVariants.{Idle, Open, Prepared}
 use Rattle.wp_replies.specs.Client.{Client}

@@ -2,7 +2,7 @@
 use Rattle.std.proofs.Common.{◌≡◌, Bool, true, false, List, [], ◌++◌, refl, sym, subst, ap, ◌∙◌, append-nil, Some}
 use Rattle.std.specs.Prelude.{if◌then◌else◌}
 use Rattle.wp_model.specs.Flushed.{InstalledEdit}
-use Rattle.wp_model.specs.LockTables.{Labels}
+use Rattle.wp_model.specs.LockState.{Labels}
 use Rattle.wp_text.specs.declared.script.Command.{Command}
 use Rattle.wp_text.specs.declared.reply.Reply.{Reply}
 use Rattle.wp_core.specs.World.{World}

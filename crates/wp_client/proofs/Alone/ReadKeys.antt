@@ -5,14 +5,14 @@ use Rattle.wp_model.specs.declared.entry.Entry.{Entry}
 use Rattle.wp_model.specs.Batch.{change_to}
 use Rattle.wp_model.specs.Flushed.{InstalledEdit}
 use Rattle.wp_model.specs.History.{prepared_batch, batch_at, value_at}
-use Rattle.wp_model.specs.LockTables.{Labels}
+use Rattle.wp_model.specs.LockState.{Labels}
 use Rattle.wp_text.specs.declared.script.Command.{Command}
 use Rattle.wp_text.specs.declared.script.Command.TheVariants as command
 use Rattle.wp_text.specs.declared.reply.Reply.TheVariants as reply
 use Rattle.wp_core.specs.World.{World}
 use Rattle.wp_shared.specs.Seats.{SharedState, SeatState, Stands}
-use Rattle.wp_names.specs.Calls.{Keeps}
-use Rattle.wp_names.specs.Txn.{HasPrepared}
+use Rattle.wp_open_txns.specs.Calls.{Keeps}
+use Rattle.wp_open_txns.specs.Txn.{HasPrepared}
 use Rattle.wp_replies.specs.declared.client.LabelledSnapshot.{LabelledSnapshot}
 use Rattle.wp_replies.specs.declared.client.Txn.{Txn}
 use Rattle.wp_replies.specs.Client.{Client, number_of, own_batch}

@@ -19,7 +19,7 @@ use Rattle.wp_rule.specs.Words.{IsAt}
 use Rattle.wp_shared.specs.Calls.{ContinuesWith}
 use Rattle.wp_shared.specs.Seats.{SharedState, SeatState, Stands, place_at}
 use Rattle.wp_shared.proofs.Onward.{starts_on}
-use Rattle.wp_names.specs.Calls.{StoodWithLocks}
+use Rattle.wp_open_txns.specs.Calls.{StoodWithLocks}
 use Rattle.wp_replies.specs.Due.{Store}
 use Rattle.wp_client.specs.Alone.{log_faults, tables_faults, IsOnly, IsStoreOf}
 use Rattle.wp_client.proofs.Alone.Published.{total_both, in_both, whole_seen}

@@ -16,9 +16,9 @@ use Rattle.wp_core.specs.Views.{Event, locked, found}
 use Rattle.wp_core.specs.World.{Participant, World}
 use Rattle.wp_rule.specs.Accounts.{account_of}
 use Rattle.wp_shared.specs.Seats.{SharedState, SeatState, Stands}
-use Rattle.wp_names.specs.declared.error.TxnError.TheVariants.{Busy, TooMany}
-use Rattle.wp_names.specs.Calls.{locking, changing, Changes}
-use Rattle.wp_names.specs.Txn.{OpenState}
+use Rattle.wp_open_txns.specs.declared.error.TxnError.TheVariants.{Busy, TooMany}
+use Rattle.wp_open_txns.specs.Calls.{locking, changing, Changes}
+use Rattle.wp_open_txns.specs.Txn.{OpenState}
 use Rattle.wp_replies.specs.declared.client.LabelledSnapshot.{LabelledSnapshot}
 use Rattle.wp_replies.specs.declared.client.Txn.TheVariants.{Open}
 use Rattle.wp_replies.specs.Client as session

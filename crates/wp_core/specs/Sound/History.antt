@@ -3,7 +3,7 @@ use Rattle.std.specs.Prelude.{◌≡◌, ℕ, ◌≤◌, ◌⊎◌, Bool, true, 
 use Rattle.wp_model.specs.declared.entry.Entry.{Entry}
 use Rattle.wp_model.specs.declared.entry.Entry.TheVariants.{Close}
 use Rattle.wp_model.specs.Legal.{IsLegal, undone_last}
-use Rattle.wp_core.specs.Tables.{WriteTable}
+use Rattle.wp_core.specs.Tables.{WriteState}
 use Rattle.wp_core.specs.Entries.{IsOneRecord}
 use Rattle.wp_core.specs.Sound.Actors.{StartsWith}
 
@@ -15,7 +15,7 @@ logged_part false pending = []
 abbrev pub IsRest : List Entry → Type 0
 IsRest entries = (entries ≡ []) ⊎ (IsOneRecord entries ⊎ ((p : ℕ) × (entries ≡ Close p ∷ [])))
 
-pub record IsHistory (opened : List Entry) (t : WriteTable) (max : ℕ) : Type 0 where
+pub record IsHistory (opened : List Entry) (t : WriteState) (max : ℕ) : Type 0 where
   pub legal : IsLegal t.history
   pub grown : StartsWith t.history opened
   pub bounded : max ≤ length t.history

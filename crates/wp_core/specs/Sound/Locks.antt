@@ -7,7 +7,7 @@ use Rattle.wp_model.specs.History.{is_undecided, is_changed, name_at, batch_at, 
 use Rattle.wp_model.specs.declared.holder.Holder.TheVariants.{Txn, Client}
 use Rattle.wp_core.specs.Lists.{IsIn}
 use Rattle.wp_core.specs.Entries.{batch_of_name}
-use Rattle.wp_model.specs.LockTables.{LockTables}
+use Rattle.wp_model.specs.LockState.{LockState}
 use Rattle.wp_core.specs.Views.{Event, claimed, took, locked}
 use Rattle.wp_core.specs.World.{Transaction, Transactions, Participant}
 use Rattle.wp_core.specs.Sound.Actors.{IsParticipantAt, EachParticipant}
@@ -68,7 +68,7 @@ abbrev pub CameToKey : (opened history : List Entry) → List Event → (name ke
 CameToKey opened history past name key = IsIn (locked key (Txn name)) past ⊎ (IsIn (took name) past × PrepareHas opened history name key)
 
 -- what an owner has is in the table, and each key of its transactions it came to itself
-pub record IsOwner (opened history : List Entry) (t : LockTables) (o : Owner) : Type 0 where
+pub record IsOwner (opened history : List Entry) (t : LockState) (o : Owner) : Type 0 where
   pub names : (name : List ℕ) (x : Transaction) → Has o name x → finite.get t.names name ≡ Some (Some o.client)
   pub keys : (name : List ℕ) (x : Transaction) (key : List ℕ) → Has o name x → set.contains x.locked key ≡ true → finite.get t.keys key ≡ Some (Txn name)
   pub direct : (key : List ℕ) → o.direct ≡ Some key → finite.get t.keys key ≡ Some (Client o.client)
@@ -82,7 +82,7 @@ pub record AreApart (owners : List (List Owner)) : Type 0 where
 -- Each undecided prepare has its name live and its keys held; nothing else is live, and a key is held for a live
 -- transaction or as a direct write's alone. A live name that nobody has is an undecided prepare's, and so is each key that
 -- is held for it.
-pub record AreLocked (opened history : List Entry) (t : LockTables) (owners : List (List Owner)) : Type 0 where
+pub record AreLocked (opened history : List Entry) (t : LockState) (owners : List (List Owner)) : Type 0 where
   pub prepared_names : (p : ℕ) → is_undecided history p ≡ true → is_some (finite.get t.names (name_at history p)) ≡ true
   pub prepared_keys : (p : ℕ) (key : List ℕ) → is_undecided history p ≡ true → is_changed (batch_at history p) key ≡ true → finite.get t.keys key ≡ Some (Txn (name_at history p))
   pub had : EachParticipant (IsOwner opened history t) owners

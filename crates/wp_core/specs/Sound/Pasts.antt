@@ -7,14 +7,14 @@ use Rattle.wp_model.specs.History.{named, holder_of}
 use Rattle.wp_model.specs.declared.holder.Holder.{Holder}
 use Rattle.wp_model.specs.declared.holder.Holder.TheVariants.{Txn, Client}
 use Rattle.wp_core.specs.Lists.{IsIn, one_if, total}
-use Rattle.wp_model.specs.LockTables.{LockTables}
-use Rattle.wp_core.specs.Tables.{WriteTable, Installed}
+use Rattle.wp_model.specs.LockState.{LockState}
+use Rattle.wp_core.specs.Tables.{WriteState, Installed}
 use Rattle.wp_model.specs.Flushed.{InstalledEdit}
 use Rattle.wp_core.specs.Views.{Account, own, another, prepare_at, Event, claimed, took, locked, told, heard, installed, renewed, log_failed, log_stopped, tables_failed, stopped, found_edit, found}
 use Rattle.wp_core.specs.World.{Participant}
 use Rattle.wp_core.specs.Sound.Actors.{IsParticipantAt, total_participants}
 use Rattle.wp_core.specs.Sound.Locks.{WasPrepared, PrepareHas}
-use Rattle.wp_history.specs.Opened.{prepare_holding}
+use Rattle.wp_history_laws.specs.Opened.{prepare_holding}
 
 abbrev pub past_of : Participant → List Event
 past_of p = p.past
@@ -58,7 +58,7 @@ abbrev pub WasLocked : List Entry → List (List (List Event)) → List ℕ → 
 WasLocked opened pasts key holder = IsPast pasts (locked key holder) ⊎ (prepare_holding opened (holder_of opened key) ≡ Some holder)
 
 -- A live name was claimed or taken, or comes from the opening, and so does each key that is held. Who was found is accounted for.
-pub record AreHolders (opened history : List Entry) (t : LockTables) (pasts : List (List (List Event))) : Type 0 where
+pub record AreHolders (opened history : List Entry) (t : LockState) (pasts : List (List (List Event))) : Type 0 where
   pub names : (name : List ℕ) → is_some (finite.get t.names name) ≡ true → (IsPast pasts (claimed name) ⊎ IsPast pasts (took name)) ⊎ (is_some (named opened name) ≡ true)
   pub keys : (key : List ℕ) (holder : Holder) → finite.get t.keys key ≡ Some holder → WasLocked opened pasts key holder
   pub found : (j i : ℕ) (key : Option (List ℕ)) (holder : Holder) (seen : ℕ) (account : Account) → HasDone pasts j i (found key holder seen account) → IsAccounted opened history pasts j i key holder seen account
@@ -66,7 +66,7 @@ pub record AreHolders (opened history : List Entry) (t : LockTables) (pasts : Li
 -- ---- the board
 
 -- Under a label is a number that was told under it; what was heard was told, and what was told is published.
-pub record IsBoard (published : ℕ) (t : LockTables) (pasts : List (List (List Event))) : Type 0 where
+pub record IsBoard (published : ℕ) (t : LockState) (pasts : List (List (List Event))) : Type 0 where
   pub labels : (label : List ℕ) (n : ℕ) → IsPast pasts (told label n) ⊎ IsPast pasts (heard label n) → is_some (finite.get t.labels label) ≡ true
   pub numbers : (label : List ℕ) (n : ℕ) → finite.get t.labels label ≡ Some n → IsPast pasts (told label n)
   pub heard : (label : List ℕ) (n : ℕ) → IsPast pasts (heard label n) → IsPast pasts (told label n)
@@ -88,7 +88,7 @@ abbrev pub is_tables_fault : Event → Bool
 is_tables_fault (tables_failed last edit) = true
 is_tables_fault other = false
 
-pub record AreFaults (writes : WriteTable) (halted : Bool) (pasts : List (List (List Event))) : Type 0 where
+pub record AreFaults (writes : WriteState) (halted : Bool) (pasts : List (List (List Event))) : Type 0 where
   pub log : times_past closes_log pasts ≡ one_if writes.closed
   pub tables : times_past is_tables_fault pasts ≡ one_if halted
   pub not_logged : writes.closed ≡ true → (writes.pending ≡ []) ⊎ (writes.logged ≡ false)

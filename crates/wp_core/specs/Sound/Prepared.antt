@@ -9,7 +9,7 @@ use Rattle.wp_model.specs.Decision.{decision_of}
 use Rattle.wp_model.specs.Snapshots.{IsLive, is_old_commit, Snapshots, NoOldCommits}
 use Rattle.wp_judge.specs.Words.{CommitPair, fits}
 use Rattle.wp_core.specs.Cache.{cache_place, cached, pair_at}
-use Rattle.wp_model.specs.PreparedTables.{PreparedTables, is_prepared, NoneDelayed}
+use Rattle.wp_model.specs.PreparedSets.{PreparedSets, is_prepared, NoneDelayed}
 use Rattle.wp_core.specs.Entries.{extended}
 
 -- ---- the cache
@@ -52,21 +52,21 @@ pub record AreDecided (history : List Entry) (cache : List ℕ) (commits : finit
 
 -- ---- what it leaves undecided
 
-pub record AreUndecided (history pending : List Entry) (t : PreparedTables) (max : ℕ) : Type 0 where
+pub record AreUndecided (history pending : List Entry) (t : PreparedSets) (max : ℕ) : Type 0 where
   pub found : (p : ℕ) → is_undecided history p ≡ true → is_prepared t p ≡ true
   pub heap_above : (p : ℕ) → set.contains t.heap p ≡ true → max < p
   pub delayed_passed : (p : ℕ) → set.contains t.delayed p ≡ true → p ≤ max
   pub known : (p : ℕ) → is_prepared t p ≡ true → is_prepare (entry_at (extended history pending) p) ≡ true
 
 -- what the prepared tables have of decided versions; a delayed commit may be the pending entry's
-pub record AreDelayed (history pending : List Entry) (t : PreparedTables) (cache : List ℕ) : Type 0 where
+pub record AreDelayed (history pending : List Entry) (t : PreparedSets) (cache : List ℕ) : Type 0 where
   pub found : (p c : ℕ) → is_prepared t p ≡ true → decision_of history p ≡ Some c → (cached cache p ≡ Some c) ⊎ (finite.get t.delayed_commits p ≡ Some c)
   pub commits : (p c : ℕ) → finite.get t.delayed_commits p ≡ Some c → decision_of (extended history pending) p ≡ Some c
 
 -- ---- flags
 
 -- a flag of 0 says that there is nothing, and where the turn is free it is 0 where there is nothing
-pub record AreFlags (delayed_flag old_flag : ℕ) (t : PreparedTables) (snapshots : Snapshots) (prepared_holder snapshots_holder : Option ℕ) : Type 0 where
+pub record AreFlags (delayed_flag old_flag : ℕ) (t : PreparedSets) (snapshots : Snapshots) (prepared_holder snapshots_holder : Option ℕ) : Type 0 where
   pub none_delayed : delayed_flag ≡ 0 → NoneDelayed t
   pub none_kept : old_flag ≡ 0 → NoOldCommits snapshots
   pub delayed_free : prepared_holder ≡ None → NoneDelayed t → delayed_flag ≡ 0

@@ -6,7 +6,7 @@ use Rattle.wp_model.specs.declared.version.Version.{Version}
 use Rattle.wp_model.specs.Versions.{version_at}
 use Rattle.wp_model.specs.Covered.{IsCovered}
 use Rattle.wp_model.specs.Snapshots.{Snapshots}
-use Rattle.wp_core.specs.Tables.{StoreTable, Installed, live_numbers, up_to, all_in}
+use Rattle.wp_core.specs.Tables.{StoreState, Installed, live_numbers, up_to, all_in}
 use Rattle.wp_model.specs.Flushed.{InstalledEdit, IsEditCovered}
 use Rattle.wp_core.specs.Entries.{next_of}
 
@@ -14,7 +14,7 @@ use Rattle.wp_core.specs.Entries.{next_of}
 
 -- The versions cover the history for readers of the live numbers and from the floor on, and for those of the base at which the log was
 -- opened, which is flushed.
-pub record IsStored (history pending : List Entry) (base : ℕ) (snapshots : Snapshots) (t : StoreTable) (e : Installed) : Type 0 where
+pub record IsStored (history pending : List Entry) (base : ℕ) (snapshots : Snapshots) (t : StoreState) (e : Installed) : Type 0 where
   pub covered : IsCovered (up_to (length history) (all_in t)) history (base ∷ live_numbers snapshots) t.floor
   pub based : base ≤ e.last.flushed
   pub floor : t.floor ≤ length history
@@ -30,9 +30,9 @@ abbrev pub NoneFlushed : List Version → ℕ → Type 0
 NoneFlushed memory flushed = (key : List ℕ) (p : ℕ) → p ≤ flushed → version_at memory key p ≡ None
 
 -- the tables are those of the edit, and no version that it flushed is in memory
-abbrev pub IsOfEdit : StoreTable → InstalledEdit → Type 0
+abbrev pub IsOfEdit : StoreState → InstalledEdit → Type 0
 IsOfEdit t edit = NoneFlushed t.memory edit.flushed × (t.tables ≡ edit.versions)
 
 -- so it is of the last edit while the tables turn is free
-abbrev pub IsSettled : Option ℕ → StoreTable → InstalledEdit → Type 0
-IsSettled holder t last = holder ≡ None → IsOfEdit t last
+abbrev pub IsInStep : Option ℕ → StoreState → InstalledEdit → Type 0
+IsInStep holder t last = holder ≡ None → IsOfEdit t last

@@ -14,9 +14,9 @@ use Rattle.wp_core.specs.Lists.{EachAt, IsIn}
 use Rattle.wp_core.specs.Turns.{Turn, write_turn, prepared_turn, snapshots_turn, tables_turn, Holders, Holds}
 use Rattle.wp_judge.specs.Words.{CommitPair}
 use Rattle.wp_core.specs.Cache.{cached, pair_at}
-use Rattle.wp_model.specs.PreparedTables.{PreparedTables, is_prepared}
-use Rattle.wp_model.specs.LockTables.{LockTables}
-use Rattle.wp_core.specs.Tables.{WriteTable, StoreTable, Installed}
+use Rattle.wp_model.specs.PreparedSets.{PreparedSets, is_prepared}
+use Rattle.wp_model.specs.LockState.{LockState}
+use Rattle.wp_core.specs.Tables.{WriteState, StoreState, Installed}
 use Rattle.wp_core.specs.Views.{Fact, passed, in_old_commits, apart, words_stay, has_left, versions_in_memory, versions_nowhere, number_in_heap, number_not_in_heap, pair_delayed, pair_not_delayed, none_waits, undecided_at, prior_values, unprepared, direct_free, tables_stay, live_listed, nothing_flushed, frozen_stay, delayed_flag_stays, old_flag_stays}
 use Rattle.wp_core.specs.Entries.{next_of, pending_pair}
 use Rattle.wp_core.specs.World.{Transaction, Participant, Actor}
@@ -54,37 +54,37 @@ pub record IsClearing (published : ℕ) (cache : List ℕ) (place : ℕ) (pair :
   pub so : why
 
 -- no prepared table has it, or the delayed commits do
-abbrev pub IsApart : PreparedTables → CommitPair → Type 0
+abbrev pub IsApart : PreparedSets → CommitPair → Type 0
 IsApart t pair = (is_prepared t pair.number ≡ false) ⊎ (finite.get t.delayed_commits pair.number ≡ Some pair.decision)
 
 -- The number is decided, and in neither the heap nor the delayed set. So it stays: a number comes into the heap as the next one
 -- alone, and into the delayed set out of the heap. The delayed commits say nothing here: they may get a decided number at any time.
-abbrev pub HasLeft : List Entry → PreparedTables → ℕ → Type 0
+abbrev pub HasLeft : List Entry → PreparedSets → ℕ → Type 0
 HasLeft history t p = ((c : ℕ) × (decision_of history p ≡ Some c)) × (is_prepared t p ≡ false)
 
 -- each number that is prepared still, and whose decision the bound has come to, is in its word
-abbrev pub NoneWaits : List Entry → PreparedTables → List ℕ → ℕ → Type 0
+abbrev pub NoneWaits : List Entry → PreparedSets → List ℕ → ℕ → Type 0
 NoneWaits history t cache max = (p c : ℕ) → is_prepared t p ≡ true → decision_of history p ≡ Some c → c ≤ max → cached cache p ≡ Some c
 
 -- the pair of the pending entry is a delayed commit, or is not
-abbrev pub IsDelayed : WriteTable → PreparedTables → Type 0
+abbrev pub IsDelayed : WriteState → PreparedSets → Type 0
 IsDelayed d t = (pair : CommitPair) → pending_pair d.history d.pending ≡ Some pair → finite.get t.delayed_commits pair.number ≡ Some pair.decision
 
-abbrev pub IsUndelayed : WriteTable → PreparedTables → Type 0
+abbrev pub IsUndelayed : WriteState → PreparedSets → Type 0
 IsUndelayed d t = (pair : CommitPair) → pending_pair d.history d.pending ≡ Some pair → finite.get t.delayed_commits pair.number ≢ Some pair.decision
 
 -- the versions of the pending entry are in memory
-abbrev pub IsInMemory : WriteTable → StoreTable → Type 0
+abbrev pub IsInMemory : WriteState → StoreState → Type 0
 IsInMemory d t = (key : List ℕ) (value : Option (List ℕ)) → version_in (next_of d.pending) key ≡ Some value → version_at t.memory key (suc (length d.history)) ≡ Some value
 
-abbrev pub IsNowhere : WriteTable → StoreTable → Type 0
+abbrev pub IsNowhere : WriteState → StoreState → Type 0
 IsNowhere d t = (key : List ℕ) → version_at t.memory key (suc (length d.history)) ≡ None
 
 -- the transaction is the actor's
 abbrev pub Owns : Participant → List ℕ → Type 0
 Owns a name = (t : Transaction) × (finite.get a.transactions name ≡ Some t)
 
-abbrev pub IsSo : ℕ → ℕ → ℕ → List ℕ → WriteTable → PreparedTables → Snapshots → StoreTable → LockTables → Installed → Participant → Fact → Type 0
+abbrev pub IsSo : ℕ → ℕ → ℕ → List ℕ → WriteState → PreparedSets → Snapshots → StoreState → LockState → Installed → Participant → Fact → Type 0
 IsSo delayed_flag old_flag max cache d t m s l e a (passed place pair) = IsClearing (length d.history) cache place pair (pair.decision ≤ max)
 IsSo delayed_flag old_flag max cache d t m s l e a (in_old_commits place pair) = IsClearing (length d.history) cache place pair (IsInOldCommits m pair.number pair.decision)
 IsSo delayed_flag old_flag max cache d t m s l e a (apart place pair) = IsClearing (length d.history) cache place pair (IsApart t pair)

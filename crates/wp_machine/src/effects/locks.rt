@@ -14,7 +14,7 @@ ghost use Rattle.wp_machine.specs.Effect.{IsEffect};
 
 use crate::actor::{Actor, Transaction};
 use crate::effects::turn::hold;
-use crate::locks::LockTables;
+use crate::locks::LockState;
 use crate::step::LocksStep;
 use crate::views::{Account, Event, Found};
 use crate::world::World;
@@ -59,7 +59,7 @@ fn claim_name(world: &mut World, actor: &mut Actor, name: &Name) -> Result<(), A
 }
 
 /// The keys that are held for the transaction.
-fn keys_for(tables: &LockTables, name: &Name, alloc: Global) -> Result<Vec<Key>, AllocError>
+fn keys_for(tables: &LockState, name: &Name, alloc: Global) -> Result<Vec<Key>, AllocError>
     ensures { IfOk result (λ keys. set.from_list keys.items ≡ keys_of_holder tables.now (holder.Txn name.now)) }
 {
     let holder = Holder::Txn(name.copy(alloc)?);

@@ -11,7 +11,7 @@ ghost use Rattle.wp_machine_permits.specs.Each.{Each};
 use crate::needs::live::numbers;
 use std::alloc::{AllocError, Global};
 use wp_judge::unpack;
-use wp_machine::{Cache, PreparedTables, Snapshots};
+use wp_machine::{Cache, PreparedSets, Snapshots};
 use wp_model::Seq;
 
 /// The pair in the word at the place, if that is one.
@@ -79,7 +79,7 @@ pub fn is_in_old_commits(
 }
 
 /// Whether the version is of no prepared transaction, or a delayed commit with that decision.
-pub fn is_apart(prepared: &PreparedTables, p: Seq, c: Seq) -> bool
+pub fn is_apart(prepared: &PreparedSets, p: Seq, c: Seq) -> bool
     ensures { (result ≡ true) ↔ IsApart prepared.now (record { number = p; decision = c }) }
 {
     if !prepared.is_prepared(p) {

@@ -6,7 +6,7 @@ ghost use Rattle.wp_model.specs.Decision.{decision_of};
 
 use crate::needs::read::history_of;
 use std::alloc::{AllocError, Global};
-use wp_ledger::History;
+use wp_history::History;
 use wp_model::{Entry, Seq};
 
 /// The place of the Commit or the Close of the prepare.

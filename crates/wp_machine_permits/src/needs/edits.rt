@@ -11,7 +11,7 @@ use crate::needs::order::in_order;
 use crate::needs::versions::{are_equal, joined, none_flushed, up_to};
 use std::alloc::{AllocError, Global};
 use wp_cover::covers;
-use wp_ledger::History;
+use wp_history::History;
 use wp_machine::{InstalledEdit, Snapshots, World, versions_of_next};
 use wp_model::{Entry, Segment, Seq, Version};
 

@@ -16,7 +16,7 @@ use crate::needs::transactions::{has_prior, is_direct_free, is_undecided_at, is_
 use crate::needs::versions::{are_equal, none_flushed};
 use crate::needs::waiting::none_waits;
 use std::alloc::AllocError;
-use wp_machine::{Actor, Fact, Holders, Noted, Participant, StoreTable, World};
+use wp_machine::{Actor, Fact, Holders, Noted, Participant, StoreState, World};
 use wp_model::{Seq, Version};
 
 /// Whether the actor holds the turn that guards the fact, if one does.
@@ -102,7 +102,7 @@ pub fn is_undelayed(world: &World) -> Result<bool, AllocError>
     })
 }
 
-fn tables_stay(store: &StoreTable, versions: &[Version], floor: Seq) -> bool
+fn tables_stay(store: &StoreState, versions: &[Version], floor: Seq) -> bool
     ensures { (result ≡ true) ↔ ((store.now.tables ≡ versions.now) × (store.now.floor ≡ floor)) }
 {
     if store.floor != floor {

@@ -8,7 +8,7 @@ ghost use Rattle.std.specs.FinSet as set;
 
 use crate::needs::versions::{has_changes, none_at};
 use std::alloc::AllocError;
-use wp_machine::{PreparedTables, StoreTable, WriteTable};
+use wp_machine::{PreparedSets, StoreState, WriteState};
 use wp_model::{Entry, Seq, Version};
 
 /// Whether what the entry says of keys is there, with that number.
@@ -34,7 +34,7 @@ fn has_pending(memory: &[Version], pending: &[Entry], n: Seq) -> bool
 }
 
 /// Whether the versions of the pending entry are in memory.
-pub(crate) fn is_in_memory(writes: &WriteTable, store: &StoreTable) -> Result<bool, AllocError>
+pub(crate) fn is_in_memory(writes: &WriteState, store: &StoreState) -> Result<bool, AllocError>
     ensures { IfOk result (λ yes. (yes ≡ true) ↔ IsInMemory writes.now store.now) }
 {
     let n = writes.next_number()?;
@@ -42,7 +42,7 @@ pub(crate) fn is_in_memory(writes: &WriteTable, store: &StoreTable) -> Result<bo
 }
 
 /// Whether memory has no version with the number of the pending entry.
-pub(crate) fn is_nowhere(writes: &WriteTable, store: &StoreTable) -> Result<bool, AllocError>
+pub(crate) fn is_nowhere(writes: &WriteState, store: &StoreState) -> Result<bool, AllocError>
     ensures { IfOk result (λ yes. (yes ≡ true) ↔ IsNowhere writes.now store.now) }
 {
     let n = writes.next_number()?;
@@ -50,7 +50,7 @@ pub(crate) fn is_nowhere(writes: &WriteTable, store: &StoreTable) -> Result<bool
 }
 
 /// Whether the number of the pending entry is in the heap.
-pub(crate) fn is_in_heap(writes: &WriteTable, prepared: &PreparedTables) -> Result<bool, AllocError>
+pub(crate) fn is_in_heap(writes: &WriteState, prepared: &PreparedSets) -> Result<bool, AllocError>
     ensures { IfOk result (λ yes. yes ≡ set.contains prepared.now.heap (suc (length writes.now.history))) }
 {
     Ok(prepared.is_in_heap(writes.next_number()?))

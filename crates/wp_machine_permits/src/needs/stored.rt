@@ -13,7 +13,7 @@ use crate::needs::edits::{is_any_covered, is_edit_covered, is_store_covered};
 use crate::needs::pending::has_versions_of;
 use crate::needs::versions::version_at;
 use std::alloc::{AllocError, Global};
-use wp_ledger::History;
+use wp_history::History;
 use wp_machine::{InstalledEdit, Snapshots};
 use wp_model::{Entry, Key, Seq, Value, Version};
 

@@ -13,8 +13,8 @@ ghost use Rattle.wp_machine_permits.specs.Holding.{IsUndecidedAt, HasPrior, IsUn
 
 use crate::needs::read::history_of;
 use std::alloc::{AllocError, Global};
-use wp_ledger::History;
-use wp_machine::{LockTables, Participant, Transaction};
+use wp_history::History;
+use wp_machine::{LockState, Participant, Transaction};
 use wp_model::{Batch, Change, Entry, Holder, Key, Name, Seq};
 
 /// Whether the transaction is the participant's.
@@ -37,7 +37,7 @@ fn is_unnamed(history: &History, name: &Name) -> bool
 }
 
 /// Whether the participant is the client of the live name.
-fn is_client_of(locks: &LockTables, participant: &Participant, name: &Name) -> bool
+fn is_client_of(locks: &LockState, participant: &Participant, name: &Name) -> bool
     ensures { result ≡ true → finite.get locks.now.names name.now ≡ Some (Some participant.now.client) }
 {
     match (locks.name(name), &participant.client) {
@@ -47,7 +47,7 @@ fn is_client_of(locks: &LockTables, participant: &Participant, name: &Name) -> b
 }
 
 /// Whether the transaction holds the key.
-pub(crate) fn is_held_for(locks: &LockTables, key: &Key, name: &Name) -> bool
+pub(crate) fn is_held_for(locks: &LockState, key: &Key, name: &Name) -> bool
     ensures { (result ≡ true) ↔ (finite.get locks.now.keys key.now ≡ Some (Txn name.now)) }
 {
     match locks.holder(key) {
@@ -56,7 +56,7 @@ pub(crate) fn is_held_for(locks: &LockTables, key: &Key, name: &Name) -> bool
     }
 }
 
-fn each_is_held_for(locks: &LockTables, changes: &[Change], name: &Name) -> bool
+fn each_is_held_for(locks: &LockState, changes: &[Change], name: &Name) -> bool
     ensures { (result ≡ true) ↔ Each (λ (change : Change). finite.get locks.now.keys (key_of change) ≡ Some (Txn name.now)) changes.now }
 {
     for change in changes {
@@ -67,14 +67,14 @@ fn each_is_held_for(locks: &LockTables, changes: &[Change], name: &Name) -> bool
     true
 }
 
-fn are_held_for(locks: &LockTables, changes: &[Change], name: &Name) -> bool
+fn are_held_for(locks: &LockState, changes: &[Change], name: &Name) -> bool
     ensures { (result ≡ true) ↔ AreHeldFor locks.now changes.now name.now }
 {
     each_is_held_for(locks, changes, name)
 }
 
 /// Whether the keys of the prepare with that number are held for the transaction.
-fn holds_batch(locks: &LockTables, history: &History, p: Seq, name: &Name) -> bool
+fn holds_batch(locks: &LockState, history: &History, p: Seq, name: &Name) -> bool
     ensures { (result ≡ true) ↔ AreHeldFor locks.now (batch_at history.now.entries p) name.now }
 {
     match history.prepare_at(p) {
@@ -84,7 +84,7 @@ fn holds_batch(locks: &LockTables, history: &History, p: Seq, name: &Name) -> bo
 }
 
 fn is_undecided_in(
-    locks: &LockTables,
+    locks: &LockState,
     history: &History,
     participant: &Participant,
     name: &Name,
@@ -106,7 +106,7 @@ fn is_undecided_in(
 
 /// Whether the participant's transaction is undecided under that number.
 pub(crate) fn is_undecided_at(
-    locks: &LockTables,
+    locks: &LockState,
     entries: &[Entry],
     participant: &Participant,
     name: &Name,
@@ -231,7 +231,7 @@ pub(crate) fn is_unprepared(
 }
 
 /// Whether the key is held for a direct write of the participant.
-fn is_own_direct(locks: &LockTables, participant: &Participant, key: &Key) -> bool
+fn is_own_direct(locks: &LockState, participant: &Participant, key: &Key) -> bool
     ensures { result ≡ true → finite.get locks.now.keys key.now ≡ Some (Client participant.now.client) }
 {
     match (locks.holder(key), &participant.client) {
@@ -252,7 +252,7 @@ pub(crate) fn has_direct(participant: &Participant, key: &Key) -> bool
 
 /// Whether the key of the participant's direct write is in no undecided batch.
 pub(crate) fn is_direct_free(
-    locks: &LockTables,
+    locks: &LockState,
     entries: &[Entry],
     participant: &Participant,
     key: &Key,

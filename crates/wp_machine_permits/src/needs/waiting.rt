@@ -8,7 +8,7 @@ use crate::needs::clearing::cached;
 use crate::needs::decided::decision_of;
 use crate::needs::read::history_of;
 use std::alloc::AllocError;
-use wp_ledger::History;
+use wp_history::History;
 use wp_machine::World;
 use wp_model::Seq;
 

@@ -2,10 +2,10 @@
 ghost use Rattle.std.specs.Prelude.{◌≡◌, ◌↔◌, ◌≤◌, true, false, ℕ, length, ◌==◌, MatchOption};
 ghost use Rattle.std.specs.FinSet as set;
 ghost use Rattle.wp_model.specs.Snapshots.{is_old_commit, NoOldCommits};
-ghost use Rattle.wp_model.specs.PreparedTables.{NoneDelayed};
+ghost use Rattle.wp_model.specs.PreparedSets.{NoneDelayed};
 ghost use Rattle.wp_machine_permits.specs.Each.{Each};
 
-use wp_machine::{PreparedTables, Snapshot, Snapshots};
+use wp_machine::{PreparedSets, Snapshot, Snapshots};
 use wp_model::Seq;
 
 /// Each of the numbers is from this one on.
@@ -21,14 +21,14 @@ fn are_from(numbers: &[Seq], least: Seq) -> bool
 }
 
 /// The prepared heap has only numbers from this one on.
-pub(super) fn heap_is_from(prepared: &PreparedTables, least: Seq) -> bool
+pub(super) fn heap_is_from(prepared: &PreparedSets, least: Seq) -> bool
     ensures { result ≡ true → (p : ℕ) → set.contains prepared.now.heap p ≡ true → least ≤ p }
 {
     are_from(&prepared.heap, least)
 }
 
 /// The delayed set has only numbers from this one on.
-pub(super) fn delayed_is_from(prepared: &PreparedTables, least: Seq) -> bool
+pub(super) fn delayed_is_from(prepared: &PreparedSets, least: Seq) -> bool
     ensures { result ≡ true → (p : ℕ) → set.contains prepared.now.delayed p ≡ true → least ≤ p }
 {
     are_from(&prepared.delayed, least)
@@ -46,7 +46,7 @@ fn is_no_pair(pairs: &[(Seq, Seq)]) -> bool
     pairs.is_empty()
 }
 
-pub(super) fn none_delayed(prepared: &PreparedTables) -> bool
+pub(super) fn none_delayed(prepared: &PreparedSets) -> bool
     ensures { (result ≡ true) ↔ NoneDelayed prepared.now }
 {
     if !is_no_number(&prepared.delayed) {

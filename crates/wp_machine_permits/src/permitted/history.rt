@@ -4,8 +4,8 @@ ghost use Rattle.wp_machine_permits.specs.Permits.{MayFollow};
 
 use crate::needs;
 use std::alloc::{AllocError, Global};
-use wp_history::laws::legal_grows;
-use wp_ledger::History;
+use wp_history::History;
+use wp_history_laws::laws::legal_grows;
 use wp_machine::World;
 use wp_model::Entry;
 

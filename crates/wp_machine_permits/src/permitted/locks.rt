@@ -13,7 +13,7 @@ use crate::needs::{has_direct, may_find};
 use crate::permitted::history::history_of;
 use crate::permitted::publishing::{has_locked, has_transaction};
 use std::alloc::AllocError;
-use wp_ledger::History;
+use wp_history::History;
 use wp_machine::{Actor, LocksStep, Transaction, Turn, World};
 use wp_model::{Key, Name, Seq};
 

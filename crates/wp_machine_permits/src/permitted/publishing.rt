@@ -19,7 +19,7 @@ use crate::needs::{self, cached, has_direct, has_versions_of};
 use crate::permitted::evicting::fits_no_word;
 use crate::permitted::history::{history_of, may_follow};
 use std::alloc::AllocError;
-use wp_ledger::History;
+use wp_history::History;
 use wp_machine::{Actor, Transaction, Turn, World};
 use wp_model::{Batch, Change, Entry, Holder, Key, Name, Seq};
 

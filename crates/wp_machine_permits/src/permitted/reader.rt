@@ -5,13 +5,13 @@ ghost use Rattle.wp_core.specs.Turns.{Holds, prepared_turn};
 ghost use Rattle.wp_core.specs.Conditions.{IsNextLoad, MayLook, MayBeSmallest};
 ghost use Rattle.wp_core.specs.Steps as step;
 ghost use Rattle.wp_core.specs.Sound.Snapshots.{has_versions_at};
-ghost use Rattle.wp_model.specs.PreparedTables.{is_prepared};
+ghost use Rattle.wp_model.specs.PreparedSets.{is_prepared};
 ghost use Rattle.wp_machine.specs.Machine.{reader_step};
 ghost use Rattle.wp_machine_permits.specs.Offered.{IsOffered};
 
 use crate::permitted::empty::{delayed_is_from, heap_is_from};
 use wp_judge::{Asked, Load, ask};
-use wp_machine::{Actor, PreparedTables, ReaderStep, Registration, Turn, World, entry_at};
+use wp_machine::{Actor, PreparedSets, ReaderStep, Registration, Turn, World, entry_at};
 use wp_model::{Entry, Seq};
 
 /// A look into a table needs its turn.
@@ -101,7 +101,7 @@ fn is_below_prepared(world: &World, by: usize, least: Seq) -> bool
 }
 
 /// Each prepared number is from this one on.
-fn are_prepared_from(prepared: &PreparedTables, least: Seq) -> bool
+fn are_prepared_from(prepared: &PreparedSets, least: Seq) -> bool
     ensures { result ≡ true → (p : ℕ) → is_prepared prepared.now p ≡ true → least ≤ p }
 {
     if !heap_is_from(prepared, least) {

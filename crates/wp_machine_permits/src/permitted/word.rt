@@ -3,7 +3,7 @@ ghost use Rattle.std.specs.Prelude.{◌≡◌, ◌≢◌, ◌⊎◌, ◌<◌, �
 ghost use Rattle.std.specs.FinSet as set;
 ghost use Rattle.wp_core.specs.World.{Actor};
 ghost use Rattle.wp_core.specs.Entries.{pending_pair};
-ghost use Rattle.wp_model.specs.PreparedTables.{NoneDelayed};
+ghost use Rattle.wp_model.specs.PreparedSets.{NoneDelayed};
 ghost use Rattle.wp_model.specs.Snapshots.{NoOldCommits};
 ghost use Rattle.wp_core.specs.Steps as step;
 ghost use Rattle.wp_machine.specs.Machine.{word_step};

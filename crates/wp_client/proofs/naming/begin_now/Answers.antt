@@ -2,7 +2,7 @@ use Rattle.std.proofs.Common.{◌≡◌, List, [], ℕ, Ok, Err, Some, refl, sub
 use Rattle.std.proofs.lemmas.Result.{IfOk-weaker, on_err_weaker}
 use Rattle.wp_text.specs.declared.reply.Reply.TheVariants as reply
 use Rattle.wp_text.specs.declared.script.Command.TheVariants as command
-use Rattle.wp_names.specs.Calls.{Begins}
+use Rattle.wp_open_txns.specs.Calls.{Begins}
 use Rattle.wp_client.specs.declared.holdings.HeldTxn.TheVariants as held
 use Rattle.wp_client.specs.Answers.{AnswersFrom}
 use Rattle.wp_client.specs.Replies.{refusal}

@@ -26,7 +26,7 @@ of-requires-clause-pair g c pair is =
     let got : slice_get d.pending i ≡ Some here = subst (λ (e : List Entry). slice_get e i ≡ Some here) c.pending-entries.ensures (slice_get_read c.pending-entries.result.now (length c.pending-entries.result.now) i here refl lt c.entry-item.is) in
     let number = k.number in
     let n : c.loop-entry.n + 1 ≡ suc (length d.history) + i = omega (arith, number) in
-    pair_at_order d.history d.pending i here pair c.shows_told.ensures.log.legal got (ap (λ (m : ℕ). pair_by m here) (sym n) ∙ is)
+    pair_at_order d.history d.pending i here pair c.devices_agree.ensures.log.legal got (ap (λ (m : ℕ). pair_by m here) (sym n) ∙ is)
 
 pub clear-requires-clause-seat : goal.clear-requires-clause-seat
 clear-requires-clause-seat g c = let k = c.loop-entry.invariant in

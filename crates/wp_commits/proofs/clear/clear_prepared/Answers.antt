@@ -1,5 +1,5 @@
 use Rattle.std.proofs.Common.{List, [], ◌∷◌, inl, inr, length, refl, sym, subst, ap, ◌∙◌}
-use Rattle.wp_model.specs.PreparedTables.{NoneDelayed}
+use Rattle.wp_model.specs.PreparedSets.{NoneDelayed}
 use Rattle.wp_core.specs.Lists.{IsIn}
 use Rattle.wp_core.specs.Tables.{Content, prepared, writes}
 use Rattle.wp_core.specs.Turns.{prepared_turn}

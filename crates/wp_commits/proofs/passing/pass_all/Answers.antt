@@ -2,7 +2,7 @@ use Rattle.std.proofs.Common.{◌≡◌, inl, inr, List, [], ◌∷◌, refl, sy
 use Rattle.wp_core.specs.Lists.{IsIn}
 use Rattle.wp_core.specs.Tables.{Content, writes, prepared, snapshots}
 use Rattle.wp_core.specs.Views.{words_stay, none_waits, delayed_flag_stays, old_flag_stays}
-use Rattle.wp_model.specs.PreparedTables.{NoneDelayed}
+use Rattle.wp_model.specs.PreparedSets.{NoneDelayed}
 use Rattle.wp_model.specs.Snapshots.{NoOldCommits}
 use Rattle.wp_rule.specs.Knows.{Noted}
 use Rattle.wp_shared.specs.Notes.{is_flag, GoesOn, OldFlagTells}

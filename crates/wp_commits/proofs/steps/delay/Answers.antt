@@ -1,5 +1,5 @@
 use Rattle.std.proofs.Common.{◌≡◌, List, [], ◌∷◌, inl, refl, sym, subst, ap, ◌∙◌}
-use Rattle.wp_model.specs.PreparedTables.{PreparedTables, NoneDelayed}
+use Rattle.wp_model.specs.PreparedSets.{PreparedSets, NoneDelayed}
 use Rattle.wp_core.specs.Lists.{IsIn}
 use Rattle.wp_core.specs.Tables.{Content, writes, prepared}
 use Rattle.wp_core.specs.Views.{delayed_flag_stays}
@@ -50,5 +50,5 @@ returns g c = let s = c.args.seat.now in let d = c.args.log.now.table in let r =
     record {
       seat = subst (λ (x : SeatState). GoesOn is_flag held x.turns x v) same (then_still is_flag r u v r.knows.held held r.turns fit.seat (holds is_flag u v v held made));
       flag = tells_still u.knows v.knows delayed_flag_stays (NoneDelayed t) (λ value there. subst (λ (x : SeatState). Noted x.knows (delayed_flag_stays value)) (sym made) there) fit.flag;
-      apart = subst (λ (x : PreparedTables). IsApart x (record { number = c.args.p; decision = c.args.c })) (sym c.note_evicted.ensures) (apart_now c.args.tables.now c.args.p c.args.c);
+      apart = subst (λ (x : PreparedSets). IsApart x (record { number = c.args.p; decision = c.args.c })) (sym c.note_evicted.ensures) (apart_now c.args.tables.now c.args.p c.args.c);
     }

@@ -7,7 +7,7 @@ use Rattle.wp_commits.proofs.steps.put_word.Goals as goal
 pub pack-requires-clause-pair : goal.pack-requires-clause-pair
 pack-requires-clause-pair g c =
     let pair : CommitPair = record { number = c.args.p; decision = c.args.c } in
-    subst (λ (n : ℕ). MayBePacked n pair) c.bits-bits.ensures.1 (next_packs c.args.store.now.cells c.args.log.now.table.history c.args.log.now.table.pending pair c.shows_told.ensures.log.legal c.requires.pending c.requires.narrow)
+    subst (λ (n : ℕ). MayBePacked n pair) c.bits-bits.ensures.1 (next_packs c.args.store.now.cells c.args.log.now.table.history c.args.log.now.table.pending pair c.devices_agree.ensures.log.legal c.requires.pending c.requires.narrow)
 
 pub store_word-requires-clause-pair : goal.store_word-requires-clause-pair
 store_word-requires-clause-pair g c =

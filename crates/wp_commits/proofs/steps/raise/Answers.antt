@@ -1,7 +1,7 @@
 use Rattle.std.proofs.Common.{◌≡◌, inl, refl, sym, subst, [], ◌∷◌, ◌∙◌}
 use Rattle.wp_core.specs.Lists.{IsIn}
 use Rattle.wp_core.specs.Tables.{prepared, writes, with_moved}
-use Rattle.wp_model.specs.PreparedTables.{NoneDelayed}
+use Rattle.wp_model.specs.PreparedSets.{NoneDelayed}
 use Rattle.wp_core.specs.Views.{words_stay}
 use Rattle.wp_shared.specs.Notes.{is_flag}
 use Rattle.wp_shared.specs.Seats.{place_at}

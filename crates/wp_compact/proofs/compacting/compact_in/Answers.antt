@@ -4,7 +4,7 @@ use Rattle.wp_shared.specs.Notes.{no_fact, seeing}
 use Rattle.wp_shared.proofs.Onward.{loose_none, goes_none}
 use Rattle.wp_read.specs.Registers.{numbers_of}
 use Rattle.wp_compact.specs.Compaction.{IsDecision, IsPin}
-use Rattle.wp_maint.proofs.Onward.{goes_saw, settled_on, still_edits, holds_being, settled_being, found_halted}
+use Rattle.wp_maint.proofs.Onward.{goes_saw, in_step_on, still_edits, holds_being, in_step_being, found_halted}
 use Rattle.wp_compact.proofs.Rounds.{ends_then, found_few}
 use Rattle.wp_compact.proofs.StillTabled.{decided_looked}
 use Rattle.wp_maint.proofs.Found.{held_first}
@@ -20,10 +20,10 @@ returns-then-is_halted-clause-holds g c =
     let e = c.args.edits.now in let k = c.find_edits.ensures e.table (held_first c.args.seat.now e.table c.requires.holds.turn.held) in
     holds_being c.args.store.now c.args.seat.now c.find_edits.new.seat _ k.is e c.requires.holds
 
-pub returns-then-is_halted-clause-settled : goal.returns-then-is_halted-clause-settled
-returns-then-is_halted-clause-settled g c =
+pub returns-then-is_halted-clause-in_step : goal.returns-then-is_halted-clause-in_step
+returns-then-is_halted-clause-in_step g c =
     let e = c.args.edits.now.table in let k = c.find_edits.ensures e (held_first c.args.seat.now e c.requires.holds.turn.held) in
-    settled_being c.args.store.now c.args.seat.now c.find_edits.new.seat _ k.is e.last c.requires.settled
+    in_step_being c.args.store.now c.args.seat.now c.find_edits.new.seat _ k.is e.last c.requires.in_step
 
 pub returns-then-is_halted-clause-says : goal.returns-then-is_halted-clause-says
 returns-then-is_halted-clause-says g c =
@@ -38,10 +38,10 @@ returns-then-table_count-lt2-clause-holds g c =
     let e = c.args.edits.now in let k = c.find_edits-then-table_count-lt2.ensures e.table (held_first c.args.seat.now e.table c.requires.holds.turn.held) in
     holds_being c.args.store.now c.args.seat.now c.find_edits-then-table_count-lt2.new.seat _ k.is e c.requires.holds
 
-pub returns-then-table_count-lt2-clause-settled : goal.returns-then-table_count-lt2-clause-settled
-returns-then-table_count-lt2-clause-settled g c =
+pub returns-then-table_count-lt2-clause-in_step : goal.returns-then-table_count-lt2-clause-in_step
+returns-then-table_count-lt2-clause-in_step g c =
     let e = c.args.edits.now.table in let k = c.find_edits-then-table_count-lt2.ensures e (held_first c.args.seat.now e c.requires.holds.turn.held) in
-    settled_being c.args.store.now c.args.seat.now c.find_edits-then-table_count-lt2.new.seat _ k.is e.last c.requires.settled
+    in_step_being c.args.store.now c.args.seat.now c.find_edits-then-table_count-lt2.new.seat _ k.is e.last c.requires.in_step
 
 pub returns-then-table_count-lt2-clause-says : goal.returns-then-table_count-lt2-clause-says
 returns-then-table_count-lt2-clause-says g c =
@@ -67,10 +67,10 @@ returns-in-Ok-true-clause-says g c =
 pub returns-in-Ok-false-clause-holds : goal.returns-in-Ok-false-clause-holds
 returns-in-Ok-false-clause-holds g c = still_edits c.requires.holds c.are_unchanged.ensures.goes
 
-pub returns-in-Ok-false-clause-settled : goal.returns-in-Ok-false-clause-settled
-returns-in-Ok-false-clause-settled g c =
+pub returns-in-Ok-false-clause-in_step : goal.returns-in-Ok-false-clause-in_step
+returns-in-Ok-false-clause-in_step g c =
     let s = c.args.seat.now in let u = c.are_unchanged.new.seat in let e = c.args.edits.now.table in
-    settled_on (seeing u.knows.participant.seen s) u no_fact (installed e ∷ []) s.turns refl (λ versions floor. refl) c.are_unchanged.ensures.goes e.last c.requires.settled
+    in_step_on (seeing u.knows.participant.seen s) u no_fact (installed e ∷ []) s.turns refl (λ versions floor. refl) c.are_unchanged.ensures.goes e.last c.requires.in_step
 
 pub returns-in-Ok-false-clause-says : goal.returns-in-Ok-false-clause-says
 returns-in-Ok-false-clause-says g c =
@@ -91,10 +91,10 @@ returns-in-Ok-false-clause-says g c =
 pub returns-in-Err-clause-holds : goal.returns-in-Err-clause-holds
 returns-in-Err-clause-holds g c = still_edits c.requires.holds c.are_unchanged.ensures.goes
 
-pub returns-in-Err-clause-settled : goal.returns-in-Err-clause-settled
-returns-in-Err-clause-settled g c =
+pub returns-in-Err-clause-in_step : goal.returns-in-Err-clause-in_step
+returns-in-Err-clause-in_step g c =
     let s = c.args.seat.now in let u = c.are_unchanged.new.seat in let e = c.args.edits.now.table in
-    settled_on (seeing u.knows.participant.seen s) u no_fact (installed e ∷ []) s.turns refl (λ versions floor. refl) c.are_unchanged.ensures.goes e.last c.requires.settled
+    in_step_on (seeing u.knows.participant.seen s) u no_fact (installed e ∷ []) s.turns refl (λ versions floor. refl) c.are_unchanged.ensures.goes e.last c.requires.in_step
 
 pub returns-in-Err-clause-says : goal.returns-in-Err-clause-says
 returns-in-Err-clause-says g c =

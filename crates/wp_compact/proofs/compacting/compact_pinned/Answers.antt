@@ -1,6 +1,6 @@
 use Rattle.std.proofs.Common.{[], refl, sym, subst, ap}
 use Rattle.wp_rule.specs.Knows.{KnowsTables}
-use Rattle.wp_shared.specs.Edits.{EditsState, IsEdits}
+use Rattle.wp_shared.specs.VersionSet.{VersionSetState, IsEdits}
 use Rattle.wp_shared.specs.Calls.{GoesOnAs}
 use Rattle.wp_shared.specs.Seats.{SeatState}
 use Rattle.wp_shared.proofs.Onward.{holds_alone, starts_equal, starts_on, starts_same}
@@ -21,8 +21,8 @@ decide_tables-requires-clause-pinned g c = are_pinned c.args.seat.now.knows c.ar
 pub compact_in-result-requires-clause-holds : goal.compact_in-result-requires-clause-holds
 compact_in-result-requires-clause-holds g c = subst (HoldsEdits c.args.store.now c.take_turn-edits.new.seat) (sym c.deref_mut.ensures.value) (record { turn = holds_alone c.decide_tables.ensures.continues.free c.take_turn-edits.ensures.taken; of_store = c.take_turn-edits.ensures.of_store })
 
-pub compact_in-result-requires-clause-settled : goal.compact_in-result-requires-clause-settled
-compact_in-result-requires-clause-settled g c = subst (λ (e : EditsState). KnowsTables c.take_turn-edits.new.seat.knows e.table.last) (sym c.deref_mut.ensures.value) c.take_turn-edits.ensures.taken.knows
+pub compact_in-result-requires-clause-in_step : goal.compact_in-result-requires-clause-in_step
+compact_in-result-requires-clause-in_step g c = subst (λ (e : VersionSetState). KnowsTables c.take_turn-edits.new.seat.knows e.table.last) (sym c.deref_mut.ensures.value) c.take_turn-edits.ensures.taken.knows
 
 pub compact_in-result-requires-clause-decided : goal.compact_in-result-requires-clause-decided
 compact_in-result-requires-clause-decided g c =
@@ -60,5 +60,5 @@ returns-clause-manifest g c =
     round_more
     (λ left. each_between z s t v v (seat_still s t s.knows.participant first) (ap (λ (q : Participant). q.past) first.participant) first.seen (starts_same v.knows.participant.seen)
     (left_each z t t v before after taken.stands (refl, refl, refl) refl (held_first t before.table holds.turn.held) holds.of_store c.compact_in-result.ensures.holds.of_store
-    (subst IsEdits (sym c.deref_mut.ensures.value) (subst IsEdits c.deref.ensures c.shows_told.ensures.edits)) (subst IsEdits c.deref-2.ensures c.shows_told-2.ensures.edits) grown left))
+    (subst IsEdits (sym c.deref_mut.ensures.value) (subst IsEdits c.deref.ensures c.devices_agree.ensures.edits)) (subst IsEdits c.deref-2.ensures c.devices_agree-2.ensures.edits) grown left))
     result c.compact_in-result.ensures.manifest

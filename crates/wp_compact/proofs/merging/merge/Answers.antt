@@ -15,8 +15,8 @@ merge_kept-requires-clause-may g c =
           (c.in-Ok.ensures ∙ (λ i. retained_of (is_committed (c.deref.ensures.value i)) d.versions (numbers_of p.live.items ++ d.bases.opened ∷ (c.segment.ensures i).base ∷ []) p.floor.number)),
     )
 
-pub returns-in_default-clause-settled : goal.returns-in_default-clause-settled
-returns-in_default-clause-settled g c = let r = c.requires.may.replace in (r.gone, (r.store_floor, r.named))
+pub returns-in_default-clause-in_step : goal.returns-in_default-clause-in_step
+returns-in_default-clause-in_step g c = let r = c.requires.may.replace in (r.gone, (r.store_floor, r.named))
 
 pub returns-in_default-clause-says : goal.returns-in_default-clause-says
 returns-in_default-clause-says g c = goes_none c.args.seat.now

@@ -7,7 +7,7 @@ use Rattle.wp_model.specs.Decision.{is_committed}
 use Rattle.wp_read.specs.Registers.{numbers_of}
 use Rattle.wp_replies.specs.Tables.{listed}
 use Rattle.wp_table.specs.Table.{is_numbered, is_flushed}
-use Rattle.wp_maint.proofs.Found.{settled_refused}
+use Rattle.wp_maint.proofs.Found.{in_step_refused}
 use Rattle.wp_compact.proofs.Merged.{left_kept, next_covered, replaces_next, has_compacted, not_compacted, only_sorted}
 use Rattle.wp_compact.proofs.Retained.{all_retained}
 use Rattle.wp_compact.proofs.merging.merge_kept.Goals as goal
@@ -51,10 +51,10 @@ returns-in-Ok-clause-says g c =
     (has_compacted c.args.store.now c.args.seat.now c.install.new.seat c.args.edits.now c.install.new.edits p.floor.number p.live.items m.0 m.1 m.2 c.args.kept m.3 c.in-Ok.ensures.installed c.requires.holds c.in-Ok.ensures.parts c.put_tables.new.seat _ c.put_tables.ensures.goes c.requires.running c.requires.several
     (length c.as_slice.result.now) (ap (λ (l : List Version). length l) c.as_slice.ensures.value))
 
-pub returns-clause-settled : goal.returns-clause-settled
-returns-clause-settled g c =
+pub returns-clause-in_step : goal.returns-clause-in_step
+returns-clause-in_step g c =
     let r = c.requires.may.2.replace in
-    settled_refused c.args.store.now c.args.seat.now c.install.new.seat c.args.edits.now c.install.new.edits _ c.in-Err.why c.in-Err.ensures.refused (r.gone, (r.store_floor, r.named))
+    in_step_refused c.args.store.now c.args.seat.now c.install.new.seat c.args.edits.now c.install.new.edits _ c.in-Err.why c.in-Err.ensures.refused (r.gone, (r.store_floor, r.named))
 
 pub returns-clause-says : goal.returns-clause-says
 returns-clause-says g c =

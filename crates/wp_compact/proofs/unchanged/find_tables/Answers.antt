@@ -1,24 +1,24 @@
 use Rattle.std.proofs.Common.{ℕ, List, [], ◌∷◌, refl, subst, sym, ap}
 use Rattle.std.proofs.lemmas.Result.{IfOk-weaker}
 use Rattle.wp_core.specs.Tables.{store, installed}
-use Rattle.wp_shared.specs.Stock.{store_table}
+use Rattle.wp_shared.specs.Stock.{store_state}
 use Rattle.wp_shared.specs.Notes.{no_fact, seeing, GoesOn}
 use Rattle.wp_shared.specs.Seats.{SeatState}
 use Rattle.wp_shared.proofs.Goes.{none_under_store}
 use Rattle.wp_core.specs.World.{Participant}
 use Rattle.wp_compact.specs.Compaction.{AreLow}
-use Rattle.wp_maint.proofs.Onward.{settled_on}
+use Rattle.wp_maint.proofs.Onward.{in_step_on}
 use Rattle.wp_maint.proofs.Puts.{holds_lent}
 use Rattle.wp_compact.proofs.StillTabled.{some_weaker, match_weaker, live_still, may_merge_still, holds_seen, looked, same_looked, grown_looked, found_looked, passed_looked}
 use Rattle.wp_compact.proofs.unchanged.find_tables.Goals as goal
 
 pub tables_in-tables-requires-clause-holds : goal.tables_in-tables-requires-clause-holds
-tables_in-tables-requires-clause-holds g c = holds_lent c.requires.holds c.take_turn-stock.ensures.taken (ap store_table c.deref.ensures)
+tables_in-tables-requires-clause-holds g c = holds_lent c.requires.holds c.take_turn-stock.ensures.taken (ap store_state c.deref.ensures)
 
-pub tables_in-tables-requires-clause-settled : goal.tables_in-tables-requires-clause-settled
-tables_in-tables-requires-clause-settled g c =
+pub tables_in-tables-requires-clause-in_step : goal.tables_in-tables-requires-clause-in_step
+tables_in-tables-requires-clause-in_step g c =
     let s = c.args.seat.now in
-    settled_on s c.take_turn-stock.new.seat no_fact (store (store_table c.take_turn-stock.result.value) ∷ s.knows.held) (3 ∷ s.turns) refl (λ versions floor. refl) c.take_turn-stock.ensures.taken.goes c.args.edits.now.table.last c.requires.settled
+    in_step_on s c.take_turn-stock.new.seat no_fact (store (store_state c.take_turn-stock.result.value) ∷ s.knows.held) (3 ∷ s.turns) refl (λ versions floor. refl) c.take_turn-stock.ensures.taken.goes c.args.edits.now.table.last c.requires.in_step
 
 pub tables_in-tables-requires-clause-live : goal.tables_in-tables-requires-clause-live
 tables_in-tables-requires-clause-live g c =

@@ -2,14 +2,14 @@ use Rattle.std.proofs.Common.{◌↔◌, ◌≡◌, true, List, sym, subst}
 use Rattle.std.proofs.lemmas.Result.{IfOk-weaker}
 use Rattle.wp_model.specs.declared.version.Version.{Version}
 use Rattle.wp_model.specs.Covered.{IsCovered}
-use Rattle.wp_cover.specs.Sources.{AreSettled}
+use Rattle.wp_cover.specs.Sources.{AreFixed}
 use Rattle.wp_cover.proofs.Places.{list_alone}
 use Rattle.wp_cover.proofs.covering.covers.Goals as goal
 
-pub are_covering-requires-clause-settled : goal.are_covering-requires-clause-settled
-are_covering-requires-clause-settled c =
+pub are_covering-requires-clause-fixed : goal.are_covering-requires-clause-fixed
+are_covering-requires-clause-fixed c =
     let alone = list_alone c.args.history.now.entries c.args.versions.now c.published.result c.published.ensures.value in
-    subst (AreSettled c.args.history.now) (sym alone) c.requires.settled
+    subst (AreFixed c.args.history.now) (sym alone) c.requires.fixed
 
 pub returns : goal.returns
 returns c =

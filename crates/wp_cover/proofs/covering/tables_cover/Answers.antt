@@ -7,16 +7,16 @@ use Rattle.wp_model.specs.Flushed.{later_versions}
 use Rattle.wp_model.specs.Versions.{AreInOrder}
 use Rattle.wp_model.proofs.VersionLists.{in_order_nil}
 use Rattle.wp_merge.specs.Merge.{joined}
-use Rattle.wp_cover.specs.Sources.{AreSettled}
+use Rattle.wp_cover.specs.Sources.{AreFixed}
 use Rattle.wp_cover.proofs.covering.tables_cover.Goals as goal
 
 pub of-none-requires : goal.of-none-requires
 of-none-requires c = subst AreInOrder (sym c.new.ensures.items) in_order_nil
 
-pub are_covering-requires-clause-settled : goal.are_covering-requires-clause-settled
-are_covering-requires-clause-settled c =
+pub are_covering-requires-clause-fixed : goal.are_covering-requires-clause-fixed
+are_covering-requires-clause-fixed c =
     let rest = joined (map arc_value c.args.tables.now) ++ later_versions c.args.history.now.entries c.args.flushed in
-    subst (λ (vs : List Version). AreSettled c.args.history.now (vs ++ rest)) (sym (c.of-none.ensures ∙ c.new.ensures.items)) c.requires.settled
+    subst (λ (vs : List Version). AreFixed c.args.history.now (vs ++ rest)) (sym (c.of-none.ensures ∙ c.new.ensures.items)) c.requires.fixed
 
 pub returns : goal.returns
 returns c =

@@ -16,6 +16,6 @@ pub returns : goal.returns
 returns c =
     let s = c.args.sources.now in
     IfOk-weaker c.are_tables_part.result _ _ (λ yes parts. (
-      λ is. all_part s.history.now s.list.now (joined (map arc_value s.tables.now)) s.flushed c.requires.settled (c.is_list_part.ensures.part.0 c.if-not-is_list_part.false) (parts.0 is),
+      λ is. all_part s.history.now s.list.now (joined (map arc_value s.tables.now)) s.flushed c.requires.fixed (c.is_list_part.ensures.part.0 c.if-not-is_list_part.false) (parts.0 is),
       λ every. parts.1 (stored_part s.history.now s.list.now (joined (map arc_value s.tables.now)) s.flushed every),
     )) c.are_tables_part.ensures

@@ -3,7 +3,7 @@ use Rattle.std.specs.List.{list_any}
 use Rattle.std.proofs.lemmas.Bool.{eq-eqb}
 use Rattle.std.proofs.lemmas.List.Folds.{list_any_at}
 use Rattle.wp_model.specs.declared.change.Change.{Change}
-use Rattle.wp_history.proofs.Undecided.{is_undecided_by_list}
+use Rattle.wp_history_laws.proofs.Undecided.{is_undecided_by_list}
 use Rattle.wp_cover.specs.Present.{HasChanges}
 use Rattle.wp_cover.specs.Sources.{all_of}
 use Rattle.wp_cover.proofs.Presence.{batches_parts, batches_from}

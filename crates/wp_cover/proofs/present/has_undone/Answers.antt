@@ -1,6 +1,6 @@
 use Rattle.std.proofs.Common.{ℕ, sym, subst}
 use Rattle.std.specs.Bool.{Decides}
-use Rattle.wp_ledger.proofs.Full.{undone_at_later, none_at_later}
+use Rattle.wp_history.proofs.Full.{undone_at_later, none_at_later}
 use Rattle.wp_cover.specs.Present.{HasChanges}
 use Rattle.wp_cover.specs.Sources.{all_of}
 use Rattle.wp_cover.proofs.Based.{last_behind}

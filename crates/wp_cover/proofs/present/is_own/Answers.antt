@@ -2,8 +2,8 @@ use Rattle.std.proofs.Common.{Some, refl, sym, ap, ◌∙◌, inl, inr}
 use Rattle.wp_model.specs.Decision.{entry_version}
 use Rattle.wp_cover.proofs.present.is_own.Goals as goal
 
-pub returns-then-is_settled : goal.returns-then-is_settled
-returns-then-is_settled c = (λ _. inl (sym c.is_settled.ensures.value ∙ c.if-is_settled.true), λ _. refl)
+pub returns-then-is_fixed : goal.returns-then-is_fixed
+returns-then-is_fixed c = (λ _. inl (sym c.is_fixed.ensures.value ∙ c.if-is_fixed.true), λ _. refl)
 
 pub returns : goal.returns
 returns c =
@@ -11,7 +11,7 @@ returns c =
     let value = ap (λ v. Some v) (c.bytes_of.ensures ∙ c.as_ref.ensures.value) in (
       λ yes. inr (sym due ∙ c.are_same.ensures.0 yes ∙ value),
       λ own. elim own [
-        | inl settled ↦ let no = sym c.is_settled.ensures.value ∙ c.if-is_settled.false in absurd cc
+        | inl fixed ↦ let no = sym c.is_fixed.ensures.value ∙ c.if-is_fixed.false in absurd cc
         | inr is ↦ c.are_same.ensures.1 (due ∙ is ∙ sym value)
       ],
     )

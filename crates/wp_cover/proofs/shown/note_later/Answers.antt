@@ -2,7 +2,7 @@ use Rattle.std.proofs.Common.{◌≡◌, ◌+◌, ◌-◌, ◌<◌, ◌≤◌, �
 use Rattle.std.proofs.lemmas.List.{drop_all}
 use Rattle.wp_model.specs.declared.entry.Entry.{Entry}
 use Rattle.wp_model.specs.Flushed.{versions_after}
-use Rattle.wp_ledger.proofs.Full.{later_at}
+use Rattle.wp_history.proofs.Full.{later_at}
 use Rattle.wp_cover.proofs.Places.{next_item}
 use Rattle.wp_cover.proofs.Shows.{later_noted, none_noted}
 use Rattle.wp_cover.proofs.shown.note_later.Goals as goal

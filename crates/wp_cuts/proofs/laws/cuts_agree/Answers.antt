@@ -1,4 +1,4 @@
-use Rattle.wp_history.proofs.Growth.{legal_naming}
+use Rattle.wp_history_laws.proofs.Growth.{legal_naming}
 use Rattle.wp_cuts.proofs.Agreeing.{cuts_agree}
 use Rattle.wp_cuts.proofs.laws.cuts_agree.Goals as goal
 

@@ -1,6 +1,6 @@
 use Rattle.wp_cuts.proofs.FullList.{full_is_cut, full_value, full_long, full_carried, full_undecided, full_behind}
 use Rattle.wp_cuts.proofs.Several.{full_grows}
-use Rattle.wp_cuts.proofs.Whole.{full_undone, full_front, full_rest, full_settled}
+use Rattle.wp_cuts.proofs.Whole.{full_undone, full_front, full_rest, full_fixed}
 use Rattle.wp_cuts.proofs.laws.full_list_has_the_cut.Goals as goal
 
 pub returns-clause-cut : goal.returns-clause-cut
@@ -24,8 +24,8 @@ returns-clause-behind c = full_behind
 pub returns-clause-grows : goal.returns-clause-grows
 returns-clause-grows c = full_grows
 
-pub returns-clause-settled : goal.returns-clause-settled
-returns-clause-settled c = full_settled
+pub returns-clause-fixed : goal.returns-clause-fixed
+returns-clause-fixed c = full_fixed
 
 pub returns-clause-undone : goal.returns-clause-undone
 returns-clause-undone c = full_undone

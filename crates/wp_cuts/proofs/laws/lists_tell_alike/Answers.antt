@@ -1,5 +1,5 @@
 use Rattle.std.proofs.Common.{sym, ◌∙◌}
-use Rattle.wp_history.proofs.Growth.{legal_naming}
+use Rattle.wp_history_laws.proofs.Growth.{legal_naming}
 use Rattle.wp_cuts.specs.Cut.{full_of}
 use Rattle.wp_cuts.proofs.Fronts.{tell_alike}
 use Rattle.wp_cuts.proofs.FullList.{full_is_cut, full_value}

@@ -1,4 +1,4 @@
-use Rattle.wp_history.proofs.Growth.{legal_naming}
+use Rattle.wp_history_laws.proofs.Growth.{legal_naming}
 use Rattle.wp_cuts.proofs.Several.{all_orderly_to, all_orderly_from}
 use Rattle.wp_cuts.proofs.Standing.{orderly_to, orderly_from}
 use Rattle.wp_cuts.proofs.laws.what_may_follow_a_cut.Goals as goal

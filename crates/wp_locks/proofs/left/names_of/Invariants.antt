@@ -3,8 +3,8 @@ use Rattle.std.specs.List.{flat_map}
 use Rattle.std.specs.FinMap.{from_entries}
 use Rattle.wp_model.specs.Batch.{key_cmp}
 use Rattle.wp_model.specs.History.{undecided, entry_at}
-use Rattle.wp_history.specs.Prepares.{prepare_of}
-use Rattle.wp_history.proofs.Opened.{name_left}
+use Rattle.wp_history_laws.specs.Prepares.{prepare_of}
+use Rattle.wp_history_laws.proofs.Opened.{name_left}
 use Rattle.wp_locks.proofs.left.names_of.Given as goal
 
 -- the names of the last prepares are there

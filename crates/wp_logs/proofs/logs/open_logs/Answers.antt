@@ -1,5 +1,5 @@
 use Rattle.std.proofs.Common.{◌≡◌, ◌≢◌, [], inl, inr, refl, sym, ap, ◌∙◌, arith}
-use Rattle.wp_ledger.specs.Outline.{cut_in}
+use Rattle.wp_history.specs.Outline.{cut_in}
 use Rattle.wp_manifest.specs.Edit.{place_of}
 use Rattle.wp_refused.proofs.BothOpen.{log_left, log_refused, logs_made, logs_new, manifest_left, manifest_refused, new_refused, place_refused}
 use Rattle.wp_refused.proofs.Stages.{cause_since, edits_read, kept_since, none_read, none_there, seen_durable}

@@ -2,8 +2,8 @@ use Rattle.std.proofs.Common.{ap, ◌∙◌}
 use Rattle.std.proofs.lemmas.List.{take_all}
 use Rattle.std.specs.List.{flat_map}
 use Rattle.wp_model.specs.History.{entry_at, undecided}
-use Rattle.wp_history.specs.Prepares.{prepare_of}
-use Rattle.wp_history.proofs.Opened.{keys_left}
+use Rattle.wp_history_laws.specs.Prepares.{prepare_of}
+use Rattle.wp_history_laws.proofs.Opened.{keys_left}
 use Rattle.wp_machine.proofs.Opened.{pieces_more}
 use Rattle.wp_machine.proofs.left.keys_left.Goals as goal
 

@@ -1,8 +1,8 @@
 use Rattle.std.proofs.Common.{◌≡◌, take}
 use Rattle.std.specs.List.{flat_map}
 use Rattle.wp_model.specs.History.{entry_at, undecided}
-use Rattle.wp_history.specs.Prepares.{prepare_of}
-use Rattle.wp_history.proofs.Opened.{name_left}
+use Rattle.wp_history_laws.specs.Prepares.{prepare_of}
+use Rattle.wp_history_laws.proofs.Opened.{name_left}
 use Rattle.wp_machine.proofs.left.names_left.Given as goal
 
 abbrev pub invariant-loop-p : goal.invariant-loop-p

@@ -1,7 +1,7 @@
 use Rattle.std.proofs.Common.{sym, ◌∙◌}
 use Rattle.wp_shared.proofs.Onward.{goes_none}
 use Rattle.wp_maint.proofs.Found.{held_first}
-use Rattle.wp_maint.proofs.Onward.{found_halted, holds_being, settled_being}
+use Rattle.wp_maint.proofs.Onward.{found_halted, holds_being, in_step_being}
 use Rattle.wp_maint.proofs.flushing.flush_in.Goals as goal
 
 pub find_edits-requires-clause-held : goal.find_edits-requires-clause-held
@@ -12,10 +12,10 @@ returns-then-is_halted-clause-holds g c =
     let e = c.args.edits.now in let k = c.find_edits.ensures e.table (held_first c.args.seat.now e.table c.requires.holds.turn.held) in
     holds_being c.args.store.now c.args.seat.now c.find_edits.new.seat _ k.is e c.requires.holds
 
-pub returns-then-is_halted-clause-settled : goal.returns-then-is_halted-clause-settled
-returns-then-is_halted-clause-settled g c =
+pub returns-then-is_halted-clause-in_step : goal.returns-then-is_halted-clause-in_step
+returns-then-is_halted-clause-in_step g c =
     let e = c.args.edits.now.table in let k = c.find_edits.ensures e (held_first c.args.seat.now e c.requires.holds.turn.held) in
-    settled_being c.args.store.now c.args.seat.now c.find_edits.new.seat _ k.is e.last c.requires.settled
+    in_step_being c.args.store.now c.args.seat.now c.find_edits.new.seat _ k.is e.last c.requires.in_step
 
 pub returns-then-is_halted-clause-says : goal.returns-then-is_halted-clause-says
 returns-then-is_halted-clause-says g c =

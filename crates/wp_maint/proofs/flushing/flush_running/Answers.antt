@@ -9,21 +9,21 @@ use Rattle.wp_shared.specs.Seats.{SeatState}
 use Rattle.wp_shared.proofs.Onward.{starts_same, loose_under, goes_still}
 use Rattle.wp_maint.specs.Flush.{Freezes}
 use Rattle.wp_maint.proofs.Found.{held_first}
-use Rattle.wp_maint.proofs.Onward.{goes_saw, goes_more, found_nothing, holds_being, settled_being, settled_on, still_edits, seat_still, saw_so, flushes_so}
+use Rattle.wp_maint.proofs.Onward.{goes_saw, goes_more, found_nothing, holds_being, in_step_being, in_step_on, still_edits, seat_still, saw_so, flushes_so}
 use Rattle.wp_maint.proofs.flushing.flush_running.Goals as goal
 
 pub find_edits-requires-clause-held : goal.find_edits-requires-clause-held
 find_edits-requires-clause-held g c = let e = c.args.edits.now.table in (e, held_first c.freeze_all.new.seat e (ap (λ (x : SeatState). x.knows.held) c.freeze_all.ensures.goes.same))
 
-pub flush_frozen-requires-clause-settled : goal.flush_frozen-requires-clause-settled
-flush_frozen-requires-clause-settled g c =
+pub flush_frozen-requires-clause-in_step : goal.flush_frozen-requires-clause-in_step
+flush_frozen-requires-clause-in_step g c =
     let s = c.args.seat.now in let u = c.freeze_all.new.seat in let e = c.args.edits.now.table in
-    settled_on (seeing u.knows.participant.seen s) u (is_under write_turn) (installed e ∷ []) s.turns refl (λ versions floor. refl) c.freeze_all.ensures.goes e.last c.requires.settled
+    in_step_on (seeing u.knows.participant.seen s) u (is_under write_turn) (installed e ∷ []) s.turns refl (λ versions floor. refl) c.freeze_all.ensures.goes e.last c.requires.in_step
 
-pub returns-in_default-clause-settled : goal.returns-in_default-clause-settled
-returns-in_default-clause-settled g c =
+pub returns-in_default-clause-in_step : goal.returns-in_default-clause-in_step
+returns-in_default-clause-in_step g c =
     let s = c.args.seat.now in let u = c.freeze_all.new.seat in let e = c.args.edits.now.table in
-    settled_on (seeing u.knows.participant.seen s) u (is_under write_turn) (installed e ∷ []) s.turns refl (λ versions floor. refl) c.freeze_all.ensures.goes e.last c.requires.settled
+    in_step_on (seeing u.knows.participant.seen s) u (is_under write_turn) (installed e ∷ []) s.turns refl (λ versions floor. refl) c.freeze_all.ensures.goes e.last c.requires.in_step
 
 pub returns-in_default-clause-says : goal.returns-in_default-clause-says
 returns-in_default-clause-says g c =
@@ -36,11 +36,11 @@ returns-in_default-found-clause-holds g c =
     let same = c.freeze_all.ensures.goes.same in let k = c.find_edits.ensures e (held_first u e (ap (λ (x : SeatState). x.knows.held) same)) in
     holds_being z u v _ k.is c.args.edits.now (still_edits c.requires.holds c.freeze_all.ensures.goes)
 
-pub returns-in_default-found-clause-settled : goal.returns-in_default-found-clause-settled
-returns-in_default-found-clause-settled g c =
+pub returns-in_default-found-clause-in_step : goal.returns-in_default-found-clause-in_step
+returns-in_default-found-clause-in_step g c =
     let z = c.args.store.now in let s = c.args.seat.now in let u = c.freeze_all.new.seat in let v = c.find_edits.new.seat in let e = c.args.edits.now.table in
     let k = c.find_edits.ensures e (held_first u e (ap (λ (x : SeatState). x.knows.held) c.freeze_all.ensures.goes.same)) in
-    settled_being z u v _ k.is e.last (settled_on (seeing u.knows.participant.seen s) u (is_under write_turn) (installed e ∷ []) s.turns refl (λ versions floor. refl) c.freeze_all.ensures.goes e.last c.requires.settled)
+    in_step_being z u v _ k.is e.last (in_step_on (seeing u.knows.participant.seen s) u (is_under write_turn) (installed e ∷ []) s.turns refl (λ versions floor. refl) c.freeze_all.ensures.goes e.last c.requires.in_step)
 
 pub returns-in_default-found-clause-says : goal.returns-in_default-found-clause-says
 returns-in_default-found-clause-says g c =
@@ -61,10 +61,10 @@ flush_frozen-requires-clause-whole g c =
     saw_so c.args.store.now u s u.knows.participant.seen u.knows.participant.seen (ap (λ (x : SeatState). x.by) same, ap (λ (x : SeatState). x.knows.made) same, ap (λ (x : SeatState). x.knows.joined) same) (ap (λ (x : SeatState). x.knows.participant.past) same) refl c.freeze_all.ensures.whole
 
 -- memory was wanting for what was frozen
-pub returns-in_default-merged-clause-settled : goal.returns-in_default-merged-clause-settled
-returns-in_default-merged-clause-settled g c =
+pub returns-in_default-merged-clause-in_step : goal.returns-in_default-merged-clause-in_step
+returns-in_default-merged-clause-in_step g c =
     let s = c.args.seat.now in let u = c.freeze_all.new.seat in let e = c.args.edits.now.table in
-    settled_on (seeing u.knows.participant.seen s) u (is_under write_turn) (installed e ∷ []) s.turns refl (λ versions floor. refl) c.freeze_all.ensures.goes e.last c.requires.settled
+    in_step_on (seeing u.knows.participant.seen s) u (is_under write_turn) (installed e ∷ []) s.turns refl (λ versions floor. refl) c.freeze_all.ensures.goes e.last c.requires.in_step
 
 pub returns-in_default-merged-clause-says : goal.returns-in_default-merged-clause-says
 returns-in_default-merged-clause-says g c =

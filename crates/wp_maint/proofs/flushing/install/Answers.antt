@@ -51,8 +51,8 @@ returns-in-Ok-clause-installed g c =
       holds = still_holds z s u e left _ is_of_flushed c.requires.holds (c.install_flush.ensures.changes e.table c.requires.holds.turn.held).goes c.in-Ok.ensures.first;
       changes = subst (λ (l : InstalledEdit). Changes z s e.table left.table (event.installed l false) is_of_flushed u) (last ∙ same) (c.install_flush.ensures.changes e.table c.requires.holds.turn.held);
       survives = subst (SurvivesInstall e left) (ap (λ (vs : List Version). with_table vs f.at e.table.last) c.requires.versions ∙ same) c.in-Ok.ensures.survives;
-      edits = c.shows_told.ensures.edits;
-      still_edits = c.shows_told-in-Ok.ensures.edits;
+      edits = c.devices_agree.ensures.edits;
+      still_edits = c.devices_agree-in-Ok.ensures.edits;
       stands = c.install_flush.ensures.stands;
     }
 
@@ -66,8 +66,8 @@ returns-in-Err-Fault-clause-refused g c =
       asked = asked_of (λ edit. edit ≡ next) (with_table (versions_of f) f.at e.table.last) left.table.failed (same_edit s.knows e.table f c.requires.frozen) k.1;
       holds = still_holds z s u e left _ no_fact c.requires.holds changes.goes c.in-Err-Fault.ensures.first;
       changes = subst (λ (l : InstalledEdit). Changes z s e.table left.table (tables_failed l left.table.failed) no_fact u) (ap (λ (x : Installed). x.last) k.0 ∙ failed_last e.table left.table.failed) changes;
-      edits = c.shows_told.ensures.edits;
-      still_edits = c.shows_told-in-Err-Fault.ensures.edits;
+      edits = c.devices_agree.ensures.edits;
+      still_edits = c.devices_agree-in-Err-Fault.ensures.edits;
       stands = c.halt.ensures.stands;
       fault = subst (HadCause e.set left.set) c.in-Err-Fault.field-0-is c.in-Err-Fault.ensures.cause;
       survives = subst (SurvivesInstall e left) (ap (λ (vs : List Version). with_table vs f.at e.table.last) c.requires.versions ∙ same_edit s.knows e.table f c.requires.frozen) c.in-Err-Fault.ensures.survives;

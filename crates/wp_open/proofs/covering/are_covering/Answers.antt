@@ -8,12 +8,12 @@ use Rattle.wp_model.specs.Flushed.{later_versions}
 use Rattle.wp_model.specs.Legal.{IsLegal}
 use Rattle.wp_cuts.specs.LegalCut.{AreNumbered}
 use Rattle.wp_cuts.proofs.Standing.{cut_numbered}
-use Rattle.wp_ledger.specs.Outline.{cut_in}
+use Rattle.wp_history.specs.Outline.{cut_in}
 use Rattle.wp_merge.specs.Merge.{joined}
-use Rattle.wp_cover.specs.Sources.{AreSettled}
-use Rattle.wp_devices.specs.Opens.{AreCovering, history_over}
+use Rattle.wp_cover.specs.Sources.{AreFixed}
+use Rattle.wp_contents.specs.Opens.{AreCovering, history_over}
 use Rattle.wp_open.proofs.AllVersions.{covering_is}
-use Rattle.wp_open.proofs.Base.{settled_own}
+use Rattle.wp_open.proofs.Base.{fixed_own}
 use Rattle.wp_open.proofs.OwnVersions.{all_in_memory}
 use Rattle.wp_open.proofs.covering.are_covering.Goals as goal
 
@@ -29,13 +29,13 @@ returns-then-is_all_in_memory c =
       λ _. refl,
     )
 
-pub tables_cover-requires-clause-settled : goal.tables_cover-requires-clause-settled
-tables_cover-requires-clause-settled c =
+pub tables_cover-requires-clause-fixed : goal.tables_cover-requires-clause-fixed
+tables_cover-requires-clause-fixed c =
     let h = c.args.history.now in
     let store = c.args.store.now in
     let numbered : AreNumbered (cut_in h) = cut_numbered h.entries (cut_in h) c.shows_cut.ensures.cut in
     let tables_are : joined store.tables ≡ joined (map arc_value c.deref.result.now) = sym (ap (λ ts. joined (map arc_value ts)) c.deref.ensures.value ∙ ap joined c.in_ok-tables.ensures) in
-    subst (λ (vs : List Version). AreSettled h (vs ++ later_versions h.entries c.args.flushed)) tables_are (settled_own (cut_in h) store.tables numbered h c.args.flushed refl c.requires.full c.requires.base)
+    subst (λ (vs : List Version). AreFixed h (vs ++ later_versions h.entries c.args.flushed)) tables_are (fixed_own (cut_in h) store.tables numbered h c.args.flushed refl c.requires.full c.requires.base)
 
 pub returns : goal.returns
 returns c = λ edit same.

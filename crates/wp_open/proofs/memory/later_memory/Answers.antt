@@ -3,7 +3,7 @@ use Rattle.std.proofs.lemmas.List.{drop_all}
 use Rattle.std.proofs.Math.Seq.{drop-cons}
 use Rattle.wp_model.specs.declared.entry.Entry.{Entry}
 use Rattle.wp_model.specs.Flushed.{later_versions}
-use Rattle.wp_ledger.proofs.Full.{later_at}
+use Rattle.wp_history.proofs.Full.{later_at}
 use Rattle.wp_open.proofs.Later.{AreTaken, none_taken, one_taken, all_taken}
 use Rattle.wp_open.proofs.memory.later_memory.Goals as goal
 

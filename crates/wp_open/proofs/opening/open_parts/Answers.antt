@@ -3,13 +3,13 @@ use Rattle.std.specs.List.{AllByRecursion}
 use Rattle.wp_outside.specs.Disk.{IfKnown}
 use Rattle.wp_outside.specs.Faults.{Rose}
 use Rattle.wp_cuts.specs.Cut.{Cut}
-use Rattle.wp_ledger.specs.Outline.{cut_in}
+use Rattle.wp_history.specs.Outline.{cut_in}
 use Rattle.wp_wal.specs.Opening.{IsOpenedLog}
 use Rattle.wp_manifest.specs.Edit.{Edit, place_of}
 use Rattle.wp_manifest.specs.Spelling.{last_edit}
 use Rattle.wp_table.specs.File.{HasTables}
 use Rattle.wp_table.specs.Table.{IsTable}
-use Rattle.wp_devices.specs.Devices.{DevicesLeft, devices_of}
+use Rattle.wp_contents.specs.Devices.{DevicesLeft, devices_of}
 use Rattle.wp_refused.specs.Parts.{IsStoreOf}
 use Rattle.wp_refused.specs.Refused.{AreLeft, WereRead}
 use Rattle.wp_refused.specs.Tables.{IsStoreCause}

@@ -7,12 +7,12 @@ use Rattle.wp_model.specs.Flushed.{later_versions}
 use Rattle.wp_outside.specs.Disk.{IfKnown}
 use Rattle.wp_cuts.specs.Cut.{Cut}
 use Rattle.wp_cuts.specs.LegalCut.{AreBelow}
-use Rattle.wp_ledger.specs.Outline.{cut_in}
+use Rattle.wp_history.specs.Outline.{cut_in}
 use Rattle.wp_manifest.specs.Edit.{Edit}
 use Rattle.wp_merge.specs.Merge.{sorted_of}
 use Rattle.wp_table.specs.File.{HasTables}
 use Rattle.wp_table.specs.Table.{IsTable}
-use Rattle.wp_devices.specs.Opens.{AreCovering, all_in}
+use Rattle.wp_contents.specs.Opens.{AreCovering, all_in}
 use Rattle.wp_refused.specs.Tables.{not_covered, of_tables}
 use Rattle.wp_refused.proofs.Stages.{not_covering, were_tables}
 use Rattle.wp_open.proofs.Within.{apart_cause, apart_left, end_over, full_moved, history_cause, history_left, tables_before, tables_left, undos_over}

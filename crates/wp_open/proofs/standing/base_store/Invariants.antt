@@ -1,5 +1,5 @@
 use Rattle.std.proofs.Common.{length}
-use Rattle.wp_ledger.specs.Outline.{cut_in}
+use Rattle.wp_history.specs.Outline.{cut_in}
 use Rattle.wp_open.proofs.OverTables.{AreTaken}
 use Rattle.wp_open.proofs.standing.base_store.Given as goal
 

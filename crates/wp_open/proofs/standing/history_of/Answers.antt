@@ -1,8 +1,8 @@
 use Rattle.std.proofs.Common.{List, [], ap, ◌∙◌, map}
 use Rattle.std.specs.Arc.{arc_value}
 use Rattle.wp_model.specs.declared.version.Version.{Version}
-use Rattle.wp_ledger.specs.History.{RoomyHistory}
-use Rattle.wp_ledger.specs.Outline.{cut_in, full_with}
+use Rattle.wp_history.specs.History.{RoomyHistory}
+use Rattle.wp_history.specs.Outline.{cut_in, full_with}
 use Rattle.wp_open.proofs.OverTables.{below_either, cause_over, cut_over, full_either, is_below, not_below, not_either, values_over, wrong_over}
 use Rattle.wp_open.proofs.standing.history_of.Goals as goal
 

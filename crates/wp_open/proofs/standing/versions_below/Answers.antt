@@ -4,9 +4,9 @@ use Rattle.std.proofs.lemmas.Result.{IfOk-weaker}
 use Rattle.wp_model.specs.Versions.{AreInOrder}
 use Rattle.wp_model.proofs.VersionLists.{in_order_nil}
 use Rattle.wp_cuts.proofs.Standing.{cut_numbered}
-use Rattle.wp_ledger.specs.Outline.{cut_in}
+use Rattle.wp_history.specs.Outline.{cut_in}
 use Rattle.wp_merge.specs.Merge.{AreMerged}
-use Rattle.wp_devices.specs.Opens.{all_in}
+use Rattle.wp_contents.specs.Opens.{all_in}
 use Rattle.wp_open.proofs.Base.{has_cut}
 use Rattle.wp_open.proofs.standing.versions_below.Goals as goal
 

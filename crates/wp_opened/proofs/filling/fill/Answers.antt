@@ -18,4 +18,4 @@ unwrap-requires-6 g c =
     c.push-6.ensures.succeeds (omega (arith, c.requires.slots.1, c.push.ensures.upper_bound, c.push.ensures.capacity, c.push-2.ensures.upper_bound, c.push-2.ensures.capacity, c.push-3.ensures.upper_bound, c.push-3.ensures.capacity, c.push-4.ensures.upper_bound, c.push-4.ensures.capacity, c.push-5.ensures.upper_bound, c.push-5.ensures.capacity))
 
 pub returns-clause-log : goal.returns-clause-log
-returns-clause-log g c = subst (λ (l : LogState). LogStands l) c.deref.ensures (c.shows_told.ensures.tells, c.shows_told.ensures.next)
+returns-clause-log g c = subst (λ (l : LogState). LogStands l) c.deref.ensures (c.devices_agree.ensures.tells, c.devices_agree.ensures.next)

@@ -1,6 +1,6 @@
 use Rattle.std.proofs.Common.{ap, ◌∙◌}
 use Rattle.wp_parts.specs.Devices.{devices_behind}
-use Rattle.wp_parts.specs.Edits.{EditsState}
+use Rattle.wp_parts.specs.VersionSet.{VersionSetState}
 use Rattle.wp_parts.specs.Log.{LogState}
 use Rattle.wp_parts.proofs.FlushedVersions.{tables_flushed}
 use Rattle.wp_refused.specs.Parts.{stored_cut}
@@ -30,14 +30,14 @@ new-log-requires-clause-stores g c =
 
 pub returns-in_default-clause-refused : goal.returns-in_default-clause-refused
 returns-in_default-clause-refused g c =
-    c.take_apart.ensures.disks ∙ (λ i. devices_behind (ap (λ (l : LogState). l.wal) c.new-log.ensures i) ((ap (λ (e : EditsState). e.set) c.new-edits.ensures ∙ c.new-2.ensures.set) i))
+    c.take_apart.ensures.disks ∙ (λ i. devices_behind (ap (λ (l : LogState). l.wal) c.new-log.ensures i) ((ap (λ (e : VersionSetState). e.set) c.new-edits.ensures ∙ c.new-2.ensures.set) i))
 
 pub returns-in-Err-clause-refused : goal.returns-in-Err-clause-refused
 returns-in-Err-clause-refused g c =
     c.take_apart-in-Err.ensures.disks
-    ∙ (λ i. devices_behind (ap (λ (l : LogState). l.wal) (c.in-Err.ensures.value_returned ∙ c.new-log.ensures) i) ((ap (λ (e : EditsState). e.set) c.new-edits.ensures ∙ c.new-2.ensures.set) i))
+    ∙ (λ i. devices_behind (ap (λ (l : LogState). l.wal) (c.in-Err.ensures.value_returned ∙ c.new-log.ensures) i) ((ap (λ (e : VersionSetState). e.set) c.new-edits.ensures ∙ c.new-2.ensures.set) i))
 
 pub returns-in-Err-new-clause-refused : goal.returns-in-Err-new-clause-refused
 returns-in-Err-new-clause-refused g c =
     c.take_apart-in-Err-new.ensures.disks
-    ∙ (λ i. devices_behind (ap (λ (l : LogState). l.wal) (c.into_inner.ensures ∙ c.in-Ok-new.ensures.ok ∙ c.new-log.ensures) i) ((ap (λ (e : EditsState). e.set) (c.in-Err-new.ensures.value_returned ∙ c.new-edits.ensures) ∙ c.new-2.ensures.set) i))
+    ∙ (λ i. devices_behind (ap (λ (l : LogState). l.wal) (c.into_inner.ensures ∙ c.in-Ok-new.ensures.ok ∙ c.new-log.ensures) i) ((ap (λ (e : VersionSetState). e.set) (c.in-Err-new.ensures.value_returned ∙ c.new-edits.ensures) ∙ c.new-2.ensures.set) i))

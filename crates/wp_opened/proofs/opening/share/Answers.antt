@@ -1,5 +1,5 @@
 use Rattle.std.proofs.Common.{refl, ap, ◌∙◌}
-use Rattle.wp_ledger.specs.History.{RoomyHistory}
+use Rattle.wp_history.specs.History.{RoomyHistory}
 use Rattle.wp_parts.specs.Parts.{log_first, set_first}
 use Rattle.wp_opened.proofs.OpeningLemmas.{has_cut}
 use Rattle.wp_opened.proofs.Opened.{one_store, segment_named, log_there, set_there, last_edit_is, last_guarded, first_guarded, devices_back}

@@ -8,7 +8,7 @@ use Rattle.wp_model.specs.History.{newest}
 use Rattle.wp_model.specs.Legal.{change_that_leaves, prior}
 use Rattle.wp_core.specs.Lists.{IsIn}
 use Rattle.wp_core.specs.World.{Participant}
-use Rattle.wp_history.proofs.Prior.{prior_more, prior_is_not_full}
+use Rattle.wp_history_laws.proofs.Prior.{prior_more, prior_is_not_full}
 use Rattle.wp_shared.proofs.Onward.{continues_still}
 use Rattle.wp_read.proofs.priors.prior.Goals as goal
 

@@ -22,10 +22,10 @@ give_turn-requires-clause-holds g c = ([], [], holds_on c.release_in.ensures.4.h
 
 pub returns : goal.returns
 returns g c =
-    let k = c.release_in.ensures in let first = c.take_turn-snaps.ensures.taken in let settled = c.settle_old_flag.ensures.seat in (
+    let k = c.release_in.ensures in let first = c.take_turn-snaps.ensures.taken in let in_step = c.settle_old_flag.ensures.seat in (
       k.0,
       k.1,
       subst (λ (s : SeatState). s.knows.participant.registered ≡ k.0 ++ c.args.snapshot ∷ k.1) first.goes.same k.2,
       k.3,
-      continues_one (k.0 ++ k.1) first k.4 settled (c.give_turn.ensures [] [] (holds_on k.4.holds settled)),
+      continues_one (k.0 ++ k.1) first k.4 in_step (c.give_turn.ensures [] [] (holds_on k.4.holds in_step)),
     )

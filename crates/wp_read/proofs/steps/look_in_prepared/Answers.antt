@@ -1,7 +1,7 @@
 use Rattle.std.proofs.Common.{◌≡◌, length, ap, sym, ◌∙◌, Some}
 use Rattle.std.specs.FinSet as set
 use Rattle.std.specs.FinMap as finite
-use Rattle.wp_model.specs.PreparedTables.{PreparedTables}
+use Rattle.wp_model.specs.PreparedSets.{PreparedSets}
 use Rattle.wp_judge.specs.declared.observed.InPrepared.{InPrepared}
 use Rattle.wp_judge.specs.declared.observed.Load.TheVariants as variant
 use Rattle.wp_core.specs.Changes.{found_in}
@@ -20,5 +20,5 @@ returns g c =
     load_made c.args.store.now (λ (w : World). c.make.result ≡ length w.writes.history) c.args.seat.now c.make.new.seat variant.InPrepared c.args.seen.now _ c.requires.next
     (λ w k so.
     ap (λ (x : InPrepared). record c.args.seen.now { in_prepared = Some x }) (c.found.ensures ∙
-    ap (λ (t : PreparedTables). found_in (set.contains t.delayed c.args.seen.now.version) (finite.get t.delayed_commits c.args.seen.now.version)) (sym (held_table (place_at c.args.store.now c.args.seat.now.by) c.args.seat.now.knows w (prepared c.args.tables.now) k c.requires.held))))
+    ap (λ (t : PreparedSets). found_in (set.contains t.delayed c.args.seen.now.version) (finite.get t.delayed_commits c.args.seen.now.version)) (sym (held_table (place_at c.args.store.now c.args.seat.now.by) c.args.seat.now.knows w (prepared c.args.tables.now) k c.requires.held))))
     c.make.ensures.same c.make.ensures.moved

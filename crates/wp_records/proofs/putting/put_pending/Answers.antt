@@ -3,7 +3,7 @@ use Rattle.std.specs.Prelude.{Result, Err}
 use Rattle.std.proofs.lemmas.Result.{err_from_is_err_and}
 use Rattle.wp_model.specs.declared.entry.Entry.{Entry}
 use Rattle.wp_wal.specs.Wal.{WalState}
-use Rattle.wp_core.specs.Tables.{WriteTable}
+use Rattle.wp_core.specs.Tables.{WriteState}
 use Rattle.wp_core.specs.Views.{pair_not_delayed}
 use Rattle.wp_rule.specs.Knows.{Noted}
 use Rattle.wp_shared.specs.Log.{LogState}
@@ -29,10 +29,10 @@ pub append-requires-clause-undelayed : goal.append-requires-clause-undelayed
 append-requires-clause-undelayed g c = subst (λ (x : SeatState). Noted x.knows pair_not_delayed) (sym c.shows_world.ensures.same) c.ready.ensures.undelayed
 
 pub publish_all-requires-clause-some : goal.publish_all-requires-clause-some
-publish_all-requires-clause-some g c = let l = c.in_ok-append.ensures {u = tt} in subst (λ (e : List Entry). e ≢ []) (sym (ap (λ (x : WriteTable). x.pending) l.table)) c.requires.unlogged.some
+publish_all-requires-clause-some g c = let l = c.in_ok-append.ensures {u = tt} in subst (λ (e : List Entry). e ≢ []) (sym (ap (λ (x : WriteState). x.pending) l.table)) c.requires.unlogged.some
 
 pub publish_all-requires-clause-running : goal.publish_all-requires-clause-running
-publish_all-requires-clause-running g c = let l = c.in_ok-append.ensures {u = tt} in ap (λ (x : WriteTable). x.closed) l.table ∙ c.requires.unlogged.running
+publish_all-requires-clause-running g c = let l = c.in_ok-append.ensures {u = tt} in ap (λ (x : WriteState). x.closed) l.table ∙ c.requires.unlogged.running
 
 pub publish_all-requires-clause-may : goal.publish_all-requires-clause-may
 publish_all-requires-clause-may g c =

@@ -9,7 +9,7 @@ pub make_about-requires-clause-may : goal.make_about-requires-clause-may
 make_about-requires-clause-may g c = let s = c.args.seat.now in let log = c.args.log.now in let left = c.reserve.new.self in let ok = c.in-Ok.ensures.ok in
     may_begin (place_at c.args.store.now s.by) s.knows log.table left.table c.requires.holds.turn.held c.requires.holds.pending
     (begins_as log left c.into_entries.result.items ok) (begins_one log left c.into_entries.result.items ok c.into_entries.ensures.one)
-    (begins_legal log left c.args.entries (ok ∙ ap (λ (e : List Entry). record log.table { pending = e; logged = false }) c.into_entries.ensures.entries) c.requires.legal) c.shows_told.ensures.next
+    (begins_legal log left c.args.entries (ok ∙ ap (λ (e : List Entry). record log.table { pending = e; logged = false }) c.into_entries.ensures.entries) c.requires.legal) c.devices_agree.ensures.next
 
 pub make_about-requires-clause-client : goal.make_about-requires-clause-client
 make_about-requires-clause-client g c w = (tt, (tt, (tt, (tt, tt))))

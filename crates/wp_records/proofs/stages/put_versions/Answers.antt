@@ -6,7 +6,7 @@ use Rattle.wp_core.specs.Sound.Views.{IsNowhere}
 use Rattle.wp_core.specs.Views.{versions_in_memory}
 use Rattle.wp_shared.specs.Notes.{GoesOn}
 use Rattle.wp_rule.specs.Knows.{Noted}
-use Rattle.wp_shared.specs.Stock.{store_table}
+use Rattle.wp_shared.specs.Stock.{store_state}
 use Rattle.wp_commits.proofs.Clears.{on_ok}
 use Rattle.wp_commits.proofs.Through.{held_taken, holds_still, goes_through}
 use Rattle.wp_records.specs.Stages.{is_of_versions}
@@ -23,19 +23,19 @@ insert_versions-result-requires-clause-seat g c = c.take_turn-stock.ensures.take
 
 pub insert_versions-result-requires-clause-held : goal.insert_versions-result-requires-clause-held
 insert_versions-result-requires-clause-held g c = let z = c.args.store.now in let s = c.args.seat.now in let d = c.args.log.now.table in let t = c.take_turn-stock in
-    held_taken z s t.new.seat s (store (store_table t.result.value)) (store (store_table t.result.value)) (writes d ∷ []) c.requires.holds.turn.held t.ensures.taken ∙ ap (λ x. store (store_table x) ∷ writes d ∷ []) (sym c.deref_mut.ensures.value)
+    held_taken z s t.new.seat s (store (store_state t.result.value)) (store (store_state t.result.value)) (writes d ∷ []) c.requires.holds.turn.held t.ensures.taken ∙ ap (λ x. store (store_state x) ∷ writes d ∷ []) (sym c.deref_mut.ensures.value)
 
 pub insert_versions-result-requires-clause-nowhere : goal.insert_versions-result-requires-clause-nowhere
 insert_versions-result-requires-clause-nowhere g c = let z = c.args.store.now in let s = c.args.seat.now in let d = c.args.log.now.table in let t = c.take_turn-stock in
-    subst (λ x. IsNowhere d (store_table x)) (sym c.deref_mut.ensures.value) (nowhere_there z s t.new.seat (store_table t.result.value) d t.ensures.taken (subst (IsIn (writes d)) (sym c.requires.holds.turn.held) (inl refl)) c.requires.nowhere)
+    subst (λ x. IsNowhere d (store_state x)) (sym c.deref_mut.ensures.value) (nowhere_there z s t.new.seat (store_state t.result.value) d t.ensures.taken (subst (IsIn (writes d)) (sym c.requires.holds.turn.held) (inl refl)) c.requires.nowhere)
 
 pub give_turn-requires-clause-holds : goal.give_turn-requires-clause-holds
 give_turn-requires-clause-holds g c = let z = c.args.store.now in let s = c.args.seat.now in let d = c.args.log.now.table in let t = c.take_turn-stock in let u = c.insert_versions-result in
-    (writes d ∷ [], s.turns, holds_still z s t.new.seat u.new.seat (store (store_table t.result.value)) (store (store_table u.new.stock)) (writes d ∷ []) c.requires.holds.turn.held t.ensures.taken is_of_versions _ u.ensures.seat refl)
+    (writes d ∷ [], s.turns, holds_still z s t.new.seat u.new.seat (store (store_state t.result.value)) (store (store_state u.new.stock)) (writes d ∷ []) c.requires.holds.turn.held t.ensures.taken is_of_versions _ u.ensures.seat refl)
 
 pub returns : goal.returns
 returns g c = let z = c.args.store.now in let s = c.args.seat.now in let d = c.args.log.now.table in let t = c.take_turn-stock in let u = c.insert_versions-result in let v = c.give_turn.new.seat in
-    let before = store (store_table t.result.value) in let now = store (store_table u.new.stock) in
+    let before = store (store_state t.result.value) in let now = store (store_state u.new.stock) in
     let holds = holds_still z s t.new.seat u.new.seat before now (writes d ∷ []) c.requires.holds.turn.held t.ensures.taken is_of_versions _ u.ensures.seat refl in
     let gave = (c.give_turn.ensures (writes d ∷ []) s.turns holds).goes in
     let goes = goes_through z s t.new.seat u.new.seat before now (writes d ∷ []) c.requires.holds.turn.held t.ensures.taken is_of_versions _ u.ensures.seat refl store_turn v versions_under_store gave in

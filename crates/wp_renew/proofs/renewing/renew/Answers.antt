@@ -3,9 +3,9 @@ use Rattle.wp_core.specs.Tables.{installed}
 use Rattle.wp_core.specs.Turns.{tables_turn}
 use Rattle.wp_core.specs.World.{Participant}
 use Rattle.wp_rule.specs.Knows.{KnowsTables}
-use Rattle.wp_shared.specs.Edits.{EditsState, IsEdits}
+use Rattle.wp_shared.specs.VersionSet.{VersionSetState, IsEdits}
 use Rattle.wp_shared.specs.Parts.{EditsStand}
-use Rattle.wp_shared.specs.Calls.{GoesOnAs, Continues, remembering}
+use Rattle.wp_shared.specs.Calls.{GoesOnAs, Continues, with_events}
 use Rattle.wp_shared.specs.Notes.{no_fact, is_under}
 use Rattle.wp_shared.specs.Seats.{SeatState}
 use Rattle.wp_shared.proofs.Onward.{loose_none, loose_under, goes_same, goes_still, goes_free, holds_alone}
@@ -19,8 +19,8 @@ use Rattle.wp_renew.proofs.renewing.renew.Goals as goal
 pub renew_tables-result-requires-clause-holds : goal.renew_tables-result-requires-clause-holds
 renew_tables-result-requires-clause-holds g c = subst (HoldsEdits c.args.store.now c.take_turn-edits.new.seat) (sym c.deref_mut.ensures.value) (record { turn = holds_alone c.requires c.take_turn-edits.ensures.taken; of_store = c.take_turn-edits.ensures.of_store })
 
-pub renew_tables-result-requires-clause-settled : goal.renew_tables-result-requires-clause-settled
-renew_tables-result-requires-clause-settled g c = subst (λ (e : EditsState). KnowsTables c.take_turn-edits.new.seat.knows e.table.last) (sym c.deref_mut.ensures.value) c.take_turn-edits.ensures.taken.knows
+pub renew_tables-result-requires-clause-in_step : goal.renew_tables-result-requires-clause-in_step
+renew_tables-result-requires-clause-in_step g c = subst (λ (e : VersionSetState). KnowsTables c.take_turn-edits.new.seat.knows e.table.last) (sym c.deref_mut.ensures.value) c.take_turn-edits.ensures.taken.knows
 
 pub give_turn-requires-clause-holds : goal.give_turn-requires-clause-holds
 give_turn-requires-clause-holds g c = ([], [], c.renew_tables-result.ensures.holds.turn)
@@ -35,7 +35,7 @@ returns-clause-answers g c =
     let freed = given.free refl refl in let same = given.goes.same in (
       e,
       renews_so (GoesOnAs t u) (Continues z s v) z s t u v e (first.same_by, first.made, first.joined) (ap (λ (x : Participant). x.past) first.participant) first.seen (sym (ap (λ (x : SeatState). x.knows.participant.past) same)) last.seen
-          (λ events k. goes_free z s v (remembering events p) freed (goes_still s u v (remembering events p) (goes_more s t u p first events k) last))
+          (λ events k. goes_free z s v (with_events events p) freed (goes_still s u v (with_events events p) (goes_more s t u p first events k) last))
           (λ k. goes_free z s v p freed (goes_still s u v p (goes_still s t u p first k) last)) (sym (ap (λ (x : SeatState). x.knows.participant.seen) same)) c.renew_tables-result.result c.renew_tables-result.ensures.says,
     )
 
@@ -47,7 +47,7 @@ returns-clause-before_install g c =
     renewed_before z s v (LeavesOnce z s v) result answers
     (renewal_more
     (left_once z s t v before after taken.stands (ap (λ (x : SeatState). x.by) same, ap (λ (x : SeatState). x.knows.made) same, ap (λ (x : SeatState). x.knows.joined) same) (ap (λ (x : SeatState). x.knows.participant) same) (held_first t before.table holds.turn.held) holds.of_store c.renew_tables-result.ensures.holds.of_store
-    (subst IsEdits (sym c.deref_mut.ensures.value) (subst IsEdits c.deref.ensures c.shows_told.ensures.edits)) (subst IsEdits c.deref-2.ensures c.shows_told-2.ensures.edits) (renewed_grown z s v result answers))
+    (subst IsEdits (sym c.deref_mut.ensures.value) (subst IsEdits c.deref.ensures c.devices_agree.ensures.edits)) (subst IsEdits c.deref-2.ensures c.devices_agree-2.ensures.edits) (renewed_grown z s v result answers))
     result c.renew_tables-result.ensures.manifest)
 
 pub returns-clause-untouched : goal.returns-clause-untouched
@@ -57,6 +57,6 @@ returns-clause-untouched g c =
     let taken = c.take_turn-edits.ensures.taken in let same = taken.goes.same in let holds = subst (HoldsEdits z t) (sym c.deref_mut.ensures.value) (record { turn = holds_alone c.requires taken; of_store = c.take_turn-edits.ensures.of_store }) in
     devices_more
     (kept_once z s t v before after taken.stands (ap (λ (x : SeatState). x.by) same, ap (λ (x : SeatState). x.knows.made) same, ap (λ (x : SeatState). x.knows.joined) same) (ap (λ (x : SeatState). x.knows.participant) same) (held_first t before.table holds.turn.held) holds.of_store c.renew_tables-result.ensures.holds.of_store
-    (subst IsEdits (sym c.deref_mut.ensures.value) (subst IsEdits c.deref.ensures c.shows_told.ensures.edits)) (subst IsEdits c.deref-2.ensures c.shows_told-2.ensures.edits) (renewed_grown z s v result (returns-clause-answers g c))
-    (subst EditsStand (sym c.deref_mut.ensures.value) (subst EditsStand c.deref.ensures (c.shows_told.ensures.manifest, c.shows_told.ensures.tables))))
+    (subst IsEdits (sym c.deref_mut.ensures.value) (subst IsEdits c.deref.ensures c.devices_agree.ensures.edits)) (subst IsEdits c.deref-2.ensures c.devices_agree-2.ensures.edits) (renewed_grown z s v result (returns-clause-answers g c))
+    (subst EditsStand (sym c.deref_mut.ensures.value) (subst EditsStand c.deref.ensures (c.devices_agree.ensures.manifest, c.devices_agree.ensures.tables))))
     result c.renew_tables-result.ensures.untouched

@@ -5,8 +5,8 @@ use Rattle.wp_model.specs.declared.segment.Segment.{Segment}
 use Rattle.wp_core.specs.Lists.{IsIn}
 use Rattle.wp_core.specs.Tables.{writes, installed}
 use Rattle.wp_core.specs.Views.{stopped}
-use Rattle.wp_shared.specs.Calls.{GoesOnAs, remembering}
-use Rattle.wp_shared.specs.Notes.{being, no_fact, GoesOn}
+use Rattle.wp_shared.specs.Calls.{GoesOnAs, with_events}
+use Rattle.wp_shared.specs.Notes.{with_participant, no_fact, GoesOn}
 use Rattle.wp_shared.specs.Seats.{SeatState}
 use Rattle.wp_maint.specs.declared.renewed.Renewed.{Renewed}
 use Rattle.wp_maint.specs.declared.renewed.RenewError.{RenewError}
@@ -14,7 +14,7 @@ use Rattle.wp_maint.specs.Finding.{Remembers}
 use Rattle.wp_maint.specs.Renewing.{RenewsHolding}
 use Rattle.wp_maint.proofs.Made.{first_held, second_held}
 use Rattle.wp_renew.proofs.Renewed.{closed_before, nothing_to_renew}
-use Rattle.wp_renew.proofs.Whole.{base_below, held_later, no_room, settled_still}
+use Rattle.wp_renew.proofs.Whole.{base_below, held_later, no_room, in_step_still}
 use Rattle.wp_renew.proofs.renewing.renew_held.Goals as goal
 
 pub find_edits-requires-clause-seat : goal.find_edits-requires-clause-seat
@@ -28,8 +28,8 @@ pub returns-then-is_closed : goal.returns-then-is_closed
 returns-then-is_closed g c =
     let z = c.args.store.now in let s = c.args.seat.now in let e = c.args.edits.now in let log = c.args.log.now in
     let k = c.find_edits.ensures e.table (second_held s.knows (writes log.table) (installed e.table) c.requires.holds.turn.held) in
-    closed_before z s e log c.requires.holds c.requires.running c.requires.seen.0 c.requires.seen.1 c.requires.settled c.requires.stands c.shows_told.ensures.edits (c.shows_told.ensures.manifest, c.shows_told.ensures.tables) c.shows_told-2.ensures.log (c.shows_told-2.ensures.tells, c.shows_told-2.ensures.next) c.find_edits.new.seat c.find_closed.new.seat c.published.result k c.published.ensures.value
-    (c.find_closed.ensures ∙ ap (λ (n : ℕ). being (remembering (stopped n ∷ []) c.find_edits.new.seat.knows.participant) c.find_edits.new.seat) (sym c.published.ensures.value)) (sym c.is_closed.ensures ∙ c.if-is_closed.true)
+    closed_before z s e log c.requires.holds c.requires.running c.requires.seen.0 c.requires.seen.1 c.requires.in_step c.requires.stands c.devices_agree.ensures.edits (c.devices_agree.ensures.manifest, c.devices_agree.ensures.tables) c.devices_agree-2.ensures.log (c.devices_agree-2.ensures.tells, c.devices_agree-2.ensures.next) c.find_edits.new.seat c.find_closed.new.seat c.published.result k c.published.ensures.value
+    (c.find_closed.ensures ∙ ap (λ (n : ℕ). with_participant (with_events (stopped n ∷ []) c.find_edits.new.seat.knows.participant) c.find_edits.new.seat) (sym c.published.ensures.value)) (sym c.is_closed.ensures ∙ c.if-is_closed.true)
 
 -- the log has this base already
 pub returns-then-base-published : goal.returns-then-base-published
@@ -37,7 +37,7 @@ returns-then-base-published g c =
     let z = c.args.store.now in let s = c.args.seat.now in let e = c.args.edits.now in let log = c.args.log.now in
     let t = c.shows_segment.new.seat in let u = c.find_edits-then-base-published.new.seat in
     let k = c.find_edits-then-base-published.ensures e.table (second_held t.knows (writes log.table) (installed e.table) (ap (λ (x : SeatState). x.knows.held) c.shows_segment.ensures.same ∙ c.requires.holds.turn.held)) in
-    nothing_to_renew z s e log c.requires.holds c.requires.running c.requires.seen.0 c.requires.seen.1 c.requires.settled c.requires.stands c.shows_told.ensures.edits (c.shows_told.ensures.manifest, c.shows_told.ensures.tables) c.shows_told-2.ensures.log (c.shows_told-2.ensures.tells, c.shows_told-2.ensures.next) u (subst (λ (x : SeatState). Remembers z x e.table u) c.shows_segment.ensures.same k) (sym c.is_closed.ensures ∙ c.if-is_closed.false) (c.shows_segment.ensures.whole c.requires.seen.1).1
+    nothing_to_renew z s e log c.requires.holds c.requires.running c.requires.seen.0 c.requires.seen.1 c.requires.in_step c.requires.stands c.devices_agree.ensures.edits (c.devices_agree.ensures.manifest, c.devices_agree.ensures.tables) c.devices_agree-2.ensures.log (c.devices_agree-2.ensures.tells, c.devices_agree-2.ensures.next) u (subst (λ (x : SeatState). Remembers z x e.table u) c.shows_segment.ensures.same k) (sym c.is_closed.ensures ∙ c.if-is_closed.false) (c.shows_segment.ensures.whole c.requires.seen.1).1
     (ap (λ (x : Segment). x.base) c.shows_segment.ensures.segment ∙ sym c.base.ensures ∙ c.if-base-published.true ∙ c.published-2.ensures.value)
 
 pub find_closed-requires-clause-seat : goal.find_closed-requires-clause-seat
@@ -57,11 +57,11 @@ find_edits-requires-then-base-published-clause-held g c = let e = c.args.edits.n
 
 pub renew_in-requires-clause-below : goal.renew_in-requires-clause-below
 renew_in-requires-clause-below g c = let log = c.args.log.now in
-    base_below log c.shows_told-2.ensures.log (c.shows_segment.ensures.whole c.requires.seen.1).1 (λ is. c.if-base-published.false (c.base.ensures ∙ is ∙ sym c.published-2.ensures.value))
+    base_below log c.devices_agree-2.ensures.log (c.shows_segment.ensures.whole c.requires.seen.1).1 (λ is. c.if-base-published.false (c.base.ensures ∙ is ∙ sym c.published-2.ensures.value))
 
-pub renew_in-requires-clause-settled : goal.renew_in-requires-clause-settled
-renew_in-requires-clause-settled g c = let s = c.args.seat.now in let goes = subst (λ (x : SeatState). GoesOn no_fact x.knows.held x.turns x c.take_room.new.seat) c.shows_segment.ensures.same c.in_ok-room.ensures.goes in
-    settled_still c.args.store.now s c.take_room.new.seat c.take_room.new.seat c.args.edits.now c.args.log.now goes c.requires.settled
+pub renew_in-requires-clause-in_step : goal.renew_in-requires-clause-in_step
+renew_in-requires-clause-in_step g c = let s = c.args.seat.now in let goes = subst (λ (x : SeatState). GoesOn no_fact x.knows.held x.turns x c.take_room.new.seat) c.shows_segment.ensures.same c.in_ok-room.ensures.goes in
+    in_step_still c.args.store.now s c.take_room.new.seat c.take_room.new.seat c.args.edits.now c.args.log.now goes c.requires.in_step
 
 pub returns-in_err-room : goal.returns-in_err-room
 returns-in_err-room g c =
@@ -71,8 +71,8 @@ returns-in_err-room g c =
     let q = err_from_is_err_and c.from_residual.result c.from_residual.ensures.1 in
     subst (λ (r : Result Renewed RenewError). RenewsHolding (GoesOnAs s t) z s e log r t e log) (sym (q.1 ∙ ap Err q.2))
     (no_room z s t t e log goes c.requires.holds c.requires.running (sym c.is_closed.ensures ∙ c.if-is_closed.false) c.requires.seen.1 c.shows_segment.ensures.segment
-    (base_below log c.shows_told-2.ensures.log whole.1 (λ is. c.if-base-published.false (c.base.ensures ∙ is ∙ sym c.published-2.ensures.value)))
-    c.requires.seen.0 whole.1 c.requires.stands c.shows_told.ensures.edits c.shows_told-2.ensures.log (c.shows_told.ensures.manifest, c.shows_told.ensures.tables) (c.shows_told-2.ensures.tells, c.shows_told-2.ensures.next) c.requires.settled)
+    (base_below log c.devices_agree-2.ensures.log whole.1 (λ is. c.if-base-published.false (c.base.ensures ∙ is ∙ sym c.published-2.ensures.value)))
+    c.requires.seen.0 whole.1 c.requires.stands c.devices_agree.ensures.edits c.devices_agree-2.ensures.log (c.devices_agree.ensures.manifest, c.devices_agree.ensures.tables) (c.devices_agree-2.ensures.tells, c.devices_agree-2.ensures.next) c.requires.in_step)
 
 pub returns : goal.returns
 returns g c =

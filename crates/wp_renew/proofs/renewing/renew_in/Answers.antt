@@ -28,7 +28,7 @@ returns-in_err-table g c =
     let z = c.args.store.now in let s = c.args.seat.now in let e = c.args.edits.now in let log = c.args.log.now in let room = c.args.room in
     let one = c.write_table.new in let q = err_from_is_err_and c.from_residual.result c.from_residual.ensures.1 in
     subst (λ (r : Result Renewed RenewError). RenewsHolding (GoesOnAs s one.seat) z s e log r one.seat one.edits one.log) (sym (q.1 ∙ ap Err q.2))
-    (not_written z s e log c.requires.holds c.requires.running.0 c.requires.running.1 c.requires.running.2 c.requires.coupled c.requires.below c.requires.seen.0 c.requires.seen.1 c.requires.stands c.requires.settled c.requires.edits c.requires.log room.frozen room.versions c.requires.room.versions_are c.requires.room.frozen room.edit c.requires.room.ready
+    (not_written z s e log c.requires.holds c.requires.running.0 c.requires.running.1 c.requires.running.2 c.requires.coupled c.requires.below c.requires.seen.0 c.requires.seen.1 c.requires.stands c.requires.in_step c.requires.edits c.requires.log room.frozen room.versions c.requires.room.versions_are c.requires.room.frozen room.edit c.requires.room.ready
     (Unit {0}) c.in_err-table.field-0.0 one.seat one.edits one.log one.edit c.in_err-table.ensures.writes)
 
 -- ---- the segment
@@ -57,7 +57,7 @@ returns-in_err-written g c =
     let one = c.write_table.new in let k = c.in_ok-table.ensures.writes in let holds = at_start z s one.seat one.edits log one.log k.0 k.1 k.3 in
     let two = c.write_segment.new in let q = err_from_is_err_and c.from_residual-in_err-written.result c.from_residual-in_err-written.ensures.1 in
     subst (λ (r : Result Renewed RenewError). RenewsHolding (GoesOnAs s two.seat) z s e log r two.seat one.edits two.log) (sym (q.1 ∙ ap Err q.2))
-    (not_placed z s e log c.requires.holds c.requires.running.0 c.requires.running.1 c.requires.running.2 c.requires.coupled c.requires.below c.requires.seen.0 c.requires.seen.1 c.requires.stands c.requires.settled c.requires.edits c.requires.log room.frozen room.versions c.requires.room.versions_are c.requires.room.frozen room.edit c.requires.room.ready
+    (not_placed z s e log c.requires.holds c.requires.running.0 c.requires.running.1 c.requires.running.2 c.requires.coupled c.requires.below c.requires.seen.0 c.requires.seen.1 c.requires.stands c.requires.in_step c.requires.edits c.requires.log room.frozen room.versions c.requires.room.versions_are c.requires.room.frozen room.edit c.requires.room.ready
     one.edits one.edit k.2 k.4 holds c.in_err-written.field-0.0 two.seat two.log c.write_table.ensures.edits k.5 (subst (λ (x : SeatState × LogState). HasPlace z x.0 one.edits x.1 (Err c.in_err-written.field-0.0) two.seat two.log) (λ i. (k.0 i, k.1 i)) c.in_err-written.ensures))
 
 pub shows_waiting-requires : goal.shows_waiting-requires
@@ -70,7 +70,7 @@ install-requires-clause-told g c =
     let z = c.args.store.now in let s = c.args.seat.now in let e = c.args.edits.now in let log = c.args.log.now in let room = c.args.room in
     let one = c.write_table.new in let k = c.in_ok-table.ensures.writes in let holds = at_start z s one.seat one.edits log one.log k.0 k.1 k.3 in
     let two = c.write_segment.new in let p = subst (λ (x : SeatState × LogState). HasSegment z x.0 one.edits x.1 c.in_ok-written.written two.seat two.log) (λ i. (k.0 i, k.1 i)) c.in_ok-written.ensures in
-    told z s e log c.requires.holds c.requires.running.0 c.requires.running.1 c.requires.running.2 c.requires.coupled c.requires.below c.requires.seen.0 c.requires.seen.1 c.requires.stands c.requires.settled c.requires.edits c.requires.log room.frozen room.versions c.requires.room.versions_are c.requires.room.frozen room.edit c.requires.room.ready
+    told z s e log c.requires.holds c.requires.running.0 c.requires.running.1 c.requires.running.2 c.requires.coupled c.requires.below c.requires.seen.0 c.requires.seen.1 c.requires.stands c.requires.in_step c.requires.edits c.requires.log room.frozen room.versions c.requires.room.versions_are c.requires.room.frozen room.edit c.requires.room.ready
     one.edits one.edit k.2 k.4 holds c.in_ok-written.written two.seat two.log p (none_waits log.table c.requires.log.none_waits c.requires.running.1)
 
 pub install-requires-clause-table : goal.install-requires-clause-table
@@ -83,7 +83,7 @@ returns-in_err-install g c =
     let two = c.write_segment.new in let p = subst (λ (x : SeatState × LogState). HasSegment z x.0 one.edits x.1 c.in_ok-written.written two.seat two.log) (λ i. (k.0 i, k.1 i)) c.in_ok-written.ensures in
     let three = c.install.new in let q = err_from_is_err_and c.from_residual-in_err-install.result c.from_residual-in_err-install.ensures.1 in
     subst (λ (r : Result Renewed RenewError). RenewsHolding (GoesOnAs s three.seat) z s e log r three.seat three.edits three.log) (sym (q.1 ∙ ap Err q.2))
-    (not_installed z s e log c.requires.holds c.requires.running.0 c.requires.running.1 c.requires.running.2 c.requires.coupled c.requires.below c.requires.seen.0 c.requires.seen.1 c.requires.stands c.requires.settled c.requires.edits c.requires.log room.frozen room.versions c.requires.room.versions_are c.requires.room.frozen room.edit c.requires.room.ready
+    (not_installed z s e log c.requires.holds c.requires.running.0 c.requires.running.1 c.requires.running.2 c.requires.coupled c.requires.below c.requires.seen.0 c.requires.seen.1 c.requires.stands c.requires.in_step c.requires.edits c.requires.log room.frozen room.versions c.requires.room.versions_are c.requires.room.frozen room.edit c.requires.room.ready
     one.edits one.edit k.2 k.4 holds c.in_ok-written.written two.seat two.log p (Unit {0}) c.in_err-install.field-0.0 three.seat three.edits three.log c.in_err-install.ensures)
 
 -- ---- all of it
@@ -96,7 +96,7 @@ put_table-requires-clause-may g c =
     let z = c.args.store.now in let s = c.args.seat.now in let e = c.args.edits.now in let log = c.args.log.now in let room = c.args.room in
     let one = c.write_table.new in let k = c.in_ok-table.ensures.writes in let holds = at_start z s one.seat one.edits log one.log k.0 k.1 k.3 in
     let two = c.write_segment.new in let p = subst (λ (x : SeatState × LogState). HasSegment z x.0 one.edits x.1 c.in_ok-written.written two.seat two.log) (λ i. (k.0 i, k.1 i)) c.in_ok-written.ensures in
-    let three = c.install.new in may_put z s e log c.requires.holds c.requires.running.0 c.requires.running.1 c.requires.running.2 c.requires.coupled c.requires.below c.requires.seen.0 c.requires.seen.1 c.requires.stands c.requires.settled c.requires.edits c.requires.log room.frozen room.versions c.requires.room.versions_are c.requires.room.frozen room.edit c.requires.room.ready
+    let three = c.install.new in may_put z s e log c.requires.holds c.requires.running.0 c.requires.running.1 c.requires.running.2 c.requires.coupled c.requires.below c.requires.seen.0 c.requires.seen.1 c.requires.stands c.requires.in_step c.requires.edits c.requires.log room.frozen room.versions c.requires.room.versions_are c.requires.room.frozen room.edit c.requires.room.ready
     one.edits one.edit k.2 k.4 holds c.in_ok-written.written two.seat two.log p three.seat three.edits three.log c.in_ok-install.ensures _ (built_part _ room.versions _ _ c.requires.room.ready.built c.in_ok-table.ensures.table)
 
 pub returns : goal.returns
@@ -104,5 +104,5 @@ returns g c =
     let z = c.args.store.now in let s = c.args.seat.now in let e = c.args.edits.now in let log = c.args.log.now in let room = c.args.room in
     let one = c.write_table.new in let k = c.in_ok-table.ensures.writes in let holds = at_start z s one.seat one.edits log one.log k.0 k.1 k.3 in
     let two = c.write_segment.new in let p = subst (λ (x : SeatState × LogState). HasSegment z x.0 one.edits x.1 c.in_ok-written.written two.seat two.log) (λ i. (k.0 i, k.1 i)) c.in_ok-written.ensures in
-    let three = c.install.new in went_through z s e log c.requires.holds c.requires.running.0 c.requires.running.1 c.requires.running.2 c.requires.coupled c.requires.below c.requires.seen.0 c.requires.seen.1 c.requires.stands c.requires.settled c.requires.edits c.requires.log room.frozen room.versions c.requires.room.versions_are c.requires.room.frozen room.edit c.requires.room.ready
-    one.edits one.edit k.2 k.4 holds c.in_ok-written.written two.seat two.log p three.seat three.edits three.log c.in_ok-install.ensures c.put_table.new.seat c.put_table.ensures.goes _ refl (c.undecided_count.ensures ∙ length-map (undecided log.table.history) _) c.put_table.ensures.settled
+    let three = c.install.new in went_through z s e log c.requires.holds c.requires.running.0 c.requires.running.1 c.requires.running.2 c.requires.coupled c.requires.below c.requires.seen.0 c.requires.seen.1 c.requires.stands c.requires.in_step c.requires.edits c.requires.log room.frozen room.versions c.requires.room.versions_are c.requires.room.frozen room.edit c.requires.room.ready
+    one.edits one.edit k.2 k.4 holds c.in_ok-written.written two.seat two.log p three.seat three.edits three.log c.in_ok-install.ensures c.put_table.new.seat c.put_table.ensures.goes _ refl (c.undecided_count.ensures ∙ length-map (undecided log.table.history) _) c.put_table.ensures.in_step

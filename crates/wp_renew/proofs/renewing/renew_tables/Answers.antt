@@ -2,13 +2,13 @@ use Rattle.std.proofs.Common.{[], ◌∷◌, refl, sym, ap, ◌∙◌}
 use Rattle.wp_core.specs.Tables.{installed}
 use Rattle.wp_core.specs.Turns.{write_turn}
 use Rattle.wp_core.specs.World.{Participant}
-use Rattle.wp_shared.specs.Calls.{GoesOnAs, remembering}
+use Rattle.wp_shared.specs.Calls.{GoesOnAs, with_events}
 use Rattle.wp_shared.specs.Notes.{no_fact, is_under, seeing}
 use Rattle.wp_shared.specs.Seats.{SeatState}
 use Rattle.wp_shared.proofs.Onward.{goes_none, goes_same, goes_seeing, goes_still, holds_next, loose_none, loose_under}
 use Rattle.wp_maint.proofs.BeforeInstall.{devices_more}
 use Rattle.wp_maint.proofs.Found.{held_first}
-use Rattle.wp_maint.proofs.Onward.{found_halted, goes_more, holds_being, renews_so, settled_being, settled_on}
+use Rattle.wp_maint.proofs.Onward.{found_halted, goes_more, holds_being, renews_so, in_step_being, in_step_on}
 use Rattle.wp_renew.proofs.renewing.renew_tables.Goals as goal
 
 pub find_edits-requires-clause-held : goal.find_edits-requires-clause-held
@@ -19,10 +19,10 @@ returns-then-is_halted-clause-holds g c =
     let e = c.args.edits.now in let k = c.find_edits.ensures e.table (held_first c.args.seat.now e.table c.requires.holds.turn.held) in
     holds_being c.args.store.now c.args.seat.now c.find_edits.new.seat _ k.is e c.requires.holds
 
-pub returns-then-is_halted-clause-settled : goal.returns-then-is_halted-clause-settled
-returns-then-is_halted-clause-settled g c =
+pub returns-then-is_halted-clause-in_step : goal.returns-then-is_halted-clause-in_step
+returns-then-is_halted-clause-in_step g c =
     let e = c.args.edits.now.table in let k = c.find_edits.ensures e (held_first c.args.seat.now e c.requires.holds.turn.held) in
-    settled_being c.args.store.now c.args.seat.now c.find_edits.new.seat _ k.is e.last c.requires.settled
+    in_step_being c.args.store.now c.args.seat.now c.find_edits.new.seat _ k.is e.last c.requires.in_step
 
 pub returns-then-is_halted-clause-says : goal.returns-then-is_halted-clause-says
 returns-then-is_halted-clause-says g c =
@@ -36,10 +36,10 @@ returns-clause-holds g c =
     let k = c.renew_held-result.ensures in let left = c.renew_held-result.new.edits in let gave = c.give_turn.ensures (installed left.table ∷ []) (5 ∷ []) k.holds.turn in
     record { turn = holds_next k.holds.turn gave.goes; of_store = k.holds.edits_of_store }
 
-pub returns-clause-settled : goal.returns-clause-settled
-returns-clause-settled g c =
+pub returns-clause-in_step : goal.returns-clause-in_step
+returns-clause-in_step g c =
     let k = c.renew_held-result.ensures in let left = c.renew_held-result.new.edits in let gave = c.give_turn.ensures (installed left.table ∷ []) (5 ∷ []) k.holds.turn in
-    settled_on c.renew_held-result.new.seat c.give_turn.new.seat _ _ _ refl (λ vs floor. refl) gave.goes left.table.last k.settled
+    in_step_on c.renew_held-result.new.seat c.give_turn.new.seat _ _ _ refl (λ vs floor. refl) gave.goes left.table.last k.in_step
 
 pub returns-clause-says : goal.returns-clause-says
 returns-clause-says g c =
@@ -49,7 +49,7 @@ returns-clause-says g c =
     let first : GoesOnAs s t p = goes_still s (seeing h s) t p (goes_seeing s h took.grown) (goes_same (seeing h s) t no_fact _ _ loose_none took.goes) in
     let last : GoesOnAs u v u.knows.participant = goes_same u v (is_under write_turn) _ _ (loose_under write_turn) gave.goes in let same = gave.goes.same in
     renews_so (GoesOnAs t u) (GoesOnAs s v) z s t u v e.table (first.same_by, first.made, first.joined) (ap (λ (x : Participant). x.past) first.participant) first.seen (sym (ap (λ (x : SeatState). x.knows.participant.past) same)) last.seen
-    (λ events x. goes_still s u v (remembering events p) (goes_more s t u p first events x) last) (λ x. goes_still s u v p (goes_still s t u p first x) last) (sym (ap (λ (x : SeatState). x.knows.participant.seen) same)) c.renew_held-result.result k.says
+    (λ events x. goes_still s u v (with_events events p) (goes_more s t u p first events x) last) (λ x. goes_still s u v p (goes_still s t u p first x) last) (sym (ap (λ (x : SeatState). x.knows.participant.seen) same)) c.renew_held-result.result k.says
 
 pub returns-clause-untouched : goal.returns-clause-untouched
 returns-clause-untouched g c = devices_more (λ same. same.0) c.renew_held-result.result c.renew_held-result.ensures.untouched

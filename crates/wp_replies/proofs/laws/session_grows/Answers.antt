@@ -1,4 +1,4 @@
-use Rattle.wp_replies.proofs.Rows.{session_more}
+use Rattle.wp_replies.proofs.Conditions.{session_more}
 use Rattle.wp_replies.proofs.laws.session_grows.Goals as goal
 
 pub returns : goal.returns

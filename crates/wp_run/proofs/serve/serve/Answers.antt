@@ -18,7 +18,7 @@ finish-requires g c = record { parts = as_many c.args.parts.now c.run_script-run
 pub returns-in-Ok-clause-serves : goal.returns-in-Ok-clause-serves
 returns-in-Ok-clause-serves g c =
     let left = c.run_script-run.result in
-    let ran = subst (λ (ds : Disks g.row.D.Denot). HaveRun c.in-Ok.store c.args.parts.now left.answers.items left.history.entries (devices_of g.D.Peek.moments g.D.Peek.faults ds)) (sym c.finish.ensures.disks) c.run_script-run.ensures.run in
+    let ran = subst (λ (ds : Disks g.condition.D.Denot). HaveRun c.in-Ok.store c.args.parts.now left.answers.items left.history.entries (devices_of g.D.Peek.moments g.D.Peek.faults ds)) (sym c.finish.ensures.disks) c.run_script-run.ensures.run in
     let ended = c.finish.ensures.ended in
     serves_run c.in-Ok.store _ left.answers.items left.history.entries left.history.base ended.0 c.in-Ok.ensures.store.0 c.in-Ok.ensures.store.1 c.requires.ranges.2
     c.in-Ok.first.knows c.in-Ok.ensures.stands (ap (λ (seat : SeatState). seat.knows.participant.seen) c.in-Ok.ensures.seat) c.in-Ok.ensures.opened ran
@@ -27,7 +27,7 @@ returns-in-Ok-clause-serves g c =
 pub returns-in-Ok-clause-durable : goal.returns-in-Ok-clause-durable
 returns-in-Ok-clause-durable g c =
     let left = c.run_script-run.result in
-    let ran = subst (λ (ds : Disks g.row.D.Denot). HaveRun c.in-Ok.store c.args.parts.now left.answers.items left.history.entries (devices_of g.D.Peek.moments g.D.Peek.faults ds)) (sym c.finish.ensures.disks) c.run_script-run.ensures.run in
+    let ran = subst (λ (ds : Disks g.condition.D.Denot). HaveRun c.in-Ok.store c.args.parts.now left.answers.items left.history.entries (devices_of g.D.Peek.moments g.D.Peek.faults ds)) (sym c.finish.ensures.disks) c.run_script-run.ensures.run in
     is_durable c.args.choice.id _ c.in-Ok.ensures.opened ran.ended c.shows_reading.ensures
 
 pub returns-in-Err-clause-serves : goal.returns-in-Err-clause-serves

@@ -6,7 +6,7 @@ use Rattle.wp_core.specs.Effects.{with_failed}
 use Rattle.wp_core.specs.Tables.{Installed, writes, installed}
 use Rattle.wp_core.proofs.Tests.{same_some}
 use Rattle.wp_rule.specs.Knows.{NextNamed}
-use Rattle.wp_shared.specs.Edits.{EditsState}
+use Rattle.wp_shared.specs.VersionSet.{VersionSetState}
 use Rattle.wp_shared.specs.Installs.{HadCause, SurvivesInstall, in_segment}
 use Rattle.wp_shared.specs.Renewal.{IsBehind}
 use Rattle.wp_shared.specs.Log.{LogState, with_next, with_segment}
@@ -77,8 +77,8 @@ returns-in-Ok g c =
     (c.remember_renewal.ensures.goes d e.table (ap (λ (x : SeatState). x.knows.held) k.is ∙ told.holds.turn.held)) c.use_segment-in-Ok.ensures.goes c.args.written c.args.edit versions
     (subst (λ (x : Segment). left.table ≡ record e.table { last = in_segment versions x.base x e.table.last }) c.segment.ensures c.in-Ok.ensures.installed)
     c.use_segment.ensures.table c.use_segment.ensures.device c.in-Ok.ensures.first c.use_segment.ensures.first c.in-Ok.ensures.parts
-    (subst (λ (x : Segment). (before : EditsState) → IsBehind before e versions x.base c.args.edit → SurvivesInstall before left (in_segment versions x.base x e.table.last)) c.segment.ensures c.in-Ok.ensures.survives)
-    c.shows_told-in-Ok.ensures.edits c.shows_told-in-Ok-2.ensures.log c.use_segment-in-Ok.ensures.stands
+    (subst (λ (x : Segment). (before : VersionSetState) → IsBehind before e versions x.base c.args.edit → SurvivesInstall before left (in_segment versions x.base x e.table.last)) c.segment.ensures c.in-Ok.ensures.survives)
+    c.devices_agree-in-Ok.ensures.edits c.devices_agree-in-Ok-2.ensures.log c.use_segment-in-Ok.ensures.stands
 
 pub remember_tables_fault-requires-clause-held : goal.remember_tables_fault-requires-clause-held
 remember_tables_fault-requires-clause-held g c =
@@ -122,8 +122,8 @@ returns-in-Err g c =
     (ap (λ (x : Installed). x.last) halted) (ap (λ (x : Installed). x.failed) halted)
     (c.remember_tables_fault.ensures.goes d e.table (ap (λ (x : SeatState). x.knows.held) k.is ∙ told.holds.turn.held)) c.remember_stop.ensures.goes
     (SurvivesEdit c.args.written c.args.edit versions) halted c.stop_with.ensures c.in-Err.ensures.first (subst (HadCause e.set left.set) c.in-Err.ensures.refused.0 c.in-Err.ensures.cause)
-    (subst (λ (x : Segment). (before : EditsState) → IsBehind before e versions x.base c.args.edit → SurvivesInstall before left (in_segment versions x.base x e.table.last)) c.segment.ensures c.in-Err.ensures.survives)
-    c.shows_told.ensures.edits c.shows_told-in-Err.ensures.edits c.shows_told-2.ensures.log c.shows_told-in-Err-2.ensures.log c.remember_stop.ensures.stands
+    (subst (λ (x : Segment). (before : VersionSetState) → IsBehind before e versions x.base c.args.edit → SurvivesInstall before left (in_segment versions x.base x e.table.last)) c.segment.ensures c.in-Err.ensures.survives)
+    c.devices_agree.ensures.edits c.devices_agree-in-Err.ensures.edits c.devices_agree-2.ensures.log c.devices_agree-in-Err-2.ensures.log c.remember_stop.ensures.stands
 
 pub remember_renewal-requires-clause-seat : goal.remember_renewal-requires-clause-seat
 remember_renewal-requires-clause-seat g c = let k = c.requires.told in let e = c.args.edits.now.table in

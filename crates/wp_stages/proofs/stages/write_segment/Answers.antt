@@ -1,5 +1,5 @@
 use Rattle.std.proofs.Common.{[], ◌∷◌, refl, sym, ap, ◌∙◌}
-use Rattle.wp_core.specs.Tables.{WriteTable, writes, installed}
+use Rattle.wp_core.specs.Tables.{WriteState, writes, installed}
 use Rattle.wp_core.specs.Views.{log_failed}
 use Rattle.wp_shared.specs.Notes.{no_fact}
 use Rattle.wp_shared.specs.Seats.{SeatState}
@@ -11,15 +11,15 @@ pub remember_segment-requires-clause-seat : goal.remember_segment-requires-claus
 remember_segment-requires-clause-seat g c = c.requires.holds.turn.same_table
 
 pub remember_segment-requires-clause-held : goal.remember_segment-requires-clause-held
-remember_segment-requires-clause-held g c = c.requires.holds.turn.held ∙ ap (λ (t : WriteTable). writes t ∷ installed c.args.edits.now.table ∷ []) (sym c.in-Ok.ensures.ok)
+remember_segment-requires-clause-held g c = c.requires.holds.turn.held ∙ ap (λ (t : WriteState). writes t ∷ installed c.args.edits.now.table ∷ []) (sym c.in-Ok.ensures.ok)
 
 pub remember_segment-requires-clause-may : goal.remember_segment-requires-clause-may
 remember_segment-requires-clause-may g c =
-    let same = c.in-Ok.ensures.ok in let open_ = ap (λ (t : WriteTable). t.closed) same ∙ c.requires.running.0 in (
-      ap (λ (t : WriteTable). t.pending) same ∙ c.requires.running.1,
+    let same = c.in-Ok.ensures.ok in let open_ = ap (λ (t : WriteState). t.closed) same ∙ c.requires.running.0 in (
+      ap (λ (t : WriteState). t.pending) same ∙ c.requires.running.1,
       open_,
-      none_waits c.write_segment.new.self.table c.shows_told-in-Ok.ensures.next open_,
-      (λ is. c.in-Ok.ensures.waits.1 (is ∙ ap (λ (t : WriteTable). t.segment.place) same)),
+      none_waits c.write_segment.new.self.table c.devices_agree-in-Ok.ensures.next open_,
+      (λ is. c.in-Ok.ensures.waits.1 (is ∙ ap (λ (t : WriteState). t.segment.place) same)),
       c.in-Ok.ensures.waits.0.based,
     )
 
@@ -42,8 +42,8 @@ remember_log_fault-requires-clause-held g c =
       c.in-Err.ensures.err,
       c.requires.running.0,
       c.requires.running.1,
-      c.shows_told.ensures.log.none_failed c.requires.running.0,
-      none_waits d c.shows_told.ensures.next c.requires.running.0,
+      c.devices_agree.ensures.log.none_failed c.requires.running.0,
+      none_waits d c.devices_agree.ensures.next c.requires.running.0,
     )
 
 pub returns-in-Ok : goal.returns-in-Ok
@@ -55,8 +55,8 @@ returns-in-Ok g c =
       holds = both_on z s u e e log now log.table no_fact c.requires.holds s.knows.participant _ c.remember_segment.ensures.goes refl c.in-Ok.ensures.first;
       goes = c.remember_segment.ensures.goes;
       survives = beside_some log now c.in-Ok.ensures.passed c.in-Ok.ensures.durable c.in-Ok.written c.in-Ok.ensures.waits.0 c.in-Ok.ensures.waits.1 c.in-Ok.ensures.ok c.in-Ok.ensures.id c.args.segment.now c.requires.segment c.in-Ok.ensures.place;
-      log_is = c.shows_told.ensures.log;
-      still_log = c.shows_told-in-Ok.ensures.log;
+      log_is = c.devices_agree.ensures.log;
+      still_log = c.devices_agree-in-Ok.ensures.log;
       stands = c.remember_segment.ensures.stands;
     }
 
@@ -73,7 +73,7 @@ returns-in-Err g c =
       goes = more;
       rose = c.in-Err.ensures.cause;
       survives = beside_none log now c.in-Err.ensures.passed c.in-Err.ensures.durable;
-      log_is = c.shows_told.ensures.log;
-      still_log = c.shows_told-in-Err.ensures.log;
+      log_is = c.devices_agree.ensures.log;
+      still_log = c.devices_agree-in-Err.ensures.log;
       stands = c.remember_log_fault.ensures.stands;
     }

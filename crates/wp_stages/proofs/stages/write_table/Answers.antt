@@ -38,7 +38,7 @@ remember_tables_fault-requires-clause-held g c =
     let e = c.args.edits.now.table in let d = c.args.log.now.table in let left = c.write_table.new.self.table in
     let k = c.find_edits.ensures e (second_held c.args.seat.now.knows (writes d) (installed e) c.requires.holds.turn.held) in
     let halted = c.in-Err.ensures.refused.1 in
-    let none : left.failed ≡ None = ap (λ (t : Installed). t.failed) halted ∙ c.shows_told.ensures.edits.none_failed (c.shows_told.ensures.edits.running c.requires.running.0) in (
+    let none : left.failed ≡ None = ap (λ (t : Installed). t.failed) halted ∙ c.devices_agree.ensures.edits.none_failed (c.devices_agree.ensures.edits.running c.requires.running.0) in (
       e,
       d,
       ap (λ (x : SeatState). x.knows.held) k.is ∙ c.requires.holds.turn.held,
@@ -58,7 +58,7 @@ remember_stop-requires-clause-held g c =
       ap (λ (l : LogState). l.table) c.stop.ensures,
       c.requires.running.1,
       c.requires.running.2,
-      waits_not d left.last.segment (none_waits d c.shows_told-2.ensures.next c.requires.running.1),
+      waits_not d left.last.segment (none_waits d c.devices_agree-2.ensures.next c.requires.running.1),
       ap (λ (t : Installed). t.halted) halted,
     )
 
@@ -68,12 +68,12 @@ returns-in-Err-clause-writes g c =
     let k = c.find_edits.ensures e.table (second_held s.knows (writes log.table) (installed e.table) holds.turn.held) in
     let halted = c.in-Err.ensures.refused.1 in
     has_stopped z s c.find_edits.new.seat c.remember_tables_fault.new.seat c.remember_stop.new.seat e c.write_table.new.self log c.stop.new.self log.table holds k None
-    (ap (λ (x : Installed). x.last) halted) (ap (λ (x : Installed). x.failed) halted ∙ c.shows_told.ensures.edits.none_failed (c.shows_told.ensures.edits.running c.requires.running.0))
+    (ap (λ (x : Installed). x.last) halted) (ap (λ (x : Installed). x.failed) halted ∙ c.devices_agree.ensures.edits.none_failed (c.devices_agree.ensures.edits.running c.requires.running.0))
     (c.remember_tables_fault.ensures.goes log.table e.table (ap (λ (x : SeatState). x.knows.held) k.is ∙ holds.turn.held)) c.remember_stop.ensures.goes
     (λ before after. SurvivesWrite before after c.args.edit.now × IsUncalled before after) halted
-    (c.stop.ensures ∙ ap (λ (o : Option Segment). record log { table = record log.table { next = o; closed = true; stopped = true } }) (none_waits log.table c.shows_told-2.ensures.next c.requires.running.1))
+    (c.stop.ensures ∙ ap (λ (o : Option Segment). record log { table = record log.table { next = o; closed = true; stopped = true } }) (none_waits log.table c.devices_agree-2.ensures.next c.requires.running.1))
     c.in-Err.ensures.first (subst (HadCause e.set c.write_table.new.self.set) c.in-Err.ensures.refused.0 c.in-Err.ensures.cause) (c.in-Err.ensures.survives, c.in-Err.ensures.manifest)
-    c.shows_told.ensures.edits c.shows_told-in-Err.ensures.edits c.shows_told-2.ensures.log c.shows_told-in-Err-2.ensures.log c.remember_stop.ensures.stands
+    c.devices_agree.ensures.edits c.devices_agree-in-Err.ensures.edits c.devices_agree-2.ensures.log c.devices_agree-in-Err-2.ensures.log c.remember_stop.ensures.stands
 
 pub remember_tables_fault-requires-clause-seat : goal.remember_tables_fault-requires-clause-seat
 remember_tables_fault-requires-clause-seat g c = let e = c.args.edits.now.table in

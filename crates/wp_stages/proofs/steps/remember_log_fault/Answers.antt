@@ -1,8 +1,8 @@
 use Rattle.std.proofs.Common.{true, [], ◌∷◌, sym, subst, ◌∙◌}
-use Rattle.wp_core.specs.Tables.{WriteTable, installed, writes}
+use Rattle.wp_core.specs.Tables.{WriteState, installed, writes}
 use Rattle.wp_core.specs.Views.{log_failed}
-use Rattle.wp_shared.specs.Calls.{remembering}
-use Rattle.wp_shared.specs.Notes.{GoesOn, being}
+use Rattle.wp_shared.specs.Calls.{with_events}
+use Rattle.wp_shared.specs.Notes.{GoesOn, with_participant}
 use Rattle.wp_maint.proofs.Made.{stands_after}
 use Rattle.wp_stages.proofs.Renews.{may_close, was_closed}
 use Rattle.wp_stages.proofs.steps.remember_log_fault.Goals as goal
@@ -13,7 +13,7 @@ make_about-requires-clause-may g c = let h = c.requires.held in may_close _ _ h.
 pub returns : goal.returns
 returns g c =
     let s = c.args.seat.now in let u = c.make_about.new.seat in let h = c.requires.held in record {
-      goes = subst (λ (x : WriteTable). GoesOn _ (writes x ∷ installed c.args.edits.now.table ∷ []) s.turns (being (remembering (log_failed [] ∷ []) s.knows.participant) s) u) ((λ i. record h.0 { closed = true; failed = sym h.5 i }) ∙ sym h.2)
+      goes = subst (λ (x : WriteState). GoesOn _ (writes x ∷ installed c.args.edits.now.table ∷ []) s.turns (with_participant (with_events (log_failed [] ∷ []) s.knows.participant) s) u) ((λ i. record h.0 { closed = true; failed = sym h.5 i }) ∙ sym h.2)
           (was_closed _ _ s u c.make_about.ensures.same h.0 c.args.edits.now.table h.1 c.make_about.ensures.moved h.4);
       stands = stands_after c.args.store.now _ _ s u c.make_about.ensures.same.1 c.make_about.ensures.moved;
     }

@@ -5,7 +5,7 @@ use Rattle.wp_txn.specs.Writes.{AsksCommit}
 use Rattle.wp_shared.proofs.Onward.{continues_none}
 use Rattle.wp_txn.proofs.BeforeLog.{refused_txn_before}
 use Rattle.wp_txn.proofs.Ends.{ended, locked_until, commit_is_of, commit_decides, refuses_prepared}
-use Rattle.wp_names.proofs.Still.{prepared_locked}
+use Rattle.wp_open_txns.proofs.Still.{prepared_locked}
 use Rattle.wp_txn.proofs.deciding.commit.Goals as goal
 
 pub end-requires-clause-free : goal.end-requires-clause-free

@@ -4,8 +4,8 @@ use Rattle.wp_model.specs.Decision.{decision_of}
 use Rattle.wp_core.specs.Lists.{IsIn}
 use Rattle.wp_core.specs.Views.{has_left}
 use Rattle.wp_core.specs.World.{Participant}
-use Rattle.wp_names.specs.Calls.{Frees}
-use Rattle.wp_names.specs.Txn.{PreparedState, HasLocked}
+use Rattle.wp_open_txns.specs.Calls.{Frees}
+use Rattle.wp_open_txns.specs.Txn.{PreparedState, HasLocked}
 use Rattle.wp_txn.proofs.Ends.{freed_then}
 use Rattle.wp_txn.proofs.deciding.end.Goals as goal
 

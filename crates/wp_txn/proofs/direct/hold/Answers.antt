@@ -1,7 +1,7 @@
 use Rattle.std.proofs.Common.{[]}
 use Rattle.wp_shared.proofs.Onward.{holds_alone}
 use Rattle.wp_txn.proofs.DirectWrites.{direct_held}
-use Rattle.wp_names.proofs.GoesOn.{lent_as}
+use Rattle.wp_open_txns.proofs.GoesOn.{lent_as}
 use Rattle.wp_txn.proofs.direct.hold.Goals as goal
 
 pub lock-outcome-requires-clause-seat : goal.lock-outcome-requires-clause-seat

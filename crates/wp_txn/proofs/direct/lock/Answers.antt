@@ -7,10 +7,10 @@ use Rattle.wp_core.specs.Changes.{with_key}
 use Rattle.wp_core.specs.Lists.{IsIn}
 use Rattle.wp_core.specs.Tables.{locks}
 use Rattle.wp_shared.specs.Seats.{SeatState}
-use Rattle.wp_names.specs.Actors.{with_direct}
+use Rattle.wp_open_txns.specs.Actors.{with_direct}
 use Rattle.wp_shared.specs.Notes.{seat_of}
 use Rattle.wp_txn.proofs.DirectWrites.{none_there}
-use Rattle.wp_names.proofs.GoesOn.{held_last}
+use Rattle.wp_open_txns.proofs.GoesOn.{held_last}
 use Rattle.wp_txn.proofs.direct.lock.Goals as goal
 
 pub lock_direct-requires-clause-free : goal.lock_direct-requires-clause-free

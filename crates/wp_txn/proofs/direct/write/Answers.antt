@@ -7,7 +7,7 @@ use Rattle.wp_model.specs.declared.entry.Entry.TheVariants.{Write}
 use Rattle.wp_core.specs.World.{Participant}
 use Rattle.wp_records.specs.Records.{MayPut}
 use Rattle.wp_shared.proofs.Onward.{continues_none}
-use Rattle.wp_names.specs.declared.error.TxnError.{TxnError}
+use Rattle.wp_open_txns.specs.declared.error.TxnError.{TxnError}
 use Rattle.wp_txn.specs.Recording.{Records, HasDirect, EndsDirect}
 use Rattle.wp_txn.specs.Writes.{MayLeaveDevice, WritesDirect, writing_direct}
 use Rattle.wp_txn.proofs.MayPut.{may_write_direct}

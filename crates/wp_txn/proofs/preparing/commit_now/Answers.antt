@@ -1,12 +1,12 @@
 use Rattle.std.proofs.Common.{◌≡◌, [], ◌∷◌, refl, subst, sym, arith}
 use Rattle.wp_model.specs.declared.entry.Entry.TheVariants.{Write}
 use Rattle.wp_core.specs.Views.{unprepared}
-use Rattle.wp_names.specs.Txn.{OpenState, HasOpen}
+use Rattle.wp_open_txns.specs.Txn.{OpenState, HasOpen}
 use Rattle.wp_txn.specs.Writes.{CommitsNow, RefusesOpen}
 use Rattle.wp_shared.proofs.Onward.{continues_none}
 use Rattle.wp_txn.proofs.BeforeLog.{refused_txn_before}
 use Rattle.wp_txn.proofs.Ends.{ended, locked_until, noted_until, refuses_open}
-use Rattle.wp_names.proofs.Still.{open_locked}
+use Rattle.wp_open_txns.proofs.Still.{open_locked}
 use Rattle.wp_txn.proofs.DirectWrites.{none_about}
 use Rattle.wp_txn.proofs.MayPut.{may_write_open}
 use Rattle.wp_txn.proofs.preparing.commit_now.Goals as goal

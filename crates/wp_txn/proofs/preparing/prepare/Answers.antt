@@ -2,7 +2,7 @@ use Rattle.std.proofs.Common.{◌≡◌, [], ◌∷◌, Ok, subst, sym}
 use Rattle.wp_model.specs.declared.entry.Entry.TheVariants.{Prepare}
 use Rattle.wp_core.specs.Views.{undecided_at}
 use Rattle.wp_txn.specs.Recording.{Records}
-use Rattle.wp_names.specs.Txn.{OpenState, HasOpen}
+use Rattle.wp_open_txns.specs.Txn.{OpenState, HasOpen}
 use Rattle.wp_txn.specs.Writes.{Prepares}
 use Rattle.wp_txn.proofs.BeforeLog.{refused_txn_before}
 use Rattle.wp_txn.proofs.Ends.{prepares, refuses_open}

@@ -2,7 +2,7 @@ use Rattle.std.proofs.Common.{[], length, min, sym, subst, ap, ◌∙◌}
 use Rattle.wp_entry.specs.Record.{last_number}
 use Rattle.wp_shared.specs.Log.{LogState, IsLog}
 use Rattle.wp_shared.specs.Notes.{seat_of}
-use Rattle.wp_names.specs.Actors.{with_stopped}
+use Rattle.wp_open_txns.specs.Actors.{with_stopped}
 use Rattle.wp_txn.proofs.UnderLog.{alone, alone_still, stopped_back, full_back, opened}
 use Rattle.wp_txn.proofs.recording.open_log.Goals as goal
 
@@ -19,7 +19,7 @@ returns-then-is_closed-clause-refused g c =
     let number = p.ensures.value ∙ ap (λ (x : LogState). length x.table.history) c.deref-2.ensures in
     let found = c.find_log_closed.ensures ∙ ap (λ (x : LogState). seat_of s (with_stopped (length x.table.history) s.knows)) c.deref-then-is_closed.ensures in
     let closed = ap (λ (x : LogState). x.table.closed) (sym c.deref-3.ensures) ∙ sym c.is_closed.ensures ∙ c.if-is_closed.true in
-    stopped_back _ _ _ _ c.take_log-log.ensures t c.give_turn.new.seat p.result found number c.args.needed (λ asked. ⊥) closed (subst IsLog c.deref.ensures c.shows_told.ensures.log) (c.give_turn.ensures [] [] (alone_still _ _ _ _ c.take_log-log.ensures t t p.result found number c.requires.free))
+    stopped_back _ _ _ _ c.take_log-log.ensures t c.give_turn.new.seat p.result found number c.args.needed (λ asked. ⊥) closed (subst IsLog c.deref.ensures c.devices_agree.ensures.log) (c.give_turn.ensures [] [] (alone_still _ _ _ _ c.take_log-log.ensures t t p.result found number c.requires.free))
 
 pub give_turn-requires-then-published-needed-clause-holds : goal.give_turn-requires-then-published-needed-clause-holds
 give_turn-requires-then-published-needed-clause-holds g c = ([], [], alone _ _ _ _ c.take_log-log.ensures c.requires.free)
@@ -29,7 +29,7 @@ returns-then-published-needed-clause-refused g c =
     let p = c.published-published in
     let number = p.ensures.value ∙ ap (λ (x : LogState). length x.table.history) c.deref-2.ensures in
     let running = ap (λ (x : LogState). x.table.closed) (sym c.deref-3.ensures) ∙ sym c.is_closed.ensures ∙ c.if-is_closed.false in
-    full_back _ _ _ _ c.take_log-log.ensures c.give_turn-then-published-needed.new.seat c.args.needed p.result c.least_limit-limit.result (λ asked. ⊥) running (subst IsLog c.deref.ensures c.shows_told.ensures.log) number (c.least_limit-limit.ensures ∙ (λ i. min (c.limit.ensures.0 i) (last_number ((c.format.ensures ∙ ap (λ (x : LogState). x.wal.format) c.deref-4.ensures) i)))) c.if-published-needed.true
+    full_back _ _ _ _ c.take_log-log.ensures c.give_turn-then-published-needed.new.seat c.args.needed p.result c.least_limit-limit.result (λ asked. ⊥) running (subst IsLog c.deref.ensures c.devices_agree.ensures.log) number (c.least_limit-limit.ensures ∙ (λ i. min (c.limit.ensures.0 i) (last_number ((c.format.ensures ∙ ap (λ (x : LogState). x.wal.format) c.deref-4.ensures) i)))) c.if-published-needed.true
     (c.give_turn-then-published-needed.ensures [] [] (alone _ _ _ _ c.take_log-log.ensures c.requires.free))
 
 pub returns-clause-ok : goal.returns-clause-ok
@@ -37,4 +37,4 @@ returns-clause-ok g c =
     let p = c.published-published in
     let number = p.ensures.value ∙ ap (λ (x : LogState). length x.table.history) c.deref-2.ensures in
     let running = ap (λ (x : LogState). x.table.closed) (sym c.deref-3.ensures) ∙ sym c.is_closed.ensures ∙ c.if-is_closed.false in
-    opened _ _ _ _ c.take_log-log.ensures c.requires.free c.args.needed p.result c.least_limit-limit.result running number (c.least_limit-limit.ensures ∙ (λ i. min (c.limit.ensures.0 i) (last_number ((c.format.ensures ∙ ap (λ (x : LogState). x.wal.format) c.deref-4.ensures) i)))) c.if-published-needed.false (subst IsLog c.deref.ensures c.shows_told.ensures.log)
+    opened _ _ _ _ c.take_log-log.ensures c.requires.free c.args.needed p.result c.least_limit-limit.result running number (c.least_limit-limit.ensures ∙ (λ i. min (c.limit.ensures.0 i) (last_number ((c.format.ensures ∙ ap (λ (x : LogState). x.wal.format) c.deref-4.ensures) i)))) c.if-published-needed.false (subst IsLog c.deref.ensures c.devices_agree.ensures.log)

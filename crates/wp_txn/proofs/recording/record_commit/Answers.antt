@@ -7,7 +7,7 @@ use Rattle.wp_shared.specs.Log.{LogState}
 use Rattle.wp_records.specs.Records.{MayPut}
 use Rattle.wp_shared.specs.Seats.{SeatState}
 use Rattle.wp_txn.specs.Recording.{OpensLog, IsEndOf, Records}
-use Rattle.wp_names.specs.Txn.{PreparedState, HasPrepared}
+use Rattle.wp_open_txns.specs.Txn.{PreparedState, HasPrepared}
 use Rattle.wp_txn.proofs.MayPut.{may_commit, named_still}
 use Rattle.wp_txn.proofs.UnderLog.{one_apart}
 use Rattle.wp_txn.proofs.recording.record_commit.Goals as goal

@@ -2,7 +2,7 @@ use Rattle.std.proofs.Common.{◌≡◌, ◌+◌, ◌≤◌, ℕ, length, subst,
 use Rattle.std.specs.Prelude.{Result}
 use Rattle.std.proofs.lemmas.Result.{err_from_is_err_and}
 use Rattle.wp_entry.specs.Record.{last_number}
-use Rattle.wp_names.specs.declared.error.TxnError.{TxnError}
+use Rattle.wp_open_txns.specs.declared.error.TxnError.{TxnError}
 use Rattle.wp_shared.specs.Log.{LogState}
 use Rattle.wp_records.specs.Records.{MayPut}
 use Rattle.wp_records.specs.Writing.{HoldsWrite}

@@ -8,7 +8,7 @@ use Rattle.wp_shared.specs.Log.{LogState}
 use Rattle.wp_records.specs.Records.{MayPut}
 use Rattle.wp_shared.specs.Seats.{SeatState}
 use Rattle.wp_txn.specs.Recording.{OpensLog, Records}
-use Rattle.wp_names.specs.Txn.{OpenState, HasOpen}
+use Rattle.wp_open_txns.specs.Txn.{OpenState, HasOpen}
 use Rattle.wp_txn.proofs.MayPut.{may_prepare}
 use Rattle.wp_txn.proofs.UnderLog.{one_apart}
 use Rattle.wp_txn.proofs.recording.record_prepare.Goals as goal

@@ -1,4 +1,4 @@
-use Rattle.wp_names.proofs.Made.{stands_after}
+use Rattle.wp_open_txns.proofs.Made.{stands_after}
 use Rattle.wp_txn.proofs.DirectWrites.{may_free_direct, direct_freed}
 use Rattle.wp_txn.proofs.steps.free_direct.Goals as goal
 

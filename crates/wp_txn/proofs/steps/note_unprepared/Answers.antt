@@ -1,7 +1,7 @@
 use Rattle.wp_core.specs.Views.{unprepared}
 use Rattle.wp_shared.proofs.Noting.{may_note, noted}
-use Rattle.wp_names.specs.Actors.{transaction_in}
-use Rattle.wp_names.proofs.Made.{has_its}
+use Rattle.wp_open_txns.specs.Actors.{transaction_in}
+use Rattle.wp_open_txns.proofs.Made.{has_its}
 use Rattle.wp_txn.proofs.steps.note_unprepared.Goals as goal
 
 pub make_about-requires-clause-may : goal.make_about-requires-clause-may

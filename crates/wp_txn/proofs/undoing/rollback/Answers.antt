@@ -8,7 +8,7 @@ use Rattle.wp_txn.proofs.BeforeLog.{refused_txn_before}
 use Rattle.wp_txn.proofs.Ends.{refuses_prepared, refused_from}
 use Rattle.wp_txn.proofs.Goes.{refused_still}
 use Rattle.wp_txn.proofs.RollsBack.{prepared_since, asks_prior, locked_still, rolled_back_decides, rolled_back}
-use Rattle.wp_names.specs.declared.error.TxnError.TheVariants.{Memory}
+use Rattle.wp_open_txns.specs.declared.error.TxnError.TheVariants.{Memory}
 use Rattle.wp_txn.proofs.undoing.rollback.Goals as goal
 
 pub returns-in_default-clause-refused : goal.returns-in_default-clause-refused

@@ -1,5 +1,5 @@
 use Rattle.std.proofs.Common.{refl, arith}
-use Rattle.wp_ledger.proofs.Judged.{orderly_behind_all}
+use Rattle.wp_history.proofs.Judged.{orderly_behind_all}
 use Rattle.wp_wal.proofs.Told.{no_values, not_orderly, over_base, without_base}
 use Rattle.wp_wal.proofs.read.may_come.Goals as goal
 

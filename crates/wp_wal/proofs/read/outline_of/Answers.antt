@@ -1,6 +1,6 @@
 use Rattle.std.proofs.Common.{ℕ, List, subst}
 use Rattle.std.proofs.lemmas.Result.{err_from_is_err_and}
-use Rattle.wp_ledger.specs.Outline.{cut_in}
+use Rattle.wp_history.specs.Outline.{cut_in}
 use Rattle.wp_wal.specs.Reading.{TakesRecord, IsRefusedRecord}
 use Rattle.wp_wal.proofs.CutLemmas.{read_more, refused_there}
 use Rattle.wp_wal.proofs.Told.{all_read, begun_more, some_records}

@@ -1,5 +1,5 @@
 use Rattle.std.proofs.Common.{◌≡◌, ◌≢◌, [], take}
-use Rattle.wp_ledger.specs.Outline.{cut_in}
+use Rattle.wp_history.specs.Outline.{cut_in}
 use Rattle.wp_wal.specs.Reading.{IsTold}
 use Rattle.wp_wal.specs.Spelling.{AreCut, IsBegun}
 use Rattle.wp_wal.proofs.read.outline_of.Given as goal

@@ -1,5 +1,5 @@
 use Rattle.std.proofs.Common.{ap}
-use Rattle.wp_history.proofs.Opened.{tables_opened}
+use Rattle.wp_history_laws.proofs.Opened.{tables_opened}
 use Rattle.wp_locks.proofs.Maps.{map_of}
 use Rattle.wp_locks.proofs.locks.Locks.left_by.Goals as goal
 

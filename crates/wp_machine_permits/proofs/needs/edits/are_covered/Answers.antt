@@ -1,5 +1,5 @@
-use Rattle.wp_cover.proofs.Based.{none_settled}
+use Rattle.wp_cover.proofs.Based.{none_fixed}
 use Rattle.wp_machine_permits.proofs.needs.edits.are_covered.Goals as goal
 
-pub covers-requires-clause-settled : goal.covers-requires-clause-settled
-covers-requires-clause-settled c = none_settled c.args.history.now _ c.requires
+pub covers-requires-clause-in_step : goal.covers-requires-clause-in_step
+covers-requires-clause-in_step c = none_fixed c.args.history.now _ c.requires

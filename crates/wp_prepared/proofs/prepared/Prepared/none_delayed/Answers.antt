@@ -1,5 +1,5 @@
 use Rattle.std.proofs.Common.{IsTrue, ◌↔◌, subst}
-use Rattle.wp_model.specs.PreparedTables.{NoneDelayed}
+use Rattle.wp_model.specs.PreparedSets.{NoneDelayed}
 use Rattle.wp_prepared.proofs.prepared.Prepared.none_delayed.Goals as goal
 
 pub returns : goal.returns

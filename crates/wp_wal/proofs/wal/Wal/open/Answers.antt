@@ -1,4 +1,4 @@
-use Rattle.wp_ledger.specs.Outline.{cut_in}
+use Rattle.wp_history.specs.Outline.{cut_in}
 use Rattle.wp_wal.proofs.OpeningLemmas.{begun_keeps, begun_numbers, begun_refused, keeps_as, opened_log, records_refused}
 use Rattle.wp_wal.proofs.Told.{due_told}
 use Rattle.std.proofs.Common.{refl}

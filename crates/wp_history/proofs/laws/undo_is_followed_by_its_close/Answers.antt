@@ -1,5 +1,0 @@
-use Rattle.wp_history.proofs.Undecided.{close_follows}
-use Rattle.wp_history.proofs.laws.undo_is_followed_by_its_close.Goals as goal
-
-pub returns : goal.returns
-returns c = close_follows

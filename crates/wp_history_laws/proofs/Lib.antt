@@ -1,0 +1,13 @@
+pub mod Following
+pub mod Growth
+pub mod Undecided
+pub mod Ascending
+pub mod Undone
+pub mod Newest
+pub mod Prior
+pub mod Counting
+pub mod Held
+pub mod Above
+pub mod NewestVersion
+pub mod Opened
+pub mod Listed

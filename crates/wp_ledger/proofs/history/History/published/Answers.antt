@@ -1,4 +1,0 @@
-use Rattle.wp_ledger.proofs.history.History.published.Goals as goal
-
-pub returns-clause-legal : goal.returns-clause-legal
-returns-clause-legal c = rw (← c.self.view_is) c.self.invariant.legal

@@ -1,5 +1,0 @@
-use Rattle.wp_ledger.proofs.Judged.{kept_same}
-use Rattle.wp_ledger.proofs.history.History.reserve.Goals as goal
-
-pub invariant_of-self : goal.invariant_of-self
-invariant_of-self c = kept_same _ _ _ c.reserve.ensures.base c.self.invariant c.reserve.ensures.entries

@@ -1,6 +1,0 @@
-use Rattle.std.proofs.Common.{refl}
-use Rattle.wp_parts.proofs.EditsLemmas.{manifest_tells}
-use Rattle.wp_parts.proofs.edits.Edits.shows_told.Goals as goal
-
-pub returns-clause-manifest : goal.returns-clause-manifest
-returns-clause-manifest g c = rw (← c.self.view_is) (manifest_tells _ c.self.invariant c.self.inside.base refl)
