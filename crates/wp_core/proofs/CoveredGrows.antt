@@ -12,7 +12,7 @@ use Rattle.wp_model.specs.History.{entry_at, batch_at, is_undecided, newest, val
 use Rattle.wp_model.specs.Legal.{IsLegal, IsLegalNext, undone_last}
 use Rattle.wp_model.specs.Decision.{decision_in, decision_of, IsCommittedAt, version_in, entry_version}
 use Rattle.wp_model.specs.Versions.{version_at}
-use Rattle.wp_judge.specs.Words.{CommitPair}
+use Rattle.wp_judge.specs.Words.{CommitPair, commit_pair}
 use Rattle.wp_history_laws.proofs.Above.{legal_none_above, none_above, undecided_version, is_changed_from}
 use Rattle.wp_history_laws.proofs.Counting.{entry_version_old}
 use Rattle.wp_history_laws.proofs.Growth.{entry_at_next, length_next, after_front}
@@ -21,7 +21,7 @@ use Rattle.wp_history_laws.proofs.Held.{prior_to}
 use Rattle.wp_core.specs.Entries.{pair_by}
 use Rattle.wp_core.proofs.HistoryGrows.{none_is, before, after, grown_length, committed_old, committed_stays, committed_before_or_now, undecided_before_or_now, version_new, value_old, value_new, value_whole}
 use Rattle.wp_core.proofs.HistoryLaws.{decided_within, next_decides}
-use Rattle.wp_core.proofs.Tests.{same_some, none_some}
+use Rattle.wp_model.proofs.Tests.{same_some, none_some}
 
 -- what an undo has under a key is the store's value
 restored : {A : Type 0} {x : A} (o : Option A) (v : A) → option_map (λ _. x) o ≡ Some v → x ≡ v
@@ -109,8 +109,8 @@ module _ (history : List Entry) (entry : Entry) (legal : IsLegal (history ++ ent
 
     -- what is decided now has no version of the key, or one below the newest
     gives_same : value_at grown key next ≡ value_at history key (length history)
-        → ((q : ℕ) → pair_by next entry ≡ Some (record { number = q; decision = next }) → (version_at ys key q ≡ None) ⊎ ((m : ℕ) (value : Option (List ℕ)) → version_at xs key m ≡ Some value → IsCommittedAt history m (length history) → ((r : ℕ) → m < r → IsCommittedAt history r (length history) → version_at xs key r ≡ None) → q < m))
-        → ((q : ℕ) → pair_by next entry ≡ Some (record { number = q; decision = next }) → ((p : ℕ) → IsCommittedAt history p (length history) → version_at xs key p ≡ None) → version_at ys key q ≡ None)
+        → ((q : ℕ) → pair_by next entry ≡ Some (commit_pair q next) → (version_at ys key q ≡ None) ⊎ ((m : ℕ) (value : Option (List ℕ)) → version_at xs key m ≡ Some value → IsCommittedAt history m (length history) → ((r : ℕ) → m < r → IsCommittedAt history r (length history) → version_at xs key r ≡ None) → q < m))
+        → ((q : ℕ) → pair_by next entry ≡ Some (commit_pair q next) → ((p : ℕ) → IsCommittedAt history p (length history) → version_at xs key p ≡ None) → version_at ys key q ≡ None)
         → GivesStore xs history key (length history) → GivesStore ys grown key next
     gives_same same below none (inl g) = inl record {
       number = g.number;
@@ -119,7 +119,7 @@ module _ (history : List Entry) (entry : Entry) (legal : IsLegal (history ++ ent
       committed = committed_stays history entry legal g.number (length history) next (omega arith) g.committed;
       newest = λ q lt is. ⊎_elim
           (λ (c : IsCommittedAt history q (length history)). old key q (committed_within q (length history) c) ∙ g.newest q lt c)
-          (λ (e : pair_by next entry ≡ Some (record { number = q; decision = next })). ⊎_elim
+          (λ (e : pair_by next entry ≡ Some (commit_pair q next)). ⊎_elim
           (λ (none_there : version_at ys key q ≡ None). none_there)
           (λ lower. let under = lower g.number g.value g.there g.committed g.newest in absurd (omega (arith, under, lt)))
           (below q e))
@@ -134,25 +134,25 @@ module _ (history : List Entry) (entry : Entry) (legal : IsLegal (history ++ ent
       missing = same ∙ g.missing;
     }
 
-    gives_kept : value_at grown key next ≡ value_at history key (length history) → ((q : ℕ) → pair_by next entry ≡ Some (record { number = q; decision = next }) → version_at ys key q ≡ None) → GivesStore ys grown key next
+    gives_kept : value_at grown key next ≡ value_at history key (length history) → ((q : ℕ) → pair_by next entry ≡ Some (commit_pair q next) → version_at ys key q ≡ None) → GivesStore ys grown key next
     gives_kept same none = gives_same same (λ q e. inl (none q e)) (λ q e _. none q e) g_last
 
     -- the version of the key at p is the newest
     gives_top : (p : ℕ) (value : Option (List ℕ)) → version_at ys key p ≡ Some value → IsCommittedAt grown p next → ((q : ℕ) → p < q → version_at ys key q ≡ None) → value_at grown key next ≡ value → GivesStore ys grown key next
     gives_top p value there committed above stored = inl record { number = p; value = value; there = there; committed = committed; newest = λ q lt is. above q lt; stored = stored }
 
-    decided_now : (p : ℕ) → pair_by next entry ≡ Some (record { number = p; decision = next }) → IsCommittedAt grown p next
-    decided_now p e = let d = next_decides history entry (record { number = p; decision = next }) legal e in record { by = next; decided = d.decided; within = omega arith }
+    decided_now : (p : ℕ) → pair_by next entry ≡ Some (commit_pair p next) → IsCommittedAt grown p next
+    decided_now p e = let d = next_decides history entry (commit_pair p next) legal e in record { by = next; decided = d.decided; within = omega arith }
 
-    number_of : (p q : ℕ) → ◌≡◌ {A = Option CommitPair} (Some (record { number = p; decision = next })) (Some (record { number = q; decision = next })) → p ≡ q
-    number_of p q e = ap (λ (x : CommitPair). x.number) (same_some (record { number = p; decision = next }) (record { number = q; decision = next }) e)
+    number_of : (p q : ℕ) → ◌≡◌ {A = Option CommitPair} (Some (commit_pair p next)) (Some (commit_pair q next)) → p ≡ q
+    number_of p q e = ap (λ (x : CommitPair). x.number) (same_some (commit_pair p next) (commit_pair q next) e)
 
     -- a prepare that the entry decides, without the key
     none_of_prepare : (p : ℕ) → is_undecided history p ≡ true → change_to (batch_at history p) key ≡ None → version_at ys key p ≡ None
     none_of_prepare p u none = none_is (version_at ys key p) (λ v e. none_some (entry_version history p key) v (undecided_version history key p u ∙ none) (sym (entry_version_old history (entry ∷ []) p key (undecided_within history p u).1) ∙ part_now key p v e))
 
     -- a version that the entry itself has and decides
-    own_version : (change : Option (Option (List ℕ))) → version_in (Some entry) key ≡ change → pair_by next entry ≡ Some (record { number = next; decision = next })
+    own_version : (change : Option (Option (List ℕ))) → version_in (Some entry) key ≡ change → pair_by next entry ≡ Some (commit_pair next next)
         → (change ≡ None → value_at grown key next ≡ value_at history key (length history)) → ((v : Option (List ℕ)) → change ≡ Some v → value_at grown key next ≡ v) → GivesStore ys grown key next
     own_version None is pair same stored = gives_kept (same refl) (λ q e. ap (version_at ys key) (sym (number_of next q (sym pair ∙ e))) ∙ (new key ∙ is))
     own_version (Some v) is pair same stored = gives_top next v (new key ∙ is) (decided_now next pair) (λ q lt. past key q lt) (stored v refl)
@@ -204,7 +204,7 @@ module _ (history : List Entry) (entry : Entry) (legal : IsLegal (history ++ ent
         own_version (change_to batch key) (ap (λ (z : Entry). version_in (Some z) key) is) (ap (pair_by next) is)
         (λ e. value_now (Write batch) is ∙ ap (λ (o : Option (Option (List ℕ))). unwrap_or o (value_at history key (length history))) e)
         (λ v e. value_now (Write batch) is ∙ ap (λ (o : Option (Option (List ℕ))). unwrap_or o (value_at history key (length history))) e)
-    by_entry (Prepare name batch) is a = gives_kept (value_now (Prepare name batch) is) (λ q pair. let no : None ≡ Some (record { number = q; decision = next }) = sym (ap (pair_by next) is) ∙ pair in absurd cc)
+    by_entry (Prepare name batch) is a = gives_kept (value_now (Prepare name batch) is) (λ q pair. let no : None ≡ Some (commit_pair q next) = sym (ap (pair_by next) is) ∙ pair in absurd cc)
     by_entry (Commit p) is a = commit_version p (change_to (batch_at history p) key) is refl a.orderly.names_undecided a.orderly.undo_is_closed
     by_entry (Undo p batch) is a =
         own_version (change_to batch key) (ap (λ (z : Entry). version_in (Some z) key) is) (ap (pair_by next) is)

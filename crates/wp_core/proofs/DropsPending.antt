@@ -9,7 +9,7 @@ use Rattle.wp_model.specs.Decision.{decision_of}
 use Rattle.wp_model.specs.History.{entry_at, is_prepare}
 use Rattle.wp_model.specs.Legal.{IsLegal}
 use Rattle.wp_model.specs.Versions.{version_at}
-use Rattle.wp_judge.specs.Words.{CommitPair, decision_if}
+use Rattle.wp_judge.specs.Words.{CommitPair, commit_pair, decision_if}
 use Rattle.wp_core.specs.Cache.{cache_place, pair_at, cached}
 use Rattle.wp_core.specs.Entries.{extended, pending_pair}
 use Rattle.wp_core.specs.Turns.{write_turn}
@@ -26,13 +26,13 @@ use Rattle.wp_core.specs.IsSound.{IsSound}
 use Rattle.wp_model.proofs.Entries.{entry_at_old, prepared_within}
 use Rattle.wp_core.proofs.HistoryLaws.{decision_was, decision_within, decided_by_last, first_legal, decided_late}
 use Rattle.wp_core.proofs.PendingSteps.{with_pending, pending_changes, none_logged, so_pending}
-use Rattle.wp_core.proofs.Tests.{either, none_some}
+use Rattle.wp_model.proofs.Tests.{either, none_some}
 use Rattle.wp_core.proofs.Quiet.{notes_by}
 
 -- ---- the cache has pairs of the history alone
 
 -- what is decided with the pending entry, and is not its pair, is decided without it
-decided_without : (history pending : List Entry) (p c : ℕ) → IsLegal (history ++ pending) → (pending_pair history pending ≡ Some (record { number = p; decision = c }) → ⊥) → decision_of (extended history pending) p ≡ Some c → decision_of history p ≡ Some c
+decided_without : (history pending : List Entry) (p c : ℕ) → IsLegal (history ++ pending) → (pending_pair history pending ≡ Some (commit_pair p c) → ⊥) → decision_of (extended history pending) p ≡ Some c → decision_of history p ≡ Some c
 decided_without history [] p c legal apart e = e
 decided_without history (entry ∷ others) p c legal apart e =
     let one = first_legal history entry others legal in
@@ -41,7 +41,7 @@ decided_without history (entry ∷ others) p c legal apart e =
     elim (cases_lt (length history) c) [
       | inl past ↦
           let is : c ≡ suc (length history) = omega (arith, length-append history (entry ∷ [])) in
-          absurd (apart (decided_by_last history entry p (e ∙ ap Some is) ∙ ap (λ (d : ℕ). Some (record { number = p; decision = d })) (sym is)))
+          absurd (apart (decided_by_last history entry p (e ∙ ap Some is) ∙ ap (λ (d : ℕ). Some (commit_pair p d)) (sym is)))
       | inr within ↦ decision_was history (entry ∷ []) p c (omega arith) within e
     ]
 
@@ -61,7 +61,7 @@ cache_dropped w gone s = record {
 delayed_dropped : (w : World) → IsUndelayed w.writes w.prepared → IsSound w → AreDelayed w.writes.history [] w.prepared w.cache
 delayed_dropped w gone s = record {
   found = s.delayed.found;
-  commits = λ p c e. decided_without w.writes.history w.writes.pending p c s.history.legal_next (λ is. gone (record { number = p; decision = c }) is e) (s.delayed.commits p c e);
+  commits = λ p c e. decided_without w.writes.history w.writes.pending p c s.history.legal_next (λ is. gone (commit_pair p c) is e) (s.delayed.commits p c e);
 }
 
 prepare_without : (history pending : List Entry) (p : ℕ) → p ≢ suc (length history) → is_prepare (entry_at (extended history pending) p) ≡ true → is_prepare (entry_at history p) ≡ true

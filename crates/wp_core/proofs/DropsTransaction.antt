@@ -15,7 +15,7 @@ use Rattle.wp_core.specs.Entries.{batch_of_name}
 use Rattle.wp_core.specs.Sound.Locks.{Owner, owner_of, IsNameOf, IsDirectOf, IsOwner, AreLocked}
 use Rattle.wp_core.specs.Sound.Views.{Owns}
 use Rattle.wp_core.specs.IsSound.{IsSound, participants}
-use Rattle.wp_core.proofs.Keyed.{is_word_same, else_removed, still_there}
+use Rattle.wp_model.proofs.Keyed.{is_word_same, else_removed, still_there}
 use Rattle.wp_core.proofs.OwnerMoves.{owners_apart, key_known, name_kept, direct_kept}
 use Rattle.wp_core.proofs.AllParticipants.{mine, each_apart}
 use Rattle.wp_core.proofs.LocksChange.{SoWith, actor_after, owners_after, LocksParts, pasts_left}

@@ -17,7 +17,7 @@ use Rattle.wp_core.specs.Sound.Actors.{IsParticipantAt}
 use Rattle.wp_core.specs.Sound.Locks.{Owner, owner_of, Has, Began, IsNameOf, IsDirectOf, PrepareHas, CameToKey, IsOwner, AreLocked}
 use Rattle.wp_core.specs.Sound.Views.{Owns}
 use Rattle.wp_core.specs.IsSound.{IsSound, participants}
-use Rattle.wp_core.proofs.Keyed.{is_word_same, at_inserted, else_inserted, now_inserted, some_inserted}
+use Rattle.wp_model.proofs.Keyed.{is_word_same, at_inserted, else_inserted, now_inserted, some_inserted}
 use Rattle.wp_core.proofs.OwnerMoves.{owners_apart, came_still, name_kept, direct_kept}
 use Rattle.wp_core.proofs.AllParticipants.{mine, mine_now, was, each_apart}
 use Rattle.wp_core.proofs.PastsGrow.{in_front, in_last}

@@ -25,7 +25,8 @@ use Rattle.wp_core.specs.Lists.{IsIn}
 use Rattle.wp_core.specs.Entries.{pair_by}
 use Rattle.wp_core.proofs.Frames.{in_filter}
 use Rattle.wp_core.proofs.HistoryLaws.{decided_late, decision_stays, decision_was, decision_within, decided_by_last}
-use Rattle.wp_core.proofs.Tests.{one_not_other}
+use Rattle.wp_model.proofs.Tests.{one_not_other}
+use Rattle.wp_judge.specs.Words.{commit_pair}
 
 pub none_is : {A : Type 0} (o : Option A) → ((x : A) → o ≡ Some x → ⊥) → o ≡ None
 none_is None never = refl
@@ -104,13 +105,13 @@ module _ (history : List Entry) (entry : Entry) (legal : IsLegal (history ++ ent
   decision_old p c le e = let late = decided_late grown p c legal e in decision_was history (entry ∷ []) p c (omega (arith, late, le)) le e
 
   -- what the longer history decides was decided, or the entry decides it
-  pub decided_before_or_now : (p c : ℕ) → decision_of grown p ≡ Some c → (decision_of history p ≡ Some c) ⊎ ((c ≡ next) × (pair_by next entry ≡ Some (record { number = p; decision = c })))
+  pub decided_before_or_now : (p c : ℕ) → decision_of grown p ≡ Some c → (decision_of history p ≡ Some c) ⊎ ((c ≡ next) × (pair_by next entry ≡ Some (commit_pair p c)))
   decided_before_or_now p c e = elim (cases_lt (length history) c) [
     | inl past ↦
         let within = decision_within grown p c e in let l = grown_length in
         let same : c ≡ next = omega (arith, within, l, past) in
         let at : decision_of grown p ≡ Some next = e ∙ ap (λ (x : ℕ). Some x) same in
-        inr (same, decided_by_last history entry p at ∙ ap (λ (x : ℕ). Some (record { number = p; decision = x })) (sym same))
+        inr (same, decided_by_last history entry p at ∙ ap (λ (x : ℕ). Some (commit_pair p x)) (sym same))
     | inr le ↦ inl (decision_old p c le e)
   ]
 
@@ -121,10 +122,10 @@ module _ (history : List Entry) (entry : Entry) (legal : IsLegal (history ++ ent
   committed_stays p s t le k = let w = k.within in record { by = k.by; decided = decision_stays history (entry ∷ []) p k.by k.decided; within = omega (arith, w, le) }
 
   -- what is committed by the longer history, at its end
-  pub committed_before_or_now : (p : ℕ) → IsCommittedAt grown p next → IsCommittedAt history p (length history) ⊎ (pair_by next entry ≡ Some (record { number = p; decision = next }))
+  pub committed_before_or_now : (p : ℕ) → IsCommittedAt grown p next → IsCommittedAt history p (length history) ⊎ (pair_by next entry ≡ Some (commit_pair p next))
   committed_before_or_now p k = ⊎_elim
       (λ (d : decision_of history p ≡ Some k.by). inl record { by = k.by; decided = d; within = decision_within history p k.by d })
-      (λ (d : (k.by ≡ next) × (pair_by next entry ≡ Some (record { number = p; decision = k.by }))). inr (d.1 ∙ ap (λ (x : ℕ). Some (record { number = p; decision = x })) d.0))
+      (λ (d : (k.by ≡ next) × (pair_by next entry ≡ Some (commit_pair p k.by))). inr (d.1 ∙ ap (λ (x : ℕ). Some (commit_pair p x)) d.0))
       (decided_before_or_now p k.by k.decided)
 
   -- ---- what stays undecided

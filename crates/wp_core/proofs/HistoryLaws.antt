@@ -11,10 +11,10 @@ use Rattle.wp_model.specs.Legal.{IsLegal, IsLegalNext}
 use Rattle.wp_model.specs.Decision.{decision_of, decision_in}
 use Rattle.wp_history_laws.proofs.Growth.{entry_at_next, after_front, legal_before}
 use Rattle.wp_model.proofs.Entries.{entry_at_old, entry_at_past, undecided_within}
-use Rattle.wp_judge.specs.Words.{CommitPair}
+use Rattle.wp_judge.specs.Words.{CommitPair, commit_pair}
 use Rattle.wp_core.specs.Entries.{pair_by}
 use Rattle.wp_core.specs.Sound.Snapshots.{has_versions, has_versions_at}
-use Rattle.wp_core.proofs.Tests.{both, one_not_other, same_some}
+use Rattle.wp_model.proofs.Tests.{both, one_not_other, same_some}
 
 pub is_equal : (q p : ℕ) → (q == p) ≡ true → q ≡ p
 is_equal q p e = grind (arith, nat_tests)
@@ -247,8 +247,8 @@ pub record IsDecidedNext (history : List Entry) (entry : Entry) (pair : CommitPa
   pub ordered : pair.number ≤ pair.decision
   pub last : pair.decision ≡ suc (length history)
 
-is_pair : (history : List Entry) (entry : Entry) (p c : ℕ) (pair : CommitPair) → Some (record { number = p; decision = c }) ≡ Some pair → IsDecidedNext history entry (record { number = p; decision = c }) → IsDecidedNext history entry pair
-is_pair history entry p c pair e k = subst (IsDecidedNext history entry) (same (record { number = p; decision = c }) pair e) k
+is_pair : (history : List Entry) (entry : Entry) (p c : ℕ) (pair : CommitPair) → Some (commit_pair p c) ≡ Some pair → IsDecidedNext history entry (commit_pair p c) → IsDecidedNext history entry pair
+is_pair history entry p c pair e k = subst (IsDecidedNext history entry) (same (commit_pair p c) pair e) k
   where
     same : (x y : CommitPair) → Some x ≡ Some y → x ≡ y
     same x y q = cc
@@ -282,9 +282,9 @@ first_legal history entry others legal = legal_before (history ++ entry ∷ []) 
 
 -- ---- what the last entry decided
 
-pair_of_decider : (n p : ℕ) (entry : Entry) → decides p entry ≡ true → pair_by n entry ≡ Some (record { number = p; decision = n })
-pair_of_decider n p (Commit q) d = ap (λ (x : ℕ). Some (record { number = x; decision = n })) (is_equal q p d)
-pair_of_decider n p (Close q) d = ap (λ (x : ℕ). Some (record { number = x; decision = n })) (is_equal q p d)
+pair_of_decider : (n p : ℕ) (entry : Entry) → decides p entry ≡ true → pair_by n entry ≡ Some (commit_pair p n)
+pair_of_decider n p (Commit q) d = ap (λ (x : ℕ). Some (commit_pair x n)) (is_equal q p d)
+pair_of_decider n p (Close q) d = ap (λ (x : ℕ). Some (commit_pair x n)) (is_equal q p d)
 pair_of_decider n p (Write batch) d = absurd (true≢false (sym d))
 pair_of_decider n p (Prepare name batch) d = absurd (true≢false (sym d))
 pair_of_decider n p (Undo q batch) d = absurd (true≢false (sym d))
@@ -298,18 +298,18 @@ last_decides history entry p at =
     ap (decides p) (sym (same_some f.entry entry q)) ∙ f.passes
 
 -- an entry that decides itself, as the last one
-by_itself : (history : List Entry) (entry x : Entry) (p : ℕ) → pair_by (suc (length history)) x ≡ Some (record { number = suc (length history); decision = suc (length history) }) → Some p ≡ Some (suc (length history)) → (p ≡ suc (length history) → Some x ≡ Some entry)
-    → pair_by (suc (length history)) entry ≡ Some (record { number = p; decision = suc (length history) })
+by_itself : (history : List Entry) (entry x : Entry) (p : ℕ) → pair_by (suc (length history)) x ≡ Some (commit_pair (suc (length history)) (suc (length history))) → Some p ≡ Some (suc (length history)) → (p ≡ suc (length history) → Some x ≡ Some entry)
+    → pair_by (suc (length history)) entry ≡ Some (commit_pair p (suc (length history)))
 by_itself history entry x p own e is =
     let q : p ≡ suc (length history) = same_some p (suc (length history)) e in
     let same : Some x ≡ Some entry = is q in
-    ap (λ (o : Option Entry). pair_in (suc (length history)) o) (sym same) ∙ own ∙ ap (λ (n : ℕ). Some (record { number = n; decision = suc (length history) })) (sym q)
+    ap (λ (o : Option Entry). pair_in (suc (length history)) o) (sym same) ∙ own ∙ ap (λ (n : ℕ). Some (commit_pair n (suc (length history)))) (sym q)
   where
     pair_in : ℕ → Option Entry → Option CommitPair
     pair_in n (Some y) = pair_by n y
     pair_in n None = None
 
-by_last : (history : List Entry) (entry : Entry) (p : ℕ) (o : Option Entry) → decision_in (history ++ entry ∷ []) p o ≡ Some (suc (length history)) → (p ≡ suc (length history) → o ≡ Some entry) → pair_by (suc (length history)) entry ≡ Some (record { number = p; decision = suc (length history) })
+by_last : (history : List Entry) (entry : Entry) (p : ℕ) (o : Option Entry) → decision_in (history ++ entry ∷ []) p o ≡ Some (suc (length history)) → (p ≡ suc (length history) → o ≡ Some entry) → pair_by (suc (length history)) entry ≡ Some (commit_pair p (suc (length history)))
 by_last history entry p (Some (Prepare name batch)) e is =
     let k = position_is (decides p) (history ++ entry ∷ []) (suc (length history)) e in
     let at = k.1 in pair_of_decider (suc (length history)) p entry (last_decides history entry p (omega arith))
@@ -320,5 +320,5 @@ by_last history entry p (Some (Close q)) e is = let no : None ≡ Some (suc (len
 by_last history entry p None e is = let no : None ≡ Some (suc (length history)) = e in absurd (cc)
 
 -- what is decided by the last entry is its pair
-pub decided_by_last : (history : List Entry) (entry : Entry) (p : ℕ) → decision_of (history ++ entry ∷ []) p ≡ Some (suc (length history)) → pair_by (suc (length history)) entry ≡ Some (record { number = p; decision = suc (length history) })
+pub decided_by_last : (history : List Entry) (entry : Entry) (p : ℕ) → decision_of (history ++ entry ∷ []) p ≡ Some (suc (length history)) → pair_by (suc (length history)) entry ≡ Some (commit_pair p (suc (length history)))
 decided_by_last history entry p e = by_last history entry p (entry_at (history ++ entry ∷ []) p) e (λ q. ap (entry_at (history ++ entry ∷ [])) q ∙ entry_next history entry)

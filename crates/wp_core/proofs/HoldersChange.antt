@@ -18,7 +18,7 @@ use Rattle.wp_core.specs.Sound.Store.{IsInStep}
 use Rattle.wp_core.specs.Sound.Views.{guarded_by}
 use Rattle.wp_core.specs.IsSound.{IsSound}
 use Rattle.wp_core.proofs.AllParts.{TurnParts, SoIn, views_of, pasts_of, readers_still, notes_stay, quiet_step}
-use Rattle.wp_core.proofs.Tests.{none_some}
+use Rattle.wp_model.proofs.Tests.{none_some}
 
 -- while the log is not closed no segment waits then
 pub none_next : (t : WriteState) → NoneNext t → (segment : Segment) → t.next ≡ Some segment → t.closed ≡ false → ⊥

@@ -24,7 +24,7 @@ use Rattle.wp_core.proofs.Remembers.{installed_still, placed_still, faults_more,
 use Rattle.wp_core.proofs.TablesChange.{SoInstalled, actor_after, pasts_after, tables_change}
 use Rattle.wp_core.proofs.AllParts.{SoIn}
 use Rattle.wp_core.proofs.Quiet.{Stays, stays_not}
-use Rattle.wp_core.proofs.Tests.{same_some, none_some}
+use Rattle.wp_model.proofs.Tests.{same_some, none_some}
 
 -- the tables that are due once one more event is in a past
 pub due_more : (first : InstalledEdit) (past : List Event) (e : Event) → tables_due first (past ++ e ∷ []) ≡ due_after (tables_due first past) e

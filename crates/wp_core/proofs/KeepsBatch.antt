@@ -17,7 +17,7 @@ use Rattle.wp_core.specs.Notes.{forgets}
 use Rattle.wp_core.specs.Sound.Locks.{owner_of}
 use Rattle.wp_core.specs.Sound.Views.{Owns}
 use Rattle.wp_core.specs.IsSound.{IsSound}
-use Rattle.wp_core.proofs.Keyed.{is_word_same, at_inserted, else_inserted}
+use Rattle.wp_model.proofs.Keyed.{is_word_same, at_inserted, else_inserted}
 use Rattle.wp_core.proofs.OwnersStay.{IsSameOwner, locked_still}
 use Rattle.wp_core.proofs.AllParts.{SoIn, all_parts, tables_of, views_still, pasts_still, readers_still, turns_still, notes_stay, idle_set, led_still}
 

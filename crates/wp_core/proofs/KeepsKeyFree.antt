@@ -22,10 +22,10 @@ use Rattle.wp_core.specs.Notes.{forgets}
 use Rattle.wp_core.specs.Sound.Actors.{IsParticipantAt}
 use Rattle.wp_core.specs.Sound.Locks.{Owner, owner_of, Has, IsNameOf, IsDirectOf, CameToKey, IsOwner, AreLocked}
 use Rattle.wp_core.specs.IsSound.{IsSound, participants}
-use Rattle.wp_core.proofs.Keyed.{same_test, is_word_same, not_same, else_removed, still_there}
+use Rattle.wp_model.proofs.Keyed.{same_test, is_word_same, not_same, else_removed, still_there}
 use Rattle.wp_core.proofs.OwnerMoves.{owners_apart, name_kept, direct_kept}
 use Rattle.wp_core.proofs.AllParticipants.{mine, was, each_apart}
-use Rattle.wp_core.proofs.HistoryHolders.{none_named}
+use Rattle.wp_history_laws.proofs.Named.{none_named}
 use Rattle.wp_core.proofs.LocksChange.{SoWith, actor_after, owners_after, LocksParts, locks_change, pasts_left}
 use Rattle.wp_core.proofs.AllParts.{SoIn}
 use Rattle.wp_core.proofs.OtherKeys.{has_now, had_name, has_still, owns_still, each_key, unprepared_still}

@@ -24,7 +24,7 @@ use Rattle.wp_core.specs.Notes.{forgets}
 use Rattle.wp_core.specs.Sound.Actors.{IsParticipantAt}
 use Rattle.wp_core.specs.Sound.Locks.{Owner, owner_of, Has, IsNameOf, IsDirectOf, CameToKey, IsOwner, AreLocked}
 use Rattle.wp_core.specs.IsSound.{IsSound, participants}
-use Rattle.wp_core.proofs.Keyed.{same_test, is_word_same, not_same, at_inserted}
+use Rattle.wp_model.proofs.Keyed.{same_test, is_word_same, not_same, at_inserted}
 use Rattle.wp_core.proofs.OwnerMoves.{owners_apart, came_still, name_kept, direct_kept}
 use Rattle.wp_core.proofs.AllParticipants.{mine, was_apart, each_apart}
 use Rattle.wp_core.proofs.PastsGrow.{in_front, in_last}
@@ -32,7 +32,7 @@ use Rattle.wp_core.proofs.LocksChange.{SoWith, actor_after, owners_after, LocksP
 use Rattle.wp_core.proofs.AllParts.{SoIn}
 use Rattle.wp_core.proofs.KeyLocked.{held_still, held_now, owner_locked, so_locked, pasts_locked}
 use Rattle.wp_core.proofs.OtherKeys.{has_now, had_name, has_still, owns_still, each_key, unprepared_still}
-use Rattle.wp_core.proofs.Tests.{or_true}
+use Rattle.wp_model.proofs.Tests.{or_true}
 use Rattle.wp_core.proofs.OtherOwners.{nobody_else}
 
 -- ---- sets of keys

@@ -3,13 +3,13 @@ use Rattle.std.proofs.Common.{◌≡◌, ◌≢◌, ◌⊎◌, ⊎_elim, inl, in
 use mathlib.Core.Option.{some}
 use lib.ListN.{get_elem?}
 use Rattle.wp_core.specs.Turns.{Holds, write_turn, prepared_turn}
-use Rattle.wp_core.specs.Views.{Fact}
+use Rattle.wp_core.specs.Views.{Fact, passed, apart, words_stay, has_left, none_waits, number_in_heap, number_not_in_heap}
 use Rattle.wp_core.specs.World.{Actor, Participant, World}
 use Rattle.wp_core.specs.Steps.{store_max_evicted}
 use Rattle.wp_core.specs.Effects.{done}
 use Rattle.wp_core.specs.Needs.{Needs}
 use Rattle.wp_core.specs.Notes.{forgets}
-use Rattle.wp_core.specs.Sound.Prepared.{AreFlags}
+use Rattle.wp_core.specs.Sound.Prepared.{AreFlags, AreDecided, AreUndecided, AreDelayed, IsPassed, IsWide, IsEntered}
 use Rattle.wp_core.specs.Sound.Views.{IsSo}
 use Rattle.wp_core.specs.IsSound.{IsSound}
 use Rattle.wp_core.proofs.Quiet.{Stays, stays_not, notes_by, bound_changes}
@@ -23,15 +23,13 @@ use Rattle.std.specs.FinMap as finite
 use Rattle.wp_core.specs.Cache.{cached}
 use Rattle.wp_core.specs.Reading.{Registration}
 use Rattle.wp_judge.specs.declared.observed.Observed.{Observed}
-use Rattle.wp_judge.specs.Words.{CommitPair}
-use Rattle.wp_core.specs.Views.{passed, apart, words_stay, has_left, none_waits, number_in_heap, number_not_in_heap}
+use Rattle.wp_judge.specs.Words.{CommitPair, commit_pair}
 use Rattle.wp_model.specs.PreparedSets.{PreparedSets, is_prepared, NoneDelayed}
 use Rattle.wp_model.specs.Snapshots.{is_old_commit}
 use Rattle.wp_core.specs.Tables.{with_moved}
 use Rattle.wp_core.specs.Sound.History.{IsHistory}
-use Rattle.wp_core.specs.Sound.Prepared.{AreDecided, AreUndecided, AreDelayed, IsPassed, IsWide, IsEntered}
 use Rattle.wp_core.specs.Sound.Reader.{IsPassedBy, IsReachedBy, AnswersFor, IsReader}
-use Rattle.wp_core.proofs.Tests.{both, either}
+use Rattle.wp_model.proofs.Tests.{both, either}
 
 -- ---- the moved numbers
 
@@ -88,7 +86,7 @@ delayed_after w m d = record { found = λ p c there decided. d.found p c (sym (s
 decided_after : (w : World) (m : ℕ) → w.max_evicted ≤ m → AreDecided w.writes.history w.cache w.prepared.delayed_commits w.max_evicted w.snapshots → AreDecided w.writes.history w.cache w.prepared.delayed_commits m w.snapshots
 decided_after w m le d = record {
   found = λ p c decided. ⊎_elim
-      (λ (e : IsEntered w.cache w.prepared.delayed_commits w.max_evicted (record { number = p; decision = c })). inl (entered_after w m le (record { number = p; decision = c }) e))
+      (λ (e : IsEntered w.cache w.prepared.delayed_commits w.max_evicted (commit_pair p c)). inl (entered_after w m le (commit_pair p c) e))
       (λ (e : IsPassed w.max_evicted w.snapshots p c). inr (le_trans e.0 le, e.1)) (d.found p c decided);
   kept = d.kept;
 }

@@ -20,8 +20,8 @@ use Rattle.wp_core.specs.Effects.{done}
 use Rattle.wp_core.specs.Needs.{Needs}
 use Rattle.wp_core.specs.Notes.{forgets}
 use Rattle.wp_core.specs.IsSound.{IsSound}
-use Rattle.wp_core.proofs.Keyed.{is_word_same, at_removed, else_removed}
-use Rattle.wp_core.proofs.HistoryHolders.{none_named}
+use Rattle.wp_model.proofs.Keyed.{is_word_same, at_removed, else_removed}
+use Rattle.wp_history_laws.proofs.Named.{none_named}
 use Rattle.wp_core.proofs.LocksChange.{locks_change}
 use Rattle.wp_core.proofs.DropsTransaction.{Drops, p, dropped_parts}
 use Rattle.wp_core.proofs.KeepsNameLeft.{two_names}

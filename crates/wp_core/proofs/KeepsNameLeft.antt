@@ -17,7 +17,7 @@ use Rattle.wp_core.specs.Needs.{Needs}
 use Rattle.wp_core.specs.Notes.{forgets}
 use Rattle.wp_core.specs.Sound.Locks.{owner_of}
 use Rattle.wp_core.specs.IsSound.{IsSound}
-use Rattle.wp_core.proofs.Keyed.{is_word_same, at_inserted, else_inserted, some_inserted}
+use Rattle.wp_model.proofs.Keyed.{is_word_same, at_inserted, else_inserted, some_inserted}
 use Rattle.wp_core.proofs.AllParticipants.{mine}
 use Rattle.wp_core.proofs.LocksChange.{locks_change}
 use Rattle.wp_core.proofs.DropsTransaction.{Drops, p, dropped_parts}

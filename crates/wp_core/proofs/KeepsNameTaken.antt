@@ -34,7 +34,7 @@ use Rattle.wp_core.specs.IsSound.{IsSound}
 use Rattle.wp_core.proofs.KeepsSeen.{shorter}
 use Rattle.wp_core.proofs.LocksChange.{locks_change}
 use Rattle.wp_core.proofs.GainsTransaction.{Gains, p, t, gained_parts}
-use Rattle.wp_core.proofs.Tests.{both}
+use Rattle.wp_model.proofs.Tests.{both}
 
 -- ---- the keys that are held for a name
 

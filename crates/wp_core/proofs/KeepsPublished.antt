@@ -34,7 +34,7 @@ use Rattle.wp_core.proofs.PublishesNotes.{prepares_held, transaction_live, mine_
 use Rattle.wp_core.proofs.PublishesReaders.{registered_part, readers_part, judged_part}
 use Rattle.wp_core.proofs.PublishesVersions.{stored_part}
 use Rattle.wp_core.proofs.Quiet.{idle_after}
-use Rattle.wp_core.proofs.Tests.{some_there}
+use Rattle.wp_model.proofs.Tests.{some_there}
 use Rattle.wp_core.proofs.SnapshotsStep.{among_live}
 use Rattle.wp_core.proofs.AllParts.{all_parts, kept_part, pasts_kept, readers_kept, turns_changed, notes_stay, led_still}
 use Rattle.wp_core.proofs.Gives.{not_free}

@@ -28,7 +28,7 @@ use Rattle.wp_core.proofs.Frames.{at_map}
 use Rattle.wp_core.proofs.AllParticipants.{mine}
 use Rattle.wp_core.proofs.OwnersStay.{past_locked}
 use Rattle.wp_core.proofs.Quiet.{holder_lives}
-use Rattle.wp_core.proofs.Tests.{some_there}
+use Rattle.wp_model.proofs.Tests.{some_there}
 use Rattle.wp_core.proofs.Remembers.{based_of, IsQuiet, holders_more, board_more, faults_more, edits_more}
 use Rattle.wp_core.proofs.AllParts.{SoIn, all_parts, tables_of, views_still, readers_still, turns_still, notes_stay, idle_set, led_still}
 

@@ -5,7 +5,7 @@ use lib.ListN.{get_elem?}
 use Rattle.wp_core.proofs.AllParticipants.{mine}
 use Rattle.wp_core.specs.Views.{Fact}
 use Rattle.wp_core.specs.World.{Actor, Participant, World}
-use Rattle.wp_core.specs.Sound.Actors.{seen_of, own_of, AreOwned, participants_of, learned_of}
+use Rattle.wp_core.specs.Sound.Actors.{seen_of, own_of, AreOwned, participants_of, learned_of, StartsWith}
 use Rattle.wp_core.specs.Sound.Snapshots.{registered_of, AreRegistered, view_of, HasSeen}
 use Rattle.wp_core.specs.Sound.Views.{IsSo}
 use Rattle.wp_core.specs.IsSound.{IsSound}
@@ -16,7 +16,6 @@ use Rattle.wp_core.specs.Steps.{load_published}
 use Rattle.wp_core.specs.Changes.{sees}
 use Rattle.wp_core.specs.Effects.{done}
 use Rattle.wp_core.specs.Notes.{forgets, ends}
-use Rattle.wp_core.specs.Sound.Actors.{StartsWith}
 use Rattle.wp_core.proofs.Participants.{each_person_set}
 use Rattle.wp_core.proofs.AllParts.{SoIn, all_parts, tables_of, kept_part, locks_still, pasts_still, readers_still, turns_still, notes_stay, idle_set, led_still}
 

@@ -34,7 +34,7 @@ use Rattle.wp_core.proofs.HistoryLaws.{decided_or_undecided, decision_within}
 use Rattle.wp_model.proofs.Numbers.{get_inserted, get_inserted_else, get_removed, get_removed_else}
 use Rattle.wp_core.proofs.Readings.{below_smallest}
 use Rattle.wp_core.proofs.SnapshotsStep.{SnapshotsGrow, ViewsGrow, with_view, snapshots_step}
-use Rattle.wp_core.proofs.Tests.{same_some}
+use Rattle.wp_model.proofs.Tests.{same_some}
 
 -- ---- one number's snapshot
 

@@ -13,7 +13,7 @@ use Rattle.wp_core.specs.Steps.{Step}
 use Rattle.wp_core.specs.Changes.{with_key}
 use Rattle.wp_core.specs.Sound.Locks.{Owner, IsOwner}
 use Rattle.wp_core.specs.IsSound.{IsSound}
-use Rattle.wp_core.proofs.Keyed.{now_inserted, inserted_still}
+use Rattle.wp_model.proofs.Keyed.{now_inserted, inserted_still}
 use Rattle.wp_core.proofs.AllParts.{PastParts, SoIn}
 use Rattle.wp_core.proofs.LocksChange.{SoWith, actors_after, pasts_grown, board_grown}
 

@@ -1,8 +1,6 @@
-pub mod Tests
 pub mod CrashImages
 pub mod Frames
 pub mod Participants
-pub mod ReaderOrder
 pub mod Registered
 pub mod ReaderFacts
 pub mod Looks
@@ -37,7 +35,6 @@ pub mod OwnersStay
 pub mod OwnerMoves
 pub mod Remembers
 pub mod KeepsRemembered
-pub mod Keyed
 pub mod LocksChange
 pub mod KeyLocked
 pub mod OtherOwners
@@ -49,7 +46,6 @@ pub mod KeepsBatch
 pub mod KeepsNoted
 pub mod KeepsDirectLock
 pub mod KeepsDirectFree
-pub mod HistoryHolders
 pub mod KeepsKeyLock
 pub mod KeepsKeyFree
 pub mod DropsTransaction

@@ -33,10 +33,10 @@ use Rattle.wp_core.specs.IsSound.{IsSound}
 use Rattle.wp_core.proofs.Frames.{at_map}
 use Rattle.wp_core.proofs.HistoryLaws.{decided_late}
 use Rattle.wp_core.proofs.Registered.{registered_live}
-use Rattle.wp_core.proofs.ReaderOrder.{NotDelayed, MissedAgain, At, asked, from_begun, from_missed, from_flag, from_not_delayed, from_missed_again, from_bounded_again, from_old}
+use Rattle.wp_judge.proofs.ReaderOrder.{NotDelayed, MissedAgain, At, asked, from_begun, from_missed, from_flag, from_not_delayed, from_missed_again, from_bounded_again, from_old}
 use Rattle.wp_core.proofs.ReaderFacts.{decided_unless_delayed, answers_now, reached_by, passed_by, extended_right, word_right, old_right, delayed_right}
 use Rattle.wp_core.proofs.Looks.{leaves_most, looks}
-use Rattle.wp_core.proofs.Tests.{same_some, some_none, none_some}
+use Rattle.wp_model.proofs.Tests.{same_some, some_none, none_some}
 
 -- ---- answers
 

@@ -30,7 +30,7 @@ use Rattle.wp_core.proofs.Registered.{registered_there}
 use Rattle.wp_core.proofs.KeepsSnapshots.{has_old, live_there, at_number, sum_append, in_with, in_middle, below_all, grows_at, none_at, registered_at}
 use Rattle.wp_core.proofs.SnapshotsStep.{SnapshotsGrow, with_view, snapshots_step}
 use Rattle.wp_core.proofs.Readings.{below_smallest}
-use Rattle.wp_core.proofs.Tests.{same_some}
+use Rattle.wp_model.proofs.Tests.{same_some}
 
 -- ---- a version is noted
 

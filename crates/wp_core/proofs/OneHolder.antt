@@ -13,8 +13,8 @@ use Rattle.wp_model.proofs.Entries.{entry_at_old, undecided_prepared, undecided_
 use Rattle.wp_history_laws.proofs.Undecided.{undecided_old}
 use Rattle.wp_history_laws.proofs.Held.{not_free, free_key}
 use Rattle.wp_model.proofs.Found.{found_holder, found_named}
-use Rattle.wp_core.proofs.HistoryHolders.{none_named}
-use Rattle.wp_core.proofs.Tests.{both}
+use Rattle.wp_history_laws.proofs.Named.{none_named}
+use Rattle.wp_model.proofs.Tests.{both}
 
 -- the prepare is undecided, and passes a test of this word
 abbrev HasIt : (Option Entry → List ℕ → Bool) → List Entry → ℕ → List ℕ → Type 0

@@ -19,7 +19,7 @@ use Rattle.wp_model.specs.Legal.{AreFree, IsLegalNext, IsLegal}
 use Rattle.wp_model.specs.LockState.{LockState, nothing_locked}
 use Rattle.wp_model.specs.Snapshots.{Snapshots}
 use Rattle.wp_model.proofs.BatchLemmas.{batch_ascends}
-use Rattle.wp_judge.specs.Words.{CommitPair, word_of}
+use Rattle.wp_judge.specs.Words.{CommitPair, commit_pair, word_of}
 use Rattle.wp_judge.specs.Order.{judgement}
 use Rattle.wp_judge.specs.declared.observed.Observed.{Observed}
 use Rattle.wp_judge.specs.declared.observed.Load.TheVariants.{FirstWord}
@@ -39,7 +39,7 @@ use Rattle.wp_core.specs.Notes.{forgets}
 use Rattle.wp_core.specs.Runs.{ReachesFrom, stays, goes_on, Reaches}
 use Rattle.wp_model.specs.Flushed.{versions_under}
 use Rattle.wp_core.proofs.Empty.{empty_world, empty_is_opening}
-use Rattle.wp_core.proofs.Keyed.{is_word_same, at_inserted, else_inserted}
+use Rattle.wp_model.proofs.Keyed.{is_word_same, at_inserted, else_inserted}
 use Rattle.wp_core.proofs.PublishesVersions.{at_under}
 use Rattle.wp_core.specs.Sound.Prepared.{IsEntered}
 
@@ -159,7 +159,7 @@ legal batch is = record { few = omega arith; each = each }
     each (suc n) entry at = let q : None ≡ Some entry = at in absurd (cc)
 
 abbrev first_pair : CommitPair
-first_pair = record { number = 1; decision = 1 }
+first_pair = commit_pair 1 1
 
 -- the versions of the batch are under the number 1, and nothing else is
 has_versions : (batch : List Change) → HasVersionsAt (Some (Write batch)) 1 [] (versions_under 1 batch)

@@ -42,8 +42,8 @@ use Rattle.wp_core.specs.Cache.{pair_at}
 use Rattle.wp_judge.proofs.Packing.{word_back}
 use Rattle.wp_core.proofs.HistoryLaws.{decision_within, undecided_not_decided}
 use Rattle.wp_core.proofs.OneHolder.{holder_is, name_is, found_name}
-use Rattle.wp_core.proofs.Tests.{none_some}
-use Rattle.wp_core.proofs.Keyed.{txn_is}
+use Rattle.wp_model.proofs.Tests.{none_some}
+use Rattle.wp_model.proofs.Keyed.{txn_is}
 use Rattle.wp_core.proofs.PendingSteps.{none_logged}
 
 -- ---- what is not there

@@ -30,7 +30,7 @@ use Rattle.wp_core.proofs.HistoryGrows.{grown_length, version_new}
 use Rattle.wp_core.proofs.PendingVersions.{covers_same}
 use Rattle.wp_core.proofs.PublishesVersions.{at_front, at_back, at_under, later_more, up_to_within, up_to_past}
 use Rattle.wp_core.proofs.SnapshotsStep.{among_live}
-use Rattle.wp_core.proofs.Tests.{none_some}
+use Rattle.wp_model.proofs.Tests.{none_some}
 
 -- ---- the empty history
 

@@ -7,7 +7,7 @@ use Rattle.std.specs.FinSet as words
 use Rattle.wp_model.specs.History.{holder_of}
 use Rattle.wp_core.specs.World.{Transaction, Participant, Actor, World}
 use Rattle.wp_core.specs.Sound.Views.{Owns}
-use Rattle.wp_core.proofs.Keyed.{is_word_same, at_inserted, else_inserted, now_inserted}
+use Rattle.wp_model.proofs.Keyed.{is_word_same, at_inserted, else_inserted, now_inserted}
 
 module _ (w : World) (by : ℕ) (a : Actor) (name : List ℕ) (x0 x1 : Transaction) (at : get_elem? w.actors by ≡ some a) (has : finite.get a.participant.transactions name ≡ Some x0) where
   abbrev p : Participant

@@ -31,7 +31,7 @@ use Rattle.wp_model.proofs.Numbers.{in_inserted, in_inserted_else, in_removed, i
 use Rattle.wp_core.proofs.Quiet.{Stays, stays_not, notes_by, prepared_changes}
 use Rattle.wp_core.proofs.PreparedSteps.{SoWith, clearing_decided}
 use Rattle.wp_core.proofs.AllParts.{SoIn}
-use Rattle.wp_core.proofs.Tests.{either}
+use Rattle.wp_model.proofs.Tests.{either}
 use Rattle.wp_core.proofs.Gives.{not_free}
 
 -- the heap has of other numbers than the next what it had

@@ -8,7 +8,8 @@ use Rattle.wp_model.specs.declared.segment.Segment.{Segment}
 use Rattle.wp_model.specs.Decision.{version_in, decision_of}
 use Rattle.wp_model.specs.History.{entry_at, is_prepare}
 use Rattle.wp_model.specs.Legal.{IsLegal}
-use Rattle.wp_core.specs.Entries.{next_of, extended, IsOneRecord}
+use Rattle.wp_model.specs.Record.{IsOneRecord}
+use Rattle.wp_core.specs.Entries.{next_of, extended}
 use Rattle.wp_core.specs.Tables.{WriteState, writes}
 use Rattle.wp_core.specs.Turns.{Holds, write_turn}
 use Rattle.wp_core.specs.Views.{Fact, versions_in_memory, pair_delayed, pair_not_delayed}
@@ -29,7 +30,7 @@ use Rattle.wp_model.proofs.Entries.{entry_at_old, prepared_within}
 use Rattle.wp_core.proofs.Quiet.{idle_after, NotesStay, Stays, stays_not, notes_by, notes_all, noted_after}
 use Rattle.wp_core.proofs.ReaderFacts.{extended_stays}
 use Rattle.wp_core.proofs.AllParts.{SoIn, views_of, readers_still, turns_changed, quiet_step}
-use Rattle.wp_core.proofs.Tests.{none_some}
+use Rattle.wp_model.proofs.Tests.{none_some}
 use Rattle.wp_core.proofs.Gives.{not_free}
 use Rattle.wp_core.proofs.HoldersChange.{none_next}
 

@@ -28,7 +28,7 @@ use Rattle.wp_core.specs.IsSound.{IsSound}
 use Rattle.wp_model.proofs.Entries.{entry_at_past}
 use Rattle.wp_core.proofs.AllParts.{SoIn, views_of, pasts_of, readers_still, turns_changed, quiet_step}
 use Rattle.wp_core.proofs.Quiet.{idle_after, NotesStay, Stays, stays_not, notes_by, noted_after}
-use Rattle.wp_core.proofs.Tests.{both, none_either}
+use Rattle.wp_model.proofs.Tests.{both, none_either}
 
 -- ---- look-ups
 

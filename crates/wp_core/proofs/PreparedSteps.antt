@@ -10,7 +10,7 @@ use Rattle.std.specs.FinMap as finite
 use Rattle.wp_model.specs.Decision.{decision_of}
 use Rattle.wp_model.specs.History.{is_undecided}
 use Rattle.wp_model.specs.PreparedSets.{PreparedSets, is_prepared}
-use Rattle.wp_judge.specs.Words.{CommitPair}
+use Rattle.wp_judge.specs.Words.{CommitPair, commit_pair}
 use Rattle.wp_core.specs.Cache.{cached}
 use Rattle.wp_core.specs.Tables.{without_prepared}
 use Rattle.wp_core.specs.Turns.{Holds, prepared_turn, write_turn}
@@ -32,7 +32,7 @@ use Rattle.wp_core.proofs.Quiet.{Stays, stays_not, notes_all, notes_by, prepared
 use Rattle.wp_core.proofs.StoresWord.{pending_next}
 use Rattle.wp_core.proofs.ReaderFacts.{pair_ordered, extended_was, extended_stays}
 use Rattle.wp_core.proofs.AllParts.{SoIn}
-use Rattle.wp_core.proofs.Tests.{same_some, none_some}
+use Rattle.wp_model.proofs.Tests.{same_some, none_some}
 use Rattle.wp_core.proofs.Gives.{not_free}
 use Rattle.wp_model.specs.declared.entry.Entry.{Entry}
 use Rattle.wp_judge.specs.declared.observed.Observed.{Observed}
@@ -124,9 +124,9 @@ module _ (w : World) (p c : ℕ) (s : IsSound w) (decided : decision_of w.writes
   out_decided : AreDecided w.writes.history w.cache out_commits w.max_evicted w.snapshots
   out_decided = record {
     found = λ q d is. ⊎_elim
-        (λ (e : IsEntered w.cache w.prepared.delayed_commits w.max_evicted (record { number = q; decision = d })).
+        (λ (e : IsEntered w.cache w.prepared.delayed_commits w.max_evicted (commit_pair q d)).
         ⊎_elim (λ (there : cached w.cache q ≡ Some d). inl (inl there))
-        (λ (x : IsWide (length w.cache) w.prepared.delayed_commits w.max_evicted (record { number = q; decision = d })).
+        (λ (x : IsWide (length w.cache) w.prepared.delayed_commits w.max_evicted (commit_pair q d)).
         dite (ℕ_discrete q p)
         (λ (e : q ≡ p). here q d e (same_some c d (sym decided ∙ (ap (decision_of w.writes.history) (sym e) ∙ is))))
         (λ (ne : q ≢ p). inl (inr (record { wide = x.wide; delayed = get_removed_else w.prepared.delayed_commits p q ne ∙ x.delayed; reached = x.reached })))) e)
@@ -134,8 +134,8 @@ module _ (w : World) (p c : ℕ) (s : IsSound w) (decided : decision_of w.writes
     kept = s.decided.kept;
   }
     where
-      here : (q d : ℕ) → q ≡ p → c ≡ d → IsEntered w.cache out_commits w.max_evicted (record { number = q; decision = d }) ⊎ IsPassed w.max_evicted w.snapshots q d
-      here q d e same = subst (λ (z : ℕ × ℕ). IsEntered w.cache out_commits w.max_evicted (record { number = z.0; decision = z.1 }) ⊎ IsPassed w.max_evicted w.snapshots z.0 z.1) (λ i. (sym e i, same i))
+      here : (q d : ℕ) → q ≡ p → c ≡ d → IsEntered w.cache out_commits w.max_evicted (commit_pair q d) ⊎ IsPassed w.max_evicted w.snapshots q d
+      here q d e same = subst (λ (z : ℕ × ℕ). IsEntered w.cache out_commits w.max_evicted (commit_pair z.0 z.1) ⊎ IsPassed w.max_evicted w.snapshots z.0 z.1) (λ i. (sym e i, same i))
           (⊎_elim (λ (there : cached w.cache p ≡ Some c). inl (inl there)) (λ (x : IsPassed w.max_evicted w.snapshots p c). inr x) answers)
 
   out_reached : (q : ℕ) → IsReachedBy w.writes.history w.max_evicted w.cache w.prepared.delayed_commits q → IsReachedBy w.writes.history w.max_evicted w.cache out_commits q
@@ -223,9 +223,9 @@ module _ (w : World) (pair : CommitPair) (s : IsSound w) (decides : decision_of 
   commit_decided : AreDecided w.writes.history w.cache more_commits w.max_evicted w.snapshots
   commit_decided = record {
     found = λ q d is. ⊎_elim
-        (λ (e : IsEntered w.cache w.prepared.delayed_commits w.max_evicted (record { number = q; decision = d })).
+        (λ (e : IsEntered w.cache w.prepared.delayed_commits w.max_evicted (commit_pair q d)).
         ⊎_elim (λ (there : cached w.cache q ≡ Some d). inl (inl there))
-        (λ (x : IsWide (length w.cache) w.prepared.delayed_commits w.max_evicted (record { number = q; decision = d })). inl (inr (record { wide = x.wide; delayed = commit_stays q d is x.delayed; reached = x.reached }))) e)
+        (λ (x : IsWide (length w.cache) w.prepared.delayed_commits w.max_evicted (commit_pair q d)). inl (inr (record { wide = x.wide; delayed = commit_stays q d is x.delayed; reached = x.reached }))) e)
         (λ (x : IsPassed w.max_evicted w.snapshots q d). inr x) (s.decided.found q d is);
     kept = s.decided.kept;
   }

@@ -10,7 +10,7 @@ use Rattle.wp_model.specs.Legal.{IsLegal}
 use Rattle.wp_model.specs.Decision.{decision_of}
 use Rattle.wp_model.specs.PreparedSets.{PreparedSets, is_prepared}
 use Rattle.wp_model.specs.Snapshots.{Snapshots}
-use Rattle.wp_judge.specs.Words.{CommitPair}
+use Rattle.wp_judge.specs.Words.{CommitPair, commit_pair}
 use Rattle.wp_core.specs.Cache.{cached}
 use Rattle.wp_core.specs.Conditions.{IsPrepare}
 use Rattle.wp_core.specs.Entries.{pair_by, extended}
@@ -48,7 +48,7 @@ module _ (history : List Entry) (entry : Entry) (others : List Entry) (legal : I
 
   pub decided_part : (cache : List ℕ) (commits : finite.FinMap nat_cmp ℕ) (max : ℕ) (snapshots : Snapshots) → IsPaired cache commits max → AreDecided history cache commits max snapshots → AreDecided grown cache commits max snapshots
   decided_part cache commits max snapshots pair k = record {
-    found = λ p c e. ⊎_elim (λ (d : decision_of history p ≡ Some c). k.found p c d) (λ d. inl (pair (record { number = p; decision = c }) d.1)) (decided_before_or_now history entry legal p c e);
+    found = λ p c e. ⊎_elim (λ (d : decision_of history p ≡ Some c). k.found p c d) (λ d. inl (pair (commit_pair p c) d.1)) (decided_before_or_now history entry legal p c e);
     kept = λ s p there. let o = k.kept s p there in (o.0, decision_stays history (entry ∷ []) p o.0 o.1, o.2, o.3);
   }
 
@@ -65,9 +65,9 @@ module _ (history : List Entry) (entry : Entry) (others : List Entry) (legal : I
 
   pub delayed_part : (pending : List Entry) (t : PreparedSets) (cache : List ℕ) (max : ℕ) → pending ≡ entry ∷ others → IsPaired cache t.delayed_commits max → AreDelayed history pending t cache → AreDelayed grown others t cache
   delayed_part pending t cache max is pair k = record {
-    found = λ p c there e. ⊎_elim (λ (d : decision_of history p ≡ Some c). k.found p c there d) (λ d. by_place p c (pair (record { number = p; decision = c }) d.1)) (decided_before_or_now history entry legal p c e);
+    found = λ p c there e. ⊎_elim (λ (d : decision_of history p ≡ Some c). k.found p c there d) (λ d. by_place p c (pair (commit_pair p c) d.1)) (decided_before_or_now history entry legal p c e);
     commits = λ p c e. extended_stays grown others p c (ap (λ (z : List Entry). decision_of (extended history z) p) (sym is) ∙ k.commits p c e);
   }
     where
-      by_place : (p c : ℕ) → IsEntered cache t.delayed_commits max (record { number = p; decision = c }) → (cached cache p ≡ Some c) ⊎ (finite.get t.delayed_commits p ≡ Some c)
-      by_place p c e = ⊎_elim (λ (there : cached cache p ≡ Some c). inl there) (λ (x : IsWide (length cache) t.delayed_commits max (record { number = p; decision = c })). inr x.delayed) e
+      by_place : (p c : ℕ) → IsEntered cache t.delayed_commits max (commit_pair p c) → (cached cache p ≡ Some c) ⊎ (finite.get t.delayed_commits p ≡ Some c)
+      by_place p c e = ⊎_elim (λ (there : cached cache p ≡ Some c). inl there) (λ (x : IsWide (length cache) t.delayed_commits max (commit_pair p c)). inr x.delayed) e

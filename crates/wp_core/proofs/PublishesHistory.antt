@@ -10,7 +10,7 @@ use Rattle.wp_history_laws.specs.Growth.{undone_by}
 use Rattle.wp_history_laws.proofs.Growth.{length_next}
 use Rattle.wp_history_laws.proofs.Undone.{undone_next}
 use Rattle.wp_core.specs.Lists.{one_if}
-use Rattle.wp_core.specs.Entries.{IsOneRecord}
+use Rattle.wp_model.specs.Record.{IsOneRecord}
 use Rattle.wp_core.specs.Tables.{WriteState}
 use Rattle.wp_core.specs.World.{Actor}
 use Rattle.wp_core.specs.Effects.{with_entry}
@@ -18,7 +18,7 @@ use Rattle.wp_core.specs.Sound.Actors.{StartsWith, own_of, times, AreOwned, part
 use Rattle.wp_core.specs.Sound.History.{IsHistory, IsRest, logged_part}
 use Rattle.wp_core.proofs.Participants.{total_person_set}
 use Rattle.wp_core.proofs.PastsGrow.{total_more}
-use Rattle.wp_core.proofs.Tests.{same_some}
+use Rattle.wp_model.proofs.Tests.{same_some}
 
 -- ---- what is left of the record
 

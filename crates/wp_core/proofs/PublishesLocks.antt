@@ -22,7 +22,7 @@ use Rattle.wp_core.specs.Sound.Locks.{Owner, HasKeyAt, WasPrepared, PrepareHas, 
 use Rattle.wp_core.specs.Sound.Pasts.{MadeHolder, IsAccounted, AreHolders, IsBoard, AreFaults}
 use Rattle.wp_core.proofs.HistoryLaws.{is_equal}
 use Rattle.wp_core.proofs.HistoryGrows.{at_next, grown_length, named_stays, name_at_old, batch_at_grown, undecided_before_or_now}
-use Rattle.wp_core.proofs.Tests.{some_there}
+use Rattle.wp_model.proofs.Tests.{some_there}
 
 -- the Prepare that an entry is
 pub record IsPrepareOf (entry : Entry) : Type 0 where

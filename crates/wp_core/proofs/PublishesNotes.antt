@@ -36,7 +36,7 @@ use Rattle.wp_core.proofs.HistoryGrows.{none_is, grown_length, after, named_stay
 use Rattle.wp_core.proofs.PendingSteps.{SoPending}
 use Rattle.wp_core.proofs.PublishesLocks.{prepare_of, not_decided, batch_new}
 use Rattle.wp_core.proofs.AllParts.{SoIn}
-use Rattle.wp_core.proofs.Keyed.{txn_is}
+use Rattle.wp_model.proofs.Keyed.{txn_is}
 use Rattle.wp_core.proofs.Gives.{not_theirs}
 
 never_true : (b : Bool) → (b ≡ true → ⊥) → b ≡ false

@@ -22,7 +22,7 @@ use Rattle.wp_core.specs.Sound.Store.{IsStored}
 use Rattle.wp_core.proofs.CoveredGrows.{version_within, covered_grows}
 use Rattle.wp_core.proofs.HistoryGrows.{none_is, grown_length, version_new}
 use Rattle.wp_core.proofs.PendingVersions.{at_up_to}
-use Rattle.wp_core.proofs.Tests.{none_some, none_either}
+use Rattle.wp_model.proofs.Tests.{none_some, none_either}
 
 -- ---- look-ups in two lists
 

@@ -9,7 +9,7 @@ use Rattle.wp_model.specs.History.{is_undecided}
 use Rattle.wp_model.specs.Decision.{decision_of, IsCommittedAt}
 use Rattle.wp_model.specs.PreparedSets.{PreparedSets}
 use Rattle.wp_model.specs.Snapshots.{Snapshots, IsLive, is_old_commit}
-use Rattle.wp_judge.specs.Words.{CommitPair, pair_of, decision_if}
+use Rattle.wp_judge.specs.Words.{CommitPair, commit_pair, pair_of, decision_if}
 use Rattle.wp_judge.proofs.Packing.{word_back}
 use Rattle.wp_core.specs.Cache.{cache_place, pair_at, cached}
 use Rattle.wp_core.specs.Entries.{extended}
@@ -17,7 +17,7 @@ use Rattle.wp_core.specs.Sound.Prepared.{IsCache, AreDecided, AreUndecided, AreD
 use Rattle.wp_core.specs.Sound.Snapshots.{has_versions_at}
 use Rattle.wp_core.specs.Sound.Reader.{IsPassedBy, IsReachedBy, AnswersFor, IsRight}
 use Rattle.wp_core.proofs.HistoryLaws.{decision_stays, decision_was, decided_or_undecided}
-use Rattle.wp_core.proofs.Tests.{same_some, none_some}
+use Rattle.wp_model.proofs.Tests.{same_some, none_some}
 
 -- a pair in a word decides a version by itself or by a later entry
 pub pair_ordered : (words place word : ℕ) (pair : CommitPair) → place < words → pair_of words place word ≡ Some pair → (1 ≤ pair.number) × (pair.number ≤ pair.decision)
@@ -38,17 +38,17 @@ decided_unless_delayed history pending t max p k has low not_delayed =
 pub answers_now : (history : List Entry) (cache : List ℕ) (commits : finite.FinMap nat_cmp ℕ) (max : ℕ) (snapshots : Snapshots) (s p c : ℕ) → AreDecided history cache commits max snapshots → decision_of history p ≡ Some c → finite.get commits p ≡ None → IsLive snapshots s → p ≤ s → AnswersFor max cache snapshots s p c
 answers_now history cache commits max snapshots s p c k decided none live le =
     ⊎_elim
-    (λ (e : IsEntered cache commits max (record { number = p; decision = c })).
-    ⊎_elim (λ (there : cached cache p ≡ Some c). inl there) (λ (x : IsWide (length cache) commits max (record { number = p; decision = c })). absurd (none_some (finite.get commits p) c none x.delayed)) e)
+    (λ (e : IsEntered cache commits max (commit_pair p c)).
+    ⊎_elim (λ (there : cached cache p ≡ Some c). inl there) (λ (x : IsWide (length cache) commits max (commit_pair p c)). absurd (none_some (finite.get commits p) c none x.delayed)) e)
     (λ (x : IsPassed max snapshots p c). inr (x.0, λ (lt : s < c). x.1 s live le lt)) (k.found p c decided)
 
 -- the bound has come to a decided version whose word is another's
 pub reached_by : (history : List Entry) (cache : List ℕ) (commits : finite.FinMap nat_cmp ℕ) (max : ℕ) (snapshots : Snapshots) (p c : ℕ) → AreDecided history cache commits max snapshots → decision_of history p ≡ Some c → p ≤ c → cached cache p ≡ None → IsReachedBy history max cache commits p
 reached_by history cache commits max snapshots p c k decided le gone =
     ⊎_elim
-    (λ (e : IsEntered cache commits max (record { number = p; decision = c })).
+    (λ (e : IsEntered cache commits max (commit_pair p c)).
     ⊎_elim (λ (there : cached cache p ≡ Some c). absurd (none_some (cached cache p) c gone there))
-    (λ (x : IsWide (length cache) commits max (record { number = p; decision = c })). record { by = c; decided = decided; reached = x.reached; elsewhere = inr x.delayed; gone = gone }) e)
+    (λ (x : IsWide (length cache) commits max (commit_pair p c)). record { by = c; decided = decided; reached = x.reached; elsewhere = inr x.delayed; gone = gone }) e)
     (λ (x : IsPassed max snapshots p c). let low = x.0 in record { by = c; decided = decided; reached = omega (arith, low, le); elsewhere = inl low; gone = gone }) (k.found p c decided)
 
 -- what is answered for, and whose word is another's, is passed
@@ -57,10 +57,6 @@ passed_by history cache max snapshots s p c decided answers gone =
     ⊎_elim (λ (there : cached cache p ≡ Some c). absurd (none_some (cached cache p) c gone there)) (λ (x : (c ≤ max) × (s < c → is_old_commit snapshots s p ≡ true)). record { by = c; decided = decided; within = x.0; gone = gone }) answers
 
 -- ---- what decides answers
-
-pub decided_right : (history : List Entry) (p s c : ℕ) (b : Bool) → nat_le c s ≡ b → decision_of history p ≡ Some c → IsRight history p s b
-decided_right history p s c true le decided = record { by = c; decided = decided; within = grind (arith, nat_tests) }
-decided_right history p s c false le decided = λ (is : IsCommittedAt history p s). let within = is.within in let same : c ≡ is.by = same_some c is.by (sym decided ∙ is.decided) in let above : s < c = grind (arith, nat_tests) in absurd (omega arith)
 
 pub extended_stays : (history pending : List Entry) (p c : ℕ) → decision_of history p ≡ Some c → decision_of (extended history pending) p ≡ Some c
 extended_stays history [] p c e = e

@@ -3,7 +3,7 @@ use Rattle.std.proofs.Common.{◌≡◌, ℕ, ◌≤◌, true, length, refl, sub
 use mathlib.Core.Option.{some}
 use lib.ListN.{get_elem?}
 use Rattle.wp_judge.specs.declared.observed.Observed.{Observed}
-use Rattle.wp_judge.specs.Order.{judgement}
+use Rattle.wp_judge.specs.Order.{judgement, answer_of}
 use Rattle.wp_core.specs.Lists.{IsIn}
 use Rattle.wp_core.specs.Reading.{Registration, reads}
 use Rattle.wp_core.specs.Views.{Fact}
@@ -19,12 +19,11 @@ use Rattle.wp_core.specs.IsSound.{IsSound}
 use Rattle.wp_model.specs.Decision.{IsCommittedAt}
 use Rattle.wp_judge.specs.declared.observed.Load.TheVariants.{FirstWord}
 use Rattle.wp_judge.specs.declared.observed.Asked.TheVariants.{Load, Answer}
-use Rattle.wp_judge.specs.Order.{answer_of}
 use Rattle.std.proofs.lemmas.Bool.Decides.{nat_tests}
 use Rattle.wp_core.proofs.Frames.{at_map}
 use Rattle.wp_core.proofs.HistoryLaws.{decided_late}
 use Rattle.wp_core.proofs.Looks.{leaves_most, looks}
-use Rattle.wp_core.proofs.Tests.{same_some, some_none}
+use Rattle.wp_model.proofs.Tests.{same_some, some_none}
 
 pub in_at : {X : Type 0} (x : X) (xs : List X) → IsIn x xs → (i : ℕ) × (get_elem? xs i ≡ some x)
 in_at x [] there = absurd there

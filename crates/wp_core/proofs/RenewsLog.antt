@@ -22,7 +22,7 @@ use Rattle.wp_core.proofs.PendingSteps.{log_changes}
 use Rattle.wp_core.proofs.Quiet.{Stays, stays_not, notes_all}
 use Rattle.wp_core.proofs.Remembers.{faults_more, edits_grown}
 use Rattle.wp_core.proofs.TablesChange.{SoInstalled, actor_after, pasts_after, tables_change}
-use Rattle.wp_core.proofs.Tests.{same_some, none_some}
+use Rattle.wp_model.proofs.Tests.{same_some, none_some}
 use Rattle.wp_core.proofs.WritesSegment.{so_segments}
 
 -- ---- the edit

@@ -15,6 +15,7 @@ use Rattle.wp_model.specs.declared.entry.Entry.{Entry}
 use Rattle.wp_model.specs.Covered.{is_among}
 use Rattle.wp_model.specs.Decision.{decision_of}
 use Rattle.wp_model.specs.Snapshots.{Snapshots, IsLive, is_old_commit, NoOldCommits}
+use Rattle.wp_judge.specs.Words.{commit_pair}
 use Rattle.wp_judge.specs.declared.observed.Observed.{Observed}
 use Rattle.wp_judge.specs.Order.{judgement}
 use Rattle.wp_core.specs.Cache.{cached}
@@ -72,7 +73,7 @@ module _ (w : World) (m : Snapshots) (s : IsSound w) (k : SnapshotsGrow w.writes
 
   pub decided_grows : AreDecided w.writes.history w.cache w.prepared.delayed_commits w.max_evicted m
   decided_grows = record {
-    found = λ p c decided. ⊎_elim (λ (there : IsEntered w.cache w.prepared.delayed_commits w.max_evicted (record { number = p; decision = c })). inl there) (λ (o : IsPassed w.max_evicted w.snapshots p c). inr (o.0, still_noted p c (decision_within w.writes.history p c decided) o.1)) (s.decided.found p c decided);
+    found = λ p c decided. ⊎_elim (λ (there : IsEntered w.cache w.prepared.delayed_commits w.max_evicted (commit_pair p c)). inl there) (λ (o : IsPassed w.max_evicted w.snapshots p c). inr (o.0, still_noted p c (decision_within w.writes.history p c decided) o.1)) (s.decided.found p c decided);
     kept = λ t p there. ⊎_elim (λ (was : is_old_commit w.snapshots t p ≡ true). s.decided.kept t p was) (λ (new : (c : ℕ) × (decision_of w.writes.history p ≡ Some c) × (p ≤ t) × (t < c)). new) (k.came t p there);
   }
 

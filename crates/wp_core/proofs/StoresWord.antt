@@ -12,7 +12,7 @@ use Rattle.wp_model.specs.Decision.{decision_of}
 use Rattle.wp_model.specs.Legal.{IsLegal, log_end}
 use Rattle.wp_model.specs.PreparedSets.{is_prepared}
 use Rattle.wp_model.specs.Snapshots.{IsLive, is_old_commit}
-use Rattle.wp_judge.specs.Words.{CommitPair, word_of, pair_of, decision_if, seq_end}
+use Rattle.wp_judge.specs.Words.{CommitPair, commit_pair, word_of, pair_of, decision_if, seq_end}
 use Rattle.wp_judge.proofs.Packing.{pair_back}
 use Rattle.wp_judge.specs.declared.observed.Observed.{Observed}
 use Rattle.wp_core.specs.Cache.{cache_place, pair_at, cached, with_pair}
@@ -35,7 +35,7 @@ use Rattle.wp_core.proofs.HistoryLaws.{IsDecidedNext, next_decides, first_legal,
 use Rattle.wp_core.proofs.ReaderFacts.{extended_stays}
 use Rattle.wp_core.proofs.Quiet.{words_change}
 use Rattle.wp_core.proofs.AllParts.{SoIn}
-use Rattle.wp_core.proofs.Tests.{same_some, none_some}
+use Rattle.wp_model.proofs.Tests.{same_some, none_some}
 use Rattle.wp_core.proofs.Gives.{not_theirs}
 use Rattle.wp_core.proofs.Registered.{registered_live}
 use Rattle.wp_core.proofs.KeepsRemembered.{from_map}
@@ -122,15 +122,15 @@ module _ (w : World) (pair : CommitPair) (s : IsSound w) (next : decision_of (ex
   decided_after = record {
     found = λ p c decided.
         ⊎_elim
-        (λ (entered : IsEntered w.cache w.prepared.delayed_commits w.max_evicted (record { number = p; decision = c })).
+        (λ (entered : IsEntered w.cache w.prepared.delayed_commits w.max_evicted (commit_pair p c)).
         ⊎_elim
         (λ (there : cached w.cache p ≡ Some c).
         dite (ℕ_discrete (cache_place (length w.cache) p) place)
         (λ (e : cache_place (length w.cache) p ≡ place). let k = may_go p c e there in
         inr (subst (λ (z : ℕ × ℕ). IsPassed w.max_evicted w.snapshots z.0 z.1) (λ i. (k.1 i, k.2 i)) (k.3.passed, k.3.kept)))
         (λ (ne : cache_place (length w.cache) p ≢ place). inl (inl (cached_else p ne ∙ there))))
-        (λ (x : IsWide (length w.cache) w.prepared.delayed_commits w.max_evicted (record { number = p; decision = c })).
-        inl (inr (subst (λ (n : ℕ). IsWide n w.prepared.delayed_commits w.max_evicted (record { number = p; decision = c })) (sym same_length) x))) entered)
+        (λ (x : IsWide (length w.cache) w.prepared.delayed_commits w.max_evicted (commit_pair p c)).
+        inl (inr (subst (λ (n : ℕ). IsWide n w.prepared.delayed_commits w.max_evicted (commit_pair p c)) (sym same_length) x))) entered)
         (λ (k : IsPassed w.max_evicted w.snapshots p c). inr k) (s.decided.found p c decided);
     kept = s.decided.kept;
   }

@@ -19,7 +19,7 @@ use Rattle.wp_core.proofs.Frames.{each_map_set, at_map}
 use Rattle.wp_core.proofs.Gives.{now_holder, other_holder, same_turn}
 use Rattle.wp_core.proofs.AllParts.{idle_set}
 use Rattle.wp_core.proofs.HoldersChange.{holder_changes}
-use Rattle.wp_core.proofs.Tests.{same_some}
+use Rattle.wp_model.proofs.Tests.{same_some}
 use Rattle.wp_core.proofs.Changed.{own_have, have_set}
 
 table_of : (w : World) (t : Turn) → turn_of (content_of w t) ≡ t

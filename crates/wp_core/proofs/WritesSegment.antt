@@ -15,7 +15,7 @@ use Rattle.wp_core.proofs.AllParts.{SoIn}
 use Rattle.wp_core.proofs.Gives.{not_free}
 use Rattle.wp_core.proofs.PendingSteps.{SoPending, with_segments, log_changes}
 use Rattle.wp_core.proofs.Quiet.{notes_all}
-use Rattle.wp_core.proofs.Tests.{same_some, none_some}
+use Rattle.wp_model.proofs.Tests.{same_some, none_some}
 
 -- no fact speaks of segments
 pub so_segments : (w : World) (segment : Segment) (next : Option Segment) (p : Participant) (fact : Fact) → SoIn w p fact → SoPending w (with_segments w.writes segment next) p fact

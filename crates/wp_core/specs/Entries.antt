@@ -8,14 +8,14 @@ use Rattle.wp_model.specs.History.{batch_at, name_at, named}
 use Rattle.wp_model.specs.Decision.{version_in}
 use Rattle.wp_model.specs.declared.version.Version.{Version}
 use Rattle.wp_model.specs.Versions.{version_at}
-use Rattle.wp_judge.specs.Words.{CommitPair}
+use Rattle.wp_judge.specs.Words.{CommitPair, commit_pair}
 
 -- the entry with this number decides a version: its own, or that of the prepare that it names
 abbrev pub pair_by : ℕ → Entry → Option CommitPair
-pair_by n (Write batch) = Some (record { number = n; decision = n })
-pair_by n (Undo p batch) = Some (record { number = n; decision = n })
-pair_by n (Commit p) = Some (record { number = p; decision = n })
-pair_by n (Close p) = Some (record { number = p; decision = n })
+pair_by n (Write batch) = Some (commit_pair n n)
+pair_by n (Undo p batch) = Some (commit_pair n n)
+pair_by n (Commit p) = Some (commit_pair p n)
+pair_by n (Close p) = Some (commit_pair p n)
 pair_by n (Prepare name batch) = None
 
 -- the first of the pending entries
@@ -56,14 +56,6 @@ changes_under history (Close p) = batch_at history p
 -- the batch of the undecided prepare of this name, or of none
 abbrev pub batch_of_name : List Entry → List ℕ → List Change
 batch_of_name history name = batch_at history (unwrap_or (named history name) 0)
-
--- a record: one entry, or an Undo with its Close
-abbrev pub IsOneRecord : List Entry → Type 0
-IsOneRecord (Undo p batch ∷ Close q ∷ []) = p ≡ q
-IsOneRecord (Undo p batch ∷ others) = ⊥
-IsOneRecord (Close p ∷ others) = ⊥
-IsOneRecord (entry ∷ []) = Unit {0}
-IsOneRecord others = ⊥
 
 -- the versions of a list, with those of an entry as its only ones under this number
 abbrev pub HasVersionsAt : Option Entry → ℕ → List Version → List Version → Type 0

@@ -17,3 +17,4 @@ pub mod Images
 pub mod IsSound
 pub mod Runs
 pub mod Alone
+pub mod Codes

@@ -16,7 +16,8 @@ use Rattle.wp_judge.specs.Words.{CommitPair, fits}
 use Rattle.wp_core.specs.Cache.{pair_at, cache_place, cached}
 use Rattle.wp_model.specs.PreparedSets.{NoneDelayed}
 use Rattle.wp_core.specs.World.{Transaction, Actor, World, published}
-use Rattle.wp_core.specs.Entries.{next_of, pending_pair, batch_of_name, IsOneRecord, HasVersionsAt}
+use Rattle.wp_model.specs.Record.{IsOneRecord}
+use Rattle.wp_core.specs.Entries.{next_of, pending_pair, batch_of_name, HasVersionsAt}
 use Rattle.wp_core.specs.Steps.{Step, load_published, register, begin_reading, load, end_reading, store_published, store_max_evicted, store_word, store_delayed_flag, store_old_flag, take_turn, give_turn, make_pending, log_pending, close_log, find_log_closed, drop_pending, write_segment, use_segment, stop_log, add_prepared, take_pending_prepared, add_delayed_commit, delay_pending, take_out, register_again, release, add_old_commit, add_versions, take_versions, move_versions, replace_versions, install, renew, halt, find_edit, claim_name, take_name, leave_name, free_transaction, lock_key, free_key, lock_direct, free_direct, find_holder, tell, hear, set_batch, note, make_note, make_seat, set_client, learn, join_seat}
 use Rattle.wp_core.specs.Effects.{with_failed}
 use Rattle.wp_core.specs.Sound.Prepared.{IsPassed}

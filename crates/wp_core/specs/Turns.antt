@@ -1,5 +1,7 @@
 -- The six turns, and who holds them. A turn guards a table: who holds it reads and changes the table, and nobody else.
 use Rattle.std.specs.Prelude.{◌≡◌, ℕ, Option, Some, None}
+use Rattle.wp_core.specs.declared.turn.Turn as code
+use Rattle.wp_core.specs.declared.turn.Turn.TheVariants as turn
 
 -- The write turn guards the history and its log, the prepared turn the tables of prepared transactions, the snapshots turn
 -- the live snapshots with the old commit map, the store turn the versions, the locks turn names and keys and labels, the
@@ -11,6 +13,15 @@ pub data Turn : Type 0 where
   store_turn : Turn
   locks_turn : Turn
   tables_turn : Turn
+
+-- what the turns of the code are in the machine
+abbrev pub turn_of : code.Turn → Turn
+turn_of turn.Write = write_turn
+turn_of turn.Prepared = prepared_turn
+turn_of turn.Snapshots = snapshots_turn
+turn_of turn.Store = store_turn
+turn_of turn.Locks = locks_turn
+turn_of turn.Tables = tables_turn
 
 -- of each turn the actor that holds it, if one does
 pub record Holders : Type 0 where

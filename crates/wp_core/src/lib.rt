@@ -21,4 +21,9 @@
 //! and what each reader knows by its loads so far.
 #![tactic(auto)]
 
+mod actor;
 pub mod laws;
+mod turn;
+
+pub use actor::Actor;
+pub use turn::Turn;

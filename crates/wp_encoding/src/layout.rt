@@ -1,7 +1,7 @@
 //! The bytes that tell changes apart.
 
 /// The byte before a change that deletes its key.
-pub const DELETION: u8 = 0;
+pub(crate) const DELETION: u8 = 0;
 
 /// The byte before a change that puts a value under its key.
-pub const PUT: u8 = 1;
+pub(crate) const PUT: u8 = 1;

@@ -23,7 +23,7 @@ use Rattle.wp_encoding.proofs.ChangeLemmas as encoded
 use Rattle.wp_entry.specs.declared.error.RecordError.{RecordError}
 use Rattle.wp_entry.specs.declared.error.RecordError.TheVariants.{Short, BadNumber, BadKind, BadWord, Extra}
 use Rattle.wp_entry.specs.Errors.{record_error, record_fault}
-use Rattle.wp_entry.specs.Record.{last_number, entries_bytes, record_bytes, IsEarlier, IsRollback, IsRecord}
+use Rattle.wp_entry.specs.Record.{last_number, entries_bytes, record_bytes, IsEarlier, FormRecord, IsRecord}
 use Rattle.wp_entry.specs.Reading.{name_in_record, batch_in_record, after_number, write_at, prepare_at, earlier_at, commit_at, rollback_at, entries_at, record_at}
 
 -- ---- names and batches
@@ -39,6 +39,11 @@ batch_takes bytes x h e = encoded.batch_takes bytes x h (map_ok record_error (en
 pub last_fits : (format : Format) → last_number format < number_end format
 last_fits One = omega arith
 last_fits Two = omega arith
+
+-- a record has a first entry, with a number of this version
+pub first_numbered : (format : Format) (first : ℕ) (entries : List Entry) → FormRecord format first entries → first ≤ last_number format
+first_numbered format first [] form = absurd form.one
+first_numbered format first (entry ∷ others) form = let k = form.numbered in omega arith
 
 from_nonzero : (n : ℕ) → (n ≡ 0 → ⊥) → 1 ≤ n
 from_nonzero zero not_zero = absurd (not_zero refl)
@@ -72,7 +77,7 @@ unfolding write_at
 write_takes format first bytes x small h e =
     let s = bind_ok (batch_in_record bytes) (λ batch. Ok (Write batch.0 ∷ [], batch.1)) x e in
     let batch = batch_takes bytes s.0 h s.1 in
-    let found : BeginsRecord format first (1 ∷ bytes) (Write s.0.0 ∷ [], s.0.1) = record { parts = Begins-then (1 ∷ bytes) (1 ∷ []) bytes (batch_bytes s.0.0) s.0.1 (kind_begins 1 bytes h) batch.0; is = record { form = small; in_range = and_from _ _ batch.1 refl } } in
+    let found : BeginsRecord format first (1 ∷ bytes) (Write s.0.0 ∷ [], s.0.1) = record { parts = Begins-then (1 ∷ bytes) (1 ∷ []) bytes (batch_bytes s.0.0) s.0.1 (kind_begins 1 bytes h) batch.0; is = record { form = record { one = tt; earlier = (tt, tt); numbered = omega (arith, small) }; in_range = and_from _ _ batch.1 refl } } in
     rw (← ok_is {E = RecordError} (Write s.0.0 ∷ [], s.0.1) x s.2) found
 
 prepare_takes : (format : Format) (first : ℕ) (bytes : List ℕ) (x : List Entry × List ℕ) → first ≤ last_number format → AreBytes bytes → prepare_at bytes ≡ Ok x → BeginsRecord format first (2 ∷ bytes) x
@@ -83,7 +88,7 @@ prepare_takes format first bytes x small h e =
     let t = bind_ok (batch_in_record s.0.1) (λ batch. Ok (Prepare s.0.0 batch.0 ∷ [], batch.1)) x s.2 in
     let batch = batch_takes s.0.1 t.0 name.0.rest_bytes t.1 in
     let both = Begins-then bytes (word_bytes s.0.0) s.0.1 (batch_bytes t.0.0) t.0.1 name.0 batch.0 in
-    let found : BeginsRecord format first (2 ∷ bytes) (Prepare s.0.0 t.0.0 ∷ [], t.0.1) = record { parts = Begins-then (2 ∷ bytes) (2 ∷ []) bytes (word_bytes s.0.0 ++ batch_bytes t.0.0) t.0.1 (kind_begins 2 bytes h) both; is = record { form = small; in_range = and_from _ _ (and_from _ _ name.1 batch.1) refl } } in
+    let found : BeginsRecord format first (2 ∷ bytes) (Prepare s.0.0 t.0.0 ∷ [], t.0.1) = record { parts = Begins-then (2 ∷ bytes) (2 ∷ []) bytes (word_bytes s.0.0 ++ batch_bytes t.0.0) t.0.1 (kind_begins 2 bytes h) both; is = record { form = record { one = tt; earlier = (tt, tt); numbered = omega (arith, small) }; in_range = and_from _ _ (and_from _ _ name.1 batch.1) refl } } in
     rw (← ok_is {E = RecordError} (Prepare s.0.0 t.0.0 ∷ [], t.0.1) x t.2) found
 
 commit_takes : (format : Format) (first : ℕ) (bytes : List ℕ) (x : List Entry × List ℕ) → first ≤ last_number format → AreBytes bytes → commit_at format first bytes ≡ Ok x → BeginsRecord format first (3 ∷ bytes) x
@@ -91,7 +96,7 @@ unfolding commit_at
 commit_takes format first bytes x small h e =
     let s = bind_ok (earlier_at format first bytes) (λ p. Ok (Commit p.0 ∷ [], p.1)) x e in
     let p = earlier_takes format first bytes s.0 h s.1 in
-    let found : BeginsRecord format first (3 ∷ bytes) (Commit s.0.0 ∷ [], s.0.1) = record { parts = Begins-then (3 ∷ bytes) (3 ∷ []) bytes (to_be_bytes (number_width format) s.0.0) s.0.1 (kind_begins 3 bytes h) p.0; is = record { form = (p.1, small); in_range = refl } } in
+    let found : BeginsRecord format first (3 ∷ bytes) (Commit s.0.0 ∷ [], s.0.1) = record { parts = Begins-then (3 ∷ bytes) (3 ∷ []) bytes (to_be_bytes (number_width format) s.0.0) s.0.1 (kind_begins 3 bytes h) p.0; is = record { form = record { one = tt; earlier = (p.1, tt); numbered = omega (arith, small) }; in_range = refl } } in
     rw (← ok_is {E = RecordError} (Commit s.0.0 ∷ [], s.0.1) x s.2) found
 
 rollback_takes : (format : Format) (first : ℕ) (bytes : List ℕ) (x : List Entry × List ℕ) → AreBytes bytes → rollback_at format first bytes ≡ Ok x → BeginsRecord format first (4 ∷ bytes) x
@@ -103,8 +108,8 @@ rollback_takes format first bytes x h e =
     let t = bind_ok (batch_in_record s.0.1) (λ batch. Ok (Undo s.0.0 batch.0 ∷ Close s.0.0 ∷ [], batch.1)) x s.2 in
     let batch = batch_takes s.0.1 t.0 p.0.rest_bytes t.1 in
     let both = Begins-then bytes (to_be_bytes (number_width format) s.0.0) s.0.1 (batch_bytes t.0.0) t.0.1 p.0 batch.0 in
-    let rollback : IsRollback format first s.0.0 s.0.0 = record { same = refl; earlier = p.1; small = leb-false _ _ r.0 } in
-    let found : BeginsRecord format first (4 ∷ bytes) (Undo s.0.0 t.0.0 ∷ Close s.0.0 ∷ [], t.0.1) = record { parts = Begins-then (4 ∷ bytes) (4 ∷ []) bytes (to_be_bytes (number_width format) s.0.0 ++ batch_bytes t.0.0) t.0.1 (kind_begins 4 bytes h) both; is = record { form = rollback; in_range = and_from _ _ batch.1 refl } } in
+    let small : first < last_number format = leb-false _ _ r.0 in
+    let found : BeginsRecord format first (4 ∷ bytes) (Undo s.0.0 t.0.0 ∷ Close s.0.0 ∷ [], t.0.1) = record { parts = Begins-then (4 ∷ bytes) (4 ∷ []) bytes (to_be_bytes (number_width format) s.0.0 ++ batch_bytes t.0.0) t.0.1 (kind_begins 4 bytes h) both; is = record { form = record { one = refl; earlier = (p.1, (p.1, tt)); numbered = omega (arith, small) }; in_range = and_from _ _ batch.1 refl } } in
     rw (← ok_is {E = RecordError} (Undo s.0.0 t.0.0 ∷ Close s.0.0 ∷ [], t.0.1) x t.2) found
 
 -- The kind is this one, and the answer is its own, or it is another.

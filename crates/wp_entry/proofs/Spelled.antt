@@ -16,7 +16,7 @@ use Rattle.wp_encoding.proofs.ChangeLemmas.{batch_again}
 use Rattle.wp_entry.specs.declared.error.RecordError.TheVariants.{Short}
 use Rattle.wp_entry.specs.Record.{last_number, entries_bytes, record_bytes, IsEarlier, IsRecord}
 use Rattle.wp_entry.specs.Reading.{after_number, write_at, prepare_at, earlier_at, commit_at, rollback_at, entries_at, record_at}
-use Rattle.wp_entry.proofs.Grammar.{last_fits, kind_and_entries}
+use Rattle.wp_entry.proofs.Grammar.{first_numbered, last_fits, kind_and_entries}
 
 pub number_again_due : (format : Format) (due : ℕ) (rest : List ℕ) → due ≤ last_number format → after_number format due (to_be_bytes (number_width format) due ++ rest) ≡ Ok rest
 unfolding after_number
@@ -46,35 +46,25 @@ pub record EntriesRead (format : Format) (first : ℕ) (entries : List Entry) (r
 
 pub entries_again : (format : Format) (first : ℕ) (entries : List Entry) (rest : List ℕ) → IsRecord format first entries → EntriesRead format first entries rest
 unfolding entries_at write_at prepare_at commit_at rollback_at
-entries_again format first [] rest is = absurd is.form
 entries_again format first (Write batch ∷ []) rest is =
     let entry = (and_parts (are_changes batch) true is.in_range).0 in
-    record { kind = 1; fields = batch_bytes batch; spelled = refl; read = rw (batch_again batch rest entry) refl; small = is.form }
+    record { kind = 1; fields = batch_bytes batch; spelled = refl; read = rw (batch_again batch rest entry) refl; small = first_numbered format first _ is.form }
 entries_again format first (Prepare name batch ∷ []) rest is =
     let entry = and_parts (is_name name) (are_changes batch) (and_parts (is_name name && are_changes batch) true is.in_range).0 in
     let regrouped : (word_bytes name ++ batch_bytes batch) ++ rest ≡ word_bytes name ++ (batch_bytes batch ++ rest) = append_assoc (word_bytes name) (batch_bytes batch) rest in
     let read : prepare_at (word_bytes name ++ (batch_bytes batch ++ rest)) ≡ Ok (Prepare name batch ∷ [], rest) = rw (word_again MOST_NAME_BYTES name (batch_bytes batch ++ rest) entry.0, batch_again batch rest entry.1) refl in
-    record { kind = 2; fields = word_bytes name ++ batch_bytes batch; spelled = refl; read = ap prepare_at regrouped ∙ read; small = is.form }
+    record { kind = 2; fields = word_bytes name ++ batch_bytes batch; spelled = refl; read = ap prepare_at regrouped ∙ read; small = first_numbered format first _ is.form }
 entries_again format first (Commit p ∷ []) rest is =
-    record { kind = 3; fields = to_be_bytes (number_width format) p; spelled = refl; read = rw (earlier_again format first p rest is.form.1 is.form.0) refl; small = is.form.1 }
+    let small = first_numbered format first _ is.form in
+    record { kind = 3; fields = to_be_bytes (number_width format) p; spelled = refl; read = rw (earlier_again format first p rest small is.form.earlier.0) refl; small = small }
 entries_again format first (Undo p batch ∷ Close q ∷ []) rest is =
     let entry = (and_parts (are_changes batch) true is.in_range).0 in
-    let room = is.form.small in
-    let few : leb (last_number format) first ≡ false = lt-leb _ _ room in
-    let small : first ≤ last_number format = omega arith in
+    let small = first_numbered format first _ is.form in
+    let few : leb (last_number format) first ≡ false = lt-leb _ _ (let k = is.form.numbered in omega arith) in
     let regrouped : (to_be_bytes (number_width format) p ++ batch_bytes batch) ++ rest ≡ to_be_bytes (number_width format) p ++ (batch_bytes batch ++ rest) = append_assoc (to_be_bytes (number_width format) p) (batch_bytes batch) rest in
-    let read : rollback_at format first (to_be_bytes (number_width format) p ++ (batch_bytes batch ++ rest)) ≡ Ok (Undo p batch ∷ Close p ∷ [], rest) = rw (few, earlier_again format first p (batch_bytes batch ++ rest) small is.form.earlier, batch_again batch rest entry) refl in
-    rw (← is.form.same) (record { kind = 4; fields = to_be_bytes (number_width format) p ++ batch_bytes batch; spelled = refl; read = ap (rollback_at format first) regrouped ∙ read; small = small })
-entries_again format first (Close p ∷ others) rest is = absurd is.form
-entries_again format first (Write batch ∷ second ∷ others) rest is = absurd is.form
-entries_again format first (Prepare name batch ∷ second ∷ others) rest is = absurd is.form
-entries_again format first (Commit p ∷ second ∷ others) rest is = absurd is.form
-entries_again format first (Undo p batch ∷ []) rest is = absurd is.form
-entries_again format first (Undo p batch ∷ Write other ∷ others) rest is = absurd is.form
-entries_again format first (Undo p batch ∷ Prepare name other ∷ others) rest is = absurd is.form
-entries_again format first (Undo p batch ∷ Commit q ∷ others) rest is = absurd is.form
-entries_again format first (Undo p batch ∷ Undo q other ∷ others) rest is = absurd is.form
-entries_again format first (Undo p batch ∷ Close q ∷ third ∷ others) rest is = absurd is.form
+    let read : rollback_at format first (to_be_bytes (number_width format) p ++ (batch_bytes batch ++ rest)) ≡ Ok (Undo p batch ∷ Close p ∷ [], rest) = rw (few, earlier_again format first p (batch_bytes batch ++ rest) small is.form.earlier.0, batch_again batch rest entry) refl in
+    rw (← is.form.one) (record { kind = 4; fields = to_be_bytes (number_width format) p ++ batch_bytes batch; spelled = refl; read = ap (rollback_at format first) regrouped ∙ read; small = small })
+entries_again format first others rest is = absurd is.form.one
 
 -- what is spelled so is read
 pub record_again : (format : Format) (first : ℕ) (entries : List Entry) → IsRecord format first entries → record_at format first (record_bytes format first entries) ≡ Ok entries

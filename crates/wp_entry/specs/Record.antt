@@ -1,10 +1,10 @@
--- The records of the log: which lists of entries are one record, and the one spelling of each in each version of the
--- format, which differ in how wide numbers are.
-use Rattle.std.specs.Prelude.{◌≡◌, ℕ, ◌<◌, ◌≤◌, Bool, true, ◌&&◌, List, [], ◌∷◌, ◌++◌}
+-- The records of the log: the one spelling of each in each version of the format, which differ in how wide numbers are.
+use Rattle.std.specs.Prelude.{◌≡◌, ℕ, ◌+◌, ◌<◌, ◌≤◌, Bool, true, ◌&&◌, List, [], ◌∷◌, ◌++◌, length}
 use Rattle.std.specs.Int.{to_be_bytes}
-use Rattle.std.specs.List.{list_all}
+use Rattle.std.specs.List.{list_all, AllByRecursion}
 use Rattle.wp_model.specs.declared.entry.Entry.{Entry}
 use Rattle.wp_model.specs.declared.entry.Entry.TheVariants.{Write, Prepare, Commit, Undo, Close}
+use Rattle.wp_model.specs.Record.{IsOneRecord}
 use Rattle.wp_model.specs.Word.{is_name}
 use Rattle.wp_fields.specs.declared.format.Format.{Format}
 use Rattle.wp_fields.specs.declared.format.Format.TheVariants.{One, Two}
@@ -50,21 +50,19 @@ pub record IsEarlier (first p : ℕ) : Type 0 where
   pub from : 1 ≤ p
   pub below : p < first
 
--- an Undo and the Close of the same prepare
-pub record IsRollback (format : Format) (first p q : ℕ) : Type 0 where
-  pub same : p ≡ q
-  pub earlier : IsEarlier first p
-  pub small : first < last_number format
+-- what an entry names has a number before that one
+abbrev pub NamesEarlier : ℕ → Entry → Type 0
+NamesEarlier first (Commit p) = IsEarlier first p
+NamesEarlier first (Undo p batch) = IsEarlier first p
+NamesEarlier first (Close p) = IsEarlier first p
+NamesEarlier first other = Unit {0}
 
--- These entries share one record in a log, where the first has that number: one Write, one Prepare, one Commit, or an
--- Undo with its Close. All numbers are numbers of entries in this version of
--- the format.
-abbrev pub FormRecord : Format → ℕ → List Entry → Type 0
-FormRecord format first (Write batch ∷ []) = first ≤ last_number format
-FormRecord format first (Prepare name batch ∷ []) = first ≤ last_number format
-FormRecord format first (Commit p ∷ []) = IsEarlier first p × (first ≤ last_number format)
-FormRecord format first (Undo p batch ∷ Close q ∷ []) = IsRollback format first p q
-FormRecord format first others = ⊥
+-- These entries share one record in a log, where the first has that number. All numbers are numbers of entries in this
+-- version of the format, and what is named comes before the first.
+pub record FormRecord (format : Format) (first : ℕ) (entries : List Entry) : Type 0 where
+  pub one : IsOneRecord entries
+  pub earlier : AllByRecursion (NamesEarlier first) entries
+  pub numbered : first + length entries ≤ last_number format + 1
 
 -- The entries are a record, and what they hold is in range.
 pub record IsRecord (format : Format) (first : ℕ) (entries : List Entry) : Type 0 where

@@ -7,19 +7,19 @@ use wp_fields::Format;
 use wp_model::Seq;
 
 /// The kind of the record of one Write.
-pub const WRITE: u8 = 1;
+pub(crate) const WRITE: u8 = 1;
 
 /// The kind of the record of one Prepare.
-pub const PREPARE: u8 = 2;
+pub(crate) const PREPARE: u8 = 2;
 
 /// The kind of the record of one Commit.
-pub const COMMIT: u8 = 3;
+pub(crate) const COMMIT: u8 = 3;
 
 /// The kind of the record of an Undo and its Close.
-pub const ROLLBACK: u8 = 4;
+pub(crate) const ROLLBACK: u8 = 4;
 
 /// The last number that an entry may have: the last one that fits in four bytes, or 2^56 - 1.
-pub fn last_number(format: Format) -> Seq
+pub(crate) fn last_number(format: Format) -> Seq
     ensures { result ≡ last_number format }
 {
     match format {

@@ -1,6 +1,7 @@
 pub mod Following
 pub mod Growth
 pub mod Undecided
+pub mod Named
 pub mod Ascending
 pub mod Undone
 pub mod Newest

@@ -2,7 +2,7 @@
 use Rattle.std.proofs.Common.{◌≡◌, ℕ, ◌/◌, ◌%◌, ◌*◌, ◌+◌, ◌-◌, ◌^◌, ◌<◌, ◌≤◌, ◌&&◌, nat_le, nat_lt, Bool, true, false, cond, Some, None, refl, subst, ap, ◌∙◌, mod-lt, arith}
 use Rattle.std.proofs.lemmas.Bool.{lt-ltb, ltb-true, le-leb, leb-true}
 use Rattle.std.proofs.lemmas.Nat.{div-add-mod', div-mul-add, mod-mul-add}
-use Rattle.wp_judge.specs.Words.{CommitPair, MayBePacked, IsPacked, delta_of, delta_bound, word_of, is_pair, pair_with, pair_of, seq_end}
+use Rattle.wp_judge.specs.Words.{CommitPair, commit_pair, MayBePacked, IsPacked, delta_of, delta_bound, word_of, is_pair, pair_with, pair_of, seq_end}
 
 -- ---- a number and a delta
 
@@ -22,17 +22,17 @@ tests p delta false b c x y z is = let no : false ≡ true = is in absurd (cc)
 pub pair_parts : (p delta : ℕ) → is_pair p delta ≡ true → (1 ≤ p) × (1 ≤ delta) × (p + delta ≤ seq_end)
 pair_parts p delta is = tests p delta (nat_le 1 p) (nat_le 1 delta) (nat_le (p + delta) seq_end) refl refl refl is
 
-pub with_test : (p delta : ℕ) (b : Bool) → is_pair p delta ≡ b → pair_with p delta ≡ cond b (Some (record { number = p; decision = p + delta - 1 })) None
-with_test p delta b is = ap (λ (t : Bool). cond t (Some (record { number = p; decision = p + delta - 1 })) None) is
+pub with_test : (p delta : ℕ) (b : Bool) → is_pair p delta ≡ b → pair_with p delta ≡ cond b (Some (commit_pair p (p + delta - 1))) None
+with_test p delta b is = ap (λ (t : Bool). cond t (Some (commit_pair p (p + delta - 1))) None) is
 
 same_some : (x y : CommitPair) → Some x ≡ Some y → x ≡ y
 same_some x y e = cc
 
-with_found : (p delta : ℕ) (pair : CommitPair) → pair_with p delta ≡ Some pair → (is_pair p delta ≡ true) × (record { number = p; decision = p + delta - 1 } ≡ pair)
+with_found : (p delta : ℕ) (pair : CommitPair) → pair_with p delta ≡ Some pair → (is_pair p delta ≡ true) × (commit_pair p (p + delta - 1) ≡ pair)
 with_found p delta pair e = by_test (is_pair p delta) refl e
   where
-    by_test : (b : Bool) → is_pair p delta ≡ b → cond b (Some (record { number = p; decision = p + delta - 1 })) None ≡ Some pair → (is_pair p delta ≡ true) × (record { number = p; decision = p + delta - 1 } ≡ pair)
-    by_test true is h = (is, same_some (record { number = p; decision = p + delta - 1 }) pair h)
+    by_test : (b : Bool) → is_pair p delta ≡ b → cond b (Some (commit_pair p (p + delta - 1))) None ≡ Some pair → (is_pair p delta ≡ true) × (commit_pair p (p + delta - 1) ≡ pair)
+    by_test true is h = (is, same_some (commit_pair p (p + delta - 1)) pair h)
     by_test false is h = let no : None ≡ Some pair = h in absurd (cc)
 
 -- a pair in order is that of its number and its delta
@@ -40,7 +40,7 @@ with_back : (pair : CommitPair) → 1 ≤ pair.number → pair.number ≤ pair.d
 with_back pair positive ordered few =
     let same : pair.number + (pair.decision - pair.number + 1) - 1 ≡ pair.decision = omega (arith, ordered) in
     with_test pair.number (delta_of pair) true (are_pair pair.number (delta_of pair) positive (omega arith) (omega (arith, ordered, few)))
-    ∙ ap (λ (d : ℕ). Some (record { number = pair.number; decision = d })) same
+    ∙ ap (λ (d : ℕ). Some (commit_pair pair.number d)) same
 
 -- ---- a word
 
@@ -55,7 +55,7 @@ pair_back words pair k =
 -- a quotient, a place and a delta below the bound are those of their pair
 packed_of : (words place quotient delta word : ℕ) → place < words → delta < delta_bound words → quotient * delta_bound words + delta ≡ word
     → 1 ≤ quotient * words + place → 1 ≤ delta → quotient * words + place + delta ≤ seq_end
-    → IsPacked words place word (record { number = quotient * words + place; decision = quotient * words + place + delta - 1 })
+    → IsPacked words place word (commit_pair (quotient * words + place) (quotient * words + place + delta - 1))
 packed_of words place quotient delta word within below is positive some few =
     let again : (quotient * words + place + delta - 1) - (quotient * words + place) + 1 ≡ delta = omega (arith, some) in
     record {

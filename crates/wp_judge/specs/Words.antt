@@ -11,6 +11,10 @@ pub record CommitPair : Type 0 where
   pub number : ℕ
   pub decision : ℕ
 
+-- the version with the first number is decided by the entry with the second
+abbrev pub commit_pair : ℕ → ℕ → CommitPair
+commit_pair p c = record { number = p; decision = c }
+
 -- how far the decision is behind the number, and one more: so no pair has the delta 0
 abbrev pub delta_of : CommitPair → ℕ
 delta_of pair = pair.decision - pair.number + 1
@@ -33,7 +37,7 @@ abbrev pub is_pair : ℕ → ℕ → Bool
 is_pair p delta = (nat_le 1 p && nat_le 1 delta) && nat_le (p + delta) seq_end
 
 abbrev pub pair_with : ℕ → ℕ → Option CommitPair
-pair_with p delta = if is_pair p delta then Some (record { number = p; decision = p + delta - 1 }) else None
+pair_with p delta = if is_pair p delta then Some (commit_pair p (p + delta - 1)) else None
 
 -- the pair of the word at a place: none where no pair has this word there, as for the empty word 0
 abbrev pub pair_of : ℕ → ℕ → ℕ → Option CommitPair

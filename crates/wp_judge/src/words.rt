@@ -1,7 +1,7 @@
 ghost use Rattle.std.specs.Prelude.{◌≡◌, ◌+◌, ◌<◌, ◌≤◌, ◌^◌, ◌%◌, Some, IfSome};
 ghost use Rattle.std.specs.Option.{option_map};
 ghost use Rattle.wp_judge.specs.Words as words;
-ghost use Rattle.wp_judge.specs.Words.{CommitPair, MayBePacked, IsPacked, word_of, pair_of, numbers_of, seq_end};
+ghost use Rattle.wp_judge.specs.Words.{CommitPair, commit_pair, MayBePacked, IsPacked, word_of, pair_of, numbers_of, seq_end};
 
 use wp_model::Seq;
 
@@ -30,7 +30,7 @@ fn delta_bound(bits: u32) -> u64
 fn delta_of(p: Seq, c: Seq) -> u64
     requires ordered { p ≤ c }
     requires few { c < seq_end }
-    ensures delta { result ≡ words.delta_of (record { number = p; decision = c }) }
+    ensures delta { result ≡ words.delta_of (commit_pair p c) }
     ensures range { (1 ≤ result) × (p + result ≤ seq_end) }
 {
     c - p + 1
@@ -42,7 +42,7 @@ pub fn fits(bits: u32, p: Seq, c: Seq) -> bool
     requires bits { bits ≤ 16 }
     requires ordered { p ≤ c }
     requires few { c < seq_end }
-    ensures { result ≡ words.fits (2 ^ bits) (record { number = p; decision = c }) }
+    ensures { result ≡ words.fits (2 ^ bits) (commit_pair p c) }
 {
     delta_of(p, c) < delta_bound(bits)
 }
@@ -51,9 +51,9 @@ pub fn fits(bits: u32, p: Seq, c: Seq) -> bool
 /// quotient is all that it has of p; below that it has the delta, of 8 + bits bits. The bits are at most 16.
 pub fn pack(bits: u32, p: Seq, c: Seq) -> u64
     requires bits { bits ≤ 16 }
-    requires pair { MayBePacked (2 ^ bits) (record { number = p; decision = c }) }
-    ensures word { result ≡ word_of (2 ^ bits) (record { number = p; decision = c }) }
-    ensures unpacks { pair_of (2 ^ bits) (p % 2 ^ bits) result ≡ Some (record { number = p; decision = c }) }
+    requires pair { MayBePacked (2 ^ bits) (commit_pair p c) }
+    ensures word { result ≡ word_of (2 ^ bits) (commit_pair p c) }
+    ensures unpacks { pair_of (2 ^ bits) (p % 2 ^ bits) result ≡ Some (commit_pair p c) }
 {
     let quotient = p / count_words(bits);
     quotient * delta_bound(bits) + delta_of(p, c)
@@ -73,7 +73,7 @@ pub fn unpack(bits: u32, place: usize, word: u64) -> Option<(Seq, Seq)>
     requires bits { bits ≤ 16 }
     requires place { place < 2 ^ bits }
     ensures pair { result ≡ option_map numbers_of (pair_of (2 ^ bits) place word) }
-    ensures packs { IfSome result (λ r. IsPacked (2 ^ bits) place word (record { number = r.0; decision = r.1 })) }
+    ensures packs { IfSome result (λ r. IsPacked (2 ^ bits) place word (commit_pair r.0 r.1)) }
 {
     let p = word / delta_bound(bits) * count_words(bits) + place as u64;
     let delta = word % delta_bound(bits);

@@ -3,7 +3,7 @@ use Rattle.std.proofs.Common.{◌≡◌, ℕ, suc, List, [], ◌∷◌, length, 
 use Rattle.std.specs.Prelude.{slice_get}
 use Rattle.std.specs.FinMap as finite
 use Rattle.wp_model.specs.declared.entry.Entry.{Entry}
-use Rattle.wp_judge.specs.Words.{CommitPair}
+use Rattle.wp_judge.specs.Words.{CommitPair, commit_pair}
 use Rattle.wp_core.specs.World.{World, Participant, Actor}
 use Rattle.wp_core.specs.Tables.{WriteState, StoreState}
 use Rattle.wp_model.specs.LockState.{LockState}
@@ -14,7 +14,7 @@ use Rattle.wp_core.specs.Changes.{with_actor}
 use Rattle.wp_core.specs.Effects.{done}
 use Rattle.wp_core.specs.Steps.{Step}
 use Rattle.wp_core.specs.Steps as step
-use Rattle.wp_actor.specs.Turns.{turn_of}
+use Rattle.wp_core.specs.Turns.{turn_of}
 use Rattle.wp_machine.specs.Parts.{account_of}
 use Rattle.wp_machine.specs.declared.step.Kind.{Kind}
 use Rattle.wp_machine.specs.declared.step.Kind.TheVariants as kind
@@ -96,8 +96,8 @@ of_writes write.StopLog s e = subst Acts (only (step.stop_log) _ e) tt
 of_prepareds : (k : PreparedStep) (s : Step) → prepared_step k ≡ Some s → Acts s
 of_prepareds prepared.Add s e = subst Acts (only (step.add_prepared) _ e) tt
 of_prepareds prepared.TakePending s e = subst Acts (only (step.take_pending_prepared) _ e) tt
-of_prepareds (prepared.AddDelayedCommit p c) s e = subst Acts (only (step.add_delayed_commit (record { number = p; decision = c })) _ e) tt
-of_prepareds (prepared.DelayPending p c) s e = subst Acts (only (step.delay_pending (record { number = p; decision = c })) _ e) tt
+of_prepareds (prepared.AddDelayedCommit p c) s e = subst Acts (only (step.add_delayed_commit (commit_pair p c)) _ e) tt
+of_prepareds (prepared.DelayPending p c) s e = subst Acts (only (step.delay_pending (commit_pair p c)) _ e) tt
 of_prepareds (prepared.TakeOut p) s e = subst Acts (only (step.take_out p) _ e) tt
 
 of_released : (front last : List Registration) (s : Step) → released_step front last ≡ Some s → Acts s

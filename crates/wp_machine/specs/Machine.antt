@@ -12,12 +12,13 @@ use Rattle.wp_core.specs.Tables.{WriteState, StoreState}
 use Rattle.wp_core.specs.Reading.{Registration}
 use Rattle.wp_core.specs.Entries.{pending_pair}
 use Rattle.wp_model.specs.Flushed.{versions_under}
+use Rattle.wp_judge.specs.Words.{commit_pair}
 use Rattle.wp_core.specs.Effects.{with_entry}
 use Rattle.wp_core.specs.Steps.{Step}
 use Rattle.wp_core.specs.Steps as step
 use Rattle.wp_core.specs.Needs.{Needs}
 use Rattle.wp_core.specs.Runs.{IsStep}
-use Rattle.wp_actor.specs.Turns.{turn_of}
+use Rattle.wp_core.specs.Turns.{turn_of}
 use Rattle.wp_machine.specs.Parts.{account_of}
 use Rattle.wp_machine.specs.declared.step.Kind.{Kind}
 use Rattle.wp_machine.specs.declared.step.Kind.TheVariants as kind
@@ -85,8 +86,8 @@ write_step write.StopLog = Some step.stop_log
 abbrev pub prepared_step : PreparedStep → Option Step
 prepared_step prepared.Add = Some step.add_prepared
 prepared_step prepared.TakePending = Some step.take_pending_prepared
-prepared_step (prepared.AddDelayedCommit p c) = Some (step.add_delayed_commit (record { number = p; decision = c }))
-prepared_step (prepared.DelayPending p c) = Some (step.delay_pending (record { number = p; decision = c }))
+prepared_step (prepared.AddDelayedCommit p c) = Some (step.add_delayed_commit (commit_pair p c))
+prepared_step (prepared.DelayPending p c) = Some (step.delay_pending (commit_pair p c))
 prepared_step (prepared.TakeOut p) = Some (step.take_out p)
 
 -- the first of the last ones is released

@@ -1,5 +1,6 @@
 -- What the enums of the code are in the machine.
 use Rattle.std.specs.Prelude.{true, false}
+use Rattle.wp_judge.specs.Words.{commit_pair}
 use Rattle.wp_machine.specs.declared.content.Guarded.{Guarded}
 use Rattle.wp_machine.specs.declared.content.Guarded.TheVariants as table
 use Rattle.wp_machine.specs.declared.views.Account as code_account
@@ -43,9 +44,9 @@ event_of (found.Edit flushed base tables due halted) = view.found_edit flushed b
 event_of (found.Holder key holder seen account) = view.found key.value holder.value seen (account_of account)
 
 abbrev pub fact_of : Noted → Fact
-fact_of (noted.Passed place p c) = view.passed place (record { number = p; decision = c })
-fact_of (noted.InOldCommits place p c) = view.in_old_commits place (record { number = p; decision = c })
-fact_of (noted.Apart place p c) = view.apart place (record { number = p; decision = c })
+fact_of (noted.Passed place p c) = view.passed place (commit_pair p c)
+fact_of (noted.InOldCommits place p c) = view.in_old_commits place (commit_pair p c)
+fact_of (noted.Apart place p c) = view.apart place (commit_pair p c)
 fact_of (noted.WordsStay max words) = view.words_stay max words.items
 fact_of (noted.HasLeft p) = view.has_left p
 fact_of noted.VersionsInMemory = view.versions_in_memory

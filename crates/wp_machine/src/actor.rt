@@ -6,13 +6,12 @@ ghost use Rattle.std.specs.FinSet as set;
 ghost use Rattle.std.specs.FinMap as finite;
 ghost use Rattle.wp_model.specs.Batch.{key_cmp};
 ghost use Rattle.wp_core.specs.Reading.{snapshot_of};
-ghost use Rattle.wp_core.specs.Changes.{reading_left, is_same_registration};
+ghost use Rattle.wp_core.specs.Changes.{reading_left, is_same_registration, sees, remembers, has_direct, held_with, held_without, registers, has_transaction, has_no_transaction, turn_index, made_one, informed, joins};
 ghost use Rattle.wp_machine.specs.Effect.{has_published, released_number, has_released};
 ghost use Rattle.wp_core.specs.Tables as tables;
 ghost use Rattle.wp_core.specs.World.{new_participant, new_actor};
-ghost use Rattle.wp_core.specs.Changes.{sees, remembers, has_direct, held_with, held_without, registers, has_transaction, has_no_transaction, turn_index, made_one, informed, joins};
 ghost use Rattle.wp_machine.specs.Client.{client_of};
-ghost use Rattle.wp_actor.specs.Turns.{turn_of};
+ghost use Rattle.wp_core.specs.Turns.{turn_of};
 ghost use Rattle.wp_machine.specs.HeldTables.{place_from};
 
 use crate::content::Content;
@@ -26,7 +25,7 @@ use crate::world::World;
 use std::alloc::{AllocError, Global};
 use std::marker::Model;
 use std::snapshot::Snapshot;
-use wp_actor::Turn;
+use wp_core::Turn;
 use wp_judge::Observed;
 use wp_model::{Batch, Entry, Key, Name, Seq};
 
@@ -57,7 +56,7 @@ pub struct Transaction {
 impl Model for Transaction {
     ghost use Rattle.std.specs.FinSet as set;
     ghost use Rattle.wp_core.specs.World.{Transaction};
-    ghost use Rattle.wp_actor.specs.Codes.{transaction_code};
+    ghost use Rattle.wp_core.specs.Codes.{transaction_code};
 
     ghost Value = { Transaction };
 
@@ -83,7 +82,7 @@ impl Model for Participant {
     ghost use Rattle.std.specs.Coded.{codes};
     ghost use Rattle.std.specs.FinMap as map;
     ghost use Rattle.wp_core.specs.World.{Participant};
-    ghost use Rattle.wp_actor.specs.Codes.{transactions_code};
+    ghost use Rattle.wp_core.specs.Codes.{transactions_code};
     ghost use Rattle.wp_machine.specs.Client.{client_of};
 
     ghost Value = { Participant };
@@ -113,7 +112,7 @@ impl Model for Actor {
     ghost use Rattle.wp_model.specs.PreparedSets.{prepared_sets_code};
     ghost use Rattle.wp_model.specs.Snapshots.{snapshots_code};
     ghost use Rattle.wp_model.specs.LockState.{lock_state_code};
-    ghost use Rattle.wp_actor.specs.Codes.{transactions_code};
+    ghost use Rattle.wp_core.specs.Codes.{transactions_code};
 
     ghost Value = { Actor };
 

@@ -1,4 +1,5 @@
 ghost use Rattle.std.specs.Prelude.{◌≡◌, ◌≤◌, ◌<◌, ◌^◌, replicate, length, OnOk, IfOk};
+ghost use Rattle.wp_judge.specs.Words.{commit_pair};
 ghost use Rattle.wp_core.specs.Cache.{cache_place, cached_word, with_pair};
 
 use std::alloc::{AllocError, Global};
@@ -53,7 +54,7 @@ impl Cache {
 
     /// Puts the pair at its place. It fits a word wherever the machine stores one; others find no word.
     pub fn store(&mut self, p: Seq, c: Seq) -> Result<(), AllocError>
-        ensures { OnOk result (self.new ≡ with_pair self.old (record { number = p; decision = c })) }
+        ensures { OnOk result (self.new ≡ with_pair self.old (commit_pair p c)) }
     {
         if p < 1 || c < p || LAST_SEQ < c || !fits(self.bits, p, c) {
             return Err(AllocError);

@@ -1,7 +1,7 @@
 ghost use Rattle.std.specs.Prelude.{◌≡◌};
 ghost use Rattle.wp_core.specs.Tables.{turn_of};
 ghost use Rattle.wp_core.specs.World.{content_of as content_in};
-ghost use Rattle.wp_actor.specs.Turns as turns;
+ghost use Rattle.wp_core.specs.Turns as turns;
 
 use crate::locks::LockState;
 use crate::prepared::PreparedSets;
@@ -11,7 +11,7 @@ use crate::world::World;
 use crate::writes::WriteState;
 use std::marker::Model;
 use std::snapshot::Snapshot;
-use wp_actor::Turn;
+use wp_core::Turn;
 
 /// The table of one turn. No step reads it, so it has no bytes.
 #[derive(Drop)]

@@ -3,7 +3,7 @@ ghost use Rattle.std.specs.Prelude.{◌≡◌, IfOk};
 use std::alloc::{AllocError, Global};
 use wp_model::{Entry, Version};
 
-pub fn copy_entries(entries: &[Entry], alloc: Global) -> Result<Vec<Entry>, AllocError>
+pub(crate) fn copy_entries(entries: &[Entry], alloc: Global) -> Result<Vec<Entry>, AllocError>
     ensures { IfOk result (λ copy. copy.items ≡ entries.now) }
 {
     let mut copy = Vec::with_capacity(alloc, entries.len())?;

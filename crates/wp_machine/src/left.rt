@@ -52,7 +52,10 @@ fn push_keys(
 }
 
 /// The names of the undecided prepares, had by nobody.
-pub fn names_left(history: &History, alloc: Global) -> Result<Vec<(Name, Option<Name>)>, AllocError>
+pub(crate) fn names_left(
+    history: &History,
+    alloc: Global,
+) -> Result<Vec<(Name, Option<Name>)>, AllocError>
     ensures { IfOk result (λ names. names.items ≡ names_of history.now.entries) }
 {
     let mut names = Vec::new(alloc);
@@ -63,7 +66,7 @@ pub fn names_left(history: &History, alloc: Global) -> Result<Vec<(Name, Option<
 }
 
 /// The keys of the undecided prepares, each held by its transaction.
-pub fn keys_left(history: &History, alloc: Global) -> Result<Vec<(Key, Holder)>, AllocError>
+pub(crate) fn keys_left(history: &History, alloc: Global) -> Result<Vec<(Key, Holder)>, AllocError>
     ensures { IfOk result (λ keys. keys.items ≡ keys_of history.now.entries) }
 {
     let mut keys = Vec::new(alloc);

@@ -57,5 +57,5 @@ pub use turn::Holders;
 pub use versions::versions_of_next;
 pub use views::{Account, Event, Fact, Found, Noted};
 pub use world::World;
-pub use wp_actor::Turn;
+pub use wp_core::Turn;
 pub use writes::{WriteState, entry_at};

@@ -34,7 +34,7 @@ impl Model for LockState {
     ghost view = { λ t. record { names = map.from_entries t.names.items; keys = map.from_entries t.keys.items; labels = map.from_entries t.labels.items } };
 }
 
-pub fn copy_client(client: &Option<Name>, alloc: Global) -> Result<Option<Name>, AllocError>
+pub(crate) fn copy_client(client: &Option<Name>, alloc: Global) -> Result<Option<Name>, AllocError>
     ensures { IfOk result (λ copy. copy ≡ client.now) }
 {
     match client {

@@ -6,7 +6,7 @@ use crate::store::InstalledEdit;
 use crate::views::{Account, Fact};
 use crate::world::World;
 use std::alloc::AllocError;
-use wp_actor::Turn;
+use wp_core::Turn;
 use wp_judge::Load;
 use wp_model::{Batch, Entry, Holder, Key, Name, Seq, Version};
 

@@ -1,9 +1,8 @@
 ghost use Rattle.std.specs.Prelude.{◌≡◌, true};
-ghost use Rattle.wp_core.specs.Turns.{turn_holder, with_holder, Holds, all_free};
-ghost use Rattle.wp_actor.specs.Turns.{turn_of};
+ghost use Rattle.wp_core.specs.Turns.{turn_holder, with_holder, Holds, all_free, turn_of};
 
 use std::marker::Model;
-use wp_actor::Turn;
+use wp_core::Turn;
 
 /// Of each turn the actor that holds it, if one does.
 #[derive(Clone, Copy)]

@@ -55,7 +55,7 @@ fn number_at(i: usize) -> Result<Seq, AllocError>
 }
 
 /// The versions of all entries, where the first has the number 1.
-pub fn all_versions(entries: &[Entry], alloc: Global) -> Result<Vec<Version>, AllocError>
+pub(crate) fn all_versions(entries: &[Entry], alloc: Global) -> Result<Vec<Version>, AllocError>
     ensures { IfOk result (λ versions. versions.items ≡ later_versions entries.now 0) }
 {
     let mut versions = Vec::new(alloc);
@@ -67,7 +67,7 @@ pub fn all_versions(entries: &[Entry], alloc: Global) -> Result<Vec<Version>, Al
     Ok(versions)
 }
 
-pub fn take_number(versions: &mut Vec<Version>, n: Seq)
+pub(crate) fn take_number(versions: &mut Vec<Version>, n: Seq)
     ensures { versions.new.items ≡ without_number n versions.old.items }
 {
     versions.retain(|version| version.number != n);

@@ -3,7 +3,7 @@ ghost use Rattle.std.specs.Prelude.{◌≡◌};
 use crate::store::InstalledEdit;
 use std::marker::Model;
 use std::snapshot::Snapshot;
-use wp_actor::Turn;
+use wp_core::Turn;
 use wp_model::{Batch, Entry, Holder, Key, Name, Seq, Version};
 
 /// How a holder that was found is accounted for: the finder's own, another actor's, or a prepare undecided after so many
@@ -122,7 +122,7 @@ impl Model for Fact {
 impl Fact {
     ghost use Rattle.std.specs.Prelude.{option_map};
     ghost use Rattle.wp_core.specs.Sound.Views.{guarded_by};
-    ghost use Rattle.wp_actor.specs.Turns.{turn_of};
+    ghost use Rattle.wp_core.specs.Turns.{turn_of};
     ghost use Rattle.wp_machine.specs.Parts.{fact_of};
 
     pub fn of(says: Noted) -> Fact

@@ -50,7 +50,7 @@ impl Model for World {
     ghost use Rattle.wp_model.specs.Snapshots.{snapshots_code};
     ghost use Rattle.wp_model.specs.LockState.{lock_state_code};
     ghost use Rattle.wp_core.specs.World.{World};
-    ghost use Rattle.wp_actor.specs.Codes.{transactions_code};
+    ghost use Rattle.wp_core.specs.Codes.{transactions_code};
 
     ghost Value = { World };
 

@@ -38,7 +38,7 @@ impl Model for WriteState {
 }
 
 /// The version that the entry with that number decides, and that number.
-pub fn pair_by(n: Seq, entry: &Entry) -> Option<(Seq, Seq)>
+pub(crate) fn pair_by(n: Seq, entry: &Entry) -> Option<(Seq, Seq)>
     ensures { result ≡ option_map numbers_of (pair_by n entry.now) }
 {
     match entry {

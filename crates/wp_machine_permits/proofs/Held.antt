@@ -10,7 +10,7 @@ use Rattle.wp_model.specs.declared.entry.Entry.{Entry}
 use Rattle.wp_core.specs.Turns.{Holds, write_turn, snapshots_turn}
 use Rattle.wp_core.specs.Steps.{store_published, store_word, begin_reading, release}
 use Rattle.wp_machine.specs.Machine.{published_step, released_step}
-use Rattle.wp_judge.specs.Words.{CommitPair, fits, numbers_of}
+use Rattle.wp_judge.specs.Words.{CommitPair, commit_pair, fits, numbers_of}
 use Rattle.wp_model.specs.declared.change.Change.{Change}
 use Rattle.wp_model.specs.History.{batch_at, named, holder_of, is_changed}
 use Rattle.wp_model.proofs.Found.{found_holder}
@@ -78,7 +78,7 @@ entitled w a entry history whole follows batch under held owns =
     }
 
 -- the pair of the pending entry
-pub stores : (w : World) (by : ℕ) (a : Actor) (p c : ℕ) → Some (p, c) ≡ option_map numbers_of (pending_pair w.writes.history w.writes.pending) → Holds w.holders write_turn by → fits (length w.cache) (record { number = p; decision = c }) ≡ true → ((gone : CommitPair) → pair_at w.cache (cache_place (length w.cache) p) ≡ Some gone → MayBeEvicted w gone)
+pub stores : (w : World) (by : ℕ) (a : Actor) (p c : ℕ) → Some (p, c) ≡ option_map numbers_of (pending_pair w.writes.history w.writes.pending) → Holds w.holders write_turn by → fits (length w.cache) (commit_pair p c) ≡ true → ((gone : CommitPair) → pair_at w.cache (cache_place (length w.cache) p) ≡ Some gone → MayBeEvicted w gone)
     → IsOffered w by a (option_map store_word (pending_pair w.writes.history w.writes.pending))
 stores w by a p c is turn narrow clear = cases (pending_pair w.writes.history w.writes.pending) refl
   where
@@ -88,7 +88,7 @@ stores w by a p c is turn narrow clear = cases (pending_pair w.writes.history w.
         let both : Some (p, c) ≡ Some (pair.number, pair.decision) = is ∙ ap (option_map numbers_of) there in
         let inner : ◌≡◌ {A = ℕ × ℕ} (p, c) (pair.number, pair.decision) = cc in
         let same : p ≡ pair.number = ap (λ x. x.0) inner in let decided : c ≡ pair.decision = ap (λ x. x.1) inner in
-        record { step = store_word pair; is = ap (option_map store_word) there; needs = (turn, there, sym (λ i. fits (length w.cache) (record { number = same i; decision = decided i })) ∙ narrow, rw same at clear) }
+        record { step = store_word pair; is = ap (option_map store_word) there; needs = (turn, there, sym (λ i. fits (length w.cache) (commit_pair (same i) (decided i))) ∙ narrow, rw same at clear) }
 
 -- the item at a place is in the list
 pub in_list : (registered : List Registration) (place : ℕ) (r : Registration) → slice_get registered place ≡ Some r → IsIn r registered

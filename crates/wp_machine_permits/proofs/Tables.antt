@@ -29,8 +29,8 @@ use Rattle.wp_core.specs.Entries.{HasVersionsAt, transaction_of, changes_under}
 use Rattle.wp_core.specs.Sound.Prepared.{IsInOldCommits}
 use Rattle.wp_core.specs.Tables.{with_moved}
 use Rattle.wp_core.specs.World.{Transaction, Transactions}
-use Rattle.wp_core.proofs.Keyed.{at_inserted}
-use Rattle.wp_core.proofs.Tests.{same_some, or_true}
+use Rattle.wp_model.proofs.Keyed.{at_inserted}
+use Rattle.wp_model.proofs.Tests.{same_some, or_true}
 use Rattle.wp_machine_permits.specs.Runs.{t, k, d, claimed, locked, whole, memory}
 
 -- ---- nothing yet

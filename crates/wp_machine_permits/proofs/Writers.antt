@@ -14,7 +14,7 @@ use Rattle.wp_model.specs.Flushed.{IsEditCovered}
 use Rattle.wp_model.specs.History.{is_changed}
 use Rattle.wp_model.specs.Snapshots.{Snapshot, Snapshots}
 use Rattle.wp_history_laws.proofs.Listed.{zero_covered}
-use Rattle.wp_judge.specs.Words.{CommitPair, word_of}
+use Rattle.wp_judge.specs.Words.{CommitPair, commit_pair, word_of}
 use Rattle.wp_core.specs.Cache.{cached}
 use Rattle.wp_core.specs.Conditions.{MayBeEvicted}
 use Rattle.wp_core.specs.Reading.{Registration}
@@ -23,10 +23,10 @@ use Rattle.wp_core.specs.Sound.Store.{IsStored}
 use Rattle.wp_core.specs.Tables.{live_numbers}
 use Rattle.wp_core.specs.World.{World}
 use Rattle.wp_core.proofs.CoveredGrows.{version_within}
-use Rattle.wp_core.proofs.Keyed.{at_inserted}
+use Rattle.wp_model.proofs.Keyed.{at_inserted}
 use Rattle.wp_core.proofs.Openings.{AreAll, all_versions}
 use Rattle.wp_core.proofs.SnapshotsStep.{among_live}
-use Rattle.wp_core.proofs.Tests.{same_some, some_none}
+use Rattle.wp_model.proofs.Tests.{same_some, some_none}
 use Rattle.wp_model.proofs.Numbers.{in_inserted}
 use Rattle.wp_machine_permits.specs.Runs.{t, k, d, batch, prior, direct, prepared, claimed, locked, whole, freed, memory, edit, prepare, commit, undo, free, delay, write, keep, overwrite, flush}
 use Rattle.wp_machine_permits.proofs.Leading.{after, AreMet, ◌▹◌, opening, with_snapshots}
@@ -34,16 +34,16 @@ use Rattle.wp_machine_permits.proofs.Legal.{prepared_legal, committed_legal, wri
 use Rattle.wp_machine_permits.proofs.Tables.{no_numbers, no_snapshots, keys_then, transactions_then, has_whole, only_key, k_held, k_locked, d_free, of_t, added, none_at_2, none_at_3, none_in_heap, still_out, gone_1, not_delayed_1, delayed_1, one_live, live_1, kept_1}
 
 abbrev first_pair : CommitPair
-first_pair = record { number = 1; decision = 2 }
+first_pair = commit_pair 1 2
 
 abbrev undo_pair : CommitPair
-undo_pair = record { number = 2; decision = 2 }
+undo_pair = commit_pair 2 2
 
 abbrev close_pair : CommitPair
-close_pair = record { number = 1; decision = 3 }
+close_pair = commit_pair 1 3
 
 abbrev last_pair : CommitPair
-last_pair = record { number = 3; decision = 3 }
+last_pair = commit_pair 3 3
 
 abbrev pub snapshot_1 : Registration
 snapshot_1 = record { number = 1; smallest = 1 }

@@ -7,6 +7,7 @@ use Rattle.wp_model.specs.declared.entry.Entry.{Entry}
 use Rattle.wp_model.specs.declared.entry.Entry.TheVariants.{Write, Prepare, Commit, Undo, Close}
 use Rattle.wp_model.specs.declared.version.Version.{Version}
 use Rattle.wp_model.specs.Flushed.{InstalledEdit, versions_under, first_segment}
+use Rattle.wp_judge.specs.Words.{commit_pair}
 use Rattle.wp_judge.specs.declared.observed.Load.TheVariants.{FirstWord, FirstMax, DelayedFlag, InPrepared, SecondWord, SecondMax, OldFlag, IsOldCommit}
 use Rattle.wp_core.specs.Turns.{write_turn, prepared_turn, snapshots_turn, store_turn, locks_turn, tables_turn}
 use Rattle.wp_core.specs.World.{Transaction}
@@ -75,15 +76,15 @@ clean_up = take_turn prepared_turn ∷ take_out 1 ∷ give_turn prepared_turn �
 abbrev pub commit : List Step
 commit =
     take_turn write_turn ∷ make_pending (Commit 1 ∷ []) ∷ log_pending
-    ∷ store_word (record { number = 1; decision = 2 }) ∷ store_published (Commit 1) [] ∷ give_turn write_turn ∷ clean_up
+    ∷ store_word (commit_pair 1 2) ∷ store_published (Commit 1) [] ∷ give_turn write_turn ∷ clean_up
 
 -- 1 is undone by 2, and closed by 3, in one record
 abbrev pub undo : List Step
 undo =
     take_turn write_turn ∷ make_pending (Undo 1 prior ∷ Close 1 ∷ [])
     ∷ take_turn store_turn ∷ add_versions (versions_under 2 prior ++ memory) ∷ give_turn store_turn ∷ log_pending
-    ∷ store_word (record { number = 2; decision = 2 }) ∷ store_published (Undo 1 prior) (Close 1 ∷ [])
-    ∷ store_word (record { number = 1; decision = 3 }) ∷ store_published (Close 1) [] ∷ give_turn write_turn ∷ clean_up
+    ∷ store_word (commit_pair 2 2) ∷ store_published (Undo 1 prior) (Close 1 ∷ [])
+    ∷ store_word (commit_pair 1 3) ∷ store_published (Close 1) [] ∷ give_turn write_turn ∷ clean_up
 
 -- t, which is decided, is let go
 abbrev pub free : List Step
@@ -110,7 +111,7 @@ keep = take_turn snapshots_turn ∷ store_old_flag 1 ∷ add_old_commit 1 1 ∷ 
 abbrev pub overwrite : List Step
 overwrite =
     take_turn store_turn ∷ add_versions (versions_under 3 direct ++ memory) ∷ give_turn store_turn ∷ log_pending
-    ∷ store_word (record { number = 3; decision = 3 }) ∷ store_published (Write direct) [] ∷ give_turn write_turn ∷ []
+    ∷ store_word (commit_pair 3 3) ∷ store_published (Write direct) [] ∷ give_turn write_turn ∷ []
 
 -- the edit of a flush of what the first two entries left in memory
 abbrev pub edit : InstalledEdit

@@ -1,5 +1,5 @@
 -- What is found among the undecided prepares is one of them.
-use Rattle.std.proofs.Common.{◌≡◌, ℕ, Bool, true, List, [], ◌∷◌, length, Option, Some, None, sym, inl, inr}
+use Rattle.std.proofs.Common.{◌≡◌, ℕ, Bool, true, List, [], ◌∷◌, length, Some, inl, inr}
 use Rattle.std.specs.Prelude.{IfSome}
 use Rattle.std.specs.List.{filter, find, range_with_len}
 use Rattle.std.specs.Str.{bytes_eq}
@@ -23,10 +23,6 @@ pub found_holder : (history : List Entry) (key : List ℕ) (p : ℕ) → holder_
 found_holder history key p is =
     let found : IfSome (holder_of history key) (λ q. (is_undecided history q ≡ true) × (is_changed (batch_at history q) key ≡ true)) = found_passes (is_undecided history) (λ q. is_changed (batch_at history q) key) (range_with_len 1 (length history)) in
     rw is at found
-
-pub holder_is_undecided : (history : List Entry) (key : List ℕ) (holder : Option ℕ) → holder ≡ holder_of history key → IfSome holder (λ p. is_undecided history p ≡ true)
-holder_is_undecided history key None is = tt
-holder_is_undecided history key (Some p) is = (found_holder history key p (sym is)).0
 
 -- who has a name is undecided
 pub found_named : (history : List Entry) (name : List ℕ) (p : ℕ) → named history name ≡ Some p → (is_undecided history p ≡ true) × (bytes_eq (name_at history p) name ≡ true)

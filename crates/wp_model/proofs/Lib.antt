@@ -1,6 +1,9 @@
+pub mod Tests
 pub mod BatchLemmas
 pub mod Entries
+pub mod Records
 pub mod VersionLists
 pub mod Found
 pub mod Words
+pub mod Keyed
 pub mod Numbers

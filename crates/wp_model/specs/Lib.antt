@@ -4,6 +4,7 @@ pub mod Batch
 pub mod Place
 pub mod History
 pub mod Legal
+pub mod Record
 pub mod Decision
 pub mod Versions
 pub mod Covered

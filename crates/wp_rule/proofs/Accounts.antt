@@ -17,7 +17,7 @@ use Rattle.wp_core.specs.Sound.Actors.{IsParticipantAt, participants_of}
 use Rattle.wp_core.specs.Sound.Locks.{Owner, owner_of}
 use Rattle.wp_core.specs.IsSound.{IsSound, participants}
 use Rattle.wp_core.proofs.Frames.{at_map}
-use Rattle.wp_core.proofs.Tests.{none_some}
+use Rattle.wp_model.proofs.Tests.{none_some}
 use Rattle.wp_rule.specs.Accounts.{IsHolderIn, is_key, is_self, account_by, account_of}
 
 holder_found : (w : World) (key : Option (List ℕ)) (holder : Holder) → IsHolderIn w.locks key holder → IsHolder w key holder

@@ -4,7 +4,7 @@ use mathlib.Core.Option.{some, some-injective, some-ne-none}
 use mathlib.Core.Logic.{dite}
 use native.Mathlib.Decide.{ℕ_discrete}
 use lib.ListN.{get_elem?}
-use Rattle.atomic_table.specs.Table.{Fixed, Seen}
+use Rattle.atomic_table.specs.Table.{Final, Seen}
 use Rattle.wp_core.specs.Lists.{EachAt, IsIn, one_if}
 use Rattle.wp_core.specs.Turns.{Turn, write_turn, prepared_turn, snapshots_turn, store_turn, locks_turn, tables_turn, turn_holder}
 use Rattle.wp_core.specs.Tables.{Content}
@@ -104,7 +104,7 @@ first_alone w s a at all free =
 
 module _ {S : Type 0} (content : S → Option Content) (tells : List S → S → Type 0) where
   pub leaves : (z z' : SharedWords S) (id : ℕ) (a : Actor) (words : List ℕ) (slots : List S) (parts : Turn → S) → z ≡ z' → id ≡ 0 → a.held ≡ [] → a.made ≡ length a.joined
-      → Fixed (Seen (Shows content (tells z.first) z.first z.opened z.cells) id a) words slots → ((turn : Turn) → get_elem? slots (turn_index turn) ≡ some (parts turn)) → Leaves content (tells z'.first) z'.first (place_of content z' 0) a parts
+      → Final (Seen (Shows content (tells z.first) z.first z.opened z.cells) id a) words slots → ((turn : Turn) → get_elem? slots (turn_index turn) ≡ some (parts turn)) → Leaves content (tells z'.first) z'.first (place_of content z' 0) a parts
   leaves z z' id a words slots parts is first idle all f there =
       let s = f.0 in let r = f.1.0 in let w = r.world in
       let k = at_world content (tells z.first) z.first z.opened z.cells s r 0 a (subst (λ (n : ℕ). get_elem? s.views n ≡ some a) first f.1.1) in let sound = at_sound (place_of content z 0) a w k in

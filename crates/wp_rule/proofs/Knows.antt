@@ -1,9 +1,12 @@
 -- What a seat knows of the world behind the table.
 use Rattle.std.proofs.Common.{◌≡◌, ⊎_elim, ℕ, List, [], ◌∷◌, Option, unwrap_or, refl, sym, ap, ◌∙◌, subst}
 use Rattle.wp_model.specs.Flushed.{InstalledEdit}
+use Rattle.wp_model.specs.LockState.{LockState}
+use Rattle.wp_model.specs.PreparedSets.{PreparedSets}
+use Rattle.wp_model.specs.Snapshots.{Snapshots}
 use Rattle.wp_core.specs.Lists.{IsIn}
 use Rattle.wp_core.specs.Turns.{Turn, Holders, Holds}
-use Rattle.wp_core.specs.Tables.{Content, turn_of}
+use Rattle.wp_core.specs.Tables.{WriteState, StoreState, Installed, Content, writes, prepared, snapshots, store, locks, installed, turn_of}
 use Rattle.wp_core.specs.Views.{Fact}
 use Rattle.wp_core.specs.World.{Actor, World, content_of}
 use Rattle.wp_core.specs.Sound.Actors.{StartsWith, seen_of, learned_of, held_of, AreHeld}
@@ -13,6 +16,7 @@ use Rattle.wp_core.proofs.AllParticipants.{mine}
 use Rattle.wp_core.proofs.EachStep.{reached_is_sound}
 use Rattle.wp_core.proofs.Frames.{at_map}
 use Rattle.wp_rule.specs.Words.{Place, IsAt}
+use Rattle.wp_rule.specs.Knows.{IsTableOf}
 use Rattle.wp_rule.specs.Shows.{WasLast}
 
 pub at_sound : (p : Place) (a : Actor) (w : World) → IsAt p a w → IsSound w
@@ -30,6 +34,42 @@ held_among holders contents j (d ∷ held) c there k =
 -- a table that the view has is the world's, and its turn is the seat's
 pub held_is : (p : Place) (a : Actor) (w : World) (c : Content) → IsAt p a w → IsIn c a.held → Holds w.holders (turn_of c) p.by × (content_of w (turn_of c) ≡ c)
 held_is p a w c k there = held_among w.holders (content_of w) p.by a.held c there ((at_sound p a w k).held p.by a.held (at_map held_of w.actors p.by a k.there))
+
+-- ---- which table it is
+
+abbrev writes_in : WriteState → Content → WriteState
+writes_in t (writes d) = d
+writes_in t other = t
+
+abbrev prepared_in : PreparedSets → Content → PreparedSets
+prepared_in t (prepared d) = d
+prepared_in t other = t
+
+abbrev snapshots_in : Snapshots → Content → Snapshots
+snapshots_in m (snapshots d) = d
+snapshots_in m other = m
+
+abbrev store_in : StoreState → Content → StoreState
+store_in t (store d) = d
+store_in t other = t
+
+abbrev locks_in : LockState → Content → LockState
+locks_in t (locks d) = d
+locks_in t other = t
+
+abbrev installed_in : Installed → Content → Installed
+installed_in e (installed d) = d
+installed_in e other = e
+
+pub is_table : (w : World) (table : Content) → content_of w (turn_of table) ≡ table → IsTableOf w table
+is_table w (writes t) e = ap (writes_in t) e
+is_table w (prepared t) e = ap (prepared_in t) e
+is_table w (snapshots m) e = ap (snapshots_in m) e
+is_table w (store t) e = ap (store_in t) e
+is_table w (locks t) e = ap (locks_in t) e
+is_table w (installed d) e = ap (installed_in d) e
+
+-- ---- what was seen, learned and noted
 
 -- what was seen, and what was learned and not yet seen, begins the history
 pub seen_is : (p : Place) (a : Actor) (w : World) → IsAt p a w → StartsWith w.writes.history a.participant.seen

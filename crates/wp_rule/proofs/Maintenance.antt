@@ -21,7 +21,7 @@ use Rattle.wp_core.proofs.HistoryGrows.{none_is, grown_length, version_new}
 use Rattle.wp_core.proofs.PendingVersions.{covers_same}
 use Rattle.wp_core.proofs.PublishesVersions.{at_back, up_to_within, up_to_past, edit_part}
 use Rattle.wp_core.proofs.SnapshotsStep.{among_live}
-use Rattle.wp_core.proofs.Tests.{none_some}
+use Rattle.wp_model.proofs.Tests.{none_some}
 use Rattle.wp_rule.specs.Knows.{KnowsMoved, KnowsReplaced}
 
 -- ---- from what was seen to all of a history, entry by entry

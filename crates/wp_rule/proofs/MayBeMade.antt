@@ -21,8 +21,8 @@ use Rattle.wp_core.specs.Steps.{Step, register, make_pending, claim_name, find_h
 use Rattle.wp_core.specs.Changes.{keys_of_holder}
 use Rattle.wp_core.specs.Entries.{next_of, pending_pair, extended}
 use Rattle.wp_core.proofs.HistoryGrows.{none_is}
-use Rattle.wp_core.proofs.Keyed.{at_inserted}
-use Rattle.wp_core.proofs.Tests.{same_some}
+use Rattle.wp_model.proofs.Keyed.{at_inserted}
+use Rattle.wp_model.proofs.Tests.{same_some}
 use Rattle.wp_core.proofs.StoresWord.{pending_next}
 use Rattle.wp_core.proofs.HistoryLaws.{decision_within}
 use Rattle.wp_rule.specs.Words.{Place, IsAt}

@@ -16,16 +16,16 @@ use Rattle.wp_model.specs.PreparedSets.{PreparedSets, is_prepared}
 use Rattle.wp_model.specs.Snapshots.{Snapshots, Snapshot, IsLive}
 use Rattle.wp_model.specs.Versions.{version_at}
 use Rattle.wp_model.specs.LockState.{LockState}
-use Rattle.wp_judge.specs.Words.{CommitPair, fits, delta_of, delta_bound}
+use Rattle.wp_judge.specs.Words.{CommitPair, commit_pair, fits, delta_of, delta_bound}
 use Rattle.wp_judge.specs.declared.observed.Load.{Load}
 use Rattle.wp_judge.specs.declared.observed.Load.TheVariants.{FirstWord, FirstMax, DelayedFlag, InPrepared, SecondWord, SecondMax, OldFlag, IsOldCommit}
 use Rattle.wp_core.specs.Lists.{IsIn}
 use Rattle.wp_core.specs.Turns.{Turn, write_turn, prepared_turn, snapshots_turn, store_turn, locks_turn, tables_turn, Holds}
 use Rattle.wp_core.specs.Cache.{cache_place, cached, pair_at}
-use Rattle.wp_core.specs.Tables.{Content, WriteState, StoreState, Installed, writes, prepared, snapshots, store, locks, installed}
+use Rattle.wp_core.specs.Tables.{WriteState, StoreState, Installed, writes, prepared, snapshots, store, locks, installed}
 use Rattle.wp_core.specs.Views.{Fact, passed, in_old_commits, apart, words_stay, has_left, versions_in_memory, versions_nowhere, number_in_heap, number_not_in_heap, undecided_at, prior_values, unprepared, direct_free, tables_stay, live_listed, nothing_flushed, frozen_stay, delayed_flag_stays, old_flag_stays, pair_delayed, pair_not_delayed, none_waits}
 use Rattle.wp_core.specs.World.{Transaction, Actor, World}
-use Rattle.wp_core.specs.Entries.{next_of, batch_of_name, extended, pending_pair, pair_by, pairs_of, IsOneRecord}
+use Rattle.wp_core.specs.Entries.{next_of, batch_of_name, extended, pending_pair, pair_by, pairs_of}
 use Rattle.wp_core.specs.Conditions.{IsHeldFor, MayPublish, MayLook, MayBeEvicted, NoneNext, MayGive, NamesSegment, NamesNext}
 use Rattle.wp_core.specs.Reading.{Registration}
 use Rattle.wp_core.specs.Sound.Locks.{IsOwner, owner_of}
@@ -40,14 +40,15 @@ use Rattle.wp_model.proofs.Entries.{entry_at_old, batch_at_old, entry_at_past, s
 use Rattle.wp_model.proofs.Found.{found_holder, found_named}
 use Rattle.wp_core.proofs.AllParticipants.{mine}
 use Rattle.wp_core.proofs.HistoryGrows.{none_is}
-use Rattle.wp_core.proofs.HistoryHolders.{none_named}
+use Rattle.wp_history_laws.proofs.Named.{none_named}
 use Rattle.wp_core.proofs.HistoryLaws.{decision_stays}
 use Rattle.wp_core.proofs.KeepsSeen.{shorter}
-use Rattle.wp_core.proofs.Tests.{none_some, same_some}
+use Rattle.wp_model.proofs.Records.{one_short}
+use Rattle.wp_model.proofs.Tests.{none_some, same_some}
 use Rattle.wp_rule.specs.Words.{Place, IsAt}
 use Rattle.wp_rule.specs.Knows.{Holding, Noted, IsUp, KnowsLook, KnowsCleared, KnowsTables, KnowsReplaced, KnowsGive, KnowsPair, IsRise, HasNoVersions, KnowsFact, KnowsHeld, KnowsPublish, NextNamed, Knows, IsRiseForWord, IsRiseForWide, KnowsEntered}
 use Rattle.wp_rule.proofs.Bound.{past_reaches, past_published}
-use Rattle.wp_rule.proofs.Knows.{at_sound, held_is, seen_is, noted_is}
+use Rattle.wp_rule.proofs.Knows.{at_sound, is_table, held_is, seen_is, noted_is}
 use Rattle.wp_rule.proofs.Maintenance.{edit_later, moved, next_stays, replaced, installed_now, halted_now, halted_only}
 
 -- ---- wide pairs of a record
@@ -77,20 +78,6 @@ decided_before n (entry ∷ entries) pair there = by_pair (pair_by n entry) refl
     by_pair (Some first) is later (inr there) = let low = later there in omega (arith, low)
 
 -- a record has at most two entries
-one_short : (entries : List Entry) → IsOneRecord entries → length entries ≤ 2
-one_short [] is = absurd is
-one_short (entry ∷ []) is = omega arith
-one_short (entry ∷ next ∷ []) is = omega arith
-one_short (Undo q batch ∷ Close r ∷ third ∷ others) is = absurd is
-one_short (Undo q batch ∷ Write b ∷ third ∷ others) is = absurd is
-one_short (Undo q batch ∷ Prepare name b ∷ third ∷ others) is = absurd is
-one_short (Undo q batch ∷ Commit r ∷ third ∷ others) is = absurd is
-one_short (Undo q batch ∷ Undo r b ∷ third ∷ others) is = absurd is
-one_short (Close q ∷ next ∷ third ∷ others) is = absurd is
-one_short (Write b ∷ next ∷ third ∷ others) is = absurd is
-one_short (Prepare name b ∷ next ∷ third ∷ others) is = absurd is
-one_short (Commit q ∷ next ∷ third ∷ others) is = absurd is
-
 rest_short : (entries : List Entry) → IsRest entries → length entries ≤ 2
 rest_short entries (inl none) = let e = ap length none in omega (arith, e)
 rest_short entries (inr (inl one)) = one_short entries one
@@ -99,47 +86,23 @@ rest_short entries (inr (inr closes)) = let e = ap length closes.1 in omega (ari
 module _ (p : Place) (a : Actor) (w : World) (k : IsAt p a w) where
   -- ---- tables
 
-  abbrev writes_in : WriteState → Content → WriteState
-  writes_in t (writes d) = d
-  writes_in t other = t
-
-  abbrev prepared_in : PreparedSets → Content → PreparedSets
-  prepared_in t (prepared d) = d
-  prepared_in t other = t
-
-  abbrev snapshots_in : Snapshots → Content → Snapshots
-  snapshots_in t (snapshots d) = d
-  snapshots_in t other = t
-
-  abbrev store_in : StoreState → Content → StoreState
-  store_in t (store d) = d
-  store_in t other = t
-
-  abbrev locks_in : LockState → Content → LockState
-  locks_in t (locks d) = d
-  locks_in t other = t
-
-  abbrev installed_in : Installed → Content → Installed
-  installed_in t (installed d) = d
-  installed_in t other = t
-
   pub has_writes : (so : WriteState → Type 0) → Holding a writes so → Holds w.holders write_turn p.by × so w.writes
-  has_writes so n = let h = held_is p a w (writes n.table) k n.held in (h.0, subst so (sym (ap (writes_in n.table) h.1)) n.so_is)
+  has_writes so n = let h = held_is p a w (writes n.table) k n.held in (h.0, subst so (sym (is_table w (writes n.table) h.1)) n.so_is)
 
   pub has_prepared : (so : PreparedSets → Type 0) → Holding a prepared so → Holds w.holders prepared_turn p.by × so w.prepared
-  has_prepared so n = let h = held_is p a w (prepared n.table) k n.held in (h.0, subst so (sym (ap (prepared_in n.table) h.1)) n.so_is)
+  has_prepared so n = let h = held_is p a w (prepared n.table) k n.held in (h.0, subst so (sym (is_table w (prepared n.table) h.1)) n.so_is)
 
   pub has_snapshots : (so : Snapshots → Type 0) → Holding a snapshots so → Holds w.holders snapshots_turn p.by × so w.snapshots
-  has_snapshots so n = let h = held_is p a w (snapshots n.table) k n.held in (h.0, subst so (sym (ap (snapshots_in n.table) h.1)) n.so_is)
+  has_snapshots so n = let h = held_is p a w (snapshots n.table) k n.held in (h.0, subst so (sym (is_table w (snapshots n.table) h.1)) n.so_is)
 
   has_store : (so : StoreState → Type 0) → Holding a store so → Holds w.holders store_turn p.by × so w.store
-  has_store so n = let h = held_is p a w (store n.table) k n.held in (h.0, subst so (sym (ap (store_in n.table) h.1)) n.so_is)
+  has_store so n = let h = held_is p a w (store n.table) k n.held in (h.0, subst so (sym (is_table w (store n.table) h.1)) n.so_is)
 
   pub has_locks : (so : LockState → Type 0) → Holding a locks so → Holds w.holders locks_turn p.by × so w.locks
-  has_locks so n = let h = held_is p a w (locks n.table) k n.held in (h.0, subst so (sym (ap (locks_in n.table) h.1)) n.so_is)
+  has_locks so n = let h = held_is p a w (locks n.table) k n.held in (h.0, subst so (sym (is_table w (locks n.table) h.1)) n.so_is)
 
   has_installed : (so : Installed → Type 0) → Holding a installed so → Holds w.holders tables_turn p.by × so w.installed
-  has_installed so n = let h = held_is p a w (installed n.table) k n.held in (h.0, subst so (sym (ap (installed_in n.table) h.1)) n.so_is)
+  has_installed so n = let h = held_is p a w (installed n.table) k n.held in (h.0, subst so (sym (is_table w (installed n.table) h.1)) n.so_is)
 
   -- ---- notes, and what was seen
 
@@ -356,11 +319,11 @@ module _ (p : Place) (a : Actor) (w : World) (k : IsAt p a w) where
       ap (λ (h : List Entry). has_versions_at h q) s.1 ∙ (ap has_versions (entry_at_old a.participant.seen s.0 q within) ∙ has le)
 
   -- a decided pair that fits is in its word, or passed
-  narrow_answers : (q c : ℕ) → decision_of w.writes.history q ≡ Some c → fits p.cells (record { number = q; decision = c }) ≡ true → (cached w.cache q ≡ Some c) ⊎ IsPassed w.max_evicted w.snapshots q c
+  narrow_answers : (q c : ℕ) → decision_of w.writes.history q ≡ Some c → fits p.cells (commit_pair q c) ≡ true → (cached w.cache q ≡ Some c) ⊎ IsPassed w.max_evicted w.snapshots q c
   narrow_answers q c decided narrow =
-      ⊎_elim (λ (e : IsEntered w.cache w.prepared.delayed_commits w.max_evicted (record { number = q; decision = c })).
+      ⊎_elim (λ (e : IsEntered w.cache w.prepared.delayed_commits w.max_evicted (commit_pair q c)).
       ⊎_elim (λ (there : cached w.cache q ≡ Some c). inl there)
-      (λ (x : IsWide (length w.cache) w.prepared.delayed_commits w.max_evicted (record { number = q; decision = c })). absurd (true≢false (sym narrow ∙ (ap (λ (n : ℕ). fits n (record { number = q; decision = c })) (sym k.cells) ∙ x.wide)))) e)
+      (λ (x : IsWide (length w.cache) w.prepared.delayed_commits w.max_evicted (commit_pair q c)). absurd (true≢false (sym narrow ∙ (ap (λ (n : ℕ). fits n (commit_pair q c)) (sym k.cells) ∙ x.wide)))) e)
       (λ (x : IsPassed w.max_evicted w.snapshots q c). inr x) (sound.decided.found q c decided)
 
   segment_named : (edit : InstalledEdit) → (edit.segment ≡ w.installed.last.segment) ⊎ Holding a writes (λ d. NextNamed d edit) → NamesSegment w edit ⊎ NamesNext w p.by edit

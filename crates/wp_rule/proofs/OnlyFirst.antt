@@ -20,7 +20,7 @@ use Rattle.wp_core.specs.Sound.Reader.{reader_of}
 use Rattle.wp_core.specs.Sound.Snapshots.{registered_of, view_of}
 use Rattle.wp_core.specs.Sound.Views.{noter_of}
 use Rattle.wp_core.specs.IsSound.{IsSound, participants}
-use Rattle.wp_core.proofs.Tests.{none_some}
+use Rattle.wp_model.proofs.Tests.{none_some}
 use Rattle.wp_rule.specs.Shows.{DidNothing}
 
 -- ---- one item, or none

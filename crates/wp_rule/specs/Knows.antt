@@ -15,7 +15,7 @@ use Rattle.wp_model.specs.Versions.{version_at}
 use Rattle.wp_model.specs.Legal.{IsLegal, prior}
 use Rattle.wp_model.specs.PreparedSets.{is_prepared, NoneDelayed}
 use Rattle.wp_model.specs.Snapshots.{IsLive, NoOldCommits}
-use Rattle.wp_judge.specs.Words.{CommitPair, fits}
+use Rattle.wp_judge.specs.Words.{CommitPair, commit_pair, fits}
 use Rattle.wp_judge.specs.Order.{ask}
 use Rattle.wp_judge.specs.declared.observed.Asked.TheVariants as asked
 use Rattle.wp_judge.specs.declared.observed.Observed.{Observed}
@@ -26,8 +26,9 @@ use Rattle.wp_core.specs.Turns.{Turn, write_turn, prepared_turn, snapshots_turn,
 use Rattle.wp_core.specs.Cache.{cached, cache_place, pair_at}
 use Rattle.wp_core.specs.Tables.{WriteState, StoreState, Installed, Content, writes, prepared, snapshots, store, locks, installed, up_to}
 use Rattle.wp_core.specs.Views.{Fact, passed, in_old_commits, apart, words_stay, has_left, versions_in_memory, versions_nowhere, number_in_heap, number_not_in_heap, pair_delayed, pair_not_delayed, none_waits, undecided_at, prior_values, unprepared, direct_free, tables_stay, live_listed, nothing_flushed, frozen_stay, delayed_flag_stays, old_flag_stays}
-use Rattle.wp_core.specs.World.{Transaction, Actor}
-use Rattle.wp_core.specs.Entries.{next_of, pair_by, pending_pair, pairs_of, transaction_of, changes_under, IsOneRecord, HasVersionsAt}
+use Rattle.wp_core.specs.World.{Transaction, Actor, World}
+use Rattle.wp_model.specs.Record.{IsOneRecord}
+use Rattle.wp_core.specs.Entries.{next_of, pair_by, pending_pair, pairs_of, transaction_of, changes_under, HasVersionsAt}
 use Rattle.wp_core.specs.Conditions.{HasTransaction, IsPrepare, NoneNext}
 use Rattle.wp_core.specs.Sound.Prepared.{IsInOldCommits}
 use Rattle.wp_core.specs.Sound.Snapshots.{has_versions_at}
@@ -42,6 +43,15 @@ pub record Holding (a : Actor) {T : Type 0} (content : T → Content) (so : T �
   pub table : T
   pub held : IsIn (content table) a.held
   pub so_is : so table
+
+-- the table is the world's
+abbrev pub IsTableOf : World → Content → Type 0
+IsTableOf w (writes t) = w.writes ≡ t
+IsTableOf w (prepared t) = w.prepared ≡ t
+IsTableOf w (snapshots m) = w.snapshots ≡ m
+IsTableOf w (store t) = w.store ≡ t
+IsTableOf w (locks t) = w.locks ≡ t
+IsTableOf w (installed e) = w.installed ≡ e
 
 -- a fact that was noted
 abbrev pub Noted : Actor → Fact → Type 0
@@ -230,7 +240,7 @@ Knows p a (add_delayed_commit pair) = Holding a prepared (λ t. IsUp a delayed_f
 Knows p a (delay_pending pair) = Holding a writes (λ d. Holding a prepared (λ t. IsUp a delayed_flag_stays × (pending_pair d.history d.pending ≡ Some pair)))
 Knows p a (take_out q) =
     Holding a prepared (λ t. (c : ℕ) × (decision_of a.participant.seen q ≡ Some c)
-    × ((fits p.cells (record { number = q; decision = c }) ≡ true) ⊎ Holding a snapshots (λ m. IsInOldCommits m q c × ((max : ℕ) × (words : List ℕ) × Noted a (words_stay max words) × (c ≤ max)))))
+    × ((fits p.cells (commit_pair q c) ≡ true) ⊎ Holding a snapshots (λ m. IsInOldCommits m q c × ((max : ℕ) × (words : List ℕ) × Noted a (words_stay max words) × (c ≤ max)))))
 Knows p a (register_again s) = Holding a snapshots (λ m. IsLive m s × (s ≤ length a.participant.seen))
 Knows p a (release front r back) = Holding a snapshots (λ m. a.participant.registered ≡ front ++ r ∷ back)
 Knows p a (add_old_commit s q) = Holding a snapshots (λ m. IsLive m s × IsUp a old_flag_stays × ((c : ℕ) × (decision_of a.participant.seen q ≡ Some c) × (q ≤ s) × (s < c)))

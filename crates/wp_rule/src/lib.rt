@@ -27,4 +27,4 @@ mod words;
 pub use part::{HoldsPart, Parts};
 pub use plays::Moves;
 pub use words::{WordSeat, Words};
-pub use wp_actor::{Actor, Turn};
+pub use wp_core::{Actor, Turn};

@@ -10,7 +10,7 @@ ghost use Rattle.wp_rule.specs.Plays.{loads, stores, unclaims, claims};
 use crate::part::HoldsPart;
 use atomic_table::{Join, Play, Split};
 use std::marker::{Brand, PhantomData};
-use wp_actor::Actor;
+use wp_core::Actor;
 
 /// For the proof alone: a seat, and the steps of the machine that its actor makes at an atomic step of the table. Which they
 /// are may depend on the world that the table then shows. A caller picks them, by `Brand`.

@@ -7,7 +7,7 @@ use crate::opening::Opening;
 use crate::part::HoldsPart;
 use atomic_table::TableRule;
 use std::marker::PhantomData;
-use wp_actor::Actor;
+use wp_core::Actor;
 
 pub struct Rule<S> {
     of: PhantomData<S>,

@@ -2,7 +2,7 @@
 ghost use Rattle.std.specs.Prelude.{◌≡◌, ◌+◌, ◌<◌, [], ◌∷◌, true, slice_index, MatchBool};
 ghost use Rattle.atomic_table.specs.Table.{rest};
 ghost use Rattle.wp_core.specs.Steps.{give_turn};
-ghost use Rattle.wp_actor.specs.Turns.{turn_of};
+ghost use Rattle.wp_core.specs.Turns.{turn_of};
 ghost use Rattle.wp_rule.specs.Words.{words_of, turn_place, shared_words, place_of};
 ghost use Rattle.wp_rule.specs.Moves.{MayMake, MayStore, Moved};
 ghost use Rattle.wp_rule.specs.Plays.{Claimed, WasHeld, MayUnclaim};
@@ -12,7 +12,7 @@ use crate::part::HoldsPart;
 use crate::plays::{ClaimPlay, LoadPlay, Moves, OfTurn, StorePlay, UnclaimPlay};
 use crate::rule::Rule;
 use atomic_table::{Seat, Shared};
-use wp_actor::{Actor, Turn};
+use wp_core::{Actor, Turn};
 
 /// How many words a line of a processor's memory has. The words of turns lie in a line each, behind the one that has the other
 /// words, so that who takes one turn does not slow who takes another.

@@ -9,7 +9,7 @@ ghost use Rattle.wp_core.specs.Steps.{store_max_evicted, give_turn, note};
 ghost use Rattle.wp_core.specs.Changes.{sees, made_one, joins, turn_index};
 ghost use Rattle.wp_core.specs.Sound.Actors.{StartsWith};
 ghost use Rattle.wp_core.specs.Views.{delayed_flag_stays, old_flag_stays};
-ghost use Rattle.wp_actor.specs.Turns.{turn_of};
+ghost use Rattle.wp_core.specs.Turns.{turn_of};
 ghost use Rattle.wp_rule.specs.Knows.{Knows};
 ghost use Rattle.wp_rule.specs.Words.{place_of, SawAll};
 ghost use Rattle.wp_rule.specs.Moves.{MayMake, MayStep, MayPublishAs, Moved, storing_max, storing_word};
@@ -31,7 +31,7 @@ use std::alloc::{AllocError, Global};
 use std::marker::{Brand, Model};
 use std::snapshot::Snapshot;
 use std::sync::Wait;
-use wp_actor::{Actor, Turn};
+use wp_core::{Actor, Turn};
 use wp_history::History;
 use wp_model::{Name, Seq};
 

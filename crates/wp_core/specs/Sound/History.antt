@@ -4,7 +4,7 @@ use Rattle.wp_model.specs.declared.entry.Entry.{Entry}
 use Rattle.wp_model.specs.declared.entry.Entry.TheVariants.{Close}
 use Rattle.wp_model.specs.Legal.{IsLegal, undone_last}
 use Rattle.wp_core.specs.Tables.{WriteState}
-use Rattle.wp_core.specs.Entries.{IsOneRecord}
+use Rattle.wp_model.specs.Record.{IsOneRecord}
 use Rattle.wp_core.specs.Sound.Actors.{StartsWith}
 
 abbrev pub logged_part : Bool → List Entry → List Entry

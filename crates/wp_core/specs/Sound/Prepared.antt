@@ -7,7 +7,7 @@ use Rattle.wp_model.specs.declared.entry.Entry.{Entry}
 use Rattle.wp_model.specs.History.{entry_at, is_prepare, is_undecided}
 use Rattle.wp_model.specs.Decision.{decision_of}
 use Rattle.wp_model.specs.Snapshots.{IsLive, is_old_commit, Snapshots, NoOldCommits}
-use Rattle.wp_judge.specs.Words.{CommitPair, fits}
+use Rattle.wp_judge.specs.Words.{CommitPair, commit_pair, fits}
 use Rattle.wp_core.specs.Cache.{cache_place, cached, pair_at}
 use Rattle.wp_model.specs.PreparedSets.{PreparedSets, is_prepared, NoneDelayed}
 use Rattle.wp_core.specs.Entries.{extended}
@@ -47,7 +47,7 @@ IsEntered cache commits max pair = (cached cache pair.number ≡ Some pair.decis
 -- Each decided version is in its word, or is passed, or too wide and delayed. The old commit map has only decided versions, and only
 -- under snapshots that they overlap.
 pub record AreDecided (history : List Entry) (cache : List ℕ) (commits : finite.FinMap nat_cmp ℕ) (max : ℕ) (snapshots : Snapshots) : Type 0 where
-  pub found : (p c : ℕ) → decision_of history p ≡ Some c → IsEntered cache commits max (record { number = p; decision = c }) ⊎ IsPassed max snapshots p c
+  pub found : (p c : ℕ) → decision_of history p ≡ Some c → IsEntered cache commits max (commit_pair p c) ⊎ IsPassed max snapshots p c
   pub kept : (s p : ℕ) → is_old_commit snapshots s p ≡ true → (c : ℕ) × (decision_of history p ≡ Some c) × (p ≤ s) × (s < c)
 
 -- ---- what it leaves undecided

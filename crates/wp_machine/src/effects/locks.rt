@@ -20,7 +20,7 @@ use crate::views::{Account, Event, Found};
 use crate::world::World;
 use std::alloc::{AllocError, Global};
 use std::snapshot::Snapshot;
-use wp_actor::Turn;
+use wp_core::Turn;
 use wp_model::{Holder, Key, Name, Seq};
 
 /// The transaction is the actor's, and what made it so stays in its past.

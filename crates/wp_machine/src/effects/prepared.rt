@@ -9,7 +9,7 @@ use crate::effects::turn::hold;
 use crate::step::PreparedStep;
 use crate::world::World;
 use std::alloc::AllocError;
-use wp_actor::Turn;
+use wp_core::Turn;
 
 pub(crate) fn prepared(
     world: &mut World,

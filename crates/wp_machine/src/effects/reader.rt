@@ -12,7 +12,7 @@ use crate::effects::turn::hold;
 use crate::step::ReaderStep;
 use crate::world::World;
 use std::alloc::AllocError;
-use wp_actor::Turn;
+use wp_core::Turn;
 use wp_judge::{InPrepared, Load, Observed};
 use wp_model::Seq;
 

@@ -10,7 +10,7 @@ use crate::effects::turn::hold;
 use crate::step::SnapshotsStep;
 use crate::world::World;
 use std::alloc::AllocError;
-use wp_actor::Turn;
+use wp_core::Turn;
 
 fn release(world: &mut World, actor: &mut Actor, place: usize) -> Result<(), AllocError>
     ensures { OnOk result ((by : ℕ) → with_actor world.new by actor.new

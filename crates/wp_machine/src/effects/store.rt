@@ -10,7 +10,7 @@ use crate::step::StoreStep;
 use crate::versions::versions_of_next;
 use crate::world::World;
 use std::alloc::AllocError;
-use wp_actor::Turn;
+use wp_core::Turn;
 
 pub(crate) fn store(world: &mut World, actor: &mut Actor, kind: StoreStep) -> Result<(), AllocError>
     ensures { (s : step.Step) → store_step world.old.writes world.old.store kind ≡ Some s

@@ -14,7 +14,7 @@ use crate::views::{Event, Found};
 use crate::world::World;
 use std::alloc::AllocError;
 use std::snapshot::Snapshot;
-use wp_actor::Turn;
+use wp_core::Turn;
 
 fn installed(edit: &InstalledEdit, compacts: bool) -> Event
     ensures { result ≡ installed edit.now compacts }

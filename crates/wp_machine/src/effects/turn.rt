@@ -3,7 +3,7 @@ ghost use Rattle.std.specs.Prelude.{◌≡◌, OnOk, Some};
 ghost use Rattle.wp_core.specs.World.{content_of};
 ghost use Rattle.wp_core.specs.Changes.{held_with};
 ghost use Rattle.wp_core.specs.Steps as step;
-ghost use Rattle.wp_actor.specs.Turns.{turn_of};
+ghost use Rattle.wp_core.specs.Turns.{turn_of};
 ghost use Rattle.wp_machine.specs.Machine.{turn_step};
 ghost use Rattle.wp_machine.specs.Effect.{IsEffect};
 
@@ -13,7 +13,7 @@ use crate::lists::add_first;
 use crate::step::TurnStep;
 use crate::world::World;
 use std::alloc::AllocError;
-use wp_actor::Turn;
+use wp_core::Turn;
 
 /// The actor has the table as the world has it now, if it holds that turn.
 pub(super) fn hold(world: &World, actor: &mut Actor, turn: Turn)

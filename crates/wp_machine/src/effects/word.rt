@@ -12,7 +12,7 @@ use crate::effects::turn::hold;
 use crate::step::WordStep;
 use crate::world::World;
 use std::alloc::AllocError;
-use wp_actor::Turn;
+use wp_core::Turn;
 
 fn store_published(world: &mut World, actor: &mut Actor) -> Result<(), AllocError>
     ensures { OnOk result ((by : ℕ) → with_actor world.new by actor.new ≡ published_world world.old actor.old by world.old.writes.pending) }

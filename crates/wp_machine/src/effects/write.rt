@@ -11,7 +11,7 @@ use crate::views::{Event, Found};
 use crate::world::World;
 use std::alloc::AllocError;
 use std::snapshot::Snapshot;
-use wp_actor::Turn;
+use wp_core::Turn;
 use wp_model::Seq;
 
 pub(crate) fn write(world: &mut World, actor: &mut Actor, kind: WriteStep) -> Result<(), AllocError>

@@ -1,7 +1,7 @@
 //! What is so of a word of the cache, before its pair may be evicted.
 ghost use Rattle.std.specs.Prelude.{◌≡◌, ◌↔◌, ◌≤◌, ◌<◌, true, length, IfOk};
 ghost use Rattle.std.specs.Option.{option_map};
-ghost use Rattle.wp_judge.specs.Words.{numbers_of};
+ghost use Rattle.wp_judge.specs.Words.{commit_pair, numbers_of};
 ghost use Rattle.wp_model.specs.Snapshots.{is_old_commit};
 ghost use Rattle.wp_core.specs.Cache.{pair_at, cached};
 ghost use Rattle.wp_core.specs.Sound.Prepared.{IsInOldCommits};
@@ -15,7 +15,7 @@ use wp_machine::{Cache, PreparedSets, Snapshots};
 use wp_model::Seq;
 
 /// The pair in the word at the place, if that is one.
-pub fn pair_at(cache: &Cache, place: usize) -> Option<(Seq, Seq)>
+pub(crate) fn pair_at(cache: &Cache, place: usize) -> Option<(Seq, Seq)>
     requires { place < length cache.now }
     ensures { result ≡ option_map numbers_of (pair_at cache.now place) }
 {
@@ -23,7 +23,7 @@ pub fn pair_at(cache: &Cache, place: usize) -> Option<(Seq, Seq)>
 }
 
 /// The decision that the cache has for a version.
-pub fn cached(cache: &Cache, p: Seq) -> Option<Seq>
+pub(crate) fn cached(cache: &Cache, p: Seq) -> Option<Seq>
     ensures { result ≡ cached cache.now p }
 {
     match pair_at(cache, cache.place_of(p)) {
@@ -34,7 +34,7 @@ pub fn cached(cache: &Cache, p: Seq) -> Option<Seq>
 
 /// Whether the word at the place has the pair, which is published.
 pub(crate) fn is_published_at(cache: &Cache, published: Seq, place: usize, p: Seq, c: Seq) -> bool
-    ensures { (result ≡ true) ↔ IsClearing published cache.now place (record { number = p; decision = c }) (Unit {0}) }
+    ensures { (result ≡ true) ↔ IsClearing published cache.now place (commit_pair p c) (Unit {0}) }
 {
     if place >= cache.words().len() {
         return false;
@@ -66,7 +66,7 @@ fn is_kept_under_each(snapshots: &Snapshots, live: &[Seq], p: Seq, c: Seq) -> bo
 }
 
 /// Whether the old commit map has the pair under each live snapshot that it overlaps.
-pub fn is_in_old_commits(
+pub(crate) fn is_in_old_commits(
     snapshots: &Snapshots,
     p: Seq,
     c: Seq,
@@ -79,8 +79,8 @@ pub fn is_in_old_commits(
 }
 
 /// Whether the version is of no prepared transaction, or a delayed commit with that decision.
-pub fn is_apart(prepared: &PreparedSets, p: Seq, c: Seq) -> bool
-    ensures { (result ≡ true) ↔ IsApart prepared.now (record { number = p; decision = c }) }
+pub(crate) fn is_apart(prepared: &PreparedSets, p: Seq, c: Seq) -> bool
+    ensures { (result ≡ true) ↔ IsApart prepared.now (commit_pair p c) }
 {
     if !prepared.is_prepared(p) {
         return true;

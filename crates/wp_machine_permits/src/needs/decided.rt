@@ -36,7 +36,11 @@ pub(crate) fn decision_of(history: &History, p: Seq) -> Option<Seq>
 }
 
 /// The number that decides the version among the entries, if they are legal.
-pub fn decision_in(entries: &[Entry], p: Seq, alloc: Global) -> Result<Option<Seq>, AllocError>
+pub(crate) fn decision_in(
+    entries: &[Entry],
+    p: Seq,
+    alloc: Global,
+) -> Result<Option<Seq>, AllocError>
     ensures { IfOk result (λ decision. IfSome decision (λ c. decision_of entries.now p ≡ Some c)) }
 {
     let Some(history) = history_of(entries, alloc)? else {
@@ -46,7 +50,7 @@ pub fn decision_in(entries: &[Entry], p: Seq, alloc: Global) -> Result<Option<Se
 }
 
 /// Whether the entries are legal, and decide the version.
-pub fn is_decided(entries: &[Entry], p: Seq, alloc: Global) -> Result<bool, AllocError>
+pub(crate) fn is_decided(entries: &[Entry], p: Seq, alloc: Global) -> Result<bool, AllocError>
     ensures { IfOk result (λ decided. decided ≡ true → (c : ℕ) × (decision_of entries.now p ≡ Some c)) }
 {
     let decision = decision_in(entries, p, alloc)?;

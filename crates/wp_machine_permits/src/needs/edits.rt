@@ -16,7 +16,7 @@ use wp_machine::{InstalledEdit, Snapshots, World, versions_of_next};
 use wp_model::{Entry, Segment, Seq, Version};
 
 /// Whether the store has just the last edit's tables, and no flushed version is in memory.
-pub fn has_last_tables(world: &World) -> bool
+pub(crate) fn has_last_tables(world: &World) -> bool
     ensures { (result ≡ true) ↔ IsOfEdit world.now.store world.now.installed.last }
 {
     let last = &world.installed.last;
@@ -34,7 +34,7 @@ pub(crate) fn is_segment(one: Segment, other: Segment) -> bool
 }
 
 /// Whether it is the log's next segment.
-pub fn is_next_segment(world: &World, segment: Segment) -> bool
+pub(crate) fn is_next_segment(world: &World, segment: Segment) -> bool
     ensures { (result ≡ true) ↔ (world.now.writes.next ≡ Some segment) }
 {
     match world.writes.next_segment() {

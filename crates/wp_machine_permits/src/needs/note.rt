@@ -1,5 +1,6 @@
 //! Whether an actor may note a fact.
 ghost use Rattle.std.specs.Prelude.{◌≡◌, ◌↔◌, ◌≤◌, true, length, IfOk};
+ghost use Rattle.wp_judge.specs.Words.{commit_pair};
 ghost use Rattle.wp_core.specs.Steps as step;
 ghost use Rattle.wp_core.specs.Needs.{Needs};
 ghost use Rattle.wp_core.specs.World.{Participant};
@@ -30,13 +31,13 @@ fn is_guarded(holders: &Holders, fact: &Fact, by: usize) -> bool
 }
 
 fn is_clear(world: &World, place: usize, p: Seq, c: Seq) -> bool
-    ensures { (result ≡ true) ↔ IsClearing (length world.now.writes.history) world.now.cache place (record { number = p; decision = c }) (Unit {0}) }
+    ensures { (result ≡ true) ↔ IsClearing (length world.now.writes.history) world.now.cache place (commit_pair p c) (Unit {0}) }
 {
     is_published_at(&world.cache, world.writes.published(), place, p, c)
 }
 
 fn is_passed(world: &World, place: usize, p: Seq, c: Seq) -> bool
-    ensures { (result ≡ true) ↔ IsClearing (length world.now.writes.history) world.now.cache place (record { number = p; decision = c }) (c ≤ world.now.max_evicted) }
+    ensures { (result ≡ true) ↔ IsClearing (length world.now.writes.history) world.now.cache place (commit_pair p c) (c ≤ world.now.max_evicted) }
 {
     if !is_clear(world, place, p, c) {
         return false;
@@ -46,7 +47,7 @@ fn is_passed(world: &World, place: usize, p: Seq, c: Seq) -> bool
 
 fn is_kept(world: &World, place: usize, p: Seq, c: Seq) -> Result<bool, AllocError>
     ensures { IfOk result (λ yes. (yes ≡ true)
-        ↔ IsClearing (length world.now.writes.history) world.now.cache place (record { number = p; decision = c }) (IsInOldCommits world.now.snapshots p c)) }
+        ↔ IsClearing (length world.now.writes.history) world.now.cache place (commit_pair p c) (IsInOldCommits world.now.snapshots p c)) }
 {
     if !is_clear(world, place, p, c) {
         return Ok(false);
@@ -56,7 +57,7 @@ fn is_kept(world: &World, place: usize, p: Seq, c: Seq) -> Result<bool, AllocErr
 
 fn is_decided_apart(world: &World, place: usize, p: Seq, c: Seq) -> bool
     ensures { (result ≡ true)
-        ↔ IsClearing (length world.now.writes.history) world.now.cache place (record { number = p; decision = c }) (IsApart world.now.prepared (record { number = p; decision = c })) }
+        ↔ IsClearing (length world.now.writes.history) world.now.cache place (commit_pair p c) (IsApart world.now.prepared (commit_pair p c)) }
 {
     if !is_clear(world, place, p, c) {
         return false;
@@ -93,7 +94,7 @@ fn is_delayed(world: &World) -> Result<bool, AllocError>
 }
 
 /// Whether the pending entry's pair is no delayed commit. Err: want of memory, or a number past its type's end.
-pub fn is_undelayed(world: &World) -> Result<bool, AllocError>
+pub(crate) fn is_undelayed(world: &World) -> Result<bool, AllocError>
     ensures { IfOk result (λ yes. yes ≡ true → IsUndelayed world.now.writes world.now.prepared) }
 {
     Ok(match world.writes.pending_pair()? {

@@ -12,7 +12,7 @@ use wp_machine::{PreparedSets, StoreState, WriteState};
 use wp_model::{Entry, Seq, Version};
 
 /// Whether what the entry says of keys is there, with that number.
-pub fn has_versions_of(memory: &[Version], entry: &Entry, n: Seq) -> bool
+pub(crate) fn has_versions_of(memory: &[Version], entry: &Entry, n: Seq) -> bool
     ensures { (result ≡ true) ↔ ((key : List ℕ) (value : Option (List ℕ)) → version_in (Some entry.now) key ≡ Some value → version_at memory.now key n ≡ Some value) }
 {
     match entry {

@@ -9,7 +9,7 @@ use wp_model::Entry;
 const FEW: u64 = 72057594037927936;
 
 /// The entries as a history. None where they are not legal.
-pub fn history_of(entries: &[Entry], alloc: Global) -> Result<Option<History>, AllocError>
+pub(crate) fn history_of(entries: &[Entry], alloc: Global) -> Result<Option<History>, AllocError>
     ensures base { IfOk result (λ read. IfSome read (λ history. history.base ≡ 0)) }
     ensures entries { IfOk result (λ read. IfSome read (λ history. history.entries ≡ entries.now)) }
 {

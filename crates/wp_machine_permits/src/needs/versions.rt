@@ -121,7 +121,7 @@ fn are_not_at(n: Seq, versions: &[Version]) -> bool
 }
 
 /// Whether none has the number.
-pub fn none_at(versions: &[Version], n: Seq) -> bool
+pub(crate) fn none_at(versions: &[Version], n: Seq) -> bool
     ensures { (result ≡ true) ↔ NoneAt n versions.now }
 {
     are_not_at(n, versions)

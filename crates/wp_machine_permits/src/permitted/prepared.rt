@@ -1,5 +1,6 @@
 //! Whether a step with the prepared turn may be made.
 ghost use Rattle.std.specs.Prelude.{◌≡◌, true, Some, IfOk};
+ghost use Rattle.wp_judge.specs.Words.{commit_pair};
 ghost use Rattle.wp_core.specs.World.{Actor};
 ghost use Rattle.wp_core.specs.Conditions.{IsPreparePending};
 ghost use Rattle.wp_core.specs.Sound.Prepared.{IsPassed};
@@ -27,7 +28,7 @@ fn is_prepare_pending(world: &World, by: usize) -> bool
 }
 
 fn may_add_delayed_commit(world: &World, by: usize, p: Seq, c: Seq) -> Result<bool, AllocError>
-    ensures { IfOk result (λ yes. yes ≡ true → (a : Actor) → IsOffered world.now by a (Some (step.add_delayed_commit (record { number = p; decision = c })))) }
+    ensures { IfOk result (λ yes. yes ≡ true → (a : Actor) → IsOffered world.now by a (Some (step.add_delayed_commit (commit_pair p c)))) }
 {
     if !world.holders.holds(Turn::Prepared, by) || world.delayed_flag == 0 {
         return Ok(false);
@@ -38,7 +39,7 @@ fn may_add_delayed_commit(world: &World, by: usize, p: Seq, c: Seq) -> Result<bo
 
 /// The pending entry's pair may become a delayed commit, with the flag up.
 fn may_delay_pending(world: &World, by: usize, p: Seq, c: Seq) -> Result<bool, AllocError>
-    ensures { IfOk result (λ yes. yes ≡ true → (a : Actor) → IsOffered world.now by a (Some (step.delay_pending (record { number = p; decision = c })))) }
+    ensures { IfOk result (λ yes. yes ≡ true → (a : Actor) → IsOffered world.now by a (Some (step.delay_pending (commit_pair p c)))) }
 {
     if !world.holders.holds(Turn::Write, by)
         || !world.holders.holds(Turn::Prepared, by)

@@ -6,7 +6,7 @@ ghost use Rattle.wp_model.specs.Batch.{key_of};
 ghost use Rattle.wp_model.specs.History.{is_changed};
 ghost use Rattle.wp_model.specs.Legal.{IsLegalNext};
 ghost use Rattle.wp_model.specs.declared.entry.Entry.{Entry};
-ghost use Rattle.wp_judge.specs.Words.{CommitPair};
+ghost use Rattle.wp_judge.specs.Words.{CommitPair, commit_pair};
 ghost use Rattle.wp_core.specs.Sound.Prepared.{IsWide, IsEntered};
 ghost use Rattle.wp_core.specs.Conditions.{IsHeldFor, IsPrepare};
 ghost use Rattle.wp_core.specs.Entries.{changes_under, transaction_of, pair_by};
@@ -164,7 +164,7 @@ fn is_in_heap(world: &World, entry: &Entry, n: Seq) -> bool
 
 /// The pair fits no word, and is a delayed commit whose number the bound has reached.
 fn is_wide(world: &World, p: Seq, c: Seq) -> bool
-    ensures { result ≡ true → IsWide (length world.now.cache) world.now.prepared.delayed_commits world.now.max_evicted (record { number = p; decision = c }) }
+    ensures { result ≡ true → IsWide (length world.now.cache) world.now.prepared.delayed_commits world.now.max_evicted (commit_pair p c) }
 {
     fits_no_word(&world.cache, p, c)
         && world.prepared.commit_of(p) == Some(c)
@@ -172,7 +172,7 @@ fn is_wide(world: &World, p: Seq, c: Seq) -> bool
 }
 
 fn is_pair_entered(world: &World, p: Seq, c: Seq) -> bool
-    ensures { result ≡ true → IsEntered world.now.cache world.now.prepared.delayed_commits world.now.max_evicted (record { number = p; decision = c }) }
+    ensures { result ≡ true → IsEntered world.now.cache world.now.prepared.delayed_commits world.now.max_evicted (commit_pair p c) }
 {
     if cached(&world.cache, p) == Some(c) {
         return true;

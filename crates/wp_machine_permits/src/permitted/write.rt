@@ -3,7 +3,8 @@ ghost use Rattle.std.specs.Prelude.{◌≡◌, ◌≢◌, ◌↔◌, ◌++◌, t
 ghost use Rattle.wp_core.specs.World.{Actor};
 ghost use Rattle.wp_core.specs.Cache.{cached};
 ghost use Rattle.wp_core.specs.Conditions.{MayLog, MayClose, MayDrop, MayWriteSegment, MayUseSegment, MayStop};
-ghost use Rattle.wp_core.specs.Entries.{IsOneRecord, pending_pair};
+ghost use Rattle.wp_model.specs.Record.{IsOneRecord};
+ghost use Rattle.wp_core.specs.Entries.{pending_pair};
 ghost use Rattle.wp_core.specs.Steps as step;
 ghost use Rattle.wp_model.specs.Legal.{IsLegal};
 ghost use Rattle.wp_judge.specs.Words.{CommitPair};

@@ -1,4 +1,4 @@
-use Rattle.std.proofs.Common.{[], arith}
+use Rattle.std.proofs.Common.{[]}
 use Rattle.std.proofs.lemmas.Result.{err_from_is_err_and}
 use Rattle.wp_entry.specs.BaseReading.{carried_after}
 use Rattle.wp_entry.proofs.BaseLoop.{one_read, one_fails, all_read}

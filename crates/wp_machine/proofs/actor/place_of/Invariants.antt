@@ -1,5 +1,5 @@
 use Rattle.std.proofs.Common.{◌≡◌, drop}
-use Rattle.wp_actor.specs.Turns.{turn_of}
+use Rattle.wp_core.specs.Turns.{turn_of}
 use Rattle.wp_machine.specs.HeldTables.{place_from}
 use Rattle.wp_machine.proofs.actor.place_of.Given as goal
 

@@ -1,6 +1,6 @@
 use Rattle.std.proofs.Common.{Some, sym, ap, ◌∙◌}
 use Rattle.wp_core.specs.World.{World}
-use Rattle.wp_core.proofs.Tests.{none_some, same_some}
+use Rattle.wp_model.proofs.Tests.{none_some, same_some}
 use Rattle.wp_machine_permits.proofs.needs.edits.is_next_segment.Goals as goal
 
 pub returns-in-Some : goal.returns-in-Some

@@ -1,4 +1,4 @@
-use Rattle.wp_actor.specs.Turns.{turn_of}
+use Rattle.wp_core.specs.Turns.{turn_of}
 use Rattle.wp_rule.specs.Words.{shared_words, place_of}
 use Rattle.wp_rule.proofs.words.Words.claim.Given as goal
 

@@ -1,6 +1,6 @@
 use Rattle.std.proofs.Common.{[], ◌∷◌, subst}
 use Rattle.wp_core.specs.Steps.{give_turn}
-use Rattle.wp_actor.specs.Turns.{turn_of}
+use Rattle.wp_core.specs.Turns.{turn_of}
 use Rattle.wp_rule.specs.Words.{SharedWords, place_of}
 use Rattle.wp_rule.specs.Moves.{Moved}
 use Rattle.wp_rule.proofs.words.Words.unclaim.Goals as goal

@@ -6,7 +6,7 @@ use Rattle.std.specs.FinMap.{FinMap, get, insert, remove, get-insert, get-remove
 use Rattle.std.proofs.lemmas.Cmp.{nat_list_cmp_total}
 use Rattle.wp_model.specs.Batch.{key_cmp}
 use Rattle.wp_model.proofs.Words.{same_word}
-use Rattle.wp_core.proofs.Tests.{same_some}
+use Rattle.wp_model.proofs.Tests.{same_some}
 use Rattle.wp_model.specs.declared.holder.Holder.TheVariants.{Txn}
 
 pub same_test : (a b : List ℕ) → a ≡ b → eq_by_cmp key_cmp a b ≡ true

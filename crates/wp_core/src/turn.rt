@@ -1,6 +1,6 @@
 ghost use Rattle.std.specs.Prelude.{◌≡◌};
 ghost use Rattle.wp_core.specs.Changes.{turn_index};
-ghost use Rattle.wp_actor.specs.Turns.{turn_of};
+ghost use Rattle.wp_core.specs.Turns.{turn_of};
 
 /// One of the six turns. Who holds it reads and changes the table that it guards, and nobody else does.
 #[derive(Clone, Copy)]

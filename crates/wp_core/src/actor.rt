@@ -10,7 +10,7 @@ impl Model for Actor {
     ghost use Rattle.wp_model.specs.PreparedSets.{prepared_sets_code};
     ghost use Rattle.wp_model.specs.Snapshots.{snapshots_code};
     ghost use Rattle.wp_model.specs.LockState.{lock_state_code};
-    ghost use Rattle.wp_actor.specs.Codes.{transactions_code};
+    ghost use Rattle.wp_core.specs.Codes.{transactions_code};
 
     ghost Value = { Actor };
 
