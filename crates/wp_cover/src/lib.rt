@@ -10,12 +10,12 @@
 //! logarithm, and the memory of three places in maps for each key.
 #![tactic(auto)]
 
-pub use covering::{covers, tables_cover};
-pub use decisions::Decisions;
-
 mod covering;
 mod decisions;
 mod present;
 mod shown;
 mod sources;
 mod store;
+
+pub use covering::{covers, tables_cover};
+pub use decisions::Decisions;

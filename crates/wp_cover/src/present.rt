@@ -93,7 +93,7 @@ fn are_tables_part(alloc: Global, sources: &Sources<'_>) -> Result<bool, AllocEr
 }
 
 /// Whether each version that counts is that of its entry. Those of later entries are.
-pub fn are_part(alloc: Global, sources: &Sources<'_>) -> Result<bool, AllocError>
+pub(crate) fn are_part(alloc: Global, sources: &Sources<'_>) -> Result<bool, AllocError>
     requires flushed { sources.now.history.now.base ≤ sources.now.flushed }
     requires fixed { AreFixed sources.now.history.now (all_of sources.now) }
     ensures { IfOk result (λ yes. (yes ≡ true) ↔ AreAllPart sources.now.history.now.entries (all_of sources.now)) }
@@ -121,7 +121,7 @@ fn has_changes<'b>(sources: &'b Sources<'_>, number: Seq, batch: &'b Batch) -> b
 }
 
 /// Whether the versions of the undecided prepares are there.
-pub fn has_undecided(sources: &Sources<'_>) -> bool
+pub(crate) fn has_undecided(sources: &Sources<'_>) -> bool
     requires { sources.now.history.now.base ≤ sources.now.flushed }
     ensures { (result ≡ true) ↔ HasBatches sources.now.history.now.entries (all_of sources.now) (undecided sources.now.history.now.entries) }
 {
@@ -144,7 +144,7 @@ fn restored(entry: &Entry) -> Option<&Batch>
 }
 
 /// Whether the versions of an undo that ends the history are there.
-pub fn has_undone(sources: &Sources<'_>) -> bool
+pub(crate) fn has_undone(sources: &Sources<'_>) -> bool
     requires { sources.now.history.now.base ≤ sources.now.flushed }
     ensures { (result ≡ true) ↔ HasUndone sources.now.history.now.entries (all_of sources.now) }
 {

@@ -161,7 +161,7 @@ fn newest_at<'a>(
 }
 
 /// Whether a reader at `n` finds what the store has.
-pub fn gives_store<'a>(
+pub(crate) fn gives_store<'a>(
     alloc: Global,
     decisions: &'a Decisions<'_>,
     sources: &Sources<'a>,

@@ -19,7 +19,7 @@ use wp_table::Table;
 /// Versions of which each is read where it is: those of a list, then those of tables, one after the other, then those of
 /// the history's entries above the flushed number, which is not below its base. Of several with one key and number the first one counts.
 #[derive(Drop)]
-pub struct Sources<'a> {
+pub(crate) struct Sources<'a> {
     pub history: &'a History,
     pub list: &'a Versions,
     pub tables: &'a [Arc<Table>],
@@ -27,7 +27,7 @@ pub struct Sources<'a> {
 }
 
 /// The bytes of the value, if there is one.
-pub fn bytes_of<'a>(value: Option<&'a Value>) -> Option<&'a [u8]>
+pub(crate) fn bytes_of<'a>(value: Option<&'a Value>) -> Option<&'a [u8]>
     ensures { option_copied result ≡ option_copied value.entry }
 {
     match value {
@@ -50,7 +50,7 @@ fn change_to<'a>(batch: &'a Batch, key: &[u8]) -> Option<Option<&'a [u8]>>
 
 /// Whether the number is one up to the base, and no prepare has it: its versions are those of the tables, and it is a write's.
 #[tactic(auto, using(crate::proofs::Based::fixed_decides))]
-pub fn is_fixed(history: &History, p: Seq) -> bool
+pub(crate) fn is_fixed(history: &History, p: Seq) -> bool
     ensures value { result ≡ is_fixed history.now p }
     ensures decided { is_fixed history.now p ≡ true → decision_of history.now.entries p ≡ Some p }
 {
@@ -58,7 +58,11 @@ pub fn is_fixed(history: &History, p: Seq) -> bool
 }
 
 /// The version of the key of the entry with that number, which is not fixed.
-pub fn entry_version<'a>(history: &'a History, p: Seq, key: &[u8]) -> Option<Option<&'a [u8]>>
+pub(crate) fn entry_version<'a>(
+    history: &'a History,
+    p: Seq,
+    key: &[u8],
+) -> Option<Option<&'a [u8]>>
     requires { is_fixed history.now p ≡ false }
     ensures { option_map option_copied result ≡ entry_version history.now.entries p key.now }
 {
@@ -138,7 +142,7 @@ fn later_version<'a>(
 
 impl<'a> Sources<'a> {
     /// What counts under the key and the number.
-    pub fn find<'b>(&'b self, key: &'b Key, number: Seq) -> Option<Option<&'b [u8]>>
+    pub(crate) fn find<'b>(&'b self, key: &'b Key, number: Seq) -> Option<Option<&'b [u8]>>
         requires { self.now.history.now.base ≤ self.now.flushed }
         ensures { option_map option_copied result ≡ version_at (all_of self.now) key.now number }
     {

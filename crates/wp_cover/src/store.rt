@@ -11,7 +11,7 @@ use wp_history::History;
 use wp_model::{Change, Entry, Seq};
 
 /// Leaves the value under the key, or nothing where there is none. Both are borrowed.
-pub fn leave<'a>(
+pub(crate) fn leave<'a>(
     store: &mut BTreeMap<&'a [u8], &'a [u8]>,
     key: &'a [u8],
     value: Option<&'a [u8]>,
@@ -71,7 +71,7 @@ fn base_store<'a>(
 }
 
 /// What the first `n` entries leave, from the base on.
-pub fn store_at<'a>(
+pub(crate) fn store_at<'a>(
     alloc: Global,
     history: &'a History,
     n: Seq,

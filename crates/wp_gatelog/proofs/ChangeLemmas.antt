@@ -138,3 +138,13 @@ brings_known place magic P Q R [] new result unknown known brings = record {
   stands = on_ok result (StandsOn place magic [] new) (λ stamp records. ([], unknown refl, tt));
 }
 brings_known place magic P Q R (m ∷ past) new result unknown known brings = brings past m refl known
+
+-- what is so by a call is so in other words
+pub brings_as : {T E : Type 0} (place : ℕ) (magic : List ℕ) (P R : List ℕ → Type 0) (Q S : Moment → Type 0) (old new : List Moment) (result : Result T E) → ((image : List ℕ) → P image → R image) → ((m : Moment) → Q m → S m)
+    → BringsTo place magic P Q old new result → BringsTo place magic R S old new result
+brings_as place magic P R Q S old new result f g brings = record {
+  passed = goes_map (Leaves P) (Leaves R) (λ m leaves image h. f image (leaves image h)) old new brings.passed;
+  durable = brings.durable;
+  done = on_ok_weaker result (known_map Q S g new) brings.done;
+  stands = brings.stands;
+}

@@ -4,10 +4,10 @@ use Rattle.std.proofs.lemmas.Bool.{cases_eq}
 use Rattle.std.proofs.lemmas.List.{append-nil, append_assoc}
 use Rattle.wp_outside.specs.Disk.{Moment, IsImage, synced, after_write, after_cut}
 use Rattle.wp_gatelog.specs.Changes.{Changes, Steps, BringsTo}
-use Rattle.wp_gatelog.specs.Heads.{SpellsNone}
+use Rattle.wp_gatelog.specs.Heads.{BeginsOpen, SpellsNone}
 use Rattle.wp_gatelog.specs.Spelling.{Stamp, identity, log_of, IsUnmade}
 use Rattle.wp_gatelog.proofs.AcknowledgedLemmas.{spares_unmade}
-use Rattle.wp_gatelog.proofs.ChangeLemmas.{brings_of}
+use Rattle.wp_gatelog.proofs.ChangeLemmas.{brings_as, brings_of}
 use Rattle.wp_gatelog.proofs.MomentLemmas.{image_after, image_of_gate, put_gate, reads_after}
 use Rattle.wp_gatelog.proofs.StandLemmas.{unmade_stands}
 
@@ -43,63 +43,69 @@ reads_cut [] lt unmade = absurd (omega arith)
 reads_cut (gate ∷ []) lt unmade = absurd (omega arith)
 reads_cut (gate ∷ byte ∷ before) lt unmade = ap (λ (g : ℕ). g ∷ []) unmade
 
--- ---- the rest of the head, and then its gate
+-- ---- what follows it, and then the gate
+
+staged : (rest image : List ℕ) → IsImage (after_write 1 rest (synced (0 ∷ []))) image → BeginsOpen rest image
+staged rest image h =
+    let found = image_after (0 ∷ []) 1 rest image refl h in
+    inl (subst IsUnmade (sym found.1) (closed_unmade found.0))
+
+opened : (rest image : List ℕ) → IsImage (after_write 0 (1 ∷ []) (synced (0 ∷ rest))) image → BeginsOpen rest image
+opened rest image h =
+    let found = image_of_gate [] 0 0 rest image refl h in
+    elim (cases_eq found.0 0) [
+      | inl shut ↦ inl (subst IsUnmade (sym (found.2 ∙ ap (λ (g : ℕ). g ∷ (rest ++ found.1)) shut)) (closed_unmade (rest ++ found.1)))
+      | inr open_gate ↦ inr (found.0, found.1, open_gate, found.2)
+    ]
+
+-- ---- a log without records
 
 unmade_none : (magic : List ℕ) (stamp : Stamp) (bytes : List ℕ) → IsUnmade bytes → SpellsNone magic stamp bytes
 unmade_none magic stamp bytes unmade = inl (unmade, refl)
 
-none_staged : (magic bytes : List ℕ) (stamp : Stamp) (image : List ℕ) → IsImage (after_write 1 bytes (synced (0 ∷ []))) image → SpellsNone magic stamp image
-none_staged magic bytes stamp image h =
-    let found = image_after (0 ∷ []) 1 bytes image refl h in
-    unmade_none magic stamp image (subst IsUnmade (sym found.1) (closed_unmade found.0))
-
 pub log_of_none : (magic : List ℕ) (stamp : Stamp) (head : ℕ) (more : List ℕ) → log_of magic stamp head [] ++ 0 ∷ more ≡ head ∷ (identity magic stamp ++ 0 ∷ more)
 log_of_none magic stamp head more = ap (λ (l : List ℕ). head ∷ (l ++ 0 ∷ more)) (append-nil (identity magic stamp))
 
-none_opened : (magic : List ℕ) (stamp : Stamp) (image : List ℕ) → IsImage (after_write 0 (1 ∷ []) (synced (0 ∷ (identity magic stamp ++ 0 ∷ [])))) image → SpellsNone magic stamp image
-none_opened magic stamp image h =
-    let found = image_of_gate [] 0 0 (identity magic stamp ++ 0 ∷ []) image refl h in
-    elim (cases_eq found.0 0) [
-      | inl shut ↦ unmade_none magic stamp image (subst IsUnmade (sym (found.2 ∙ ap (λ (g : ℕ). g ∷ ((identity magic stamp ++ 0 ∷ []) ++ found.1)) shut)) (closed_unmade ((identity magic stamp ++ 0 ∷ []) ++ found.1)))
-      | inr opened ↦ inr (
-        found.0,
-        [],
-        record {
-          rest = found.1;
-          spelling = found.2 ∙ ap (λ (l : List ℕ). found.0 ∷ l) (append_assoc (identity magic stamp) (0 ∷ []) found.1) ∙ sym (log_of_none magic stamp found.0 found.1);
-          head_open = opened;
-          gates_open = tt;
-        },
-        refl,
-      )
-    ]
-
-reads_made : (magic : List ℕ) (stamp : Stamp) → (after_write 0 (1 ∷ []) (synced (0 ∷ (identity magic stamp ++ 0 ∷ [])))).reads ≡ log_of magic stamp 1 [] ++ 0 ∷ []
-reads_made magic stamp = put_gate [] 0 (identity magic stamp ++ 0 ∷ []) 0 refl ∙ sym (log_of_none magic stamp 1 [])
+begins_none : (magic : List ℕ) (stamp : Stamp) (image : List ℕ) → BeginsOpen (identity magic stamp ++ 0 ∷ []) image → SpellsNone magic stamp image
+begins_none magic stamp image (inl unmade) = unmade_none magic stamp image unmade
+begins_none magic stamp image (inr (gate, more, open_gate, is)) = inr (
+  gate,
+  [],
+  record {
+    rest = more;
+    spelling = is ∙ ap (λ (l : List ℕ). gate ∷ l) (append_assoc (identity magic stamp) (0 ∷ []) more) ∙ sym (log_of_none magic stamp gate more);
+    head_open = open_gate;
+    gates_open = tt;
+  },
+  refl,
+)
 
 -- ---- call by call
 
-module _ {T E : Type 0} (magic : List ℕ) (stamp : Stamp) where
-  pub brings_closed : (before : List ℕ) → IsUnmade before → (old new : List Moment) (result : Result T E) → Changes [] IsUnmade before (0 ∷ []) old new result
+module _ {T E : Type 0} (magic : List ℕ) where
+  pub brings_closed : (stamp : Stamp) (before : List ℕ) → IsUnmade before → (old new : List Moment) (result : Result T E) → Changes [] IsUnmade before (0 ∷ []) old new result
       → BringsTo 0 magic (SpellsNone magic stamp) (λ m. m ≡ synced (0 ∷ [])) old new result
-  brings_closed before unmade old new result changes =
+  brings_closed stamp before unmade old new result changes =
       brings_of [] magic IsUnmade (SpellsNone magic stamp) (λ m. m ≡ synced (0 ∷ [])) before (0 ∷ []) old new result
       (λ other records. spares_unmade magic other records before IsUnmade unmade) (λ other records has. absurd (unmade_stands magic other records before unmade has)) (unmade_none magic stamp) (λ m on. on) changes
 
-  pub brings_staged : (bytes : List ℕ) → bytes ≡ identity magic stamp ++ 0 ∷ [] → (old new : List Moment) (result : Result T E) → Steps [] (after_write 1 bytes) (0 ∷ []) old new result
-      → BringsTo 0 magic (SpellsNone magic stamp) (λ m. m ≡ synced (0 ∷ (identity magic stamp ++ 0 ∷ []))) old new result
-  brings_staged bytes is old new result changes =
-      let stepped : Moment = after_write 1 bytes (synced (0 ∷ [])) in
-      brings_of [] magic (IsImage stepped) (SpellsNone magic stamp) (λ m. m ≡ synced (0 ∷ (identity magic stamp ++ 0 ∷ []))) (0 ∷ []) stepped.reads old new result
-      (λ other records. spares_unmade magic other records (0 ∷ []) (IsImage stepped) tt) (λ other records has. absurd (unmade_stands magic other records (0 ∷ []) tt has)) (none_staged magic bytes stamp)
-      (λ m on. on ∙ ap synced (reads_after (0 ∷ []) bytes 1 refl ∙ ap (λ (l : List ℕ). 0 ∷ l) is)) changes
+  pub brings_staged : (rest : List ℕ) (old new : List Moment) (result : Result T E) → Steps [] (after_write 1 rest) (0 ∷ []) old new result → BringsTo 0 magic (BeginsOpen rest) (λ m. m ≡ synced (0 ∷ rest)) old new result
+  brings_staged rest old new result changes =
+      let stepped : Moment = after_write 1 rest (synced (0 ∷ [])) in
+      brings_of [] magic (IsImage stepped) (BeginsOpen rest) (λ m. m ≡ synced (0 ∷ rest)) (0 ∷ []) stepped.reads old new result
+      (λ other records. spares_unmade magic other records (0 ∷ []) (IsImage stepped) tt) (λ other records has. absurd (unmade_stands magic other records (0 ∷ []) tt has)) (staged rest)
+      (λ m on. on ∙ ap synced (reads_after (0 ∷ []) rest 1 refl)) changes
 
-  pub brings_opened : (old new : List Moment) (result : Result T E) → Steps [] (after_write 0 (1 ∷ [])) (0 ∷ (identity magic stamp ++ 0 ∷ [])) old new result
+  pub brings_opened : (rest : List ℕ) (old new : List Moment) (result : Result T E) → Steps [] (after_write 0 (1 ∷ [])) (0 ∷ rest) old new result → BringsTo 0 magic (BeginsOpen rest) (λ m. m ≡ synced (1 ∷ rest)) old new result
+  brings_opened rest old new result changes =
+      let stepped : Moment = after_write 0 (1 ∷ []) (synced (0 ∷ rest)) in
+      brings_of [] magic (IsImage stepped) (BeginsOpen rest) (λ m. m ≡ synced (1 ∷ rest)) (0 ∷ rest) stepped.reads old new result
+      (λ other records. spares_unmade magic other records (0 ∷ rest) (IsImage stepped) (closed_unmade rest))
+      (λ other records has. absurd (unmade_stands magic other records (0 ∷ rest) (closed_unmade rest) has)) (opened rest)
+      (λ m on. on ∙ ap synced (put_gate [] 0 rest 0 refl)) changes
+
+  pub brings_none : (stamp : Stamp) (rest : List ℕ) → rest ≡ identity magic stamp ++ 0 ∷ [] → (old new : List Moment) (result : Result T E) → BringsTo 0 magic (BeginsOpen rest) (λ m. m ≡ synced (1 ∷ rest)) old new result
       → BringsTo 0 magic (SpellsNone magic stamp) (λ m. m ≡ synced (log_of magic stamp 1 [] ++ 0 ∷ [])) old new result
-  brings_opened old new result changes =
-      let whole : List ℕ = 0 ∷ (identity magic stamp ++ 0 ∷ []) in
-      let stepped : Moment = after_write 0 (1 ∷ []) (synced whole) in
-      brings_of [] magic (IsImage stepped) (SpellsNone magic stamp) (λ m. m ≡ synced (log_of magic stamp 1 [] ++ 0 ∷ [])) whole stepped.reads old new result
-      (λ other records. spares_unmade magic other records whole (IsImage stepped) (closed_unmade (identity magic stamp ++ 0 ∷ [])))
-      (λ other records has. absurd (unmade_stands magic other records whole (closed_unmade (identity magic stamp ++ 0 ∷ [])) has)) (none_opened magic stamp)
-      (λ m on. on ∙ ap synced (reads_made magic stamp)) changes
+  brings_none stamp rest is old new result =
+      brings_as 0 magic (BeginsOpen rest) (SpellsNone magic stamp) (λ m. m ≡ synced (1 ∷ rest)) (λ m. m ≡ synced (log_of magic stamp 1 [] ++ 0 ∷ [])) old new result
+      (λ image h. begins_none magic stamp image (subst (λ (l : List ℕ). BeginsOpen l image) is h)) (λ m on. on ∙ ap synced (ap (λ (l : List ℕ). 1 ∷ l) is ∙ sym (log_of_none magic stamp 1 [])))

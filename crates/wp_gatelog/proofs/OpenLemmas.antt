@@ -1,8 +1,7 @@
 -- A log is opened.
-use Rattle.std.proofs.Common.{◌≡◌, ◌⊎◌, inl, inr, ℕ, zero, suc, ◌+◌, ◌<◌, List, [], ◌∷◌, ◌++◌, length, drop, take, Option, Result, Ok, Err, OnOk, refl, sym, ◌∙◌, ap, subst, arith, length-append, length-drop}
+use Rattle.std.proofs.Common.{◌≡◌, ◌⊎◌, inl, inr, ℕ, zero, suc, ◌+◌, ◌<◌, ◌≤◌, false, List, [], ◌∷◌, ◌++◌, length, drop, take, Option, None, Some, Result, Ok, refl, sym, ◌∙◌, ap, subst, arith, length-append, length-drop}
 use Rattle.std.proofs.lemmas.List.{append_assoc, take-append-drop, drop_at, drop-drop, length-take-le}
 use Rattle.std.proofs.lemmas.Bool.{cases_eq}
-use Rattle.std.proofs.lemmas.Result.{on_ok_weaker}
 use Rattle.wp_outside.specs.Disk.{Moment, synced, IfKnown, added, after_sync, images, ReadsItself, Goes}
 use Rattle.wp_outside.proofs.Moments.{image_of_synced, goes_on}
 use Rattle.wp_fields.specs.declared.format.Format.{Format}
@@ -11,22 +10,25 @@ use Rattle.wp_gatelog.specs.declared.error.LogError.TheVariants.{Memory, DiskFau
 use Rattle.wp_gatelog.specs.declared.gate.GateByte.{GateByte}
 use Rattle.wp_gatelog.specs.declared.open.FoundLog.{FoundLog}
 use Rattle.wp_gatelog.specs.declared.head.Head.TheVariants.{Made}
-use Rattle.wp_gatelog.specs.Opens.{IsAnswer, Opens, found_stamp}
+use Rattle.wp_gatelog.specs.Left.{IsAtMostSynced, LeavesSynced}
+use Rattle.wp_gatelog.specs.Opens.{IsAsFound, IsFoundLog, WasFound, WasFoundBy, found_stamp}
 use Rattle.wp_gatelog.specs.Changes.{BringsTo}
 use Rattle.wp_gatelog.specs.Damage.{IsBadHead, IsBadHeadAt}
 use Rattle.wp_gatelog.specs.Durability.{HasAcknowledged, LosesNoRecordAt}
 use Rattle.wp_gatelog.specs.Heads.{BeginsLog, IsHead, SpellsNone}
-use Rattle.wp_gatelog.specs.Log.{IsAtRest}
+use Rattle.wp_gatelog.specs.Log.{IsAtRest, LogState, stamp_of}
 use Rattle.wp_gatelog.specs.Repair.{IsReadLog, IsRepaired}
-use Rattle.wp_gatelog.specs.Moments.{Leaves, LeavesFrom}
-use Rattle.wp_gatelog.specs.Opening.{IsFound, IsRefused, Repairs, front_at}
+use Rattle.wp_gatelog.specs.Moments.{IsSynced, Leaves, LeavesFrom}
+use Rattle.wp_gatelog.specs.Patched.{Shows}
+use Rattle.wp_gatelog.specs.Opening.{IsFound, IsOpened, IsRead, IsRefused, KeepsLogAt, ReadState, Repairs, SurvivesThroughAt, front_at, read_stamp}
 use Rattle.wp_gatelog.specs.Scanning.{HasRead, IsLast, IsReadFault}
 use Rattle.wp_gatelog.specs.Spelling.{Gated, Stamp, identity, all_gated, log_of, IsUnmade, IsUnmadeAt, SpellsAt, stamped, IsUpTo}
 use Rattle.wp_gatelog.specs.Stands.{Stands, StandsOn}
+use Rattle.wp_gatelog.proofs.ChangeLemmas.{brings_as}
 use Rattle.wp_gatelog.proofs.DurabilityLemmas.{preserves_on, sync_preserves, sync_reads}
 use Rattle.wp_gatelog.proofs.HeadLemmas.{length-identity}
-use Rattle.wp_gatelog.proofs.MomentLemmas.{goes_map}
-use Rattle.wp_gatelog.proofs.SurvivalLemmas.{rest_spells}
+use Rattle.wp_gatelog.proofs.MomentLemmas.{goes_map, known_both, known_map}
+use Rattle.wp_gatelog.proofs.SurvivalLemmas.{rest_spells, survives_through}
 
 -- ---- a disk that is known
 
@@ -114,49 +116,7 @@ module _ (place : ℕ) (magic : List ℕ) (asked stamp : Stamp) (head first : �
     w.0,
   )
 
--- ---- what an opening does and answers
-
--- it is refused, and the disk is as it was
-pub opens_refused : (place : ℕ) (magic : List ℕ) (asked : Stamp) (bytes : List ℕ) (why : LogError) (old new : List Moment) → new ≡ old → IsRefused place magic asked.format bytes why → Opens place magic asked bytes old new (Err why)
-opens_refused place magic asked bytes why old new same refused = record {
-  passed = subst (λ (ms : List Moment). Goes (Leaves (Repairs place magic asked bytes)) old ms) (sym same) (none old);
-  durable = λ stamp records. ([], same, tt);
-  stands = tt;
-  answered = refused;
-}
-  where
-    none : (ms : List Moment) → Goes (Leaves (Repairs place magic asked bytes)) ms ms
-    none [] = refl
-    none (m ∷ past) = ([], refl, tt)
-
--- by cases on whether the disk is known
-module _ (place : ℕ) (magic : List ℕ) (asked : Stamp) (new : List Moment) (result : Result FoundLog LogError) where
-  pub made_cases : (stamp : Stamp) (head first : ℕ) (old : List Moment)
-      → ((past : List Moment) (m : Moment) → old ≡ m ∷ past → m ≡ synced m.reads → BeginsLog magic asked.format stamp head first (drop place m.reads) → Opens place magic asked m.reads old new result)
-      → IfKnown old (λ m. m ≡ synced m.reads → BeginsLog magic asked.format stamp head first (drop place m.reads) → Opens place magic asked m.reads old new result)
-  made_cases stamp head first [] f = tt
-  made_cases stamp head first (m ∷ past) f = f past m refl
-
-  pub synced_cases : (old : List Moment) → ((past : List Moment) (m : Moment) → old ≡ m ∷ past → m ≡ synced m.reads → Opens place magic asked m.reads old new result)
-      → IfKnown old (λ m. m ≡ synced m.reads → Opens place magic asked m.reads old new result)
-  synced_cases [] f = tt
-  synced_cases (m ∷ past) f = f past m refl
-
-  pub found_cases : (old : List Moment) → ((past : List Moment) (m : Moment) → old ≡ m ∷ past → Opens place magic asked m.reads old new result) → IfKnown old (λ m. Opens place magic asked m.reads old new result)
-  found_cases [] f = tt
-  found_cases (m ∷ past) f = f past m refl
-
--- by a call that brings the disk somewhere
-pub opens_brings : {T E : Type 0} (place : ℕ) (magic : List ℕ) (asked : Stamp) (bytes : List ℕ) (P : List ℕ → Type 0) (Q : Moment → Type 0) (old read new : List Moment) (done : Result T E) (result : Result FoundLog LogError)
-    → read ≡ old → ((image : List ℕ) → P image → Repairs place magic asked bytes image) → IsAnswer place magic asked bytes new result → OnOk result (StandsOn place magic read new) → BringsTo place magic P Q read new done
-    → Opens place magic asked bytes old new result
-opens_brings place magic asked bytes P Q old read new done result same f answered stands brings =
-    subst (λ (ms : List Moment). Opens place magic asked bytes ms new result) same (record {
-      passed = goes_map (Leaves P) (Leaves (Repairs place magic asked bytes)) (λ m leaves image h. f image (leaves image h)) read new brings.passed;
-      durable = brings.durable;
-      stands = stands;
-      answered = answered;
-    })
+-- ---- what is brought about
 
 -- what is brought about behind a front is so from its place on
 pub brings_at : {T E : Type 0} (place : ℕ) (front magic : List ℕ) (P : List ℕ → Type 0) (Q : Moment → Type 0) (old new : List Moment) (result : Result T E) → place ≡ length front
@@ -174,10 +134,6 @@ repairs_unmade magic asked bytes unmade image none = inr (inl (unmade, none))
 pub begins : (magic : List ℕ) (newest : Format) (bytes : List ℕ) (gate : ℕ) (format : Format) (id first : ℕ) → length magic ≡ 4 → IsUpTo newest format → IsHead magic newest bytes (Made gate format id first)
     → BeginsLog magic newest (stamped format id) gate first bytes
 begins magic newest bytes gate format id first four up head = record { magic_size = four; readable = up; made = head }
-
--- the same, of a disk that was only read before
-pub opens_read : (place : ℕ) (magic : List ℕ) (asked : Stamp) (bytes : List ℕ) (old read new : List Moment) (result : Result FoundLog LogError) → read ≡ old → Opens place magic asked bytes read new result → Opens place magic asked bytes old new result
-opens_read place magic asked bytes old read new result same opens = subst (λ (ms : List Moment). Opens place magic asked bytes ms new result) same opens
 
 pub found_none : (magic : List ℕ) (asked : Stamp) (bytes : List ℕ) → IsUnmade bytes → (records : List (List ℕ)) → records ≡ [] → IsFound 0 magic asked bytes asked records
 found_none magic asked bytes unmade records none = record { spelled = inl (unmade, none); unmade = λ _. refl; readable = omega arith }
@@ -207,57 +163,9 @@ short_bad magic newest (gate ∷ byte ∷ bytes) short = elim (cases_eq gate 0) 
 pub short_above : (place : ℕ) (magic : List ℕ) (newest : Format) (bytes : List ℕ) → 0 < place → length bytes < place + 11 → IsBadHeadAt place magic newest bytes
 short_above place magic newest bytes above short = bad_above place magic newest bytes above (short_bad magic newest (drop place bytes) (omega (arith, length-drop place bytes)))
 
--- ---- after the first sync
-
-pub opens_synced : (place : ℕ) (magic : List ℕ) (asked : Stamp) (result : Result FoundLog LogError) (old mid new past : List Moment) (m : Moment) → old ≡ m ∷ past → ReadsItself old → mid ≡ added after_sync old
-    → IfKnown mid (λ n. n ≡ synced n.reads → Opens place magic asked n.reads mid new result) → Opens place magic asked m.reads old new result
-opens_synced place magic asked result old mid new past m is itself by_sync opens =
-    let P : List ℕ → Type 0 = Repairs place magic asked m.reads in
-    let more : mid ≡ synced m.reads ∷ m ∷ past = by_sync ∙ ap (λ (ms : List Moment). added after_sync ms) is in
-    let rest : Opens place magic asked m.reads mid new result = known_at (λ n. n ≡ synced n.reads → Opens place magic asked n.reads mid new result) mid (m ∷ past) (synced m.reads) more opens refl in
-    let first : Goes (Leaves P) old mid = subst (λ (ms : List Moment). Goes (Leaves P) ms mid) (sym is) (synced m.reads ∷ [], more, (λ image h. inl (image_of_synced m.reads image h), tt)) in
-    record {
-      passed = goes_on (Leaves P) old mid new first rest.passed;
-      durable = λ stamp records. preserves_on (LeavesFrom place (HasAcknowledged magic stamp records)) old mid new
-          (sync_preserves (λ image. HasAcknowledged magic stamp records (drop place image)) old mid itself by_sync) (rest.durable stamp records);
-      stands = on_ok_weaker result (λ s stamp records. preserves_on (λ n. Stands magic stamp records (drop place n.reads)) old mid new
-          (sync_reads (λ image. Stands magic stamp records (drop place image)) old mid by_sync) (s stamp records)) rest.stands;
-      answered = rest.answered;
-    }
-
--- ---- what is known of a disk before and after
-
-module _ (place : ℕ) (magic : List ℕ) (asked : Stamp) where
-  pub opens_passed : (result : Result FoundLog LogError) (old new : List Moment) → IfKnown old (λ m. Opens place magic asked m.reads old new result) → IfKnown old (λ m. Goes (Leaves (Repairs place magic asked m.reads)) old new)
-  opens_passed result [] new opens = tt
-  opens_passed result (m ∷ past) new opens = opens.passed
-
-  pub opens_durable : (result : Result FoundLog LogError) (old new : List Moment) → (old ≡ [] → new ≡ []) → IfKnown old (λ m. Opens place magic asked m.reads old new result) → LosesNoRecordAt place magic old new
-  opens_durable result [] new unknown opens = λ stamp records. ([], unknown refl, tt)
-  opens_durable result (m ∷ past) new unknown opens = opens.durable
-
-  pub opens_stands : (found : FoundLog) (old new : List Moment) → (old ≡ [] → new ≡ []) → IfKnown old (λ m. Opens place magic asked m.reads old new (Ok found)) → StandsOn place magic old new
-  opens_stands found [] new unknown opens = λ stamp records. ([], unknown refl, tt)
-  opens_stands found (m ∷ past) new unknown opens = opens.stands
-
-  pub opens_found : (found : FoundLog) (old new : List Moment) → IfKnown old (λ m. Opens place magic asked m.reads old new (Ok found)) → IfKnown old (λ m. IsFound place magic asked m.reads (found_stamp found) found.records.items)
-  opens_found found [] new opens = tt
-  opens_found found (m ∷ past) new opens = opens.answered.0
-
-  pub opens_why : (why : LogError) (old new : List Moment) → IfKnown old (λ m. Opens place magic asked m.reads old new (Err why)) → IfKnown old (λ m. IsRefused place magic asked.format m.reads why)
-  opens_why why [] new opens = tt
-  opens_why why (m ∷ past) new opens = opens.answered
-
 pub before_place : (place : ℕ) (m : Moment) (past : List Moment) → front_at place (m ∷ past) ≡ take place m.reads
 before_place zero m past = refl
 before_place (suc place) m past = refl
-
-pub opens_rests : (place : ℕ) (magic : List ℕ) (asked : Stamp) (found : FoundLog) (old new : List Moment) → (old ≡ [] → new ≡ []) → IfKnown old (λ m. Opens place magic asked m.reads old new (Ok found))
-    → IfKnown new (IsAtRest magic (found_stamp found) found.end (front_at place old) [] found.records.items)
-opens_rests place magic asked found [] new unknown opens =
-    subst (λ (ms : List Moment). IfKnown ms (IsAtRest magic (found_stamp found) found.end (front_at place []) [] found.records.items)) (sym (unknown refl)) tt
-opens_rests place magic asked found (m ∷ past) new unknown opens =
-    subst (λ (front : List ℕ). IfKnown new (IsAtRest magic (found_stamp found) found.end front [] found.records.items)) (sym (before_place place m past)) opens.answered.1
 
 -- where a log is spelled, there are as many bytes before it
 pub spelled_within : (place : ℕ) (bytes magic : List ℕ) (stamp : Stamp) (records : List (List ℕ)) → SpellsAt place bytes magic stamp records → place ≡ length (take place bytes)
@@ -265,10 +173,168 @@ spelled_within zero bytes magic stamp records spelled = refl
 spelled_within (suc place) bytes magic stamp records (inl none) = absurd none.0
 spelled_within (suc place) bytes magic stamp records (inr w) = sym (length-take-le (suc place) bytes (omega (arith, length-drop (suc place) bytes, ap length w.2.spelling)))
 
--- a crash of a log that was opened leaves its records
-pub opened_spells : (place : ℕ) (magic : List ℕ) (asked : Stamp) (found : FoundLog) (old new : List Moment) → (old ≡ [] → new ≡ []) → IfKnown old (λ m. Opens place magic asked m.reads old new (Ok found))
-    → (image : List ℕ) → images new image → SpellsAt place image magic (found_stamp found) found.records.items
-opened_spells place magic asked found [] new unknown opens image h = absurd (subst (λ (ms : List Moment). images ms image) (unknown refl) h)
-opened_spells place magic asked found (m ∷ past) new unknown opens image h =
-    subst (λ (n : ℕ). SpellsAt n image magic (found_stamp found) found.records.items) (sym (spelled_within place m.reads magic (found_stamp found) found.records.items opens.answered.0.spelled))
-    (rest_spells magic (found_stamp found) found.end (take place m.reads) [] found.records.items new opens.answered.1 image h)
+-- ---- a log that was found
+
+pub made_found : (place first : ℕ) (log : FoundLog) (head : ℕ) → log.head ≡ Some head → (old : List Moment)
+    → IfKnown old (λ m. Shows (place + 10) (first ∷ []) m → (following : List ℕ) × HasRead (place + 10) (drop (place + 10) m.reads) (0 ∷ following) log.found.records.items log.found.last log.found.end) → IfKnown old (λ m. log.len ≡ length m.reads)
+    → (magic : List ℕ) (asked : Stamp) → IfKnown old (λ m. BeginsLog magic asked.format (found_stamp log) head first (drop place m.reads) → IsFoundLog place magic asked m.reads log)
+made_found place first log head is old shown size magic asked =
+    known_both (λ m. Shows (place + 10) (first ∷ []) m → (following : List ℕ) × HasRead (place + 10) (drop (place + 10) m.reads) (0 ∷ following) log.found.records.items log.found.last log.found.end) (λ m. log.len ≡ length m.reads)
+    (λ m. BeginsLog magic asked.format (found_stamp log) head first (drop place m.reads) → IsFoundLog place magic asked m.reads log)
+    (λ m shows fits begun.
+    let read = log_read place magic asked (found_stamp log) head first m.reads begun log.len fits log.found.records.items log.found.last log.found.end (shows (first_shown place magic asked (found_stamp log) head first m.reads begun)) in
+    record {
+      found = log_found place magic asked (found_stamp log) head first m.reads begun log.len log.found.records.items log.found.last log.found.end read;
+      was = (fits, subst (λ (h : Option ℕ). WasFoundBy place magic m.reads log h) (sym is) (placed place magic asked (found_stamp log) head first m.reads begun, read));
+    }) old shown size
+
+pub made_refused : (place first head : ℕ) (stamp : Stamp) (why : LogError) (old : List Moment) → IfKnown old (λ m. Shows (place + 10) (first ∷ []) m → IsReadFault stamp.id (drop (place + 10) m.reads) why)
+    → (magic : List ℕ) (asked : Stamp) → IfKnown old (λ m. BeginsLog magic asked.format stamp head first (drop place m.reads) → IsRefused place magic asked.format m.reads why)
+made_refused place first head stamp why old fault magic asked =
+    known_map (λ m. Shows (place + 10) (first ∷ []) m → IsReadFault stamp.id (drop (place + 10) m.reads) why) (λ m. BeginsLog magic asked.format stamp head first (drop place m.reads) → IsRefused place magic asked.format m.reads why)
+    (λ m faulty begun. log_refused place magic asked stamp head first m.reads begun why (faulty (first_shown place magic asked stamp head first m.reads begun))) old fault
+
+-- the head was read before
+pub by_head : (R : Moment → Type 0) (place first gate : ℕ) (format newest : Format) (id : ℕ) (magic : List ℕ) (old mid : List Moment) → mid ≡ old → length magic ≡ 4 → IsUpTo newest format → IfKnown old (λ m. IsHead magic newest (drop place m.reads) (Made gate format id first))
+    → IfKnown mid (λ m. BeginsLog magic newest (stamped format id) gate first (drop place m.reads) → R m) → IfKnown old R
+by_head R place first gate format newest id magic old mid same four up head f =
+    known_both (λ m. IsHead magic newest (drop place m.reads) (Made gate format id first)) (λ m. BeginsLog magic newest (stamped format id) gate first (drop place m.reads) → R m) R
+    (λ m is g. g (begins magic newest (drop place m.reads) gate format id first four up is)) old head (subst (λ (ms : List Moment). IfKnown ms (λ m. BeginsLog magic newest (stamped format id) gate first (drop place m.reads) → R m)) same f)
+
+-- ---- the log is made, or repaired
+
+pub settles_none : {T E : Type 0} (place : ℕ) (magic bytes : List ℕ) (log : FoundLog) (old new : List Moment) (result : Result T E) → length magic ≡ 4 → log.head ≡ None → WasFound place magic bytes log
+    → ((before : List ℕ) → IsUnmade before → log.len ≡ length before → IsSynced before old → BringsTo 0 magic (SpellsNone magic (found_stamp log)) (λ m. m ≡ synced (log_of magic (found_stamp log) 1 [] ++ 0 ∷ [])) old new result)
+    → IsSynced bytes old → BringsTo place magic (Repairs place magic (found_stamp log) bytes) (IsAtRest magic (found_stamp log) log.found.end (take place bytes) [] log.found.records.items) old new result
+settles_none place magic bytes log old new result four is was made known =
+    let none = subst (λ (h : Option ℕ). WasFoundBy place magic bytes log h) is was.1 in
+    let stamp = found_stamp log in
+    let Q : ℕ → ℕ → Moment → Type 0 = λ n end. IsAtRest magic stamp end (take n bytes) [] log.found.records.items in
+    subst (λ (n : ℕ). BringsTo n magic (Repairs n magic stamp bytes) (Q n log.found.end) old new result) (sym none.0)
+    (subst (λ (end : ℕ). BringsTo 0 magic (Repairs 0 magic stamp bytes) (Q 0 end) old new result) (sym none.3)
+    (brings_as 0 magic (SpellsNone magic stamp) (Repairs 0 magic stamp bytes) (λ m. m ≡ synced (log_of magic stamp 1 [] ++ 0 ∷ [])) (Q 0 10) old new result
+    (repairs_unmade magic stamp bytes none.1) (made_rests magic stamp log.found.records.items four none.2) (made bytes none.1 was.0 known)))
+
+pub settles_some : {T E : Type 0} (place : ℕ) (magic bytes : List ℕ) (log : FoundLog) (head : ℕ) (old new : List Moment) (result : Result T E) → log.head ≡ Some head → WasFound place magic bytes log
+    → ((front inner : List ℕ) → place ≡ length front → (read : IsReadLog front magic (found_stamp log) head log.found.records.items log.found.last log.found.end log.len inner) → IsSynced (front ++ inner) old
+    → BringsTo (length front) magic (λ image. IsRepaired magic (found_stamp log) head read.gated (drop (length front) image)) (IsAtRest magic (found_stamp log) log.found.end front [] log.found.records.items) old new result)
+    → IsSynced bytes old → BringsTo place magic (Repairs place magic (found_stamp log) bytes) (IsAtRest magic (found_stamp log) log.found.end (take place bytes) [] log.found.records.items) old new result
+settles_some place magic bytes log head old new result is was repaired known =
+    let some = subst (λ (h : Option ℕ). WasFoundBy place magic bytes log h) is was.1 in
+    let stamp = found_stamp log in
+    let Q : Moment → Type 0 = IsAtRest magic stamp log.found.end (take place bytes) [] log.found.records.items in
+    let whole : IsSynced (take place bytes ++ drop place bytes) old = subst (λ (l : List ℕ). IsSynced l old) (sym (take-append-drop place bytes)) known in
+    brings_as place magic (λ image. IsRepaired magic stamp head some.1.gated (drop place image)) (Repairs place magic stamp bytes) Q Q old new result
+    (repairs_made place magic stamp stamp head log.found.records.items log.found.last log.found.end log.len bytes some.1) (λ m on. on)
+    (brings_at place (take place bytes) magic (IsRepaired magic stamp head some.1.gated) Q old new result some.0 (repaired (take place bytes) (drop place bytes) some.0 some.1 whole))
+
+-- ---- a disk that was synced
+
+-- what was found of the bytes is so before the sync too
+pub before_sync : (P : List ℕ → Type 0) (old new : List Moment) → new ≡ added after_sync old → IfKnown new (λ m. P m.reads) → IfKnown old (λ m. P m.reads)
+before_sync P old new synced is = by old (subst (λ (ms : List Moment). IfKnown ms (λ m. P m.reads)) synced is)
+  where
+    by : (ms : List Moment) → IfKnown (added after_sync ms) (λ m. P m.reads) → IfKnown ms (λ m. P m.reads)
+    by [] there = tt
+    by (m ∷ past) there = there
+
+at_most_synced : (old new : List Moment) (why : LogError) → LeavesSynced old new why → IsAtMostSynced old new
+at_most_synced old new Memory same = inr same
+at_most_synced old new DiskFault left = left
+at_most_synced old new BadHead same = inr same
+at_most_synced old new (Cut index id) same = inr same
+
+survives_same : (place : ℕ) (magic : List ℕ) (asked : Stamp) (old new : List Moment) → new ≡ old → SurvivesThroughAt place magic asked old new
+survives_same place magic asked [] new same = tt
+survives_same place magic asked (m ∷ past) new same = ([], same, tt)
+
+survives_synced : (place : ℕ) (magic : List ℕ) (asked : Stamp) (old new : List Moment) → new ≡ added after_sync old → SurvivesThroughAt place magic asked old new
+survives_synced place magic asked [] new synced = tt
+survives_synced place magic asked (m ∷ past) new by_sync = (synced m.reads ∷ [], by_sync, (λ image h. inl (image_of_synced m.reads image h), tt))
+
+pub durable_synced : (place : ℕ) (magic : List ℕ) (old new : List Moment) → ReadsItself old → new ≡ added after_sync old → LosesNoRecordAt place magic old new
+durable_synced place magic old new itself by_sync = λ stamp records. sync_preserves (λ image. HasAcknowledged magic stamp records (drop place image)) old new itself by_sync
+
+-- a crash leaves what it left before
+pub keeps_synced : (place : ℕ) (magic : List ℕ) (asked : Stamp) (old new : List Moment) (before now : ℕ) (why : LogError) → ReadsItself old → LeavesSynced old new why → before ≤ now → KeepsLogAt place magic asked old new before now
+keeps_synced place magic asked old new before now why itself left later = elim (at_most_synced old new why left) [
+  | inl same ↦ record { survives = survives_same place magic asked old new same; durable = λ stamp records. ([], same, tt); later = later }
+  | inr by_sync ↦ record { survives = survives_synced place magic asked old new by_sync; durable = durable_synced place magic old new itself by_sync; later = later }
+]
+
+-- ---- a log that was read is repaired
+
+-- what is so at the place and of the kind that it was read with
+pub as_read : (R : ℕ → List ℕ → Type 0) (place : ℕ) (magic : List ℕ) (asked : Stamp) (old : List Moment) (read : ReadState) → IsRead place magic asked old read → (IsRead read.place read.magic asked old read → R read.place read.magic) → R place magic
+as_read R place magic asked old read is f =
+    subst (λ (n : ℕ). IsRead n magic asked old read → R n magic) is.placed (subst (λ (k : List ℕ). IsRead read.place k asked old read → R read.place k) is.kind f) is
+
+repairs_asked : (place : ℕ) (magic : List ℕ) (asked stamp : Stamp) (bytes : List ℕ) (records : List (List ℕ)) → IsFound place magic asked bytes stamp records → (image : List ℕ) → Repairs place magic stamp bytes image → Repairs place magic asked bytes image
+repairs_asked place magic asked stamp bytes records found image (inl same) = inl same
+repairs_asked place magic asked stamp bytes records found image (inr (inl new)) = inr (inl (new.0, subst (λ (s : Stamp). SpellsAt place image magic s []) (found.unmade new.0) new.1))
+repairs_asked place magic asked stamp bytes records found image (inr (inr repaired)) = inr (inr repaired)
+
+-- where the disk is known, a log that ends there is brought about from the bytes that were read
+abbrev pub BringsRead : {T E : Type 0} → ℕ → List ℕ → ReadState → ℕ → List Moment → Result T E → Type 0
+BringsRead place magic read end new result = (m : Moment) (past : List Moment) → read.moments ≡ m ∷ past
+    → BringsTo place magic (Repairs place magic (read_stamp read) m.reads) (IsAtRest magic (read_stamp read) end (take place m.reads) [] read.records) read.moments new result
+
+pub brings_read : {T E : Type 0} (read : ReadState) (log : FoundLog) (new : List Moment) (result : Result T E) → found_stamp log ≡ read_stamp read → log.found.records.items ≡ read.records → IfKnown read.moments (IsAsFound read.place read.magic log)
+    → ((bytes : List ℕ) → WasFound read.place read.magic bytes log → IsSynced bytes read.moments → BringsTo read.place read.magic (Repairs read.place read.magic (found_stamp log) bytes) (IsAtRest read.magic (found_stamp log) log.found.end (take read.place bytes) [] log.found.records.items) read.moments new result)
+    → BringsRead read.place read.magic read log.found.end new result
+brings_read read log new result stamp records inside brings m past is =
+    let at = known_at (IsAsFound read.place read.magic log) read.moments past m is inside in
+    subst (λ (s : Stamp). BringsTo read.place read.magic (Repairs read.place read.magic s m.reads) (IsAtRest read.magic s log.found.end (take read.place m.reads) [] read.records) read.moments new result) stamp
+    (subst (λ (rs : List (List ℕ)). BringsTo read.place read.magic (Repairs read.place read.magic (found_stamp log) m.reads) (IsAtRest read.magic (found_stamp log) log.found.end (take read.place m.reads) [] rs) read.moments new result) records
+    (brings m.reads at.1 (subst (λ (ms : List Moment). IsSynced m.reads ms) (sym is) at.0)))
+
+module _ {T E : Type 0} (place : ℕ) (magic : List ℕ) (asked : Stamp) (read : ReadState) (end : ℕ) (new : List Moment) (result : Result T E) (unknown : read.moments ≡ [] → new ≡ []) where
+  passed : (old : List Moment) → IsRead place magic asked old read → BringsRead place magic read end new result → IfKnown old (λ m. Goes (Leaves (Repairs place magic asked m.reads)) old new)
+  passed [] is brings = tt
+  passed (m ∷ past) is brings =
+      let P : List ℕ → Type 0 = Repairs place magic asked m.reads in
+      goes_on (Leaves P) (m ∷ past) read.moments new
+      (synced m.reads ∷ [], is.synced, (λ image h. inl (image_of_synced m.reads image h), tt))
+      (goes_map (Leaves (Repairs place magic (read_stamp read) m.reads)) (Leaves P) (λ n leaves image h. repairs_asked place magic asked (read_stamp read) m.reads read.records is.found image (leaves image h)) read.moments new
+      (brings (synced m.reads) (m ∷ past) is.synced).passed)
+
+  durable : (old : List Moment) → IsRead place magic asked old read → BringsRead place magic read end new result → LosesNoRecordAt place magic old new
+  durable [] is brings = λ stamp records. ([], unknown is.synced, tt)
+  durable (m ∷ past) is brings = λ stamp records. preserves_on (LeavesFrom place (HasAcknowledged magic stamp records)) (m ∷ past) read.moments new (is.durable stamp records) ((brings (synced m.reads) (m ∷ past) is.synced).durable stamp records)
+
+  pub repaired_keeps : (old : List Moment) → IsRead place magic asked old read → BringsRead place magic read end new result → (before now : ℕ) → before ≤ now → KeepsLogAt place magic asked old new before now
+  repaired_keeps old is brings before now later = record {
+    survives = survives_through place magic asked old new (passed old is brings);
+    durable = durable old is brings;
+    later = later;
+  }
+
+module _ {T E : Type 0} (done : T) (place : ℕ) (magic : List ℕ) (asked : Stamp) (read : ReadState) (log : LogState) (unknown : read.moments ≡ [] → log.moments ≡ []) (stamp : stamp_of log ≡ read_stamp read) where
+  stood : (old : List Moment) → IsRead place magic asked old read → BringsRead {T = T} {E = E} place magic read log.end log.moments (Ok done) → StandsOn place magic old log.moments
+  stood [] is brings = λ other records. ([], unknown is.synced, tt)
+  stood (m ∷ past) is brings = λ other records. preserves_on (λ n. Stands magic other records (drop place n.reads)) (m ∷ past) read.moments log.moments
+      (sync_reads (λ image. Stands magic other records (drop place image)) (m ∷ past) read.moments is.synced) ((brings (synced m.reads) (m ∷ past) is.synced).stands other records)
+
+  rested : (old : List Moment) → IsRead place magic asked old read → BringsRead {T = T} {E = E} place magic read log.end log.moments (Ok done) → IfKnown log.moments (IsAtRest magic (read_stamp read) log.end (front_at place old) [] read.records)
+  rested [] is brings = subst (λ (ms : List Moment). IfKnown ms (IsAtRest magic (read_stamp read) log.end (front_at place []) [] read.records)) (sym (unknown is.synced)) tt
+  rested (m ∷ past) is brings =
+      subst (λ (front : List ℕ). IfKnown log.moments (IsAtRest magic (read_stamp read) log.end front [] read.records)) (sym (before_place place m past)) (brings (synced m.reads) (m ∷ past) is.synced).done
+
+  -- a crash leaves its records
+  spelled : (old : List Moment) → IsRead place magic asked old read → BringsRead {T = T} {E = E} place magic read log.end log.moments (Ok done) → (image : List ℕ) → images log.moments image → SpellsAt place image magic (read_stamp read) read.records
+  spelled [] is brings image h = absurd (subst (λ (ms : List Moment). images ms image) (unknown is.synced) h)
+  spelled (m ∷ past) is brings image h =
+      subst (λ (n : ℕ). SpellsAt n image magic (read_stamp read) read.records) (sym (spelled_within place m.reads magic (read_stamp read) read.records is.found.spelled))
+      (rest_spells magic (read_stamp read) log.end (take place m.reads) [] read.records log.moments (brings (synced m.reads) (m ∷ past) is.synced).done image h)
+
+  pub repaired_opened : (old : List Moment) → IsRead place magic asked old read → BringsRead {T = T} {E = E} place magic read log.end log.moments (Ok done) → log.count ≡ length read.records → log.closed ≡ false → IsOpened place magic asked old log read.records
+  repaired_opened old is brings counted running = record {
+    found = subst (λ (s : Stamp). IfKnown old (λ m. IsFound place magic asked m.reads s read.records)) (sym stamp) is.found;
+    rests = subst (λ (s : Stamp). IfKnown log.moments (IsAtRest magic s log.end (front_at place old) [] read.records)) (sym stamp) (rested old is brings);
+    spelled = λ image h. subst (λ (s : Stamp). SpellsAt place image magic s read.records) (sym stamp) (spelled old is brings image h);
+    stands = stood old is brings;
+    counted = counted;
+    running = running;
+    readable = subst (λ (s : Stamp). IsUpTo asked.format s.format) (sym stamp) is.readable;
+    unknown = λ none. unknown (is.synced ∙ ap (λ (ms : List Moment). added after_sync ms) none);
+  }

@@ -1,5 +1,5 @@
 -- What is where a log's head should be.
-use Rattle.std.specs.Prelude.{◌≡◌, ◌≢◌, ℕ, List, [], ◌∷◌, ◌++◌, length, ⊤}
+use Rattle.std.specs.Prelude.{◌≡◌, ◌≢◌, ◌⊎◌, ℕ, List, [], ◌∷◌, ◌++◌, length, ⊤}
 use Rattle.wp_fields.specs.declared.format.Format.{Format}
 use Rattle.wp_gatelog.specs.declared.head.Head.{Head}
 use Rattle.wp_gatelog.specs.declared.head.Head.TheVariants.{Unmade, Bad, Made}
@@ -27,3 +27,7 @@ pub record BeginsLog (magic : List ℕ) (newest : Format) (stamp : Stamp) (head 
   pub magic_size : length magic ≡ 4
   pub readable : IsUpTo newest stamp.format
   pub made : (rest : List ℕ) × (head ≢ 0) × (bytes ≡ head ∷ (identity magic stamp ++ first ∷ rest))
+
+-- nothing was made yet; or an open gate begins the bytes, and these follow
+abbrev pub BeginsOpen : List ℕ → List ℕ → Type 0
+BeginsOpen rest bytes = IsUnmade bytes ⊎ ((gate : ℕ) × (more : List ℕ) × (gate ≢ 0) × (bytes ≡ gate ∷ (rest ++ more)))

@@ -1,8 +1,23 @@
--- What the opener of a log leaves that refuses the records in it.
+-- What is left of a log that is not opened.
 use Rattle.std.specs.Prelude.{◌≡◌, ◌⊎◌, ℕ, List, [], take}
 use Rattle.wp_outside.specs.Disk.{Moment, IfKnown, added, after_sync}
+use Rattle.wp_gatelog.specs.declared.error.LogError.{LogError}
+use Rattle.wp_gatelog.specs.declared.error.LogError.TheVariants.{DiskFault}
 use Rattle.wp_gatelog.specs.Log.{IsAtRest}
 use Rattle.wp_gatelog.specs.Spelling.{Stamp, SpellsAt}
+
+-- ---- where it is only read
+
+-- all of the disk's bytes are as they were, and at most they were made to stay for good
+abbrev pub IsAtMostSynced : List Moment → List Moment → Type 0
+IsAtMostSynced old new = (new ≡ old) ⊎ (new ≡ added after_sync old)
+
+-- the disk was synced, and nothing else, unless it failed
+abbrev pub LeavesSynced : List Moment → List Moment → LogError → Type 0
+LeavesSynced old new DiskFault = IsAtMostSynced old new
+LeavesSynced old new other = new ≡ added after_sync old
+
+-- ---- where it is repaired, and its records are refused behind that
 
 -- the log at that place is at rest with the records that the bytes spelled there, behind the bytes that stood before it
 pub record RestsAsSpelledAt (place : ℕ) (magic bytes : List ℕ) (m : Moment) : Type 0 where

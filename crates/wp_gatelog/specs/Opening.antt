@@ -7,10 +7,11 @@ use Rattle.wp_fields.specs.declared.format.Format.{Format}
 use Rattle.wp_gatelog.specs.Damage.{IsBadHeadAt, IsCut}
 use Rattle.wp_gatelog.specs.Durability.{LosesNoRecordAt}
 use Rattle.wp_gatelog.specs.Errors.{FaultRose}
+use Rattle.wp_gatelog.specs.Left.{LeavesSynced}
 use Rattle.wp_gatelog.specs.Log.{LogState, Rests, stamp_of}
 use Rattle.wp_gatelog.specs.Repair.{IsRepaired}
 use Rattle.wp_gatelog.specs.Moments.{Leaves}
-use Rattle.wp_gatelog.specs.Spelling.{Gated, Stamp, IsUnmadeAt, IsUpTo, HasLog, Spells, SpellsAt, records_of}
+use Rattle.wp_gatelog.specs.Spelling.{Gated, Stamp, IsUnmadeAt, IsUpTo, HasLog, Spells, SpellsAt, records_of, stamped}
 use Rattle.wp_gatelog.specs.Stands.{StandsOn}
 
 -- At that place the bytes spell these records under this version and id: those that were asked for, where no log was made,
@@ -65,6 +66,47 @@ SurvivesThroughAt place magic asked old new = IfKnown old (λ m. Passes (Leaves 
 -- the same of a log at place 0
 abbrev pub SurvivesThrough : List ℕ → Stamp → List Moment → List Moment → Type 0
 SurvivesThrough = SurvivesThroughAt 0
+
+-- ---- what was read
+
+-- a log that was read, and is as it was found
+pub record ReadState : Type 0 where
+  pub moments : List Moment  -- its disk's
+  pub faults : ℕ  -- its disk's
+  pub place : ℕ
+  pub magic : List ℕ
+  pub format : Format
+  pub id : ℕ
+  pub records : List (List ℕ)
+
+-- what its head says, or is to say where none was made
+abbrev pub read_stamp : ReadState → Stamp
+read_stamp log = stamped log.format log.id
+
+-- The log at that place was read, on a disk with these moments, which was synced and is as it was. Its records are those that the disk
+-- spelled.
+pub record IsRead (place : ℕ) (magic : List ℕ) (asked : Stamp) (old : List Moment) (log : ReadState) : Type 0 where
+  pub placed : log.place ≡ place
+  pub kind : log.magic ≡ magic
+  pub synced : log.moments ≡ added after_sync old
+  pub found : IfKnown old (λ m. IsFound place magic asked m.reads (read_stamp log) log.records)
+  pub readable : IsUpTo asked.format log.format
+  pub durable : LosesNoRecordAt place magic old log.moments
+
+-- the open log has what was read of it
+pub record HasAsRead (read : ReadState) (log : LogState) : Type 0 where
+  pub format : log.format ≡ read.format
+  pub id : log.id ≡ read.id
+  pub counted : log.count ≡ length read.records
+  pub running : log.closed ≡ false
+  pub later : read.faults ≤ log.faults
+
+-- No log at that place was read, on a disk with these moments and so many faults: its bytes are as the refusal says; or the disk failed, or
+-- memory ran out.
+pub record IsUnread (place : ℕ) (magic : List ℕ) (newest : Format) (old new : List Moment) (before now : ℕ) (why : LogError) : Type 0 where
+  pub refused : IfKnown old (λ m. IsRefused place magic newest m.reads why)
+  pub left : LeavesSynced old new why
+  pub fault : FaultRose before now why
 
 -- ---- the whole
 

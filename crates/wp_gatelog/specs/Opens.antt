@@ -1,33 +1,34 @@
--- What an opening does and answers, on a disk that is known.
-use Rattle.std.specs.Prelude.{ℕ, ◌≤◌, ◌^◌, List, [], Result, Ok, Err, OnOk, vec_len, take}
-use Rattle.wp_outside.specs.Disk.{Moment, IfKnown, Goes}
-use Rattle.wp_gatelog.specs.declared.error.LogError.{LogError}
+-- What was found where a log is opened, on a disk that is known.
+use Rattle.std.specs.Prelude.{◌≡◌, ℕ, ◌≤◌, ◌^◌, List, [], length, take, drop, Option, Some, None, vec_len}
+use Rattle.wp_outside.specs.Disk.{Moment, synced}
 use Rattle.wp_gatelog.specs.declared.open.FoundLog.{FoundLog}
-use Rattle.wp_gatelog.specs.Durability.{LosesNoRecordAt}
-use Rattle.wp_gatelog.specs.Log.{IsAtRest}
-use Rattle.wp_gatelog.specs.Moments.{Leaves}
-use Rattle.wp_gatelog.specs.Opening.{IsFound, IsRefused, Repairs}
-use Rattle.wp_gatelog.specs.Spelling.{Stamp, stamped}
-use Rattle.wp_gatelog.specs.Stands.{StandsOn}
+use Rattle.wp_gatelog.specs.Opening.{IsFound}
+use Rattle.wp_gatelog.specs.Repair.{IsReadLog}
+use Rattle.wp_gatelog.specs.Spelling.{Stamp, IsUnmade, stamped}
 
--- what the head says of the log that was found
+-- what the head says of the log that was found, or is to say where none was made
 abbrev pub found_stamp : FoundLog → Stamp
-found_stamp found = stamped found.format found.id
-
--- the records that the bytes spell at that place, with which the log is left at rest; or why the bytes are refused
-abbrev pub IsAnswer : ℕ → List ℕ → Stamp → List ℕ → List Moment → Result FoundLog LogError → Type 0
-IsAnswer place magic asked bytes new (Ok found) =
-    IsFound place magic asked bytes (found_stamp found) found.records.items × IfKnown new (IsAtRest magic (found_stamp found) found.end (take place bytes) [] found.records.items)
-IsAnswer place magic asked bytes new (Err why) = IsRefused place magic asked.format bytes why
+found_stamp log = stamped log.format log.id
 
 -- there is a byte for each record, and the log ends at most there
 abbrev pub HasPlaces : FoundLog → Type 0
-HasPlaces found = (vec_len found.records ≤ found.end) × (found.end ≤ 2 ^ 62)
+HasPlaces log = (vec_len log.found.records ≤ log.found.end) × (log.found.end ≤ 2 ^ 62)
 
--- From these bytes a log at that place is opened: at each moment a crash leaves them or a log that is repaired, no record is lost, and
--- the answer is what they say. Once it is Ok, what stood stands on.
-pub record Opens (place : ℕ) (magic : List ℕ) (asked : Stamp) (bytes : List ℕ) (old new : List Moment) (result : Result FoundLog LogError) : Type 0 where
-  pub passed : Goes (Leaves (Repairs place magic asked bytes)) old new
-  pub durable : LosesNoRecordAt place magic old new
-  pub stands : OnOk result (StandsOn place magic old new)
-  pub answered : IsAnswer place magic asked bytes new result
+-- None was made, at place 0; or one was whose head has this gate, and it was read whole.
+abbrev pub WasFoundBy : ℕ → List ℕ → List ℕ → FoundLog → Option ℕ → Type 0
+WasFoundBy place magic bytes log None = (place ≡ 0) × IsUnmade bytes × (log.found.records.items ≡ []) × (log.found.end ≡ 10)
+WasFoundBy place magic bytes log (Some head) =
+    (place ≡ length (take place bytes)) × IsReadLog (take place bytes) magic (found_stamp log) head log.found.records.items log.found.last log.found.end log.len (drop place bytes)
+
+-- it was found at that place of these bytes, which are all of the disk
+abbrev pub WasFound : ℕ → List ℕ → List ℕ → FoundLog → Type 0
+WasFound place magic bytes log = (log.len ≡ length bytes) × WasFoundBy place magic bytes log log.head
+
+-- ... and what it has is what they spell there
+pub record IsFoundLog (place : ℕ) (magic : List ℕ) (asked : Stamp) (bytes : List ℕ) (log : FoundLog) : Type 0 where
+  pub found : IsFound place magic asked bytes (found_stamp log) log.found.records.items
+  pub was : WasFound place magic bytes log
+
+-- the disk is synced, and as it was when the log was found
+abbrev pub IsAsFound : ℕ → List ℕ → FoundLog → Moment → Type 0
+IsAsFound place magic log m = (m ≡ synced m.reads) × WasFound place magic m.reads log

@@ -10,7 +10,7 @@ ghost use Rattle.wp_gatelog.specs.Moments.{IsSynced};
 use wp_outside::{Disk, Failed};
 
 /// Writes, and puts it on the disk for good.
-pub fn write_synced<D: Disk>(disk: &mut D, at: u64, bytes: &[u8]) -> Result<(), Failed>
+pub(crate) fn write_synced<D: Disk>(disk: &mut D, at: u64, bytes: &[u8]) -> Result<(), Failed>
     ensures changes { (front before : List ℕ) (from : ℕ) → at ≡ length front + from
         → IsSynced (front ++ before) (D.moments disk.old)
         → Steps front (after_write from bytes.now) before (D.moments disk.old) (D.moments disk.new) result }
@@ -26,7 +26,7 @@ pub fn write_synced<D: Disk>(disk: &mut D, at: u64, bytes: &[u8]) -> Result<(), 
 }
 
 /// Cuts to `len` bytes, and puts that on the disk for good.
-pub fn cut_synced<D: Disk>(disk: &mut D, len: u64) -> Result<(), Failed>
+pub(crate) fn cut_synced<D: Disk>(disk: &mut D, len: u64) -> Result<(), Failed>
     ensures changes { (front before : List ℕ) (from : ℕ) → len ≡ length front + from
         → IsSynced (front ++ before) (D.moments disk.old)
         → Steps front (after_cut from) before (D.moments disk.old) (D.moments disk.new) result }

@@ -13,10 +13,10 @@ use wp_fields::{Fields, Format};
 use wp_outside::{Disk, Failed, Peek};
 
 /// How many bytes come before the first record's gate.
-pub const HEAD_LEN: u64 = 10;
+pub(crate) const HEAD_LEN: u64 = 10;
 
 /// What is where a log's head should be.
-pub enum Head {
+pub(crate) enum Head {
     Unmade,
     Bad,
 
@@ -30,7 +30,7 @@ pub enum Head {
 }
 
 /// Reads the head at `place`: its gate first, and where that is open all of it. Versions up to `newest` are read.
-pub fn read_head<P: Peek>(
+pub(crate) fn read_head<P: Peek>(
     disk: &mut P,
     place: u64,
     magic: &[u8],
@@ -55,7 +55,7 @@ pub fn read_head<P: Peek>(
 }
 
 /// Reads the head of a disk's log.
-pub fn own_head<D: Disk>(
+pub(crate) fn own_head<D: Disk>(
     disk: &mut D,
     place: u64,
     magic: &[u8],
@@ -127,7 +127,7 @@ fn version_of(byte: u8, newest: Format) -> Option<Format>
 }
 
 /// The bytes after the head's gate: magic, version, id and the closed gate of the first record.
-pub fn head_bytes(magic: [u8; 4], format: Format, id: u32) -> [u8; 10]
+pub(crate) fn head_bytes(magic: [u8; 4], format: Format, id: u32) -> [u8; 10]
     ensures { result ≡ identity magic (stamped format id) ++ 0 ∷ [] }
 {
     let [a, b, c, d] = magic;

@@ -14,8 +14,8 @@ use crate::device::write_synced;
 use crate::error::{DiskRefused, LogError};
 use crate::frame::Frame;
 use crate::gate::OPEN;
-use crate::open::{FoundLog, find};
-use crate::record::Record;
+use crate::read_log::ReadLog;
+use crate::stored_record::StoredRecord;
 use std::alloc::Global;
 use std::marker::Model;
 use wp_fields::Format;
@@ -68,12 +68,12 @@ impl<D: Disk> GateLog<D> {
     /// with fewer than eleven bytes behind it, or past the disk's end.
     pub fn open(
         alloc: Global,
-        mut disk: D,
+        disk: D,
         place: u64,
         magic: [u8; 4],
         newest: Format,
         id: u32,
-    ) -> Result<(GateLog<D>, Vec<Record>), DiskRefused<D, LogError>>
+    ) -> Result<(GateLog<D>, Vec<StoredRecord>), DiskRefused<D, LogError>>
         ensures opened { IfOk result (λ opened. IsOpened place magic (stamped newest id) (D.moments disk) opened.0 opened.1.items) }
         ensures refused { IfErr result (λ refused. IsUnopened place magic newest
             (D.moments disk) (D.moments refused.disk) (D.faults disk) (D.faults refused.disk) refused.why) }
@@ -82,27 +82,32 @@ impl<D: Disk> GateLog<D> {
             (λ refused. KeepsLogAt place magic (stamped newest id)
             (D.moments disk) (D.moments refused.disk) (D.faults disk) (D.faults refused.disk)) }
     {
-        match find(alloc, &mut disk, place, magic, newest, id) {
-            Ok(
-                FoundLog {
-                    format,
-                    id,
-                    records,
-                    end,
-                },
-            ) => {
-                let count = records.len() as u64;
-                let log = GateLog {
-                    disk,
-                    format,
-                    id,
-                    end,
-                    count,
-                    closed: false,
-                };
-                Ok((log, records))
+        let read = match ReadLog::read(alloc, disk, place, magic, newest, id) {
+            Ok(read) => read,
+            Err(refused) => return Err(refused),
+        };
+        match read.repair() {
+            Ok(opened) => Ok(opened),
+            Err(DiskRefused { disk, why: Failed }) => {
+                let why = LogError::DiskFault;
+                Err(DiskRefused { disk, why })
             }
-            Err(why) => Err(DiskRefused { disk, why }),
+        }
+    }
+
+    /// The log on this disk that has so many records, and ends at `end`.
+    pub(crate) fn of(disk: D, format: Format, id: u32, end: u64, count: u64) -> GateLog<D>
+        requires count { count ≤ end }
+        requires end { end ≤ 2 ^ 62 }
+        ensures { result ≡ record { moments = D.moments disk; faults = D.faults disk; format = format; id = id; count = count; end = end; closed = false } }
+    {
+        GateLog {
+            disk,
+            format,
+            id,
+            end,
+            count,
+            closed: false,
         }
     }
 

@@ -5,7 +5,7 @@ ghost use Rattle.wp_outside.specs.Disk.{synced};
 ghost use Rattle.wp_outside.specs.Faults.{HasCause};
 ghost use Rattle.wp_gatelog.specs.Changes.{BringsTo, Changes};
 ghost use Rattle.wp_gatelog.specs.Moments.{IsSynced};
-ghost use Rattle.wp_gatelog.specs.Heads.{SpellsNone};
+ghost use Rattle.wp_gatelog.specs.Heads.{BeginsOpen, SpellsNone};
 ghost use Rattle.wp_gatelog.specs.Spelling.{IsUnmade, log_of, stamped};
 
 use crate::device::{cut_synced, write_synced};
@@ -16,7 +16,7 @@ use wp_outside::{Disk, Failed};
 
 /// Makes a log without records on a disk of so many bytes. Its head's gate stays closed until the rest of the head is
 /// on the disk for good.
-pub fn make<D: Disk>(
+pub(crate) fn make<D: Disk>(
     disk: &mut D,
     len: u64,
     magic: [u8; 4],
@@ -31,7 +31,17 @@ pub fn make<D: Disk>(
     ensures cause { HasCause (D.faults disk.old) (D.faults disk.new) result }
 {
     close_head(disk, len)?;
-    write_synced(disk, 1, &head_bytes(magic, format, id))?;
+    open_head(disk, &head_bytes(magic, format, id))
+}
+
+/// Writes what is to follow the closed gate that is all of the disk, and then opens that gate.
+fn open_head<D: Disk>(disk: &mut D, rest: &[u8]) -> Result<(), Failed>
+    ensures opened { (magic : List ℕ) → IsSynced (0 ∷ []) (D.moments disk.old)
+        → BringsTo 0 magic (BeginsOpen rest.now) (λ m. m ≡ synced (1 ∷ rest.now)) (D.moments disk.old) (D.moments disk.new) result }
+    ensures unknown { D.moments disk.old ≡ [] → D.moments disk.new ≡ [] }
+    ensures cause { HasCause (D.faults disk.old) (D.faults disk.new) result }
+{
+    write_synced(disk, 1, rest)?;
     write_synced(disk, 0, &[OPEN])
 }
 

@@ -1,35 +1,45 @@
-//! Opening a log.
+//! Finding the log that is opened, and then making or repairing it.
 
-ghost use Rattle.std.specs.Prelude.{◌≡◌, ℕ, ◌<◌, ◌≤◌, ◌^◌, [], List, length, drop, IfOk, IfErr};
-ghost use Rattle.wp_outside.specs.Disk.{IfKnown, added, after_sync, synced};
-ghost use Rattle.wp_gatelog.specs.Opens.{Opens, HasPlaces};
+ghost use Rattle.std.specs.Prelude.{◌≡◌, ℕ, ◌<◌, ◌≤◌, ◌^◌, [], List, length, take, drop, IfOk, IfErr};
+ghost use Rattle.wp_outside.specs.Disk.{IfKnown, added, after_sync};
+ghost use Rattle.wp_outside.specs.Faults.{HasCause};
+ghost use Rattle.wp_gatelog.specs.Changes.{BringsTo};
 ghost use Rattle.wp_gatelog.specs.Errors.{HasLogCause};
 ghost use Rattle.wp_gatelog.specs.Heads.{BeginsLog};
-ghost use Rattle.wp_gatelog.specs.Opening.{IsUntouched};
+ghost use Rattle.wp_gatelog.specs.Left.{LeavesSynced};
+ghost use Rattle.wp_gatelog.specs.Log.{IsAtRest};
+ghost use Rattle.wp_gatelog.specs.Moments.{IsSynced};
+ghost use Rattle.wp_gatelog.specs.Opening.{IsRefused, Repairs};
+ghost use Rattle.wp_gatelog.specs.Opens.{HasPlaces, IsFoundLog, WasFound, found_stamp};
 ghost use Rattle.wp_gatelog.specs.Spelling.{IsUpTo, Stamp, stamped};
 
 use crate::error::LogError;
 use crate::head::{HEAD_LEN, Head, own_head};
 use crate::make::make;
-use crate::record::Record;
 use crate::repair::repair;
-use crate::scan::own_records;
+use crate::scan::{Found, own_records};
 use std::alloc::Global;
 use wp_fields::Format;
-use wp_outside::{Disk, own_len};
+use wp_outside::{Disk, Failed, own_len};
 
-/// What an opening found.
+/// What was found where a log is opened.
 #[derive(Drop)]
-pub struct FoundLog {
+pub(crate) struct FoundLog {
     pub format: Format,
     pub id: u32,
-    pub records: Vec<Record>,
-    pub end: u64,
+
+    /// The head's gate, where a log was made.
+    pub head: Option<u8>,
+
+    /// How many bytes the disk has.
+    pub len: u64,
+
+    pub found: Found,
 }
 
-/// Syncs the disk, and then makes a log at place 0, or reads and repairs the one that stands at `place`. One that is made is of
-/// the newest version, and no later one is read.
-pub fn find<D: Disk>(
+/// Syncs the disk, and reads the log that stands at `place`. One that was not made at place 0 is to be of the newest version, and no later
+/// one is read.
+pub(crate) fn find<D: Disk>(
     alloc: Global,
     disk: &mut D,
     place: u64,
@@ -38,23 +48,23 @@ pub fn find<D: Disk>(
     id: u32,
 ) -> Result<FoundLog, LogError>
     requires { length magic ≡ 4 }
-    ensures opens { IfKnown (D.moments disk.old)
-        (λ m. Opens place magic (stamped newest id) m.reads (D.moments disk.old) (D.moments disk.new) result) }
-    ensures untouched { IfErr result (IsUntouched (added after_sync (D.moments disk.old)) (D.moments disk.new)) }
+    ensures found { IfOk result (λ log. IfKnown (D.moments disk.old) (λ m. IsFoundLog place magic (stamped newest id) m.reads log)) }
+    ensures refused { IfErr result (λ why. IfKnown (D.moments disk.old) (λ m. IsRefused place magic newest m.reads why)) }
+    ensures synced { IfOk result (λ _. D.moments disk.new ≡ added after_sync (D.moments disk.old)) }
+    ensures left { IfErr result (LeavesSynced (D.moments disk.old) (D.moments disk.new)) }
     ensures places { IfOk result HasPlaces }
-    ensures readable { IfOk result (λ found. IsUpTo newest found.format) }
-    ensures unknown { D.moments disk.old ≡ [] → D.moments disk.new ≡ [] }
+    ensures readable { IfOk result (λ log. IsUpTo newest log.format) }
     ensures cause { HasLogCause (D.faults disk.old) (D.faults disk.new) result }
 {
     disk.sync()?;
     if place == 0 {
-        return open_first(alloc, disk, magic, newest, id);
+        return find_first(alloc, disk, magic, newest, id);
     }
-    open_behind(alloc, disk, place, magic, newest, id)
+    find_behind(alloc, disk, place, magic, newest)
 }
 
-/// The log at place 0 of a synced disk.
-fn open_first<D: Disk>(
+/// The log at place 0.
+fn find_first<D: Disk>(
     alloc: Global,
     disk: &mut D,
     magic: [u8; 4],
@@ -62,23 +72,27 @@ fn open_first<D: Disk>(
     id: u32,
 ) -> Result<FoundLog, LogError>
     requires { length magic ≡ 4 }
-    ensures opens { IfKnown (D.moments disk.old) (λ m. m ≡ synced m.reads
-        → Opens 0 magic (stamped newest id) m.reads (D.moments disk.old) (D.moments disk.new) result) }
-    ensures untouched { IfErr result (IsUntouched (D.moments disk.old) (D.moments disk.new)) }
+    ensures found { IfOk result (λ log. IfKnown (D.moments disk.old) (λ m. IsFoundLog 0 magic (stamped newest id) m.reads log)) }
+    ensures refused { IfErr result (λ why. IfKnown (D.moments disk.old) (λ m. IsRefused 0 magic newest m.reads why)) }
+    ensures unchanged { D.moments disk.new ≡ D.moments disk.old }
     ensures places { IfOk result HasPlaces }
-    ensures readable { IfOk result (λ found. IsUpTo newest found.format) }
-    ensures unknown { D.moments disk.old ≡ [] → D.moments disk.new ≡ [] }
+    ensures readable { IfOk result (λ log. IsUpTo newest log.format) }
     ensures cause { HasLogCause (D.faults disk.old) (D.faults disk.new) result }
 {
     match own_head(disk, 0, &magic, newest)? {
         Head::Unmade => {
             let len = own_len(disk)?;
-            make(disk, len, magic, newest, id)?;
+            let found = Found {
+                records: Vec::new(alloc),
+                last: None,
+                end: HEAD_LEN,
+            };
             Ok(FoundLog {
                 format: newest,
                 id,
-                records: Vec::new(alloc),
-                end: HEAD_LEN,
+                head: None,
+                len,
+                found,
             })
         }
         Head::Bad => Err(LogError::BadHead),
@@ -87,27 +101,25 @@ fn open_first<D: Disk>(
             format,
             id,
             first,
-        } => open_made(alloc, disk, 0, gate, format, id, first),
+        } => find_made(alloc, disk, 0, gate, format, id, first),
     }
 }
 
-/// The log at a place above 0 of a synced disk. The place is compared with the disk's length before anything is read there.
-fn open_behind<D: Disk>(
+/// The log at a place above 0. The place is compared with the disk's length before anything is read there.
+fn find_behind<D: Disk>(
     alloc: Global,
     disk: &mut D,
     place: u64,
     magic: [u8; 4],
     newest: Format,
-    id: u32,
 ) -> Result<FoundLog, LogError>
     requires magic { length magic ≡ 4 }
     requires place { 0 < place }
-    ensures opens { IfKnown (D.moments disk.old) (λ m. m ≡ synced m.reads
-        → Opens place magic (stamped newest id) m.reads (D.moments disk.old) (D.moments disk.new) result) }
-    ensures untouched { IfErr result (IsUntouched (D.moments disk.old) (D.moments disk.new)) }
+    ensures found { (id : ℕ) → IfOk result (λ log. IfKnown (D.moments disk.old) (λ m. IsFoundLog place magic (stamped newest id) m.reads log)) }
+    ensures refused { IfErr result (λ why. IfKnown (D.moments disk.old) (λ m. IsRefused place magic newest m.reads why)) }
+    ensures unchanged { D.moments disk.new ≡ D.moments disk.old }
     ensures places { IfOk result HasPlaces }
-    ensures readable { IfOk result (λ found. IsUpTo newest found.format) }
-    ensures unknown { D.moments disk.old ≡ [] → D.moments disk.new ≡ [] }
+    ensures readable { IfOk result (λ log. IsUpTo newest log.format) }
     ensures cause { HasLogCause (D.faults disk.old) (D.faults disk.new) result }
 {
     let len = own_len(disk)?;
@@ -121,12 +133,12 @@ fn open_behind<D: Disk>(
             format,
             id,
             first,
-        } => open_made(alloc, disk, place, gate, format, id, first),
+        } => find_made(alloc, disk, place, gate, format, id, first),
     }
 }
 
-/// Reads and repairs the records of a log whose head at `place` was read, on a disk that has all of its bytes for good.
-fn open_made<D: Disk>(
+/// The log whose head at `place` was read.
+fn find_made<D: Disk>(
     alloc: Global,
     disk: &mut D,
     place: u64,
@@ -136,22 +148,44 @@ fn open_made<D: Disk>(
     first: u8,
 ) -> Result<FoundLog, LogError>
     requires { place ≤ 2 ^ 62 }
-    ensures opens { (magic : List ℕ) (asked : Stamp) → IfKnown (D.moments disk.old) (λ m. m ≡ synced m.reads
-        → BeginsLog magic asked.format (stamped format id) head first (drop place m.reads)
-        → Opens place magic asked m.reads (D.moments disk.old) (D.moments disk.new) result) }
-    ensures untouched { IfErr result (IsUntouched (D.moments disk.old) (D.moments disk.new)) }
+    ensures found { (magic : List ℕ) (asked : Stamp) → IfOk result (λ log. IfKnown (D.moments disk.old) (λ m.
+        BeginsLog magic asked.format (stamped format id) head first (drop place m.reads) → IsFoundLog place magic asked m.reads log)) }
+    ensures refused { (magic : List ℕ) (asked : Stamp) → IfErr result (λ why. IfKnown (D.moments disk.old) (λ m.
+        BeginsLog magic asked.format (stamped format id) head first (drop place m.reads) → IsRefused place magic asked.format m.reads why)) }
+    ensures unchanged { D.moments disk.new ≡ D.moments disk.old }
     ensures places { IfOk result HasPlaces }
-    ensures format { IfOk result (λ found. found.format ≡ format) }
-    ensures unknown { D.moments disk.old ≡ [] → D.moments disk.new ≡ [] }
+    ensures format { IfOk result (λ log. log.format ≡ format) }
     ensures cause { HasLogCause (D.faults disk.old) (D.faults disk.new) result }
 {
-    let scan = own_records(alloc, disk, place + HEAD_LEN, id, first)?;
+    let found = own_records(alloc, disk, place + HEAD_LEN, id, first)?;
     let len = own_len(disk)?;
-    repair(disk, place, len, head, &scan)?;
     Ok(FoundLog {
         format,
         id,
-        records: scan.records,
-        end: scan.end,
+        head: Some(head),
+        len,
+        found,
     })
+}
+
+/// Makes the log at place 0 where none was made, and repairs the one that was found at `place`.
+pub(crate) fn settle<D: Disk>(
+    disk: &mut D,
+    place: u64,
+    magic: [u8; 4],
+    log: &FoundLog,
+) -> Result<(), Failed>
+    requires magic { length magic ≡ 4 }
+    requires end { log.now.found.end ≤ 2 ^ 62 }
+    ensures brings { (bytes : List ℕ) → WasFound place magic bytes log.now → IsSynced bytes (D.moments disk.old)
+        → BringsTo place magic (Repairs place magic (found_stamp log.now) bytes)
+        (IsAtRest magic (found_stamp log.now) log.now.found.end (take place bytes) [] log.now.found.records.items)
+        (D.moments disk.old) (D.moments disk.new) result }
+    ensures unknown { D.moments disk.old ≡ [] → D.moments disk.new ≡ [] }
+    ensures cause { HasCause (D.faults disk.old) (D.faults disk.new) result }
+{
+    match log.head {
+        None => make(disk, log.len, magic, log.format, log.id),
+        Some(head) => repair(disk, place, log.len, head, &log.found),
+    }
 }

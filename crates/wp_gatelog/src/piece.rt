@@ -6,7 +6,7 @@ use std::marker::Model;
 
 /// What a device had at its last call, from some place on. Clauses see the bytes that aren't used yet.
 #[derive(Drop)]
-pub struct Piece {
+pub(crate) struct Piece {
     bytes: Vec<u8>,
     from: usize,
 }
@@ -22,20 +22,20 @@ impl Model for Piece {
 }
 
 impl Piece {
-    pub fn of(bytes: Vec<u8>) -> Piece
+    pub(crate) fn of(bytes: Vec<u8>) -> Piece
         ensures { result ≡ bytes.items }
     {
         Piece { bytes, from: 0 }
     }
 
-    pub fn rest(&self) -> &[u8]
+    pub(crate) fn rest(&self) -> &[u8]
         ensures { result.now ≡ self.now }
     {
         &self.bytes[self.from..]
     }
 
     /// Uses so many bytes, and keeps `reach` of those behind them.
-    pub fn pass(&mut self, len: usize, reach: usize)
+    pub(crate) fn pass(&mut self, len: usize, reach: usize)
         requires { len ≤ length self.old }
         ensures { self.new ≡ take reach (drop len self.old) }
     {

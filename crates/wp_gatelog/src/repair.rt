@@ -10,35 +10,35 @@ ghost use Rattle.wp_gatelog.specs.Spelling.{Stamp};
 
 use crate::device::{cut_synced, write_synced};
 use crate::gate::{GateByte, OPEN};
-use crate::scan::Scan;
+use crate::scan::Found;
 use wp_outside::{Disk, Failed};
 
 /// Cuts what follows the gate that ends the log at `place`, and opens its head's gate and the last record's gate wholly.
 /// `len` is how many bytes the disk has, `head` the head's gate.
-pub fn repair<D: Disk>(
+pub(crate) fn repair<D: Disk>(
     disk: &mut D,
     place: u64,
     len: u64,
     head: u8,
-    scan: &Scan,
+    found: &Found,
 ) -> Result<(), Failed>
-    requires { scan.now.end ≤ 2 ^ 62 }
+    requires { found.now.end ≤ 2 ^ 62 }
     ensures repaired { (magic : List ℕ) (stamp : Stamp) (front bytes : List ℕ) → place ≡ length front
-        → (log : IsReadLog front magic stamp head scan.now.records.items scan.now.last scan.now.end len bytes)
+        → (log : IsReadLog front magic stamp head found.now.records.items found.now.last found.now.end len bytes)
         → IsSynced (front ++ bytes) (D.moments disk.old)
         → BringsTo (length front) magic (λ image. IsRepaired magic stamp head log.gated (drop (length front) image))
-        (IsAtRest magic stamp scan.now.end front [] scan.now.records.items)
+        (IsAtRest magic stamp found.now.end front [] found.now.records.items)
         (D.moments disk.old) (D.moments disk.new) result }
     ensures unknown { D.moments disk.old ≡ [] → D.moments disk.new ≡ [] }
     ensures cause { HasCause (D.faults disk.old) (D.faults disk.new) result }
 {
-    cut_rest(disk, scan.end, len)?;
+    cut_rest(disk, found.end, len)?;
     let gate = GateByte {
         at: place,
         byte: head,
     };
     open_wholly(disk, gate)?;
-    match scan.last {
+    match found.last {
         Some(gate) => open_wholly(disk, gate),
         None => Ok(()),
     }

@@ -13,7 +13,7 @@ ghost use Rattle.wp_gatelog.specs.Scanning.{IsNext, IsUnfinished, IsWholeAt, Has
 use crate::error::LogError;
 use crate::gate::{CLOSED, GateByte};
 use crate::piece::Piece;
-use crate::record::Record;
+use crate::stored_record::StoredRecord;
 use std::alloc::{AllocError, Global};
 use wp_fields::Fields;
 use wp_outside::{Disk, Peek};
@@ -27,10 +27,10 @@ const PIECE: u64 = 4096;
 /// No memory has so many bytes.
 const MOST: u64 = 1 << 62;
 
-/// The records of a log.
+/// The records of a log, as they were found.
 #[derive(Drop)]
-pub struct Scan {
-    pub records: Vec<Record>,
+pub(crate) struct Found {
+    pub records: Vec<StoredRecord>,
 
     /// The last record's gate.
     pub last: Option<GateByte>,
@@ -41,7 +41,7 @@ pub struct Scan {
 
 /// What is at a gate.
 #[derive(Clone, Copy)]
-pub enum Next {
+pub(crate) enum Next {
     Closed,
 
     /// The bytes end before the gate, or before the gate behind its record. With it there would be at least so many, up to
@@ -54,21 +54,21 @@ pub enum Next {
 
 /// Reads the records after the head of a log, from the first one's gate at `start` on, up to the first closed gate. `id` is
 /// the head's, `first` the gate that was read with it. Of a read `reach` bytes behind a record are used: one where others may write, the next gate.
-pub fn read_records<P: Peek>(
+pub(crate) fn read_records<P: Peek>(
     alloc: Global,
     disk: &mut P,
     start: u64,
     id: u32,
     first: u8,
     reach: usize,
-) -> Result<Scan, LogError>
+) -> Result<Found, LogError>
     requires { 1 ≤ reach }
-    ensures found { IfOk result (λ scan. IfKnown (P.moments disk.old) (λ m. Shows start (first ∷ []) m
+    ensures found { IfOk result (λ found. IfKnown (P.moments disk.old) (λ m. Shows start (first ∷ []) m
         → ReadsTo start (P.moments disk.old) (P.moments disk.new)
-        (λ text. HasRead start text (0 ∷ []) scan.records.items scan.last scan.end))) }
+        (λ text. HasRead start text (0 ∷ []) found.records.items found.last found.end))) }
     ensures refused { IfErr result (λ why. IfKnown (P.moments disk.old) (λ m. Shows start (first ∷ []) m
         → RefusedBy start id (P.moments disk.old) (P.moments disk.new) why)) }
-    ensures places { IfOk result (λ scan. (vec_len scan.records ≤ scan.end) × (scan.end < 2 ^ 62)) }
+    ensures places { IfOk result (λ found. (vec_len found.records ≤ found.end) × (found.end < 2 ^ 62)) }
     ensures looks { Looks (P.moments disk.old) (P.moments disk.new) (P.is_alone disk.old) (P.is_alone disk.new) }
     ensures fault { IfErr result (FaultRose (P.faults disk.old) (P.faults disk.new)) }
     ensures later { P.faults disk.old ≤ P.faults disk.new }
@@ -79,7 +79,7 @@ pub fn read_records<P: Peek>(
     let mut piece = Piece::of(vec![in alloc; first]?);
     'gates: while end < MOST {
         match read_next(alloc, disk, end, &mut piece)? {
-            Next::Closed => return Ok(Scan { records, last, end }),
+            Next::Closed => return Ok(Found { records, last, end }),
             Next::Short { .. } => return Err(LogError::Cut {
                 index: records.len() as u64,
                 id,
@@ -99,19 +99,19 @@ pub fn read_records<P: Peek>(
 }
 
 /// Reads the records after the head of a disk's log: as many as one read shows whole are taken of it.
-pub fn own_records<D: Disk>(
+pub(crate) fn own_records<D: Disk>(
     alloc: Global,
     disk: &mut D,
     start: u64,
     id: u32,
     first: u8,
-) -> Result<Scan, LogError>
-    ensures found { IfOk result (λ scan. IfKnown (D.moments disk.old) (λ m. Shows start (first ∷ []) m
+) -> Result<Found, LogError>
+    ensures found { IfOk result (λ found. IfKnown (D.moments disk.old) (λ m. Shows start (first ∷ []) m
         → (following : List ℕ)
-        × HasRead start (drop start m.reads) (0 ∷ following) scan.records.items scan.last scan.end)) }
+        × HasRead start (drop start m.reads) (0 ∷ following) found.records.items found.last found.end)) }
     ensures refused { IfErr result (λ why. IfKnown (D.moments disk.old) (λ m. Shows start (first ∷ []) m
         → IsReadFault id (drop start m.reads) why)) }
-    ensures places { IfOk result (λ scan. (vec_len scan.records ≤ scan.end) × (scan.end < 2 ^ 62)) }
+    ensures places { IfOk result (λ found. (vec_len found.records ≤ found.end) × (found.end < 2 ^ 62)) }
     ensures unchanged { D.moments disk.new ≡ D.moments disk.old }
     ensures fault { IfErr result (FaultRose (D.faults disk.old) (D.faults disk.new)) }
     ensures later { D.faults disk.old ≤ D.faults disk.new }
@@ -201,7 +201,7 @@ fn next_in(bytes: &[u8]) -> Next
 /// many bytes it takes in a log, with its gate and its length.
 fn take_record(
     alloc: Global,
-    records: &mut Vec<Record>,
+    records: &mut Vec<StoredRecord>,
     bytes: &[u8],
     len: u64,
 ) -> Result<u64, AllocError>
@@ -214,6 +214,6 @@ fn take_record(
     let start = START_LEN as usize;
     let record = bytes[start..start + len as usize].to_vec(alloc)?;
     let size = START_LEN + record.len() as u64;
-    records.push(Record::of(record))?;
+    records.push(StoredRecord::of(record))?;
     Ok(size)
 }

@@ -1,1 +1,1 @@
-pub mod Logs
+pub mod Seen

@@ -1,74 +1,29 @@
 //! The manifest and the log of a store, in the order in which they are opened.
 ghost use Rattle.std.specs.Prelude.{◌≡◌, IfOk, IfErr};
-ghost use Rattle.wp_gatelog.specs.Opening.{KeepsLog};
-ghost use Rattle.wp_history.specs.Outline.{cut_in};
 ghost use Rattle.wp_cuts.specs.LegalCut.{prepares_of};
-ghost use Rattle.wp_manifest.specs.Edit.{place_of};
-ghost use Rattle.wp_manifest.specs.Opening.{IsUnopenedManifest};
-ghost use Rattle.wp_manifest.specs.Spelling.{MAGIC, head_stamp};
+ghost use Rattle.wp_history.specs.Outline.{cut_in};
 ghost use Rattle.wp_contents.specs.Devices.{devices_of};
 ghost use Rattle.wp_refused.specs.Parts.{LogsOpened};
 ghost use Rattle.wp_refused.specs.Refused.{IsRefusedFrom};
-ghost use Rattle.wp_logs.specs.Logs.{WasMade};
 
+use crate::manifest::{SeenManifest, find_manifest, may_open};
 use std::alloc::Global;
 use wp_gatelog::DiskRefused;
 use wp_history::Outline;
-use wp_manifest::{Edit, Manifest, ManifestError, a_manifest_is_read_in_one_way, is_made};
+use wp_manifest::{Manifest, a_manifest_is_read_in_one_way};
 use wp_outside::{Device, Disk, Disks, Failed};
 use wp_refused::{
     Bad, OpenError, OpenRefused, a_store_is_opened_in_one_way, log_reason, manifest_reason,
 };
-use wp_wal::Wal;
+use wp_wal::{ReadWal, Wal};
 
-/// The log and the manifest, both open, what the log tells, and the third device, which was not called yet.
+/// The log and the manifest, both open and of one id, what the log tells, and the third device, which was not called yet.
 #[derive(Drop)]
 pub struct Logs<D: Disk> {
     pub wal: Wal<D>,
     pub outline: Outline,
     pub manifest: Manifest<D>,
     pub tables: D,
-}
-
-/// A manifest's device, as an opening finds it.
-#[derive(Drop)]
-enum Found<D: Disk> {
-    /// A manifest was made there, and is open.
-    Made(Manifest<D>),
-    /// None was made there yet.
-    Unmade(D),
-}
-
-/// Where on its device the log begins.
-fn place_in(edit: &Edit) -> u64
-    ensures { result ≡ place_of edit.now }
-{
-    edit.place.unwrap_or(0)
-}
-
-/// Opens the manifest, if one was made.
-fn find_manifest<D: Disk>(
-    alloc: Global,
-    mut disk: D,
-    id: u32,
-) -> Result<Found<D>, DiskRefused<D, ManifestError>>
-    ensures made { IfOk result (WasMade id D.moments D.faults disk) }
-    ensures refused { IfErr result (λ refused. IsUnopenedManifest
-        (D.moments disk) (D.moments refused.disk) (D.faults disk) (D.faults refused.disk) refused.why) }
-    ensures kept { IfErr result (λ refused. KeepsLog MAGIC (head_stamp id)
-        (D.moments disk) (D.moments refused.disk) (D.faults disk) (D.faults refused.disk)) }
-{
-    match is_made(&mut disk) {
-        Ok(true) => match Manifest::open(alloc, disk, id) {
-            Ok(manifest) => Ok(Found::Made(manifest)),
-            Err(refused) => Err(refused),
-        },
-        Ok(false) => Ok(Found::Unmade(disk)),
-        Err(Failed) => {
-            let why = ManifestError::DiskFault;
-            Err(DiskRefused { disk, why })
-        }
-    }
 }
 
 /// Hands the devices back.
@@ -86,8 +41,9 @@ fn refuse<D>(log: D, manifest: D, tables: D, why: OpenError) -> OpenRefused<D>
     OpenRefused { disks, why }
 }
 
-/// Opens the manifest wholly, and then the log at the place that its last edit names. Where no manifest was made, the log is opened where its
-/// device begins, and a manifest is made with its id. Where no log was made there it is made, with this id.
+/// Opens the manifest wholly, if one was made, and reads the log at the place that its last edit names, or where its device begins. Once their
+/// ids are compared the log is repaired; where none was made there it is made, with this id. Then a manifest is made with the log's id, where
+/// none was.
 pub fn open_logs<D: Disk>(
     alloc: Global,
     disks: Disks<D>,
@@ -106,53 +62,46 @@ pub fn open_logs<D: Disk>(
         manifest,
         tables,
     } = disks;
-    let found = match find_manifest(alloc, manifest, id) {
-        Ok(found) => found,
+    let seen = match find_manifest(alloc, manifest, id) {
+        Ok(seen) => seen,
         Err(DiskRefused { disk, why }) => {
             return Err(refuse(log, disk, tables, manifest_reason(why)));
         }
     };
-    match found {
-        Found::Made(manifest) => {
-            let place = place_in(manifest.edit());
-            let (wal, outline) = match Wal::open(alloc, log, place, id) {
-                Ok(opened) => opened,
-                Err(DiskRefused { disk, why }) => {
-                    let why = log_reason(why);
-                    return Err(refuse(disk, manifest.into_disk(), tables, why));
-                }
-            };
-            Ok(Logs {
-                wal,
-                outline,
-                manifest,
-                tables,
-            })
+    let read = match ReadWal::read(alloc, log, seen.place(), id) {
+        Ok(read) => read,
+        Err(DiskRefused { disk, why }) => {
+            return Err(refuse(disk, seen.into_disk(), tables, log_reason(why)));
         }
-        Found::Unmade(manifest) => {
-            let (wal, outline) = match Wal::open(alloc, log, 0, id) {
-                Ok(opened) => opened,
-                Err(DiskRefused { disk, why }) => {
-                    return Err(refuse(disk, manifest, tables, log_reason(why)));
-                }
-            };
-            let manifest = match Manifest::open(alloc, manifest, wal.id()) {
-                Ok(manifest) => manifest,
-                Err(DiskRefused { disk, why }) => {
-                    let why = manifest_reason(why);
-                    return Err(refuse(wal.into_disk(), disk, tables, why));
-                }
-            };
-            if place_in(manifest.edit()) != 0 {
-                let why = OpenError::Contents(Bad::BadHead(Device::Log));
-                return Err(refuse(wal.into_disk(), manifest.into_disk(), tables, why));
-            }
-            Ok(Logs {
-                wal,
-                outline,
-                manifest,
-                tables,
-            })
+    };
+    let log = read.id();
+    if let Some(found) = seen.other_id(log) {
+        let why = OpenError::Contents(Bad::Stranger { log, found });
+        return Err(refuse(read.into_disk(), seen.into_disk(), tables, why));
+    }
+    let (wal, outline) = match read.repair() {
+        Ok(opened) => opened,
+        Err(DiskRefused { disk, why: Failed }) => {
+            let why = OpenError::OpenFault(Device::Log);
+            return Err(refuse(disk, seen.into_disk(), tables, why));
+        }
+    };
+    let manifest = match seen.open(alloc, log) {
+        Ok(manifest) => manifest,
+        Err(DiskRefused { disk, why }) => {
+            return Err(refuse(wal.into_disk(), disk, tables, manifest_reason(why)));
+        }
+    };
+    match may_open(&wal, &manifest) {
+        Ok(()) => Ok(Logs {
+            wal,
+            outline,
+            manifest,
+            tables,
+        }),
+        Err(bad) => {
+            let why = OpenError::Contents(bad);
+            Err(refuse(wal.into_disk(), manifest.into_disk(), tables, why))
         }
     }
 }

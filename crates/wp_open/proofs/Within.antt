@@ -19,7 +19,7 @@ use Rattle.wp_refused.specs.declared.error.OpenError.TheVariants as open_error
 use Rattle.wp_refused.specs.Damage.{IsFirstBadTable, IsWithin, UndosRestore, end_of, standing}
 use Rattle.wp_contents.specs.Opens.{all_in, history_over}
 use Rattle.wp_refused.specs.Refused.{IsApart}
-use Rattle.wp_refused.specs.Tables.{AreTablesCause, IsFirstWrong, IsHistoryCause, IsStoreCause, ahead, behind, of_tables, not_legal, not_covered, LeavesSynced, WereTables}
+use Rattle.wp_refused.specs.Tables.{AreTablesCause, IsFirstWrong, IsHistoryCause, IsJudgedCause, IsStoreCause, ahead, behind, of_tables, not_legal, not_covered, LeavesSynced, WereTables}
 use Rattle.wp_refused.proofs.Stages.{known_before}
 use Rattle.wp_refused.proofs.Undos.{legal_restores}
 
@@ -59,12 +59,20 @@ module _ (id : ℕ) (c : Cut) (edit : Edit) (rose : Type 0) (moments : List Mome
   apart_cause why (inl (lt, named)) = ahead lt named
   apart_cause why (inr (low, lt, named)) = behind low lt named
 
-  pub history_cause : (parts : List (List Version)) (why : OpenError) → IsWithin c edit → WereTables id edit moments parts → IsHistoryCause c parts why → IsStoreCause id c edit rose moments why
-  history_cause parts open_error.Memory within read cause = of_tables within tt
-  history_cause parts (open_error.OpenFault device) within read cause = absurd cause
-  history_cause parts (open_error.Contents (bad.Illegal number)) within read cause = not_legal number within (record { parts = parts; read = read; wrong = cause }) refl
-  history_cause parts (open_error.Contents bad.Uncovered) within read cause = not_covered within (record { parts = parts; read = read; undos = cause.0; uncovered = λ covering. cause.1 covering.below }) refl
-  history_cause parts (open_error.Contents other) within read cause = absurd cause
+  pub judged_cause : (parts : List (List Version)) (why : OpenError) → IsWithin c edit → WereTables id edit moments parts → IsJudgedCause c edit parts why → IsStoreCause id c edit rose moments why
+  judged_cause parts open_error.Memory within read cause = of_tables within tt
+  judged_cause parts (open_error.OpenFault device) within read cause = absurd cause
+  judged_cause parts (open_error.Contents (bad.Illegal number)) within read cause = not_legal number within (record { parts = parts; read = read; wrong = cause }) refl
+  judged_cause parts (open_error.Contents bad.Uncovered) within read cause = not_covered within (record { parts = parts; read = read; undos = cause.0; uncovered = cause.1 }) refl
+  judged_cause parts (open_error.Contents other) within read cause = absurd cause
+
+-- no history stands for them: so they cover none
+pub history_judged : (c : Cut) (edit : Edit) (parts : List (List Version)) (why : OpenError) → IsHistoryCause c parts why → IsJudgedCause c edit parts why
+history_judged c edit parts open_error.Memory cause = tt
+history_judged c edit parts (open_error.OpenFault device) cause = absurd cause
+history_judged c edit parts (open_error.Contents (bad.Illegal number)) cause = cause
+history_judged c edit parts (open_error.Contents bad.Uncovered) cause = (cause.0, λ covering. cause.1 covering.below)
+history_judged c edit parts (open_error.Contents other) cause = absurd cause
 
 -- the tables were refused once their device was synced
 wrong_before : (id : ℕ) (edit : Edit) (old new : List Moment) (place : ℕ) (why : TableError) → new ≡ added after_sync old → IsFirstWrong id edit new place why → IsFirstWrong id edit old place why
@@ -103,9 +111,9 @@ pub apart_left : (c : Cut) (edit : Edit) (same : Type 0) (old new : List Moment)
 apart_left c edit same old new why (inl (lt, named)) is = subst (LeavesSynced same old new) (sym named) is
 apart_left c edit same old new why (inr (low, lt, named)) is = subst (LeavesSynced same old new) (sym named) is
 
-pub history_left : (c : Cut) (parts : List (List Version)) (same : Type 0) (old new : List Moment) (why : OpenError) → IsHistoryCause c parts why → new ≡ added after_sync old → LeavesSynced same old new why
-history_left c parts same old new open_error.Memory cause is = is
-history_left c parts same old new (open_error.OpenFault device) cause is = absurd cause
-history_left c parts same old new (open_error.Contents (bad.Illegal number)) cause is = is
-history_left c parts same old new (open_error.Contents bad.Uncovered) cause is = is
-history_left c parts same old new (open_error.Contents other) cause is = absurd cause
+pub judged_left : (c : Cut) (edit : Edit) (parts : List (List Version)) (same : Type 0) (old new : List Moment) (why : OpenError) → IsJudgedCause c edit parts why → new ≡ added after_sync old → LeavesSynced same old new why
+judged_left c edit parts same old new open_error.Memory cause is = is
+judged_left c edit parts same old new (open_error.OpenFault device) cause is = absurd cause
+judged_left c edit parts same old new (open_error.Contents (bad.Illegal number)) cause is = is
+judged_left c edit parts same old new (open_error.Contents bad.Uncovered) cause is = is
+judged_left c edit parts same old new (open_error.Contents other) cause is = absurd cause

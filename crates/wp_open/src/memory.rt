@@ -25,7 +25,11 @@ fn insert_entry(memory: &mut Memtable, number: Seq, entry: &Entry) -> Result<(),
 }
 
 /// The versions of the entries above the flushed number, in memory. That number is not below the base.
-pub fn later_memory(alloc: Global, history: &History, flushed: Seq) -> Result<Memtable, AllocError>
+pub(crate) fn later_memory(
+    alloc: Global,
+    history: &History,
+    flushed: Seq,
+) -> Result<Memtable, AllocError>
     requires from { history.now.base ≤ flushed }
     requires within { flushed ≤ length history.now.entries }
     ensures memory { IfOk result (λ memory. memory ≡ sorted_of (later_versions history.now.entries flushed)) }

@@ -14,9 +14,8 @@ ghost use Rattle.wp_refused.specs.Refused.{IsRefusedFrom, IsApart};
 ghost use Rattle.wp_refused.specs.Damage.{IsWithin};
 ghost use Rattle.wp_refused.specs.declared.error.OpenError.TheVariants as open_error;
 
-use crate::covering::are_covering;
+use crate::judging::judged;
 use crate::memory::later_memory;
-use crate::standing::history_of;
 use crate::tables::own_tables;
 use std::alloc::Global;
 use wp_history::{History, Outline};
@@ -82,13 +81,9 @@ fn open_store<D: Disk>(
         return Err(OpenError::OpenFault(Device::Tables));
     };
     let parts = own_tables(alloc, tables, id, edit)?;
-    let history = history_of(alloc, outline, &parts)?;
+    let history = judged(alloc, outline, edit, &parts)?;
     let memory = later_memory(alloc, &history, edit.flushed)?;
-    let store = Store::new(alloc, memory, parts);
-    if !are_covering(alloc, &history, edit.flushed, &store)? {
-        return Err(OpenError::Contents(Bad::Uncovered));
-    }
-    Ok((history, store))
+    Ok((history, Store::new(alloc, memory, parts)))
 }
 
 /// Opens the manifest, the log and the tables of a store. Where no log was made it makes one, with this id, and likewise a
@@ -115,18 +110,7 @@ pub fn open_parts<D: Disk>(
         Ok(logs) => logs,
         Err(refused) => return Err(refused),
     };
-    let found = manifest.id();
-    if found != wal.id() {
-        let log = wal.id();
-        let why = OpenError::Contents(Bad::Stranger { log, found });
-        let disks = Disks {
-            log: wal.into_disk(),
-            manifest: manifest.into_disk(),
-            tables,
-        };
-        return Err(OpenRefused { disks, why });
-    }
-    match open_store(alloc, &mut tables, found, outline, manifest.edit()) {
+    match open_store(alloc, &mut tables, wal.id(), outline, manifest.edit()) {
         Ok((history, store)) => Ok(Parts {
             wal,
             history,

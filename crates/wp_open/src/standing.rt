@@ -141,7 +141,7 @@ fn not_below(outline: &Outline, store: &BTreeMap<Key, Value>) -> Bad
 
 /// The history that stands for what a log tells and for these tables, the newest first. Each of its undos is judged by what the tables had
 /// at the base. It looks at each version once for each prepare that is carried.
-pub fn history_of(
+pub(crate) fn history_of(
     alloc: Global,
     outline: Outline,
     tables: &[Arc<Table>],

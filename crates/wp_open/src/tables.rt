@@ -77,7 +77,7 @@ fn read_table<P: Peek>(
 
 /// The edit's tables, in its order, in the store with that id. The device's length is asked for once, and no table is
 /// looked for behind it.
-pub fn read_tables<P: Peek>(
+pub(crate) fn read_tables<P: Peek>(
     alloc: Global,
     tables: &mut P,
     id: u32,
@@ -103,7 +103,7 @@ pub fn read_tables<P: Peek>(
 }
 
 /// The edit's tables on a disk.
-pub fn own_tables<D: Disk>(
+pub(crate) fn own_tables<D: Disk>(
     alloc: Global,
     tables: &mut D,
     id: u32,

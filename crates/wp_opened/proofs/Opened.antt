@@ -7,9 +7,9 @@ use Rattle.wp_model.specs.declared.entry.Entry.{Entry}
 use Rattle.wp_model.specs.Flushed.{InstalledEdit}
 use Rattle.wp_outside.specs.Disk.{Moment}
 use Rattle.wp_opened.proofs.OpeningLemmas.{is_within}
-use Rattle.wp_parts.specs.Cut.{Cut, IsCut, cut_at}
-use Rattle.wp_parts.specs.Store.{StoreParts}
-use Rattle.wp_parts.specs.Set.{TableSetState}
+use Rattle.wp_cuts.specs.Cut.{Cut, IsCut, cut_at}
+use Rattle.wp_store.specs.Store.{StoreParts}
+use Rattle.wp_tableset.specs.Set.{TableSetState}
 use Rattle.wp_wal.specs.Opening.{KeepsWal}
 use Rattle.wp_wal.specs.Wal.{WalState}
 use Rattle.wp_wal.proofs.AppendLemmas.{running_cut}
@@ -18,7 +18,7 @@ use Rattle.wp_manifest.specs.Edit.{place_of}
 use Rattle.wp_manifest.specs.Manifest.{ManifestState}
 use Rattle.wp_manifest.specs.Spelling.{last_edit}
 use Rattle.wp_refused.specs.Damage.{IsWithin}
-use Rattle.wp_parts.specs.Opens.{AllKnown, installed_of}
+use Rattle.wp_contents.specs.Opens.{AllKnown, installed_of}
 use Rattle.wp_refused.specs.Parts.{PartsOpened, ArePartsOf, LogsOpened, stored_cut}
 use Rattle.wp_refused.specs.Refused.{of_manifest, AreLeft, IsLeft, at_tables, IsRefusedFrom}
 use Rattle.wp_refused.specs.declared.error.OpenError.TheVariants as open_error
@@ -111,6 +111,7 @@ module _ (same_log same_tables : Type 0) (asked : ℕ) (old : DevicesLeft) (wal 
   logs_opened = record {
     log = p.opened;
     manifest = p.installed;
+    one_id = p.one_id;
     log_kept = subst (λ (n : ℕ). KeepsWal n asked old.log wal.moments old.log_faults wal.faults) p.opened.placed found.log;
     manifest_kept = found.manifest;
   }

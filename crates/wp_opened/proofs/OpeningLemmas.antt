@@ -1,5 +1,5 @@
 -- An opened store is an opening world of the machine.
-use Rattle.std.proofs.Common.{◌≡◌, ◌⊎◌, inl, inr, ℕ, ◌+◌, ◌<◌, ◌≤◌, ◌==◌, true, false, true≢false, List, [], ◌∷◌, ◌++◌, length, replicate, Option, Some, None, is_some, refl, sym, ap, ◌∙◌, subst, append-nil, arith}
+use Rattle.std.proofs.Common.{◌≡◌, ◌⊎◌, inl, inr, ℕ, Bool, ◌+◌, ◌<◌, ◌≤◌, ◌==◌, true, false, true≢false, List, [], ◌∷◌, ◌++◌, length, replicate, Option, Some, None, is_some, refl, sym, ap, ◌∙◌, subst, append-nil, arith}
 use mathlib.Core.Option.{some}
 use lib.ListN.{get_elem?}
 use Rattle.std.proofs.lemmas.Bool.{cases_lt, or_cases, or_left}
@@ -13,7 +13,6 @@ use Rattle.std.specs.List.Sorted.{IsStrictlyIncreasing}
 use Rattle.std.specs.Option.{option_or}
 use Rattle.std.specs.Ordering.{nat_cmp}
 use Rattle.wp_model.specs.declared.entry.Entry.{Entry}
-use Rattle.wp_model.specs.declared.entry.Entry.TheVariants as entry
 use Rattle.wp_model.specs.declared.version.Version.{Version}
 use Rattle.wp_model.specs.Covered.{IsCovered, is_among}
 use Rattle.wp_model.specs.Flushed.{InstalledEdit, IsEditCovered, later_versions}
@@ -28,7 +27,6 @@ use Rattle.wp_cuts.proofs.Whole.{full_undone}
 use Rattle.wp_outside.specs.Disk.{Moment, IfKnown, added, after_sync}
 use Rattle.wp_fields.specs.declared.format.Format.{Format}
 use Rattle.wp_fields.specs.declared.format.Format.TheVariants.{One, Two}
-use Rattle.wp_entry.specs.Record.{FormRecord}
 use Rattle.wp_manifest.specs.Edit.{Edit}
 use Rattle.wp_manifest.specs.Manifest.{ManifestState}
 use Rattle.wp_merge.specs.Merge.{first_at, joined, sorted_of}
@@ -36,7 +34,7 @@ use Rattle.wp_merge.proofs.Merged.{or_none}
 use Rattle.wp_merge.proofs.Sorted.{at_append, at_sorted}
 use Rattle.wp_refused.specs.Damage.{IsWithin}
 use Rattle.wp_refused.specs.Parts.{PartsOpened, stored_cut}
-use Rattle.wp_parts.specs.Opens.{installed_of}
+use Rattle.wp_contents.specs.Opens.{installed_of}
 use Rattle.wp_store.specs.Store.{StoreParts}
 use Rattle.wp_table.specs.File.{HasTables}
 use Rattle.wp_tableset.specs.Set.{RestsWith}
@@ -52,30 +50,23 @@ use Rattle.wp_core.specs.World.{World, new_actor, content_of}
 use Rattle.wp_core.proofs.PendingVersions.{covers_same}
 use Rattle.wp_core.proofs.PublishesVersions.{up_to_within, up_to_past}
 use Rattle.wp_core.proofs.SnapshotsStep.{among_live}
-use Rattle.wp_core.proofs.Tests.{none_some}
+use Rattle.wp_model.proofs.Records.{one_closes}
+use Rattle.wp_model.proofs.Tests.{none_some}
 use Rattle.wp_rule.specs.Shows.{Founds, IsPart}
 use Rattle.wp_parts.specs.Log.{LogState, log_state, open_ending}
 use Rattle.wp_parts.specs.Stock.{StockState, store_state}
-use Rattle.wp_parts.specs.VersionSet.{VersionSetState, edits_state}
+use Rattle.wp_parts.specs.VersionSet.{VersionSetState, edits_state, failed_edit}
 use Rattle.wp_opened.specs.Filled.{AreFilled, IsFlagOf, running_set}
 use Rattle.wp_parts.specs.Parts.{content, LogStands, EditsStand, tells}
 use Rattle.wp_parts.specs.declared.part.TurnValue.{TurnValue}
 use Rattle.wp_parts.specs.declared.part.TurnValue.TheVariants as part
 use Rattle.wp_parts.proofs.StockLemmas.{at_parts}
-use Rattle.wp_parts.proofs.EditsLemmas.{none_asked}
 use Rattle.wp_parts.proofs.LaterVersions.{later_none, later_each, later_past, tables_none}
 
 abbrev Found : Type 0
 Found = Option (Option (List ℕ))
 
 -- ---- what the log spells ends in no undo
-
-record_closes : (format : Format) (first : ℕ) (entries : List Entry) → FormRecord format first entries → undone_last entries ≡ None
-record_closes format first (entry.Write batch ∷ []) form = refl
-record_closes format first (entry.Prepare name batch ∷ []) form = refl
-record_closes format first (entry.Commit p ∷ []) form = refl
-record_closes format first (entry.Undo p batch ∷ entry.Close q ∷ []) form = refl
-record_closes format first others form = absurd form
 
 closes_after : (front rest : List Entry) → undone_last front ≡ None → undone_last rest ≡ None → undone_last (front ++ rest) ≡ None
 closes_after front [] closed rest_closed = ap undone_last (append-nil front) ∙ closed
@@ -84,7 +75,7 @@ closes_after front (e ∷ rest) closed rest_closed = undone_after front rest e �
 all_close : (format : Format) (first : ℕ) (records : List (List ℕ)) (entries : List Entry) → AreEntries format first records entries → undone_last entries ≡ None
 all_close format first [] entries is = ap undone_last is
 all_close format first (r ∷ records) entries (front, rest, parts, is, bytes, more) =
-    ap undone_last parts ∙ closes_after front rest (record_closes format first front is.form) (all_close format (first + length front) records rest more)
+    ap undone_last parts ∙ closes_after front rest (one_closes front is.form.one) (all_close format (first + length front) records rest more)
 
 cut_closes : (format : Format) (place : ℕ) (records : List (List ℕ)) (c : Cut) → AreCut format place records c → undone_last c.entries ≡ None
 cut_closes One place records c (none, nothing, are, there) = all_close One 1 records c.entries are
@@ -249,7 +240,11 @@ module _ (asked : ℕ) (log manifest tables : List Moment) (wal : WalState) (his
     }
 
     none_failed : installed.failed ≡ None
-    none_failed = none_asked edits.log.closed store.tables
+    none_failed = by edits.log.closed
+      where
+        by : (closed : Bool) → failed_edit closed None last ≡ None
+        by true = refl
+        by false = refl
 
     opens : IsOpening opened_world
     opens = record {
@@ -275,7 +270,7 @@ module _ (asked : ℕ) (log manifest tables : List Moment) (wal : WalState) (his
       old_flag = refl;
       snapshots = refl;
       versions = stored installed.failed none_failed;
-      fixed = (none_flushed, refl);
+      in_step = (none_flushed, refl);
       first_edit = refl;
       not_failed = none_failed;
       running = refl;

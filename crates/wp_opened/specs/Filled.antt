@@ -14,6 +14,8 @@ use Rattle.wp_outside.specs.Disk.{Moment}
 use Rattle.wp_store.specs.Store.{StoreParts}
 use Rattle.wp_tableset.specs.Set.{TableSetState}
 use Rattle.wp_wal.specs.Wal.{WalState}
+use Rattle.wp_refused.specs.Parts.{PartsOpened}
+use Rattle.wp_open.specs.declared.opening.Parts.{Parts}
 use Rattle.wp_parts.specs.Log.{LogState, log_state, open_ending}
 use Rattle.wp_parts.specs.VersionSet.{VersionSetState, edits_state}
 use Rattle.wp_parts.specs.Stock.{StockState}
@@ -33,6 +35,16 @@ IsFlagOf history flag = (flag ≡ 0) ↔ (undecided history ≡ [])
 -- the set of an opened manifest, and of a tables' device with these moments and faults
 abbrev pub running_set : ManifestState → List Moment → ℕ → TableSetState
 running_set manifest moments faults = record { manifest = manifest; moments = moments; faults = faults; halted = false }
+
+-- the set of the parts of an opened store
+abbrev pub set_in : {D : Type 0} → (D → List Moment) → (D → ℕ) → Parts D → TableSetState
+set_in moments faults parts = running_set parts.manifest (moments parts.tables) (faults parts.tables)
+
+-- the parts are those of a store that was opened
+abbrev pub WereOpened : {D : Type 0} → (D → List Moment) → Parts D → Type 0
+WereOpened moments parts =
+    (asked : ℕ) × (log : List Moment) × (manifest : List Moment) × (tables : List Moment)
+    × PartsOpened asked log manifest tables parts.wal parts.history.entries parts.manifest (moments parts.tables) parts.store
 
 -- The values behind the turns, in the turns' order, as they were opened: nothing is pending; just the undecided prepares are
 -- delayed; no snapshot is live; the store's versions serve a reader at the history's end; and just the keys of the undecided

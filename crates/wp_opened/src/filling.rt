@@ -1,8 +1,6 @@
 //! An opened store, behind the turns.
 ghost use Rattle.std.specs.FinMap as finite;
 ghost use Rattle.std.specs.Prelude.{◌≡◌, ◌≤◌, ℕ, false, List, [], ◌∷◌, None, length, ◌+◌, vec_len, vec_capacity, IfOk, IfErr};
-ghost use Rattle.wp_outside.specs.Disk.{Moment};
-ghost use Rattle.wp_refused.specs.Parts.{PartsOpened};
 ghost use Rattle.wp_history_laws.specs.Opened.{AreOpened};
 ghost use Rattle.wp_rule.specs.Shows.{Founds};
 ghost use Rattle.wp_parts.specs.Devices.{devices_of, devices_behind};
@@ -10,7 +8,7 @@ ghost use Rattle.wp_parts.specs.VersionSet.{edits_state};
 ghost use Rattle.wp_parts.specs.Log.{log_state, open_ending};
 ghost use Rattle.wp_parts.specs.Parts.{content, tells, LogStands, EditsStand};
 ghost use Rattle.wp_parts.specs.declared.part.TurnValue.TheVariants as part;
-ghost use Rattle.wp_opened.specs.Filled.{AreDelayed, AreFilled, IsFlagOf, running_set};
+ghost use Rattle.wp_opened.specs.Filled.{AreDelayed, AreFilled, IsFlagOf, WereOpened, set_in};
 
 use std::alloc::{AllocError, Global};
 use wp_history::History;
@@ -25,7 +23,7 @@ use wp_tableset::TableSet;
 
 /// What the values behind the turns need besides the parts of an opened store.
 #[derive(Drop)]
-struct Room<D: Disk> {
+struct TurnMemory<D: Disk> {
     prepared: Box<Prepared>,
     snaps: Box<Snaps>,
     locks: Box<Locks>,
@@ -45,13 +43,13 @@ fn versions_of(alloc: Global, store: &Store) -> Result<Vec<TableVersions>, Alloc
 }
 
 /// Takes the memory that they need besides.
-fn room_for<D: Disk + Drop>(alloc: Global, history: &History) -> Result<Room<D>, AllocError>
+fn room_for<D: Disk + Drop>(alloc: Global, history: &History) -> Result<TurnMemory<D>, AllocError>
     ensures prepared { IfOk result (λ room. AreDelayed history.now.entries room.prepared.value) }
     ensures snaps { IfOk result (λ room. room.snaps.value ≡ finite.empty) }
     ensures locks { IfOk result (λ room. AreOpened history.now.entries room.locks.value) }
     ensures slots { IfOk result (λ room. (room.slots.items ≡ []) × (vec_len room.slots + 6 ≤ vec_capacity room.slots)) }
 {
-    Ok(Room {
+    Ok(TurnMemory {
         prepared: Box::new(alloc, Prepared::delaying(alloc, history.undecided())?)?,
         snaps: Box::new(alloc, Snaps::new(alloc))?,
         locks: Box::new(alloc, Locks::left_by(history, alloc)?)?,
@@ -73,14 +71,13 @@ fn make_guarded<D: Disk + Drop>(
     parts: Parts<D>,
     versions: Vec<TableVersions>,
 ) -> Result<Guarded<D>, Disks<D>>
-    requires opened { (asked : ℕ) × (log : List Moment) × (manifest : List Moment) × (tables : List Moment)
-        × PartsOpened asked log manifest tables parts.wal parts.history.entries parts.manifest (D.moments parts.tables) parts.store }
+    requires opened { WereOpened D.moments parts }
     requires base { parts.history.base ≡ parts.wal.segment.base }
     requires tables { versions.items ≡ parts.store.tables }
     ensures log { IfOk result (λ made. made.log.value ≡ log_state parts.wal parts.wal parts.history.entries [] false open_ending) }
     ensures stock { IfOk result (λ made. made.stock.value ≡ record { parts = parts.store; floor = length parts.history.entries }) }
-    ensures edits { IfOk result (λ made. made.edits.value ≡ edits_state (running_set parts.manifest (D.moments parts.tables) (D.faults parts.tables)) (running_set parts.manifest (D.moments parts.tables) (D.faults parts.tables)) parts.wal.segment.base parts.store.tables None) }
-    ensures refused { IfErr result (λ disks. devices_of D.moments D.faults disks ≡ devices_behind parts.wal (running_set parts.manifest (D.moments parts.tables) (D.faults parts.tables))) }
+    ensures edits { IfOk result (λ made. made.edits.value ≡ edits_state (set_in D.moments D.faults parts) (set_in D.moments D.faults parts) parts.wal.segment.base parts.store.tables None) }
+    ensures refused { IfErr result (λ disks. devices_of D.moments D.faults disks ≡ devices_behind parts.wal (set_in D.moments D.faults parts)) }
 {
     let Parts {
         wal,
@@ -112,14 +109,14 @@ fn make_guarded<D: Disk + Drop>(
 }
 
 /// The values behind their turns, in memory that was taken.
-fn fill<D: Disk>(guarded: Guarded<D>, room: Room<D>) -> Vec<TurnValue<D>>
+fn fill<D: Disk>(guarded: Guarded<D>, room: TurnMemory<D>) -> Vec<TurnValue<D>>
     requires slots { (room.slots.items ≡ []) × (vec_len room.slots + 6 ≤ vec_capacity room.slots) }
     ensures slots { result.items ≡ part.Write guarded.log ∷ part.Prepared room.prepared ∷ part.Snapshots room.snaps ∷ part.Store guarded.stock ∷ part.Locks room.locks ∷ part.Tables guarded.edits ∷ [] }
     ensures log { LogStands guarded.log.value }
     ensures edits { EditsStand guarded.edits.value }
 {
     let Guarded { log, stock, edits } = guarded;
-    let Room {
+    let TurnMemory {
         prepared,
         snaps,
         locks,
@@ -139,7 +136,7 @@ fn fill<D: Disk>(guarded: Guarded<D>, room: Room<D>) -> Vec<TurnValue<D>>
 
 /// The devices of an opened store.
 fn disks_of<D: Disk>(parts: Parts<D>) -> Disks<D>
-    ensures { devices_of D.moments D.faults result ≡ devices_behind parts.wal (running_set parts.manifest (D.moments parts.tables) (D.faults parts.tables)) }
+    ensures { devices_of D.moments D.faults result ≡ devices_behind parts.wal (set_in D.moments D.faults parts) }
 {
     let Parts {
         wal,
@@ -159,13 +156,12 @@ pub(crate) fn guard<D: Disk + Drop>(
     alloc: Global,
     parts: Parts<D>,
 ) -> Result<Vec<TurnValue<D>>, Disks<D>>
-    requires opened { (asked : ℕ) × (log : List Moment) × (manifest : List Moment) × (tables : List Moment)
-        × PartsOpened asked log manifest tables parts.wal parts.history.entries parts.manifest (D.moments parts.tables) parts.store }
+    requires opened { WereOpened D.moments parts }
     requires base { parts.history.base ≡ parts.wal.segment.base }
     ensures founds { IfOk result (λ slots. (client : List ℕ) (cells flag : ℕ) → 1 ≤ cells → IsFlagOf parts.history.entries flag
         → Founds content (tells slots.items) client parts.history.entries cells flag slots.items) }
-    ensures slots { IfOk result (λ slots. AreFilled parts.wal parts.history.entries (running_set parts.manifest (D.moments parts.tables) (D.faults parts.tables)) parts.store slots.items) }
-    ensures refused { IfErr result (λ disks. devices_of D.moments D.faults disks ≡ devices_behind parts.wal (running_set parts.manifest (D.moments parts.tables) (D.faults parts.tables))) }
+    ensures slots { IfOk result (λ slots. AreFilled parts.wal parts.history.entries (set_in D.moments D.faults parts) parts.store slots.items) }
+    ensures refused { IfErr result (λ disks. devices_of D.moments D.faults disks ≡ devices_behind parts.wal (set_in D.moments D.faults parts)) }
 {
     let Ok(room) = room_for(alloc, &parts.history) else {
         return Err(disks_of(parts));

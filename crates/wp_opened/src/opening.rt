@@ -1,19 +1,15 @@
 //! A store that was opened, for clients to share.
-ghost use Rattle.std.specs.Prelude.{◌≡◌, ◌≤◌, ◌^◌, [], ℕ, List, Some, true, length, IfOk, IfErr};
+ghost use Rattle.std.specs.Prelude.{◌≡◌, ◌≤◌, ◌^◌, [], true, length, IfOk, IfErr};
 ghost use Rattle.wp_fields.specs.declared.format.Format.TheVariants.{Two};
 ghost use Rattle.wp_entry.specs.Record.{last_number};
-ghost use Rattle.wp_outside.specs.Disk.{Moment};
-ghost use Rattle.wp_refused.specs.Parts.{PartsOpened};
 ghost use Rattle.wp_refused.specs.Refused.{IsRefusedFrom};
 ghost use Rattle.wp_core.specs.World.{new_actor};
-ghost use Rattle.wp_rule.specs.Shows.{WasLast};
 ghost use Rattle.wp_rule.specs.Words.{SawAll};
-ghost use Rattle.wp_parts.specs.Opens.{installed_of};
-ghost use Rattle.wp_parts.specs.Parts.{content, log_first, set_first};
+ghost use Rattle.wp_contents.specs.Opens.{installed_of};
 ghost use Rattle.wp_parts.specs.Devices.{devices_of, devices_behind};
 ghost use Rattle.wp_shared.specs.Seats.{place_at};
-ghost use Rattle.wp_opened.specs.Filled.{running_set};
-ghost use Rattle.wp_opened.specs.OpenedFrom.{IsOpenedFrom};
+ghost use Rattle.wp_opened.specs.Filled.{WereOpened, set_in};
+ghost use Rattle.wp_opened.specs.OpenedFrom.{HasParts, IsOpenedFrom};
 
 use crate::filling::{delayed_flag, guard};
 use std::alloc::Global;
@@ -34,18 +30,15 @@ pub fn share<D: Disk + Drop>(
     bits: u32,
     limit: Seq,
 ) -> Result<(Shared<D>, Seat<D>), Disks<D>>
-    requires opened { (asked : ℕ) × (log : List Moment) × (manifest : List Moment) × (tables : List Moment)
-        × PartsOpened asked log manifest tables parts.wal parts.history.entries parts.manifest (D.moments parts.tables) parts.store }
+    requires opened { WereOpened D.moments parts }
     requires base { parts.history.base ≡ parts.wal.segment.base }
     requires bits { bits ≤ 16 }
     requires limit { (1 ≤ limit) × (limit ≤ last_number Two) }
     ensures store { IfOk result (λ r. (r.0.opened ≡ parts.history.entries) × (r.0.cells ≡ 2 ^ bits) × (r.0.limit ≡ limit)) }
-    ensures log { IfOk result (λ r. log_first r.0.first ≡ Some parts.wal) }
-    ensures set { IfOk result (λ r. set_first r.0.first ≡ Some (running_set parts.manifest (D.moments parts.tables) (D.faults parts.tables))) }
-    ensures last_edit { IfOk result (λ r. WasLast content r.0.first (installed_of parts.wal.segment.base parts.manifest.edit parts.store.tables)) }
+    ensures parts { IfOk result (λ r. HasParts parts.wal (set_in D.moments D.faults parts) (installed_of parts.wal.segment.base parts.manifest.edit parts.store.tables) r.0) }
     ensures seat { IfOk result (λ r. r.1 ≡ record { table = r.0.table; by = 0; knows = new_actor true client parts.history.entries; turns = [] }) }
     ensures stands { IfOk result (λ r. SawAll (place_at r.0 0) r.1.knows (length parts.history.entries)) }
-    ensures refused { IfErr result (λ disks. devices_of D.moments D.faults disks ≡ devices_behind parts.wal (running_set parts.manifest (D.moments parts.tables) (D.faults parts.tables))) }
+    ensures refused { IfErr result (λ disks. devices_of D.moments D.faults disks ≡ devices_behind parts.wal (set_in D.moments D.faults parts)) }
 {
     let history = Snapshot::of(&parts.history);
     let published = parts.history.published();

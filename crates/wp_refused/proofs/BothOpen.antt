@@ -1,5 +1,5 @@
 -- The manifest and the log, opened one after the other: what is handed out, and each refusal.
-use Rattle.std.proofs.Common.{◌≡◌, ◌≢◌, ℕ, ◌<◌, ◌≤◌, ◌^◌, List, [], sym, ap, ◌∙◌, subst}
+use Rattle.std.proofs.Common.{◌≡◌, ◌≢◌, inl, inr, ℕ, ◌<◌, ◌≤◌, ◌^◌, List, [], sym, ap, ◌∙◌, subst}
 use Rattle.wp_outside.specs.declared.disk.Device.TheVariants as device
 use Rattle.wp_outside.specs.Disk.{Moment, IfKnown}
 use Rattle.wp_cuts.specs.Cut.{Cut, cut_at}
@@ -7,10 +7,11 @@ use Rattle.wp_gatelog.specs.Durability.{LosesNoRecord}
 use Rattle.wp_gatelog.specs.Left.{IsLeftAtRest}
 use Rattle.wp_gatelog.specs.Opening.{KeepsLog, SurvivesThrough}
 use Rattle.wp_gatelog.specs.Spelling.{IsUnmade}
-use Rattle.wp_gatelog.proofs.MomentLemmas.{known_map}
+use Rattle.wp_gatelog.proofs.MomentLemmas.{known_both, known_map}
 use Rattle.wp_history.specs.History.{RoomyHistory}
 use Rattle.wp_history.specs.Outline.{cut_in}
 use Rattle.wp_wal.specs.declared.error.WalError.{WalError}
+use Rattle.wp_wal.specs.declared.error.WalError.TheVariants as wal_error
 use Rattle.wp_wal.specs.Opening.{IsOpenedLog, IsUnopenedLog, KeepsWal}
 use Rattle.wp_wal.specs.Wal.{LeavesCut, StoresCut, WalState}
 use Rattle.wp_manifest.specs.declared.error.ManifestError.{ManifestError}
@@ -24,7 +25,7 @@ use Rattle.wp_refused.specs.declared.error.OpenError.TheVariants as open_error
 use Rattle.wp_refused.specs.Damage.{IsOther}
 use Rattle.wp_contents.specs.Devices.{DevicesLeft}
 use Rattle.wp_refused.specs.Parts.{LogsOpened, stored_cut}
-use Rattle.wp_refused.specs.Refused.{WasRead, WereRead, of_manifest, of_log, of_place, of_ids, of_edit, IsLogReason, IsManifestReason, IsLogLeft, IsManifestLeft, IsManifestSeen, AreLeft, at_manifest, at_log, at_new_manifest, at_place, at_ids, IsRefusedFrom}
+use Rattle.wp_refused.specs.Refused.{WasRead, WereRead, of_manifest, of_log, of_place, of_ids, of_edit, IsLogReason, IsManifestReason, IsLogBroken, IsLogLeft, IsLogSeen, IsManifestLeft, IsManifestSeen, AreLeft, at_manifest, at_log, at_ids, at_repair, at_new_manifest, at_place, IsRefusedFrom}
 use Rattle.wp_refused.specs.Tables.{IsStoreCause, LeavesSynced}
 use Rattle.wp_outside.specs.Faults.{Rose}
 use Rattle.wp_refused.proofs.Stages.{OpensOrDamaged, edit_left, kept_whatever, made_any, manifest_rests, opened_anew, opened_read, refused_from}
@@ -32,17 +33,19 @@ use Rattle.wp_refused.proofs.Stages.{OpensOrDamaged, edit_left, kept_whatever, m
 -- ---- both are open
 
 pub logs_made : (asked : ℕ) (old : DevicesLeft) (wal : WalState) (c : Cut) (state : ManifestState) → IsOpenedLog asked (place_of state.edit) old.log wal c → Opened asked old.manifest state → IfKnown old.manifest (λ m. IsUnmade m.reads → ⊥)
-    → KeepsWal (place_of state.edit) asked old.log wal.moments old.log_faults wal.faults → KeepsLog edits.MAGIC (edits.head_stamp asked) old.manifest state.log.moments old.manifest_faults state.log.faults → LogsOpened asked old wal c state
-logs_made asked old wal c state log manifest made log_kept manifest_kept = record {
+    → state.log.id ≡ wal.id → KeepsWal (place_of state.edit) asked old.log wal.moments old.log_faults wal.faults → KeepsLog edits.MAGIC (edits.head_stamp asked) old.manifest state.log.moments old.manifest_faults state.log.faults → LogsOpened asked old wal c state
+logs_made asked old wal c state log manifest made one log_kept manifest_kept = record {
   log = log;
+  one_id = one;
   manifest = opened_anew asked wal.id old.manifest state manifest (made_any (state.log.id ≡ wal.id) old.manifest made);
   log_kept = log_kept;
   manifest_kept = kept_whatever asked wal.id old.manifest state.log.moments old.manifest_faults state.log.faults made manifest_kept;
 }
 
 pub logs_new : (asked : ℕ) (old : DevicesLeft) (wal : WalState) (c : Cut) (state : ManifestState) → IsOpenedLog asked 0 old.log wal c → place_of state.edit ≡ 0 → Opened wal.id old.manifest state
-    → KeepsWal 0 asked old.log wal.moments old.log_faults wal.faults → KeepsLog edits.MAGIC (edits.head_stamp wal.id) old.manifest state.log.moments old.manifest_faults state.log.faults → LogsOpened asked old wal c state
-logs_new asked old wal c state log place manifest log_kept manifest_kept = record {
+    → state.log.id ≡ wal.id → KeepsWal 0 asked old.log wal.moments old.log_faults wal.faults → KeepsLog edits.MAGIC (edits.head_stamp wal.id) old.manifest state.log.moments old.manifest_faults state.log.faults → LogsOpened asked old wal c state
+logs_new asked old wal c state log place manifest one log_kept manifest_kept = record {
+  one_id = one;
   log = subst (λ (n : ℕ). IsOpenedLog asked n old.log wal c) (sym place) log;
   manifest = manifest;
   log_kept = subst (λ (n : ℕ). KeepsWal n asked old.log wal.moments old.log_faults wal.faults) (sym place) log_kept;
@@ -79,13 +82,15 @@ module _ (law : OpensOrDamaged) (asked : ℕ) (same_log same_tables : Type 0) (o
       refused_from law asked same_log same_tables old new why (of_manifest refusal is unopened.cause) (at_manifest refusal is unopened.left kept.survives log tables) kept.durable log_later kept.later tables_later
 
   pub log_refused : (found : ℕ) (list : List Edit) (place : ℕ) (refusal : WalError) → place ≡ place_of (edits.last_edit list) → WereRead found list old.manifest → IsManifestSeen asked found list old.manifest new.manifest → IsLogReason refusal why
-      → IsUnopenedLog place old.log new.log old.log_faults new.log_faults refusal → KeepsWal place asked old.log new.log old.log_faults new.log_faults → LosesNoRecord edits.MAGIC old.manifest new.manifest → old.manifest_faults ≤ new.manifest_faults → IsRefusedFrom asked same_log same_tables old new why
-  log_refused found list place refusal place_is reads left is unopened kept durable later =
+      → IsUnopenedLog place old.log new.log old.log_faults new.log_faults refusal → old.log_faults ≤ new.log_faults → LosesNoRecord edits.MAGIC old.manifest new.manifest → old.manifest_faults ≤ new.manifest_faults → IsRefusedFrom asked same_log same_tables old new why
+  log_refused found list place refusal place_is reads seen is unopened log_later durable later =
       let there = subst (λ (n : ℕ). IsUnopenedLog n old.log new.log old.log_faults new.log_faults refusal) place_is unopened in
-      refused_from law asked same_log same_tables old new why
-      (of_log found list refusal reads is there.cause)
-      (at_log found list refusal left is there.left (subst (λ (n : ℕ). KeepsWal n asked old.log new.log old.log_faults new.log_faults) place_is kept) tables)
-      durable kept.later later tables_later
+      refused_from law asked same_log same_tables old new why (of_log found list refusal reads is there.cause) (at_log found list refusal seen is there.left tables) durable log_later later tables_later
+
+  pub repair_refused : (id its : ℕ) (c : Cut) (list : List Edit) → WereRead its list old.manifest → IsManifestSeen asked id list old.manifest new.manifest → IsLogBroken asked id (place_of (edits.last_edit list)) c old new → Rose old.log_faults new.log_faults → why ≡ open_error.OpenFault device.Log
+      → LosesNoRecord edits.MAGIC old.manifest new.manifest → old.manifest_faults ≤ new.manifest_faults → IsRefusedFrom asked same_log same_tables old new why
+  repair_refused id its c list reads seen broken rose is durable later =
+      refused_from law asked same_log same_tables old new why (of_log its list wal_error.DiskFault reads is rose) (at_repair id c list broken seen is tables) durable broken.kept.later later tables_later
 
   pub new_refused : (id : ℕ) (c : Cut) (refusal : ManifestError) → IfKnown old.manifest (λ m. IsUnmade m.reads) → IsLogLeft asked id 0 c old new → IsManifestReason refusal why → IsUnopenedManifest old.manifest new.manifest old.manifest_faults new.manifest_faults refusal
       → KeepsLog edits.MAGIC (edits.head_stamp id) old.manifest new.manifest old.manifest_faults new.manifest_faults → IsRefusedFrom asked same_log same_tables old new why
@@ -96,13 +101,20 @@ module _ (law : OpensOrDamaged) (asked : ℕ) (same_log same_tables : Type 0) (o
       → LosesNoRecord edits.MAGIC old.manifest new.manifest → old.manifest_faults ≤ new.manifest_faults → IsRefusedFrom asked same_log same_tables old new why
   place_refused id its c list none left other is durable later =
       let log = left.log in
-      refused_from law asked same_log same_tables old new why (of_place none is) (at_place id its c list left (none, other) is tables) durable log.kept.later later tables_later
+      refused_from law asked same_log same_tables old new why (of_place none is) (at_place id its c list left (none, inl (other, is)) tables) durable log.kept.later later tables_later
 
-  pub ids_refused : (id found : ℕ) (c : Cut) (list : List Edit) → WereRead found list old.manifest → WasRead asked id (place_of (edits.last_edit list)) c old.log → found ≢ id → IfKnown old.manifest (λ m. IsOther id found m.reads) → AreLeft asked id found (place_of (edits.last_edit list)) c list old new
-      → why ≡ open_error.Contents (bad.Stranger id found) → LosesNoRecord edits.MAGIC old.manifest new.manifest → old.manifest_faults ≤ new.manifest_faults → IsRefusedFrom asked same_log same_tables old new why
-  ids_refused id found c list reads finds differ other left is durable later =
+  pub stranger_refused : (id its : ℕ) (c : Cut) (list : List Edit) → IfKnown old.manifest (λ m. ⊥) → WereRead its list old.manifest → WasRead asked id (place_of (edits.last_edit list)) c old.log → AreLeft asked id its 0 c list old new → its ≢ id → why ≡ open_error.Contents (bad.Stranger id its)
+      → LosesNoRecord edits.MAGIC old.manifest new.manifest → old.manifest_faults ≤ new.manifest_faults → IsRefusedFrom asked same_log same_tables old new why
+  stranger_refused id its c list none reads finds left other is durable later =
       let log = left.log in
-      refused_from law asked same_log same_tables old new why (of_ids id found c list reads finds differ other is) (at_ids id found c list left differ is tables) durable log.kept.later later tables_later
+      refused_from law asked same_log same_tables old new why
+      (of_ids id its c list reads finds other (known_map (λ m. ⊥) (λ m. IsOther id its m.reads) (λ m wrong. absurd wrong) old.manifest none) is)
+      (at_place id its c list left (none, inr (other, is)) tables) durable log.kept.later later tables_later
+
+  pub ids_refused : (id found : ℕ) (c : Cut) (list : List Edit) → WereRead found list old.manifest → WasRead asked id (place_of (edits.last_edit list)) c old.log → found ≢ id → IfKnown old.manifest (λ m. IsOther id found m.reads) → IsLogSeen id (place_of (edits.last_edit list)) c old.log new.log
+      → IsManifestLeft asked found list old.manifest new.manifest → why ≡ open_error.Contents (bad.Stranger id found) → old.log_faults ≤ new.log_faults → LosesNoRecord edits.MAGIC old.manifest new.manifest → old.manifest_faults ≤ new.manifest_faults → IsRefusedFrom asked same_log same_tables old new why
+  ids_refused id found c list reads finds differ other seen left is log_later durable later =
+      refused_from law asked same_log same_tables old new why (of_ids id found c list reads finds differ other is) (at_ids id found c list seen left differ is tables) durable log_later later tables_later
 
 -- what the last edit says is refused
 pub edit_refused : OpensOrDamaged → (asked : ℕ) (same_log same_tables : Type 0) (old new : DevicesLeft) (why : OpenError) (id : ℕ) (c : Cut) (list : List Edit) → WereRead id list old.manifest → WasRead asked id (place_of (edits.last_edit list)) c old.log
@@ -112,9 +124,13 @@ edit_refused law asked same_log same_tables old new why id c list reads finds le
     let log = left.log in
     refused_from law asked same_log same_tables old new why (of_edit id c list reads finds cause) (edit_left asked same_log same_tables (Rose old.tables_faults new.tables_faults) old new id c list why left cause tables) durable log.kept.later later tables_later
 
--- the ids differ: so the manifest was made
-pub other_id : (id : ℕ) (moments : List Moment) (state : ManifestState) (o : Opened id moments state) → state.log.id < 2 ^ 32 → state.log.id ≢ id → IfKnown moments (λ m. IsOther id state.log.id m.reads)
-other_id id moments state o fits differ = known_map (λ m. IsUnmade m.reads → state.log.id ≡ id) (λ m. IsOther id state.log.id m.reads) (λ m made. record { fits = fits; other = differ; made = λ unmade. differ (made unmade) }) moments o.made
+-- it was made, under another id
+pub other_id : (id : ℕ) (moments : List Moment) (state : ManifestState) → IfKnown moments (λ m. IsUnmade m.reads → ⊥) → state.log.id < 2 ^ 32 → state.log.id ≢ id → IfKnown moments (λ m. IsOther id state.log.id m.reads)
+other_id id moments state made fits differ = known_map (λ m. IsUnmade m.reads → ⊥) (λ m. IsOther id state.log.id m.reads) (λ m was. record { fits = fits; other = differ; made = was }) moments made
+
+-- one that was not made, and then has another id than it was to be made with, is of a device that tells nothing
+pub other_there : (id : ℕ) (moments : List Moment) (state : ManifestState) → Opened id moments state → IfKnown moments (λ m. IsUnmade m.reads) → state.log.id ≢ id → IfKnown moments (λ m. ⊥)
+other_there id moments state o unmade differ = known_both (λ m. IsUnmade m.reads) (λ m. IsUnmade m.reads → state.log.id ≡ id) (λ m. ⊥) (λ m is made. differ (made is)) moments unmade o.made
 
 -- what was read of a log and a manifest that are open, by the last of the edits
 pub logs_read : (asked : ℕ) (old : DevicesLeft) (wal : WalState) (c : Cut) (state : ManifestState) (l : LogsOpened asked old wal c state) → wal.id < 2 ^ 32 → WasRead asked wal.id (place_of (edits.last_edit l.manifest.edits)) c old.log

@@ -21,11 +21,12 @@ use Rattle.wp_contents.specs.Opens.{AreCovering, OpensTo, AllKnown, history_over
 
 -- ---- the log and the manifest
 
--- The manifest was opened, and the log at the place that its last edit names, which spells the cut. Where no manifest was made, it has
--- the log's id.
+-- The manifest was opened, and the log at the place that its last edit names, which spells the cut. Both have one id. Where no manifest was
+-- made, it was made with the log's.
 pub record LogsOpened (asked : ℕ) (old : DevicesLeft) (wal : WalState) (c : Cut) (edits : ManifestState) : Type 0 where
   pub log : IsOpenedLog asked (place_of edits.edit) old.log wal c
   pub manifest : Opened wal.id old.manifest edits
+  pub one_id : edits.log.id ≡ wal.id
   pub log_kept : KeepsWal (place_of edits.edit) asked old.log wal.moments old.log_faults wal.faults
   pub manifest_kept : KeepsLog MAGIC (head_stamp wal.id) old.manifest edits.log.moments old.manifest_faults edits.log.faults
 

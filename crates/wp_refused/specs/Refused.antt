@@ -2,7 +2,7 @@
 use Rattle.std.specs.Prelude.{◌≡◌, ◌≢◌, ◌⊎◌, ℕ, ◌<◌, ◌≤◌, ◌^◌, List, []}
 use Rattle.wp_model.specs.declared.entry.Entry.{Entry}
 use Rattle.wp_outside.specs.declared.disk.Device.TheVariants as device
-use Rattle.wp_outside.specs.Disk.{Moment, IfKnown, Each}
+use Rattle.wp_outside.specs.Disk.{Moment, IfKnown, Each, added, after_sync}
 use Rattle.wp_outside.specs.Faults.{Rose}
 use Rattle.wp_cuts.specs.Cut.{Cut}
 use Rattle.wp_gatelog.specs.Durability.{LosesNoRecord}
@@ -11,7 +11,7 @@ use Rattle.wp_gatelog.specs.Opening.{SurvivesThrough}
 use Rattle.wp_gatelog.specs.Spelling.{IsUnmade}
 use Rattle.wp_wal.specs.declared.error.WalError.{WalError}
 use Rattle.wp_wal.specs.declared.error.WalError.TheVariants as wal_error
-use Rattle.wp_wal.specs.Opening.{IsLogCause, KeepsWal, LeavesRecords}
+use Rattle.wp_wal.specs.Opening.{IsLogCause, KeepsWal, LeavesLog}
 use Rattle.wp_wal.specs.Reading.{IsJudged}
 use Rattle.wp_wal.specs.Spelling.{IsLogAt}
 use Rattle.wp_wal.specs.Wal.{LeavesCut}
@@ -96,6 +96,16 @@ IsOutside other = Unit {0}
 
 -- ---- what is left
 
+-- a log that was read at that place, and let go of: it is as it was, and synced
+pub record IsLogSeen (id place : ℕ) (c : Cut) (old new : List Moment) : Type 0 where
+  pub found : IfKnown old (λ m. IsLogAt id place c m.reads)
+  pub left : new ≡ added after_sync old
+
+-- a log that was read at that place, and whose device failed while it was repaired
+pub record IsLogBroken (asked id place : ℕ) (c : Cut) (old new : DevicesLeft) : Type 0 where
+  pub found : IfKnown old.log (λ m. IsLogAt id place c m.reads)
+  pub kept : KeepsWal place asked old.log new.log old.log_faults new.log_faults
+
 -- a log that was opened at that place, and let go of: a crash leaves its cut
 pub record IsLogLeft (asked id place : ℕ) (c : Cut) (old new : DevicesLeft) : Type 0 where
   pub found : IfKnown old.log (λ m. IsLogAt id place c m.reads)
@@ -125,14 +135,20 @@ IsApart c edit why =
     ((edit.flushed < c.base) × (why ≡ open_error.Contents (bad.BaseAhead c.base edit.flushed)))
     ⊎ ((c.base ≤ edit.flushed) × (end_of c < edit.flushed) × (why ≡ open_error.Contents (bad.LogBehind edit.flushed (end_of c))))
 
+-- By a manifest that tells nothing of itself: its last edit names another place than the log's, or it has another id.
+abbrev pub IsElsewhere : ℕ → ℕ → ℕ → OpenError → Type 0
+IsElsewhere id its place why = ((place ≢ 0) × (why ≡ open_error.Contents (bad.BadHead device.Log))) ⊎ ((its ≢ id) × (why ≡ open_error.Contents (bad.Stranger id its)))
+
 -- How far a refused opening came, and what it left. The devices that it did not reach are the same: `same_log` and `same_tables` say so.
--- What a new log or a new manifest would be is said with it.
+-- What a new log or a new manifest would be is said with it. Nothing of the log is written before it is read and judged, nor before its id is
+-- compared with that of a manifest that was made.
 pub data IsLeft (asked : ℕ) (same_log same_tables : Type 0) (old new : DevicesLeft) (why : OpenError) : Type 0 where
   at_manifest : (refusal : ManifestError) → IsManifestReason refusal why → LeavesEdits old.manifest new.manifest refusal → SurvivesThrough MAGIC (head_stamp asked) old.manifest new.manifest → same_log → same_tables → IsLeft asked same_log same_tables old new why
-  at_log : (its : ℕ) (edits : List Edit) (refusal : WalError) → IsManifestSeen asked its edits old.manifest new.manifest → IsLogReason refusal why → LeavesRecords (place_of (last_edit edits)) old.log new.log refusal → KeepsWal (place_of (last_edit edits)) asked old.log new.log old.log_faults new.log_faults → same_tables → IsLeft asked same_log same_tables old new why
+  at_log : (its : ℕ) (edits : List Edit) (refusal : WalError) → IsManifestSeen asked its edits old.manifest new.manifest → IsLogReason refusal why → LeavesLog old.log new.log refusal → same_tables → IsLeft asked same_log same_tables old new why
+  at_ids : (id found : ℕ) (c : Cut) (edits : List Edit) → IsLogSeen id (place_of (last_edit edits)) c old.log new.log → IsManifestLeft asked found edits old.manifest new.manifest → found ≢ id → why ≡ open_error.Contents (bad.Stranger id found) → same_tables → IsLeft asked same_log same_tables old new why
+  at_repair : (id : ℕ) (c : Cut) (edits : List Edit) → IsLogBroken asked id (place_of (last_edit edits)) c old new → IsManifestSeen asked id edits old.manifest new.manifest → why ≡ open_error.OpenFault device.Log → same_tables → IsLeft asked same_log same_tables old new why
   at_new_manifest : (id : ℕ) (c : Cut) (refusal : ManifestError) → IfKnown old.manifest (λ m. IsUnmade m.reads) → IsLogLeft asked id 0 c old new → IsManifestReason refusal why → LeavesEdits old.manifest new.manifest refusal → SurvivesThrough MAGIC (head_stamp id) old.manifest new.manifest → same_tables → IsLeft asked same_log same_tables old new why
-  at_place : (id its : ℕ) (c : Cut) (edits : List Edit) → AreLeft asked id its 0 c edits old new → IfKnown old.manifest (λ m. ⊥) × (place_of (last_edit edits) ≢ 0) → why ≡ open_error.Contents (bad.BadHead device.Log) → same_tables → IsLeft asked same_log same_tables old new why
-  at_ids : (id found : ℕ) (c : Cut) (edits : List Edit) → AreLeft asked id found (place_of (last_edit edits)) c edits old new → found ≢ id → why ≡ open_error.Contents (bad.Stranger id found) → same_tables → IsLeft asked same_log same_tables old new why
+  at_place : (id its : ℕ) (c : Cut) (edits : List Edit) → AreLeft asked id its 0 c edits old new → IfKnown old.manifest (λ m. ⊥) × IsElsewhere id its (place_of (last_edit edits)) why → same_tables → IsLeft asked same_log same_tables old new why
   at_edit : (id : ℕ) (c : Cut) (edits : List Edit) → AreLeft asked id id (place_of (last_edit edits)) c edits old new → IsApart c (last_edit edits) why → same_tables → IsLeft asked same_log same_tables old new why
   at_tables : (id : ℕ) (c : Cut) (edits : List Edit) → AreLeft asked id id (place_of (last_edit edits)) c edits old new → IsWithin c (last_edit edits) → IsOfTables id why → LeavesSynced same_tables old.tables new.tables why → IsLeft asked same_log same_tables old new why
 

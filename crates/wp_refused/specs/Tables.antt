@@ -6,6 +6,7 @@ use Rattle.wp_outside.specs.declared.disk.Device.TheVariants as device
 use Rattle.wp_outside.specs.Disk.{Moment, IfKnown, added, after_sync}
 use Rattle.wp_cuts.specs.Cut.{Cut}
 use Rattle.wp_cuts.specs.LegalCut.{AreBelow}
+use Rattle.wp_gatelog.specs.Left.{IsAtMostSynced}
 use Rattle.wp_gatelog.specs.Patched.{Shows, EndsAt}
 use Rattle.wp_manifest.specs.Edit.{Edit}
 use Rattle.wp_table.specs.declared.error.TableError.{TableError}
@@ -122,11 +123,15 @@ IsHistoryCause c parts (open_error.Contents (bad.Illegal number)) = IsWrongUndo 
 IsHistoryCause c parts (open_error.Contents bad.Uncovered) = UndosRestore c parts × (AreBelow c (all_in parts) → ⊥)
 IsHistoryCause c parts other = ⊥
 
--- ---- what is left
+-- Why what a log tells is refused by these tables: memory ran out, or an undo is wrong over them; or each is right, and they do not cover the
+-- history.
+abbrev pub IsJudgedCause : Cut → Edit → List (List Version) → OpenError → Type 0
+IsJudgedCause c edit parts open_error.Memory = Unit {0}
+IsJudgedCause c edit parts (open_error.Contents (bad.Illegal number)) = IsWrongUndo c parts number
+IsJudgedCause c edit parts (open_error.Contents bad.Uncovered) = UndosRestore c parts × (AreCovering c edit parts → ⊥)
+IsJudgedCause c edit parts other = ⊥
 
--- all of the device's bytes are as they were, and at most they were made to stay for good
-abbrev pub IsAtMostSynced : List Moment → List Moment → Type 0
-IsAtMostSynced old new = (new ≡ old) ⊎ (new ≡ added after_sync old)
+-- ---- what is left
 
 -- The device was not called where the base is ahead of the edit, or the log behind it; else it was synced, unless it failed.
 abbrev pub LeavesSynced : (same : Type 0) → List Moment → List Moment → OpenError → Type 0

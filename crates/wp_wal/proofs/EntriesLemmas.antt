@@ -2,11 +2,10 @@
 use Rattle.std.proofs.Common.{◌≡◌, ℕ, ◌+◌, ◌<◌, ◌≤◌, List, [], ◌∷◌, ◌++◌, length, refl, sym, ap, subst, ◌∙◌, append_assoc, arith, length-append}
 use Rattle.std.proofs.lemmas.List.{append-nil}
 use Rattle.wp_model.specs.declared.entry.Entry.{Entry}
-use Rattle.wp_model.specs.declared.entry.Entry.TheVariants.{Write, Prepare, Commit, Undo, Close}
 use Rattle.wp_model.specs.Legal.{log_end}
 use Rattle.wp_fields.specs.declared.format.Format.{Format}
 use Rattle.wp_fields.specs.declared.format.Format.TheVariants.{One, Two}
-use Rattle.wp_entry.specs.Record.{FormRecord, IsRecord, last_number, record_bytes}
+use Rattle.wp_entry.specs.Record.{IsRecord, last_number, record_bytes}
 use Rattle.wp_wal.specs.Spelling.{AreEntries}
 
 -- ---- numbers
@@ -16,22 +15,11 @@ pub last_below : (format : Format) → last_number format < log_end
 last_below One = omega arith
 last_below Two = omega arith
 
--- a record has entries, with numbers of its version
-pub record_fits : (format : Format) (first : ℕ) (entries : List Entry) → IsRecord format first entries → first + length entries ≤ last_number format + 1
-record_fits format first entries is = by entries is.form
-  where
-    by : (es : List Entry) → FormRecord format first es → first + length es ≤ last_number format + 1
-    by (Write batch ∷ []) form = omega (arith, form)
-    by (Prepare name batch ∷ []) form = omega (arith, form)
-    by (Commit p ∷ []) form = omega (arith, form.1)
-    by (Undo p batch ∷ Close q ∷ []) form = omega (arith, form.small)
-    by others form = absurd form
-
 -- so have entries that records spell
 pub AreEntries-fit : (format : Format) (first : ℕ) (records : List (List ℕ)) (entries : List Entry) → AreEntries format first records entries → first ≤ last_number format + 1 → first + length entries ≤ last_number format + 1
 AreEntries-fit format first [] entries is low = omega (arith, ap (λ (xs : List Entry). length xs) is, low)
 AreEntries-fit format first (r ∷ records) entries (front, rest, parts, is, bytes, more) low =
-    let here = record_fits format first front is in
+    let here = is.form.numbered in
     let later = AreEntries-fit format (first + length front) records rest more here in
     omega (arith, later, ap (λ (xs : List Entry). length xs) parts, length-append front rest)
 

@@ -1,10 +1,11 @@
 -- What an opening makes of the log that was found, and keeps of it.
-use Rattle.std.proofs.Common.{◌≡◌, ◌≢◌, ◌⊎◌, ℕ, zero, suc, ◌+◌, ◌≤◌, true, false, List, [], ◌∷◌, ◌++◌, length, drop, replicate, None, Result, Ok, Err, refl, sym, ap, subst, ◌∙◌, inl, inr, append_assoc, arith}
+use Rattle.std.proofs.Common.{◌≡◌, ◌≢◌, ◌⊎◌, ℕ, zero, suc, ◌+◌, ◌≤◌, true, false, List, [], ◌∷◌, ◌++◌, length, drop, replicate, Option, None, Some, Result, Ok, Err, refl, sym, ap, subst, ◌∙◌, inl, inr, append_assoc, arith}
 use Rattle.std.proofs.lemmas.List.{length-replicate}
 use Rattle.wp_model.specs.declared.segment.Segment.{Segment}
 use Rattle.wp_cuts.specs.Cut.{Cut}
 use Rattle.wp_outside.specs.Disk.{Each, Moment, IfKnown, Passes}
 use Rattle.wp_outside.specs.Faults.{Rose}
+use Rattle.wp_outside.specs.declared.failed.Failed.{Failed}
 use Rattle.wp_fields.specs.declared.format.Format.{Format}
 use Rattle.wp_fields.specs.declared.format.Format.TheVariants.{One, Two}
 use Rattle.wp_entry.specs.Record.{last_number}
@@ -12,17 +13,23 @@ use Rattle.wp_gatelog.specs.declared.log.AppendError.{AppendError}
 use Rattle.wp_gatelog.specs.declared.log.AppendError.TheVariants as append
 use Rattle.wp_gatelog.specs.Append.{Appends, AppendsAfter, FrameAppended, FrameRefused}
 use Rattle.wp_gatelog.specs.Durability.{HasAcknowledged}
-use Rattle.wp_gatelog.specs.Left.{IsLeftAtRestAt, RestsAsSpelledAt}
+use Rattle.wp_gatelog.specs.declared.error.LogError.{LogError}
+use Rattle.wp_gatelog.specs.declared.error.LogError.TheVariants as log_error
+use Rattle.wp_gatelog.specs.Left.{LeavesSynced}
 use Rattle.wp_gatelog.specs.Log.{BeforeOrAfter, IsAtRest, LogState, Rests, stamp_of}
 use Rattle.wp_gatelog.specs.Moments.{Leaves, LeavesFrom}
-use Rattle.wp_gatelog.specs.Opening.{IsFound, IsOpened, KeepsLogAt, Survives, front_at}
+use Rattle.wp_gatelog.specs.Opening.{IsFound, IsOpened, IsRead, KeepsLogAt, ReadState, Survives, front_at, read_stamp}
 use Rattle.wp_gatelog.specs.Spelling.{Stamp, IsUnmadeAt, IsUpTo, SpellsAt, stamped}
 use Rattle.wp_gatelog.proofs.DurabilityLemmas.{preserves_on}
+use Rattle.wp_gatelog.proofs.MomentLemmas.{known_map}
 use Rattle.wp_gatelog.proofs.OpenLemmas.{before_place, spelled_within}
+use Rattle.wp_history.specs.History.{RoomyHistory}
+use Rattle.wp_history.specs.Outline.{cut_in}
+use Rattle.wp_wal.specs.Errors.{wal_error_of}
 use Rattle.wp_wal.specs.declared.error.WalError.{WalError}
 use Rattle.wp_wal.specs.declared.error.WalError.TheVariants.{Memory, DiskFault, BadHead, BadRecord, Illegal}
-use Rattle.wp_wal.specs.Opening.{IsBaseAppended, IsBegunLog, IsOpenedLog, IsUnopenedLog, KeepsWal, LeavesRecords, SurvivesOpening, first_record}
-use Rattle.wp_wal.specs.Reading.{IsJudged, IsRecordCause, next_number}
+use Rattle.wp_wal.specs.Opening.{IsBaseAppended, IsBegunLog, IsOpenedLog, IsReadWal, IsUnopenedLog, KeepsWal, LeavesLog, SurvivesOpening, first_of, first_record}
+use Rattle.wp_wal.specs.Reading.{IsJudged, IsRecordCause, IsTold, next_number}
 use Rattle.wp_wal.specs.Spelling.{MAGIC, NEWEST, AreCut, IsBegun, IsInVersion, IsLogAt, new_stamp, uncut}
 use Rattle.wp_wal.specs.Wal.{LosesNothingAt, StoresCut, wal_state}
 use Rattle.wp_wal.proofs.AppendLemmas.{each_other, loses_nothing}
@@ -81,26 +88,6 @@ stands_behind place asked (m ∷ past) log records opened = record {
   rests = opened.rests;
 }
 
--- ---- what is left of it
-
-pub left_as_found : (place asked : ℕ) (old : List Moment) (log : LogState) (records : List (List ℕ)) → IsOpened place MAGIC (new_stamp asked) old log records → IsLeftAtRestAt place MAGIC old log.moments
-left_as_found place asked old log records opened = by old opened.found opened.rests
-  where
-    each : (m : Moment) (past ms : List Moment) → IsFound place MAGIC (new_stamp asked) m.reads (stamp_of log) records → IfKnown ms (IsAtRest MAGIC (stamp_of log) log.end (front_at place (m ∷ past)) [] records)
-        → IfKnown ms (RestsAsSpelledAt place MAGIC m.reads)
-    each m past [] found rests = tt
-    each m past (n ∷ more) found rests = record {
-      stamp = stamp_of log;
-      end = log.end;
-      records = records;
-      spelled = found.spelled;
-      rests = subst (λ (front : List ℕ). IsAtRest MAGIC (stamp_of log) log.end front [] records n) (before_place place m past) rests;
-    }
-
-    by : (ms : List Moment) → IfKnown ms (λ m. IsFound place MAGIC (new_stamp asked) m.reads (stamp_of log) records) → Rests MAGIC log (front_at place ms) [] records → IsLeftAtRestAt place MAGIC ms log.moments
-    by [] found rests = tt
-    by (m ∷ past) found rests = each m past log.moments found rests
-
 -- ---- the base record
 
 -- the base 0, which carries nothing, is spelled by its record
@@ -111,9 +98,9 @@ pub base_appended : (old new : LogState) (bytes : List ℕ) (done : Unit {0}) �
 base_appended old new bytes done is appends appended =
     (subst (λ (r : List ℕ). Appends {E = AppendError} r old new (Ok done)) is appends, subst (λ (r : List ℕ). FrameAppended old new r) is appended)
 
-pub base_refused : (old new : LogState) (bytes : List ℕ) (why : AppendError) → old.closed ≡ false → bytes ≡ first_record → Appends {T = Unit {0}} bytes old new (Err why) → FrameRefused old new why → IsBaseAppended old new (Err DiskFault)
-base_refused old new bytes append.DiskFault running is appends refused = (refl, subst (λ (r : List ℕ). Appends {T = Unit {0}} r old new (Err append.DiskFault)) is appends, refused)
-base_refused old new bytes (append.Closed n) running is appends refused = let shut : old.closed ≡ true = refused.0 in absurd cc
+pub base_refused : (old new : LogState) (bytes : List ℕ) (why : AppendError) (failed : Failed) → old.closed ≡ false → bytes ≡ first_record → Appends {T = Unit {0}} bytes old new (Err why) → FrameRefused old new why → IsBaseAppended old new (Err failed)
+base_refused old new bytes append.DiskFault failed running is appends refused = (subst (λ (r : List ℕ). Appends {T = Unit {0}} r old new (Err append.DiskFault)) is appends, refused)
+base_refused old new bytes (append.Closed n) failed running is appends refused = let shut : old.closed ≡ true = refused.0 in absurd cc
 
 -- It was appended to a log of the second version without records; or the log has all that it needs.
 abbrev pub NeedsNone : LogState → Type 0
@@ -127,9 +114,23 @@ needs_one log = by log.format log.count refl refl
     by Two zero version many = inr (version, many)
     by Two (suc n) version many = inl (inr (λ none. absurd (omega (arith, none, many))))
 
-as_it_was : (old new : LogState) (result : Result (Unit {0}) WalError) → IsBegunLog old new result → NeedsNone old → (new ≡ old) × (result ≡ Ok tt)
+as_it_was : (old new : LogState) (result : Result (Unit {0}) Failed) → IsBegunLog old new result → NeedsNone old → (new ≡ old) × (result ≡ Ok tt)
 as_it_was old new result begun (inl one) = begun.one one
 as_it_was old new result begun (inr some) = begun.some some
+
+-- it begins with the record that it is to begin with
+pub begun_by : (old new : LogState) (result : Result (Unit {0}) Failed) (first : Option (List ℕ)) → first ≡ first_of old.format old.count → old.closed ≡ false → (first ≡ None → (new ≡ old) × (result ≡ Ok tt)) → (first ≡ Some first_record → old.closed ≡ false → IsBaseAppended old new result)
+    → IsBegunLog old new result
+begun_by old new result first is running none some = record {
+  appended = λ version few. some (is ∙ (λ i. first_of (version i) (few i))) running;
+  one = λ version. none (is ∙ ap (λ (f : Format). first_of f old.count) version);
+  some = λ many. none (is ∙ by old.format old.count many);
+}
+  where
+    by : (format : Format) (count : ℕ) → count ≢ 0 → first_of format count ≡ None
+    by One count many = refl
+    by Two zero many = absurd (many refl)
+    by Two (suc n) many = refl
 
 begun_format : (log new : LogState) (done : Unit {0}) → IsBegunLog log new (Ok done) → new.format ≡ log.format
 begun_format log new done begun = elim (needs_one log) [
@@ -326,46 +327,50 @@ module _ (place asked : ℕ) (old : List Moment) (log : LogState) (records : Lis
         by [] passes found = tt
         by (m ∷ past) passes found = passes_on (Leaves (SurvivesOpening place asked m.reads)) old log.moments new.moments passes (survives version few new result appends m found)
 
-    pub begun_keeps : (new : LogState) (result : Result (Unit {0}) WalError) → IsBegunLog log new result → log.faults ≤ new.faults → KeepsWal place asked old new.moments before new.faults
+    pub begun_keeps : (new : LogState) (result : Result (Unit {0}) Failed) → IsBegunLog log new result → log.faults ≤ new.faults → KeepsWal place asked old new.moments before new.faults
     begun_keeps new result begun later = elim (needs_one log) [
       | inl none ↦ rw ((as_it_was log new result begun none).0) so_far
       | inr one ↦ by result one.0 one.1 (begun.appended one.0 one.1)
     ]
       where
-        by : (r : Result (Unit {0}) WalError) → log.format ≡ Two → log.count ≡ 0 → IsBaseAppended log new r → KeepsWal place asked old new.moments before new.faults
+        by : (r : Result (Unit {0}) Failed) → log.format ≡ Two → log.count ≡ 0 → IsBaseAppended log new r → KeepsWal place asked old new.moments before new.faults
         by (Ok done) version few appended = appended_keeps {E = AppendError} new (Ok done) version few appended.0 later
-        by (Err Memory) version few same = rw same so_far
-        by (Err DiskFault) version few refused = appended_keeps {T = Unit {0}} new (Err append.DiskFault) version few refused.1 later
-        by (Err BadHead) version few refused = absurd (cc refused.0)
-        by (Err (BadRecord index why)) version few refused = absurd (cc refused.0)
-        by (Err (Illegal number)) version few refused = absurd (cc refused.0)
+        by (Err failed) version few refused = appended_keeps {T = Unit {0}} new (Err append.DiskFault) version few refused.0 later
 
-    -- ---- a refusal
+-- its disk failed
+pub begun_rose : (log new : LogState) (failed : Failed) (before : ℕ) → IsBegunLog log new (Err failed) → before ≤ log.faults → Rose before new.faults
+begun_rose log new failed before begun later = elim (needs_one log) [
+  | inl none ↦ absurd (cc (as_it_was log new (Err failed) begun none).1)
+  | inr one ↦ let rose = (begun.appended one.0 one.1).1.1 in omega (arith, rose, later)
+]
 
-    pub begun_refused : (new : LogState) (why : WalError) → IsBegunLog log new (Err why) → IsUnopenedLog place old new.moments before new.faults why
-    begun_refused new why begun = elim (needs_one log) [
-      | inl none ↦ absurd (cc (as_it_was log new (Err why) begun none).1)
-      | inr one ↦ by why (begun.appended one.0 one.1)
-    ]
-      where
-        by : (w : WalError) → IsBaseAppended log new (Err w) → IsUnopenedLog place old new.moments before new.faults w
-        by Memory same = rw same (record { cause = tt; left = inr (left_as_found place asked old log records opened) })
-        by DiskFault refused = record { cause = let rose = refused.2.1 in omega (arith, rose, keeps.later); left = tt }
-        by BadHead refused = absurd (cc refused.0)
-        by (BadRecord index cause) refused = absurd (cc refused.0)
-        by (Illegal number) refused = absurd (cc refused.0)
+-- ---- a log that is only read
 
--- the records are refused that were found
-pub records_refused : (place asked : ℕ) (old : List Moment) (log : LogState) (records : List (List ℕ)) (before now : ℕ) (why : WalError) → IsOpened place MAGIC (new_stamp asked) old log records → IsRecordCause log.format place records why
-    → IsUnopenedLog place old log.moments before now why
-records_refused place asked old log records before now why opened cause = record {
-  cause = refused_records (Rose before now) old asked log.id place log.format records why opened.readable opened.found cause;
+pub left_log : (old new : List Moment) (why : LogError) → LeavesSynced old new why → LeavesLog old new (wal_error_of why)
+left_log old new log_error.Memory left = left
+left_log old new log_error.DiskFault left = left
+left_log old new log_error.BadHead left = left
+left_log old new (log_error.Cut index id) left = left
+
+-- the records are refused that were read
+pub records_refused : (place asked : ℕ) (old new : List Moment) (read : ReadState) (before now : ℕ) (why : WalError) → IsRead place MAGIC (new_stamp asked) old read → new ≡ read.moments → IsRecordCause read.format place read.records why → IsUnopenedLog place old new before now why
+records_refused place asked old new read before now why is same cause = record {
+  cause = refused_records (Rose before now) old asked read.id place read.format read.records why is.readable is.found cause;
   left = by why cause;
 }
   where
-    by : (w : WalError) → IsRecordCause log.format place records w → LeavesRecords place old log.moments w
-    by Memory refused = inr (left_as_found place asked old log records opened)
+    by : (w : WalError) → IsRecordCause read.format place read.records w → LeavesLog old new w
+    by Memory refused = same ∙ is.synced
     by DiskFault refused = absurd refused
     by BadHead refused = absurd refused
-    by (BadRecord index reason) refused = inr (left_as_found place asked old log records opened)
-    by (Illegal number) refused = left_as_found place asked old log records opened
+    by (BadRecord index reason) refused = same ∙ is.synced
+    by (Illegal number) refused = same ∙ is.synced
+
+-- what was read of a log
+pub read_wal : (asked place : ℕ) (old : List Moment) (read : ReadState) (outline : RoomyHistory) → IsRead place MAGIC (new_stamp asked) old read → AreCut read.format place read.records (cut_in outline) → IsTold outline → IsReadWal asked place old (record { log = read; outline = outline })
+read_wal asked place old read outline is spelled told = record {
+  log = is;
+  told = told;
+  found = known_map (λ m. IsFound place MAGIC (new_stamp asked) m.reads (read_stamp read) read.records) (λ m. IsLogAt read.id place (cut_in outline) m.reads) (λ m found. (read.format, read.records, found.readable, found.spelled, spelled)) old is.found;
+  made = known_map (λ m. IsFound place MAGIC (new_stamp asked) m.reads (read_stamp read) read.records) (λ m. IsUnmadeAt place m.reads → read.id ≡ asked) (λ m found unmade. ap (λ (s : Stamp). s.id) (found.unmade unmade)) old is.found;
+}

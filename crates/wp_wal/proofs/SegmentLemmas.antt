@@ -4,11 +4,10 @@ use Rattle.std.proofs.lemmas.List.{length-replicate}
 use Rattle.wp_model.specs.declared.entry.Entry.{Entry}
 use Rattle.wp_model.specs.declared.segment.Segment.{Segment}
 use Rattle.wp_cuts.specs.Cut.{Cut}
-use Rattle.wp_outside.specs.Disk.{Moment, IfKnown, Passes, write_end}
+use Rattle.wp_outside.specs.Disk.{Moment, IfKnown, Passes}
 use Rattle.wp_fields.specs.declared.format.Format.{Format}
-use Rattle.wp_fields.specs.declared.format.Format.TheVariants.{One, Two}
+use Rattle.wp_fields.specs.declared.format.Format.TheVariants.{Two}
 use Rattle.wp_entry.specs.Base.{Base, IsBase, base_bytes}
-use Rattle.wp_entry.specs.Record.{last_number}
 use Rattle.wp_gatelog.specs.declared.log.AppendError.{AppendError}
 use Rattle.wp_gatelog.specs.declared.log.AppendError.TheVariants.{DiskFault, Closed}
 use Rattle.wp_gatelog.specs.Append.{FrameRefused}
@@ -19,7 +18,7 @@ use Rattle.wp_gatelog.specs.Moments.{Leaves}
 use Rattle.wp_gatelog.specs.Spelling.{Stamp, stamped, IsUpTo, SpellsAt, log_of}
 use Rattle.wp_wal.specs.Segment.{IsAsked, IsBeside, IsEndFor, IsPlaceFor, NewSegmentState, SurvivesBeside, WrittenState, cut_behind}
 use Rattle.wp_wal.specs.Spelling.{MAGIC, NEWEST, AreCut, IsBegun, IsLogAt, IsLogOrNextAt, HasAcknowledgedCut, base_of_cut}
-use Rattle.wp_wal.specs.Wal.{HasNumbers, LeavesCut, LosesNothingAt, Refuses, Reserved, StoresCut, WalState, wal_state}
+use Rattle.wp_wal.specs.Wal.{HasNumbers, LeavesCut, LosesNothingAt, Reserved, StoresCut, WalState, wal_state}
 use Rattle.wp_wal.proofs.AppendLemmas.{at_rest_leaves, each_other, known_other, left_both, loses_nothing, running_cut}
 
 -- ---- a log at rest
@@ -118,10 +117,6 @@ refused_behind old mid new (Closed n) (inr asked) later (closed, count, kept) =
     let gate : mid.closed ≡ old.closed = ap (λ (s : LogState). s.closed) asked.1 in
     let running : old.closed ≡ false = asked.0 in
     absurd cc
-
-pub refuses_beside : (old new : LogState) (segment : Segment) (due : ℕ) (reserved : Option Reserved) (why : AppendError) → FrameRefused old new why → Refuses (wal_state old segment due reserved) (wal_state new segment due None) why
-refuses_beside old new segment due reserved DiskFault (running, rose, changed) = (running, rose, ap (λ (s : LogState). wal_state s segment due None) changed)
-refuses_beside old new segment due reserved (Closed n) (closed, count, kept) = (closed, count, ap (λ (s : LogState). wal_state s segment due None) kept)
 
 module _ (old : LogState) (segment : Segment) (due : ℕ) (reserved : Option Reserved) (c : Cut) (stores : StoresCut (wal_state old segment due reserved) c []) where
   abbrev pub place : ℕ
@@ -326,18 +321,9 @@ pub numbers_free : (format : Format) (due : ℕ) (reserved : Option Reserved) �
 numbers_free format due None has = has
 numbers_free format due (Some r) has = omega (arith, has)
 
--- the second version has them all
-pub numbers_up : (format : Format) (due : ℕ) (reserved : Option Reserved) → HasNumbers format due reserved → HasNumbers Two due None
-numbers_up One due reserved has = let low : due ≤ last_number One + 1 = numbers_free One due reserved has in omega (arith, low)
-numbers_up Two due reserved has = numbers_free Two due reserved has
-
 -- ---- its bytes
 
 pub whole_bytes : (stamp : Stamp) (records : List (List ℕ)) (bytes : List ℕ) → IsWholeLog MAGIC stamp records bytes → 2 ≤ length bytes
 whole_bytes stamp records bytes whole =
     let is = whole.spelling in
     omega (arith, ap (λ (xs : List ℕ). length xs) is, length-append (log_of MAGIC stamp 1 whole.gated) (0 ∷ []))
-
-pub write_end_is : (at : ℕ) (bytes : List ℕ) → 2 ≤ length bytes → write_end at bytes ≡ at + length bytes
-write_end_is at [] some = absurd (omega (arith, some))
-write_end_is at (b ∷ bytes) some = refl

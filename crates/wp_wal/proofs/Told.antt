@@ -39,7 +39,7 @@ use Rattle.wp_wal.specs.declared.error.WalError.TheVariants.{BadRecord}
 use Rattle.wp_wal.specs.Reading.{BeginsWith, IsBaseCause, IsBaseOf, IsIllegalAmong, IsIllegalRecord, IsJudged, IsNoRecord, IsRecordCause, IsTold, MayCome, TakesRecord, next_number}
 use Rattle.wp_wal.specs.Spelling.{AreCut, IsBegun, base_of_cut, longer, uncut}
 use Rattle.wp_wal.proofs.CutLemmas.{base_refused, begun-push, placed}
-use Rattle.wp_wal.proofs.EntriesLemmas.{last_below, record_fits}
+use Rattle.wp_wal.proofs.EntriesLemmas.{last_below}
 
 -- ---- its full list
 
@@ -130,7 +130,7 @@ illegal_there old here entries before after entry number parts cut told illegal 
 -- the entries of a record have numbers that a log may have
 pub few_there : (format : Format) (h : RoomyHistory) (due : ℕ) (entries : List Entry) → due ≡ length h.entries + 1 → IsRecord format due entries → length h.entries + length entries < log_end
 few_there format h due entries numbered is =
-    let fits = record_fits format due entries is in
+    let fits = is.form.numbered in
     let below = last_below format in
     omega (arith, fits, below, numbered)
 

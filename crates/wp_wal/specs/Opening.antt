@@ -1,8 +1,9 @@
 -- What an opening hands out, why a log is not opened, and what is left of it.
-use Rattle.std.specs.Prelude.{◌≡◌, ◌≢◌, ◌⊎◌, ℕ, ◌≤◌, false, List, [], ◌∷◌, drop, None, Result, Ok, Err, ⊤}
+use Rattle.std.specs.Prelude.{◌≡◌, ◌≢◌, ◌⊎◌, ℕ, zero, suc, ◌≤◌, false, List, [], ◌∷◌, drop, length, Option, None, Some, Result, Ok, Err}
 use Rattle.wp_cuts.specs.Cut.{Cut}
 use Rattle.wp_outside.specs.Disk.{Moment, IfKnown, Passes, added, after_sync}
 use Rattle.wp_outside.specs.Faults.{Rose}
+use Rattle.wp_outside.specs.declared.failed.Failed.{Failed}
 use Rattle.wp_fields.specs.declared.format.Format.{Format}
 use Rattle.wp_fields.specs.declared.format.Format.TheVariants.{One, Two}
 use Rattle.wp_entry.specs.declared.error.RecordError.{RecordError}
@@ -12,16 +13,35 @@ use Rattle.wp_gatelog.specs.declared.log.AppendError.{AppendError}
 use Rattle.wp_gatelog.specs.declared.log.AppendError.TheVariants as append
 use Rattle.wp_gatelog.specs.Append.{Appends, FrameAppended, FrameRefused}
 use Rattle.wp_gatelog.specs.Damage.{IsBadHeadAt, IsCut}
-use Rattle.wp_gatelog.specs.Left.{IsLeftAtRestAt, IsSyncedOrAtRestAt}
+use Rattle.wp_gatelog.specs.Left.{IsAtMostSynced}
 use Rattle.wp_gatelog.specs.Log.{LogState}
 use Rattle.wp_gatelog.specs.Moments.{Leaves}
-use Rattle.wp_gatelog.specs.Opening.{Survives}
+use Rattle.wp_gatelog.specs.Opening.{IsRead, ReadState, Survives}
 use Rattle.wp_gatelog.specs.Spelling.{IsUnmadeAt, IsUpTo, SpellsAt, stamped}
 use Rattle.wp_wal.specs.declared.error.WalError.{WalError}
 use Rattle.wp_wal.specs.declared.error.WalError.TheVariants.{Memory, DiskFault, BadHead, BadRecord, Illegal}
-use Rattle.wp_wal.specs.Spelling.{MAGIC, NEWEST, IsInVersion, IsLogAt, base_of_cut, new_stamp, uncut}
-use Rattle.wp_wal.specs.Reading.{IsBadRecord, IsIllegal, IsJudged}
+use Rattle.wp_wal.specs.Spelling.{MAGIC, NEWEST, AreCut, IsInVersion, IsLogAt, base_of_cut, new_stamp, uncut}
+use Rattle.wp_history.specs.History.{RoomyHistory}
+use Rattle.wp_history.specs.Outline.{cut_in}
+use Rattle.wp_wal.specs.Reading.{IsBadRecord, IsIllegal, IsJudged, IsTold}
 use Rattle.wp_wal.specs.Wal.{WalState, LosesNothingAt, StoresCut}
+
+-- ---- a log that was read
+
+-- it was read of its disk, and tells this outline
+pub record ReadWalState : Type 0 where
+  pub log : ReadState
+  pub outline : RoomyHistory
+
+-- The log at that place was read, on a disk with these moments. It tells the cut that the disk spelled there, whose entries may come so,
+-- under the id of the head; or, where no log was made, under the id that was asked for.
+pub record IsReadWal (asked place : ℕ) (old : List Moment) (read : ReadWalState) : Type 0 where
+  pub log : IsRead place MAGIC (new_stamp asked) old read.log
+  pub told : IsTold read.outline
+  pub found : IfKnown old (λ m. IsLogAt read.log.id place (cut_in read.outline) m.reads)
+  pub made : IfKnown old (λ m. IsUnmadeAt place m.reads → read.log.id ≡ asked)
+
+-- ---- an open one
 
 -- The log at that place was opened on a disk with these moments. It stores the cut that the disk spelled there, whose entries may come so, under the id and in
 -- the version of the head; or, where no log was made, under the id that was asked for, in the newest version.
@@ -63,19 +83,15 @@ IsLogCause place rose moments (BadRecord index why) =
 IsLogCause place rose moments (Illegal number) =
     (format : Format) × (records : List (List ℕ)) × IsUpTo NEWEST format × IfKnown moments (λ m. SpellsIn place format records m.reads) × IsIllegal format records number
 
--- what a refusal leaves; where the disk failed, that is left open
-abbrev pub LeavesRecords : ℕ → List Moment → List Moment → WalError → Type 0
-LeavesRecords place old new Memory = IsSyncedOrAtRestAt place MAGIC old new
-LeavesRecords place old new DiskFault = ⊤
-LeavesRecords place old new BadHead = new ≡ added after_sync old
-LeavesRecords place old new (BadRecord index why) = IsSyncedOrAtRestAt place MAGIC old new
-LeavesRecords place old new (Illegal number) = IsLeftAtRestAt place MAGIC old new
+-- what a refusal leaves: the disk was synced, and nothing else, unless it failed
+abbrev pub LeavesLog : List Moment → List Moment → WalError → Type 0
+LeavesLog old new DiskFault = IsAtMostSynced old new
+LeavesLog old new other = new ≡ added after_sync old
 
--- No log at that place was opened on a disk with these moments and so many faults. The bytes are left as they were, or the log in them
--- repaired, with all of its records.
+-- No log at that place was opened on a disk with these moments and so many faults. The bytes are left as they were.
 pub record IsUnopenedLog (place : ℕ) (old new : List Moment) (before now : ℕ) (why : WalError) : Type 0 where
   pub cause : IsLogCause place (Rose before now) old why
-  pub left : LeavesRecords place old new why
+  pub left : LeavesLog old new why
 
 -- ---- the base of a new log
 
@@ -83,14 +99,25 @@ pub record IsUnopenedLog (place : ℕ) (old new : List Moment) (before now : ℕ
 abbrev pub first_record : List ℕ
 first_record = base_bytes (base_of_cut (uncut []))
 
--- The base record 0 is in the log, as an append puts it there; or the disk failed, or memory ran out, which leaves it as it was.
-abbrev pub IsBaseAppended : LogState → LogState → Result (Unit {0}) WalError → Type 0
+-- the record that a log of this version with so many is to begin with
+abbrev pub first_of : Format → ℕ → Option (List ℕ)
+first_of One n = None
+first_of Two zero = Some first_record
+first_of Two (suc n) = None
+
+-- What a log has that was read and judged, with the record that it is to begin with.
+pub record IsJudgedLog (log : ReadState) (outline : RoomyHistory) (first : Option (List ℕ)) : Type 0 where
+  pub spelled : AreCut log.format log.place log.records (cut_in outline)
+  pub told : IsTold outline
+  pub begins : first ≡ first_of log.format (length log.records)
+
+-- The base record 0 is in the log, as an append puts it there; or the disk failed.
+abbrev pub IsBaseAppended : LogState → LogState → Result (Unit {0}) Failed → Type 0
 IsBaseAppended old new (Ok done) = Appends {E = AppendError} first_record old new (Ok done) × FrameAppended old new first_record
-IsBaseAppended old new (Err Memory) = new ≡ old
-IsBaseAppended old new (Err other) = (other ≡ DiskFault) × Appends {T = Unit {0}} first_record old new (Err append.DiskFault) × FrameRefused old new append.DiskFault
+IsBaseAppended old new (Err failed) = Appends {T = Unit {0}} first_record old new (Err append.DiskFault) × FrameRefused old new append.DiskFault
 
 -- A log of the second version without records gets its base record; every other one is as it was.
-pub record IsBegunLog (old new : LogState) (result : Result (Unit {0}) WalError) : Type 0 where
+pub record IsBegunLog (old new : LogState) (result : Result (Unit {0}) Failed) : Type 0 where
   pub appended : old.format ≡ Two → old.count ≡ 0 → IsBaseAppended old new result
   pub one : old.format ≡ One → (new ≡ old) × (result ≡ Ok tt)
   pub some : old.count ≢ 0 → (new ≡ old) × (result ≡ Ok tt)

@@ -75,14 +75,3 @@ IsLogOrNextAt id place c next bytes = IsLogAt id place c bytes ⊎ IsLogAt id pl
 abbrev pub HasAcknowledgedCut : ℕ → ℕ → Cut → List ℕ → Type 0
 HasAcknowledgedCut id place c bytes =
     (format : Format) × (records : List (List ℕ)) × IsUpTo NEWEST format × HasAcknowledged MAGIC (stamped format id) records (drop place bytes) × AreCut format place records c × IsBegun format records
-
--- ---- a log without a base, at place 0
-
-abbrev pub IsLogOf : ℕ → List Entry → List ℕ → Type 0
-IsLogOf id history = IsLogAt id 0 (uncut history)
-
-abbrev pub IsLogOrNext : ℕ → List Entry → List Entry → List ℕ → Type 0
-IsLogOrNext id history = IsLogOrNextAt id 0 (uncut history)
-
-abbrev pub HasAcknowledgedEntries : ℕ → List Entry → List ℕ → Type 0
-HasAcknowledgedEntries id history = HasAcknowledgedCut id 0 (uncut history)

@@ -124,7 +124,3 @@ Refuses old new (Closed n) = (old.closed ≡ true) × (n ≡ old.count) × (new 
 -- too.
 abbrev pub LosesNothingAt : ℕ → List Moment → List Moment → Type 0
 LosesNothingAt place = LosesNoRecordAt place MAGIC
-
--- the same of a log at place 0
-abbrev pub LosesNothing : List Moment → List Moment → Type 0
-LosesNothing = LosesNothingAt 0

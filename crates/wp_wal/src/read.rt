@@ -11,7 +11,7 @@ use std::alloc::Global;
 use std::collections::BTreeMap;
 use wp_entry::{RecordError, read_base, read_record};
 use wp_fields::Format;
-use wp_gatelog::Record;
+use wp_gatelog::StoredRecord;
 use wp_history::{Outline, first_collision};
 use wp_model::{Entry, Seq};
 
@@ -113,7 +113,7 @@ fn begin(
     alloc: Global,
     format: Format,
     place: u64,
-    records: &[Record],
+    records: &[StoredRecord],
 ) -> Result<(Outline, usize), WalError>
     ensures told { IfOk result (λ begun. IsTold begun.0) }
     ensures ok { IfOk result (λ begun. BeginsWith format place records.now begun.1 (cut_in begun.0)) }
@@ -140,7 +140,7 @@ pub(crate) fn outline_of(
     alloc: Global,
     format: Format,
     place: u64,
-    records: &[Record],
+    records: &[StoredRecord],
 ) -> Result<Outline, WalError>
     ensures told { IfOk result IsTold }
     ensures ok { IfOk result (λ outline. AreCut format place records.now (cut_in outline)) }

@@ -1,22 +1,16 @@
 //! An open write-ahead log.
-ghost use Rattle.std.specs.Prelude.{◌≡◌, ◌≤◌, List, Some, true, false, is_some, IfOk, IfErr, IfSome, OnOk, OnErr, MatchResult};
+ghost use Rattle.std.specs.Prelude.{◌≡◌, ◌+◌, ◌≤◌, List, None, Some, length, true, false, is_some, IfErr, IfSome, OnOk, OnErr};
 ghost use Rattle.wp_model.specs.declared.entry.Entry.{Entry};
 ghost use Rattle.wp_cuts.specs.Cut.{Cut};
-ghost use Rattle.wp_cuts.specs.LegalCut.{prepares_of};
 ghost use Rattle.wp_outside.specs.Disk.{IfKnown};
-ghost use Rattle.wp_entry.specs.Record.{FormRecord, IsRecord};
-ghost use Rattle.wp_history.specs.Outline.{cut_in};
-ghost use Rattle.wp_wal.specs.Opening.{IsOpenedLog, IsUnopenedLog, KeepsWal};
-ghost use Rattle.wp_wal.specs.Wal.{LosesNothingAt, StoresCut, IsReserved, LeavesCut, AppendsNext, Appended, Refuses, reserved_of};
+ghost use Rattle.wp_entry.specs.Record.{FormRecord, IsRecord, last_number};
+ghost use Rattle.wp_wal.specs.Wal.{LosesNothingAt, StoresCut, IsReserved, LeavesCut, AppendsNext, Appended, Refuses, reserved_of, wal_state};
 
-use crate::base::begin_log;
-use crate::error::WalError;
-use crate::read::outline_of;
 use crate::reserved::Reserved;
 use std::alloc::{AllocError, Global};
 use std::marker::Model;
 use wp_fields::Format;
-use wp_gatelog::{AppendError, DiskRefused, GateLog};
+use wp_gatelog::{AppendError, GateLog};
 use wp_history::Outline;
 use wp_model::{Entry, Segment, Seq};
 use wp_outside::Disk;
@@ -46,64 +40,23 @@ impl<D: Disk> Model for Wal<D> {
 }
 
 impl<D: Disk> Wal<D> {
-    /// Opens the log at `place` of the disk, or makes it at place 0 with this id, and reads what it spells. A log of the second
-    /// version gets its base record before the opening answers, where it has none: a fault of that is one of the opening.
-    pub fn open(
-        alloc: Global,
-        disk: D,
-        place: u64,
-        id: u32,
-    ) -> Result<(Wal<D>, Outline), DiskRefused<D, WalError>>
-        ensures opened { IfOk result (λ opened. IsOpenedLog id place (D.moments disk) opened.0 (cut_in opened.1)) }
-        ensures full { IfOk result (λ opened. opened.1.entries ≡ prepares_of (cut_in opened.1)) }
-        ensures refused { IfErr result (λ refused. IsUnopenedLog place
-            (D.moments disk) (D.moments refused.disk) (D.faults disk) (D.faults refused.disk) refused.why) }
-        ensures kept { MatchResult result
-            (λ opened. KeepsWal place id (D.moments disk) opened.0.moments (D.faults disk) opened.0.faults)
-            (λ refused. KeepsWal place id
-            (D.moments disk) (D.moments refused.disk) (D.faults disk) (D.faults refused.disk)) }
+    /// The log at `place` that tells this outline.
+    pub(crate) fn of(alloc: Global, log: GateLog<D>, place: u64, outline: &Outline) -> Wal<D>
+        requires { length outline.now.entries ≤ last_number log.format }
+        ensures { result ≡ wal_state log (record { place = place; base = outline.now.base }) (length outline.now.entries + 1) None }
     {
-        let (mut log, records) = match GateLog::open(
-            alloc,
-            disk,
-            place,
-            LOG_MAGIC,
-            Format::Two,
-            id,
-        ) {
-            Ok(opened) => opened,
-            Err(DiskRefused { disk, why }) => {
-                let why = WalError::from(why);
-                return Err(DiskRefused { disk, why });
-            }
-        };
-        let outline = match outline_of(alloc, log.format(), place, &records) {
-            Ok(outline) => outline,
-            Err(why) => {
-                let disk = log.into_disk();
-                return Err(DiskRefused { disk, why });
-            }
-        };
-        match begin_log(alloc, &mut log) {
-            Ok(()) => {}
-            Err(why) => {
-                let disk = log.into_disk();
-                return Err(DiskRefused { disk, why });
-            }
-        }
         let segment = Segment {
             place,
             base: outline.base(),
         };
         let due = outline.published() + 1;
-        let wal = Wal {
+        Wal {
             alloc,
             log,
             segment,
             due,
             reserved: None,
-        };
-        Ok((wal, outline))
+        }
     }
 
     /// The version in the log's head: what is appended is of it.

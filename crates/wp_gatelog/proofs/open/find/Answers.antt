@@ -1,11 +1,12 @@
+use Rattle.std.proofs.lemmas.Result.{IfOk-weaker}
+use Rattle.wp_outside.specs.Disk.{IfKnown}
+use Rattle.wp_gatelog.specs.Opens.{IsFoundLog}
 use Rattle.wp_gatelog.specs.Spelling.{stamped}
-use Rattle.wp_gatelog.proofs.OpenLemmas.{found_cases, opens_synced}
+use Rattle.wp_gatelog.proofs.OpenLemmas.{before_sync}
 use Rattle.wp_gatelog.proofs.open.find.Goals as goal
 
-pub returns-then-place-eq0-clause-opens : goal.returns-then-place-eq0-clause-opens
-returns-then-place-eq0-clause-opens g c = rw c.if-place-eq0.true (found_cases 0 c.args.magic (stamped c.args.newest c.args.id) _ _ _ (λ past m old.
-    opens_synced 0 c.args.magic (stamped c.args.newest c.args.id) _ _ _ _ past m old (g.met.D.Peek.itself c.args.disk.now) c.in_ok-sync.ensures.done c.open_first.ensures.opens))
-
-pub returns-clause-opens : goal.returns-clause-opens
-returns-clause-opens g c = found_cases c.args.place c.args.magic (stamped c.args.newest c.args.id) _ _ _ (λ past m old.
-    opens_synced c.args.place c.args.magic (stamped c.args.newest c.args.id) _ _ _ _ past m old (g.met.D.Peek.itself c.args.disk.now) c.in_ok-sync.ensures.done c.open_behind.ensures.opens)
+pub returns-clause-found : goal.returns-clause-found
+returns-clause-found g c =
+    let asked = stamped c.args.newest c.args.id in
+    IfOk-weaker c.find_behind.result _ (λ log. IfKnown (g.D.Peek.moments c.args.disk.now) (λ m. IsFoundLog c.args.place c.args.magic asked m.reads log))
+    (λ log. before_sync (λ bytes. IsFoundLog c.args.place c.args.magic asked bytes log) _ _ c.in_ok-sync.ensures.done) (c.find_behind.ensures.found c.args.id)

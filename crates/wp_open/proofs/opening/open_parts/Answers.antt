@@ -1,4 +1,4 @@
-use Rattle.std.proofs.Common.{◌≡◌, ◌<◌, ◌^◌, ℕ, [], refl, sym, ap, ◌∙◌, subst, arith}
+use Rattle.std.proofs.Common.{◌≡◌, ℕ, [], sym, ◌∙◌, subst, arith}
 use Rattle.std.specs.List.{AllByRecursion}
 use Rattle.wp_outside.specs.Disk.{IfKnown}
 use Rattle.wp_outside.specs.Faults.{Rose}
@@ -13,28 +13,10 @@ use Rattle.wp_contents.specs.Devices.{DevicesLeft, devices_of}
 use Rattle.wp_refused.specs.Parts.{IsStoreOf}
 use Rattle.wp_refused.specs.Refused.{AreLeft, WereRead}
 use Rattle.wp_refused.specs.Tables.{IsStoreCause}
-use Rattle.wp_refused.proofs.BothOpen.{edit_refused, ids_refused, logs_left, logs_read, other_id, same_stored}
+use Rattle.wp_refused.proofs.BothOpen.{edit_refused, logs_left, logs_read, same_stored}
 use Rattle.wp_refused.proofs.Opened.{opens_to}
 use Rattle.wp_refused.proofs.Stages.{edits_read, kept_tables}
 use Rattle.wp_open.proofs.opening.open_parts.Goals as goal
-
--- ---- the ids differ
-
-pub returns-then-found-id-clause-refused : goal.returns-then-found-id-clause-refused
-returns-then-found-id-clause-refused g c =
-    let wal = c.in-Ok.logs.wal in
-    let manifest = c.in-Ok.logs.manifest in
-    let cut = cut_in c.in-Ok.logs.outline in
-    let l = c.in-Ok.ensures.opened in
-    let found_is = c.id-found.ensures in
-    let fits : manifest.log.id < 2 ^ 32 = omega (arith, c.id-found.type_inv, found_is) in
-    let its_fits : wal.id < 2 ^ 32 = omega (arith, c.id.type_inv, c.id.ensures) in
-    let differ = λ (e : manifest.log.id ≡ wal.id). c.if-found-id.true (found_is ∙ e ∙ sym c.id.ensures) in
-    rw (c.id-log.ensures, found_is)
-    (ids_refused c.a_store_is_opened_in_one_way.ensures.opened_or_damaged c.args.id _ _ _ _ _ c.in-Ok.ensures.tables (let e = ap g.D.Peek.faults c.in-Ok.ensures.tables in omega (arith, e)) wal.id manifest.log.id cut l.manifest.edits
-    (edits_read wal.id _ manifest l.manifest) (logs_read c.args.id _ wal cut manifest l its_fits) differ (other_id wal.id _ manifest l.manifest fits differ)
-    (logs_left c.args.id _ _ wal cut manifest l c.into_disk.ensures.moments c.into_disk.ensures.faults c.into_disk-then-found-id.ensures.moments (c.into_disk.ensures.left cut [] l.log.stores l.log.running))
-    refl (rw c.into_disk-then-found-id.ensures.moments l.manifest_kept.durable) (rw c.into_disk-then-found-id.ensures.faults l.manifest_kept.later))
 
 -- ---- the parts
 
@@ -52,18 +34,18 @@ returns-in-Ok-open_store-clause-opened g c =
     let store = c.in-Ok-open_store.store in
     let edit = manifest.edit in
     let cut_is = same_stored wal outline history l.log.stores c.in-Ok-open_store.ensures.base c.in-Ok-open_store.ensures.cut in
-    let id_is : c.id-found.result ≡ wal.id = c.if-found-id.false ∙ c.id.ensures in
+    let id_is : c.id.result ≡ wal.id = c.id.ensures in
     let there = subst (λ (n : ℕ). IfKnown tables (λ m. HasTables n edit.flushed m.reads edit.tables store.tables)) id_is
-    (subst (λ (e : Edit). IfKnown tables (λ m. HasTables c.id-found.result e.flushed m.reads e.tables store.tables)) c.edit.ensures (rw c.in-Ok.ensures.tables at c.in-Ok-open_store.ensures.there)) in
+    (subst (λ (e : Edit). IfKnown tables (λ m. HasTables c.id.result e.flushed m.reads e.tables store.tables)) c.edit.ensures (rw c.in-Ok.ensures.tables at c.in-Ok-open_store.ensures.there)) in
     record {
       id_fits = omega (arith, c.id.type_inv, c.id.ensures);
       opened = subst (λ (d : Cut). IsOpenedLog c.args.id (place_of edit) (g.D.Peek.moments c.args.disks.log) wal d) (sym cut_is) l.log;
       installed = l.manifest;
-      one_id = sym c.id-found.ensures ∙ id_is;
+      one_id = l.one_id;
       store = subst (λ (d : Cut). IsStoreOf d history.entries edit store) (sym cut_is) (subst (λ (e : Edit). IsStoreOf (cut_in outline) history.entries e store) c.edit.ensures c.in-Ok-open_store.ensures.store);
       synced = rw c.in-Ok.ensures.tables at c.in-Ok-open_store.ensures.synced;
       there = there;
-      are = subst (λ (n : ℕ). AllByRecursion (IsTable n edit.flushed) store.tables) id_is (subst (λ (e : Edit). AllByRecursion (IsTable c.id-found.result e.flushed) store.tables) c.edit.ensures c.in-Ok-open_store.ensures.are);
+      are = subst (λ (n : ℕ). AllByRecursion (IsTable n edit.flushed) store.tables) id_is (subst (λ (e : Edit). AllByRecursion (IsTable c.id.result e.flushed) store.tables) c.edit.ensures c.in-Ok-open_store.ensures.are);
       kept = kept_tables (λ bytes. HasTables wal.id edit.flushed bytes edit.tables store.tables) tables (g.D.Peek.moments c.open_store.new.tables) (rw c.in-Ok.ensures.tables at c.in-Ok-open_store.ensures.synced) there;
     }
 
@@ -88,18 +70,18 @@ returns-in-Err-open_store-clause-refused g c =
     let manifest = c.in-Ok.logs.manifest in
     let cut = cut_in c.in-Ok.logs.outline in
     let l = c.in-Ok.ensures.opened in
-    let id_is : c.id-found.result ≡ wal.id = c.if-found-id.false ∙ c.id.ensures in
-    let one_id : manifest.log.id ≡ wal.id = sym c.id-found.ensures ∙ id_is in
+    let id_is : c.id.result ≡ wal.id = c.id.ensures in
+    let one_id : manifest.log.id ≡ wal.id = l.one_id in
     let rose = Rose (g.D.Peek.faults c.args.disks.tables) (g.D.Peek.faults c.open_store.new.tables) in
-    let back = c.into_disk-in-Err-open_store-2.ensures in
-    let log = c.into_disk-in-Err-open_store.ensures in
+    let back = c.into_disk-in-Err-open_store.ensures in
+    let log = c.into_disk.ensures in
     let cause = subst (λ (n : ℕ). IsStoreCause n cut c.edit.result.now rose tables c.in-Err-open_store.why) id_is (rw c.in-Ok.ensures.tables at c.in-Err-open_store.ensures.cause) in
     let old = devices_of g.D.Peek.moments g.D.Peek.faults c.args.disks in
     let new : DevicesLeft = record {
-      log = g.D.Peek.moments c.into_disk-in-Err-open_store.result;
-      log_faults = g.D.Peek.faults c.into_disk-in-Err-open_store.result;
-      manifest = g.D.Peek.moments c.into_disk-in-Err-open_store-2.result;
-      manifest_faults = g.D.Peek.faults c.into_disk-in-Err-open_store-2.result;
+      log = g.D.Peek.moments c.into_disk.result;
+      log_faults = g.D.Peek.faults c.into_disk.result;
+      manifest = g.D.Peek.moments c.into_disk-in-Err-open_store.result;
+      manifest_faults = g.D.Peek.faults c.into_disk-in-Err-open_store.result;
       tables = g.D.Peek.moments c.open_store.new.tables;
       tables_faults = g.D.Peek.faults c.open_store.new.tables;
     } in

@@ -5,17 +5,15 @@ use Rattle.std.proofs.lemmas.Result.{err_from_is_err_and}
 use Rattle.wp_model.specs.declared.version.Version.{Version}
 use Rattle.wp_model.specs.Flushed.{later_versions}
 use Rattle.wp_outside.specs.Disk.{IfKnown}
-use Rattle.wp_cuts.specs.Cut.{Cut}
-use Rattle.wp_cuts.specs.LegalCut.{AreBelow}
 use Rattle.wp_history.specs.Outline.{cut_in}
 use Rattle.wp_manifest.specs.Edit.{Edit}
 use Rattle.wp_merge.specs.Merge.{sorted_of}
 use Rattle.wp_table.specs.File.{HasTables}
 use Rattle.wp_table.specs.Table.{IsTable}
-use Rattle.wp_contents.specs.Opens.{AreCovering, all_in}
-use Rattle.wp_refused.specs.Tables.{not_covered, of_tables}
-use Rattle.wp_refused.proofs.Stages.{not_covering, were_tables}
-use Rattle.wp_open.proofs.Within.{apart_cause, apart_left, end_over, full_moved, history_cause, history_left, tables_before, tables_left, undos_over}
+use Rattle.wp_contents.specs.Opens.{AreCovering}
+use Rattle.wp_refused.specs.Tables.{of_tables}
+use Rattle.wp_refused.proofs.Stages.{were_tables}
+use Rattle.wp_open.proofs.Within.{apart_cause, apart_left, end_over, full_moved, judged_cause, judged_left, tables_before, tables_left}
 use Rattle.wp_open.proofs.opening.open_store.Goals as goal
 
 -- ---- the base is ahead, or the log behind
@@ -38,20 +36,23 @@ returns-in_err-parts-clause-left g c =
     let p = err_from_is_err_and c.from_residual.result c.from_residual.ensures.1 in
     rw (p.1, p.2) (tables_left c.args.id c.args.edit.now _ _ _ _ _ c.in_err-parts.field-0.0 c.in_err-parts.ensures.cause (c.own_tables.ensures.unchanged ∙ c.in-Ok-sync.ensures.done))
 
--- ---- no history stands for the log and the tables
+-- ---- no history stands for the log and the tables, or they do not cover it
 
 pub returns-in_err-history-clause-cause : goal.returns-in_err-history-clause-cause
 returns-in_err-history-clause-cause g c =
     let p = err_from_is_err_and c.from_residual-in_err-history.result c.from_residual-in_err-history.ensures.1 in
     let parts = map arc_value c.in_ok-parts.parts.items in
     rw (p.1, p.2)
-    (history_cause c.args.id (cut_in c.args.outline) c.args.edit.now _ _ parts c.in_err-history.field-0.0 c.in-Ok.ensures.ok
+    (judged_cause c.args.id (cut_in c.args.outline) c.args.edit.now _ _ parts c.in_err-history.field-0.0 c.in-Ok.ensures.ok
     (were_tables c.args.id c.args.edit.now (g.D.Peek.moments c.args.tables.now) (g.D.Peek.moments c.sync.new.self) parts c.in-Ok-sync.ensures.done c.in_ok-parts.ensures.as_many c.in_ok-parts.ensures.are c.in_ok-parts.ensures.found) (rw c.deref.ensures.value at c.in_err-history.ensures.cause))
 
 pub returns-in_err-history-clause-left : goal.returns-in_err-history-clause-left
 returns-in_err-history-clause-left g c =
     let p = err_from_is_err_and c.from_residual-in_err-history.result c.from_residual-in_err-history.ensures.1 in
-    rw (p.1, p.2) (history_left (cut_in c.args.outline) (map arc_value c.deref.result.now) _ _ _ c.in_err-history.field-0.0 c.in_err-history.ensures.cause (c.own_tables.ensures.unchanged ∙ c.in-Ok-sync.ensures.done))
+    rw (p.1, p.2) (judged_left (cut_in c.args.outline) c.args.edit.now (map arc_value c.deref.result.now) _ _ _ c.in_err-history.field-0.0 c.in_err-history.ensures.cause (c.own_tables.ensures.unchanged ∙ c.in-Ok-sync.ensures.done))
+
+pub judged-requires-clause-within : goal.judged-requires-clause-within
+judged-requires-clause-within g c = c.in-Ok.ensures.ok
 
 -- ---- memory is wanting
 
@@ -63,15 +64,7 @@ pub returns-in_err-memory-clause-left : goal.returns-in_err-memory-clause-left
 returns-in_err-memory-clause-left g c =
     let p = err_from_is_err_and c.from_residual-in_err-memory.result c.from_residual-in_err-memory.ensures.1 in rw (p.1, p.2) (c.own_tables.ensures.unchanged ∙ c.in-Ok-sync.ensures.done)
 
-pub returns-in_err-are_covering-clause-cause : goal.returns-in_err-are_covering-clause-cause
-returns-in_err-are_covering-clause-cause g c =
-    let p = err_from_is_err_and c.from_residual-in_err-are_covering.result c.from_residual-in_err-are_covering.ensures.1 in rw (p.1, p.2) (of_tables c.in-Ok.ensures.ok tt)
-
-pub returns-in_err-are_covering-clause-left : goal.returns-in_err-are_covering-clause-left
-returns-in_err-are_covering-clause-left g c =
-    let p = err_from_is_err_and c.from_residual-in_err-are_covering.result c.from_residual-in_err-are_covering.ensures.1 in rw (p.1, p.2) (c.own_tables.ensures.unchanged ∙ c.in-Ok-sync.ensures.done)
-
--- ---- what the later entries and the covering ask
+-- ---- what the later entries ask
 
 pub later_memory-requires-clause-from : goal.later_memory-requires-clause-from
 later_memory-requires-clause-from g c =
@@ -83,59 +76,19 @@ later_memory-requires-clause-within g c =
     let high = end_over (cut_in c.args.outline) c.args.edit.now c.in_ok-history.history.entries (map arc_value c.deref.result.now) c.in-Ok.ensures.ok c.in_ok-history.ensures.full in
     omega (arith, high, ap (λ (e : Edit). e.flushed) c.edit.view_is)
 
-pub are_covering-requires-clause-base : goal.are_covering-requires-clause-base
-are_covering-requires-clause-base g c =
-    let low = c.in-Ok.ensures.ok.base in
-    omega (arith, low, c.in_ok-history.ensures.base, ap (λ (e : Edit). e.flushed) c.edit.view_is)
-
-pub are_covering-requires-clause-within : goal.are_covering-requires-clause-within
-are_covering-requires-clause-within g c =
-    let high = end_over (cut_in c.args.outline) c.args.edit.now c.in_ok-history.history.entries (map arc_value c.deref.result.now) c.in-Ok.ensures.ok c.in_ok-history.ensures.full in
-    omega (arith, high, ap (λ (e : Edit). e.flushed) c.edit.view_is)
-
-pub are_covering-requires-clause-full : goal.are_covering-requires-clause-full
-are_covering-requires-clause-full g c =
-    full_moved (cut_in c.args.outline) (cut_in c.in_ok-history.history) c.in_ok-history.history.entries (map arc_value c.deref.result.now) c.new-store.result.tables c.in_ok-history.ensures.full c.in_ok-history.ensures.cut (c.new-store.ensures.tables ∙ sym (ap (map arc_value) c.deref.ensures.value))
-
-pub are_covering-requires-clause-below : goal.are_covering-requires-clause-below
-are_covering-requires-clause-below g c =
-    let tables = c.new-store.ensures.tables ∙ sym (ap (map arc_value) c.deref.ensures.value) in
-    subst (λ (d : Cut). AreBelow d (all_in c.new-store.result.tables)) (sym c.in_ok-history.ensures.cut)
-    (subst (λ (parts : List (List Version)). AreBelow (cut_in c.args.outline) (all_in parts)) (sym tables) c.in_ok-history.ensures.below)
-
--- ---- they do not cover it
-
-pub returns-then-not-branch-clause-cause : goal.returns-then-not-branch-clause-cause
-returns-then-not-branch-clause-cause g c =
-    let edit = c.args.edit.now in
-    let cut = cut_in c.args.outline in
-    let parts = map arc_value c.in_ok-parts.parts.items in
-    let flushed_is = ap (λ (e : Edit). e.flushed) c.edit.view_is in
-    let covering = c.in_ok-are_covering.ensures edit flushed_is in
-    let read = were_tables c.args.id edit (g.D.Peek.moments c.args.tables.now) (g.D.Peek.moments c.sync.new.self) parts c.in-Ok-sync.ensures.done c.in_ok-parts.ensures.as_many c.in_ok-parts.ensures.are c.in_ok-parts.ensures.found in
-    not_covered c.in-Ok.ensures.ok (record {
-      parts = parts;
-      read = read;
-      undos = undos_over cut c.in_ok-history.history.entries parts (rw c.deref.ensures.value at c.in_ok-history.ensures.full) c.in_ok-memory.ensures.legal;
-      uncovered = subst (λ (d : Cut). AreCovering d edit parts → ⊥) c.in_ok-history.ensures.cut
-          (subst (λ (ps : List (List Version)). AreCovering (cut_in c.in_ok-history.history) edit ps → ⊥) c.new-store.ensures.tables
-          (not_covering c.in_ok-are_covering.field-0 (AreCovering (cut_in c.in_ok-history.history) edit c.new-store.result.tables) covering c.if-not-branch.true));
-    }) refl
-
 -- ---- the store
 
 pub returns-clause-store : goal.returns-clause-store
 returns-clause-store g c =
     let edit = c.args.edit.now in
     let flushed_is = ap (λ (e : Edit). e.flushed) c.edit.view_is in
-    let covering = c.in_ok-are_covering.ensures edit flushed_is in
-    let tables = c.new-store.ensures.tables ∙ sym (ap (map arc_value) c.deref.ensures.value) in
+    let tables = c.new.ensures.tables ∙ sym (ap (map arc_value) c.deref.ensures.value) in
     record {
-      full = full_moved (cut_in c.args.outline) (cut_in c.args.outline) c.in_ok-history.history.entries (map arc_value c.deref.result.now) c.new-store.result.tables c.in_ok-history.ensures.full refl tables;
+      full = full_moved (cut_in c.args.outline) (cut_in c.args.outline) c.in_ok-history.history.entries (map arc_value c.deref.result.now) c.new.result.tables c.in_ok-history.ensures.full refl tables;
       legal = c.in_ok-memory.ensures.legal;
-      covering = subst (λ (d : Cut). AreCovering d edit c.new-store.result.tables) c.in_ok-history.ensures.cut (covering.0 c.if-not-branch.false);
-      memory = c.new-store.ensures.memory ∙ c.in_ok-memory.ensures.memory ∙ ap (λ (n : ℕ). sorted_of (later_versions c.in_ok-history.history.entries n)) flushed_is;
-      frozen = c.new-store.ensures.frozen;
+      covering = subst (λ (parts : List (List Version)). AreCovering (cut_in c.args.outline) edit parts) (sym tables) c.in_ok-history.ensures.covering;
+      memory = c.new.ensures.memory ∙ c.in_ok-memory.ensures.memory ∙ ap (λ (n : ℕ). sorted_of (later_versions c.in_ok-history.history.entries n)) flushed_is;
+      frozen = c.new.ensures.frozen;
     }
 
 pub returns-clause-there : goal.returns-clause-there
@@ -143,10 +96,10 @@ returns-clause-there g c =
     let edit = c.args.edit.now in
     let parts = map arc_value c.in_ok-parts.parts.items in
     let read = were_tables c.args.id edit (g.D.Peek.moments c.args.tables.now) (g.D.Peek.moments c.sync.new.self) parts c.in-Ok-sync.ensures.done c.in_ok-parts.ensures.as_many c.in_ok-parts.ensures.are c.in_ok-parts.ensures.found in
-    subst (λ (ps : List (List Version)). IfKnown (g.D.Peek.moments c.args.tables.now) (λ m. HasTables c.args.id edit.flushed m.reads edit.tables ps)) (sym c.new-store.ensures.tables) read.known
+    subst (λ (ps : List (List Version)). IfKnown (g.D.Peek.moments c.args.tables.now) (λ m. HasTables c.args.id edit.flushed m.reads edit.tables ps)) (sym c.new.ensures.tables) read.known
 
 pub returns-clause-are : goal.returns-clause-are
-returns-clause-are g c = subst (λ (ps : List (List Version)). AllByRecursion (IsTable c.args.id c.args.edit.now.flushed) ps) (sym c.new-store.ensures.tables) c.in_ok-parts.ensures.are
+returns-clause-are g c = subst (λ (ps : List (List Version)). AllByRecursion (IsTable c.args.id c.args.edit.now.flushed) ps) (sym c.new.ensures.tables) c.in_ok-parts.ensures.are
 
 pub returns-clause-synced : goal.returns-clause-synced
 returns-clause-synced g c = c.own_tables.ensures.unchanged ∙ c.in-Ok-sync.ensures.done

@@ -19,9 +19,9 @@ returns-in-Ok-share-clause-opened g c =
       tables = tables;
       tables_faults = g.D.Peek.faults parts.tables;
       versions = parts.store;
-      log_is = c.in-Ok-share.ensures.log;
-      set_is = c.in-Ok-share.ensures.set;
-      last_is = c.in-Ok-share.ensures.last_edit;
+      log_is = c.in-Ok-share.ensures.parts.log_is;
+      set_is = c.in-Ok-share.ensures.parts.set_is;
+      last_is = c.in-Ok-share.ensures.parts.last_is;
       parts = subst (λ (h : List Entry). PartsOpened c.args.id old.log old.manifest old.tables parts.wal h parts.manifest tables parts.store) same e.opened;
       found = subst (λ (h : List Entry). ArePartsOf c.args.id old parts.wal h parts.manifest (g.D.Peek.faults parts.tables) parts.store) same e.found;
     }

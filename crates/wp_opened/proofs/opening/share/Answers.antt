@@ -19,17 +19,18 @@ pub out_of-requires-in-Err-new : goal.out_of-requires-in-Err-new
 out_of-requires-in-Err-new g c =
     first_guarded _ _ _ _ _ c.in-Ok.ensures.slots c.in-Err-new.slots.items c.in-Err-new.ensures.refused c.remove.new.self.items c.remove-in-Err-new.result c.remove.ensures.items c.remove-in-Err-new.ensures.value
 
-pub returns-in-Ok-new-clause-last_edit : goal.returns-in-Ok-new-clause-last_edit
-returns-in-Ok-new-clause-last_edit g c = last_edit_is _ _ _ _ _ c.in-Ok.ensures.slots _ c.in-Ok-new.ensures.first
+pub returns-in-Ok-new-clause-parts : goal.returns-in-Ok-new-clause-parts
+returns-in-Ok-new-clause-parts g c =
+    let first = c.in-Ok-new.ensures.first in
+    let filled = c.in-Ok.ensures.slots in
+    record {
+      log_is = ap log_first first ∙ log_there _ _ _ _ _ filled;
+      set_is = ap set_first first ∙ set_there _ _ _ _ _ filled;
+      last_is = last_edit_is _ _ _ _ _ filled _ first;
+    }
 
 pub returns-in-Err-new-clause-refused : goal.returns-in-Err-new-clause-refused
 returns-in-Err-new-clause-refused g c =
     devices_back _ _ _ _ _ c.in-Ok.ensures.slots c.in-Err-new.slots.items c.in-Err-new.ensures.refused c.remove.new.self.items c.remove.result c.remove-in-Err-new.result c.out_of.result c.out_of-in-Err-new.result
     c.into_inner-log.result c.into_inner-tables.result _ c.remove.ensures.value c.out_of.ensures.exact c.remove.ensures.items c.remove-in-Err-new.ensures.value c.out_of-in-Err-new.ensures.exact c.into_inner-log.ensures c.into_inner-tables.ensures
     c.take_apart.ensures.disks
-
-pub returns-in-Ok-new-clause-log : goal.returns-in-Ok-new-clause-log
-returns-in-Ok-new-clause-log g c = ap log_first c.in-Ok-new.ensures.first ∙ log_there _ _ _ _ _ c.in-Ok.ensures.slots
-
-pub returns-in-Ok-new-clause-set : goal.returns-in-Ok-new-clause-set
-returns-in-Ok-new-clause-set g c = ap set_first c.in-Ok-new.ensures.first ∙ set_there _ _ _ _ _ c.in-Ok.ensures.slots

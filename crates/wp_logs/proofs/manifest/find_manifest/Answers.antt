@@ -2,7 +2,7 @@ use Rattle.std.proofs.Common.{◌≡◌, ◌↔◌, true, false, refl, true≢fa
 use Rattle.wp_gatelog.specs.Spelling.{IsUnmade}
 use Rattle.wp_gatelog.proofs.MomentLemmas.{known_map}
 use Rattle.wp_refused.proofs.Stages.{cause_since, kept_since, seen_durable, seen_only}
-use Rattle.wp_logs.proofs.logs.find_manifest.Goals as goal
+use Rattle.wp_logs.proofs.manifest.find_manifest.Goals as goal
 
 pub returns-in-Ok-clause-made : goal.returns-in-Ok-clause-made
 returns-in-Ok-clause-made g c =

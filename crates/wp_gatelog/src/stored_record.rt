@@ -6,21 +6,21 @@ use std::marker::Model;
 
 /// A record of a log. Clauses see its bytes.
 #[derive(Drop)]
-pub struct Record {
+pub struct StoredRecord {
     bytes: Vec<u8>,
 }
 
-impl Model for Record {
+impl Model for StoredRecord {
     ghost Value = { List ℕ };
 
     ghost view = { λ r. r.bytes.items };
 }
 
-impl Record {
-    pub(crate) fn of(bytes: Vec<u8>) -> Record
+impl StoredRecord {
+    pub(crate) fn of(bytes: Vec<u8>) -> StoredRecord
         ensures { result ≡ bytes.items }
     {
-        Record { bytes }
+        StoredRecord { bytes }
     }
 
     pub fn bytes(&self) -> &[u8]
