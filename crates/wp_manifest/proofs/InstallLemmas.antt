@@ -1,5 +1,5 @@
 -- What an install makes of a manifest that stores edits.
-use Rattle.std.proofs.Common.{◌≡◌, ◌≢◌, ℕ, true, false, List, [], ◌∷◌, ◌++◌, length, Result, Ok, Err, sym, ap, subst, ◌∙◌, inl, inr, ◌+◌, length-append, arith}
+use Rattle.std.proofs.Common.{◌≡◌, ℕ, true, false, List, [], ◌∷◌, ◌++◌, length, Result, Ok, Err, sym, ap, subst, ◌∙◌, inl, inr, ◌+◌, length-append, arith}
 use Rattle.std.proofs.lemmas.List.{drop_all}
 use Rattle.wp_outside.specs.Disk.{Moment, IfKnown, Each, Passes, images}
 use Rattle.wp_fields.specs.declared.format.Format.{Format}
@@ -12,8 +12,6 @@ use Rattle.wp_gatelog.specs.Log.{LogState, IsAtRest, Rests, BeforeOrAfter, stamp
 use Rattle.wp_gatelog.specs.Moments.{Leaves, LeavesFrom}
 use Rattle.wp_gatelog.specs.Spelling.{Stamp, stamped}
 use Rattle.wp_manifest.specs.Edit.{Edit, IsEdit, no_edit, edit_bytes}
-use Rattle.wp_manifest.specs.Errors.{install_error_of}
-use Rattle.wp_manifest.specs.declared.error.InstallError.TheVariants as install
 use Rattle.wp_manifest.specs.Manifest.{ManifestState, StoresEdits, InstallRefused}
 use Rattle.wp_manifest.specs.Spelling.{MAGIC, head_stamp, AreEdits, IsManifestOrNext}
 use Rattle.wp_manifest.proofs.EditLemmas.{AreEdits-push, last-push}
@@ -106,7 +104,7 @@ stores_failed {T} {E} e old new bytes edit at_rest spelling is refuses appends e
     }
 
 pub install_refused : {T E : Type 0} (e : E) (old : ManifestState) (new : LogState) (bytes : List ℕ) (edit : Edit) (why : AppendError) → AcknowledgesAtRest → bytes ≡ edit_bytes edit → IsEdit edit → FrameRefused old.log new why → Appends {T = T} bytes old.log new (Err e)
-    → InstallRefused old (record { log = new; edit = old.edit }) edit (install_error_of why)
+    → InstallRefused old (record { log = new; edit = old.edit }) edit why
 install_refused e old new bytes edit DiskFault at_rest spelling is refuses appends =
     (refuses.0, refuses.1, ap (λ (l : LogState). record old { log = l }) refuses.2, stores_failed e old new bytes edit at_rest spelling is refuses appends)
 install_refused e old new bytes edit (Closed n) at_rest spelling is refuses appends =
@@ -117,7 +115,3 @@ install_refused e old new bytes edit (Closed n) at_rest spelling is refuses appe
 pub refused_id : (old new : LogState) (why : AppendError) → FrameRefused old new why → new.id ≡ old.id
 refused_id old new DiskFault refused = ap (λ (l : LogState). l.id) refused.2
 refused_id old new (Closed n) refused = ap (λ (l : LogState). l.id) refused.2
-
-pub never_memory : (why : AppendError) → install_error_of why ≢ install.Memory
-never_memory DiskFault is = absurd cc
-never_memory (Closed n) is = absurd cc

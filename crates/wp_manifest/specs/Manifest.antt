@@ -6,10 +6,10 @@ use Rattle.wp_gatelog.specs.Durability.{HasAcknowledged, LosesNoRecord}
 use Rattle.wp_gatelog.specs.Log.{LogState, IsAtRest}
 use Rattle.wp_gatelog.specs.Moments.{Leaves}
 use Rattle.wp_gatelog.specs.Spelling.{IsUnmade}
+use Rattle.wp_gatelog.specs.declared.log.AppendError.{AppendError}
+use Rattle.wp_gatelog.specs.declared.log.AppendError.TheVariants.{DiskFault, Closed}
 use Rattle.wp_manifest.specs.Edit.{Edit, no_edit}
 use Rattle.wp_manifest.specs.Spelling.{MAGIC, VERSION, head_stamp, AreEdits, last_edit, IsManifestOf, IsManifestOrNext}
-use Rattle.wp_manifest.specs.declared.error.InstallError.{InstallError}
-use Rattle.wp_manifest.specs.declared.error.InstallError.TheVariants.{Memory, DiskFault, Closed}
 
 pub record ManifestState : Type 0 where
   pub log : LogState  -- of the edits
@@ -39,10 +39,9 @@ pub record Opened (asked : ℕ) (moments : List Moment) (manifest : ManifestStat
   pub made : IfKnown moments (λ m. IsUnmade m.reads → manifest.log.id ≡ asked)
   pub running : manifest.log.closed ≡ false
 
--- Why an edit was not installed, and what that leaves. Want of memory changes nothing. The disk failed, and the manifest is
--- closed from now on. Or it was closed before: nothing changes, and n is the count of its edits.
-abbrev pub InstallRefused : ManifestState → ManifestState → Edit → InstallError → Type 0
-InstallRefused old new edit Memory = new ≡ old
+-- Why an edit was not installed, and what that leaves. The disk failed, and the manifest is closed from now on. Or it was closed
+-- before: nothing changes, and n is the count of its edits.
+abbrev pub InstallRefused : ManifestState → ManifestState → Edit → AppendError → Type 0
 InstallRefused old new edit DiskFault =
     (old.log.closed ≡ false) × Rose old.log.faults new.log.faults
     × (new ≡ record old { log = record old.log { moments = new.log.moments; faults = new.log.faults; closed = true } })
@@ -50,7 +49,7 @@ InstallRefused old new edit DiskFault =
 InstallRefused old new edit (Closed n) = (old.log.closed ≡ true) × (n ≡ old.log.count) × (new ≡ old)
 
 -- The edit, which is of the second form, is to be the last one.
-pub record InstallsInto {T : Type 0} (old new : ManifestState) (edit : Edit) (result : Result T InstallError) : Type 0 where
+pub record InstallsInto {T : Type 0} (old new : ManifestState) (edit : Edit) (result : Result T AppendError) : Type 0 where
   -- at each moment since its beginning a crash leaves the edits before it, or those and the new one, whole
   pub any_moment : (edits : List Edit) → StoresEdits old edits no_edit → old.log.closed ≡ false
       → Passes (Leaves (IsManifestOrNext old.log.id edits edit)) old.log.moments new.log.moments

@@ -1,6 +1,6 @@
 //! An open manifest.
 
-ghost use Rattle.std.specs.Prelude.{◌≡◌, ◌≢◌, ◌↔◌, ◌≤◌, length, true, false, is_some, IfOk, IfErr, MatchResult};
+ghost use Rattle.std.specs.Prelude.{◌≡◌, ◌↔◌, ◌≤◌, length, true, false, is_some, IfOk, IfErr, MatchResult};
 ghost use Rattle.wp_outside.specs.Disk.{IfKnown};
 ghost use Rattle.wp_outside.specs.Faults.{HasCause};
 ghost use Rattle.wp_gatelog.specs.Opening.{KeepsLog};
@@ -8,18 +8,17 @@ ghost use Rattle.wp_gatelog.specs.Spelling.{IsUnmade};
 ghost use Rattle.wp_manifest.specs.Errors.{manifest_error_of};
 ghost use Rattle.wp_manifest.specs.Spelling.{MAGIC, head_stamp};
 ghost use Rattle.wp_manifest.specs.Manifest.{Opened, InstallsInto};
-ghost use Rattle.wp_manifest.specs.declared.error.InstallError.TheVariants.{Memory};
 ghost use Rattle.wp_manifest.specs.Opening.{IsUnopenedManifest};
 
 use crate::edit::Edit;
-use crate::error::{InstallError, ManifestError};
+use crate::error::ManifestError;
 use crate::read::last_edit;
 use crate::room::EditRoom;
 use crate::write::frame_edit;
 use std::alloc::{AllocError, Global};
 use std::marker::Model;
 use wp_fields::Format;
-use wp_gatelog::{DiskRefused, GateLog, LogError, acknowledged_records_come_first};
+use wp_gatelog::{AppendError, DiskRefused, GateLog, LogError, acknowledged_records_come_first};
 use wp_outside::{Disk, Failed};
 
 /// The first four bytes after the gate of the manifest's head.
@@ -130,20 +129,9 @@ impl<D: Disk> Manifest<D> {
         Ok(EditRoom { frame, edit })
     }
 
-    /// Makes the edit, which is of the second form, the last one. The tables that it names are durable before.
-    pub fn install(&mut self, edit: Edit) -> Result<(), InstallError>
-        requires place { is_some edit.place ≡ true }
-        requires count { length edit.tables ≤ edit.flushed }
-        ensures { InstallsInto self.old self.new edit result }
-    {
-        let room = self.room(edit)?;
-        self.install_in(room)
-    }
-
     /// Makes the edit the last one, in memory that was taken before. The tables that it names are durable before.
-    pub fn install_in(&mut self, room: EditRoom) -> Result<(), InstallError>
-        ensures installs { InstallsInto self.old self.new room result }
-        ensures no_memory { IfErr result (λ why. why ≢ Memory) }
+    pub fn install(&mut self, room: EditRoom) -> Result<(), AppendError>
+        ensures { InstallsInto self.old self.new room result }
     {
         acknowledged_records_come_first();
         let EditRoom { frame, edit } = room;

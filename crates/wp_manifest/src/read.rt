@@ -8,7 +8,7 @@ use crate::edit::{Edit, MARK};
 use crate::error::ManifestError;
 use std::alloc::{AllocError, Global};
 use wp_fields::Fields;
-use wp_gatelog::Record;
+use wp_gatelog::StoredRecord;
 use wp_model::Seq;
 
 /// How many bytes a table has in an edit.
@@ -115,7 +115,7 @@ fn read_edit(alloc: Global, bytes: &[u8]) -> Result<Option<Edit>, AllocError>
 }
 
 /// The last of the edits that the records are, or no edit where there is no record.
-pub fn last_edit(alloc: Global, records: &[Record]) -> Result<Edit, ManifestError>
+pub fn last_edit(alloc: Global, records: &[StoredRecord]) -> Result<Edit, ManifestError>
     ensures ok { IfOk result (IsLastOf records.now) }
     ensures err { IfErr result (IsEditCause records.now) }
 {

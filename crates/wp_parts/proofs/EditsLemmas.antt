@@ -1,7 +1,6 @@
 -- What is so of the tables on their devices.
-use Rattle.std.proofs.Common.{◌≡◌, inl, inr, ℕ, Bool, true, false, List, [], ◌∷◌, ◌++◌, None, refl}
+use Rattle.std.proofs.Common.{◌≡◌, inl, inr, ℕ, true, List, [], ◌∷◌, ◌++◌, refl}
 use Rattle.std.proofs.lemmas.Bool.{cases_Bool}
-use Rattle.wp_model.specs.declared.version.Version.{Version}
 use Rattle.wp_model.specs.Flushed.{InstalledEdit}
 use Rattle.wp_outside.specs.Disk.{images}
 use Rattle.wp_gatelog.proofs.SurvivalLemmas.{rest_spells}
@@ -10,14 +9,8 @@ use Rattle.wp_manifest.proofs.EditLemmas.{last-push}
 use Rattle.wp_contents.specs.Opens.{installed_of}
 use Rattle.wp_table.specs.File.{HasTables}
 use Rattle.wp_core.specs.Images.{MayName}
-use Rattle.wp_parts.specs.VersionSet.{VersionSetState, failed_edit, IsNamed, IsEdits}
+use Rattle.wp_parts.specs.VersionSet.{VersionSetState, IsNamed, IsEdits}
 use Rattle.wp_parts.proofs.LogLemmas.{known_image}
-
--- ---- as it is opened
-
-pub none_asked : (closed : Bool) (parts : List (List Version)) → failed_edit closed None parts ≡ None
-none_asked true parts = refl
-none_asked false parts = refl
 
 -- ---- what a crash leaves
 

@@ -7,4 +7,3 @@ pub mod InstallLemmas
 pub mod LaterVersions
 pub mod Reopens
 pub mod Sent
-pub use Rattle.wp_merge.proofs.Sorted

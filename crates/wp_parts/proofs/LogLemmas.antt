@@ -1,6 +1,6 @@
 -- What is so of a log, call by call.
 use Rattle.std.proofs.Common.{◌≡◌, ◌≢◌, ◌⊎◌, inl, inr, ℕ, ◌+◌, ◌-◌, ◌<◌, ◌≤◌, Bool, true, false, true≢false, List, [], ◌∷◌, ◌++◌, length, take, Option, Some, None, IfSome, slice_index_or, if◌then◌else◌, refl, sym, ap, ◌∙◌, subst, append-nil, append_assoc, take_all, arith}
-use Rattle.std.specs.List.{remove}
+use Rattle.std.specs.List.{remove, AllByRecursion}
 use Rattle.std.proofs.lemmas.Bool.{cases_Bool, eq-eqb, ne_eqb}
 use Rattle.std.proofs.lemmas.List.{drop_all}
 use Rattle.wp_model.specs.declared.entry.Entry.{Entry}
@@ -17,7 +17,7 @@ use Rattle.wp_outside.specs.Faults.{Rose}
 use Rattle.wp_fields.specs.declared.format.Format.{Format}
 use Rattle.wp_fields.specs.declared.format.Format.TheVariants.{Two}
 use Rattle.wp_entry.specs.Base.{Base}
-use Rattle.wp_entry.specs.Record.{FormRecord, IsRecord, IsEarlier, last_number}
+use Rattle.wp_entry.specs.Record.{FormRecord, IsRecord, IsEarlier, NamesEarlier, last_number}
 use Rattle.wp_gatelog.specs.declared.log.AppendError.TheVariants.{DiskFault}
 use Rattle.wp_gatelog.specs.Moments.{Leaves}
 use Rattle.wp_gatelog.proofs.DurabilityLemmas.{preserves_on}
@@ -25,9 +25,9 @@ use Rattle.wp_wal.specs.Segment.{WrittenState, IsBeside, IsPlaceFor, base_of, cu
 use Rattle.wp_wal.specs.Spelling.{IsLogAt, longer}
 use Rattle.wp_wal.specs.Wal.{WalState, Reserved, LeavesCut, LosesNothingAt, StoresCut, IsReserved, Appended, Refuses, reserved_of}
 use Rattle.wp_wal.proofs.AppendLemmas.{running_cut}
-use Rattle.wp_core.specs.Entries.{IsOneRecord}
+use Rattle.wp_model.specs.Record.{IsOneRecord}
 use Rattle.wp_core.specs.Images.{MaySpell, LogTells}
-use Rattle.wp_core.proofs.Tests.{none_some, same_some}
+use Rattle.wp_model.proofs.Tests.{none_some, same_some}
 use Rattle.wp_parts.specs.Log.{Ending, format_at, log_state, open_ending, spelled, spells, with_next, with_segment, IsKept, IsLog, IsWaiting}
 
 -- ---- devices
@@ -47,18 +47,19 @@ rose_since first old new later rose = omega (arith, later, rose)
 earlier : (history : List Entry) (p : ℕ) → is_undecided history p ≡ true → IsEarlier (length history + 1) p
 earlier history p is = let within = undecided_within history p is in record { from = within.0; below = omega (arith, within.1) }
 
+-- what is named in a record that may come next is in the history
+earlier_next : (history entries : List Entry) → IsOneRecord entries → IsLegal (history ++ entries) → AllByRecursion (NamesEarlier (length history + 1)) entries
+earlier_next history (entry.Write batch ∷ []) one legal = (tt, tt)
+earlier_next history (entry.Prepare name batch ∷ []) one legal = (tt, tt)
+earlier_next history (entry.Commit p ∷ []) one legal = (earlier history p (after_front history (entry.Commit p) [] legal).orderly.names_undecided, tt)
+earlier_next history (entry.Undo p batch ∷ entry.Close q ∷ []) one legal =
+    let first = earlier history p (after_front history (entry.Undo p batch) (entry.Close q ∷ []) legal).orderly.names_undecided in
+    (first, (subst (IsEarlier (length history + 1)) one first, tt))
+earlier_next history others one legal = absurd one
+
 -- one record that may come next, whose numbers are those of entries in this version, is one of it
 pub form_next : (format : Format) (history entries : List Entry) → IsOneRecord entries → IsLegal (history ++ entries) → length history + length entries ≤ last_number format → FormRecord format (length history + 1) entries
-form_next format history (entry.Write batch ∷ []) one legal within = within
-form_next format history (entry.Prepare name batch ∷ []) one legal within = within
-form_next format history (entry.Commit p ∷ []) one legal within =
-    (earlier history p (after_front history (entry.Commit p) [] legal).orderly.names_undecided, within)
-form_next format history (entry.Undo p batch ∷ entry.Close q ∷ []) one legal within = record {
-  same = one;
-  earlier = earlier history p (after_front history (entry.Undo p batch) (entry.Close q ∷ []) legal).orderly.names_undecided;
-  small = omega (arith, within);
-}
-form_next format history others one legal within = absurd one
+form_next format history entries one legal within = record { one = one; earlier = earlier_next history entries one legal; numbered = omega (arith, within) }
 
 -- ---- what the log spells
 

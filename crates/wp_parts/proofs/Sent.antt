@@ -10,7 +10,7 @@ use Rattle.wp_model.proofs.entry.Entry.TheSendSync as entry
 use Rattle.wp_model.proofs.segment.Segment.TheSendSync as segment
 use Rattle.wp_history.proofs.Sent.{history_send}
 use Rattle.wp_wal.proofs.wal.Wal.TheSendSync as wal
-use Rattle.wp_parts.proofs.gone.Gone.TheSendSync as gone
+use Rattle.wp_tableset.proofs.gone.Gone.TheSendSync as gone
 use Rattle.wp_tableset.proofs.set.TableSet.TheSendSync as set
 use Rattle.wp_prepared.proofs.prepared.Prepared.TheSendSync as prepared
 use Rattle.wp_snaps.proofs.snaps.Snaps.TheSendSync as snaps
@@ -31,14 +31,14 @@ log_send D g d =
     (recorded_send (LogInside.the_field D g).row _ _ (LogInside.the_type D g).to_one
     (struct_send (shape (LogInside.the_type D g)) (heap.the_field_send, (wal.the_send D g d, (history_send, (Vec-send _ entry.the_send, (plain_send _ _ _ _ _, (plain_send _ _ _ _ _, (plain_send _ _ _ _ _, (search crosses, (search (sendable, segment.the_send), (search crosses, tt))))))))))))
 
-failed_send : IsSend FailedInstall.the_row
-failed_send =
-    recorded_send (FailedInstall.the_field).row _ _ (FailedInstall.the_type).to_one (struct_send (shape FailedInstall.the_type) (segment.the_field_send, (plain_send _ _ _ _ _, (gone.the_field_send, (search crosses, tt)))))
-
 versions_send : IsSend TableVersions.the_row
 versions_send =
     view_send VersionsInside.the_row _ _ _ _
     (recorded_send (VersionsInside.the_field).row _ _ (VersionsInside.the_type).to_one (struct_send (shape VersionsInside.the_type) (search crosses, tt)))
+
+failed_send : IsSend FailedInstall.the_row
+failed_send =
+    recorded_send (FailedInstall.the_field).row _ _ (FailedInstall.the_type).to_one (struct_send (shape FailedInstall.the_type) (segment.the_field_send, (plain_send _ _ _ _ _, (gone.the_field_send, (Vec-send _ versions_send, tt)))))
 
 pub edits_send : (D : RattleType) (g : Ghosts D.Denot) → IsSend D → IsSend (VersionSet.the_row D g)
 edits_send D g d =

@@ -2,14 +2,5 @@ pub mod Log
 pub mod Stock
 pub mod VersionSet
 pub mod Installs
-pub mod Renewal
 pub mod Parts
 pub mod Devices
-pub use Rattle.wp_contents.specs.Opens
-pub use Rattle.wp_cuts.specs.Agree
-pub use Rattle.wp_cuts.specs.Cut
-pub use Rattle.wp_table.specs.File
-pub use Rattle.wp_merge.specs.Merge
-pub use Rattle.wp_store.specs.Store
-pub use Rattle.wp_tableset.specs.Set
-pub use Rattle.wp_tableset.specs.Device

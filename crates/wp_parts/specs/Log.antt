@@ -4,16 +4,17 @@ use Rattle.wp_model.specs.declared.entry.Entry.{Entry}
 use Rattle.wp_model.specs.declared.segment.Segment.{Segment}
 use Rattle.wp_model.specs.Legal.{IsLegal, undone_last}
 use Rattle.wp_cuts.specs.Cut.{Cut, IsCut, cut_at}
-use Rattle.wp_outside.specs.Disk.{IfKnown}
+use Rattle.wp_outside.specs.Disk.{IfKnown, Passes}
 use Rattle.wp_outside.specs.Faults.{Rose}
 use Rattle.wp_fields.specs.declared.format.Format.{Format}
 use Rattle.wp_fields.specs.declared.format.Format.TheVariants.{Two}
 use Rattle.wp_entry.specs.Base.{IsBase, base_bytes}
 use Rattle.wp_entry.specs.Record.{IsRecord}
 use Rattle.wp_gatelog.specs.Beside.{IsWholeLog}
+use Rattle.wp_gatelog.specs.Moments.{Leaves}
 use Rattle.wp_gatelog.specs.Spelling.{stamped}
 use Rattle.wp_wal.specs.Segment.{NewSegmentState, WrittenState, IsBeside, base_of}
-use Rattle.wp_wal.specs.Spelling.{MAGIC, IsLogAt}
+use Rattle.wp_wal.specs.Spelling.{MAGIC, IsLogAt, IsLogOrNextAt}
 use Rattle.wp_wal.specs.Wal.{WalState, LeavesCut, LosesNothingAt, StoresCut, IsReserved}
 use Rattle.wp_core.specs.Conditions.{NoneNext}
 use Rattle.wp_core.specs.Tables.{WriteState}
@@ -94,7 +95,26 @@ pub record IsKept (s : LogState) (base room : ℕ) : Type 0 where
   pub log : IsLog s
   pub ready : IsReady s log.cut room
 
+-- ---- while its device is called
+
+-- at each moment between the two a crash leaves the history in the segment in use
+abbrev pub LeavesHistory : LogState → LogState → Type 0
+LeavesHistory old new = (c : Cut) → IsCut old.table.history c → c.base ≡ old.table.segment.base → Passes (Leaves (IsLogAt old.wal.id old.table.segment.place c)) old.wal.moments new.wal.moments
+
+-- ... or that and the pending record, whole
+abbrev pub LeavesHistoryOrNext : LogState → LogState → Type 0
+LeavesHistoryOrNext old new =
+    (c : Cut) → IsCut old.table.history c → c.base ≡ old.table.segment.base → Passes (Leaves (IsLogOrNextAt old.wal.id old.table.segment.place c old.table.pending)) old.wal.moments new.wal.moments
+
+-- what each crash at one moment would leave acknowledged there, each crash at a later moment leaves too
+abbrev pub KeepsAcknowledged : LogState → LogState → Type 0
+KeepsAcknowledged old new = LosesNothingAt old.table.segment.place old.wal.moments new.wal.moments
+
 -- ---- a segment beside the one in use
+
+-- one may be written that begins where the history ends: that is behind the base, and no undo; the log takes entries, and none is pending
+abbrev pub MayRenew : WriteState → Type 0
+MayRenew t = (t.closed ≡ false) × (t.pending ≡ []) × (t.segment.base < length t.history) × (undone_last t.history ≡ None)
 
 -- the bytes of a segment that begins where the history ends, as they are to be written
 abbrev pub IsSegmentOf : LogState → NewSegmentState → Type 0

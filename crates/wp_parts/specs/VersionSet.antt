@@ -1,6 +1,7 @@
 -- The value behind the tables turn: the tables of the store on their two devices.
-use Rattle.std.specs.Prelude.{◌≡◌, ◌⊎◌, ℕ, ◌≤◌, Bool, true, false, List, ◌∷◌, ◌++◌, length, Option, Some, None}
+use Rattle.std.specs.Prelude.{◌≡◌, ◌⊎◌, ℕ, suc, ◌≤◌, Bool, true, false, List, [], ◌∷◌, ◌++◌, length, min, Option, Some, None}
 use Rattle.std.specs.List.{list_all}
+use Rattle.wp_model.specs.declared.segment.Segment.{Segment}
 use Rattle.wp_model.specs.declared.version.Version.{Version}
 use Rattle.wp_model.specs.Flushed.{InstalledEdit}
 use Rattle.wp_outside.specs.Disk.{images}
@@ -10,13 +11,13 @@ use Rattle.wp_manifest.specs.Edit.{Edit}
 use Rattle.wp_manifest.specs.Spelling.{MAGIC, IsManifestOf, last_edit}
 use Rattle.wp_merge.specs.Merge.{joined, sorted_of}
 use Rattle.wp_contents.specs.Opens.{installed_of}
-use Rattle.wp_parts.specs.declared.gone.Gone.{Gone}
-use Rattle.wp_parts.specs.declared.gone.Gone.TheVariants as gone
 use Rattle.wp_table.specs.File.{HasTables}
 use Rattle.wp_table.specs.Table.{is_flushed}
-use Rattle.wp_tableset.specs.Changes.{compacted_parts}
+use Rattle.wp_tableset.specs.Changes.{Asked}
 use Rattle.wp_tableset.specs.Device.{KeepsFronts}
 use Rattle.wp_tableset.specs.Set.{TableSetState, StoresTables}
+use Rattle.wp_tableset.specs.declared.gone.Gone.{Gone}
+use Rattle.wp_tableset.specs.declared.gone.Gone.TheVariants.{Frozen, Tables}
 use Rattle.wp_core.specs.Tables.{Installed}
 use Rattle.wp_parts.specs.declared.edits.FailedInstall.{FailedInstall}
 
@@ -27,26 +28,27 @@ pub record VersionSetState : Type 0 where
   pub parts : List (List Version)
   pub first : TableSetState
 
--- ---- an install that failed
+-- ---- an edit that is asked for
 
--- the tables once the new one takes the place of the frozen parts, or of all tables, or of the frozen parts if there are any
-abbrev pub parts_after : Gone → List Version → List (List Version) → List (List Version)
-parts_after gone.Frozen versions parts = versions ∷ parts
-parts_after gone.Tables versions parts = compacted_parts versions
-parts_after gone.Segment versions parts = compacted_parts versions ++ parts
+-- with the new table, if there is one: the newest, where the frozen parts go; alone, where the tables do
+abbrev pub with_new : Gone → List Version → InstalledEdit → InstalledEdit
+with_new Frozen [] last = last
+with_new Frozen (v ∷ versions) last = record last { versions = sorted_of (v ∷ versions ++ last.versions); tables = suc last.tables }
+with_new Tables versions last = record last { versions = versions; tables = min (length versions) 1 }
 
-abbrev pub asked_for : FailedInstall → List (List Version) → InstalledEdit
-asked_for f parts = record { segment = f.segment; flushed = f.flushed; versions = sorted_of (joined (parts_after f.gone f.versions.value parts)); tables = length (parts_after f.gone f.versions.value parts) }
+-- ... and the log is in this segment
+abbrev pub asked_for : Asked → Segment → InstalledEdit → InstalledEdit
+asked_for asked segment last = record (with_new asked.gone asked.versions last) { segment = segment; flushed = asked.flushed }
 
 -- only where the manifest's device failed can its edit be found later
-abbrev pub failed_edit : (closed : Bool) → Option FailedInstall → List (List Version) → Option InstalledEdit
-failed_edit true (Some f) parts = Some (asked_for f parts)
-failed_edit closed other parts = None
+abbrev pub failed_edit : (closed : Bool) → Option FailedInstall → InstalledEdit → Option InstalledEdit
+failed_edit true (Some f) last = Some (asked_for (record { gone = f.gone; versions = joined f.tables.items; flushed = f.flushed }) f.segment last)
+failed_edit closed other last = None
 
 -- the manifest does not say the base
 abbrev pub edits_state : TableSetState → TableSetState → ℕ → List (List Version) → Option FailedInstall → VersionSetState
 edits_state set first base parts failed = record {
-  table = record { last = installed_of base set.manifest.edit parts; failed = failed_edit set.manifest.log.closed failed parts; halted = set.halted };
+  table = record { last = installed_of base set.manifest.edit parts; failed = failed_edit set.manifest.log.closed failed (installed_of base set.manifest.edit parts); halted = set.halted };
   set = set;
   parts = parts;
   first = first;

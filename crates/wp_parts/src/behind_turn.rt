@@ -2,8 +2,7 @@
 ghost use Rattle.std.specs.Prelude.{◌≡◌, List, Some};
 ghost use Rattle.wp_core.specs.Tables.{Content, writes, prepared, snapshots, store, locks, installed};
 ghost use Rattle.wp_core.specs.Tables as tables;
-ghost use Rattle.wp_core.specs.Turns.{Turn, write_turn, prepared_turn, snapshots_turn, store_turn, locks_turn, tables_turn};
-ghost use Rattle.wp_actor.specs.Turns.{turn_of};
+ghost use Rattle.wp_core.specs.Turns.{Turn, write_turn, prepared_turn, snapshots_turn, store_turn, locks_turn, tables_turn, turn_of};
 ghost use Rattle.wp_parts.specs.Parts.{content, tells, log_first, set_first, IsGuardedBy};
 ghost use Rattle.wp_parts.specs.Stock.{store_state};
 ghost use Rattle.wp_parts.specs.declared.part.TurnValue.{TurnValue};

@@ -1,63 +1,67 @@
 //! What the tables turn guards: the tables on their two devices.
-ghost use Rattle.std.specs.Prelude.{◌≡◌, ◌≤◌, ◌<◌, ℕ, true, false, [], ◌∷◌, ◌++◌, None, Some, List, length, vec_capacity, IfOk, IfErr, OnOk};
+ghost use Rattle.std.specs.Prelude.{◌≡◌, ◌≤◌, ◌<◌, ◌+◌, ◌++◌, vec_capacity, true, false, [], None, Some, List, length, IfOk, OnOk, OnErr};
 ghost use Rattle.std.specs.Arc.{arc_value};
 ghost use Rattle.std.specs.List.{list_all};
 ghost use Rattle.std.specs.Option.{option_map};
 ghost use Rattle.wp_model.specs.declared.version.Version.{Version};
-ghost use Rattle.wp_model.specs.Versions.{AreInOrder};
 ghost use Rattle.wp_outside.specs.Disk.{images};
 ghost use Rattle.wp_manifest.specs.Edit.{Edit, no_edit};
 ghost use Rattle.wp_merge.specs.Merge.{joined, sorted_of};
 ghost use Rattle.wp_store.specs.Store.{with_newest};
 ghost use Rattle.wp_table.specs.Table.{is_flushed, is_numbered};
-ghost use Rattle.wp_tableset.specs.Changes.{compacted_parts, one_part};
-ghost use Rattle.wp_tableset.specs.Install.{IsReadyEdit};
+ghost use Rattle.wp_tableset.specs.Changes.{one_part, parts_after, staying};
 ghost use Rattle.wp_tableset.specs.Set.{StoresTables};
-ghost use Rattle.wp_tableset.specs.declared.error.TableSetError.TheVariants.{Fault, Memory};
+ghost use Rattle.wp_tableset.specs.declared.gone.Gone.TheVariants.{Frozen};
 ghost use Rattle.wp_core.specs.Effects.{with_failed};
 ghost use Rattle.wp_core.specs.Images.{ManifestTells, TablesTell};
-ghost use Rattle.wp_parts.specs.VersionSet.{VersionSetState, IsEdits, IsNamed, HasTablesOf, edits_state};
-ghost use Rattle.wp_parts.specs.Renewal.{IsBehind, IsWritten, SurvivesWrite};
-ghost use Rattle.wp_parts.specs.Installs.{with_table, in_one_table, in_segment, HadCause, IsRefused, SurvivesInstall};
+ghost use Rattle.wp_parts.specs.VersionSet.{VersionSetState, IsEdits, IsNamed, HasTablesOf, asked_for, edits_state};
+ghost use Rattle.wp_parts.specs.Installs.{HadCause, IsBehind, IsReadyFor, SurvivesInstall, SurvivesWrite};
 
-use crate::gone::Gone;
 use crate::table_versions::TableVersions;
 use std::alloc::{AllocError, Global};
 use std::marker::Model;
-use std::snapshot::Snapshot;
+use std::snapshot::Snapshot as Ghost;
 use std::sync::Arc;
 use wp_model::{Segment, Seq, Versions};
-use wp_outside::Disk;
+use wp_outside::{Disk, Failed};
 use wp_table::Table;
-use wp_tableset::{ReadyEdit, SetDisks, TableSet, TableSetError};
+use wp_tableset::{Gone, ReadyEdit, SetDisks, TableSet};
 
-/// What an install that was refused asked for: a table of these versions in place of what was to go, the flushed number, and the
-/// log's segment.
+/// What an install that failed asked for: a table with these versions, if there is one, in place of what was to go, the flushed number,
+/// and the log's segment.
 #[derive(Drop)]
-pub struct FailedInstall {
+pub(crate) struct FailedInstall {
     segment: Segment,
     flushed: Seq,
     gone: Gone,
-    versions: Snapshot<Versions>,
+    tables: Vec<TableVersions>,
 }
 
-/// An edit that names another segment of the log, with all the memory that its install takes. Clauses see the edit with its table,
-/// and of how many tables there is room for what they have.
+/// An edit with all the memory that its install takes. Clauses see the edit, what its table has once that is written, and for what of
+/// how many tables there is room.
 #[derive(Drop)]
-pub struct ReadySegment {
+pub struct ReadyInstall {
     edit: ReadyEdit,
     tables: Vec<TableVersions>,
 }
 
-impl Model for ReadySegment {
-    ghost use Rattle.std.specs.Prelude.{◌≡◌, [], vec_capacity};
-    ghost use Rattle.wp_parts.specs.Renewal.{SegmentState};
+impl Model for ReadyInstall {
+    ghost use Rattle.std.specs.Prelude.{vec_capacity};
+    ghost use Rattle.wp_parts.specs.Installs.{ReadyInstallState};
 
-    ghost Value = { SegmentState };
+    ghost Value = { ReadyInstallState };
 
-    ghost view = { λ r. record { edit = r.edit; room = vec_capacity r.tables } };
+    ghost view = { λ r. record { edit = r.edit; tables = r.tables.items; room = vec_capacity r.tables } };
+}
 
-    ghost invariant = { λ r. r.tables.items ≡ [] };
+impl ReadyInstall {
+    /// What its table takes the place of.
+    pub fn gone(&self) -> Gone
+        ensures { result ≡ self.now.edit.asked.gone }
+    {
+        let (gone, _flushed) = self.edit.asked();
+        gone
+    }
 }
 
 /// The set of tables, and what the tables of its last edit have, the newest first. Clauses see the table of the machine that it
@@ -69,7 +73,7 @@ pub struct VersionSet<D: Disk> {
     base: Seq,
     tables: Vec<TableVersions>,
     failed: Option<FailedInstall>,
-    first: Snapshot<TableSet<D>>,
+    first: Ghost<TableSet<D>>,
 }
 
 impl<D: Disk> Model for VersionSet<D> {
@@ -82,32 +86,31 @@ impl<D: Disk> Model for VersionSet<D> {
     ghost invariant = { λ e. IsEdits (edits_state e.set e.first.value e.base e.tables.items e.failed) };
 }
 
-/// What the tables have, where this one, if there is one, is in place of all.
-fn put_alone(tables: &mut Vec<TableVersions>, table: &Option<Arc<Table>>)
+/// Puts what the new table has, if there is one, where nothing is, in memory that was taken for it.
+fn put_versions(tables: &mut Vec<TableVersions>, table: &Option<Arc<Table>>)
+    requires none { tables.old.items ≡ [] }
     requires room { 1 ≤ vec_capacity tables.old }
-    ensures { tables.new.items ≡ with_newest (option_map arc_value table.now) [] }
+    ensures versions { tables.new.items ≡ with_newest (option_map arc_value table.now) [] }
+    ensures room { vec_capacity tables.old ≤ vec_capacity tables.new }
 {
-    tables.clear();
     if let Some(table) = table {
         tables.push(TableVersions::of(table)).unwrap();
     }
 }
 
-/// What the tables have, where this one, if there is one, comes before the others, in memory that was taken for it.
-fn with_first(
-    mut room: Vec<TableVersions>,
-    table: &Option<Arc<Table>>,
+/// What the new table has, if there is one, and behind it what those have that stay, in memory that was taken for it.
+fn with_staying(
+    gone: Gone,
+    mut tables: Vec<TableVersions>,
     others: &mut Vec<TableVersions>,
 ) -> Vec<TableVersions>
-    requires none { room.items ≡ [] }
-    requires room { length others.old.items < vec_capacity room }
-    ensures { result.items ≡ with_newest (option_map arc_value table.now) others.old.items }
+    requires room { length tables.items + length others.old.items ≤ vec_capacity tables }
+    ensures { result.items ≡ tables.items ++ staying gone others.old.items }
 {
-    if let Some(table) = table {
-        room.push(TableVersions::of(table)).unwrap();
+    if let Gone::Frozen = gone {
+        tables.append(others).unwrap();
     }
-    room.append(others).unwrap();
-    room
+    tables
 }
 
 /// For the proof alone: the manifest is open where the set runs.
@@ -115,13 +118,6 @@ fn shows_running<D: Disk>(set: &TableSet<D>)
     ensures { set.now.halted ≡ false → set.now.manifest.log.closed ≡ false }
 {
     set.is_halted();
-}
-
-/// For the proof alone: versions are in order.
-fn shows_order(versions: &Versions)
-    ensures { AreInOrder versions.now }
-{
-    versions.as_slice();
 }
 
 impl<D: Disk> VersionSet<D> {
@@ -140,7 +136,7 @@ impl<D: Disk> VersionSet<D> {
         shows_running(&set);
         VersionSet {
             alloc,
-            first: Snapshot::of(&set),
+            first: Ghost::of(&set),
             set,
             base,
             tables,
@@ -180,154 +176,76 @@ impl<D: Disk> VersionSet<D> {
         self.tables.len()
     }
 
-    /// Writes a table of these versions, and installs an edit with it, the newest table. The entries up to `flushed` are in the
-    /// tables then, more than before. The table is for readers.
-    pub fn flush(&mut self, versions: &Versions, flushed: Seq) -> Result<Arc<Table>, TableSetError>
-        requires running { self.old.table.halted ≡ false }
-        requires some { 1 ≤ length versions.now }
+    /// Takes all the memory of an edit: all entries up to `flushed` are in the tables then, these versions in one table, if there are any,
+    /// in place of what goes.
+    pub fn ready(
+        &self,
+        gone: Gone,
+        versions: &Versions,
+        flushed: Seq,
+    ) -> Result<ReadyInstall, AllocError>
         requires numbered { list_all is_numbered versions.now ≡ true }
         requires flushed { list_all (is_flushed flushed) versions.now ≡ true }
-        requires later { self.old.table.last.flushed < flushed }
-        ensures table { IfOk result (λ table. arc_value table ≡ versions.now) }
-        ensures installed { OnOk result (self.new.table ≡ record self.old.table { last = with_table versions.now flushed self.old.table.last }) }
-        ensures parts { OnOk result (self.new.parts ≡ versions.now ∷ self.old.parts) }
-        ensures refused { IfErr result (IsRefused self.old.table self.new.table (with_table versions.now flushed self.old.table.last)) }
-        ensures cause { IfErr result (HadCause self.old.set self.new.set) }
-        ensures manifest { IfErr result (λ why. why ≡ Memory → self.new.set.manifest ≡ self.old.set.manifest) }
-        ensures survives { SurvivesInstall self.old self.new (with_table versions.now flushed self.old.table.last) }
-        ensures first { self.new.first ≡ self.old.first }
-    {
-        self.tables.reserve(1)?;
-        let segment = self.segment();
-        match self.set.flush(versions, flushed) {
-            Ok(table) => {
-                shows_running(&self.set);
-                self.tables.insert(0, TableVersions::of(&table)).unwrap();
-                Ok(table)
-            }
-            Err(why) => {
-                self.failed = Some(FailedInstall {
-                    segment,
-                    flushed,
-                    gone: Gone::Frozen,
-                    versions: Snapshot::of(versions),
-                });
-                Err(why)
-            }
-        }
-    }
-
-    /// Writes a table of these versions, and installs an edit with it in place of all tables. Without a version the edit has no
-    /// table, and the tables' device is not called. The table, if there is one, is for readers.
-    pub fn compact(&mut self, versions: &Versions) -> Result<Option<Arc<Table>>, TableSetError>
-        requires running { self.old.table.halted ≡ false }
-        requires numbered { list_all is_numbered versions.now ≡ true }
-        requires flushed { list_all (is_flushed self.old.table.last.flushed) versions.now ≡ true }
-        ensures table { IfOk result (λ table. option_map arc_value table ≡ one_part versions.now) }
-        ensures installed { OnOk result (self.new.table ≡ record self.old.table { last = in_one_table versions.now self.old.table.last }) }
-        ensures parts { OnOk result (self.new.parts ≡ compacted_parts versions.now) }
-        ensures refused { IfErr result (IsRefused self.old.table self.new.table (in_one_table versions.now self.old.table.last)) }
-        ensures cause { IfErr result (HadCause self.old.set self.new.set) }
-        ensures manifest { IfErr result (λ why. why ≡ Memory → self.new.set.manifest ≡ self.old.set.manifest) }
-        ensures survives { SurvivesInstall self.old self.new (in_one_table versions.now self.old.table.last) }
-        ensures uncalled { versions.now ≡ [] → (self.new.set.moments ≡ self.old.set.moments) × (self.new.set.faults ≡ self.old.set.faults) }
-        ensures first { self.new.first ≡ self.old.first }
-    {
-        shows_order(versions);
-        let flushed = self.set.edit().flushed;
-        let segment = self.segment();
-        self.tables.reserve(1)?;
-        match self.set.compact(versions) {
-            Ok(table) => {
-                shows_running(&self.set);
-                put_alone(&mut self.tables, &table);
-                Ok(table)
-            }
-            Err(why) => {
-                self.failed = Some(FailedInstall {
-                    segment,
-                    flushed,
-                    gone: Gone::Tables,
-                    versions: Snapshot::of(versions),
-                });
-                Err(why)
-            }
-        }
-    }
-
-    /// Takes the memory of an edit that names another segment of the log: all entries up to `flushed` are in the tables then, these
-    /// versions in one more, if there are any.
-    pub fn ready(&self, versions: &Versions, flushed: Seq) -> Result<ReadySegment, AllocError>
-        requires numbered { list_all is_numbered versions.now ≡ true }
-        requires flushed { list_all (is_flushed flushed) versions.now ≡ true }
-        requires later { (self.now.table.last.flushed ≤ flushed) × (1 ≤ length versions.now → self.now.table.last.flushed < flushed) }
-        ensures ready { IfOk result (λ ready. IsReadyEdit self.now.set versions.now flushed ready.edit) }
-        ensures room { IfOk result (λ ready. length self.now.parts < ready.room) }
+        requires later { (self.now.table.last.flushed ≤ flushed) × (gone ≡ Frozen → 1 ≤ length versions.now → self.now.table.last.flushed < flushed) }
+        ensures asked { IfOk result (λ ready. ready.edit.asked ≡ record { gone = gone; versions = versions.now; flushed = flushed }) }
+        ensures ready { IfOk result (IsReadyFor self.now) }
     {
         let tables = Vec::with_capacity(self.alloc, self.tables.len() + 1)?;
-        let edit = self.set.ready(versions, flushed)?;
-        Ok(ReadySegment { edit, tables })
+        let edit = self.set.ready(gone, versions, flushed)?;
+        Ok(ReadyInstall { edit, tables })
     }
 
     /// Writes the table of a ready edit, if it has one. The table is for readers. After a fault of the device the tables are halted.
     /// It takes no memory.
-    pub fn write_table(
-        &mut self,
-        ready: &mut ReadySegment,
-    ) -> Result<Option<Arc<Table>>, TableSetError>
+    pub fn write_table(&mut self, ready: &mut ReadyInstall) -> Result<Option<Arc<Table>>, Failed>
         requires running { self.old.table.halted ≡ false }
-        requires ready { (versions : List Version) × (flushed : ℕ) × IsReadyEdit self.old.set versions flushed ready.old.edit }
-        requires room { length self.old.parts < ready.old.room }
-        ensures table { IfOk result (λ table. option_map arc_value table ≡ option_map (λ built. built.versions) ready.old.edit.built) }
-        ensures written { OnOk result ((self.new.table ≡ self.old.table) × IsWritten self.old self.new ready.old ready.new) }
+        requires ready { IsReadyFor self.old ready.old }
+        ensures table { IfOk result (λ table. option_map arc_value table ≡ one_part ready.old.edit.asked.versions) }
+        ensures written { OnOk result ((self.new.table ≡ self.old.table) × IsBehind self.old self.new ready.new) }
+        ensures asked { ready.new.edit.asked ≡ ready.old.edit.asked }
         ensures parts { self.new.parts ≡ self.old.parts }
-        ensures uncalled { ready.old.edit.built ≡ None → self.new ≡ self.old }
-        ensures refused { IfErr result (λ why. (why ≡ Fault) × (self.new.table ≡ with_failed self.old.table None)) }
-        ensures cause { IfErr result (HadCause self.old.set self.new.set) }
-        ensures survives { SurvivesWrite self.old self.new ready.old }
+        ensures uncalled { ready.old.edit.asked.versions ≡ [] → self.new ≡ self.old }
+        ensures refused { OnErr result (self.new.table ≡ with_failed self.old.table None) }
+        ensures cause { OnErr result (HadCause self.old.set self.new.set) }
+        ensures survives { SurvivesWrite self.old self.new ready.old.edit.asked }
         ensures manifest { self.new.set.manifest ≡ self.old.set.manifest }
         ensures first { self.new.first ≡ self.old.first }
     {
-        self.set.write_table(&mut ready.edit)
+        let table = self.set.write_table(&mut ready.edit)?;
+        put_versions(&mut ready.tables, &table);
+        Ok(table)
     }
 
     /// Installs a ready edit, whose table was written, with this segment of the log. It takes no memory.
-    pub fn install_segment(
-        &mut self,
-        ready: ReadySegment,
-        versions: &Versions,
-        table: &Option<Arc<Table>>,
-        segment: Segment,
-    ) -> Result<(), TableSetError>
+    pub fn install(&mut self, ready: ReadyInstall, segment: Segment) -> Result<(), Failed>
         requires running { self.old.table.halted ≡ false }
-        requires table { option_map arc_value table.now ≡ one_part versions.now }
-        requires written { (before : VersionSetState) × IsBehind before self.old versions.now segment.base ready }
-        ensures installed { OnOk result (self.new.table ≡ record self.old.table { last = in_segment versions.now segment.base segment self.old.table.last }) }
-        ensures parts { OnOk result (self.new.parts ≡ compacted_parts versions.now ++ self.old.parts) }
-        ensures refused { IfErr result (λ why. (why ≡ Fault) × (self.new.table ≡ with_failed self.old.table (Some (in_segment versions.now segment.base segment self.old.table.last)))) }
-        ensures cause { IfErr result (HadCause self.old.set self.new.set) }
-        ensures survives { (before : VersionSetState) → IsBehind before self.old versions.now segment.base ready
-            → SurvivesInstall before self.new (in_segment versions.now segment.base segment self.old.table.last) }
+        requires written { (before : VersionSetState) × IsBehind before self.old ready }
+        ensures installed { OnOk result (self.new.table ≡ record self.old.table { last = asked_for ready.edit.asked segment self.old.table.last }) }
+        ensures parts { OnOk result (self.new.parts ≡ parts_after ready.edit.asked self.old.parts) }
+        ensures refused { OnErr result (self.new.table ≡ with_failed self.old.table (Some (asked_for ready.edit.asked segment self.old.table.last))) }
+        ensures cause { OnErr result (HadCause self.old.set self.new.set) }
+        ensures survives { (before : VersionSetState) → IsBehind before self.old ready
+            → SurvivesInstall before self.new (asked_for ready.edit.asked segment self.old.table.last) }
         ensures tables { (self.new.set.moments ≡ self.old.set.moments) × (self.new.set.faults ≡ self.old.set.faults) }
         ensures first { self.new.first ≡ self.old.first }
     {
-        let Segment { place, base } = segment;
-        let ReadySegment { edit, tables } = ready;
-        match self.set.install_ready(edit, place) {
+        let ReadyInstall { edit, tables } = ready;
+        let (gone, flushed) = edit.asked();
+        match self.set.install(edit, segment.place) {
             Ok(()) => {
                 shows_running(&self.set);
-                self.base = base;
-                self.tables = with_first(tables, table, &mut self.tables);
+                self.base = segment.base;
+                self.tables = with_staying(gone, tables, &mut self.tables);
                 Ok(())
             }
-            Err(why) => {
+            Err(Failed) => {
                 self.failed = Some(FailedInstall {
                     segment,
-                    flushed: base,
-                    gone: Gone::Segment,
-                    versions: Snapshot::of(versions),
+                    flushed,
+                    gone,
+                    tables,
                 });
-                Err(why)
+                Err(Failed)
             }
         }
     }

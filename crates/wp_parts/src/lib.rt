@@ -16,7 +16,6 @@ mod apart;
 mod base;
 mod behind_turn;
 mod edits;
-mod gone;
 mod log;
 mod part;
 mod stock;
@@ -24,7 +23,7 @@ mod table_versions;
 
 pub use apart::take_apart;
 pub use behind_turn::BehindTurn;
-pub use edits::{ReadySegment, VersionSet};
+pub use edits::{ReadyInstall, VersionSet};
 pub use log::Log;
 pub use part::TurnValue;
 pub use stock::Stock;

@@ -3,25 +3,23 @@ ghost use Rattle.std.specs.Prelude.{◌≡◌, ◌≢◌, ◌+◌, ◌≤◌, �
 ghost use Rattle.wp_model.specs.declared.entry.Entry.{Entry};
 ghost use Rattle.wp_model.specs.Legal.{IsLegal, log_end, undone_last};
 ghost use Rattle.wp_cuts.specs.Cut.{Cut, IsCut};
-ghost use Rattle.wp_outside.specs.Disk.{images, Passes};
+ghost use Rattle.wp_outside.specs.Disk.{images};
 ghost use Rattle.wp_outside.specs.Faults.{Rose};
 ghost use Rattle.wp_fields.specs.declared.format.Format.TheVariants.{Two};
 ghost use Rattle.wp_entry.specs.Record.{last_number};
-ghost use Rattle.wp_gatelog.specs.Moments.{Leaves};
 ghost use Rattle.wp_wal.specs.Segment.{base_of};
-ghost use Rattle.wp_wal.specs.Spelling.{IsLogAt, IsLogOrNextAt};
-ghost use Rattle.wp_wal.specs.Wal.{LosesNothingAt, StoresCut};
+ghost use Rattle.wp_wal.specs.Wal.{StoresCut};
 ghost use Rattle.wp_core.specs.Conditions.{NoneNext};
 ghost use Rattle.wp_core.specs.Effects.{with_entry};
-ghost use Rattle.wp_core.specs.Entries.{IsOneRecord};
+ghost use Rattle.wp_model.specs.Record.{IsOneRecord};
 ghost use Rattle.wp_core.specs.Images.{LogTells};
-ghost use Rattle.wp_parts.specs.Log.{IsLog, IsPlaceOf, IsSegmentOf, IsWaiting, log_state, open_ending, spells, with_next, with_segment};
+ghost use Rattle.wp_parts.specs.Log.{IsLog, KeepsAcknowledged, LeavesHistory, LeavesHistoryOrNext, MayRenew, IsPlaceOf, IsSegmentOf, IsWaiting, log_state, open_ending, spells, with_next, with_segment};
 
 use crate::base::end_of;
 use std::alloc::{AllocError, Global};
 use std::marker::Model;
 use std::mem;
-use std::snapshot::Snapshot;
+use std::snapshot::Snapshot as Ghost;
 use wp_fields::Format;
 use wp_gatelog::AppendError;
 use wp_history::History;
@@ -45,10 +43,10 @@ pub struct Log<D: Disk> {
     logged: bool,
     closed: bool,
     stopped: bool,
-    failed: Snapshot<Vec<Entry>>,
+    failed: Ghost<Vec<Entry>>,
     /// A segment that was written beside the one in use, and did not come into use.
     next: Option<Segment>,
-    first: Snapshot<Wal<D>>,
+    first: Ghost<Wal<D>>,
 }
 
 impl<D: Disk> Model for Log<D> {
@@ -80,8 +78,8 @@ impl<D: Disk> Log<D> {
         let pending = Vec::new(alloc);
         Log {
             alloc,
-            failed: Snapshot::of(&pending),
-            first: Snapshot::of(&wal),
+            failed: Ghost::of(&pending),
+            first: Ghost::of(&wal),
             wal,
             history,
             pending,
@@ -180,11 +178,8 @@ impl<D: Disk> Log<D> {
         ensures format { self.new.wal.format ≡ self.old.wal.format }
         ensures first { self.new.first ≡ self.old.first }
 
-        // At each moment since its beginning a crash leaves the history, or it and the record, whole; and what each crash at
-        // one moment would leave acknowledged, each crash at a later moment leaves too.
-        ensures passed { (c : Cut) → IsCut self.old.table.history c → c.base ≡ self.old.table.segment.base
-            → Passes (Leaves (IsLogOrNextAt self.old.wal.id self.old.table.segment.place c self.old.table.pending)) self.old.wal.moments self.new.wal.moments }
-        ensures durable { LosesNothingAt self.old.table.segment.place self.old.wal.moments self.new.wal.moments }
+        ensures passed { LeavesHistoryOrNext self.old self.new }
+        ensures durable { KeepsAcknowledged self.old self.new }
     {
         match self.wal.append() {
             Ok(()) => {
@@ -193,7 +188,7 @@ impl<D: Disk> Log<D> {
             }
             Err(AppendError::DiskFault) => {
                 self.closed = true;
-                self.failed = Snapshot::of(&self.pending);
+                self.failed = Ghost::of(&self.pending);
                 Err(Failed)
             }
             Err(AppendError::Closed(_)) => unreachable!(),
@@ -239,10 +234,7 @@ impl<D: Disk> Log<D> {
     /// Writes the segment beside the one in use, and puts it on the device for good. It takes no memory. Until it is used, or the log is
     /// stopped with it, nothing else is called. After a fault of the device the log is closed for good.
     pub fn write_segment(&mut self, segment: &NewSegment) -> Result<Written, Failed>
-        requires running { self.old.table.closed ≡ false }
-        requires nothing { self.old.table.pending ≡ [] }
-        requires below { self.old.table.segment.base < length self.old.table.history }
-        requires whole { undone_last self.old.table.history ≡ None }
+        requires may { MayRenew self.old.table }
         requires segment { IsSegmentOf self.old segment.now }
         ensures ok { OnOk result (self.new.table ≡ self.old.table) }
         ensures waits { IfOk result (λ written. IsWaiting self.new written × (written.segment.place ≢ self.old.table.segment.place)) }
@@ -254,11 +246,8 @@ impl<D: Disk> Log<D> {
         ensures format { self.new.wal.format ≡ self.old.wal.format }
         ensures first { self.new.first ≡ self.old.first }
 
-        // At each moment since its beginning a crash leaves the history in the segment in use; and what each crash at one moment would
-        // leave acknowledged there, each crash at a later moment leaves too.
-        ensures passed { (c : Cut) → IsCut self.old.table.history c → c.base ≡ self.old.table.segment.base
-            → Passes (Leaves (IsLogAt self.old.wal.id self.old.table.segment.place c)) self.old.wal.moments self.new.wal.moments }
-        ensures durable { LosesNothingAt self.old.table.segment.place self.old.wal.moments self.new.wal.moments }
+        ensures passed { LeavesHistory self.old self.new }
+        ensures durable { KeepsAcknowledged self.old self.new }
     {
         match self.wal.write_segment(segment) {
             Ok(written) => Ok(written),

@@ -2,13 +2,13 @@
 ghost use Rattle.std.specs.Prelude.{◌≡◌};
 
 use std::marker::Model;
-use std::snapshot::Snapshot;
+use std::snapshot::Snapshot as Ghost;
 use wp_table::Table;
 
 /// The versions of a table, for clauses alone: it keeps nothing of the table in memory.
 #[derive(Drop)]
 pub struct TableVersions {
-    table: Snapshot<Table>,
+    table: Ghost<Table>,
 }
 
 impl Model for TableVersions {
@@ -25,7 +25,7 @@ impl TableVersions {
         ensures { result ≡ table.now }
     {
         TableVersions {
-            table: Snapshot::of(table),
+            table: Ghost::of(table),
         }
     }
 }

@@ -1,5 +1,4 @@
 pub mod DeviceLemmas
 pub mod FileLemmas
 pub mod SetLemmas
-pub mod CallLemmas
-pub mod MoveLemmas
+pub mod StageLemmas

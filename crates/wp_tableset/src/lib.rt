@@ -5,13 +5,13 @@
 //! installed that names it. So at each moment a crash leaves the old edit or the new one, and the tables of both. Once a
 //! device has failed the set is halted: it calls none any more, and a later opening finds which edit there is.
 //!
-//! An edit that moves the log is installed in three stages, between which the log is written: `ready` takes the memory, `write_table`
-//! writes its table, `install_ready` installs it.
+//! An edit is installed in three stages: `ready` takes all its memory and calls no device; `write_table` writes its table, if it has one;
+//! `install` makes it the last one. What the new table takes the place of, the frozen parts or all tables, is data.
 #![tactic(auto)]
 
 mod device;
-mod error;
+mod gone;
 mod set;
 
-pub use error::TableSetError;
+pub use gone::Gone;
 pub use set::{ReadyEdit, SetDisks, TableSet};

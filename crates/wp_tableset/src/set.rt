@@ -1,24 +1,26 @@
-ghost use Rattle.std.specs.Prelude.{◌≡◌, ◌≤◌, ◌<◌, ℕ, true, false, [], ◌∷◌, List, length, vec_capacity, IfOk, IfErr, OnOk, is_some, Some, None};
+ghost use Rattle.std.specs.Prelude.{◌≡◌, ◌≤◌, ℕ, true, false, [], List, length, IfOk, OnOk, OnErr, Some};
 ghost use Rattle.std.specs.Arc.{arc_value};
 ghost use Rattle.std.specs.List.{list_all};
 ghost use Rattle.std.specs.Option.{option_map};
 ghost use Rattle.wp_model.specs.declared.version.Version.{Version};
+ghost use Rattle.wp_model.specs.Versions.{AreInOrder};
 ghost use Rattle.wp_outside.specs.Disk.{IfKnown};
 ghost use Rattle.wp_manifest.specs.Edit.{Edit, no_edit, place_of};
 ghost use Rattle.wp_manifest.specs.Manifest.{StoresEdits};
 ghost use Rattle.wp_table.specs.Table.{SpellsTable, is_flushed, is_numbered, written_bytes};
-ghost use Rattle.wp_tableset.specs.Changes.{Installs, LosesNoTable, Wrote, moved_edit, flushed_edit, compacted_edit, compacted_parts, one_part};
-ghost use Rattle.wp_tableset.specs.Install.{InstallsEdit, IsReadyEdit, LeavesNext, MayMove, NotWritten, Puts, Remain, TableWritten, built_of, unplaced};
+ghost use Rattle.wp_tableset.specs.Changes.{InstallsEdit, LosesNoTable, NotWritten, one_part, staying};
+ghost use Rattle.wp_tableset.specs.Install.{IsReadyEdit, IsWrittenEdit, MayInstall, built_of, unplaced};
 ghost use Rattle.wp_tableset.specs.Set.{RestsWith, StoresTables, TableSetState};
-ghost use Rattle.wp_tableset.specs.declared.error.TableSetError.TheVariants.{Fault};
 
 use crate::device::write_behind;
-use crate::error::TableSetError;
+use crate::gone::Gone;
 use std::alloc::{AllocError, Global};
 use std::marker::Model;
+use std::snapshot::Snapshot as Ghost;
 use std::sync::Arc;
 use wp_build::build;
-use wp_manifest::{Edit, EditRoom, InstallError, Manifest};
+use wp_gatelog::AppendError;
+use wp_manifest::{Edit, EditRoom, Manifest};
 use wp_model::{Seq, Versions};
 use wp_outside::{Disk, Failed};
 use wp_table::{Built, Table};
@@ -32,12 +34,15 @@ pub struct TableSet<D: Disk> {
     halted: bool,
 }
 
-/// An edit that moves the log, with all the memory that its install takes, and the table that is to be written for it, if there is
-/// one. Clauses see both.
+/// An edit with all the memory that its install takes, and the table that is to be written for it, if there is one. Clauses see
+/// both, and what was asked of the edit.
 #[derive(Drop)]
 pub struct ReadyEdit {
     room: EditRoom,
     built: Option<Built>,
+    gone: Gone,
+    flushed: Seq,
+    versions: Ghost<Versions>,
 }
 
 impl Model for ReadyEdit {
@@ -45,7 +50,11 @@ impl Model for ReadyEdit {
 
     ghost Value = { ReadyState };
 
-    ghost view = { λ r. record { edit = r.room; built = r.built } };
+    ghost view = { λ r. record {
+      edit = r.room;
+      built = r.built;
+      asked = record { gone = r.gone; versions = r.versions.value; flushed = r.flushed };
+    } };
 }
 
 /// The two devices of a set.
@@ -66,25 +75,13 @@ impl<D: Disk> Model for TableSet<D> {
     ghost invariant = { λ s. IsReady s.manifest s.halted };
 }
 
-/// The edit that names the table and, behind it, the others, in the memory that these have.
-fn edit_of(flushed: Seq, log_place: u64, table: (u64, u64), mut others: Vec<(u64, u64)>) -> Edit
-    requires { length others.items < vec_capacity others }
-    ensures { result ≡ record { flushed = flushed; place = Some log_place; tables = table ∷ others.items } }
-{
-    others.insert(0, table).unwrap();
-    Edit {
-        flushed,
-        place: Some(log_place),
-        tables: others,
-    }
-}
-
 /// These versions as a table, if there are any.
 fn build_some(alloc: Global, id: u32, versions: &Versions) -> Result<Option<Built>, AllocError>
     requires { list_all is_numbered versions.now ≡ true }
     ensures built { IfOk result (λ built. built ≡ built_of id versions.now) }
     ensures spelled { OnOk result ((flushed : ℕ) → list_all (is_flushed flushed) versions.now ≡ true → 1 ≤ length versions.now
         → SpellsTable id flushed versions.now (written_bytes id versions.now)) }
+    ensures in_order { AreInOrder versions.now }
 {
     if versions.as_slice().is_empty() {
         return Ok(None);
@@ -104,6 +101,26 @@ fn unplaced(alloc: Global, built: &Option<Built>) -> Result<Vec<(u64, u64)>, All
             Ok(places)
         }
         None => Ok(Vec::new(alloc)),
+    }
+}
+
+/// Of these tables those that stay.
+fn staying(gone: Gone, tables: &[(u64, u64)]) -> &[(u64, u64)]
+    ensures { result.now ≡ staying gone tables.now }
+{
+    match gone {
+        Gone::Frozen => tables,
+        Gone::Tables => &[],
+    }
+}
+
+impl ReadyEdit {
+    /// What goes, and the number up to which entries are flushed then.
+    pub fn asked(&self) -> (Gone, Seq)
+        ensures gone { result.0 ≡ self.now.asked.gone }
+        ensures flushed { result.1 ≡ self.now.asked.flushed }
+    {
+        (self.gone, self.flushed)
     }
 }
 
@@ -148,177 +165,78 @@ impl<D: Disk> TableSet<D> {
         self.halted
     }
 
-    /// Adds a table of these versions, the newest one. The entries up to `flushed` are in the tables then, more than before.
-    pub fn flush(&mut self, versions: &Versions, flushed: Seq) -> Result<Arc<Table>, TableSetError>
-        requires some { 1 ≤ length versions.now }
-        requires numbered { list_all is_numbered versions.now ≡ true }
-        requires flushed { list_all (is_flushed flushed) versions.now ≡ true }
-        requires later { self.old.manifest.edit.flushed < flushed }
-        ensures table { IfOk result (λ table. arc_value table ≡ versions.now) }
-        ensures installs { (place : ℕ) × Installs self.old self.new (flushed_edit self.old versions.now flushed place) (λ parts. versions.now ∷ parts) result
-            × Wrote self.old self.new (flushed_edit self.old versions.now flushed place).tables result }
-        ensures keeps { LosesNoTable self.old self.new }
-    {
-        if self.halted {
-            return Err(TableSetError::Halted);
-        }
-        let others = &self.manifest.edit().tables;
-        let mut places = Vec::with_capacity(self.alloc, others.len() + 1)?;
-        places.extend_from_slice(others)?;
-        self.put(versions, flushed, places)
-    }
-
-    /// Puts one table of these versions in place of all tables; without a version no table is left, and the tables'
-    /// device is not called.
-    pub fn compact(&mut self, versions: &Versions) -> Result<Option<Arc<Table>>, TableSetError>
-        requires numbered { list_all is_numbered versions.now ≡ true }
-        requires flushed { list_all (is_flushed self.old.manifest.edit.flushed) versions.now ≡ true }
-        ensures table { IfOk result (λ table. option_map arc_value table ≡ one_part versions.now) }
-        ensures installs { (place : ℕ) × Installs self.old self.new (compacted_edit self.old versions.now place) (λ _. compacted_parts versions.now) result
-            × Wrote self.old self.new (compacted_edit self.old versions.now place).tables result }
-        ensures keeps { LosesNoTable self.old self.new }
-        ensures uncalled { versions.now ≡ [] → (self.new.moments ≡ self.old.moments) × (self.new.faults ≡ self.old.faults) }
-    {
-        if self.halted {
-            return Err(TableSetError::Halted);
-        }
-        let flushed = self.manifest.edit().flushed;
-        if versions.as_slice().is_empty() {
-            let tables = Vec::new(self.alloc);
-            let place = Some(self.log_place());
-            self.install(Edit {
-                flushed,
-                place,
-                tables,
-            })?;
-            return Ok(None);
-        }
-        let places = Vec::with_capacity(self.alloc, 1)?;
-        let table = self.put(versions, flushed, places)?;
-        Ok(Some(table))
-    }
-
-    /// Builds a table of these versions and writes it, and then installs an edit that names it and, behind it, the other
-    /// places. The table for readers keeps the bytes that were written.
-    fn put(
-        &mut self,
+    /// Takes all the memory of an edit: it names one table of these versions, if there are any, and behind it the tables that stay,
+    /// and flushes the entries up to this number.
+    pub fn ready(
+        &self,
+        gone: Gone,
         versions: &Versions,
         flushed: Seq,
-        places: Vec<(u64, u64)>,
-    ) -> Result<Arc<Table>, TableSetError>
-        requires running { self.old.halted ≡ false }
-        requires some { 1 ≤ length versions.now }
-        requires numbered { list_all is_numbered versions.now ≡ true }
-        requires flushed { list_all (is_flushed flushed) versions.now ≡ true }
-        requires count { length places.items < flushed }
-        requires room { length places.items < vec_capacity places }
-        requires remain { (after : List (List Version) → List (List Version)) × Remain self.old.manifest.edit flushed places.items after }
-        ensures table { IfOk result (λ table. arc_value table ≡ versions.now) }
-        ensures puts { Puts self.old self.new versions.now flushed places.items result }
-        ensures keeps { LosesNoTable self.old self.new }
-    {
-        let built = build(self.alloc, self.manifest.id(), versions)?;
-        let spelling = built.bytes();
-        let size = spelling.len() as u64;
-        let place = match write_behind(&mut self.tables, spelling) {
-            Ok(place) => place,
-            Err(Failed) => {
-                self.halted = true;
-                return Err(TableSetError::Fault);
-            }
-        };
-        self.install(edit_of(flushed, self.log_place(), (place, size), places))?;
-        Ok(built.into_table())
-    }
-
-    /// Takes the memory of an edit that moves the log: it names the tables that there are and, before them, one of these versions, if
-    /// there are any, and flushes the entries up to this number.
-    pub fn ready(&self, versions: &Versions, flushed: Seq) -> Result<ReadyEdit, AllocError>
-        requires { MayMove self.now versions.now flushed }
-        ensures { IfOk result (IsReadyEdit self.now versions.now flushed) }
+    ) -> Result<ReadyEdit, AllocError>
+        requires { MayInstall self.now (record { gone = gone; versions = versions.now; flushed = flushed }) }
+        ensures asked { IfOk result (λ ready. ready.asked ≡ record { gone = gone; versions = versions.now; flushed = flushed }) }
+        ensures ready { IfOk result (IsReadyEdit self.now) }
     {
         let built = build_some(self.alloc, self.manifest.id(), versions)?;
         let mut tables = unplaced(self.alloc, &built)?;
-        let others = &self.manifest.edit().tables;
-        tables.extend_from_slice(others)?;
+        tables.extend_from_slice(staying(gone, &self.manifest.edit().tables))?;
         let room = self.manifest.room(Edit {
             flushed,
             place: Some(0),
             tables,
         })?;
-        Ok(ReadyEdit { room, built })
+        Ok(ReadyEdit {
+            room,
+            built,
+            gone,
+            flushed,
+            versions: Ghost::of(versions),
+        })
     }
 
-    /// Writes the table of a ready edit, if it has one. The table is for readers. It takes no memory.
-    pub fn write_table(
-        &mut self,
-        ready: &mut ReadyEdit,
-    ) -> Result<Option<Arc<Table>>, TableSetError>
+    /// Writes the table of a ready edit, if it has one. The table is for readers. It takes no memory. After a fault of the device the
+    /// set is halted.
+    pub fn write_table(&mut self, ready: &mut ReadyEdit) -> Result<Option<Arc<Table>>, Failed>
         requires running { self.old.halted ≡ false }
-        requires ready { (versions : List Version) × (flushed : ℕ) × IsReadyEdit self.old versions flushed ready.old }
-        ensures table { IfOk result (λ table. option_map arc_value table ≡ option_map (λ built. built.versions) ready.old.built) }
-        ensures written { OnOk result ((versions : List Version) (flushed : ℕ) → IsReadyEdit self.old versions flushed ready.old
-            → (place : ℕ) × TableWritten self.old self.new versions flushed place × (ready.new.edit ≡ moved_edit self.old versions flushed 0 place)) }
-        ensures uncalled { ready.old.built ≡ None → self.new ≡ self.old }
-        ensures refused { IfErr result (NotWritten self.old self.new) }
+        requires ready { IsReadyEdit self.old ready.old }
+        ensures table { IfOk result (λ table. option_map arc_value table ≡ one_part ready.old.asked.versions) }
+        ensures written { OnOk result (IsWrittenEdit self.old self.new ready.new) }
+        ensures asked { ready.new.asked ≡ ready.old.asked }
+        ensures uncalled { ready.old.asked.versions ≡ [] → self.new ≡ self.old }
+        ensures refused { OnErr result (NotWritten self.old self.new) }
         ensures keeps { LosesNoTable self.old self.new }
     {
         let Some(built) = ready.built.take() else {
             return Ok(None);
         };
-        let place = match write_behind(&mut self.tables, built.bytes()) {
-            Ok(place) => place,
+        match write_behind(&mut self.tables, built.bytes()) {
+            Ok(place) => {
+                ready.room.set_newest_place(place);
+                Ok(Some(built.into_table()))
+            }
             Err(Failed) => {
                 self.halted = true;
-                return Err(TableSetError::Fault);
+                Err(Failed)
             }
-        };
-        ready.room.set_newest_place(place);
-        Ok(Some(built.into_table()))
-    }
-
-    /// Makes a ready edit the last one, whose table was written, and by which the log begins at this place of its device. It takes no
-    /// memory.
-    pub fn install_ready(
-        &mut self,
-        mut ready: ReadyEdit,
-        log_place: u64,
-    ) -> Result<(), TableSetError>
-        requires running { self.old.halted ≡ false }
-        requires written { (old : TableSetState) × (versions : List Version) × (flushed : ℕ) × (place : ℕ) × MayMove old versions flushed
-            × TableWritten old self.old versions flushed place × (ready.edit ≡ moved_edit old versions flushed 0 place) }
-        ensures installs { InstallsEdit self.old self.new (record ready.edit { place = Some log_place }) result }
-        ensures why { IfErr result (λ why. why ≡ Fault) }
-        ensures keeps { LosesNoTable self.old self.new }
-    {
-        ready.room.set_log_place(log_place);
-        match self.manifest.install_in(ready.room) {
-            Ok(()) => Ok(()),
-            Err(InstallError::Memory) => unreachable!(),
-            Err(InstallError::DiskFault) => {
-                self.halted = true;
-                Err(TableSetError::Fault)
-            }
-            Err(InstallError::Closed(_)) => unreachable!(),
         }
     }
 
-    /// Makes the edit the last one.
-    fn install(&mut self, edit: Edit) -> Result<(), TableSetError>
+    /// Makes a ready edit the last one, whose table was written, and by which the log begins at this place of its device. It takes no
+    /// memory. After a fault of the device the set is halted, and a later opening finds the edit or does not.
+    pub fn install(&mut self, mut ready: ReadyEdit, log_place: u64) -> Result<(), Failed>
         requires running { self.old.halted ≡ false }
-        requires place { is_some edit.place ≡ true }
-        requires count { length edit.tables ≤ edit.flushed }
-        requires there { LeavesNext self.old edit }
-        ensures { InstallsEdit self.old self.new edit result }
+        requires written { (old : TableSetState) × IsWrittenEdit old self.old ready }
+        ensures installs { InstallsEdit self.old self.new (record ready.edit { place = Some log_place }) result }
+        ensures keeps { LosesNoTable self.old self.new }
     {
-        match self.manifest.install(edit) {
+        ready.room.set_log_place(log_place);
+        match self.manifest.install(ready.room) {
             Ok(()) => Ok(()),
-            Err(InstallError::Memory) => Err(TableSetError::Memory),
-            Err(InstallError::DiskFault) => {
+            Err(AppendError::DiskFault) => {
                 self.halted = true;
-                Err(TableSetError::Fault)
+                Err(Failed)
             }
-            Err(InstallError::Closed(_)) => unreachable!(),
+            Err(AppendError::Closed(_)) => unreachable!(),
         }
     }
 

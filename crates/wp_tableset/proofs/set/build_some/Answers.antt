@@ -1,5 +1,5 @@
 use Rattle.std.proofs.Common.{◌≤◌, length, rules}
-use Rattle.wp_tableset.proofs.MoveLemmas.{built_some}
+use Rattle.wp_tableset.proofs.StageLemmas.{built_some}
 use Rattle.wp_tableset.proofs.set.build_some.Goals as goal
 
 pub returns-clause-built : goal.returns-clause-built

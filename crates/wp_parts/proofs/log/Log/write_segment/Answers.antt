@@ -11,8 +11,8 @@ pub invariant_of-self : goal.invariant_of-self
 invariant_of-self g c =
     let inside = c.self.inside in
     let ending : Ending = record { closed = inside.closed; stopped = inside.stopped; failed = inside.failed.value.items; next = inside.next } in
-    let running = rw (← c.self.view_is) at c.requires.running in
-    let nothing = rw (← c.self.view_is) at c.requires.nothing in
+    let running = rw (← c.self.view_is) at c.requires.may.0 in
+    let nothing = rw (← c.self.view_is) at c.requires.may.1 in
     let stores = stores_now inside.wal inside.first.value inside.history.entries inside.pending.items inside.logged ending inside.history.base inside.history.room c.self.invariant running nothing in
     let is = rw (← c.self.view_is) at c.requires.segment in
     let k = c.in-Ok.ensures.writes c.self.invariant.log.cut stores is.1 is.2 in
@@ -22,8 +22,8 @@ pub invariant_of-self-in-Err-DiskFault : goal.invariant_of-self-in-Err-DiskFault
 invariant_of-self-in-Err-DiskFault g c =
     let inside = c.self.inside in
     let ending : Ending = record { closed = inside.closed; stopped = inside.stopped; failed = inside.failed.value.items; next = inside.next } in
-    let running = rw (← c.self.view_is) at c.requires.running in
-    let nothing = rw (← c.self.view_is) at c.requires.nothing in
+    let running = rw (← c.self.view_is) at c.requires.may.0 in
+    let nothing = rw (← c.self.view_is) at c.requires.may.1 in
     let stores = stores_now inside.wal inside.first.value inside.history.entries inside.pending.items inside.logged ending inside.history.base inside.history.room c.self.invariant running nothing in
     let is = rw (← c.self.view_is) at c.requires.segment in
     let e = rw c.in-Err-DiskFault.field-0-is at c.in-Err-DiskFault.ensures in
@@ -34,14 +34,14 @@ pub returns-in-Ok-clause-waits : goal.returns-in-Ok-clause-waits
 returns-in-Ok-clause-waits g c =
     let inside = c.self.inside in
     let ending : Ending = record { closed = inside.closed; stopped = inside.stopped; failed = inside.failed.value.items; next = inside.next } in
-    let running = rw (← c.self.view_is) at c.requires.running in
-    let nothing = rw (← c.self.view_is) at c.requires.nothing in
+    let running = rw (← c.self.view_is) at c.requires.may.0 in
+    let nothing = rw (← c.self.view_is) at c.requires.may.1 in
     let stores = stores_now inside.wal inside.first.value inside.history.entries inside.pending.items inside.logged ending inside.history.base inside.history.room c.self.invariant running nothing in
     let is = rw (← c.self.view_is) at c.requires.segment in
     let k = c.in-Ok.ensures.writes c.self.invariant.log.cut stores is.1 is.2 in
     rw (← c.self.view_is) (
       waits_of inside.wal inside.first.value inside.history.entries inside.pending.items inside.logged ending c.write_segment.new.self c.in-Ok.written c.in-Ok.ensures.ok.2 c.args.segment.now.base is.0 c.in-Ok.ensures.ok.0
-          (rw (← c.self.view_is) at c.requires.whole) (rw (← c.self.view_is) at c.requires.below) k.beside,
+          (rw (← c.self.view_is) at c.requires.may.3) (rw (← c.self.view_is) at c.requires.may.2) k.beside,
       c.in-Ok.ensures.ok.1,
     )
 
@@ -49,8 +49,8 @@ pub returns-in-Ok-clause-place : goal.returns-in-Ok-clause-place
 returns-in-Ok-clause-place g c =
     let inside = c.self.inside in
     let ending : Ending = record { closed = inside.closed; stopped = inside.stopped; failed = inside.failed.value.items; next = inside.next } in
-    let running = rw (← c.self.view_is) at c.requires.running in
-    let nothing = rw (← c.self.view_is) at c.requires.nothing in
+    let running = rw (← c.self.view_is) at c.requires.may.0 in
+    let nothing = rw (← c.self.view_is) at c.requires.may.1 in
     let stores = stores_now inside.wal inside.first.value inside.history.entries inside.pending.items inside.logged ending inside.history.base inside.history.room c.self.invariant running nothing in
     let is = rw (← c.self.view_is) at c.requires.segment in
     let k = c.in-Ok.ensures.writes c.self.invariant.log.cut stores is.1 is.2 in
@@ -60,8 +60,8 @@ pub returns-in-Ok-clause-durable : goal.returns-in-Ok-clause-durable
 returns-in-Ok-clause-durable g c =
     let inside = c.self.inside in
     let ending : Ending = record { closed = inside.closed; stopped = inside.stopped; failed = inside.failed.value.items; next = inside.next } in
-    let running = rw (← c.self.view_is) at c.requires.running in
-    let nothing = rw (← c.self.view_is) at c.requires.nothing in
+    let running = rw (← c.self.view_is) at c.requires.may.0 in
+    let nothing = rw (← c.self.view_is) at c.requires.may.1 in
     let stores = stores_now inside.wal inside.first.value inside.history.entries inside.pending.items inside.logged ending inside.history.base inside.history.room c.self.invariant running nothing in
     let is = rw (← c.self.view_is) at c.requires.segment in
     let k = c.in-Ok.ensures.writes c.self.invariant.log.cut stores is.1 is.2 in
@@ -71,8 +71,8 @@ pub returns-in-Err-DiskFault-clause-durable : goal.returns-in-Err-DiskFault-clau
 returns-in-Err-DiskFault-clause-durable g c =
     let inside = c.self.inside in
     let ending : Ending = record { closed = inside.closed; stopped = inside.stopped; failed = inside.failed.value.items; next = inside.next } in
-    let running = rw (← c.self.view_is) at c.requires.running in
-    let nothing = rw (← c.self.view_is) at c.requires.nothing in
+    let running = rw (← c.self.view_is) at c.requires.may.0 in
+    let nothing = rw (← c.self.view_is) at c.requires.may.1 in
     let stores = stores_now inside.wal inside.first.value inside.history.entries inside.pending.items inside.logged ending inside.history.base inside.history.room c.self.invariant running nothing in
     let is = rw (← c.self.view_is) at c.requires.segment in
     let e = rw c.in-Err-DiskFault.field-0-is at c.in-Err-DiskFault.ensures in
@@ -83,8 +83,8 @@ pub returns-in-Ok-clause-passed : goal.returns-in-Ok-clause-passed
 returns-in-Ok-clause-passed g c =
     let inside = c.self.inside in
     let ending : Ending = record { closed = inside.closed; stopped = inside.stopped; failed = inside.failed.value.items; next = inside.next } in
-    let running = rw (← c.self.view_is) at c.requires.running in
-    let nothing = rw (← c.self.view_is) at c.requires.nothing in
+    let running = rw (← c.self.view_is) at c.requires.may.0 in
+    let nothing = rw (← c.self.view_is) at c.requires.may.1 in
     let stores = stores_now inside.wal inside.first.value inside.history.entries inside.pending.items inside.logged ending inside.history.base inside.history.room c.self.invariant running nothing in
     let is = rw (← c.self.view_is) at c.requires.segment in
     let k = c.in-Ok.ensures.writes c.self.invariant.log.cut stores is.1 is.2 in
@@ -96,8 +96,8 @@ pub returns-in-Err-DiskFault-clause-passed : goal.returns-in-Err-DiskFault-claus
 returns-in-Err-DiskFault-clause-passed g c =
     let inside = c.self.inside in
     let ending : Ending = record { closed = inside.closed; stopped = inside.stopped; failed = inside.failed.value.items; next = inside.next } in
-    let running = rw (← c.self.view_is) at c.requires.running in
-    let nothing = rw (← c.self.view_is) at c.requires.nothing in
+    let running = rw (← c.self.view_is) at c.requires.may.0 in
+    let nothing = rw (← c.self.view_is) at c.requires.may.1 in
     let stores = stores_now inside.wal inside.first.value inside.history.entries inside.pending.items inside.logged ending inside.history.base inside.history.room c.self.invariant running nothing in
     let is = rw (← c.self.view_is) at c.requires.segment in
     let e = rw c.in-Err-DiskFault.field-0-is at c.in-Err-DiskFault.ensures in
@@ -111,4 +111,4 @@ unreachable-requires g c =
     let inside = c.self.inside in
     let ending : Ending = record { closed = inside.closed; stopped = inside.stopped; failed = inside.failed.value.items; next = inside.next } in
     let e = rw c.in-Err-Closed.field-0-is at c.in-Err-Closed.ensures in
-    true≢false (sym e.err.0 ∙ wal_runs inside.wal inside.first.value inside.history.entries inside.pending.items inside.logged ending inside.history.base inside.history.room c.self.invariant (rw (← c.self.view_is) at c.requires.running))
+    true≢false (sym e.err.0 ∙ wal_runs inside.wal inside.first.value inside.history.entries inside.pending.items inside.logged ending inside.history.base inside.history.room c.self.invariant (rw (← c.self.view_is) at c.requires.may.0))

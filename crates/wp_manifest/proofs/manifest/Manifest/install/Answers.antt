@@ -3,11 +3,11 @@ use Rattle.std.proofs.lemmas.Result.{err_from_is_err_and}
 use Rattle.wp_gatelog.specs.Log.{LogState}
 use Rattle.wp_manifest.specs.Edit.{Edit}
 use Rattle.wp_manifest.specs.Manifest.{ManifestState}
-use Rattle.wp_manifest.proofs.InstallLemmas.{passes_edits, rests_found, stores_installed, install_refused, refused_id, never_memory}
-use Rattle.wp_manifest.proofs.manifest.Manifest.install_in.Goals as goal
+use Rattle.wp_manifest.proofs.InstallLemmas.{passes_edits, rests_found, stores_installed, install_refused, refused_id}
+use Rattle.wp_manifest.proofs.manifest.Manifest.install.Goals as goal
 
-pub returns-in_err-append-clause-installs : goal.returns-in_err-append-clause-installs
-returns-in_err-append-clause-installs g c =
+pub returns-in_err-append : goal.returns-in_err-append
+returns-in_err-append g c =
     let p = err_from_is_err_and c.from_residual.result c.from_residual.ensures.1 in
     let room : Edit = c.room.inside.edit in
     let old : ManifestState = record { log = c.self.inside.log; edit = c.self.inside.edit } in
@@ -22,13 +22,8 @@ returns-in_err-append-clause-installs g c =
       later = c.in_err-append.ensures.later;
     }
 
-pub returns-in_err-append-clause-no_memory : goal.returns-in_err-append-clause-no_memory
-returns-in_err-append-clause-no_memory g c =
-    let p = err_from_is_err_and c.from_residual.result c.from_residual.ensures.1 in
-    rw (p.1, p.2) (never_memory c.in_err-append.field-0.0)
-
-pub returns-clause-installs : goal.returns-clause-installs
-returns-clause-installs g c =
+pub returns : goal.returns
+returns g c =
     let room : Edit = c.room.inside.edit in
     let old : ManifestState = record { log = c.self.inside.log; edit = c.self.inside.edit } in
     rw (← c.self.view_is, ← c.room.view_is) record {
