@@ -17,10 +17,10 @@ use Rattle.wp_core.specs.Turns.{write_turn}
 use Rattle.wp_core.specs.Views.{Event}
 use Rattle.wp_core.specs.World.{Participant}
 use Rattle.wp_core.proofs.Registered.{registered_live}
-use Rattle.wp_core.proofs.Tests.{same_some}
+use Rattle.wp_model.proofs.Tests.{same_some}
 use Rattle.wp_rule.proofs.Knows.{at_sound}
 use Rattle.wp_shared.specs.Calls.{Continues, GoesOnAs}
-use Rattle.wp_shared.specs.Log.{LogState, IsLog}
+use Rattle.wp_parts.specs.Log.{LogState, IsLog}
 use Rattle.wp_shared.specs.Notes.{no_fact, is_under, seeing}
 use Rattle.wp_shared.specs.Opening.{IsOneStore}
 use Rattle.wp_shared.specs.Seats.{SharedState, SeatState, IsFree, place_at}

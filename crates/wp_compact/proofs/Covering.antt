@@ -42,8 +42,8 @@ use Rattle.wp_core.proofs.HistoryLaws.{decided_late, decision_stays, decision_wa
 use Rattle.wp_core.proofs.PendingVersions.{covers_same}
 use Rattle.wp_core.proofs.PublishesVersions.{up_to_within, up_to_past}
 use Rattle.wp_core.proofs.SnapshotsStep.{among_live}
-use Rattle.wp_core.proofs.Tests.{none_some}
-use Rattle.wp_shared.proofs.LaterVersions.{later_none, later_past}
+use Rattle.wp_model.proofs.Tests.{none_some}
+use Rattle.wp_parts.proofs.LaterVersions.{later_none, later_past}
 use Rattle.wp_maint.proofs.Memory.{above_is}
 use Rattle.wp_compact.proofs.Retained.{all_retained}
 use Rattle.wp_maint.proofs.Versions.{Found, all_found, none_past}

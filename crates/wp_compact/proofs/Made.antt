@@ -1,57 +1,28 @@
 -- The steps of a compaction: that they may be made, and what they leave of the seat.
-use Rattle.std.proofs.Common.{◌≡◌, inl, ℕ, ◌≤◌, true, false, true≢false, List, [], ◌∷◌, length, refl, sym, subst, ap, ◌∙◌}
+use Rattle.std.proofs.Common.{◌≡◌, inl, ℕ, ◌≤◌, false, true≢false, List, [], ◌∷◌, length, refl, sym, ap, ◌∙◌}
 use Rattle.wp_model.specs.declared.entry.Entry.{Entry}
 use Rattle.wp_model.specs.declared.version.Version.{Version}
-use Rattle.wp_model.specs.Flushed.{InstalledEdit}
 use Rattle.wp_core.specs.Changes.{held_with}
 use Rattle.wp_core.specs.Notes.{ends}
-use Rattle.wp_core.specs.Sound.Store.{NoneFlushed}
 use Rattle.wp_core.specs.Conditions.{KeepsStore}
-use Rattle.wp_core.specs.Steps.{Step, install, replace_versions, note}
+use Rattle.wp_core.specs.Steps.{Step, replace_versions, note}
 use Rattle.wp_core.specs.Tables.{StoreState, Installed, store, installed}
 use Rattle.wp_core.specs.Turns.{tables_turn}
 use Rattle.wp_core.specs.Views.{Fact, tables_stay, nothing_flushed, frozen_stay}
-use Rattle.wp_core.specs.Views as event
 use Rattle.wp_core.specs.World.{Actor, World}
-use Rattle.wp_rule.specs.Knows.{Noted, KnowsInstalled}
+use Rattle.wp_rule.specs.Knows.{Noted}
 use Rattle.wp_rule.specs.Moves.{MayMake, Moved}
 use Rattle.wp_rule.specs.Words.{Place, IsAt}
-use Rattle.wp_rule.proofs.Knows.{held_is, noted_is}
-use Rattle.wp_rule.proofs.Needed.{guarded, needed}
+use Rattle.wp_rule.proofs.Knows.{held_is}
+use Rattle.wp_rule.proofs.Needed.{guarded}
 use Rattle.wp_rule.proofs.Outlasting.{outlasts}
 use Rattle.wp_rule.proofs.Stores.{holder_is_live}
-use Rattle.wp_shared.specs.Calls.{with_events}
-use Rattle.wp_shared.specs.Notes.{with_participant, GoesOn}
+use Rattle.wp_shared.specs.Notes.{GoesOn}
 use Rattle.wp_shared.specs.Seats.{SeatState}
 use Rattle.wp_shared.proofs.Noting.{note_ends_none}
 use Rattle.wp_shared.proofs.Tables.{held_table}
-use Rattle.wp_maint.specs.Holding.{is_of_flushed, is_of_tables}
-use Rattle.wp_maint.proofs.Made.{first_held, goes_from, install_ends, noted_by, second_held, table_is}
-
--- ---- an edit
-
--- the edit of a compaction, after which no flushed version is in memory either
-abbrev pub compacting : InstalledEdit → World → List Step
-compacting edit w = install edit true ∷ note nothing_flushed ∷ []
-
-pub may_compact : (p : Place) (a : Actor) (t : Installed) (edit : InstalledEdit) → a.held ≡ installed t ∷ [] → KnowsInstalled a t edit true → Noted a nothing_flushed → MayMake p a (compacting edit)
-may_compact p a t edit held known gone w k =
-    let there = first_held a (installed t) [] held in
-    let n = needed p a w k (install edit true) (record { table = t; held = there; so_is = known }) in
-    let same : edit.flushed ≡ w.installed.last.flushed = known.keeps refl ∙ ap (λ (x : Installed). x.last.flushed) (sym (held_table p a w (installed t) k there)) in
-    ((tt, (tt, tt)), (n, ((holder_is_live p a w tables_turn k n.0, guarded p a w k tables_turn n.0, subst (NoneFlushed w.store.memory) (sym same) (noted_is p a w nothing_flushed k gone).is_so), tt)))
-
-module _ (p : Place) (so : World → Type 0) (s u : SeatState) (same : (u.table ≡ s.table) × (u.by ≡ s.by) × (u.turns ≡ s.turns)) (t e : Installed) (held : s.knows.held ≡ installed t ∷ []) (m : Moved p (compacting e.last) so s.knows u.knows) where
-  pub was_compacted : e ≡ record t { last = e.last } → GoesOn is_of_flushed (installed e ∷ []) s.turns (with_participant (with_events (event.installed e.last true ∷ []) s.knows.participant) s) u
-  was_compacted is =
-      let w = m.world in
-      let left : held_with s.knows.held (installed (record w.installed { last = e.last })) ≡ installed e ∷ [] =
-      (λ i. held_with (held i) (installed (record (table_is p so s u same t e held w m.before i) { last = e.last }))) ∙ ap (λ (x : Installed). installed x ∷ []) (sym is) in
-      goes_from p so s u same (compacting e.last) m (record s.knows { participant = with_events (event.installed e.last true ∷ []) s.knows.participant }) is_of_flushed (installed e ∷ []) refl refl left
-      (λ fact other. ((λ x. x), install_ends w.writes.history (length w.cache) e.last true fact other, ((λ x. x), note_ends_none w.writes.history (length w.cache) nothing_flushed fact, tt)))
-
-  pub still_gone : Noted u.knows nothing_flushed
-  still_gone = noted_by p so s u same (compacting e.last) m nothing_flushed (inl refl)
+use Rattle.wp_maint.specs.Holding.{is_of_tables}
+use Rattle.wp_maint.proofs.Made.{first_held, goes_from, noted_by, second_held}
 
 -- ---- versions go
 

@@ -11,7 +11,7 @@ use Rattle.wp_replies.specs.Replies.{IsCompactionCount}
 use Rattle.wp_replies.specs.Tables.{listed, retained, after_compaction}
 use Rattle.wp_store.specs.Store.{with_newest}
 use Rattle.wp_table.specs.Table.{is_flushed}
-use Rattle.wp_tableset.specs.Changes.{compacted_parts, one_part}
+use Rattle.wp_tableset.specs.Changes.{Asked, new_parts, one_part, parts_after}
 use Rattle.wp_core.specs.Effects.{with_failed}
 use Rattle.wp_core.specs.Lists.{IsIn}
 use Rattle.wp_core.specs.Reading.{Registration}
@@ -20,23 +20,22 @@ use Rattle.wp_core.specs.Views.{tables_failed, tables_stay, live_listed, nothing
 use Rattle.wp_core.specs.Views as event
 use Rattle.wp_core.specs.World.{Participant}
 use Rattle.wp_rule.specs.Knows.{Noted}
-use Rattle.wp_shared.specs.VersionSet.{VersionSetState}
-use Rattle.wp_shared.specs.Installs.{in_one_table, SurvivesInstall}
+use Rattle.wp_parts.specs.VersionSet.{VersionSetState}
+use Rattle.wp_parts.specs.Installs.{SurvivesInstall}
 use Rattle.wp_shared.specs.Calls.{GoesOnAs, with_events}
 use Rattle.wp_shared.specs.Notes.{no_fact, GoesOn}
 use Rattle.wp_shared.specs.Seats.{SharedState, SeatState}
-use Rattle.wp_shared.proofs.Onward.{starts_equal, loose_none, goes_none, goes_same, goes_still}
+use Rattle.wp_shared.proofs.Onward.{starts_equal, loose_none, goes_same, goes_still}
 use Rattle.wp_read.specs.Registers.{numbers_of}
-use Rattle.wp_maint.specs.declared.error.MaintError.{MaintError}
-use Rattle.wp_maint.specs.declared.error.MaintError.TheVariants.{Memory, Nothing, TableFault, TablesStopped}
+use Rattle.wp_maint.specs.declared.error.MaintError.TheVariants.{TableFault}
 use Rattle.wp_maint.specs.Calls.{found_by}
 use Rattle.wp_compact.specs.Calls.{HasAlone, HasCompacted, IsCompactionOf, CompactsFrom, SeveralTables}
 use Rattle.wp_compact.specs.declared.decided.Bases.{Bases}
 use Rattle.wp_compact.specs.Compaction.{IsOpenedBase, IsPin, MayMerge, MayPutKept}
 use Rattle.wp_maint.specs.Holding.{is_of_flushed, is_of_tables, HoldsEdits}
-use Rattle.wp_maint.specs.Installs.{HasInstalled, NotInstalled}
+use Rattle.wp_maint.specs.Installs.{next_of, HasBroken, HasInstalled}
 use Rattle.wp_maint.proofs.Onward.{changed_seat, held_left, found_later, flushed_free, tables_free, goes_remembering}
-use Rattle.wp_compact.proofs.Replaces.{in_one_is, number_in}
+use Rattle.wp_compact.proofs.Replaces.{all_in_one, in_one_is, number_in}
 use Rattle.wp_maint.proofs.Throughout.{opens_throughout}
 use Rattle.wp_maint.proofs.Versions.{sorted_same}
 
@@ -49,11 +48,15 @@ one_sorted (v ∷ kept) ordered = ap sorted_of (append-nil (v ∷ kept)) ∙ sor
 pub only_sorted : (kept : List Version) → AreInOrder kept → (parts : List (List Version)) (part : Option (List Version)) → parts ≡ with_newest part [] → part ≡ one_part kept → sorted_of (joined parts) ≡ kept
 only_sorted kept ordered parts part is one = ap (λ (l : List (List Version)). sorted_of (joined l)) (is ∙ ap (λ (o : Option (List Version)). with_newest o []) one) ∙ one_sorted kept ordered
 
+-- what is asked for has the table in place of all
+pub alone : (e left : VersionSetState) (kept : List Version) (asked : Asked) → asked ≡ all_in_one kept e.table.last → left.parts ≡ parts_after asked e.parts → HasAlone kept e left
+alone e left kept asked is parts = parts ∙ ap (λ (x : Asked). parts_after x e.parts) is ∙ append-nil (new_parts kept)
+
 -- ---- the edit was installed
 
 module _ {D : Type 0} (z : SharedState D) (s u : SeatState) (e left : VersionSetState) (floor : ℕ) (live : List Registration) (bases : Bases) (opened : IsOpenedBase z bases.opened) (may : MayMerge s.knows e.table floor live bases) (kept : List Version) (kept_is : kept ≡ retained (take floor s.knows.participant.seen) (listed (numbers_of live) bases.opened e.table.last) e.table.last) where
   abbrev next : InstalledEdit
-  next = in_one_table kept e.table.last
+  next = next_of (all_in_one kept e.table.last) e.table.last
 
   abbrev numbers : List ℕ
   numbers = listed (numbers_of live) bases.opened e.table.last
@@ -147,7 +150,7 @@ module _ {D : Type 0} (z : SharedState D) (s u : SeatState) (e left : VersionSet
             after_is = k.table ∙ ap (λ (edit : InstalledEdit). record e.table { last = edit }) named;
             edits = k.edits;
             still_edits = k.still_edits;
-            so = parts ∙ ap (λ (l : List Version). compacted_parts l) kept_then;
+            so = parts ∙ ap (λ (l : List Version). new_parts l) kept_then;
           };
           survives = subst (SurvivesInstall e left) named k.survives;
           throughout = opens_throughout s.knows.participant.seen v.knows.participant.seen e left next (after_compaction (take floor v.knows.participant.seen) (listed (numbers_of live) first.segment.base e.table.last) e.table.last) k.edits running k.survives next_covered refl then named;
@@ -168,9 +171,8 @@ module _ {D : Type 0} (z : SharedState D) (s u : SeatState) (e left : VersionSet
     edit_is = k ∙ in_one_is (take floor s.knows.participant.seen) numbers e.table.last kept kept_is ∙ (λ i. after_compaction (take floor (sym same i)) (numbers_are i) e.table.last);
   }
 
-  pub not_compacted : HoldsEdits z s e → (why : MaintError) → NotInstalled z s e next why u left → e.table.halted ≡ false → SeveralTables e.table.last → CompactsFrom (GoesOnAs s u) (IsPin floor (numbers_of live)) z s e.table (Err why) u
-  not_compacted holds Memory k running several = subst (λ (x : SeatState). GoesOnAs s x s.knows.participant) (sym k.0) (goes_none s)
-  not_compacted holds TableFault k running several =
+  pub not_compacted : HoldsEdits z s e → HasBroken z s e next u left → e.table.halted ≡ false → SeveralTables e.table.last → CompactsFrom (GoesOnAs s u) (IsPin floor (numbers_of live)) z s e.table (Err TableFault) u
+  not_compacted holds k running several =
       let same : u.knows.participant.seen ≡ s.knows.participant.seen = ap (λ (x : SeatState). x.knows.participant.seen) k.changes.goes.same in record {
         found = k.changes.found;
         running = running;
@@ -183,5 +185,3 @@ module _ {D : Type 0} (z : SharedState D) (s u : SeatState) (e left : VersionSet
         survives = (next, asked_so (Some next) refl same, k.survives, opens_throughout s.knows.participant.seen u.knows.participant.seen e left next next k.edits running k.survives next_covered refl same refl);
         goes_on = goes_remembering s u (found_by z s u e.table k.changes.found ∷ tables_failed e.table.last left.table.failed ∷ []) no_fact (installed left.table ∷ []) s.turns k.changes.goes loose_none;
       }
-  not_compacted holds Nothing k running several = absurd k
-  not_compacted holds (TablesStopped flushed) k running several = absurd k

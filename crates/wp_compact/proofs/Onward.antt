@@ -11,9 +11,9 @@ use Rattle.wp_core.specs.Tables.{Installed, store, writes}
 use Rattle.wp_core.specs.Views.{Event, tables_failed}
 use Rattle.wp_core.specs.Views as event
 use Rattle.wp_core.specs.World.{Participant}
-use Rattle.wp_tableset.specs.Changes.{compacted_parts}
-use Rattle.wp_shared.specs.VersionSet.{VersionSetState}
-use Rattle.wp_shared.specs.Installs.{SurvivesInstall}
+use Rattle.wp_tableset.specs.Changes.{new_parts}
+use Rattle.wp_parts.specs.VersionSet.{VersionSetState}
+use Rattle.wp_parts.specs.Installs.{SurvivesInstall}
 use Rattle.wp_shared.specs.Calls.{with_events}
 use Rattle.wp_shared.specs.Seats.{SharedState, SeatState}
 use Rattle.wp_maint.specs.declared.done.Done.{Done}
@@ -96,7 +96,7 @@ module _ {D : Type 0} (First Last : Participant → Type 0) (z : SharedState D) 
         after_is = k.table.after_is ∙ ap (λ (h : List Entry). record e { last = after_compaction h (listed k.live k.first.segment.base e.last) e.last }) p.1;
         edits = k.table.edits;
         still_edits = k.table.still_edits;
-        so = k.table.so ∙ ap (λ (h : List Entry). compacted_parts (retained h (listed k.live k.first.segment.base e.last) e.last)) p.1;
+        so = k.table.so ∙ ap (λ (h : List Entry). new_parts (retained h (listed k.live k.first.segment.base e.last) e.last)) p.1;
       };
       survives = subst (λ (h : List Entry). SurvivesInstall k.table.before k.table.after (after_compaction h (listed k.live k.first.segment.base e.last) e.last)) p.1 k.survives;
       throughout = throughout_on k.table.before k.table.after (after_compaction (take done.at u.knows.participant.seen) (listed k.live k.first.segment.base e.last) e.last) (after_compaction (take done.at v.knows.participant.seen) (listed k.live k.first.segment.base e.last) e.last) (ap (λ (h : List Entry). after_compaction h (listed k.live k.first.segment.base e.last) e.last) p.1) k.throughout;

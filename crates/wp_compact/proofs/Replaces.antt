@@ -23,8 +23,8 @@ use Rattle.wp_core.specs.Sound.Store.{NoneFlushed}
 use Rattle.wp_core.specs.Tables.{StoreState, Installed, store, installed}
 use Rattle.wp_core.specs.Views.{Fact, tables_stay, live_listed, nothing_flushed}
 use Rattle.wp_core.specs.World.{Participant, Actor, World}
-use Rattle.wp_core.proofs.Tests.{same_some}
-use Rattle.wp_rule.specs.Knows.{Noted, KnowsInstalled}
+use Rattle.wp_model.proofs.Tests.{same_some}
+use Rattle.wp_rule.specs.Knows.{Noted}
 use Rattle.wp_rule.specs.Words.{IsAt}
 use Rattle.wp_rule.proofs.Knows.{at_sound, noted_is, seen_is}
 use Rattle.wp_shared.specs.Seats.{SharedState, SeatState, Stands, place_at}
@@ -32,7 +32,9 @@ use Rattle.wp_shared.proofs.Onward.{starts_on}
 use Rattle.wp_shared.proofs.Tables.{held_table}
 use Rattle.wp_read.specs.Registers.{numbers_of}
 use Rattle.wp_compact.specs.Compaction.{IsOpenedBase, MayPutKept, MayReplace}
-use Rattle.wp_shared.specs.Installs.{in_one_table}
+use Rattle.wp_tableset.specs.Changes.{Asked}
+use Rattle.wp_tableset.specs.declared.gone.Gone.TheVariants as goes
+use Rattle.wp_maint.specs.Installs.{next_of, MayInstall}
 use Rattle.wp_compact.proofs.Covering.{kept_keeps}
 
 -- ---- what was seen up to the floor
@@ -160,8 +162,15 @@ module _ {D : Type 0} (z : SharedState D) (s : SeatState) (e : Installed) (floor
 
 -- ---- the edit
 
-pub knows_compact : (a : Actor) (t : Installed) (kept : List Version) → t.halted ≡ false → IsEditCovered a.participant.seen (in_one_table kept t.last) → KnowsInstalled a t (in_one_table kept t.last) true
-knows_compact a t kept running covered = record { running = running; covered = covered; rises = omega arith; one_more = λ flushes. absurd cc; keeps = λ compacts. refl; segment = refl }
+-- the edit with these versions in place of all tables
+abbrev pub all_in_one : List Version → InstalledEdit → Asked
+all_in_one kept last = record { gone = goes.Tables; versions = kept; flushed = last.flushed }
 
-pub in_one_is : (history : List Entry) (live : List ℕ) (last : InstalledEdit) (kept : List Version) → kept ≡ retained history live last → in_one_table kept last ≡ after_compaction history live last
-in_one_is history live last kept is = ap (λ (l : List Version). in_one_table l last) is
+pub may_compact : (a : Actor) (t : Installed) (kept : List Version) → t.halted ≡ false → IsEditCovered a.participant.seen (next_of (all_in_one kept t.last) t.last) → Noted a nothing_flushed → MayInstall a t (all_in_one kept t.last)
+may_compact a t kept running covered noted = record {
+  knows = record { running = running; covered = covered; rises = omega arith; one_more = λ compacts. absurd cc; keeps = λ _. refl; segment = refl };
+  gone = λ _. noted;
+}
+
+pub in_one_is : (history : List Entry) (live : List ℕ) (last : InstalledEdit) (kept : List Version) → kept ≡ retained history live last → next_of (all_in_one kept last) last ≡ after_compaction history live last
+in_one_is history live last kept is = ap (λ (l : List Version). next_of (all_in_one l last) last) is

@@ -29,7 +29,7 @@ use Rattle.wp_read.specs.Registers.{IsPinned, numbers_of}
 use Rattle.wp_maint.specs.declared.done.Done.{Done}
 use Rattle.wp_maint.specs.declared.error.MaintError.{MaintError}
 use Rattle.wp_maint.specs.declared.error.MaintError.TheVariants.{Memory, Nothing, TableFault, TablesStopped}
-use Rattle.wp_maint.specs.Calls.{LeavesEach, found_by}
+use Rattle.wp_maint.specs.Calls.{KeepsEach, found_by}
 use Rattle.wp_compact.specs.Calls.{CompactsFrom, Compacts, FewTables, HasPinned}
 use Rattle.wp_compact.specs.declared.decided.Bases.{Bases}
 use Rattle.wp_compact.specs.Compaction.{AreLow, HadDecision, HasDecided, IsDecision, IsPin, KnowsLive, MayMerge, EndsRoundFrom, EndsRound}
@@ -310,7 +310,7 @@ module _ {D : Type 0} (z : SharedState D) (s t v : SeatState) (first : Continues
   grown_since result k = (ends_somehow (Continues z t v) (HasPinned z t v) z t v k.0 (HadDecision z t v) (Some result) k.1).1.seen
 
   -- what the rounds before left, and what the last one did
-  pub each_since : StartsWith v.knows.participant.seen t.knows.participant.seen → LeavesEach z s t → LeavesEach z t v → LeavesEach z s v
+  pub each_since : StartsWith v.knows.participant.seen t.knows.participant.seen → KeepsEach z s t → KeepsEach z t v → KeepsEach z s v
   each_since grown before last =
       let p = s.knows.participant in
       each_then z s v (each_between z s s t v (refl, refl, refl) refl (starts_same p.seen) grown before)

@@ -26,8 +26,8 @@ use Rattle.wp_core.specs.Views.{Event, Fact, tables_stay, live_listed, nothing_f
 use Rattle.wp_core.specs.World.{Participant, Actor, World}
 use Rattle.wp_rule.specs.Knows.{Noted, KnowsTables}
 use Rattle.wp_rule.proofs.Knows.{at_sound, noted_is}
-use Rattle.wp_shared.specs.VersionSet.{VersionSetState}
-use Rattle.wp_shared.specs.Stock.{StockState, store_state}
+use Rattle.wp_parts.specs.VersionSet.{VersionSetState}
+use Rattle.wp_parts.specs.Stock.{StockState, store_state}
 use Rattle.wp_shared.specs.Notes.{no_fact, is_under, noting_only, seeing, GoesOn, SawHistory}
 use Rattle.wp_shared.specs.Seats.{SharedState, SeatState, place_at}
 use Rattle.wp_shared.specs.Turns.{HoldsTurn, Taken, Given}

@@ -5,7 +5,7 @@ use Rattle.wp_model.specs.declared.version.Version.{Version}
 use Rattle.wp_model.specs.Flushed.{InstalledEdit}
 use Rattle.wp_replies.specs.Replies.{IsCompactionCount}
 use Rattle.wp_replies.specs.Tables.{listed, retained, after_compaction}
-use Rattle.wp_tableset.specs.Changes.{compacted_parts}
+use Rattle.wp_tableset.specs.Changes.{new_parts}
 use Rattle.wp_core.specs.Lists.{IsIn}
 use Rattle.wp_core.specs.Reading.{Registration}
 use Rattle.wp_core.specs.Sound.Actors.{StartsWith}
@@ -13,9 +13,9 @@ use Rattle.wp_core.specs.Tables.{Installed}
 use Rattle.wp_core.specs.Views as event
 use Rattle.wp_core.specs.World.{Participant}
 use Rattle.wp_rule.specs.Shows.{WasLast}
-use Rattle.wp_shared.specs.VersionSet.{VersionSetState}
-use Rattle.wp_shared.specs.Installs.{SurvivesInstall}
-use Rattle.wp_shared.specs.Parts.{content}
+use Rattle.wp_parts.specs.VersionSet.{VersionSetState}
+use Rattle.wp_parts.specs.Installs.{SurvivesInstall}
+use Rattle.wp_parts.specs.Parts.{content}
 use Rattle.wp_shared.specs.Calls.{Continues, with_events}
 use Rattle.wp_shared.specs.Notes.{seeing}
 use Rattle.wp_shared.specs.Seats.{SharedState, SeatState}
@@ -36,7 +36,7 @@ SeveralTables edit = 2 ≤ edit.tables
 
 -- a table of these versions is in place of all, or none where there are none
 abbrev pub HasAlone : List Version → VersionSetState → VersionSetState → Type 0
-HasAlone versions before after = after.parts ≡ compacted_parts versions
+HasAlone versions before after = after.parts ≡ new_parts versions
 
 -- All that was live was pinned in one world of the store, from this floor on, by the seat as it was before the call but that it
 -- may have seen more. The floor is no less than what it had seen before the call.

@@ -1,6 +1,7 @@
 -- What a compaction knows before it installs its edit, and what one round of it answers.
 use Rattle.std.specs.Prelude.{◌≡◌, ◌≢◌, ◌⊎◌, ℕ, ◌≤◌, ◌<◌, true, false, List, [], ◌∷◌, ◌++◌, length, min, take, Option, Some, None, Result, IfErr}
 use Rattle.std.specs.List.{list_all}
+use Rattle.std.specs.Vec.{vec_capacity}
 use Rattle.wp_model.specs.declared.entry.Entry.{Entry}
 use Rattle.wp_model.specs.declared.version.Version.{Version}
 use Rattle.wp_model.specs.Flushed.{InstalledEdit, IsEditCovered}
@@ -18,7 +19,10 @@ use Rattle.wp_core.specs.Views.{tables_stay, live_listed, nothing_flushed}
 use Rattle.wp_core.specs.World.{Participant, Actor}
 use Rattle.wp_rule.specs.Knows.{Noted}
 use Rattle.wp_rule.specs.Shows.{WasLast}
-use Rattle.wp_shared.specs.Parts.{content}
+use Rattle.wp_tableset.specs.declared.gone.Gone.TheVariants as gone
+use Rattle.wp_parts.specs.VersionSet.{VersionSetState}
+use Rattle.wp_parts.specs.Installs.{IsReadyFor}
+use Rattle.wp_parts.specs.Parts.{content}
 use Rattle.wp_shared.specs.Seats.{SharedState, SeatState}
 use Rattle.wp_read.specs.Registers.{numbers_of}
 use Rattle.wp_maint.specs.declared.done.Done.{Done}
@@ -26,6 +30,7 @@ use Rattle.wp_maint.specs.declared.error.MaintError.{MaintError}
 use Rattle.wp_maint.specs.Calls.{HeldContent, Finds, UnlessFault}
 use Rattle.wp_compact.specs.Calls.{SeveralTables, CompactsFrom}
 use Rattle.wp_compact.specs.declared.decided.Bases.{Bases}
+use Rattle.wp_compact.specs.declared.merging.ReadyMerge.{ReadyMerge}
 use Rattle.wp_compact.specs.Decided.{Decides, both_bases, version_numbers}
 
 -- ---- what is pinned
@@ -107,6 +112,13 @@ pub record MayMerge (a : Actor) (e : Installed) (floor : ℕ) (live : List Regis
   pub legal : IsLegal a.participant.seen
   pub covered : IsEditCovered a.participant.seen (after_compaction (take floor a.participant.seen) (listed (numbers_of live) bases.opened e.last) e.last)
   pub few : IsCompactionCount (take floor a.participant.seen) bases.opened floor (length (retained (take floor a.participant.seen) (listed (numbers_of live) bases.opened e.last) e.last))
+
+-- all the memory is there for an edit with what is kept in place of all tables, and for its table
+pub record HasReadyMerge (e : VersionSetState) (r : ReadyMerge) : Type 0 where
+  pub asked : r.edit.edit.asked ≡ record { gone = gone.Tables; versions = r.kept; flushed = e.table.last.flushed }
+  pub ready : IsReadyFor e r.edit
+  pub none : r.tables.items ≡ []
+  pub room : 1 ≤ vec_capacity r.tables
 
 -- ---- one round
 

@@ -5,11 +5,10 @@ ghost use Rattle.wp_rule.specs.Knows.{KnowsTables};
 ghost use Rattle.wp_shared.specs.Calls.{Continues, GoesOnAs};
 ghost use Rattle.wp_shared.specs.Seats.{IsFree};
 ghost use Rattle.wp_read.specs.Registers.{numbers_of};
-ghost use Rattle.wp_maint.specs.Calls.{LeavesEach, RefusesBeforeInstall};
+ghost use Rattle.wp_maint.specs.Calls.{InstalledNone, KeepsEach, RefusesBeforeDevices};
 ghost use Rattle.wp_compact.specs.Calls.{Compacts, HasPinned};
 ghost use Rattle.wp_compact.specs.Compaction.{HadDecision, HasDecided, IsDecision, IsOpenedBase, IsPin, KnowsLive, EndsRoundFrom, EndsRound, InRound};
 ghost use Rattle.wp_maint.specs.Holding.{HoldsEdits};
-ghost use Rattle.wp_maint.specs.Installs.{AreLeft};
 
 use crate::decided::{Decided, decide_tables};
 use crate::merging::merge;
@@ -39,7 +38,7 @@ fn compact_in<D: Disk + Drop, R: Wait>(
     ensures holds { HoldsEdits store.now seat.new edits.new }
     ensures in_step { KnowsTables seat.new.knows edits.new.table.last }
     ensures says { EndsRoundFrom (GoesOnAs seat.old seat.new) (IsPin pinned.now.floor.number (numbers_of pinned.now.live.items)) (IsDecision pinned.now.floor.number decided.bases decided.versions) store.now seat.old edits.old.table result seat.new }
-    ensures manifest { InRound (AreLeft edits.old edits.new) result }
+    ensures untouched { InRound (edits.new ≡ edits.old) result }
 {
     if edits.is_halted() {
         find_edits(store, seat);
@@ -68,7 +67,7 @@ fn compact_pinned<D: Disk + Drop, R: Wait>(
     requires floor { IsIn pinned.now.floor seat.old.knows.participant.registered × (pinned.now.floor.number ≡ length seat.old.knows.participant.seen) }
     requires live { KnowsLive seat.old.knows pinned.now.floor.number pinned.now.live.items }
     ensures says { EndsRound (Continues store.now seat.old seat.new) (IsPin pinned.now.floor.number (numbers_of pinned.now.live.items)) (HadDecision store.now seat.old seat.new) store.now seat.old result seat.new }
-    ensures manifest { InRound (LeavesEach store.now seat.old seat.new) result }
+    ensures untouched { InRound (KeepsEach store.now seat.old seat.new) result }
 {
     let Ok(decided) = decide_tables(store, rt, alloc, seat, pinned) else {
         return Some(Err(MaintError::Memory));
@@ -90,7 +89,7 @@ fn try_compact<D: Disk + Drop, R: Wait>(
 ) -> Option<Result<Done, MaintError>>
     requires { IsFree store.now.table seat.old }
     ensures says { EndsRound (Continues store.now seat.old seat.new) (HasPinned store.now seat.old seat.new) (HadDecision store.now seat.old seat.new) store.now seat.old result seat.new }
-    ensures manifest { InRound (LeavesEach store.now seat.old seat.new) result }
+    ensures untouched { InRound (KeepsEach store.now seat.old seat.new) result }
 {
     match pin_all(store, rt, alloc, seat) {
         Ok(pinned) => {
@@ -104,6 +103,7 @@ fn try_compact<D: Disk + Drop, R: Wait>(
 
 /// Writes one table in place of all, or none where no version is left: without the versions that no reader of the published
 /// number needs, nor one of a live snapshot, nor one at the log's base now or as the store was opened. Nothing is answered where there are fewer than two tables.
+/// All memory is taken before the first call of a device.
 pub fn compact<D: Disk + Drop, R: Wait>(
     store: &Shared<D>,
     rt: &R,
@@ -112,7 +112,8 @@ pub fn compact<D: Disk + Drop, R: Wait>(
 ) -> Result<Done, MaintError>
     requires { IsFree store.now.table seat.old }
     ensures answers { Compacts store.now seat.old result seat.new }
-    ensures before_install { IfErr result (λ why. RefusesBeforeInstall (LeavesEach store.now seat.old seat.new) seat.old why seat.new) }
+    ensures before_devices { IfErr result (λ why. RefusesBeforeDevices (KeepsEach store.now seat.old seat.new) seat.old why seat.new) }
+    ensures behind_install { IfErr result (λ _. InstalledNone seat.old.knows.participant seat.new.knows.participant) }
 {
     for _ in rt.forever() {
         if let Some(result) = try_compact(store, rt, alloc, seat) {

@@ -5,7 +5,7 @@ ghost use Rattle.wp_merge.specs.Merge.{joined, sorted_of};
 ghost use Rattle.wp_core.specs.Sound.Actors.{StartsWith};
 ghost use Rattle.wp_core.specs.Tables.{installed};
 ghost use Rattle.wp_core.specs.Tables as table;
-ghost use Rattle.wp_shared.specs.Stock.{store_state};
+ghost use Rattle.wp_parts.specs.Stock.{store_state};
 ghost use Rattle.wp_rule.specs.Knows.{KnowsTables};
 ghost use Rattle.wp_shared.specs.Notes.{no_fact, seeing, GoesOn};
 ghost use Rattle.wp_shared.specs.Turns.{HoldsTurn};

@@ -1,18 +1,16 @@
 -- A refused flush or renewal installed no edit and did not call the manifest's device, or a device failed it; and what that says of any call.
-use Rattle.std.proofs.Common.{◌≡◌, ◌⊎◌, inl, inr, ℕ, Bool, true, false, List, [], ◌∷◌, ◌++◌, filter, length, length-append, Option, Some, refl, sym, subst, ap, ◌∙◌, append-nil, arith}
+use Rattle.std.proofs.Common.{◌≡◌, inl, inr, ℕ, Bool, true, false, List, [], ◌∷◌, ◌++◌, filter, length, length-append, Some, refl, sym, subst, ap, ◌∙◌, append-nil, arith}
 use Rattle.std.proofs.lemmas.List.{append_cancel_left}
 use Rattle.std.proofs.lemmas.List.Elements.{filter-append}
 use Rattle.std.specs.Prelude.{Result, Ok, Err, IfErr}
-use Rattle.wp_model.specs.Flushed.{InstalledEdit}
 use Rattle.wp_core.specs.Lists.{IsIn}
 use Rattle.wp_core.specs.Sound.Actors.{StartsWith}
 use Rattle.wp_core.specs.Tables.{installed}
 use Rattle.wp_core.specs.Views.{Event, log_failed, log_stopped, stopped, tables_failed}
-use Rattle.wp_core.specs.Views as event
 use Rattle.wp_core.specs.World.{Participant, World}
 use Rattle.wp_rule.specs.Words.{IsAt}
-use Rattle.wp_shared.specs.VersionSet.{VersionSetState, IsEdits}
-use Rattle.wp_shared.specs.Parts.{EditsStand, set_first}
+use Rattle.wp_parts.specs.VersionSet.{VersionSetState, IsEdits}
+use Rattle.wp_parts.specs.Parts.{EditsStand, set_first}
 use Rattle.wp_shared.specs.Calls.{Continues, with_events}
 use Rattle.wp_shared.specs.Seats.{SharedState, SeatState, Stands, place_at}
 use Rattle.wp_shared.proofs.Onward.{starts_equal}
@@ -22,9 +20,9 @@ use Rattle.wp_maint.specs.declared.error.MaintError.TheVariants.{Memory, Nothing
 use Rattle.wp_maint.specs.declared.renewed.Renewed.{Renewed}
 use Rattle.wp_maint.specs.declared.renewed.RenewError.{RenewError}
 use Rattle.wp_maint.specs.declared.renewed.RenewError.TheVariants as renewal
-use Rattle.wp_maint.specs.Calls.{Finds, Flushes, is_of_install, installs_of, LeavesManifest, LeavesOnce, LeavesEach, MadeNoInstall, FailedOnce, UnlessFault, RefusesBeforeInstall, found_by}
-use Rattle.wp_maint.specs.Installs.{AreLeft, HasBroken, NotInstalled}
-use Rattle.wp_maint.specs.Renewal.{BeforeDevices, IsRefusedBefore, KeepsOnce, Renews, UnlessDeviceFault}
+use Rattle.wp_maint.specs.Calls.{AreSameTables, Finds, Flushes, GivesBack, InstalledNone, IsUncalled, is_of_edit, is_of_install, installs_of, LeavesOnce, KeepsOnce, KeepsEach, MadeNoInstall, FailedOnce, UnlessFault, RefusesBeforeDevices, found_by}
+use Rattle.wp_maint.specs.Installs.{AreLeft}
+use Rattle.wp_maint.specs.Renewal.{BeforeDevices, IsRefusedBefore, Renews, UnlessDeviceFault}
 use Rattle.wp_maint.proofs.Onward.{IsSeat}
 
 -- ---- unless a device failed
@@ -77,25 +75,24 @@ module _ {D : Type 0} (z : SharedState D) (s t v : SeatState) (before after : Ve
     joined = seat.2;
   }
 
-  left : AreLeft before after → LeavesManifest z s v before.table
-  left k = (found, record { before = before; after = after; of_store = of_store; still_of_store = still_of_store; before_is = refl; after_is = k.0; edits = edits; still_edits = still_edits; so = k.1 })
+  gives : (So : VersionSetState → VersionSetState → Type 0) → after.table ≡ before.table → So before after → GivesBack So z s v before.table
+  gives So table so = (found, record { before = before; after = after; of_store = of_store; still_of_store = still_of_store; before_is = refl; after_is = table; edits = edits; still_edits = still_edits; so = so })
 
   pub left_once : AreLeft before after → LeavesOnce z s v
-  left_once k = (before.table, left k)
+  left_once k = (before.table, gives IsUncalled k.0 k.1)
 
   -- ... as they were
-  pub kept_once : EditsStand before → after ≡ before → KeepsOnce z s v
-  kept_once stand same = (
-    before.table,
-    found,
-    record { before = before; after = after; of_store = of_store; still_of_store = still_of_store; before_is = refl; after_is = ap (λ (e : VersionSetState). e.table) same; edits = edits; still_edits = still_edits; so = (same, stand) },
-  )
+  kept : EditsStand before → after ≡ before → GivesBack AreSameTables z s v before.table
+  kept stand same = gives AreSameTables (ap (λ (e : VersionSetState). e.table) same) (same, stand)
 
-  pub left_each : AreLeft before after → LeavesEach z s v
-  left_each k = (
+  pub kept_once : EditsStand before → after ≡ before → KeepsOnce z s v
+  kept_once stand same = let k = kept stand same in (before.table, k.0, k.1)
+
+  pub kept_each : EditsStand before → after ≡ before → KeepsEach z s v
+  kept_each stand same = (
     before.table ∷ [],
     λ e there. elim there [
-      | inl is ↦ subst (LeavesManifest z s v) is (left k)
+      | inl is ↦ subst (GivesBack AreSameTables z s v) is (kept stand same)
       | inr none ↦ absurd none
     ],
   )
@@ -140,34 +137,42 @@ module _ {D : Type 0} (z : SharedState D) (old new : SeatState) where
     renewed_before (Err renewal.TableFault) k left = (k.0.last, k.1.asked, remembered (found_by z old new k.0 k.1.found ∷ tables_failed k.0.last k.1.asked ∷ log_stopped ∷ []) k.1.goes_on)
     renewed_before (Err renewal.LogFault) k left = (none_remembered (found_by z old new k.0 k.1.found ∷ log_failed [] ∷ []) refl k.1.goes_on, left)
 
-    pub flushed_before : (result : Result Done MaintError) → Flushes z old result new → IfErr result (UnlessFault Leaves) → IfErr result (λ why. RefusesBeforeInstall Leaves old why new)
+    pub flushed_before : (result : Result Done MaintError) → Flushes z old result new → IfErr result (UnlessFault Leaves) → IfErr result (λ why. RefusesBeforeDevices Leaves old why new)
     flushed_before (Ok done) k left = tt
     flushed_before (Err Memory) k left = (ap installs_of k.1.participant, left)
     flushed_before (Err Nothing) k left = (none_remembered (found_by z old new k.0 k.1.1.found ∷ []) refl k.1.1.goes_on, left)
     flushed_before (Err TableFault) k left = (k.0.last, k.1.1.asked, remembered (found_by z old new k.0 k.1.1.found ∷ tables_failed k.0.last k.1.1.asked ∷ []) k.1.1.goes_on)
     flushed_before (Err (TablesStopped flushed)) k left = (none_remembered (found_by z old new k.0 k.1.found ∷ []) refl k.1.goes_on, left)
 
--- ---- what was refused left the manifest alone, or a device failed
-
-pub refused_or_failed : (Leaves : Type 0) (old new : SeatState) (why : MaintError) → RefusesBeforeInstall Leaves old why new → (MadeNoInstall old.knows.participant new.knows.participant × Leaves) ⊎ ((why ≡ TableFault) × FailedOnce old.knows.participant new.knows.participant)
-refused_or_failed Leaves old new TableFault r = inr (refl, r)
-refused_or_failed Leaves old new other r = inl r
-
-pub left_or_broken : {D : Type 0} (z : SharedState D) (s u : SeatState) (e left : VersionSetState) (next : InstalledEdit) (why : MaintError) → NotInstalled z s e next why u left → UnlessFault (AreLeft e left) why → AreLeft e left ⊎ ((why ≡ TableFault) × HasBroken z s e next u left)
-left_or_broken z s u e left next TableFault k so = inr (refl, k)
-left_or_broken z s u e left next other k so = inl so
+-- ---- no edit was installed
 
 one_more : (xs : List Event) (x : Event) → xs ≡ xs ++ x ∷ [] → ⊥
 one_more xs x is = let l = ap (λ (es : List Event). length es) is in let m = length-append xs (x ∷ []) in omega (arith, l, m)
 
-abbrev begins_failed : List Event → Bool
-begins_failed (tables_failed last asked ∷ events) = true
-begins_failed other = false
+abbrev first_of_edit : List Event → Bool
+first_of_edit (e ∷ events) = is_of_edit e
+first_of_edit [] = false
 
-other_event : (last edit : InstalledEdit) (asked : Option InstalledEdit) (compacts : Bool) → tables_failed last asked ∷ [] ≡ event.installed edit compacts ∷ [] → ⊥
-other_event last edit asked compacts is = let b : true ≡ false = ap begins_failed is in absurd cc
+pub made_none : (p q : Participant) → MadeNoInstall p q → InstalledNone p q
+made_none p q same made of_edit more = one_more (installs_of p) made (sym same ∙ more)
 
-pub none_installed : (Leaves : Type 0) (old new : SeatState) (why : MaintError) (edit : InstalledEdit) (compacts : Bool) → installs_of new.knows.participant ≡ installs_of old.knows.participant ++ event.installed edit compacts ∷ [] → RefusesBeforeInstall Leaves old why new → ⊥
-none_installed Leaves old new TableFault edit compacts more r =
-    other_event r.0 edit r.1 compacts (append_cancel_left (installs_of old.knows.participant) (tables_failed r.0 r.1 ∷ []) (event.installed edit compacts ∷ []) (sym r.2 ∙ more))
-none_installed Leaves old new other edit compacts more r = one_more (installs_of old.knows.participant) (event.installed edit compacts) (sym r.0 ∙ more)
+pub failed_none : (p q : Participant) → FailedOnce p q → InstalledNone p q
+failed_none p q k made of_edit more =
+    let one = append_cancel_left (installs_of p) (tables_failed k.0 k.1 ∷ []) (made ∷ []) (sym k.2 ∙ more) in
+    let wrong : false ≡ true = ap first_of_edit one ∙ of_edit in absurd cc
+
+pub none_installed : (Keeps : Type 0) (old new : SeatState) (result : Result Done MaintError) → IfErr result (λ why. RefusesBeforeDevices Keeps old why new) → IfErr result (λ _. InstalledNone old.knows.participant new.knows.participant)
+none_installed Keeps old new (Ok done) k = tt
+none_installed Keeps old new (Err TableFault) k = failed_none old.knows.participant new.knows.participant k
+none_installed Keeps old new (Err Memory) k = made_none old.knows.participant new.knows.participant k.0
+none_installed Keeps old new (Err Nothing) k = made_none old.knows.participant new.knows.participant k.0
+none_installed Keeps old new (Err (TablesStopped flushed)) k = made_none old.knows.participant new.knows.participant k.0
+
+pub none_renewed : (Leaves : Type 0) (old new : SeatState) (result : Result Renewed RenewError) → IfErr result (λ why. IsRefusedBefore Leaves old why new) → IfErr result (λ _. InstalledNone old.knows.participant new.knows.participant)
+none_renewed Leaves old new (Ok done) k = tt
+none_renewed Leaves old new (Err renewal.TableFault) k = failed_none old.knows.participant new.knows.participant k
+none_renewed Leaves old new (Err renewal.Memory) k = made_none old.knows.participant new.knows.participant k.0
+none_renewed Leaves old new (Err (renewal.TablesStopped flushed)) k = made_none old.knows.participant new.knows.participant k.0
+none_renewed Leaves old new (Err (renewal.Stopped n)) k = made_none old.knows.participant new.knows.participant k.0
+none_renewed Leaves old new (Err renewal.Nothing) k = made_none old.knows.participant new.knows.participant k.0
+none_renewed Leaves old new (Err renewal.LogFault) k = made_none old.knows.participant new.knows.participant k.0

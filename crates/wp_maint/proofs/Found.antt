@@ -6,16 +6,14 @@ use Rattle.wp_core.specs.Lists.{IsIn}
 use Rattle.wp_core.specs.Tables.{Installed, installed}
 use Rattle.wp_core.specs.Views.{Event, Fact, tables_stay, nothing_flushed}
 use Rattle.wp_rule.specs.Knows.{KnowsTables, KnowsInstalled}
-use Rattle.wp_shared.specs.VersionSet.{VersionSetState}
+use Rattle.wp_parts.specs.VersionSet.{VersionSetState}
 use Rattle.wp_shared.specs.Calls.{with_events}
 use Rattle.wp_shared.specs.Notes.{with_participant, GoesOn}
 use Rattle.wp_shared.specs.Seats.{SharedState, SeatState}
 use Rattle.wp_shared.proofs.Onward.{starts_equal}
-use Rattle.wp_maint.specs.declared.error.MaintError.{MaintError}
-use Rattle.wp_maint.specs.declared.error.MaintError.TheVariants.{Memory, Nothing, TableFault, TablesStopped}
 use Rattle.wp_maint.specs.Calls.{found_by}
 use Rattle.wp_maint.specs.Finding.{Remembers, Changes}
-use Rattle.wp_maint.specs.Installs.{NotInstalled}
+use Rattle.wp_maint.specs.Installs.{HasBroken}
 use Rattle.wp_maint.proofs.Onward.{found_later}
 
 pub held_first : (s : SeatState) (t : Installed) → s.knows.held ≡ installed t ∷ [] → IsIn (installed t) s.knows.held
@@ -48,11 +46,8 @@ then_changes z s u v t k left event test goes =
       goes = subst (λ (b : SeatState). GoesOn test (installed left ∷ []) s.turns b v) both (subst (λ (x : SeatState). GoesOn test (installed left ∷ []) x.turns (with_participant (with_events (event ∷ []) u.knows.participant) u) v) k.is goes);
     }
 
--- what was noted of the tables is so still where the edit was refused
-pub in_step_refused : {D : Type 0} (z : SharedState D) (s u : SeatState) (e left : VersionSetState) (next : InstalledEdit) (why : MaintError) → NotInstalled z s e next why u left → KnowsTables s.knows e.table.last → KnowsTables u.knows left.table.last
-in_step_refused z s u e left next Memory k there = subst (λ (x : SeatState × Installed). KnowsTables x.0.knows x.1.last) (sym (λ i. (k.0 i, k.1 i))) there
-in_step_refused z s u e left next TableFault k there =
+-- what was noted of the tables is so still where a device failed
+pub in_step_broken : {D : Type 0} (z : SharedState D) (s u : SeatState) (e left : VersionSetState) (next : InstalledEdit) → HasBroken z s e next u left → KnowsTables s.knows e.table.last → KnowsTables u.knows left.table.last
+in_step_broken z s u e left next k there =
     let last : left.table.last ≡ e.table.last = ap (λ (x : Installed). x.last) k.table ∙ failed_last e.table left.table.failed in
     subst (KnowsTables u.knows) (sym last) (k.changes.goes.noted nothing_flushed refl there.0, (there.1.0, k.changes.goes.noted (tables_stay e.table.last.versions there.1.0) refl there.1.1))
-in_step_refused z s u e left next Nothing k there = absurd k
-in_step_refused z s u e left next (TablesStopped flushed) k there = absurd k

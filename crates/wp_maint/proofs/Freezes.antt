@@ -5,7 +5,6 @@ use Rattle.wp_model.specs.declared.entry.Entry.{Entry}
 use Rattle.wp_model.specs.declared.version.Version.{Version}
 use Rattle.wp_model.specs.Flushed.{IsEditCovered, later_versions}
 use Rattle.wp_model.specs.Legal.{IsLegal}
-use Rattle.wp_model.specs.Versions.{version_at}
 use Rattle.wp_merge.specs.Merge.{joined, sorted_of}
 use Rattle.wp_merge.proofs.Sorted.{in_order_sorted}
 use Rattle.wp_replies.specs.Tables.{unflushed, after_flush, after_renewal}
@@ -19,9 +18,9 @@ use Rattle.wp_core.specs.World.{Actor, World}
 use Rattle.wp_rule.specs.Knows.{KnowsTables, Noted}
 use Rattle.wp_rule.proofs.Knows.{at_sound, noted_is}
 use Rattle.wp_rule.specs.Words.{IsAt}
-use Rattle.wp_shared.specs.VersionSet.{VersionSetState}
-use Rattle.wp_shared.specs.Log.{LogState}
-use Rattle.wp_shared.specs.Stock.{StockState, store_state}
+use Rattle.wp_parts.specs.VersionSet.{VersionSetState}
+use Rattle.wp_parts.specs.Log.{LogState}
+use Rattle.wp_parts.specs.Stock.{StockState, store_state}
 use Rattle.wp_shared.specs.Notes.{no_fact, is_under, noting, seeing, GoesOn}
 use Rattle.wp_shared.specs.Seats.{SharedState, SeatState, Stands, place_at}
 use Rattle.wp_shared.specs.Turns.{HoldsTurn, Taken, TookLog, Given}
@@ -32,8 +31,6 @@ use Rattle.wp_maint.specs.declared.frozen.Frozen.{Frozen}
 use Rattle.wp_maint.specs.Flush.{versions_of, HasCopied, HasFrozen, Freezes}
 use Rattle.wp_maint.specs.Calls.{NoneInMemory, SawWhole}
 use Rattle.wp_maint.specs.Holding.{HoldsEdits}
-use Rattle.wp_maint.specs.Renewal.{HasFrozenAll}
-use Rattle.wp_maint.specs.Renewing.{HasCopiedAll}
 use Rattle.wp_maint.proofs.Memory.{memory_is, all_numbered, all_flushed, count_is, rises, flush_covered, renewal_covered, none_in_memory, sorted_none}
 use Rattle.wp_maint.proofs.Onward.{in_step_on}
 
@@ -80,76 +77,42 @@ module _ {D : Type 0} (z : SharedState D) (s : SeatState) (d : WriteState) (stoc
     at_seen : f.at ≡ length s.knows.participant.seen
     at_seen = k.at_is ∙ at_is ∙ ap (λ (h : List Entry). length h) (sym seen)
 
-    pub frozen_within : f.at ≤ length s.knows.participant.seen
-    frozen_within = omega (arith, at_seen)
-
-    pub frozen_same : (key : List ℕ) (q : ℕ) → q ≤ f.at → version_at t.memory key q ≡ version_at (versions_of f) key q
-    frozen_same key q low = ap (λ (m : List Version). version_at m key q) (sym k.versions)
-
     versions_are : (versions_of f) ≡ sorted_of (unflushed s.knows.participant.seen e.last)
     versions_are = k.versions ∙ frozen_is
 
-    some_sorted : 1 ≤ length (sorted_of (unflushed s.knows.participant.seen e.last))
-    some_sorted = let q = ap (λ (l : List Version). length l) frozen_is in omega (arith, k.some, q)
+    later_some : 1 ≤ length (versions_of f) → e.last.flushed < f.at
+    later_some some =
+        let q = ap (λ (l : List Version). length l) versions_are in
+        let r = rises s.knows.participant.seen seen_legal e.last seen_covered (omega (arith, some, q)) in omega (arith, r, at_seen)
 
     pub has_frozen : (u : SeatState) → u ≡ noting (frozen_stay f.at (versions_of f)) s → HasFrozen u.knows e f
     has_frozen u is = subst (λ (a : Actor). HasFrozen a e f) (sym (ap (λ (x : SeatState). x.knows) is)) (record {
       at = at_seen;
       versions = versions_are;
       count = ap (λ (l : List Version). length l) versions_are ∙ count_is s.knows.participant.seen seen_legal e.last seen_covered;
-      some = let q = ap (λ (l : List Version). length l) k.versions in omega (arith, k.some, q);
       numbered = rw versions_are (all_numbered s.knows.participant.seen seen_legal e.last seen_covered);
       flushed = rw (versions_are, at_seen) (all_flushed s.knows.participant.seen seen_legal e.last seen_covered);
-      later = let r = rises s.knows.participant.seen seen_legal e.last seen_covered some_sorted in omega (arith, r, at_seen);
+      later = ((let fits = seen_covered.flushed in omega (arith, fits, at_seen)), later_some);
       tables = k.tables ∙ tables_are;
       room = k.room;
       covered = flush_covered s.knows.participant.seen seen_legal e.last seen_covered;
-      noted = inl refl;
-    })
-
-  -- ... for a renewal, which freezes where nothing is in memory too
-  module _ (at : ℕ) (at_is : at ≡ length d.history) (f : Frozen) (k : HasCopiedAll t at f) where
-    all_at : f.at ≡ length s.knows.participant.seen
-    all_at = k.at_is ∙ at_is ∙ ap (λ (h : List Entry). length h) (sym seen)
-
-    pub all_within : f.at ≤ length s.knows.participant.seen
-    all_within = omega (arith, all_at)
-
-    pub all_same : (key : List ℕ) (q : ℕ) → q ≤ f.at → version_at t.memory key q ≡ version_at (versions_of f) key q
-    all_same key q low = ap (λ (m : List Version). version_at m key q) (sym k.versions)
-
-    all_versions : (versions_of f) ≡ sorted_of (unflushed s.knows.participant.seen e.last)
-    all_versions = k.versions ∙ frozen_is
-
-    all_later : 1 ≤ length (versions_of f) → e.last.flushed < f.at
-    all_later some =
-        let q = ap (λ (l : List Version). length l) all_versions in
-        let r = rises s.knows.participant.seen seen_legal e.last seen_covered (omega (arith, some, q)) in omega (arith, r, all_at)
-
-    pub has_all : (u : SeatState) → u ≡ noting (frozen_stay f.at (versions_of f)) s → HasFrozenAll u.knows e f
-    has_all u is = subst (λ (a : Actor). HasFrozenAll a e f) (sym (ap (λ (x : SeatState). x.knows) is)) (record {
-      at = all_at;
-      versions = all_versions;
-      numbered = rw all_versions (all_numbered s.knows.participant.seen seen_legal e.last seen_covered);
-      flushed = rw (all_versions, all_at) (all_flushed s.knows.participant.seen seen_legal e.last seen_covered);
-      later = ((let fits = seen_covered.flushed in omega (arith, fits, all_at)), all_later);
-      tables = k.tables ∙ tables_are;
-      room = k.room;
-      covered = renewal_covered s.knows.participant.seen seen_legal e.last seen_covered;
+      covered_at = renewal_covered s.knows.participant.seen seen_legal e.last seen_covered;
       noted = inl refl;
     })
 
 -- what is frozen is so still where the notes are there still
-pub all_still : (a b : Actor) (e : Installed) (f : Frozen) → b.participant.seen ≡ a.participant.seen → (Noted a (frozen_stay f.at (versions_of f)) → Noted b (frozen_stay f.at (versions_of f))) → HasFrozenAll a e f → HasFrozenAll b e f
-all_still a b e f same still k = record {
+pub frozen_still : (a b : Actor) (e : Installed) (f : Frozen) → b.participant.seen ≡ a.participant.seen → (Noted a (frozen_stay f.at (versions_of f)) → Noted b (frozen_stay f.at (versions_of f))) → HasFrozen a e f → HasFrozen b e f
+frozen_still a b e f same still k = record {
   at = k.at ∙ ap (λ (h : List Entry). length h) (sym same);
   versions = k.versions ∙ ap (λ (h : List Entry). sorted_of (unflushed h e.last)) (sym same);
+  count = k.count ∙ ap (λ (h : List Entry). length (unflushed h e.last)) (sym same);
   numbered = k.numbered;
   flushed = k.flushed;
   later = k.later;
   tables = k.tables;
   room = k.room;
-  covered = λ place. subst (λ (h : List Entry). IsEditCovered h (after_renewal h place e.last)) (sym same) (k.covered place);
+  covered = subst (λ (h : List Entry). IsEditCovered h (after_flush h e.last)) (sym same) k.covered;
+  covered_at = λ place. subst (λ (h : List Entry). IsEditCovered h (after_renewal h place e.last)) (sym same) (k.covered_at place);
   noted = still k.noted;
 }
 
@@ -231,19 +194,7 @@ module _ {D : Type 0} {z : SharedState D} {s0 s1 s2 : SeatState} {e : VersionSet
       seen_same = sym (ap (λ (x : SeatState). x.knows.participant.seen) last.goes.same ∙ ap (λ (x : SeatState). x.knows.participant.seen) gave.goes.same)
 
       freezes_still : (frozen : Option Frozen) → Freezes s3.knows e.table frozen → Freezes s5.knows e.table frozen
-      freezes_still (Some x) k = record {
-        at = k.at ∙ ap (λ (h : List Entry). length h) seen_same;
-        versions = k.versions ∙ ap (λ (h : List Entry). sorted_of (unflushed h e.table.last)) seen_same;
-        count = k.count ∙ ap (λ (h : List Entry). length (unflushed h e.table.last)) seen_same;
-        some = k.some;
-        numbered = k.numbered;
-        flushed = k.flushed;
-        later = k.later;
-        tables = k.tables;
-        room = k.room;
-        covered = subst (λ (h : List Entry). IsEditCovered h (after_flush h e.table.last)) seen_same k.covered;
-        noted = last.goes.noted (frozen_stay x.at (versions_of x)) refl (gave.goes.noted (frozen_stay x.at (versions_of x)) refl k.noted);
-      }
+      freezes_still (Some x) k = (frozen_still s3.knows s5.knows e.table x (sym seen_same) (λ noted. last.goes.noted (frozen_stay x.at (versions_of x)) refl (gave.goes.noted (frozen_stay x.at (versions_of x)) refl noted)) k.0, k.1)
       freezes_still None k = subst (λ (h : List Entry). NoneInMemory h e.table.last) seen_same k
 
       pub frozen_five : {E : Type 0} (result : Result (Option Frozen) E) → IfOk result (λ frozen. Freezes s3.knows e.table frozen) → IfOk result (λ frozen. Freezes s5.knows e.table frozen)

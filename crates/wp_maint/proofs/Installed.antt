@@ -1,57 +1,84 @@
 -- The edit of a flush, and the table that takes the place of what was frozen.
-use Rattle.std.proofs.Common.{◌≡◌, ◌⊎◌, inl, inr, ℕ, suc, ◌<◌, ◌≤◌, nat_le, Bool, false, cond, List, [], ◌∷◌, ◌++◌, Option, Some, None, refl, sym, subst, ap, ◌∙◌, arith}
+use Rattle.std.proofs.Common.{◌≡◌, ◌⊎◌, inl, inr, ℕ, suc, ◌<◌, ◌≤◌, nat_le, Bool, true, false, cond, List, [], ◌∷◌, ◌++◌, length, map, Option, Some, None, refl, sym, subst, ap, ◌∙◌, arith}
 use Rattle.std.proofs.lemmas.Bool.{cases_lt, le-leb}
 use Rattle.std.specs.Prelude.{IfSome}
+use Rattle.std.specs.Arc.{arc_value}
 use Rattle.std.specs.Option.{option_or}
 use Rattle.wp_model.specs.declared.version.Version.{Version}
 use Rattle.wp_model.specs.Flushed.{InstalledEdit, IsEditCovered}
 use Rattle.wp_model.specs.Versions.{version_at}
-use Rattle.wp_merge.specs.Merge.{sorted_of}
+use Rattle.wp_merge.specs.Merge.{joined, sorted_of}
 use Rattle.wp_merge.proofs.Sorted.{at_append, at_sorted}
 use Rattle.wp_replies.specs.Tables.{unflushed, after_flush}
+use Rattle.wp_store.specs.Store.{with_newest}
+use Rattle.wp_tableset.specs.Changes.{Asked, one_part}
+use Rattle.wp_tableset.specs.declared.gone.Gone.TheVariants as gone
 use Rattle.wp_core.specs.Lists.{IsIn}
 use Rattle.wp_core.specs.Sound.Store.{NoneFlushed}
 use Rattle.wp_core.specs.Tables.{Content, StoreState, Installed, store, installed}
 use Rattle.wp_core.specs.Views.{Fact, tables_stay, frozen_stay}
 use Rattle.wp_core.specs.World.{Participant, Actor, World}
-use Rattle.wp_core.proofs.Tests.{none_some}
-use Rattle.wp_rule.specs.Knows.{Noted, KnowsMoved, KnowsInstalled}
+use Rattle.wp_model.proofs.Tests.{none_some}
+use Rattle.wp_rule.specs.Knows.{Noted, KnowsMoved}
 use Rattle.wp_rule.proofs.Knows.{noted_is}
-use Rattle.wp_shared.specs.VersionSet.{VersionSetState}
+use Rattle.wp_parts.specs.VersionSet.{VersionSetState, with_new}
+use Rattle.wp_parts.specs.Installs.{HadCause}
+use Rattle.wp_tableset.specs.Set.{TableSetState}
+use Rattle.wp_outside.specs.Faults.{Rose}
 use Rattle.wp_shared.specs.Notes.{with_participant, GoesOn}
 use Rattle.wp_shared.specs.Seats.{SharedState, SeatState, Stands, place_at}
 use Rattle.wp_shared.proofs.Tables.{held_table}
 use Rattle.wp_maint.specs.declared.frozen.Frozen.{Frozen}
-use Rattle.wp_shared.specs.Installs.{with_table}
 use Rattle.wp_maint.specs.Flush.{versions_of, HasFrozen, MayPut}
 use Rattle.wp_maint.specs.Holding.{HoldsEdits}
+use Rattle.wp_maint.specs.Installs.{is_compaction, next_of, MayInstall}
 use Rattle.wp_maint.proofs.Versions.{Found, none_past, same_sorted}
 
 -- ---- the edit
 
-pub same_edit : (a : Actor) (t : Installed) (f : Frozen) → HasFrozen a t f → with_table (versions_of f) f.at t.last ≡ after_flush a.participant.seen t.last
-same_edit a t f k =
-    let later = unflushed a.participant.seen t.last in
-    let list : sorted_of ((versions_of f) ++ t.last.versions) ≡ sorted_of (later ++ t.last.versions) = same_sorted ((versions_of f) ++ t.last.versions) (later ++ t.last.versions) (λ key p.
-    at_append (versions_of f) t.last.versions key p
-    ∙ ap (λ (o : Found). option_or o (version_at t.last.versions key p)) (ap (λ (l : List Version). version_at l key p) k.versions ∙ at_sorted later key p)
-    ∙ sym (at_append later t.last.versions key p)) in
-    λ i. record { segment = t.last.segment; flushed = k.at i; versions = list i; tables = suc t.last.tables }
+-- where something is frozen, its table is one more
+some_new : (versions : List Version) (last : InstalledEdit) → 1 ≤ length versions → with_new gone.Frozen versions last ≡ record last { versions = sorted_of (versions ++ last.versions); tables = suc last.tables }
+some_new [] last some = let wrong : ⊥ = omega (arith, some) in absurd wrong
+some_new (v ∷ versions) last some = refl
 
-pub knows_flush : (a : Actor) (t : Installed) (f : Frozen) → HasFrozen a t f → t.halted ≡ false → KnowsInstalled a t (with_table (versions_of f) f.at t.last) false
-knows_flush a t f k running = record {
-  running = running;
-  covered = subst (IsEditCovered a.participant.seen) (sym (same_edit a t f k)) k.covered;
-  rises = let l = k.later in omega (arith, l);
-  one_more = λ _. omega arith;
-  keeps = λ compacts. absurd cc;
-  segment = refl;
-}
+-- in the end only what is sorted counts
+pub same_list : (versions later more : List Version) → versions ≡ sorted_of later → sorted_of (versions ++ more) ≡ sorted_of (later ++ more)
+same_list versions later more is =
+    same_sorted (versions ++ more) (later ++ more) (λ key p.
+    at_append versions more key p
+    ∙ ap (λ (o : Found). option_or o (version_at more key p)) (ap (λ (l : List Version). version_at l key p) is ∙ at_sorted later key p)
+    ∙ sym (at_append later more key p))
+
+module _ (a : Actor) (t : Installed) (f : Frozen) (asked : Asked) (k : HasFrozen a t f) (some : 1 ≤ length (versions_of f)) (is : asked ≡ record { gone = gone.Frozen; versions = versions_of f; flushed = f.at }) where
+  -- what is asked for of what is frozen is the edit of a flush
+  pub same_edit : next_of asked t.last ≡ after_flush a.participant.seen t.last
+  same_edit =
+      ap (λ (x : Asked). next_of x t.last) is
+      ∙ ap (λ (x : InstalledEdit). record x { segment = t.last.segment; flushed = f.at }) (some_new (versions_of f) t.last some)
+      ∙ (λ i. record { segment = t.last.segment; flushed = k.at i; versions = same_list (versions_of f) (unflushed a.participant.seen t.last) t.last.versions k.versions i; tables = suc t.last.tables })
+
+  pub may_flush : t.halted ≡ false → MayInstall a t asked
+  may_flush running = record {
+    knows = record {
+      running = running;
+      covered = subst (IsEditCovered a.participant.seen) (sym same_edit) k.covered;
+      rises = let n = ap (λ (x : InstalledEdit). x.flushed) same_edit in let l = k.later.0 in let at = k.at in omega (arith, n, l, at);
+      one_more = λ _. let n = ap (λ (x : InstalledEdit). x.tables) same_edit in omega (arith, n);
+      keeps = λ compacts. let none : false ≡ true = sym (ap (λ (x : Asked). is_compaction x.gone) is) ∙ compacts in absurd cc;
+      segment = refl;
+    };
+    gone = λ tables. let none : false ≡ true = sym (ap (λ (x : Asked). is_compaction x.gone) is) ∙ ap is_compaction tables in absurd cc;
+  }
 
 -- what is so of the edit that was asked for is so of the one whose install failed, if one did
-pub asked_of : (so : InstalledEdit → Type 0) (edit : InstalledEdit) (failed : Option InstalledEdit) → so edit → (failed ≡ None) ⊎ (failed ≡ Some edit) → IfSome failed so
-asked_of so edit failed is (inl none) = subst (λ (o : Option InstalledEdit). IfSome o so) (sym none) tt
-asked_of so edit failed is (inr some) = subst (λ (o : Option InstalledEdit). IfSome o so) (sym some) is
+pub asked_of : (so : InstalledEdit → Type 0) (edit : InstalledEdit) (failed : Option InstalledEdit) → so edit → IfSome failed (λ next. next ≡ edit) → IfSome failed so
+asked_of so edit None is same = tt
+asked_of so edit (Some next) is same = subst so (sym same) is
+
+-- a fault behind another call is one since before it
+pub fault_since : (old mid new : TableSetState) → mid.manifest.log.faults ≡ old.manifest.log.faults → old.faults ≤ mid.faults → HadCause mid new → HadCause old new
+fault_since old mid new same later (inl rose) = inl (subst (λ (n : ℕ). Rose n new.manifest.log.faults) same rose)
+fault_since old mid new same later (inr rose) = inr (omega (arith, rose, later))
 
 pub still_holds : {D : Type 0} (z : SharedState D) (s u : SeatState) (e left : VersionSetState) (p : Participant) (test : Fact → Bool) → HoldsEdits z s e → GoesOn test (installed left.table ∷ []) s.turns (with_participant p s) u → left.first ≡ e.first → HoldsEdits z u left
 still_holds z s u e left p test h k first = record {
@@ -69,9 +96,23 @@ still_holds z s u e left p test h k first = record {
 or_same : (a b : Found) → a ≡ None → option_or a b ≡ b
 or_same a b none = ap (λ (o : Found). option_or o b) none
 
-module _ {D : Type 0} (z : SharedState D) (s : SeatState) (e : Installed) (f : Frozen) (versions : List Version) (may : MayPut s.knows e f versions) (u : SeatState) (w : World) (stands : Stands z u w)
+-- the tables with it are one list
+joined_with : (table : Option (List Version)) (versions : List Version) (tables : List (List Version)) → table ≡ one_part versions → joined (with_newest table tables) ≡ versions ++ joined tables
+joined_with table versions tables is = ap (λ (o : Option (List Version)). joined (with_newest o tables)) is ∙ of versions
+  where
+    of : (vs : List Version) → joined (with_newest (one_part vs) tables) ≡ vs ++ joined tables
+    of [] = refl
+    of (v ∷ vs) = refl
+
+module _ {D : Type 0} (z : SharedState D) (s : SeatState) (e : Installed) (f : Frozen) (table : Option (List Version)) (may : MayPut s.knows e f table) (u : SeatState) (w : World) (stands : Stands z u w)
     (notes : (fact : Fact) → Noted s.knows fact → Noted u.knows fact) (t : StoreState) (others : List Content) (held : u.knows.held ≡ store t ∷ others)
-    (now : StoreState) (memory : (key : List ℕ) (p : ℕ) → version_at now.memory key p ≡ cond (nat_le p f.at) None (version_at t.memory key p)) (tables : List Version) (tables_is : now.tables ≡ sorted_of (versions ++ tables)) (before : sorted_of tables ≡ may.before) where
+    (now : StoreState) (memory : (key : List ℕ) (p : ℕ) → version_at now.memory key p ≡ cond (nat_le p f.at) None (version_at t.memory key p)) (put : now.tables ≡ sorted_of (joined (with_newest table (map arc_value f.tables.items)))) where
+  abbrev tables : List Version
+  tables = joined (map arc_value f.tables.items)
+
+  tables_is : now.tables ≡ sorted_of (versions_of f ++ tables)
+  tables_is = put ∙ ap sorted_of (joined_with table (versions_of f) (map arc_value f.tables.items) may.table_is)
+
   here : w.store ≡ t
   here = held_table (place_at z u.by) u.knows w (store t) stands (subst (IsIn (store t)) (sym held) (inl refl))
 
@@ -93,10 +134,9 @@ module _ {D : Type 0} (z : SharedState D) (s : SeatState) (e : Installed) (f : F
   now_at : (key : List ℕ) (q : ℕ) → version_at now.tables key q ≡ option_or (version_at (versions_of f) key q) (version_at t.tables key q)
   now_at key q =
       ap (λ (l : List Version). version_at l key q) tables_is
-      ∙ at_sorted (versions ++ tables) key q
-      ∙ at_append versions tables key q
-      ∙ ap (λ (l : List Version). option_or (version_at l key q) (version_at tables key q)) may.versions_are
-      ∙ ap (option_or (version_at (versions_of f) key q)) (sym (at_sorted tables key q) ∙ ap (λ (l : List Version). version_at l key q) (before ∙ sym tables_then))
+      ∙ at_sorted (versions_of f ++ tables) key q
+      ∙ at_append (versions_of f) tables key q
+      ∙ ap (option_or (version_at (versions_of f) key q)) (sym (at_sorted tables key q) ∙ ap (λ (l : List Version). version_at l key q) (may.tables ∙ sym tables_then))
 
   pub knows_moved : KnowsMoved t e.last.flushed now.memory now.tables
   knows_moved = record {
@@ -129,9 +169,8 @@ module _ {D : Type 0} (z : SharedState D) (s : SeatState) (e : Installed) (f : F
   pub tables_named : now.tables ≡ e.last.versions
   tables_named =
       tables_is
-      ∙ same_sorted (versions ++ tables) ((versions_of f) ++ may.before) (λ key p.
-      at_append versions tables key p
-      ∙ ap (λ (l : List Version). option_or (version_at l key p) (version_at tables key p)) may.versions_are
-      ∙ ap (option_or (version_at (versions_of f) key p)) (sym (at_sorted tables key p) ∙ ap (λ (l : List Version). version_at l key p) before)
+      ∙ same_sorted (versions_of f ++ tables) (versions_of f ++ may.before) (λ key p.
+      at_append (versions_of f) tables key p
+      ∙ ap (option_or (version_at (versions_of f) key p)) (sym (at_sorted tables key p) ∙ ap (λ (l : List Version). version_at l key p) may.tables)
       ∙ sym (at_append (versions_of f) may.before key p))
       ∙ sym may.last

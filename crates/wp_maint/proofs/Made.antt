@@ -20,6 +20,7 @@ use Rattle.wp_rule.specs.Knows.{Noted, KnowsMoved, KnowsInstalled}
 use Rattle.wp_rule.specs.Moves.{MayMake, Moved, Outlasts, actor_after, world_after}
 use Rattle.wp_rule.specs.Words.{Place, IsAt}
 use Rattle.wp_rule.proofs.Forgets.{EndsNothing}
+use Rattle.wp_rule.proofs.Knows.{noted_is}
 use Rattle.wp_rule.proofs.MayBeMade.{known_made}
 use Rattle.wp_rule.proofs.Needed.{guarded, needed}
 use Rattle.wp_rule.proofs.Outlasting.{outlasts}
@@ -137,6 +138,29 @@ module _ (p : Place) (so : World → Type 0) (s u : SeatState) (same : (u.table 
 pub may_halt : (p : Place) (a : Actor) (t : Installed) (edit : Option InstalledEdit) → a.held ≡ installed t ∷ [] → t.halted ≡ false → IfSome edit (IsEditCovered a.participant.seen) → IfSome edit (λ e. e.segment ≡ t.last.segment) → MayMake p a (λ w. halt edit ∷ [])
 may_halt p a t None held running covered same = known_made p a (halt None) tt (record { table = t; held = first_held a (installed t) [] held; so_is = running })
 may_halt p a t (Some edit) held running covered same = known_made p a (halt (Some edit)) tt (record { table = t; held = first_held a (installed t) [] held; so_is = (running, covered, inl same) })
+
+-- the edit of a compaction, after which no flushed version is in memory either
+abbrev pub compacting : InstalledEdit → World → List Step
+compacting edit w = install edit true ∷ note nothing_flushed ∷ []
+
+pub may_compact : (p : Place) (a : Actor) (t : Installed) (edit : InstalledEdit) → a.held ≡ installed t ∷ [] → KnowsInstalled a t edit true → Noted a nothing_flushed → MayMake p a (compacting edit)
+may_compact p a t edit held known gone w k =
+    let there = first_held a (installed t) [] held in
+    let n = needed p a w k (install edit true) (record { table = t; held = there; so_is = known }) in
+    let same : edit.flushed ≡ w.installed.last.flushed = known.keeps refl ∙ ap (λ (x : Installed). x.last.flushed) (sym (held_table p a w (installed t) k there)) in
+    ((tt, (tt, tt)), (n, ((holder_is_live p a w tables_turn k n.0, guarded p a w k tables_turn n.0, subst (NoneFlushed w.store.memory) (sym same) (noted_is p a w nothing_flushed k gone).is_so), tt)))
+
+module _ (p : Place) (so : World → Type 0) (s u : SeatState) (same : (u.table ≡ s.table) × (u.by ≡ s.by) × (u.turns ≡ s.turns)) (t e : Installed) (held : s.knows.held ≡ installed t ∷ []) (m : Moved p (compacting e.last) so s.knows u.knows) where
+  pub was_compacted : e ≡ record t { last = e.last } → GoesOn is_of_flushed (installed e ∷ []) s.turns (with_participant (with_events (event.installed e.last true ∷ []) s.knows.participant) s) u
+  was_compacted is =
+      let w = m.world in
+      let left : held_with s.knows.held (installed (record w.installed { last = e.last })) ≡ installed e ∷ [] =
+      (λ i. held_with (held i) (installed (record (table_is p so s u same t e held w m.before i) { last = e.last }))) ∙ ap (λ (x : Installed). installed x ∷ []) (sym is) in
+      goes_from p so s u same (compacting e.last) m (record s.knows { participant = with_events (event.installed e.last true ∷ []) s.knows.participant }) is_of_flushed (installed e ∷ []) refl refl left
+      (λ fact other. ((λ x. x), install_ends w.writes.history (length w.cache) e.last true fact other, ((λ x. x), note_ends_none w.writes.history (length w.cache) nothing_flushed fact, tt)))
+
+  pub still_gone : Noted u.knows nothing_flushed
+  still_gone = noted_by p so s u same (compacting e.last) m nothing_flushed (inl refl)
 
 -- ---- versions move
 

@@ -26,8 +26,8 @@ use Rattle.wp_core.specs.World.{World}
 use Rattle.wp_core.proofs.HistoryGrows.{none_is}
 use Rattle.wp_core.proofs.PendingVersions.{covers_same}
 use Rattle.wp_core.proofs.PublishesVersions.{up_to_within}
-use Rattle.wp_core.proofs.Tests.{none_some}
-use Rattle.wp_shared.proofs.LaterVersions.{later_none, later_each, later_past}
+use Rattle.wp_model.proofs.Tests.{none_some}
+use Rattle.wp_parts.proofs.LaterVersions.{later_none, later_each, later_past}
 use Rattle.wp_maint.specs.Calls.{NoneInMemory}
 use Rattle.wp_maint.proofs.Versions.{Found, empty_list, all_found, length_sorted, distinct_later}
 

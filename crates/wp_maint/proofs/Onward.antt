@@ -17,9 +17,9 @@ use Rattle.wp_core.specs.Views as event
 use Rattle.wp_core.specs.World.{Participant, World}
 use Rattle.wp_rule.specs.Knows.{KnowsTables}
 use Rattle.wp_rule.specs.Words.{IsAt}
-use Rattle.wp_tableset.specs.Changes.{compacted_parts}
-use Rattle.wp_shared.specs.VersionSet.{VersionSetState}
-use Rattle.wp_shared.specs.Installs.{SurvivesInstall}
+use Rattle.wp_tableset.specs.Changes.{new_parts}
+use Rattle.wp_parts.specs.VersionSet.{VersionSetState}
+use Rattle.wp_parts.specs.Installs.{SurvivesInstall}
 use Rattle.wp_shared.specs.Calls.{IsLoose, GoesOnAs, with_events}
 use Rattle.wp_shared.specs.Notes.{seeing, with_participant, GoesOn}
 use Rattle.wp_shared.specs.Seats.{SharedState, SeatState, Stands, place_at}
@@ -256,7 +256,7 @@ module _ {D : Type 0} (First Last : Participant → Type 0) (z : SharedState D) 
       after_is = k.table.after_is ∙ ap (λ (h : List Entry). record e { last = after_renewal h k.place e.last }) seen;
       edits = k.table.edits;
       still_edits = k.table.still_edits;
-      so = k.table.so ∙ ap (λ (h : List Entry). compacted_parts (sorted_of (unflushed h e.last)) ++ k.table.before.parts) seen;
+      so = k.table.so ∙ ap (λ (h : List Entry). new_parts (sorted_of (unflushed h e.last)) ++ k.table.before.parts) seen;
     };
     survives = subst (λ (h : List Entry). SurvivesInstall k.table.before k.table.after (after_renewal h k.place e.last)) seen k.survives;
     log = subst (λ (h : List Entry). LogBecame z k.busy.unclosed.0 (record k.busy.unclosed.0 { segment = record { place = k.place; base = length h }; next = None })

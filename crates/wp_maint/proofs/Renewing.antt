@@ -20,9 +20,9 @@ use Rattle.wp_core.specs.Sound.Segments.{AreCoupled}
 use Rattle.wp_core.specs.Tables.{WriteState, Installed}
 use Rattle.wp_core.specs.World.{World, Participant}
 use Rattle.wp_core.proofs.EachStep.{reached_is_sound}
-use Rattle.wp_core.proofs.Tests.{none_some, same_some}
-use Rattle.wp_shared.specs.VersionSet.{VersionSetState}
-use Rattle.wp_shared.specs.Log.{LogState, IsLog}
+use Rattle.wp_model.proofs.Tests.{none_some, same_some}
+use Rattle.wp_parts.specs.VersionSet.{VersionSetState}
+use Rattle.wp_parts.specs.Log.{LogState, IsLog}
 use Rattle.wp_shared.specs.Opening.{IsOneStore}
 use Rattle.wp_shared.specs.Seats.{SharedState, SeatState}
 use Rattle.wp_maint.specs.declared.renewed.Renewed.{Renewed}

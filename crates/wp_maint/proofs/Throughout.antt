@@ -21,7 +21,7 @@ use Rattle.wp_manifest.specs.Spelling.{MAGIC, IsManifestOf, IsManifestOrNext, la
 use Rattle.wp_manifest.proofs.EditLemmas.{last-push}
 use Rattle.wp_merge.specs.Merge.{joined}
 use Rattle.wp_merge.proofs.Sorted.{in_order_sorted}
-use Rattle.wp_shared.specs.Opens.{installed_of}
+use Rattle.wp_contents.specs.Opens.{installed_of}
 use Rattle.wp_table.specs.File.{HasTables}
 use Rattle.wp_core.specs.Sound.Actors.{StartsWith}
 use Rattle.wp_core.specs.Images.{LogTells, ManifestTells, MayName, MaySpell}
@@ -30,15 +30,15 @@ use Rattle.wp_core.specs.Tables.{Installed}
 use Rattle.wp_core.specs.World.{World, history}
 use Rattle.wp_core.proofs.CrashImages.{left_by_crash}
 use Rattle.wp_core.proofs.EachStep.{reached_is_sound}
-use Rattle.wp_core.proofs.Tests.{none_some}
+use Rattle.wp_model.proofs.Tests.{none_some}
 use Rattle.wp_rule.proofs.Maintenance.{edit_later}
-use Rattle.wp_shared.specs.VersionSet.{VersionSetState, IsEdits, IsNamed}
-use Rattle.wp_shared.specs.Installs.{SurvivesInstall}
-use Rattle.wp_shared.specs.Log.{LogState, IsLog, spells}
+use Rattle.wp_parts.specs.VersionSet.{VersionSetState, IsEdits, IsNamed}
+use Rattle.wp_parts.specs.Installs.{SurvivesInstall}
+use Rattle.wp_parts.specs.Log.{LogState, IsLog, spells}
 use Rattle.wp_shared.proofs.Ended as ended
-use Rattle.wp_shared.proofs.LogLemmas.{known_image}
+use Rattle.wp_parts.proofs.LogLemmas.{known_image}
 use Rattle.wp_shared.proofs.Onward.{starts_on, starts_equal, starts_same}
-use Rattle.wp_shared.proofs.Reopens.{ReopensEdit, reopens_edit}
+use Rattle.wp_parts.proofs.Reopens.{ReopensEdit, reopens_edit}
 use Rattle.wp_maint.specs.Calls.{IsUncalled}
 use Rattle.wp_maint.specs.Moments.{LeftSince, LeftInInstall, MaySpellAmid, OpensFrom, OpensFromBase, OpensThroughout, SpellsCut}
 use Rattle.wp_maint.specs.Renewal.{LeftInRenewal, SurvivesBeside, NamesEdit, NamesItsSegment, segment_of}

@@ -1,5 +1,5 @@
 -- While no device is called, what a crash leaves of all three opens to what the log may spell, from the edit's base on.
-use Rattle.std.proofs.Common.{◌≡◌, inl, inr, ℕ, ◌<◌, ◌^◌, List, true, false, true≢false, Some, sym, subst, ap, ◌∙◌}
+use Rattle.std.proofs.Common.{◌≡◌, inl, inr, ℕ, ◌<◌, ◌^◌, List, false, true≢false, Some, sym, subst, ap, ◌∙◌}
 use Rattle.wp_model.specs.declared.entry.Entry.{Entry}
 use Rattle.wp_model.specs.declared.segment.Segment.{Segment}
 use Rattle.wp_model.specs.Flushed.{InstalledEdit, IsEditCovered}
@@ -14,18 +14,18 @@ use Rattle.wp_core.specs.Tables.{WriteState, Installed, installed}
 use Rattle.wp_core.specs.World.{World, Participant, history}
 use Rattle.wp_core.proofs.CrashImages.{segment_by_crash}
 use Rattle.wp_core.proofs.EachStep.{reached_is_sound}
-use Rattle.wp_core.proofs.Tests.{none_some, same_some}
+use Rattle.wp_model.proofs.Tests.{none_some, same_some}
 use Rattle.wp_rule.proofs.Maintenance.{edit_later}
-use Rattle.wp_shared.specs.VersionSet.{VersionSetState, IsEdits}
-use Rattle.wp_shared.specs.Log.{LogState, IsLog}
+use Rattle.wp_parts.specs.VersionSet.{VersionSetState, IsEdits}
+use Rattle.wp_parts.specs.Log.{LogState, IsLog}
 use Rattle.wp_shared.specs.Opening.{IsOneStore}
-use Rattle.wp_shared.specs.Opens.{installed_of}
-use Rattle.wp_shared.specs.Parts.{EditsStand, LogStands, log_first, set_first}
+use Rattle.wp_contents.specs.Opens.{installed_of}
+use Rattle.wp_parts.specs.Parts.{EditsStand, LogStands, log_first, set_first}
 use Rattle.wp_shared.specs.Seats.{SharedState, SeatState, place_at}
 use Rattle.wp_shared.proofs.Tables.{held_table}
-use Rattle.wp_maint.specs.Calls.{TablesBecame}
+use Rattle.wp_maint.specs.Calls.{AreSameTables, KeepsOnce, TablesBecame}
 use Rattle.wp_maint.specs.Moments.{MaySpellAmid, OpensToSuch, SpellsCut, SpellsNamed}
-use Rattle.wp_maint.specs.Renewal.{AreSameTables, IsClosed, IsRenewed, IsSameLog, KeepsOnce, LogBecame, NamesEdit, OpensUnmoved}
+use Rattle.wp_maint.specs.Renewal.{IsClosed, IsRenewed, IsSameLog, LogBecame, NamesEdit, OpensUnmoved}
 use Rattle.wp_maint.proofs.Throughout.{log_amid, opens_as}
 
 -- ---- the manifest's last edit

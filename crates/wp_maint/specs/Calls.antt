@@ -5,7 +5,6 @@ use Rattle.wp_model.specs.declared.version.Version.{Version}
 use Rattle.wp_model.specs.Flushed.{InstalledEdit}
 use Rattle.wp_merge.specs.Merge.{sorted_of}
 use Rattle.wp_replies.specs.Tables.{unflushed, after_flush}
-use Rattle.wp_tableset.specs.declared.error.TableSetError.TheVariants.{Fault}
 use Rattle.wp_core.specs.Effects.{with_failed}
 use Rattle.wp_core.specs.Lists.{IsIn}
 use Rattle.wp_core.specs.Sound.Actors.{StartsWith}
@@ -15,9 +14,9 @@ use Rattle.wp_core.specs.Views.{Event, tables_failed, found_edit}
 use Rattle.wp_core.specs.Views as event
 use Rattle.wp_core.specs.World.{Actor, Participant, World}
 use Rattle.wp_rule.specs.Words.{IsAt}
-use Rattle.wp_shared.specs.VersionSet.{VersionSetState, IsEdits}
-use Rattle.wp_shared.specs.Installs.{HadCause, SurvivesInstall}
-use Rattle.wp_shared.specs.Parts.{set_first}
+use Rattle.wp_parts.specs.VersionSet.{VersionSetState, IsEdits}
+use Rattle.wp_parts.specs.Installs.{HadCause, SurvivesInstall}
+use Rattle.wp_parts.specs.Parts.{EditsStand, set_first}
 use Rattle.wp_shared.specs.Calls.{Continues, with_events}
 use Rattle.wp_shared.specs.Seats.{SharedState, SeatState, place_at}
 use Rattle.wp_maint.specs.Moments.{OpensThroughout}
@@ -86,7 +85,7 @@ HasNewest versions before after = after.parts ≡ versions ∷ before.parts
 
 -- a call to one of the two devices failed: its count rose
 abbrev pub HasFault : VersionSetState → VersionSetState → Type 0
-HasFault before after = HadCause before.set after.set Fault
+HasFault before after = HadCause before.set after.set
 
 -- ---- refusals
 
@@ -171,22 +170,36 @@ is_of_install other = false
 abbrev pub installs_of : Participant → List Event
 installs_of p = filter is_of_install p.past
 
+-- an event of an edit that was installed
+abbrev pub is_of_edit : Event → Bool
+is_of_edit (event.installed edit compacts) = true
+is_of_edit (event.renewed edit) = true
+is_of_edit other = false
+
 -- The manifest's device was not called: its count and its moments are as they were.
 abbrev pub IsUncalled : VersionSetState → VersionSetState → Type 0
 IsUncalled before after = after.set.manifest ≡ before.set.manifest
 
--- The call took these tables from behind the turn, and gave them back with the manifest's device uncalled.
-abbrev pub LeavesManifest : {D : Type 0} → SharedState D → SeatState → SeatState → Installed → Type 0
-LeavesManifest z old new e = Finds z old new e × TablesBecame z e e IsUncalled
+-- The tables, and what their devices show of themselves, are as they were; and what a crash leaves of these is as the table says.
+abbrev pub AreSameTables : VersionSetState → VersionSetState → Type 0
+AreSameTables before after = (after ≡ before) × EditsStand before
 
--- ... a flush, which takes them once
+-- The call took these tables from behind the turn, and gave them back so.
+abbrev pub GivesBack : {D : Type 0} → (VersionSetState → VersionSetState → Type 0) → SharedState D → SeatState → SeatState → Installed → Type 0
+GivesBack So z old new e = Finds z old new e × TablesBecame z e e So
+
+-- ... with the manifest's device uncalled
 abbrev pub LeavesOnce : {D : Type 0} → SharedState D → SeatState → SeatState → Type 0
-LeavesOnce z old new = (e : Installed) × LeavesManifest z old new e
+LeavesOnce z old new = (e : Installed) × GivesBack IsUncalled z old new e
 
--- ... a compaction, which takes them in each round, unless it wants memory before it does: each time that it took them. That there
+-- ... as they were: so a flush, which takes them once
+abbrev pub KeepsOnce : {D : Type 0} → SharedState D → SeatState → SeatState → Type 0
+KeepsOnce z old new = (e : Installed) × Finds z old new e × TablesBecame z e e AreSameTables
+
+-- ... and a compaction, which takes them in each round, unless it wants memory before it does: each time that it took them. That there
 -- was no other time no clause tells; but an append leaves its mark, as below.
-abbrev pub LeavesEach : {D : Type 0} → SharedState D → SeatState → SeatState → Type 0
-LeavesEach z old new = (taken : List Installed) × ((e : Installed) → IsIn e taken → LeavesManifest z old new e)
+abbrev pub KeepsEach : {D : Type 0} → SharedState D → SeatState → SeatState → Type 0
+KeepsEach z old new = (taken : List Installed) × ((e : Installed) → IsIn e taken → GivesBack AreSameTables z old new e)
 
 -- the seat installed no edit, and no device failed it
 abbrev pub MadeNoInstall : Participant → Participant → Type 0
@@ -196,16 +209,20 @@ MadeNoInstall old new = installs_of new ≡ installs_of old
 abbrev pub FailedOnce : Participant → Participant → Type 0
 FailedOnce old new = (last : InstalledEdit) × (asked : Option InstalledEdit) × (installs_of new ≡ installs_of old ++ tables_failed last asked ∷ [])
 
+-- it did not install an edit, and remember no other install
+abbrev pub InstalledNone : Participant → Participant → Type 0
+InstalledNone old new = (made : Event) → is_of_edit made ≡ true → installs_of new ≡ installs_of old ++ made ∷ [] → ⊥
+
 -- this is so, unless the answer is that a device failed
 abbrev pub UnlessFault : Type 0 → MaintError → Type 0
 UnlessFault So TableFault = Unit {0}
 UnlessFault So other = So
 
--- What a refused call did with the manifest's device. Each append of an edit leaves its mark: who installs holds the tables turn, and
+-- What a refused call did with the devices. Each append of an edit leaves its mark: who installs holds the tables turn, and
 -- can give it only with the tables as the machine has them. By then an edit whose append answered Ok is in its past, and so is a
 -- device that failed. Where the call says that one failed, it made no more than that install, and it is in its past; it says so too where
 -- the table could not be written, and the manifest was not called. Where it says anything else, want of memory too, it appended no edit,
--- and the device was not called. So behind an install that answered Ok the call answers Ok.
-abbrev pub RefusesBeforeInstall : (Leaves : Type 0) → SeatState → MaintError → SeatState → Type 0
-RefusesBeforeInstall Leaves old TableFault new = FailedOnce old.knows.participant new.knows.participant
-RefusesBeforeInstall Leaves old other new = MadeNoInstall old.knows.participant new.knows.participant × Leaves
+-- and no device was called.
+abbrev pub RefusesBeforeDevices : (Keeps : Type 0) → SeatState → MaintError → SeatState → Type 0
+RefusesBeforeDevices Keeps old TableFault new = FailedOnce old.knows.participant new.knows.participant
+RefusesBeforeDevices Keeps old other new = MadeNoInstall old.knows.participant new.knows.participant × Keeps

@@ -1,9 +1,12 @@
 -- A seat that holds the tables turn.
 use Rattle.std.specs.Prelude.{◌≡◌, Bool, true, false, [], Some}
-use Rattle.wp_core.specs.Tables.{installed}
+use Rattle.wp_core.specs.Changes.{held_without}
+use Rattle.wp_core.specs.Lists.{IsIn}
+use Rattle.wp_core.specs.Tables.{Installed, installed}
+use Rattle.wp_core.specs.Turns.{store_turn}
 use Rattle.wp_core.specs.Views.{Fact, tables_stay, nothing_flushed, frozen_stay}
-use Rattle.wp_shared.specs.VersionSet.{VersionSetState}
-use Rattle.wp_shared.specs.Parts.{set_first}
+use Rattle.wp_parts.specs.VersionSet.{VersionSetState}
+use Rattle.wp_parts.specs.Parts.{set_first}
 use Rattle.wp_shared.specs.Seats.{SharedState, SeatState}
 use Rattle.wp_shared.specs.Turns.{HoldsTurn}
 
@@ -17,6 +20,13 @@ abbrev pub is_of_tables : Fact → Bool
 is_of_tables (tables_stay versions floor) = true
 is_of_tables (frozen_stay n versions) = true
 is_of_tables other = is_of_flushed other
+
+-- A live seat of the store has these tables, and not the versions that readers look at.
+pub record HoldsTables {D : Type 0} (z : SharedState D) (s : SeatState) (e : Installed) : Type 0 where
+  pub same_table : s.table ≡ z.table
+  pub live : s.knows.live ≡ true
+  pub tables : IsIn (installed e) s.knows.held
+  pub without : held_without s.knows.held store_turn ≡ s.knows.held
 
 -- The seat holds the tables turn alone, with these tables, which are the store's.
 pub record HoldsEdits {D : Type 0} (z : SharedState D) (s : SeatState) (e : VersionSetState) : Type 0 where

@@ -1,19 +1,40 @@
 -- What the install of an edit leaves of the seat that holds the tables.
-use Rattle.std.specs.Prelude.{◌≡◌, Bool, IfSome}
+use Rattle.std.specs.Prelude.{◌≡◌, Bool, true, false, IfSome}
 use Rattle.wp_model.specs.Flushed.{InstalledEdit}
+use Rattle.wp_tableset.specs.Changes.{Asked}
+use Rattle.wp_tableset.specs.declared.gone.Gone.{Gone}
+use Rattle.wp_tableset.specs.declared.gone.Gone.TheVariants as gone
 use Rattle.wp_core.specs.Effects.{with_failed}
-use Rattle.wp_core.specs.Views.{tables_failed}
+use Rattle.wp_core.specs.Tables.{Installed}
+use Rattle.wp_core.specs.Views.{nothing_flushed, tables_failed}
 use Rattle.wp_core.specs.Views as event
-use Rattle.wp_core.specs.World.{World}
-use Rattle.wp_shared.specs.VersionSet.{VersionSetState, IsEdits}
-use Rattle.wp_shared.specs.Installs.{SurvivesInstall}
+use Rattle.wp_core.specs.World.{Actor, World}
+use Rattle.wp_rule.specs.Knows.{Noted, KnowsInstalled}
+use Rattle.wp_parts.specs.VersionSet.{VersionSetState, IsEdits, asked_for}
+use Rattle.wp_parts.specs.Installs.{SurvivesInstall}
 use Rattle.wp_shared.specs.Notes.{no_fact}
 use Rattle.wp_shared.specs.Seats.{SharedState, SeatState, Stands}
-use Rattle.wp_maint.specs.declared.error.MaintError.{MaintError}
-use Rattle.wp_maint.specs.declared.error.MaintError.TheVariants.{Memory, TableFault}
 use Rattle.wp_maint.specs.Calls.{HasFault, IsUncalled}
 use Rattle.wp_maint.specs.Finding.{Changes}
 use Rattle.wp_maint.specs.Holding.{is_of_flushed, HoldsEdits}
+
+-- ---- the edit
+
+-- where its table takes the place of all tables it is a compaction's
+abbrev pub is_compaction : Gone → Bool
+is_compaction gone.Frozen = false
+is_compaction gone.Tables = true
+
+-- what is asked for, with the log's segment as it is
+abbrev pub next_of : Asked → InstalledEdit → InstalledEdit
+next_of asked last = asked_for asked last.segment last
+
+-- The edit that is asked for may be installed; that of a compaction keeps that no flushed version is in memory.
+pub record MayInstall (a : Actor) (e : Installed) (asked : Asked) : Type 0 where
+  pub knows : KnowsInstalled a e (next_of asked e.last) (is_compaction asked.gone)
+  pub gone : asked.gone ≡ gone.Tables → Noted a nothing_flushed
+
+-- ---- what its install leaves
 
 -- the edit was installed; true for a compaction
 pub record HasInstalled {D : Type 0} (z : SharedState D) (old : SeatState) (e : VersionSetState) (next : InstalledEdit) (compacts : Bool) (new : SeatState) (left : VersionSetState) : Type 0 where
@@ -36,12 +57,6 @@ pub record HasBroken {D : Type 0} (z : SharedState D) (old : SeatState) (e : Ver
   pub edits : IsEdits e
   pub still_edits : IsEdits left
   pub stands : (w : World) × Stands z new w
-
--- why the edit is not installed, and what that leaves
-abbrev pub NotInstalled : {D : Type 0} → SharedState D → SeatState → VersionSetState → InstalledEdit → MaintError → SeatState → VersionSetState → Type 0
-NotInstalled z old e next Memory new left = (new ≡ old) × (left.table ≡ e.table) × (left.first ≡ e.first)
-NotInstalled z old e next TableFault new left = HasBroken z old e next new left
-NotInstalled z old e next other new left = ⊥
 
 -- ---- the manifest's device
 

@@ -6,13 +6,13 @@ use Rattle.wp_model.specs.Flushed.{InstalledEdit}
 use Rattle.wp_cuts.specs.Cut.{Cut, IsCut}
 use Rattle.wp_outside.specs.Disk.{Moment, images}
 use Rattle.wp_wal.specs.Spelling.{IsLogAt}
-use Rattle.wp_shared.specs.Opens.{OpensTo}
+use Rattle.wp_contents.specs.Opens.{OpensTo}
 use Rattle.wp_core.specs.Images.{MayName, MaySpell}
 use Rattle.wp_core.specs.Runs.{Reaches}
 use Rattle.wp_core.specs.Sound.Actors.{StartsWith}
 use Rattle.wp_core.specs.Tables.{WriteState}
 use Rattle.wp_core.specs.World.{World, history}
-use Rattle.wp_shared.specs.VersionSet.{VersionSetState}
+use Rattle.wp_parts.specs.VersionSet.{VersionSetState}
 use Rattle.wp_shared.specs.Ended.{IsFrom}
 
 -- ---- the devices

@@ -1,8 +1,5 @@
 -- What a renewal of the log answers, and what it leaves of the seat and of the three devices.
-use Rattle.std.specs.Prelude.{◌≡◌, ◌≢◌, ◌⊎◌, ℕ, ◌<◌, ◌≤◌, true, false, List, [], ◌∷◌, ◌++◌, length, map, option_map, Option, Some, None, IfSome, Result, Ok, Err}
-use Rattle.std.specs.Arc.{arc_value}
-use Rattle.std.specs.List.{list_all}
-use Rattle.std.specs.Vec.{vec_capacity}
+use Rattle.std.specs.Prelude.{◌≡◌, ◌≢◌, ◌⊎◌, ℕ, ◌<◌, true, false, List, [], ◌∷◌, ◌++◌, length, option_map, Option, Some, None, IfSome, Result, Ok, Err}
 use Rattle.wp_model.specs.declared.entry.Entry.{Entry}
 use Rattle.wp_model.specs.declared.segment.Segment.{Segment}
 use Rattle.wp_model.specs.declared.version.Version.{Version}
@@ -15,12 +12,11 @@ use Rattle.wp_outside.specs.Faults.{Rose}
 use Rattle.wp_gatelog.specs.Moments.{Leaves}
 use Rattle.wp_manifest.specs.Edit.{Edit}
 use Rattle.wp_manifest.specs.Spelling.{IsManifestOf, last_edit}
-use Rattle.wp_merge.specs.Merge.{joined, sorted_of}
-use Rattle.wp_shared.specs.Opens.{installed_of}
+use Rattle.wp_merge.specs.Merge.{sorted_of}
+use Rattle.wp_contents.specs.Opens.{installed_of}
 use Rattle.wp_replies.specs.Tables.{unflushed, after_renewal}
 use Rattle.wp_table.specs.File.{HasTables}
-use Rattle.wp_table.specs.Table.{is_numbered, is_flushed}
-use Rattle.wp_tableset.specs.Changes.{compacted_parts}
+use Rattle.wp_tableset.specs.Changes.{new_parts}
 use Rattle.wp_wal.specs.Segment.{NewSegmentState}
 use Rattle.wp_wal.specs.Spelling.{IsLogAt}
 use Rattle.wp_wal.specs.Wal.{LeavesCut, LosesNothingAt}
@@ -28,21 +24,18 @@ use Rattle.wp_core.specs.Effects.{with_failed}
 use Rattle.wp_core.specs.Tables.{WriteState, Installed, writes, installed}
 use Rattle.wp_core.specs.Views.{frozen_stay, tables_failed, log_failed, log_stopped, stopped}
 use Rattle.wp_core.specs.Views as event
-use Rattle.wp_core.specs.World.{Actor, Participant}
-use Rattle.wp_rule.specs.Knows.{Noted}
-use Rattle.wp_shared.specs.VersionSet.{VersionSetState}
-use Rattle.wp_shared.specs.Installs.{SurvivesInstall}
-use Rattle.wp_shared.specs.Log.{LogState, IsLog, IsPlaceOf, IsSegmentOf}
-use Rattle.wp_shared.specs.Parts.{EditsStand, LogStands, log_first, set_first}
+use Rattle.wp_core.specs.World.{Participant}
+use Rattle.wp_parts.specs.VersionSet.{VersionSetState}
+use Rattle.wp_parts.specs.Installs.{SurvivesInstall}
+use Rattle.wp_parts.specs.Log.{LogState, IsLog, IsPlaceOf, IsSegmentOf}
+use Rattle.wp_parts.specs.Parts.{LogStands, log_first, set_first}
 use Rattle.wp_shared.specs.Calls.{Continues, with_events}
 use Rattle.wp_shared.specs.Seats.{SharedState, SeatState}
 use Rattle.wp_shared.specs.Turns.{HoldsTurn}
-use Rattle.wp_maint.specs.declared.frozen.Frozen.{Frozen}
 use Rattle.wp_maint.specs.declared.renewed.Renewed.{Renewed}
 use Rattle.wp_maint.specs.declared.renewed.RenewError.{RenewError}
 use Rattle.wp_maint.specs.declared.renewed.RenewError.TheVariants.{Memory, TablesStopped, Stopped, Nothing, TableFault, LogFault}
-use Rattle.wp_maint.specs.Calls.{FailedOnce, Finds, found_by, HasFault, HeldContent, HeldTables, IsStopped, IsUncalled, MadeNoInstall, SawWhole, TablesBecame}
-use Rattle.wp_maint.specs.Flush.{versions_of}
+use Rattle.wp_maint.specs.Calls.{AreSameTables, FailedOnce, Finds, found_by, HasFault, HeldContent, HeldTables, IsStopped, IsUncalled, MadeNoInstall, SawWhole, TablesBecame}
 use Rattle.wp_maint.specs.Moments.{LeftSince, OpensFromBase, OpensToSuch}
 
 -- ---- what the seat holds
@@ -53,19 +46,6 @@ pub record HoldsBoth {D : Type 0} (z : SharedState D) (s : SeatState) (e : Versi
   pub turn : HoldsTurn z s (writes table) (installed e.table ∷ []) (5 ∷ [])
   pub edits_of_store : set_first z.first ≡ Some e.first
   pub log_of_store : log_first z.first ≡ Some log.first
-
--- All that the seen history has above the flushed number is frozen, none of it too. An edit may be installed with it and with any place
--- of the log, and there is room for one table more beside those of the last edit.
-pub record HasFrozenAll (a : Actor) (e : Installed) (f : Frozen) : Type 0 where
-  pub at : f.at ≡ length a.participant.seen
-  pub versions : versions_of f ≡ sorted_of (unflushed a.participant.seen e.last)
-  pub numbered : list_all is_numbered (versions_of f) ≡ true
-  pub flushed : list_all (is_flushed f.at) (versions_of f) ≡ true
-  pub later : (e.last.flushed ≤ f.at) × (1 ≤ length (versions_of f) → e.last.flushed < f.at)
-  pub tables : sorted_of (joined (map arc_value f.tables.items)) ≡ e.last.versions
-  pub room : length f.tables.items < vec_capacity f.tables
-  pub covered : (place : ℕ) → IsEditCovered a.participant.seen (after_renewal a.participant.seen place e.last)
-  pub noted : Noted a (frozen_stay f.at (versions_of f))
 
 -- ---- the devices
 
@@ -137,11 +117,7 @@ OpensUnmoved Spells Names e log =
 
 -- ---- refusals
 
--- The tables, and what their devices show of themselves, are as they were; and what a crash leaves of these is as the table says.
-abbrev pub AreSameTables : VersionSetState → VersionSetState → Type 0
-AreSameTables before after = (after ≡ before) × EditsStand before
-
--- ... of the log
+-- The log, and what its device shows of itself, is as it was; and what a crash leaves of it is as its table says.
 abbrev pub IsSameLog : LogState → LogState → Type 0
 IsSameLog before after = (after ≡ before) × LogStands before
 
@@ -231,7 +207,7 @@ pub record HasRenewed {D : Type 0} (Goes : Participant → Type 0) (z : SharedSt
   pub place : ℕ
   pub left : HeldTables z old new new.knows.participant.past (record e { last = after_renewal new.knows.participant.seen place e.last })
   pub table : TablesBecame z e (record e { last = after_renewal new.knows.participant.seen place e.last })
-      (λ before after. after.parts ≡ compacted_parts (sorted_of (unflushed new.knows.participant.seen e.last)) ++ before.parts)
+      (λ before after. after.parts ≡ new_parts (sorted_of (unflushed new.knows.participant.seen e.last)) ++ before.parts)
   pub survives : SurvivesInstall table.before table.after (after_renewal new.knows.participant.seen place e.last)
   pub log : LogBecame z busy.unclosed.0 (record busy.unclosed.0 { segment = record { place = place; base = length new.knows.participant.seen }; next = None })
       (λ before after. SurvivesBeside before after (Some after.table.segment) × NamesItsSegment table.before table.after before after (Some (after_renewal new.knows.participant.seen place e.last)))
@@ -263,11 +239,6 @@ abbrev pub BeforeDevices : Type 0 → RenewError → Type 0
 BeforeDevices So TableFault = Unit {0}
 BeforeDevices So LogFault = Unit {0}
 BeforeDevices So other = So
-
--- The call took these tables from behind the turn, and gave them back as they were: as `TablesBecame` says it, of a value that may stand
--- there.
-abbrev pub KeepsOnce : {D : Type 0} → SharedState D → SeatState → SeatState → Type 0
-KeepsOnce z old new = (e : Installed) × Finds z old new e × TablesBecame z e e AreSameTables
 
 -- What a refused renewal did with the manifest's device: as a refused flush, also where the log's device failed.
 abbrev pub IsRefusedBefore : (Leaves : Type 0) → SeatState → RenewError → SeatState → Type 0

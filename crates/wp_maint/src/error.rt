@@ -7,6 +7,7 @@ use wp_model::Seq;
 /// Why a flush or a compaction made nothing.
 #[derive(Clone, Copy)]
 pub enum MaintError {
+    /// No device was called.
     Memory,
     /// No version stands in memory, or there are fewer than two tables.
     Nothing,

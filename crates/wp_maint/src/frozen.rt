@@ -1,17 +1,17 @@
-//! What stands in memory is frozen, for a flush to write.
-ghost use Rattle.std.specs.Prelude.{◌≡◌, [], ◌∷◌, IfOk};
+//! What stands in memory is frozen, for a flush or a renewal to write, and all memory is taken for the edit with it.
+ghost use Rattle.std.specs.Prelude.{◌≡◌, ◌≤◌, [], ◌∷◌, length, IfOk};
 ghost use Rattle.wp_core.specs.Sound.Actors.{StartsWith};
 ghost use Rattle.wp_core.specs.Tables.{installed, writes};
 ghost use Rattle.wp_core.specs.Tables as table;
 ghost use Rattle.wp_core.specs.Turns.{write_turn};
-ghost use Rattle.wp_core.specs.World.{World};
+ghost use Rattle.wp_core.specs.World.{Actor, World};
 ghost use Rattle.wp_rule.specs.Knows.{KnowsTables};
-ghost use Rattle.wp_shared.specs.Stock.{store_state};
+ghost use Rattle.wp_parts.specs.Stock.{store_state};
 ghost use Rattle.wp_shared.specs.Notes.{no_fact, is_under, seeing, GoesOn};
 ghost use Rattle.wp_shared.specs.Seats.{Stands};
 ghost use Rattle.wp_shared.specs.Turns.{HoldsTurn};
 ghost use Rattle.wp_maint.specs.Calls.{SawWhole};
-ghost use Rattle.wp_maint.specs.Flush.{Freezes, IsCopied};
+ghost use Rattle.wp_maint.specs.Flush.{versions_of, Freezes, HasCopied, HasFrozen, HasReady};
 ghost use Rattle.wp_maint.specs.Holding.{HoldsEdits};
 
 use crate::steps::note_frozen;
@@ -19,11 +19,12 @@ use std::alloc::AllocError;
 use std::sync::{Arc, Wait};
 use wp_model::Seq;
 use wp_outside::Disk;
-use wp_shared::{Log, Seat, Shared, Stock, VersionSet};
+use wp_shared::{Log, ReadyInstall, Seat, Shared, Stock, VersionSet};
 use wp_store::FrozenParts;
 use wp_table::Table;
+use wp_tableset::Gone;
 
-/// What a flush writes. What was frozen is freed with it, once the store has let it go.
+/// What a flush or a renewal writes. What was frozen is freed with it, once the store has let it go.
 #[derive(Drop)]
 pub struct Frozen {
     /// The published number.
@@ -34,21 +35,50 @@ pub struct Frozen {
     pub tables: Vec<Arc<Table>>,
 }
 
-/// Freezes what stands in memory, if something does.
-fn freeze(stock: &mut Stock, at: Seq) -> Result<Option<Frozen>, AllocError>
-    ensures copied { IfOk result (λ frozen. IsCopied (store_state stock.old) at frozen) }
-    ensures same { store_state stock.new ≡ store_state stock.old }
-{
-    if stock.is_flushed() {
-        return Ok(None);
-    }
-    let parts = stock.freeze()?;
-    let tables = stock.copy_tables()?;
-    Ok(Some(Frozen { at, parts, tables }))
+/// What is frozen, with all the memory that the install of an edit takes which puts it into tables.
+#[derive(Drop)]
+pub struct ReadyFlush {
+    pub frozen: Frozen,
+    /// How many versions are frozen.
+    pub versions: u64,
+    pub edit: ReadyInstall,
 }
 
-/// Freezes what stands in memory, under the write turn and the store turn.
-fn freeze_in<D: Disk + Drop>(
+/// Freezes what stands in memory, also where nothing does.
+fn freeze(stock: &mut Stock, at: Seq) -> Result<Frozen, AllocError>
+    ensures copied { IfOk result (HasCopied (store_state stock.old) at) }
+    ensures same { store_state stock.new ≡ store_state stock.old }
+{
+    let parts = stock.freeze()?;
+    let tables = stock.copy_tables()?;
+    Ok(Frozen { at, parts, tables })
+}
+
+/// Freezes what stands in memory, under the write turn and the store turn: that is all that the history has above the flushed number, up
+/// to the published one.
+pub fn freeze_in<D: Disk + Drop>(
+    store: &Shared<D>,
+    seat: &mut Seat<D>,
+    edits: &VersionSet<D>,
+    log: &Log<D>,
+    stock: &mut Stock,
+) -> Result<Frozen, AllocError>
+    requires holds { HoldsTurn store.now seat.old (table.store (store_state stock.old)) (writes log.now.table ∷ installed edits.now.table ∷ []) (0 ∷ 5 ∷ []) }
+    requires pending { log.now.table.pending ≡ [] }
+    requires seen { seat.old.knows.participant.seen ≡ log.now.table.history }
+    requires in_step { KnowsTables seat.old.knows edits.now.table.last }
+    requires stands { (w : World) × Stands store.now seat.old w }
+    ensures goes { GoesOn no_fact seat.old.knows.held seat.old.turns seat.old seat.new }
+    ensures same { store_state stock.new ≡ store_state stock.old }
+    ensures frozen { IfOk result (λ frozen. HasFrozen seat.new.knows edits.now.table frozen × (versions_of frozen ≡ (store_state stock.old).memory)) }
+{
+    let frozen = freeze(stock, log.published())?;
+    note_frozen(store, seat, edits, stock, &frozen);
+    Ok(frozen)
+}
+
+/// Freezes what stands in memory, if something does.
+fn freeze_some<D: Disk + Drop>(
     store: &Shared<D>,
     seat: &mut Seat<D>,
     edits: &VersionSet<D>,
@@ -62,17 +92,16 @@ fn freeze_in<D: Disk + Drop>(
     requires stands { (w : World) × Stands store.now seat.old w }
     ensures goes { GoesOn no_fact seat.old.knows.held seat.old.turns seat.old seat.new }
     ensures same { store_state stock.new ≡ store_state stock.old }
-    ensures frozen { IfOk result (λ frozen. Freezes seat.new.knows edits.now.table frozen) }
+    ensures frozen { IfOk result (Freezes seat.new.knows edits.now.table) }
 {
-    let Some(frozen) = freeze(stock, log.published())? else {
+    if stock.is_flushed() {
         return Ok(None);
-    };
-    note_frozen(store, seat, edits, stock, &frozen);
+    }
+    let frozen = freeze_in(store, seat, edits, log, stock)?;
     Ok(Some(frozen))
 }
 
-/// Freezes what stands in memory: that is all that the history has above the flushed number, up to the published one. The seat
-/// has seen so far.
+/// Freezes what stands in memory, if something does, under the tables turn. The seat has seen so far.
 pub(crate) fn freeze_all<D: Disk + Drop, R: Wait>(
     store: &Shared<D>,
     rt: &R,
@@ -84,12 +113,26 @@ pub(crate) fn freeze_all<D: Disk + Drop, R: Wait>(
     ensures goes { GoesOn (is_under write_turn) (installed edits.now.table ∷ []) seat.old.turns (seeing seat.new.knows.participant.seen seat.old) seat.new }
     ensures grown { StartsWith seat.new.knows.participant.seen seat.old.knows.participant.seen }
     ensures whole { SawWhole store.now seat.old seat.new.knows.participant.seen }
-    ensures frozen { IfOk result (λ frozen. Freezes seat.new.knows edits.now.table frozen) }
+    ensures frozen { IfOk result (Freezes seat.new.knows edits.now.table) }
 {
     let log = store.take_log(rt, seat);
     let mut stock = store.take_turn::<Stock, R>(rt, seat);
-    let frozen = freeze_in(store, seat, edits, &log, &mut stock);
+    let frozen = freeze_some(store, seat, edits, &log, &mut stock);
     store.give_turn::<Stock>(seat, stock);
     store.give_turn::<Log<D>>(seat, log);
     frozen
+}
+
+/// Takes all the memory of an edit with what is frozen.
+pub fn make_ready<D: Disk>(edits: &VersionSet<D>, frozen: Frozen) -> Result<ReadyFlush, AllocError>
+    requires { (a : Actor) × HasFrozen a edits.now.table frozen }
+    ensures { IfOk result (λ ready. (a : Actor) → HasFrozen a edits.now.table frozen → HasReady a edits.now ready) }
+{
+    let versions = frozen.parts.merged()?;
+    let edit = edits.ready(Gone::Frozen, &versions, frozen.at)?;
+    Ok(ReadyFlush {
+        frozen,
+        versions: versions.as_slice().len() as u64,
+        edit,
+    })
 }

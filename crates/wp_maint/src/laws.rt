@@ -1,5 +1,5 @@
-//! What a crash leaves in the midst of an install, of all three devices; and what may be refused behind one.
-ghost use Rattle.std.specs.Prelude.{◌≡◌, ◌⊎◌, ℕ, ◌<◌, ◌^◌, false, Bool, List, ◌∷◌, [], ◌++◌, Option, None, Some, IfSome};
+//! What a crash leaves in the midst of an install, of all three devices.
+ghost use Rattle.std.specs.Prelude.{◌≡◌, ℕ, ◌<◌, ◌^◌, false, List, Option, None, Some, IfSome};
 ghost use Rattle.wp_model.specs.declared.entry.Entry.{Entry};
 ghost use Rattle.wp_model.specs.Flushed.{InstalledEdit, IsEditCovered};
 ghost use Rattle.wp_outside.specs.Disk.{images};
@@ -7,22 +7,18 @@ ghost use Rattle.wp_replies.specs.Tables.{after_renewal};
 ghost use Rattle.wp_core.specs.Images.{MayName, MaySpell};
 ghost use Rattle.wp_core.specs.Runs.{Reaches};
 ghost use Rattle.wp_core.specs.Tables.{Installed};
-ghost use Rattle.wp_core.specs.Views as event;
 ghost use Rattle.wp_core.specs.World.{World};
 ghost use Rattle.wp_shared.specs.Calls.{Continues};
-ghost use Rattle.wp_shared.specs.VersionSet.{VersionSetState, IsEdits};
-ghost use Rattle.wp_shared.specs.Installs.{SurvivesInstall};
+ghost use Rattle.wp_parts.specs.VersionSet.{VersionSetState, IsEdits};
+ghost use Rattle.wp_parts.specs.Installs.{SurvivesInstall};
 ghost use Rattle.wp_shared.specs.Opening.{IsOneStore};
-ghost use Rattle.wp_shared.specs.Parts.{EditsStand, LogStands, log_first, set_first};
+ghost use Rattle.wp_parts.specs.Parts.{EditsStand, LogStands, log_first, set_first};
 ghost use Rattle.wp_shared.specs.Seats.{SharedState, SeatState};
-ghost use Rattle.wp_maint.specs.declared.error.MaintError.{MaintError};
-ghost use Rattle.wp_maint.specs.declared.error.MaintError.TheVariants.{TableFault};
 ghost use Rattle.wp_maint.specs.declared.renewed.Renewed.{Renewed};
-ghost use Rattle.wp_maint.specs.Calls.{installs_of, FailedOnce, IsUncalled, LeavesEach, LeavesOnce, MadeNoInstall, RefusesBeforeInstall, UnlessFault};
-ghost use Rattle.wp_maint.specs.Installs.{AreLeft, HasBroken, NotInstalled};
+ghost use Rattle.wp_maint.specs.Calls.{IsUncalled, KeepsOnce};
 ghost use Rattle.wp_maint.specs.Moments.{MaySpellAmid, OpensFrom, OpensToSuch, SpellsNamed};
-ghost use Rattle.wp_maint.specs.Renewal.{HasBrokenOff, HasLogFault, HasNoMemory, HasRenewed, IsAtEnd, IsClosed, IsRenewed, KeepsOnce, NamesItsSegment, OpensInRenewal, OpensUnmoved, SurvivesBeside, segment_of};
-ghost use Rattle.wp_shared.specs.Log.{LogState, IsLog};
+ghost use Rattle.wp_maint.specs.Renewal.{HasBrokenOff, HasLogFault, HasNoMemory, HasRenewed, IsAtEnd, IsClosed, IsRenewed, NamesItsSegment, OpensInRenewal, OpensUnmoved, SurvivesBeside, segment_of};
+ghost use Rattle.wp_parts.specs.Log.{LogState, IsLog};
 
 /// Whatever a crash leaves of the three devices at a moment of an install, they open to just what the log spells then, from its base on,
 /// and to the last edit or the next one. The install is any whose edit is covered by what was seen before it and names the segment in
@@ -87,20 +83,4 @@ pub fn refused_renewals_open_throughout<D>()
     ensures halted { (z : SharedState D) (old new : SeatState) → IsOneStore z.opened z.first → (k : KeepsOnce z old new)
         → (l m t : List ℕ) → SpellsNamed k.2.before.set.manifest.log.id k.1.world l → images k.2.before.set.manifest.log.moments m → images k.2.before.set.moments t
         → OpensToSuch (MaySpellAmid k.1.world.writes) (MayName k.0) k.2.before.set.manifest.log.id l m t }
-{}
-
-/// From the append of an edit to the reply nothing is refused but by a device of the tables.
-///
-/// A flush or a compaction that is refused installed no edit, and did not call the manifest's device; or a device refused, in the
-/// one install that the call made. So it is of the install itself, of whose tables the devices are seen: they are as they were, and the
-/// manifest's count and its moments too; or a device's count rose. And a call that installed an edit answers Ok, whatever it answers else.
-pub fn behind_an_install_only_a_device_refuses<D>()
-    ensures flush { (z : SharedState D) (old new : SeatState) (why : MaintError) → RefusesBeforeInstall (LeavesOnce z old new) old why new
-        → (MadeNoInstall old.knows.participant new.knows.participant × LeavesOnce z old new) ⊎ ((why ≡ TableFault) × FailedOnce old.knows.participant new.knows.participant) }
-    ensures compaction { (z : SharedState D) (old new : SeatState) (why : MaintError) → RefusesBeforeInstall (LeavesEach z old new) old why new
-        → (MadeNoInstall old.knows.participant new.knows.participant × LeavesEach z old new) ⊎ ((why ≡ TableFault) × FailedOnce old.knows.participant new.knows.participant) }
-    ensures install { (z : SharedState D) (old new : SeatState) (edits left : VersionSetState) (next : InstalledEdit) (why : MaintError) → NotInstalled z old edits next why new left → UnlessFault (AreLeft edits left) why
-        → AreLeft edits left ⊎ ((why ≡ TableFault) × HasBroken z old edits next new left) }
-    ensures installed { (z : SharedState D) (old new : SeatState) (why : MaintError) (edit : InstalledEdit) (compacts : Bool) → installs_of new.knows.participant ≡ installs_of old.knows.participant ++ event.installed edit compacts ∷ []
-        → (RefusesBeforeInstall (LeavesOnce z old new) old why new → ⊥) × (RefusesBeforeInstall (LeavesEach z old new) old why new → ⊥) }
 {}

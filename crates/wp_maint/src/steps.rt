@@ -11,18 +11,21 @@ ghost use Rattle.wp_core.specs.Views.{tables_failed, tables_stay, nothing_flushe
 ghost use Rattle.wp_core.specs.Views as event;
 ghost use Rattle.wp_core.specs.World.{World};
 ghost use Rattle.wp_rule.specs.Knows.{Noted, KnowsMoved, KnowsInstalled};
-ghost use Rattle.wp_shared.specs.Stock.{store_state};
+ghost use Rattle.wp_parts.specs.Stock.{store_state};
 ghost use Rattle.wp_shared.specs.Calls.{with_events};
 ghost use Rattle.wp_shared.specs.Notes.{no_fact, with_participant, noting, GoesOn};
 ghost use Rattle.wp_shared.specs.Seats.{Stands};
 ghost use Rattle.wp_maint.specs.Holding.{is_of_flushed, is_of_tables};
 ghost use Rattle.wp_maint.specs.Flush.{versions_of};
 ghost use Rattle.wp_maint.specs.Finding.{Changes, Remembers};
+ghost use Rattle.wp_maint.specs.Installs.{is_compaction};
+ghost use Rattle.wp_tableset.specs.declared.gone.Gone.TheVariants.{Tables};
 
 use crate::frozen::Frozen;
 use std::marker::Brand;
 use wp_outside::Disk;
 use wp_shared::{Seat, Shared, Stock, VersionSet};
+use wp_tableset::Gone;
 
 /// The seat remembers how it found the tables.
 pub fn find_edits<D: Disk + Drop>(store: &Shared<D>, seat: &mut Seat<D>)
@@ -55,19 +58,37 @@ fn remember_fault<D: Disk + Drop>(store: &Shared<D>, seat: &mut Seat<D>, edits: 
     store.make_about::<Brand, VersionSet<D>>(seat, edits);
 }
 
-/// The edit of a flush was installed, where the tables were found so.
-pub(crate) fn install_flush<D: Disk + Drop>(
+/// The edit of a compaction was installed. No flushed version is in memory, as before.
+fn remember_compaction<D: Disk + Drop>(store: &Shared<D>, seat: &mut Seat<D>, edits: &VersionSet<D>)
+    requires seat { (seat.old.table ≡ store.now.table) × (seat.old.knows.live ≡ true) }
+    requires held { (t : Installed) × (seat.old.knows.held ≡ installed t ∷ []) × (edits.now.table ≡ record t { last = edits.now.table.last }) × KnowsInstalled seat.old.knows t edits.now.table.last true }
+    requires gone { Noted seat.old.knows nothing_flushed }
+    ensures goes { GoesOn is_of_flushed (installed edits.now.table ∷ []) seat.old.turns (with_participant (with_events (event.installed edits.now.table.last true ∷ []) seat.old.knows.participant) seat.old) seat.new }
+    ensures gone { Noted seat.new.knows nothing_flushed }
+    ensures stands { (w : World) × Stands store.now seat.new w }
+{
+    store.make_about::<Brand, VersionSet<D>>(seat, edits);
+}
+
+/// An edit was installed whose table takes the place of what goes, where the tables were found so.
+pub(crate) fn remember_install<D: Disk + Drop>(
     store: &Shared<D>,
     seat: &mut Seat<D>,
     edits: &VersionSet<D>,
+    gone: Gone,
 )
-    requires seat { seat.old.table ≡ store.now.table }
-    requires held { (t : Installed) × (seat.old.knows.held ≡ installed t ∷ []) × (edits.now.table ≡ record t { last = edits.now.table.last }) × KnowsInstalled seat.old.knows t edits.now.table.last false }
-    ensures changes { (t : Installed) → seat.old.knows.held ≡ installed t ∷ [] → Changes store.now seat.old t edits.now.table (event.installed edits.now.table.last false) is_of_flushed seat.new }
+    requires seat { (seat.old.table ≡ store.now.table) × (seat.old.knows.live ≡ true) }
+    requires held { (t : Installed) × (seat.old.knows.held ≡ installed t ∷ []) × (edits.now.table ≡ record t { last = edits.now.table.last }) × KnowsInstalled seat.old.knows t edits.now.table.last (is_compaction gone) }
+    requires gone { gone ≡ Tables → Noted seat.old.knows nothing_flushed }
+    ensures changes { (t : Installed) → seat.old.knows.held ≡ installed t ∷ [] → Changes store.now seat.old t edits.now.table (event.installed edits.now.table.last (is_compaction gone)) is_of_flushed seat.new }
+    ensures gone { gone ≡ Tables → Noted seat.new.knows nothing_flushed }
     ensures stands { (w : World) × Stands store.now seat.new w }
 {
     find_edits(store, seat);
-    remember_flush(store, seat, edits);
+    match gone {
+        Gone::Frozen => remember_flush(store, seat, edits),
+        Gone::Tables => remember_compaction(store, seat, edits),
+    }
 }
 
 /// A device of the tables failed, where they were found so.

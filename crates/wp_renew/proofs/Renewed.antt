@@ -1,16 +1,15 @@
 -- What a renewal says of its seat, once its segment is in use, or the renewal broke off.
-use Rattle.std.proofs.Common.{◌≡◌, ◌≢◌, ℕ, ◌<◌, true, false, List, [], ◌∷◌, ◌++◌, append_assoc, length, Option, Some, None, refl, sym, subst, ap, ◌∙◌}
+use Rattle.std.proofs.Common.{◌≡◌, ◌≢◌, ℕ, ◌<◌, true, false, List, [], ◌∷◌, ◌++◌, append_assoc, length, map, Option, Some, None, refl, sym, subst, ap, ◌∙◌}
 use Rattle.std.specs.Prelude.{Ok, Err, IfSome}
-use Rattle.std.specs.Option.{option_or}
+use Rattle.std.specs.Arc.{arc_value}
 use Rattle.wp_model.specs.declared.entry.Entry.{Entry}
 use Rattle.wp_model.specs.declared.segment.Segment.{Segment}
 use Rattle.wp_model.specs.declared.version.Version.{Version}
 use Rattle.wp_model.specs.Flushed.{InstalledEdit, IsEditCovered}
 use Rattle.wp_model.specs.History.{undecided}
-use Rattle.wp_model.specs.Versions.{version_at}
 use Rattle.wp_cuts.specs.Cut.{cut_at}
-use Rattle.wp_merge.specs.Merge.{sorted_of}
-use Rattle.wp_merge.proofs.Sorted.{at_append, at_sorted}
+use Rattle.wp_merge.specs.Merge.{joined, sorted_of}
+use Rattle.wp_merge.proofs.Sorted.{at_sorted, in_order_same, in_order_sorted}
 use Rattle.wp_outside.specs.Disk.{IfKnown, Moment, Passes}
 use Rattle.wp_outside.specs.Faults.{Rose}
 use Rattle.wp_gatelog.specs.Moments.{Leaves}
@@ -19,7 +18,9 @@ use Rattle.wp_wal.specs.Spelling.{IsLogAt}
 use Rattle.wp_wal.specs.Wal.{LeavesCut, LosesNothingAt}
 use Rattle.wp_replies.specs.Tables.{unflushed, after_renewal}
 use Rattle.wp_replies.specs.Tables as replies
-use Rattle.wp_tableset.specs.Changes.{compacted_parts, one_part}
+use Rattle.wp_tableset.specs.Changes.{Asked, new_parts, one_part, parts_after}
+use Rattle.wp_tableset.specs.declared.gone.Gone.{Gone}
+use Rattle.wp_tableset.specs.declared.gone.Gone.TheVariants as gone
 use Rattle.wp_core.specs.Effects.{with_failed}
 use Rattle.wp_core.specs.Lists.{IsIn}
 use Rattle.wp_core.specs.Sound.Actors.{StartsWith}
@@ -28,15 +29,13 @@ use Rattle.wp_core.specs.Tables.{WriteState, Installed, writes, installed}
 use Rattle.wp_core.specs.Views.{Event, found_edit, frozen_stay, log_failed, log_stopped, stopped, tables_failed, tables_stay}
 use Rattle.wp_core.specs.Views as event
 use Rattle.wp_core.specs.World.{Participant, World}
-use Rattle.wp_core.proofs.Tests.{none_some}
+use Rattle.wp_model.proofs.Tests.{none_some}
 use Rattle.wp_rule.specs.Knows.{KnowsTables, Noted}
 use Rattle.wp_rule.specs.Words.{IsAt}
-use Rattle.wp_shared.specs.VersionSet.{VersionSetState, IsEdits}
-use Rattle.wp_shared.specs.Installs.{SurvivesInstall, in_segment}
-use Rattle.wp_shared.specs.Installs as parts
-use Rattle.wp_shared.specs.Log.{LogState, IsLog}
-use Rattle.wp_shared.specs.Parts.{EditsStand, LogStands}
-use Rattle.wp_shared.specs.Renewal.{SegmentState, IsBehind}
+use Rattle.wp_parts.specs.VersionSet.{VersionSetState, IsEdits, asked_for, with_new}
+use Rattle.wp_parts.specs.Installs.{ReadyInstallState, IsBehind, SurvivesInstall}
+use Rattle.wp_parts.specs.Log.{LogState, IsLog}
+use Rattle.wp_parts.specs.Parts.{EditsStand, LogStands}
 use Rattle.wp_shared.specs.Calls.{GoesOnAs, with_events}
 use Rattle.wp_shared.specs.Notes.{with_participant, no_fact, GoesOn}
 use Rattle.wp_shared.specs.Seats.{SharedState, SeatState, Stands, place_at}
@@ -45,36 +44,39 @@ use Rattle.wp_shared.proofs.Tables.{held_table}
 use Rattle.wp_maint.specs.declared.frozen.Frozen.{Frozen}
 use Rattle.wp_maint.specs.declared.renewed.Renewed.{Renewed}
 use Rattle.wp_maint.specs.declared.renewed.RenewError.TheVariants.{Stopped, Nothing, TableFault, LogFault}
-use Rattle.wp_maint.specs.Calls.{Finds, found_by, HasFault, HeldContent, IsUncalled, SawWhole, TablesBecame}
+use Rattle.wp_maint.specs.Calls.{AreSameTables, Finds, found_by, HasFault, HeldContent, IsUncalled, SawWhole, TablesBecame}
 use Rattle.wp_maint.specs.Finding.{Remembers}
-use Rattle.wp_maint.specs.Flush.{versions_of}
+use Rattle.wp_maint.specs.Flush.{versions_of, HasFrozen, MayPut}
 use Rattle.wp_maint.specs.Holding.{is_of_flushed, is_of_tables}
-use Rattle.wp_maint.specs.Renewal.{AreSameTables, HasFrozenAll, HoldsBoth, IsBusy, HasBrokenOff, HasLogFault, HasNoMemory, HasRenewed, IsSameLog, LogBecame, NamesItsSegment, SurvivesBeside, segment_of}
-use Rattle.wp_maint.specs.Renewing.{HasClosed, HasMoved, HasStopped, MayPutAll, RenewsHolding}
+use Rattle.wp_maint.specs.Renewal.{HoldsBoth, IsBusy, HasBrokenOff, HasLogFault, HasNoMemory, HasRenewed, IsSameLog, LogBecame, NamesItsSegment, SurvivesBeside, segment_of}
+use Rattle.wp_maint.specs.Renewing.{HasClosed, HasMoved, HasStopped, RenewsHolding}
 use Rattle.wp_maint.proofs.Found.{failed_last}
+use Rattle.wp_maint.proofs.Installed.{same_list}
 use Rattle.wp_maint.proofs.Made.{first_held, second_held}
 use Rattle.wp_maint.proofs.Memory.{sorted_none}
 use Rattle.wp_maint.proofs.Onward.{IsSeat, flushed_free, tables_free, found_later, goes_is, goes_more, goes_remembering, held_left, seat_still, in_step_being, in_step_on}
 use Rattle.wp_maint.proofs.Throughout.{names_its_segment}
-use Rattle.wp_maint.proofs.Versions.{Found, same_sorted}
 
 -- ---- the edit
 
-same_list : (versions later more : List Version) → versions ≡ sorted_of later → sorted_of (versions ++ more) ≡ sorted_of (later ++ more)
-same_list versions later more is =
-    same_sorted (versions ++ more) (later ++ more) (λ key p.
-    at_append versions more key p
-    ∙ ap (λ (o : Found). option_or o (version_at more key p)) (ap (λ (l : List Version). version_at l key p) is ∙ at_sorted later key p)
-    ∙ sym (at_append later more key p))
-
 -- one table more, where there is something to have in it
-same_with : (versions later : List Version) (last : InstalledEdit) → versions ≡ sorted_of later → parts.with_some versions last ≡ replies.with_table later last
-same_with versions [] last is = ap (λ (l : List Version). parts.with_some l last) is
+same_with : (versions later : List Version) (last : InstalledEdit) → versions ≡ sorted_of later → with_new gone.Frozen versions last ≡ replies.with_table later last
+same_with versions [] last is = ap (λ (l : List Version). with_new gone.Frozen l last) is
 same_with [] (v ∷ later) last is = let none = sorted_none (v ∷ later) (sym is) in absurd cc
-same_with (w ∷ versions) (v ∷ later) last is = ap (λ (l : List Version). record (parts.with_some (w ∷ versions) last) { versions = l }) (same_list (w ∷ versions) (v ∷ later) last.versions is)
+same_with (w ∷ versions) (v ∷ later) last is = ap (λ (l : List Version). record (with_new gone.Frozen (w ∷ versions) last) { versions = l }) (same_list (w ∷ versions) (v ∷ later) last.versions is)
 
-pub same_renewal : (seen : List Entry) (last : InstalledEdit) (versions : List Version) (segment : Segment) → versions ≡ sorted_of (unflushed seen last) → segment.base ≡ length seen → in_segment versions segment.base segment last ≡ after_renewal seen segment.place last
-same_renewal seen last versions segment is based = λ i. record (same_with versions (unflushed seen last) last is i) { segment = record { place = segment.place; base = based i }; flushed = based i }
+pub same_renewal : (seen : List Entry) (last : InstalledEdit) (asked : Asked) (segment : Segment) → asked.gone ≡ gone.Frozen → asked.versions ≡ sorted_of (unflushed seen last) → asked.flushed ≡ length seen → segment.base ≡ length seen → asked_for asked segment last ≡ after_renewal seen segment.place last
+same_renewal seen last asked segment frozen versions flushed based =
+    ap (λ (x : Gone). record (with_new x asked.versions last) { segment = segment; flushed = asked.flushed }) frozen
+    ∙ (λ i. record (same_with asked.versions (unflushed seen last) last versions i) { segment = record { place = segment.place; base = based i }; flushed = flushed i })
+
+-- with it and what was there all is there
+sorted_again : (versions : List Version) → sorted_of (sorted_of versions) ≡ sorted_of versions
+sorted_again versions = in_order_same (sorted_of (sorted_of versions)) (sorted_of versions) (in_order_sorted (sorted_of versions)) (in_order_sorted versions) (λ key p. at_sorted (sorted_of versions) key p)
+
+all_with : (versions tables : List Version) (last : InstalledEdit) → sorted_of tables ≡ last.versions → (with_new gone.Frozen versions last).versions ≡ sorted_of (versions ++ last.versions)
+all_with [] tables last is = sym is ∙ sym (sorted_again tables) ∙ ap sorted_of is
+all_with (v ∷ versions) tables last is = refl
 
 -- the edit that was asked for, if one was, is of a renewal
 asked_as : (seen : List Entry) (last edit : InstalledEdit) (asked : Option InstalledEdit) → IfSome asked (λ next. next ≡ edit) → (place : ℕ) × (edit ≡ after_renewal seen place last) → IfSome asked (λ next. (place : ℕ) × (next ≡ after_renewal seen place last))
@@ -250,20 +252,20 @@ module _ {D : Type 0} (z : SharedState D) (s0 s1 : SeatState) (e0 e1 : VersionSe
 
   -- ---- the edit is installed
 
-  module _ (written : WrittenState) (ready : SegmentState) (f : Frozen) (versions : List Version) (versions_are : versions ≡ versions_of f) (frozen : HasFrozenAll s0.knows e0.table f) (based : written.segment.base ≡ length log0.table.history) where
+  module _ (written : WrittenState) (ready : ReadyInstallState) (f : Frozen) (is : ready.edit.asked ≡ record { gone = gone.Frozen; versions = versions_of f; flushed = f.at }) (frozen : HasFrozen s0.knows e0.table f) (based : written.segment.base ≡ length log0.table.history) where
     abbrev next : InstalledEdit
     next = after_renewal s0.knows.participant.seen written.segment.place e0.table.last
 
     -- the edit that is asked for is the renewal's
-    pub is_next : in_segment versions written.segment.base written.segment e1.table.last ≡ next
+    pub is_next : asked_for ready.edit.asked written.segment e1.table.last ≡ next
     is_next =
-        ap (λ (t : Installed). in_segment versions written.segment.base written.segment t.last) same_table
-        ∙ same_renewal s0.knows.participant.seen e0.table.last versions written.segment (versions_are ∙ frozen.versions) (based ∙ ap (λ (h : List Entry). length h) (sym seen))
+        ap (λ (t : Installed). asked_for ready.edit.asked written.segment t.last) same_table
+        ∙ same_renewal s0.knows.participant.seen e0.table.last ready.edit.asked written.segment (ap (λ (x : Asked). x.gone) is) (ap (λ (x : Asked). x.versions) is ∙ frozen.versions) (ap (λ (x : Asked). x.flushed) is ∙ frozen.at) (based ∙ ap (λ (h : List Entry). length h) (sym seen))
 
-    pub covered_next : IsEditCovered s1.knows.participant.seen (in_segment versions written.segment.base written.segment e1.table.last)
-    covered_next = subst (λ (x : List Entry × InstalledEdit). IsEditCovered x.0 x.1) (λ i. (sym seen_still i, sym is_next i)) (frozen.covered written.segment.place)
+    pub covered_next : IsEditCovered s1.knows.participant.seen (asked_for ready.edit.asked written.segment e1.table.last)
+    covered_next = subst (λ (x : List Entry × InstalledEdit). IsEditCovered x.0 x.1) (λ i. (sym seen_still i, sym is_next i)) (frozen.covered_at written.segment.place)
 
-    module _ (u : SeatState) (left : VersionSetState) (now : LogState) (k : HasMoved z s1 e1 log1 written ready versions u left now) (behind : IsBehind e0 e1 versions written.segment.base ready) (beside : SurvivesBeside log0 log1 (Some written.segment)) where
+    module _ (u : SeatState) (left : VersionSetState) (now : LogState) (k : HasMoved z s1 e1 log1 written ready u left now) (behind : IsBehind e0 e1 ready) (beside : SurvivesBeside log0 log1 (Some written.segment)) where
       moved_table : left.table ≡ record e0.table { last = next }
       moved_table = k.table ∙ (λ i. record (same_table i) { last = is_next i })
 
@@ -274,19 +276,22 @@ module _ {D : Type 0} (z : SharedState D) (s0 s1 : SeatState) (e0 e1 : VersionSe
       moved_survived = subst (SurvivesInstall e0 left) is_next (k.survives e0 behind)
 
       -- what is frozen may be let go
-      pub may_put_all : (table : Option (List Version)) → table ≡ one_part versions → KnowsTables s1.knows e1.table.last → (Noted s0.knows (frozen_stay f.at (versions_of f)) → Noted s1.knows (frozen_stay f.at (versions_of f))) → MayPutAll u.knows left.table f table
+      pub may_put_all : (table : Option (List Version)) → table ≡ one_part (versions_of f) → KnowsTables s1.knows e1.table.last → (Noted s0.knows (frozen_stay f.at (versions_of f)) → Noted s1.knows (frozen_stay f.at (versions_of f))) → MayPut u.knows left.table f table
       may_put_all table table_is in_step noted = record {
         flushed = ap (λ (x : Installed). x.last.flushed) moved_table ∙ sym frozen.at;
-        table_is = table_is ∙ ap one_part versions_are;
+        table_is = table_is;
         low = frozen.flushed;
         frozen = k.goes.noted (frozen_stay f.at (versions_of f)) refl (noted frozen.noted);
-        before = e1.table.last;
+        before = e1.table.last.versions;
         floor = in_step.1.0;
         named = k.goes.noted (tables_stay e1.table.last.versions in_step.1.0) refl in_step.1.1;
-        tables = frozen.tables ∙ ap (λ (x : Installed). x.last.versions) (sym same_table);
+        tables = tables_now;
         room = frozen.room;
-        last = ap (λ (x : Installed). x.last.versions) k.table ∙ ap (λ (vs : List Version). (parts.with_some vs e1.table.last).versions) versions_are;
+        last = ap (λ (x : Installed). x.last.versions) k.table ∙ ap (λ (x : Asked). (with_new x.gone x.versions e1.table.last).versions) is ∙ all_with (versions_of f) (joined (map arc_value f.tables.items)) e1.table.last tables_now;
       }
+        where
+          tables_now : sorted_of (joined (map arc_value f.tables.items)) ≡ e1.table.last.versions
+          tables_now = frozen.tables ∙ ap (λ (x : Installed). x.last.versions) (sym same_table)
 
       module _ (v : SeatState) (put : GoesOn is_of_tables (writes now.table ∷ installed left.table ∷ []) u.turns u v) (done : Renewed) (at_is : done.at ≡ f.at) (counted : done.carried ≡ length (undecided log0.table.history)) where
         put_still : v.knows.participant ≡ u.knows.participant
@@ -343,7 +348,7 @@ module _ {D : Type 0} (z : SharedState D) (s0 s1 : SeatState) (e0 e1 : VersionSe
             after_is = last_table;
             edits = is_edits;
             still_edits = k.still_edits;
-            so = k.parts ∙ (λ i. compacted_parts ((versions_are ∙ frozen.versions ∙ ap (λ (h : List Entry). sorted_of (unflushed h e0.table.last)) (sym last_seen)) i) ++ behind.parts i);
+            so = k.parts ∙ ap (λ (x : Asked). parts_after x e1.parts) is ∙ (λ i. new_parts ((frozen.versions ∙ ap (λ (h : List Entry). sorted_of (unflushed h e0.table.last)) (sym last_seen)) i) ++ behind.parts i);
           };
           survives = subst (SurvivesInstall e0 left) is_last moved_survived;
           log = record {

@@ -1,29 +1,24 @@
 -- A renewal as a whole, from the stage that broke it off, or from all of them.
-use Rattle.std.proofs.Common.{◌≡◌, inl, inr, ℕ, ◌<◌, ◌≤◌, false, List, [], ◌∷◌, length, Option, Some, None, refl, sym, subst, ap, ◌∙◌, arith}
+use Rattle.std.proofs.Common.{◌≡◌, ℕ, ◌<◌, ◌≤◌, false, List, [], ◌∷◌, length, Option, Some, None, refl, sym, subst, ap, ◌∙◌, arith}
 use Rattle.std.specs.Prelude.{Ok, Err, Result}
 use Rattle.wp_model.specs.declared.entry.Entry.{Entry}
 use Rattle.wp_model.specs.declared.segment.Segment.{Segment}
 use Rattle.wp_model.specs.declared.version.Version.{Version}
 use Rattle.wp_model.specs.History.{undecided}
-use Rattle.wp_outside.specs.Faults.{Rose}
 use Rattle.wp_wal.specs.Segment.{WrittenState}
 use Rattle.wp_replies.specs.Tables.{after_renewal}
-use Rattle.wp_tableset.specs.Changes.{one_part}
-use Rattle.std.specs.Option.{option_map}
-use Rattle.wp_table.specs.Walk.{BuiltTable}
-use Rattle.wp_tableset.specs.Install.{IsReadyEdit, built_of}
+use Rattle.wp_tableset.specs.Changes.{Asked, one_part}
+use Rattle.wp_tableset.specs.declared.gone.Gone.TheVariants as gone
 use Rattle.wp_tableset.specs.Set.{TableSetState}
-use Rattle.wp_tableset.specs.declared.error.TableSetError.TheVariants.{Fault}
 use Rattle.wp_core.specs.Tables.{WriteState, Installed, writes, installed}
 use Rattle.wp_core.specs.Views.{frozen_stay}
 use Rattle.wp_core.specs.World.{Participant, World}
-use Rattle.wp_core.proofs.Tests.{none_some}
+use Rattle.wp_model.proofs.Tests.{none_some}
 use Rattle.wp_rule.specs.Knows.{KnowsTables}
-use Rattle.wp_shared.specs.VersionSet.{VersionSetState, IsEdits}
-use Rattle.wp_shared.specs.Installs.{HadCause, SurvivesInstall, in_segment}
-use Rattle.wp_shared.specs.Log.{LogState, IsLog, with_next}
-use Rattle.wp_shared.specs.Parts.{EditsStand, LogStands}
-use Rattle.wp_shared.specs.Renewal.{SegmentState, IsBehind, IsWritten, SurvivesWrite}
+use Rattle.wp_parts.specs.VersionSet.{VersionSetState, IsEdits, asked_for}
+use Rattle.wp_parts.specs.Installs.{ReadyInstallState, IsBehind, SurvivesInstall}
+use Rattle.wp_parts.specs.Log.{LogState, IsLog, with_next}
+use Rattle.wp_parts.specs.Parts.{EditsStand, LogStands}
 use Rattle.wp_shared.specs.Calls.{GoesOnAs}
 use Rattle.wp_shared.specs.Notes.{GoesOn, no_fact}
 use Rattle.wp_shared.specs.Seats.{SharedState, SeatState, Stands}
@@ -33,27 +28,15 @@ use Rattle.wp_maint.specs.declared.renewed.Renewed.{Renewed}
 use Rattle.wp_maint.specs.declared.renewed.RenewError.{RenewError}
 use Rattle.wp_maint.specs.declared.renewed.RenewError.TheVariants.{Memory, TablesStopped, Stopped, Nothing, TableFault, LogFault}
 use Rattle.wp_maint.specs.Calls.{IsUncalled}
-use Rattle.wp_maint.specs.Flush.{versions_of}
+use Rattle.wp_maint.specs.Flush.{versions_of, HasFrozen, MayPut}
 use Rattle.wp_maint.specs.Holding.{is_of_tables}
-use Rattle.wp_maint.specs.Renewal.{HasFrozenAll, HoldsBoth}
-use Rattle.wp_maint.specs.Renewing.{HasMoved, HasPlace, HasSegment, IsTold, LeavesSegment, MayPutAll, RenewsHolding, SurvivesEdit, WritesTable}
+use Rattle.wp_maint.specs.Renewal.{HoldsBoth}
+use Rattle.wp_maint.specs.Renewing.{HasMoved, HasPlace, HasSegment, IsTold, LeavesSegment, RenewsHolding, SurvivesEdit, SurvivesWrite, WritesTable}
+use Rattle.wp_maint.proofs.Installed.{fault_since}
 use Rattle.wp_maint.proofs.Onward.{goes_more, renews_so, in_step_on}
 use Rattle.wp_maint.proofs.Throughout.{names_still}
 use Rattle.wp_renew.proofs.Renewed.{beside_still, broken_holding, closed_holding, covered_next, is_next, may_put_all, no_memory, renewed_holding, same_renewal}
 use Rattle.wp_stages.proofs.StageLemmas.{beside_same}
-
--- the table that is built has the versions, if there are any
-pub built_part : (id : ℕ) (versions : List Version) (table : Option (List Version)) (built : Option BuiltTable) → built ≡ built_of id versions → table ≡ option_map (λ (b : BuiltTable). b.versions) built → table ≡ one_part versions
-built_part id versions table built is table_is = table_is ∙ ap (λ (o : Option BuiltTable). option_map (λ (b : BuiltTable). b.versions) o) is ∙ by versions
-  where
-    by : (vs : List Version) → option_map (λ (b : BuiltTable). b.versions) (built_of id vs) ≡ one_part vs
-    by [] = refl
-    by (v ∷ vs) = refl
-
--- a fault behind another call is one since before it
-fault_since : (old mid new : TableSetState) → mid.manifest.log.faults ≡ old.manifest.log.faults → old.faults ≤ mid.faults → HadCause mid new Fault → HadCause old new Fault
-fault_since old mid new same later (inl rose) = inl (subst (λ (n : ℕ). Rose n new.manifest.log.faults) same rose)
-fault_since old mid new same later (inr rose) = inr (omega (arith, rose, later))
 
 -- the seat and the log are as they were
 pub at_start : {D : Type 0} (z : SharedState D) (s u : SeatState) (e : VersionSetState) (log now : LogState) → u ≡ s → now ≡ log → HoldsBoth z u e now now.table → HoldsBoth z s e log log.table
@@ -61,34 +44,34 @@ at_start z s u e log now same same_log holds = subst (λ (x : SeatState × LogSt
 
 module _ {D : Type 0} (z : SharedState D) (s0 : SeatState) (e0 : VersionSetState) (log0 : LogState) (holds : HoldsBoth z s0 e0 log0 log0.table) (running : e0.table.halted ≡ false) (open_ : log0.table.closed ≡ false) (nothing : log0.table.pending ≡ []) (coupled : e0.table.last.segment ≡ log0.table.segment) (below : log0.table.segment.base < length log0.table.history)
     (seen : s0.knows.participant.seen ≡ log0.table.history) (whole : log0.table.log ≡ log0.table.history) (w0 : (w : World) × Stands z s0 w) (in_step : KnowsTables s0.knows e0.table.last) (is_edits : IsEdits e0) (is_log : IsLog log0)
-    (f : Frozen) (versions : List Version) (versions_are : versions ≡ versions_of f) (frozen : HasFrozenAll s0.knows e0.table f) (ready : SegmentState) (is_ready : IsReadyEdit e0.set versions f.at ready.edit) where
+    (f : Frozen) (ready : ReadyInstallState) (is : ready.edit.asked ≡ record { gone = gone.Frozen; versions = versions_of f; flushed = f.at }) (frozen : HasFrozen s0.knows e0.table f) where
   begun : GoesOnAs s0 s0 s0.knows.participant
   begun = goes_none s0
 
   -- ---- the table was not written
 
   -- a crash meanwhile left the tables that there were
-  while_written : (left : VersionSetState) → SurvivesWrite e0 left ready → SurvivesInstall e0 left (after_renewal s0.knows.participant.seen 0 e0.table.last)
+  while_written : (left : VersionSetState) → SurvivesWrite ready.edit.asked e0 left → SurvivesInstall e0 left (after_renewal s0.knows.participant.seen 0 e0.table.last)
   while_written left survives =
       let segment : Segment = record { place = 0; base = f.at } in
-      subst (SurvivesInstall e0 left) (same_renewal s0.knows.participant.seen e0.table.last versions segment (versions_are ∙ frozen.versions) frozen.at) (survives versions f.at is_ready segment)
+      subst (SurvivesInstall e0 left) (same_renewal s0.knows.participant.seen e0.table.last ready.edit.asked segment (ap (λ (x : Asked). x.gone) is) (ap (λ (x : Asked). x.versions) is ∙ frozen.versions) (ap (λ (x : Asked). x.flushed) is ∙ frozen.at) frozen.at) (survives segment)
 
-  pub not_written : (T : Type 0) (why : RenewError) (u : SeatState) (left : VersionSetState) (now : LogState) (behind : SegmentState) → WritesTable {T = T} z s0 e0 log0 ready (Err why) u left now behind → RenewsHolding (GoesOnAs s0 u) z s0 e0 log0 (Err why) u left now
+  pub not_written : (T : Type 0) (why : RenewError) (u : SeatState) (left : VersionSetState) (now : LogState) (behind : ReadyInstallState) → WritesTable {T = T} z s0 e0 log0 ready (Err why) u left now behind → RenewsHolding (GoesOnAs s0 u) z s0 e0 log0 (Err why) u left now
   not_written T Memory u left now behind wrong = absurd wrong
   not_written T (TablesStopped n) u left now behind wrong = absurd wrong
   not_written T (Stopped n) u left now behind wrong = absurd wrong
   not_written T Nothing u left now behind wrong = absurd wrong
   not_written T LogFault u left now behind wrong = absurd wrong
   not_written T TableFault u left now behind k =
-      broken_holding z s0 s0 e0 e0 log0 log0 holds running open_ nothing (sym coupled) below seen whole w0 is_edits is_log begun refl refl refl (λ before after. SurvivesWrite before after ready × IsUncalled before after) None u left now k
+      broken_holding z s0 s0 e0 e0 log0 log0 holds running open_ nothing (sym coupled) below seen whole w0 is_edits is_log begun refl refl refl (λ before after. SurvivesWrite ready.edit.asked before after × IsUncalled before after) None u left now k
       (after_renewal s0.knows.participant.seen 0 e0.table.last) (0, refl) tt (while_written left k.survives.0) (λ none. k.survives.1)
       (beside_same log0 now (ap (λ (l : LogState). l.wal.moments) k.stopped)) k.fault in_step
 
   -- ---- the table is written, if there is one
 
-  module _ (e1 : VersionSetState) (behind : SegmentState) (same_table : e1.table ≡ e0.table) (wrote : IsWritten e0 e1 ready behind) (holds1 : HoldsBoth z s0 e1 log0 log0.table) where
-    its : IsBehind e0 e1 versions f.at behind
-    its = wrote versions f.at is_ready
+  module _ (e1 : VersionSetState) (behind : ReadyInstallState) (same_table : e1.table ≡ e0.table) (its : IsBehind e0 e1 behind) (same_asked : behind.edit.asked ≡ ready.edit.asked) (holds1 : HoldsBoth z s0 e1 log0 log0.table) where
+    is_behind : behind.edit.asked ≡ record { gone = gone.Frozen; versions = versions_of f; flushed = f.at }
+    is_behind = same_asked ∙ is
 
     same_manifest : e1.set.manifest ≡ e0.set.manifest
     same_manifest = ap (λ (s : TableSetState). s.manifest) its.written.changed
@@ -97,7 +80,7 @@ module _ {D : Type 0} (z : SharedState D) (s0 : SeatState) (e0 : VersionSetState
     settled1 = subst (λ (t : Installed). KnowsTables s0.knows t.last) (sym same_table) in_step
 
     -- the segment was not
-    pub not_placed : (why : RenewError) (u : SeatState) (now : LogState) → IsEdits e1 → SurvivesWrite e0 e1 ready → HasPlace z s0 e1 log0 (Err why) u now → RenewsHolding (GoesOnAs s0 u) z s0 e0 log0 (Err why) u e1 now
+    pub not_placed : (why : RenewError) (u : SeatState) (now : LogState) → IsEdits e1 → SurvivesWrite ready.edit.asked e0 e1 → HasPlace z s0 e1 log0 (Err why) u now → RenewsHolding (GoesOnAs s0 u) z s0 e0 log0 (Err why) u e1 now
     not_placed Memory u now is_left survives wrong = absurd wrong
     not_placed (TablesStopped n) u now is_left survives wrong = absurd wrong
     not_placed (Stopped n) u now is_left survives wrong = absurd wrong
@@ -121,13 +104,10 @@ module _ {D : Type 0} (z : SharedState D) (s0 : SeatState) (e0 : VersionSetState
       still : u.knows.participant ≡ s0.knows.participant
       still = ap (λ (x : SeatState). x.knows.participant) p.goes.same
 
-      its_now : IsBehind e0 e1 versions written.segment.base behind
-      its_now = subst (λ (n : ℕ). IsBehind e0 e1 versions n behind) (sym at_base) its
-
       settled2 : KnowsTables u.knows e1.table.last
       settled2 = in_step_on s0 u no_fact (writes (with_next log1.table written.segment) ∷ installed e1.table ∷ []) s0.turns refl (λ vs floor. refl) p.goes e1.table.last settled1
 
-      pub told : log0.table.next ≡ None → IsTold z u e1 log1 written behind versions
+      pub told : log0.table.next ≡ None → IsTold z u e1 log1 written behind
       told none_next = record {
         holds = p.holds;
         running = ap (λ (t : Installed). t.halted) same_table ∙ running;
@@ -139,38 +119,40 @@ module _ {D : Type 0} (z : SharedState D) (s0 : SeatState) (e0 : VersionSetState
         apart = λ is. p.survives.beside.1 (is ∙ ap (λ (t : WriteState). t.segment.place) p.table);
         coupled = ap (λ (t : Installed). t.last.segment) same_table ∙ coupled ∙ ap (λ (t : WriteState). t.segment) (sym p.table);
         before = e0;
-        behind = its_now;
-        covered = covered_next z s0 u e0 e1 log0 log1 holds running open_ nothing (sym coupled) below seen whole w0 is_edits is_log first still same_table p.table written behind f versions versions_are frozen based;
+        behind = its;
+        gone_is = ap (λ (x : Asked). x.gone) is_behind;
+        flushed_is = ap (λ (x : Asked). x.flushed) is_behind ∙ sym at_base;
+        covered = covered_next z s0 u e0 e1 log0 log1 holds running open_ nothing (sym coupled) below seen whole w0 is_edits is_log first still same_table p.table written behind f is_behind frozen based;
         stands = p.stands;
       }
 
       -- the edit was not installed
-      pub not_installed : (T : Type 0) (why : RenewError) (v : SeatState) (left : VersionSetState) (now : LogState) → LeavesSegment {T = T} z u e1 log1 written behind versions (Err why) v left now → RenewsHolding (GoesOnAs s0 v) z s0 e0 log0 (Err why) v left now
+      pub not_installed : (T : Type 0) (why : RenewError) (v : SeatState) (left : VersionSetState) (now : LogState) → LeavesSegment {T = T} z u e1 log1 written behind (Err why) v left now → RenewsHolding (GoesOnAs s0 v) z s0 e0 log0 (Err why) v left now
       not_installed T Memory v left now wrong = absurd wrong
       not_installed T (TablesStopped n) v left now wrong = absurd wrong
       not_installed T (Stopped n) v left now wrong = absurd wrong
       not_installed T Nothing v left now wrong = absurd wrong
       not_installed T LogFault v left now wrong = absurd wrong
       not_installed T TableFault v left now k =
-          let edit = in_segment versions written.segment.base written.segment e1.table.last in
-          let its_edit = is_next z s0 u e0 e1 log0 log1 holds running open_ nothing (sym coupled) below seen whole w0 is_edits is_log first still same_table p.table written behind f versions versions_are frozen based in
-          broken_holding z s0 u e0 e1 log0 log1 holds running open_ nothing (sym coupled) below seen whole w0 is_edits is_log first still same_table p.table (SurvivesEdit written behind versions)
+          let edit = asked_for behind.edit.asked written.segment e1.table.last in
+          let its_edit = is_next z s0 u e0 e1 log0 log1 holds running open_ nothing (sym coupled) below seen whole w0 is_edits is_log first still same_table p.table written behind f is_behind frozen based in
+          broken_holding z s0 u e0 e1 log0 log1 holds running open_ nothing (sym coupled) below seen whole w0 is_edits is_log first still same_table p.table (SurvivesEdit written behind)
           (Some edit) v left now k
           (after_renewal s0.knows.participant.seen written.segment.place e0.table.last) (written.segment.place, refl) its_edit
-          (subst (SurvivesInstall e0 left) its_edit (k.survives e0 its_now)) (λ none. absurd (none_some (Some edit) edit none refl))
+          (subst (SurvivesInstall e0 left) its_edit (k.survives e0 its)) (λ none. absurd (none_some (Some edit) edit none refl))
           (beside_still log0 log1 now (Some written.segment) (ap (λ (l : LogState). l.wal.moments) k.stopped) p.survives)
           (fault_since e0.set e1.set left.set (ap (λ (s : TableSetState). s.manifest.log.faults) its.written.changed) its.written.later k.fault) settled2
 
       -- it was
-      module _ (v : SeatState) (left : VersionSetState) (now : LogState) (k : HasMoved z u e1 log1 written behind versions v left now) where
-        pub may_put : (table : Option (List Version)) → table ≡ one_part versions → MayPutAll v.knows left.table f table
+      module _ (v : SeatState) (left : VersionSetState) (now : LogState) (k : HasMoved z u e1 log1 written behind v left now) where
+        pub may_put : (table : Option (List Version)) → table ≡ one_part (versions_of f) → MayPut v.knows left.table f table
         may_put table is =
-            may_put_all z s0 u e0 e1 log0 log1 holds running open_ nothing (sym coupled) below seen whole w0 is_edits is_log first still same_table p.table written behind f versions versions_are frozen based v left now k its_now p.survives table is settled2
+            may_put_all z s0 u e0 e1 log0 log1 holds running open_ nothing (sym coupled) below seen whole w0 is_edits is_log first still same_table p.table written behind f is_behind frozen based v left now k its p.survives table is settled2
             (p.goes.noted (frozen_stay f.at (versions_of f)) refl)
 
         pub went_through : (x : SeatState) → GoesOn is_of_tables (writes now.table ∷ installed left.table ∷ []) v.turns v x → (done : Renewed) → done.at ≡ f.at → done.carried ≡ length (undecided log0.table.history) → KnowsTables x.knows left.table.last → RenewsHolding (GoesOnAs s0 x) z s0 e0 log0 (Ok done) x left now
         went_through x put done at_is counted last =
-            renewed_holding z s0 u e0 e1 log0 log1 holds running open_ nothing (sym coupled) below seen whole w0 is_edits is_log first still same_table p.table written behind f versions versions_are frozen based v left now k its_now p.survives x put done at_is counted last
+            renewed_holding z s0 u e0 e1 log0 log1 holds running open_ nothing (sym coupled) below seen whole w0 is_edits is_log first still same_table p.table written behind f is_behind frozen based v left now k its p.survives x put done at_is counted last
 
 -- ---- before the memory is there, and the stages behind it
 

@@ -1,76 +1,35 @@
 //! A renewal of the log: it goes on in a segment that begins where the history ends.
-ghost use Rattle.std.specs.Prelude.{◌≡◌, ◌<◌, false, [], ◌∷◌, length, map, vec_capacity, Some, None, IfOk, IfErr};
-ghost use Rattle.std.specs.Arc.{arc_value};
-ghost use Rattle.std.specs.Option.{option_map};
+ghost use Rattle.std.specs.Prelude.{◌≡◌, ◌<◌, false, [], length, None, IfOk, IfErr};
 ghost use Rattle.wp_model.specs.Legal.{undone_last};
-ghost use Rattle.wp_store.specs.Store.{with_newest};
-ghost use Rattle.wp_core.specs.Tables.{installed, writes};
-ghost use Rattle.wp_core.specs.Tables as table;
 ghost use Rattle.wp_core.specs.World.{World};
 ghost use Rattle.wp_rule.specs.Knows.{KnowsTables};
-ghost use Rattle.wp_shared.specs.VersionSet.{IsEdits};
-ghost use Rattle.wp_shared.specs.Log.{IsLog};
-ghost use Rattle.wp_shared.specs.Stock.{store_state};
+ghost use Rattle.wp_parts.specs.VersionSet.{IsEdits};
+ghost use Rattle.wp_parts.specs.Log.{IsLog, IsSegmentOf};
 ghost use Rattle.wp_shared.specs.Calls.{GoesOnAs};
 ghost use Rattle.wp_shared.specs.Notes.{no_fact, GoesOn};
 ghost use Rattle.wp_shared.specs.Seats.{IsFree, Stands};
-ghost use Rattle.wp_shared.specs.Turns.{HoldsTurn};
-ghost use Rattle.wp_maint.specs.Calls.{LeavesOnce};
-ghost use Rattle.wp_maint.specs.Holding.{is_of_tables, HoldsEdits};
+ghost use Rattle.wp_maint.specs.Calls.{InstalledNone, KeepsOnce, LeavesOnce};
+ghost use Rattle.wp_maint.specs.Flush.{HasFrozen, HasReady};
+ghost use Rattle.wp_maint.specs.Holding.{HoldsEdits};
 ghost use Rattle.wp_maint.specs.Installs.{AreLeft};
-ghost use Rattle.wp_maint.specs.Renewal.{BeforeDevices, HasFrozenAll, HoldsBoth, IsRefusedBefore, KeepsOnce, Renews, RenewsFrom, UnlessDeviceFault};
-ghost use Rattle.wp_maint.specs.Renewing.{HasCopiedAll, HasRoom, MayPutAll, RenewsHolding};
+ghost use Rattle.wp_maint.specs.Renewal.{BeforeDevices, HoldsBoth, IsRefusedBefore, Renews, RenewsFrom, UnlessDeviceFault};
+ghost use Rattle.wp_maint.specs.Renewing.{RenewsHolding};
 
 use std::alloc::AllocError;
-use std::sync::{Arc, Wait};
-use wp_maint::{Frozen, RenewError, Renewed, find_edits, move_versions, note_frozen};
-use wp_model::{Seq, Versions};
+use std::sync::Wait;
+use wp_maint::{
+    Frozen, ReadyFlush, RenewError, Renewed, find_edits, freeze_in, make_ready, put_table,
+};
 use wp_outside::Disk;
-use wp_shared::{Log, ReadySegment, Seat, Shared, Stock, VersionSet};
+use wp_shared::{Log, Seat, Shared, Stock, VersionSet};
 use wp_stages::{find_closed, install, write_segment, write_table};
-use wp_table::Table;
 use wp_wal::NewSegment;
 
 /// All the memory that a renewal takes, before a device is called for it.
 #[derive(Drop)]
-struct Room {
-    frozen: Frozen,
-    /// What is frozen, as one list.
-    versions: Versions,
-    edit: ReadySegment,
+struct ReadyRenewal {
+    flush: ReadyFlush,
     segment: NewSegment,
-}
-
-/// Freezes what stands in memory, also where nothing does.
-fn freeze(stock: &mut Stock, at: Seq) -> Result<Frozen, AllocError>
-    ensures copied { IfOk result (HasCopiedAll (store_state stock.old) at) }
-    ensures same { store_state stock.new ≡ store_state stock.old }
-{
-    let parts = stock.freeze()?;
-    let tables = stock.copy_tables()?;
-    Ok(Frozen { at, parts, tables })
-}
-
-/// Freezes what stands in memory, under the store turn.
-fn freeze_in<D: Disk + Drop>(
-    store: &Shared<D>,
-    seat: &mut Seat<D>,
-    edits: &VersionSet<D>,
-    log: &Log<D>,
-    stock: &mut Stock,
-) -> Result<Frozen, AllocError>
-    requires holds { HoldsTurn store.now seat.old (table.store (store_state stock.old)) (writes log.now.table ∷ installed edits.now.table ∷ []) (0 ∷ 5 ∷ []) }
-    requires pending { log.now.table.pending ≡ [] }
-    requires seen { seat.old.knows.participant.seen ≡ log.now.table.history }
-    requires in_step { KnowsTables seat.old.knows edits.now.table.last }
-    requires stands { (w : World) × Stands store.now seat.old w }
-    ensures goes { GoesOn no_fact seat.old.knows.held seat.old.turns seat.old seat.new }
-    ensures same { store_state stock.new ≡ store_state stock.old }
-    ensures frozen { IfOk result (HasFrozenAll seat.new.knows edits.now.table) }
-{
-    let frozen = freeze(stock, log.published())?;
-    note_frozen(store, seat, edits, stock, &frozen);
-    Ok(frozen)
 }
 
 /// Freezes what stands in memory, under the store turn, which is taken for it.
@@ -85,7 +44,7 @@ fn freeze_held<D: Disk + Drop, R: Wait>(
     requires in_step { KnowsTables seat.old.knows edits.now.table.last }
     requires seen { (seat.old.knows.participant.seen ≡ log.now.table.history) × (log.now.table.pending ≡ []) }
     ensures goes { GoesOn no_fact seat.old.knows.held seat.old.turns seat.old seat.new }
-    ensures frozen { IfOk result (HasFrozenAll seat.new.knows edits.now.table) }
+    ensures frozen { IfOk result (HasFrozen seat.new.knows edits.now.table) }
     ensures stands { (w : World) × Stands store.now seat.new w }
 {
     let mut stock = store.take_turn::<Stock, R>(rt, seat);
@@ -95,69 +54,25 @@ fn freeze_held<D: Disk + Drop, R: Wait>(
 }
 
 /// Takes all the memory that the renewal needs.
-fn take_room<D: Disk + Drop, R: Wait>(
+fn make_renewal_ready<D: Disk + Drop, R: Wait>(
     store: &Shared<D>,
     rt: &R,
     seat: &mut Seat<D>,
     edits: &VersionSet<D>,
     log: &Log<D>,
-) -> Result<Room, AllocError>
+) -> Result<ReadyRenewal, AllocError>
     requires holds { HoldsBoth store.now seat.old edits.now log.now log.now.table }
     requires in_step { KnowsTables seat.old.knows edits.now.table.last }
     requires seen { (seat.old.knows.participant.seen ≡ log.now.table.history) × (log.now.table.pending ≡ []) }
     requires whole { undone_last log.now.table.history ≡ None }
     ensures goes { GoesOn no_fact seat.old.knows.held seat.old.turns seat.old seat.new }
-    ensures room { IfOk result (λ room. HasRoom seat.new.knows edits.now log.now room.frozen room.versions room.edit room.segment) }
+    ensures ready { IfOk result (λ ready. HasReady seat.new.knows edits.now ready.flush × IsSegmentOf log.now ready.segment) }
     ensures stands { (w : World) × Stands store.now seat.new w }
 {
     let frozen = freeze_held(store, rt, seat, edits, log)?;
-    let versions = frozen.parts.merged()?;
-    let edit = edits.ready(&versions, frozen.at)?;
+    let flush = make_ready(edits, frozen)?;
     let segment = log.segment()?;
-    Ok(Room {
-        frozen,
-        versions,
-        edit,
-        segment,
-    })
-}
-
-/// The tables with this one before them, if there is one.
-fn with_some(mut tables: Vec<Arc<Table>>, table: Option<Arc<Table>>) -> Vec<Arc<Table>>
-    requires { length tables.items < vec_capacity tables }
-    ensures { map arc_value result.items ≡ with_newest (option_map arc_value table) (map arc_value tables.items) }
-{
-    if let Some(table) = table {
-        tables.insert(0, table).unwrap();
-    }
-    tables
-}
-
-/// Puts the table in place of what is frozen, where readers look.
-fn put_table<D: Disk + Drop, R: Wait>(
-    store: &Shared<D>,
-    rt: &R,
-    seat: &mut Seat<D>,
-    edits: &VersionSet<D>,
-    log: &Log<D>,
-    frozen: Frozen,
-    table: Option<Arc<Table>>,
-)
-    requires holds { HoldsBoth store.now seat.old edits.now log.now log.now.table }
-    requires may { MayPutAll seat.old.knows edits.now.table frozen (option_map arc_value table) }
-    ensures goes { GoesOn is_of_tables (writes log.now.table ∷ installed edits.now.table ∷ []) seat.old.turns seat.old seat.new }
-    ensures in_step { KnowsTables seat.new.knows edits.now.table.last }
-{
-    let Frozen {
-        at,
-        parts: _parts,
-        tables,
-    } = frozen;
-    let tables = with_some(tables, table);
-    let mut stock = store.take_turn::<Stock, R>(rt, seat);
-    stock.install_flushed(at, tables);
-    move_versions(store, seat, edits, &stock);
-    store.give_turn::<Stock>(seat, stock);
+    Ok(ReadyRenewal { flush, segment })
 }
 
 /// Renews the log with the memory that was taken.
@@ -167,7 +82,7 @@ fn renew_in<D: Disk + Drop, R: Wait>(
     seat: &mut Seat<D>,
     edits: &mut VersionSet<D>,
     log: &mut Log<D>,
-    room: Room,
+    ready: ReadyRenewal,
 ) -> Result<Renewed, RenewError>
     requires holds { HoldsBoth store.now seat.old edits.old log.old log.old.table }
     requires running { (edits.old.table.halted ≡ false) × (log.old.table.closed ≡ false) × (log.old.table.pending ≡ []) }
@@ -176,18 +91,18 @@ fn renew_in<D: Disk + Drop, R: Wait>(
     requires whole { undone_last log.old.table.history ≡ None }
     requires in_step { KnowsTables seat.old.knows edits.old.table.last }
     requires seen { (seat.old.knows.participant.seen ≡ log.old.table.history) × (log.old.table.log ≡ log.old.table.history) }
-    requires room { HasRoom seat.old.knows edits.old log.old room.frozen room.versions room.edit room.segment }
+    requires ready { HasReady seat.old.knows edits.old ready.flush × IsSegmentOf log.old ready.segment }
     requires edits { IsEdits edits.old }
     requires log { IsLog log.old }
     requires stands { (w : World) × Stands store.now seat.old w }
     ensures { RenewsHolding (GoesOnAs seat.old seat.new) store.now seat.old edits.old log.old result seat.new edits.new log.new }
 {
-    let Room {
+    let ReadyRenewal { flush, segment } = ready;
+    let ReadyFlush {
         frozen,
-        versions,
         mut edit,
-        segment,
-    } = room;
+        versions: _versions,
+    } = flush;
     let done = Renewed {
         at: frozen.at,
         carried: log.undecided_count() as u64,
@@ -195,8 +110,8 @@ fn renew_in<D: Disk + Drop, R: Wait>(
     let table = write_table(store, seat, edits, log, &mut edit)?;
     let written = write_segment(store, seat, edits, log, &segment)?;
     log.shows_waiting(&written);
-    install(store, seat, edits, log, written, edit, &versions, &table)?;
-    put_table(store, rt, seat, edits, log, frozen, table);
+    install(store, seat, edits, log, written, edit)?;
+    put_table(store, rt, seat, edits, frozen, table);
     Ok(done)
 }
 
@@ -244,8 +159,8 @@ fn renew_held<D: Disk + Drop, R: Wait>(
         find_edits(store, seat);
         return Err(RenewError::Nothing);
     }
-    let room = take_room(store, rt, seat, edits, log)?;
-    renew_in(store, rt, seat, edits, log, room)
+    let ready = make_renewal_ready(store, rt, seat, edits, log)?;
+    renew_in(store, rt, seat, edits, log, ready)
 }
 
 /// Renews the log, under the tables turn.
@@ -293,6 +208,7 @@ pub fn renew<D: Disk + Drop, R: Wait>(
     ensures answers { Renews store.now seat.old result seat.new }
     ensures before_install { IfErr result (λ why. IsRefusedBefore (LeavesOnce store.now seat.old seat.new) seat.old why seat.new) }
     ensures untouched { IfErr result (BeforeDevices (KeepsOnce store.now seat.old seat.new)) }
+    ensures behind_install { IfErr result (λ _. InstalledNone seat.old.knows.participant seat.new.knows.participant) }
 {
     let mut edits = store.take_turn::<VersionSet<D>, R>(rt, seat);
     edits.devices_agree();

@@ -18,7 +18,7 @@ use Rattle.wp_rule.specs.Knows.{KnowsRenewed, NextNamed}
 use Rattle.wp_rule.proofs.MayBeMade.{known_made}
 use Rattle.wp_rule.specs.Moves.{MayMake, Moved, actor_after}
 use Rattle.wp_rule.specs.Words.{Place, IsAt}
-use Rattle.wp_shared.specs.Log.{with_next, with_segment}
+use Rattle.wp_parts.specs.Log.{with_next, with_segment}
 use Rattle.wp_shared.specs.Calls.{with_events}
 use Rattle.wp_shared.specs.Notes.{no_fact, with_participant, GoesOn}
 use Rattle.wp_shared.specs.Seats.{SeatState}

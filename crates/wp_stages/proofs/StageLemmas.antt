@@ -5,7 +5,9 @@ use Rattle.wp_model.specs.declared.segment.Segment.{Segment}
 use Rattle.wp_cuts.specs.Cut.{Cut, IsCut, cut_at}
 use Rattle.wp_outside.specs.Disk.{IfKnown, Passes}
 use Rattle.wp_gatelog.specs.Moments.{Leaves}
-use Rattle.wp_tableset.specs.Changes.{compacted_parts}
+use Rattle.wp_tableset.specs.Changes.{Asked, parts_after}
+use Rattle.wp_tableset.specs.declared.gone.Gone.{Gone}
+use Rattle.wp_tableset.specs.declared.gone.Gone.TheVariants as gone
 use Rattle.wp_wal.specs.Segment.{NewSegmentState, WrittenState}
 use Rattle.wp_wal.specs.Spelling.{IsLogAt}
 use Rattle.wp_wal.specs.Wal.{LeavesCut, LosesNothingAt}
@@ -16,14 +18,13 @@ use Rattle.wp_core.specs.Effects.{with_failed}
 use Rattle.wp_core.specs.Tables.{Content, WriteState, Installed, writes, installed}
 use Rattle.wp_core.specs.Views.{Event, Fact, log_stopped, renewed, tables_failed}
 use Rattle.wp_core.specs.World.{Participant, World}
-use Rattle.wp_core.proofs.Tests.{none_some}
+use Rattle.wp_model.proofs.Tests.{none_some}
 use Rattle.wp_shared.specs.Calls.{with_events}
 use Rattle.wp_rule.specs.Knows.{NextNamed}
-use Rattle.wp_shared.specs.VersionSet.{VersionSetState, IsEdits}
-use Rattle.wp_shared.specs.Installs.{in_segment}
-use Rattle.wp_shared.specs.Log.{LogState, IsLog, IsPlaceOf, IsSegmentOf, IsWaiting, with_next, with_segment}
+use Rattle.wp_parts.specs.VersionSet.{VersionSetState, IsEdits, asked_for, with_new}
+use Rattle.wp_parts.specs.Installs.{ReadyInstallState}
+use Rattle.wp_parts.specs.Log.{LogState, IsLog, IsPlaceOf, IsSegmentOf, IsWaiting, with_next, with_segment}
 use Rattle.wp_shared.specs.Notes.{with_participant, no_fact, GoesOn}
-use Rattle.wp_shared.specs.Renewal.{SegmentState}
 use Rattle.wp_shared.specs.Seats.{SharedState, SeatState, Stands}
 use Rattle.wp_shared.proofs.Goes.{none_too, then, wider}
 use Rattle.wp_shared.proofs.Onward.{starts_equal}
@@ -49,13 +50,16 @@ waits_not t segment none is = none_some t.next segment none is
 -- ---- the edit
 
 -- it names the segment that waits, and flushes the whole history
-pub next_named : (d : WriteState) (segment : Segment) (versions : List Version) (last : InstalledEdit) → d.closed ≡ false → segment.base ≡ length d.history → NextNamed (with_next d segment) (in_segment versions segment.base segment last)
-next_named d segment versions last open_ based = (open_, refl, based)
+pub next_named : (d : WriteState) (segment : Segment) (asked : Asked) (last : InstalledEdit) → d.closed ≡ false → segment.base ≡ length d.history → asked.flushed ≡ segment.base → NextNamed (with_next d segment) (asked_for asked segment last)
+next_named d segment asked last open_ based flushed = (open_, refl, flushed ∙ based)
 
 -- it has no fewer tables
-pub more_tables : (versions : List Version) (flushed : ℕ) (segment : Segment) (last : InstalledEdit) → last.tables ≤ (in_segment versions flushed segment last).tables
-more_tables [] flushed segment last = omega arith
-more_tables (v ∷ versions) flushed segment last = omega arith
+pub more_tables : (asked : Asked) (segment : Segment) (last : InstalledEdit) → asked.gone ≡ gone.Frozen → last.tables ≤ (asked_for asked segment last).tables
+more_tables asked segment last is = subst (λ (x : Gone). last.tables ≤ (with_new x asked.versions last).tables) (sym is) (by asked.versions)
+  where
+    by : (vs : List Version) → last.tables ≤ (with_new gone.Frozen vs last).tables
+    by [] = omega arith
+    by (v ∷ vs) = omega arith
 
 -- ---- a segment is written
 
@@ -195,10 +199,10 @@ module _ {D : Type 0} (z : SharedState D) (s t u v : SeatState) (e left : Versio
     unfolding moved_found
     moves_since = goes_then_more z s t v e.table k (writes now.table ∷ installed left.table ∷ []) is_of_flushed (renewed left.table.last ∷ []) moves
 
-    pub has_moved : (written : WrittenState) (edit : SegmentState) (versions : List Version) → left.table ≡ record e.table { last = in_segment versions written.segment.base written.segment e.table.last }
+    pub has_moved : (written : WrittenState) (edit : ReadyInstallState) → left.table ≡ record e.table { last = asked_for edit.edit.asked written.segment e.table.last }
         → now.table ≡ with_segment log.table written.segment → (now.wal.moments ≡ log.wal.moments) × (now.wal.faults ≡ log.wal.faults) × (now.wal.id ≡ log.wal.id) → left.first ≡ e.first → now.first ≡ log.first
-        → left.parts ≡ compacted_parts versions ++ e.parts → SurvivesEdit written edit versions e left → IsEdits left → IsLog now → (w : World) × Stands z v w → HasMoved z s e log written edit versions v left now
-    has_moved written edit versions table log_table device edits_first log_first parts survives still_edits still_log stands = record {
+        → left.parts ≡ parts_after edit.edit.asked e.parts → SurvivesEdit written edit e left → IsEdits left → IsLog now → (w : World) × Stands z v w → HasMoved z s e log written edit v left now
+    has_moved written edit table log_table device edits_first log_first parts survives still_edits still_log stands = record {
       table = table;
       log_table = log_table;
       device = device;

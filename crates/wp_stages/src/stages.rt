@@ -1,14 +1,13 @@
 //! The stages of a renewal under both turns: its table, its segment, and the edit that names both.
-ghost use Rattle.std.specs.Prelude.{◌≡◌, ◌<◌, ℕ, false, List, [], length, None, IfOk};
+ghost use Rattle.std.specs.Prelude.{◌≡◌, ◌<◌, false, [], length, None, IfOk};
 ghost use Rattle.std.specs.Arc.{arc_value};
 ghost use Rattle.std.specs.Option.{option_map};
-ghost use Rattle.wp_model.specs.declared.version.Version.{Version};
 ghost use Rattle.wp_model.specs.Legal.{undone_last};
 ghost use Rattle.wp_tableset.specs.Changes.{one_part};
-ghost use Rattle.wp_tableset.specs.Install.{IsReadyEdit};
 ghost use Rattle.wp_core.specs.World.{World};
-ghost use Rattle.wp_shared.specs.VersionSet.{IsEdits};
-ghost use Rattle.wp_shared.specs.Log.{IsSegmentOf};
+ghost use Rattle.wp_parts.specs.VersionSet.{IsEdits};
+ghost use Rattle.wp_parts.specs.Installs.{IsReadyFor};
+ghost use Rattle.wp_parts.specs.Log.{IsSegmentOf};
 ghost use Rattle.wp_shared.specs.Seats.{Stands};
 ghost use Rattle.wp_maint.specs.Renewal.{HoldsBoth};
 ghost use Rattle.wp_maint.specs.Renewing.{HasPlace, IsTold, LeavesSegment, WritesTable};
@@ -19,9 +18,8 @@ use crate::steps::{
 };
 use std::sync::Arc;
 use wp_maint::{RenewError, find_edits};
-use wp_model::Versions;
-use wp_outside::Disk;
-use wp_shared::{Log, ReadySegment, Seat, Shared, VersionSet};
+use wp_outside::{Disk, Failed};
+use wp_shared::{Log, ReadyInstall, Seat, Shared, VersionSet};
 use wp_table::Table;
 use wp_wal::{NewSegment, Written};
 
@@ -31,14 +29,13 @@ pub fn write_table<D: Disk + Drop>(
     seat: &mut Seat<D>,
     edits: &mut VersionSet<D>,
     log: &mut Log<D>,
-    edit: &mut ReadySegment,
+    edit: &mut ReadyInstall,
 ) -> Result<Option<Arc<Table>>, RenewError>
     requires holds { HoldsBoth store.now seat.old edits.old log.old log.old.table }
     requires running { (edits.old.table.halted ≡ false) × (log.old.table.closed ≡ false) × (log.old.table.pending ≡ []) }
-    requires ready { (versions : List Version) × (flushed : ℕ) × IsReadyEdit edits.old.set versions flushed edit.old.edit }
-    requires room { length edits.old.parts < edit.old.room }
+    requires ready { IsReadyFor edits.old edit.old }
     ensures writes { WritesTable store.now seat.old edits.old log.old edit.old result seat.new edits.new log.new edit.new }
-    ensures table { IfOk result (λ table. option_map arc_value table ≡ option_map (λ built. built.versions) edit.old.edit.built) }
+    ensures table { IfOk result (λ table. option_map arc_value table ≡ one_part edit.old.edit.asked.versions) }
     ensures edits { IsEdits edits.new }
 {
     edits.devices_agree();
@@ -48,7 +45,7 @@ pub fn write_table<D: Disk + Drop>(
             edits.devices_agree();
             Ok(table)
         }
-        Err(_) => {
+        Err(Failed) => {
             edits.devices_agree();
             find_edits(store, seat);
             remember_tables_fault(store, seat, edits);
@@ -99,18 +96,15 @@ pub fn install<D: Disk + Drop>(
     edits: &mut VersionSet<D>,
     log: &mut Log<D>,
     written: Written,
-    edit: ReadySegment,
-    versions: &Versions,
-    table: &Option<Arc<Table>>,
+    edit: ReadyInstall,
 ) -> Result<(), RenewError>
-    requires told { IsTold store.now seat.old edits.old log.old written edit versions.now }
-    requires table { option_map arc_value table.now ≡ one_part versions.now }
-    ensures { LeavesSegment store.now seat.old edits.old log.old written edit versions.now result seat.new edits.new log.new }
+    requires { IsTold store.now seat.old edits.old log.old written edit }
+    ensures { LeavesSegment store.now seat.old edits.old log.old written edit result seat.new edits.new log.new }
 {
     edits.devices_agree();
     log.devices_agree();
     find_edits(store, seat);
-    match edits.install_segment(edit, versions, table, written.segment()) {
+    match edits.install(edit, written.segment()) {
         Ok(()) => {
             edits.devices_agree();
             remember_renewal(store, seat, edits, &written);
@@ -119,7 +113,7 @@ pub fn install<D: Disk + Drop>(
             use_segment(store, seat, edits, log);
             Ok(())
         }
-        Err(_) => {
+        Err(Failed) => {
             edits.devices_agree();
             remember_tables_fault(store, seat, edits);
             log.stop_with(written);

@@ -7,7 +7,7 @@ ghost use Rattle.wp_core.specs.Views.{log_failed, log_stopped, renewed, stopped,
 ghost use Rattle.wp_core.specs.World.{World};
 ghost use Rattle.wp_model.specs.Flushed.{IsEditCovered};
 ghost use Rattle.wp_rule.specs.Knows.{KnowsRenewed, NextNamed};
-ghost use Rattle.wp_shared.specs.Log.{with_next, with_segment};
+ghost use Rattle.wp_parts.specs.Log.{with_next, with_segment};
 ghost use Rattle.wp_shared.specs.Calls.{with_events};
 ghost use Rattle.wp_shared.specs.Notes.{no_fact, with_participant, GoesOn};
 ghost use Rattle.wp_shared.specs.Seats.{Stands};

@@ -1,6 +1,7 @@
 use Rattle.std.proofs.Common.{[], refl, sym, subst, ap}
 use Rattle.wp_rule.specs.Knows.{KnowsTables}
-use Rattle.wp_shared.specs.VersionSet.{VersionSetState, IsEdits}
+use Rattle.wp_parts.specs.Parts.{EditsStand}
+use Rattle.wp_parts.specs.VersionSet.{VersionSetState, IsEdits}
 use Rattle.wp_shared.specs.Calls.{GoesOnAs}
 use Rattle.wp_shared.specs.Seats.{SeatState}
 use Rattle.wp_shared.proofs.Onward.{holds_alone, starts_equal, starts_on, starts_same}
@@ -8,7 +9,7 @@ use Rattle.wp_read.specs.Registers.{numbers_of}
 use Rattle.wp_core.specs.World.{Participant}
 use Rattle.wp_compact.specs.Compaction.{IsDecision, IsPin}
 use Rattle.wp_maint.specs.Holding.{HoldsEdits}
-use Rattle.wp_maint.proofs.BeforeInstall.{left_each}
+use Rattle.wp_maint.proofs.BeforeInstall.{kept_each}
 use Rattle.wp_compact.proofs.BeforeInstall.{each_between, none_taken, round_more}
 use Rattle.wp_maint.proofs.Found.{held_first}
 use Rattle.wp_maint.proofs.Onward.{seat_still}
@@ -39,8 +40,8 @@ give_turn-requires-clause-holds g c = ([], [], c.compact_in-result.ensures.holds
 pub returns-in_default-clause-says : goal.returns-in_default-clause-says
 returns-in_default-clause-says g c = (no_tables, c.decide_tables.ensures.continues)
 
-pub returns-in_default-clause-manifest : goal.returns-in_default-clause-manifest
-returns-in_default-clause-manifest g c = none_taken c.args.store.now c.args.seat.now c.decide_tables.new.seat
+pub returns-in_default-clause-untouched : goal.returns-in_default-clause-untouched
+returns-in_default-clause-untouched g c = none_taken c.args.store.now c.args.seat.now c.decide_tables.new.seat
 
 pub returns-clause-says : goal.returns-clause-says
 returns-clause-says g c =
@@ -49,8 +50,8 @@ returns-clause-says g c =
     ends_given c.requires.free c.decide_tables.ensures.continues c.take_turn-edits.ensures.taken u c.give_turn.new.seat (c.give_turn.ensures [] [] c.compact_in-result.ensures.holds.turn) p.floor.number (numbers_of p.live.items) d.bases d.versions (c.in-Ok.ensures.tabled, c.in-Ok.ensures.bases)
     told (ends_somehow (GoesOnAs t u) pins c.args.store.now t u told (IsDecision p.floor.number d.bases d.versions) result says).1.seen result says
 
-pub returns-clause-manifest : goal.returns-clause-manifest
-returns-clause-manifest g c =
+pub returns-clause-untouched : goal.returns-clause-untouched
+returns-clause-untouched g c =
     let z = c.args.store.now in let s = c.args.seat.now in let t = c.take_turn-edits.new.seat in let v = c.give_turn.new.seat in let result = c.compact_in-result.result in
     let before = c.deref_mut.result.now in let after = c.compact_in-result.new.edits in let taken = c.take_turn-edits.ensures.taken in
     let holds = subst (HoldsEdits z t) (sym c.deref_mut.ensures.value) (record { turn = holds_alone c.decide_tables.ensures.continues.free taken; of_store = c.take_turn-edits.ensures.of_store }) in
@@ -59,6 +60,7 @@ returns-clause-manifest g c =
     let grown = starts_on t.knows.participant.seen u.knows.participant.seen v.knows.participant.seen went.1.seen (starts_equal u.knows.participant.seen v.knows.participant.seen (ap (λ (x : SeatState). x.knows.participant.seen) given.same)) in
     round_more
     (λ left. each_between z s t v v (seat_still s t s.knows.participant first) (ap (λ (q : Participant). q.past) first.participant) first.seen (starts_same v.knows.participant.seen)
-    (left_each z t t v before after taken.stands (refl, refl, refl) refl (held_first t before.table holds.turn.held) holds.of_store c.compact_in-result.ensures.holds.of_store
-    (subst IsEdits (sym c.deref_mut.ensures.value) (subst IsEdits c.deref.ensures c.devices_agree.ensures.edits)) (subst IsEdits c.deref-2.ensures c.devices_agree-2.ensures.edits) grown left))
-    result c.compact_in-result.ensures.manifest
+    (kept_each z t t v before after taken.stands (refl, refl, refl) refl (held_first t before.table holds.turn.held) holds.of_store c.compact_in-result.ensures.holds.of_store
+    (subst IsEdits (sym c.deref_mut.ensures.value) (subst IsEdits c.deref.ensures c.devices_agree.ensures.edits)) (subst IsEdits c.deref-2.ensures c.devices_agree-2.ensures.edits) grown
+    (subst EditsStand (sym c.deref_mut.ensures.value) (subst EditsStand c.deref.ensures (c.devices_agree.ensures.manifest, c.devices_agree.ensures.tables))) left))
+    result c.compact_in-result.ensures.untouched

@@ -26,8 +26,8 @@ unpin-requires-clause-last g c = let p = c.in-Ok.pinned in
 pub returns-in-Err-clause-says : goal.returns-in-Err-clause-says
 returns-in-Err-clause-says g c = (no_tables, c.in-Err.ensures.refused)
 
-pub returns-in-Err-clause-manifest : goal.returns-in-Err-clause-manifest
-returns-in-Err-clause-manifest g c = none_taken c.args.store.now c.args.seat.now c.pin_all.new.seat
+pub returns-in-Err-clause-untouched : goal.returns-in-Err-clause-untouched
+returns-in-Err-clause-untouched g c = none_taken c.args.store.now c.args.seat.now c.pin_all.new.seat
 
 pub returns-in-Ok-clause-says : goal.returns-in-Ok-clause-says
 returns-in-Ok-clause-says g c =
@@ -35,8 +35,8 @@ returns-in-Ok-clause-says g c =
     round_so z s t u v p.floor p.live.items k.registered k.number k.pinned c.compact_pinned-result.result c.compact_pinned-result.ensures.says
     (c.unpin.ensures s.knows.participant.registered (registered_round z s t u v p.floor p.live.items k.registered k.number k.pinned c.compact_pinned-result.result c.compact_pinned-result.ensures.says))
 
-pub returns-in-Ok-clause-manifest : goal.returns-in-Ok-clause-manifest
-returns-in-Ok-clause-manifest g c =
+pub returns-in-Ok-clause-untouched : goal.returns-in-Ok-clause-untouched
+returns-in-Ok-clause-untouched g c =
     let z = c.args.store.now in let s = c.args.seat.now in let t = c.pin_all.new.seat in let u = c.compact_pinned-result.new.seat in let v = c.unpin.new.seat in let p = c.in-Ok.pinned in let k = c.in-Ok.ensures in
     let first = k.registered in let last = c.unpin.ensures s.knows.participant.registered (registered_round z s t u v p.floor p.live.items k.registered k.number k.pinned c.compact_pinned-result.result c.compact_pinned-result.ensures.says) in
-    round_more (each_between z s t u v (first.same_by, first.made, first.joined) (ap (λ (q : Participant). q.past) first.participant) first.seen last.seen) c.compact_pinned-result.result c.compact_pinned-result.ensures.manifest
+    round_more (each_between z s t u v (first.same_by, first.made, first.joined) (ap (λ (q : Participant). q.past) first.participant) first.seen last.seen) c.compact_pinned-result.result c.compact_pinned-result.ensures.untouched

@@ -1,7 +1,7 @@
 use Rattle.std.proofs.Common.{List, [], min, sym, subst, ap, ◌∙◌}
 use Rattle.wp_model.specs.declared.entry.Entry.{Entry}
 use Rattle.wp_core.specs.World.{Participant}
-use Rattle.wp_shared.specs.Log.{LogState, IsLog}
+use Rattle.wp_parts.specs.Log.{LogState, IsLog}
 use Rattle.wp_compact.specs.Decided.{Decides, both_bases, version_numbers}
 use Rattle.wp_compact.proofs.Based.{took_alone, given_on, given_legal, same_given, are_low, are_bases}
 use Rattle.wp_compact.proofs.decided.decide_log.Goals as goal

@@ -2,7 +2,7 @@ use Rattle.std.proofs.Common.{[], subst, sym, ap, ◌∙◌}
 use Rattle.std.proofs.lemmas.Result.{IfOk-weaker}
 use Rattle.wp_merge.specs.Merge.{joined}
 use Rattle.wp_merge.proofs.Sorted.{in_order_sorted}
-use Rattle.wp_shared.specs.Stock.{StockState, store_state}
+use Rattle.wp_parts.specs.Stock.{StockState, store_state}
 use Rattle.wp_shared.proofs.Onward.{holds_alone}
 use Rattle.wp_compact.specs.Compaction.{HadVersions}
 use Rattle.wp_compact.specs.Decided.{AreSeen}

@@ -1,4 +1,4 @@
-use Rattle.wp_shared.specs.Stock.{store_state}
+use Rattle.wp_parts.specs.Stock.{store_state}
 use Rattle.wp_compact.proofs.Made.{may_replace, was_replaced, noted_replaced, gone_replaced}
 use Rattle.wp_compact.proofs.steps.replace_versions.Goals as goal
 

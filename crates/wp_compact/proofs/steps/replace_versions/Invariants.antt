@@ -1,4 +1,4 @@
-use Rattle.wp_shared.specs.Stock.{store_state}
+use Rattle.wp_parts.specs.Stock.{store_state}
 use Rattle.wp_shared.specs.Seats.{place_at}
 use Rattle.wp_compact.proofs.Made.{replacing}
 use Rattle.wp_compact.proofs.steps.replace_versions.Given as goal

@@ -1,19 +1,21 @@
 use Rattle.std.proofs.Common.{ℕ, List, [], ◌∷◌, refl, subst, sym, ap}
 use Rattle.std.proofs.lemmas.Result.{IfOk-weaker}
-use Rattle.wp_core.specs.Tables.{store, installed}
-use Rattle.wp_shared.specs.Stock.{store_state}
+use Rattle.wp_core.specs.Tables.{StoreState, store, installed}
+use Rattle.wp_parts.specs.Stock.{store_state}
 use Rattle.wp_shared.specs.Notes.{no_fact, seeing, GoesOn}
 use Rattle.wp_shared.specs.Seats.{SeatState}
+use Rattle.wp_shared.specs.Turns.{HoldsTurn}
 use Rattle.wp_shared.proofs.Goes.{none_under_store}
 use Rattle.wp_core.specs.World.{Participant}
 use Rattle.wp_compact.specs.Compaction.{AreLow}
 use Rattle.wp_maint.proofs.Onward.{in_step_on}
-use Rattle.wp_maint.proofs.Puts.{holds_lent}
+use Rattle.wp_maint.proofs.Puts.{holds_taken}
 use Rattle.wp_compact.proofs.StillTabled.{some_weaker, match_weaker, live_still, may_merge_still, holds_seen, looked, same_looked, grown_looked, found_looked, passed_looked}
 use Rattle.wp_compact.proofs.unchanged.find_tables.Goals as goal
 
 pub tables_in-tables-requires-clause-holds : goal.tables_in-tables-requires-clause-holds
-tables_in-tables-requires-clause-holds g c = holds_lent c.requires.holds c.take_turn-stock.ensures.taken (ap store_state c.deref.ensures)
+tables_in-tables-requires-clause-holds g c =
+    subst (λ (x : StoreState). HoldsTurn c.args.store.now c.take_turn-stock.new.seat (store x) (installed c.args.edits.now.table ∷ []) (5 ∷ [])) (sym (ap store_state c.deref.ensures)) (holds_taken c.requires.holds c.take_turn-stock.ensures.taken)
 
 pub tables_in-tables-requires-clause-in_step : goal.tables_in-tables-requires-clause-in_step
 tables_in-tables-requires-clause-in_step g c =

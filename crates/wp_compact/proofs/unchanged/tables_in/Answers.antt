@@ -1,7 +1,7 @@
 use Rattle.std.proofs.Common.{◌≡◌, inl, inr, ℕ, true, subst, ap, ◌∙◌, arith}
 use Rattle.std.specs.List.{list_all}
 use Rattle.wp_table.specs.Table.{is_flushed}
-use Rattle.wp_shared.specs.Stock.{store_state}
+use Rattle.wp_parts.specs.Stock.{store_state}
 use Rattle.wp_model.specs.declared.segment.Segment.{Segment}
 use Rattle.wp_compact.proofs.StillTabled.{based_here, not_based, saw_more, saw_grown, saw_holding, tables_here, may_merge}
 use Rattle.wp_compact.proofs.unchanged.tables_in.Goals as goal

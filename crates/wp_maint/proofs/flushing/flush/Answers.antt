@@ -3,14 +3,15 @@ use Rattle.wp_core.specs.Tables.{installed}
 use Rattle.wp_core.specs.Turns.{tables_turn}
 use Rattle.wp_core.specs.World.{Participant}
 use Rattle.wp_rule.specs.Knows.{KnowsTables}
-use Rattle.wp_shared.specs.VersionSet.{VersionSetState, IsEdits}
+use Rattle.wp_parts.specs.VersionSet.{VersionSetState, IsEdits}
+use Rattle.wp_parts.specs.Parts.{EditsStand}
 use Rattle.wp_shared.specs.Calls.{GoesOnAs, Continues, with_events}
 use Rattle.wp_shared.specs.Notes.{no_fact, is_under}
 use Rattle.wp_shared.specs.Seats.{SeatState}
 use Rattle.wp_shared.proofs.Onward.{loose_none, loose_under, goes_same, goes_still, goes_free, holds_alone}
-use Rattle.wp_maint.specs.Calls.{LeavesOnce}
+use Rattle.wp_maint.specs.Calls.{KeepsOnce}
 use Rattle.wp_maint.specs.Holding.{HoldsEdits}
-use Rattle.wp_maint.proofs.BeforeInstall.{flushed_before, flushed_grown, left_once, err_more}
+use Rattle.wp_maint.proofs.BeforeInstall.{flushed_before, flushed_grown, kept_once, none_installed, err_more}
 use Rattle.wp_maint.proofs.Found.{held_first}
 use Rattle.wp_maint.proofs.Onward.{goes_more, flushes_so}
 use Rattle.wp_maint.proofs.flushing.flush.Goals as goal
@@ -38,13 +39,17 @@ returns-clause-answers g c =
           (λ k. goes_free z s v p freed (goes_still s u v p (goes_still s t u p first k) last)) (sym (ap (λ (x : SeatState). x.knows.participant.seen) same)) c.flush_in-result.result c.flush_in-result.ensures.says,
     )
 
-pub returns-clause-before_install : goal.returns-clause-before_install
-returns-clause-before_install g c =
+pub returns-clause-before_devices : goal.returns-clause-before_devices
+returns-clause-before_devices g c =
     let z = c.args.store.now in let s = c.args.seat.now in let t = c.take_turn-edits.new.seat in let v = c.give_turn.new.seat in
     let before = c.deref_mut.result.now in let after = c.flush_in-result.new.edits in let result = c.flush_in-result.result in
     let taken = c.take_turn-edits.ensures.taken in let same = taken.goes.same in let holds = subst (HoldsEdits z t) (sym c.deref_mut.ensures.value) (record { turn = holds_alone c.requires taken; of_store = c.take_turn-edits.ensures.of_store }) in let answers = returns-clause-answers g c in
-    flushed_before z s v (LeavesOnce z s v) result answers
+    flushed_before z s v (KeepsOnce z s v) result answers
     (err_more
-    (left_once z s t v before after taken.stands (ap (λ (x : SeatState). x.by) same, ap (λ (x : SeatState). x.knows.made) same, ap (λ (x : SeatState). x.knows.joined) same) (ap (λ (x : SeatState). x.knows.participant) same) (held_first t before.table holds.turn.held) holds.of_store c.flush_in-result.ensures.holds.of_store
-    (subst IsEdits (sym c.deref_mut.ensures.value) (subst IsEdits c.deref.ensures c.devices_agree.ensures.edits)) (subst IsEdits c.deref-2.ensures c.devices_agree-2.ensures.edits) (flushed_grown z s v result answers))
-    result c.flush_in-result.ensures.manifest)
+    (kept_once z s t v before after taken.stands (ap (λ (x : SeatState). x.by) same, ap (λ (x : SeatState). x.knows.made) same, ap (λ (x : SeatState). x.knows.joined) same) (ap (λ (x : SeatState). x.knows.participant) same) (held_first t before.table holds.turn.held) holds.of_store c.flush_in-result.ensures.holds.of_store
+    (subst IsEdits (sym c.deref_mut.ensures.value) (subst IsEdits c.deref.ensures c.devices_agree.ensures.edits)) (subst IsEdits c.deref-2.ensures c.devices_agree-2.ensures.edits) (flushed_grown z s v result answers)
+    (subst EditsStand (sym c.deref_mut.ensures.value) (subst EditsStand c.deref.ensures (c.devices_agree.ensures.manifest, c.devices_agree.ensures.tables))))
+    result c.flush_in-result.ensures.untouched)
+
+pub returns-clause-behind_install : goal.returns-clause-behind_install
+returns-clause-behind_install g c = let z = c.args.store.now in let s = c.args.seat.now in let v = c.give_turn.new.seat in none_installed (KeepsOnce z s v) s v c.flush_in-result.result (returns-clause-before_devices g c)

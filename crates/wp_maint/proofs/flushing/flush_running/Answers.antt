@@ -1,5 +1,4 @@
-use Rattle.std.proofs.Common.{◌∷◌, [], refl, sym, subst, ap}
-use Rattle.wp_merge.proofs.Sorted.{merged_is_sorted}
+use Rattle.std.proofs.Common.{◌∷◌, [], refl, sym, subst, ap, arith}
 use Rattle.wp_core.specs.Turns.{write_turn}
 use Rattle.wp_core.specs.Tables.{installed}
 use Rattle.wp_core.specs.World.{Participant}
@@ -15,8 +14,8 @@ use Rattle.wp_maint.proofs.flushing.flush_running.Goals as goal
 pub find_edits-requires-clause-held : goal.find_edits-requires-clause-held
 find_edits-requires-clause-held g c = let e = c.args.edits.now.table in (e, held_first c.freeze_all.new.seat e (ap (λ (x : SeatState). x.knows.held) c.freeze_all.ensures.goes.same))
 
-pub flush_frozen-requires-clause-in_step : goal.flush_frozen-requires-clause-in_step
-flush_frozen-requires-clause-in_step g c =
+pub flush_ready-requires-clause-in_step : goal.flush_ready-requires-clause-in_step
+flush_ready-requires-clause-in_step g c =
     let s = c.args.seat.now in let u = c.freeze_all.new.seat in let e = c.args.edits.now.table in
     in_step_on (seeing u.knows.participant.seen s) u (is_under write_turn) (installed e ∷ []) s.turns refl (λ versions floor. refl) c.freeze_all.ensures.goes e.last c.requires.in_step
 
@@ -51,25 +50,30 @@ returns-in_default-found-clause-says g c =
 
 pub returns-clause-says : goal.returns-clause-says
 returns-clause-says g c =
-    let s = c.args.seat.now in let u = c.freeze_all.new.seat in let v = c.flush_frozen.new.seat in let e = c.args.edits.now.table in
+    let s = c.args.seat.now in let u = c.freeze_all.new.seat in let v = c.flush_ready.new.seat in let e = c.args.edits.now.table in
     let first = goes_saw s u (is_under write_turn) (installed e ∷ []) s.turns c.freeze_all.ensures.goes c.freeze_all.ensures.grown (loose_under write_turn) in
-    flushes_so (GoesOnAs u v) (GoesOnAs s v) c.args.store.now s u v v e (seat_still s u s.knows.participant first) (ap (λ (p : Participant). p.past) first.participant) c.freeze_all.ensures.grown refl (starts_same v.knows.participant.seen) (goes_more s u v s.knows.participant first) (goes_still s u v s.knows.participant first) refl c.flush_frozen.result c.flush_frozen.ensures.says
+    flushes_so (GoesOnAs u v) (GoesOnAs s v) c.args.store.now s u v v e (seat_still s u s.knows.participant first) (ap (λ (p : Participant). p.past) first.participant) c.freeze_all.ensures.grown refl (starts_same v.knows.participant.seen) (goes_more s u v s.knows.participant first) (goes_still s u v s.knows.participant first) refl c.flush_ready.result c.flush_ready.ensures.says
 
-pub flush_frozen-requires-clause-whole : goal.flush_frozen-requires-clause-whole
-flush_frozen-requires-clause-whole g c =
+pub flush_ready-requires-clause-whole : goal.flush_ready-requires-clause-whole
+flush_ready-requires-clause-whole g c =
     let s = c.args.seat.now in let u = c.freeze_all.new.seat in let same = sym c.freeze_all.ensures.goes.same in
     saw_so c.args.store.now u s u.knows.participant.seen u.knows.participant.seen (ap (λ (x : SeatState). x.by) same, ap (λ (x : SeatState). x.knows.made) same, ap (λ (x : SeatState). x.knows.joined) same) (ap (λ (x : SeatState). x.knows.participant.past) same) refl c.freeze_all.ensures.whole
 
 -- memory was wanting for what was frozen
-pub returns-in_default-merged-clause-in_step : goal.returns-in_default-merged-clause-in_step
-returns-in_default-merged-clause-in_step g c =
+pub returns-in_default-make_ready-clause-in_step : goal.returns-in_default-make_ready-clause-in_step
+returns-in_default-make_ready-clause-in_step g c =
     let s = c.args.seat.now in let u = c.freeze_all.new.seat in let e = c.args.edits.now.table in
     in_step_on (seeing u.knows.participant.seen s) u (is_under write_turn) (installed e ∷ []) s.turns refl (λ versions floor. refl) c.freeze_all.ensures.goes e.last c.requires.in_step
 
-pub returns-in_default-merged-clause-says : goal.returns-in_default-merged-clause-says
-returns-in_default-merged-clause-says g c =
+pub returns-in_default-make_ready-clause-says : goal.returns-in_default-make_ready-clause-says
+returns-in_default-make_ready-clause-says g c =
     let s = c.args.seat.now in let u = c.freeze_all.new.seat in
     goes_saw s u (is_under write_turn) (installed c.args.edits.now.table ∷ []) s.turns c.freeze_all.ensures.goes c.freeze_all.ensures.grown (loose_under write_turn)
 
-pub flush_frozen-requires-clause-versions : goal.flush_frozen-requires-clause-versions
-flush_frozen-requires-clause-versions g c = merged_is_sorted c.in-Some.frozen.parts c.in-Ok-merged.versions c.in-Ok-merged.ensures
+pub make_ready-requires : goal.make_ready-requires
+make_ready-requires g c = (c.freeze_all.new.seat.knows, (subst (Freezes c.freeze_all.new.seat.knows c.args.edits.now.table) c.in-Some.is c.in-Ok.ensures.frozen).0)
+
+pub flush_ready-requires-clause-ready : goal.flush_ready-requires-clause-ready
+flush_ready-requires-clause-ready g c =
+    let a = c.freeze_all.new.seat.knows in let k = subst (Freezes a c.args.edits.now.table) c.in-Some.is c.in-Ok.ensures.frozen in
+    let r = c.in-Ok-make_ready.ensures a k.0 in (r, let one = r.frozen.count in let two = k.0.count in let some = k.1 in omega (arith, one, two, some))

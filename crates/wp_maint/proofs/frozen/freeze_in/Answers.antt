@@ -1,15 +1,9 @@
-use Rattle.std.proofs.Common.{subst}
-use Rattle.wp_shared.specs.Stock.{store_state}
-use Rattle.wp_maint.specs.Flush.{IsCopied}
-use Rattle.wp_maint.proofs.Freezes.{has_frozen, none_frozen}
+use Rattle.wp_maint.proofs.Freezes.{has_frozen}
 use Rattle.wp_maint.proofs.frozen.freeze_in.Goals as goal
 
 pub returns-clause-frozen : goal.returns-clause-frozen
-returns-clause-frozen g c =
-    has_frozen c.args.store.now c.args.seat.now c.args.log.now.table c.args.stock.now c.args.edits.now.table c.requires.holds.held c.requires.pending c.requires.seen c.requires.in_step c.requires.stands.0 c.requires.stands.1
-    c.published.result c.published.ensures.value c.in-Some.frozen (subst (IsCopied (store_state c.args.stock.now) c.published.result) c.in-Some.is c.in_ok-frozen.ensures.copied) c.note_frozen.new.seat c.note_frozen.ensures
-
-pub returns-in_default-clause-frozen : goal.returns-in_default-clause-frozen
-returns-in_default-clause-frozen g c =
-    none_frozen c.args.store.now c.args.seat.now c.args.log.now.table c.args.stock.now c.args.edits.now.table c.requires.holds.held c.requires.pending c.requires.seen c.requires.in_step c.requires.stands.0 c.requires.stands.1
-    (subst (IsCopied (store_state c.args.stock.now) c.published.result) c.in_default.is c.in_ok-frozen.ensures.copied)
+returns-clause-frozen g c = (
+  has_frozen c.args.store.now c.args.seat.now c.args.log.now.table c.args.stock.now c.args.edits.now.table c.requires.holds.held c.requires.pending c.requires.seen c.requires.in_step c.requires.stands.0 c.requires.stands.1
+      c.published.result c.published.ensures.value c.in_ok-frozen.frozen c.in_ok-frozen.ensures.copied c.note_frozen.new.seat c.note_frozen.ensures,
+  c.in_ok-frozen.ensures.copied.versions,
+)

@@ -2,7 +2,7 @@ use Rattle.std.proofs.Common.{List, ◌∷◌, subst}
 use Rattle.wp_core.specs.Tables.{Content}
 use Rattle.wp_core.specs.Tables as table
 use Rattle.wp_shared.specs.Notes.{GoesOn}
-use Rattle.wp_shared.specs.Stock.{store_state}
+use Rattle.wp_parts.specs.Stock.{store_state}
 use Rattle.wp_maint.specs.Holding.{is_of_tables}
 use Rattle.wp_maint.proofs.Made.{may_move, noted_moved, same_others, was_moved}
 use Rattle.wp_maint.proofs.steps.move_versions.Goals as goal

@@ -1,5 +1,5 @@
 use Rattle.wp_core.specs.Views.{frozen_stay}
-use Rattle.wp_shared.specs.Stock.{store_state}
+use Rattle.wp_parts.specs.Stock.{store_state}
 use Rattle.wp_shared.proofs.Noting.{may_note, noted}
 use Rattle.wp_maint.specs.Flush.{versions_of}
 use Rattle.wp_maint.proofs.steps.note_frozen.Goals as goal

@@ -4,10 +4,9 @@ use Rattle.wp_core.specs.Tables.{installed, writes}
 use Rattle.wp_core.specs.Views.{frozen_stay}
 use Rattle.wp_shared.specs.Notes.{no_fact}
 use Rattle.wp_shared.specs.Seats.{SeatState}
-use Rattle.wp_shared.specs.Stock.{store_state}
-use Rattle.wp_maint.specs.Flush.{versions_of}
-use Rattle.wp_maint.specs.Renewal.{HasFrozenAll}
-use Rattle.wp_maint.proofs.Freezes.{all_still}
+use Rattle.wp_parts.specs.Stock.{store_state}
+use Rattle.wp_maint.specs.Flush.{versions_of, HasFrozen}
+use Rattle.wp_maint.proofs.Freezes.{frozen_still}
 use Rattle.wp_maint.proofs.Onward.{in_step_on}
 use Rattle.wp_maint.proofs.Puts.{both_given, both_lent, both_left}
 use Rattle.wp_renew.proofs.renewing.freeze_held.Goals as goal
@@ -34,6 +33,6 @@ returns g c =
     let h = c.requires.holds.turn in let k = c.take_turn-stock.ensures.taken in let second = c.freeze_in-frozen.ensures.goes in let u = c.freeze_in-frozen.new.seat in let v = c.give_turn.new.seat in
     let gave = c.give_turn.ensures (writes c.args.log.now.table ∷ installed c.args.edits.now.table ∷ []) (0 ∷ 5 ∷ []) (both_left h k second (c.freeze_in-frozen.ensures.same ∙ ap store_state c.deref_mut.ensures.value)) in record {
       goes = both_given h k second gave;
-      frozen = IfOk-weaker c.freeze_in-frozen.result (HasFrozenAll u.knows c.args.edits.now.table) (HasFrozenAll v.knows c.args.edits.now.table) (λ f is. all_still u.knows v.knows c.args.edits.now.table f (ap (λ (x : SeatState). x.knows.participant.seen) gave.goes.same) (gave.goes.noted (frozen_stay f.at (versions_of f)) refl) is) c.freeze_in-frozen.ensures.frozen;
+      frozen = IfOk-weaker c.freeze_in-frozen.result _ (HasFrozen v.knows c.args.edits.now.table) (λ f is. frozen_still u.knows v.knows c.args.edits.now.table f (ap (λ (x : SeatState). x.knows.participant.seen) gave.goes.same) (gave.goes.noted (frozen_stay f.at (versions_of f)) refl) is.0) c.freeze_in-frozen.ensures.frozen;
       stands = gave.stands;
     }

@@ -3,15 +3,15 @@ use Rattle.wp_core.specs.Tables.{installed}
 use Rattle.wp_core.specs.Turns.{tables_turn}
 use Rattle.wp_core.specs.World.{Participant}
 use Rattle.wp_rule.specs.Knows.{KnowsTables}
-use Rattle.wp_shared.specs.VersionSet.{VersionSetState, IsEdits}
-use Rattle.wp_shared.specs.Parts.{EditsStand}
+use Rattle.wp_parts.specs.VersionSet.{VersionSetState, IsEdits}
+use Rattle.wp_parts.specs.Parts.{EditsStand}
 use Rattle.wp_shared.specs.Calls.{GoesOnAs, Continues, with_events}
 use Rattle.wp_shared.specs.Notes.{no_fact, is_under}
 use Rattle.wp_shared.specs.Seats.{SeatState}
 use Rattle.wp_shared.proofs.Onward.{loose_none, loose_under, goes_same, goes_still, goes_free, holds_alone}
 use Rattle.wp_maint.specs.Calls.{LeavesOnce}
 use Rattle.wp_maint.specs.Holding.{HoldsEdits}
-use Rattle.wp_maint.proofs.BeforeInstall.{devices_more, kept_once, renewal_more, renewed_before, renewed_grown, left_once}
+use Rattle.wp_maint.proofs.BeforeInstall.{devices_more, kept_once, none_renewed, renewal_more, renewed_before, renewed_grown, left_once}
 use Rattle.wp_maint.proofs.Found.{held_first}
 use Rattle.wp_maint.proofs.Onward.{goes_more, renews_so}
 use Rattle.wp_renew.proofs.renewing.renew.Goals as goal
@@ -60,3 +60,6 @@ returns-clause-untouched g c =
     (subst IsEdits (sym c.deref_mut.ensures.value) (subst IsEdits c.deref.ensures c.devices_agree.ensures.edits)) (subst IsEdits c.deref-2.ensures c.devices_agree-2.ensures.edits) (renewed_grown z s v result (returns-clause-answers g c))
     (subst EditsStand (sym c.deref_mut.ensures.value) (subst EditsStand c.deref.ensures (c.devices_agree.ensures.manifest, c.devices_agree.ensures.tables))))
     result c.renew_tables-result.ensures.untouched
+
+pub returns-clause-behind_install : goal.returns-clause-behind_install
+returns-clause-behind_install g c = let z = c.args.store.now in let s = c.args.seat.now in let v = c.give_turn.new.seat in none_renewed (LeavesOnce z s v) s v c.renew_tables-result.result (returns-clause-before_install g c)

@@ -60,13 +60,13 @@ renew_in-requires-clause-below g c = let log = c.args.log.now in
     base_below log c.devices_agree-2.ensures.log (c.shows_segment.ensures.whole c.requires.seen.1).1 (λ is. c.if-base-published.false (c.base.ensures ∙ is ∙ sym c.published-2.ensures.value))
 
 pub renew_in-requires-clause-in_step : goal.renew_in-requires-clause-in_step
-renew_in-requires-clause-in_step g c = let s = c.args.seat.now in let goes = subst (λ (x : SeatState). GoesOn no_fact x.knows.held x.turns x c.take_room.new.seat) c.shows_segment.ensures.same c.in_ok-room.ensures.goes in
-    in_step_still c.args.store.now s c.take_room.new.seat c.take_room.new.seat c.args.edits.now c.args.log.now goes c.requires.in_step
+renew_in-requires-clause-in_step g c = let s = c.args.seat.now in let goes = subst (λ (x : SeatState). GoesOn no_fact x.knows.held x.turns x c.make_renewal_ready.new.seat) c.shows_segment.ensures.same c.in_ok-ready.ensures.goes in
+    in_step_still c.args.store.now s c.make_renewal_ready.new.seat c.make_renewal_ready.new.seat c.args.edits.now c.args.log.now goes c.requires.in_step
 
-pub returns-in_err-room : goal.returns-in_err-room
-returns-in_err-room g c =
-    let z = c.args.store.now in let s = c.args.seat.now in let t = c.take_room.new.seat in let e = c.args.edits.now in let log = c.args.log.now in
-    let goes = subst (λ (x : SeatState). GoesOn no_fact x.knows.held x.turns x t) c.shows_segment.ensures.same c.in_err-room.ensures.goes in
+pub returns-in_err-ready : goal.returns-in_err-ready
+returns-in_err-ready g c =
+    let z = c.args.store.now in let s = c.args.seat.now in let t = c.make_renewal_ready.new.seat in let e = c.args.edits.now in let log = c.args.log.now in
+    let goes = subst (λ (x : SeatState). GoesOn no_fact x.knows.held x.turns x t) c.shows_segment.ensures.same c.in_err-ready.ensures.goes in
     let whole = c.shows_segment.ensures.whole c.requires.seen.1 in
     let q = err_from_is_err_and c.from_residual.result c.from_residual.ensures.1 in
     subst (λ (r : Result Renewed RenewError). RenewsHolding (GoesOnAs s t) z s e log r t e log) (sym (q.1 ∙ ap Err q.2))
@@ -76,6 +76,6 @@ returns-in_err-room g c =
 
 pub returns : goal.returns
 returns g c =
-    let z = c.args.store.now in let s = c.args.seat.now in let t = c.take_room.new.seat in let u = c.renew_in.new.seat in let e = c.args.edits.now in let log = c.args.log.now in
-    let goes = subst (λ (x : SeatState). GoesOn no_fact x.knows.held x.turns x t) c.shows_segment.ensures.same c.in_ok-room.ensures.goes in
+    let z = c.args.store.now in let s = c.args.seat.now in let t = c.make_renewal_ready.new.seat in let u = c.renew_in.new.seat in let e = c.args.edits.now in let log = c.args.log.now in
+    let goes = subst (λ (x : SeatState). GoesOn no_fact x.knows.held x.turns x t) c.shows_segment.ensures.same c.in_ok-ready.ensures.goes in
     held_later z s t u e log goes c.renew_in.new.edits c.renew_in.new.log c.renew_in.result c.renew_in.ensures

@@ -1,34 +1,36 @@
-use Rattle.std.proofs.Common.{◌≡◌, ◌<◌, length, Err, None, refl, sym, subst, ap, ◌∙◌}
+use Rattle.std.proofs.Common.{◌≡◌, ◌<◌, List, length, Err, None, refl, sym, subst, ap, ◌∙◌}
 use Rattle.std.specs.Prelude.{Result}
 use Rattle.std.proofs.lemmas.List.{length-map}
 use Rattle.std.proofs.lemmas.Result.{err_from_is_err_and}
 use Rattle.wp_model.specs.History.{undecided}
 use Rattle.wp_model.specs.Legal.{undone_last}
+use Rattle.wp_tableset.specs.Changes.{Asked, one_part}
+use Rattle.wp_core.specs.Tables.{Content}
 use Rattle.wp_core.specs.World.{World}
+use Rattle.wp_shared.specs.Notes.{GoesOn}
+use Rattle.wp_maint.specs.Holding.{is_of_tables}
+use Rattle.wp_maint.proofs.Puts.{tables_beneath}
 use Rattle.wp_shared.specs.Calls.{GoesOnAs}
-use Rattle.wp_shared.specs.Log.{LogState, IsSegmentOf}
+use Rattle.wp_parts.specs.Log.{LogState, IsSegmentOf}
 use Rattle.wp_shared.specs.Seats.{SeatState, Stands}
 use Rattle.wp_maint.specs.declared.renewed.Renewed.{Renewed}
 use Rattle.wp_maint.specs.declared.renewed.RenewError.{RenewError}
 use Rattle.wp_maint.specs.Renewing.{HasPlace, HasSegment, RenewsHolding}
 use Rattle.wp_stages.proofs.StageLemmas.{none_waits}
-use Rattle.wp_renew.proofs.Whole.{at_start, not_written, not_placed, told, not_installed, may_put, went_through, built_part}
+use Rattle.wp_renew.proofs.Whole.{at_start, not_written, not_placed, told, not_installed, may_put, went_through}
 use Rattle.wp_renew.proofs.renewing.renew_in.Goals as goal
 
 -- ---- the table
 
 pub write_table-requires-clause-ready : goal.write_table-requires-clause-ready
-write_table-requires-clause-ready g c = let room = c.args.room in (room.versions, room.frozen.at, c.requires.room.ready)
-
-pub write_table-requires-clause-room : goal.write_table-requires-clause-room
-write_table-requires-clause-room g c = c.requires.room.room
+write_table-requires-clause-ready g c = c.requires.ready.0.ready
 
 pub returns-in_err-table : goal.returns-in_err-table
 returns-in_err-table g c =
-    let z = c.args.store.now in let s = c.args.seat.now in let e = c.args.edits.now in let log = c.args.log.now in let room = c.args.room in
+    let z = c.args.store.now in let s = c.args.seat.now in let e = c.args.edits.now in let log = c.args.log.now in let r = c.args.ready.flush in
     let one = c.write_table.new in let q = err_from_is_err_and c.from_residual.result c.from_residual.ensures.1 in
     subst (λ (r : Result Renewed RenewError). RenewsHolding (GoesOnAs s one.seat) z s e log r one.seat one.edits one.log) (sym (q.1 ∙ ap Err q.2))
-    (not_written z s e log c.requires.holds c.requires.running.0 c.requires.running.1 c.requires.running.2 c.requires.coupled c.requires.below c.requires.seen.0 c.requires.seen.1 c.requires.stands c.requires.in_step c.requires.edits c.requires.log room.frozen room.versions c.requires.room.versions_are c.requires.room.frozen room.edit c.requires.room.ready
+    (not_written z s e log c.requires.holds c.requires.running.0 c.requires.running.1 c.requires.running.2 c.requires.coupled c.requires.below c.requires.seen.0 c.requires.seen.1 c.requires.stands c.requires.in_step c.requires.edits c.requires.log r.frozen r.edit c.requires.ready.0.asked c.requires.ready.0.frozen
     (Unit {0}) c.in_err-table.field-0.0 one.seat one.edits one.log one.edit c.in_err-table.ensures.writes)
 
 -- ---- the segment
@@ -46,63 +48,60 @@ pub write_segment-requires-clause-whole : goal.write_segment-requires-clause-who
 write_segment-requires-clause-whole g c = subst (λ (l : LogState). undone_last l.table.history ≡ None) (sym c.in_ok-table.ensures.writes.1) c.requires.whole
 
 pub write_segment-requires-clause-segment : goal.write_segment-requires-clause-segment
-write_segment-requires-clause-segment g c = subst (λ (l : LogState). IsSegmentOf l c.args.room.segment) (sym c.in_ok-table.ensures.writes.1) c.requires.room.segment_is
+write_segment-requires-clause-segment g c = subst (λ (l : LogState). IsSegmentOf l c.args.ready.segment) (sym c.in_ok-table.ensures.writes.1) c.requires.ready.1
 
 pub write_segment-requires-clause-stands : goal.write_segment-requires-clause-stands
 write_segment-requires-clause-stands g c = subst (λ (x : SeatState). (w : World) × Stands c.args.store.now x w) (sym c.in_ok-table.ensures.writes.0) c.requires.stands
 
 pub returns-in_err-written : goal.returns-in_err-written
 returns-in_err-written g c =
-    let z = c.args.store.now in let s = c.args.seat.now in let e = c.args.edits.now in let log = c.args.log.now in let room = c.args.room in
+    let z = c.args.store.now in let s = c.args.seat.now in let e = c.args.edits.now in let log = c.args.log.now in let r = c.args.ready.flush in
     let one = c.write_table.new in let k = c.in_ok-table.ensures.writes in let holds = at_start z s one.seat one.edits log one.log k.0 k.1 k.3 in
     let two = c.write_segment.new in let q = err_from_is_err_and c.from_residual-in_err-written.result c.from_residual-in_err-written.ensures.1 in
     subst (λ (r : Result Renewed RenewError). RenewsHolding (GoesOnAs s two.seat) z s e log r two.seat one.edits two.log) (sym (q.1 ∙ ap Err q.2))
-    (not_placed z s e log c.requires.holds c.requires.running.0 c.requires.running.1 c.requires.running.2 c.requires.coupled c.requires.below c.requires.seen.0 c.requires.seen.1 c.requires.stands c.requires.in_step c.requires.edits c.requires.log room.frozen room.versions c.requires.room.versions_are c.requires.room.frozen room.edit c.requires.room.ready
-    one.edits one.edit k.2 k.4 holds c.in_err-written.field-0.0 two.seat two.log c.write_table.ensures.edits k.5 (subst (λ (x : SeatState × LogState). HasPlace z x.0 one.edits x.1 (Err c.in_err-written.field-0.0) two.seat two.log) (λ i. (k.0 i, k.1 i)) c.in_err-written.ensures))
+    (not_placed z s e log c.requires.holds c.requires.running.0 c.requires.running.1 c.requires.running.2 c.requires.coupled c.requires.below c.requires.seen.0 c.requires.seen.1 c.requires.stands c.requires.in_step c.requires.edits c.requires.log r.frozen r.edit c.requires.ready.0.asked c.requires.ready.0.frozen
+    one.edits one.edit k.2 k.4 k.5 holds c.in_err-written.field-0.0 two.seat two.log c.write_table.ensures.edits k.6 (subst (λ (x : SeatState × LogState). HasPlace z x.0 one.edits x.1 (Err c.in_err-written.field-0.0) two.seat two.log) (λ i. (k.0 i, k.1 i)) c.in_err-written.ensures))
 
 pub shows_waiting-requires : goal.shows_waiting-requires
 shows_waiting-requires g c = c.in_ok-written.ensures.waits
 
 -- ---- the edit
 
-pub install-requires-clause-told : goal.install-requires-clause-told
-install-requires-clause-told g c =
-    let z = c.args.store.now in let s = c.args.seat.now in let e = c.args.edits.now in let log = c.args.log.now in let room = c.args.room in
+pub install-requires : goal.install-requires
+install-requires g c =
+    let z = c.args.store.now in let s = c.args.seat.now in let e = c.args.edits.now in let log = c.args.log.now in let r = c.args.ready.flush in
     let one = c.write_table.new in let k = c.in_ok-table.ensures.writes in let holds = at_start z s one.seat one.edits log one.log k.0 k.1 k.3 in
     let two = c.write_segment.new in let p = subst (λ (x : SeatState × LogState). HasSegment z x.0 one.edits x.1 c.in_ok-written.written two.seat two.log) (λ i. (k.0 i, k.1 i)) c.in_ok-written.ensures in
-    told z s e log c.requires.holds c.requires.running.0 c.requires.running.1 c.requires.running.2 c.requires.coupled c.requires.below c.requires.seen.0 c.requires.seen.1 c.requires.stands c.requires.in_step c.requires.edits c.requires.log room.frozen room.versions c.requires.room.versions_are c.requires.room.frozen room.edit c.requires.room.ready
-    one.edits one.edit k.2 k.4 holds c.in_ok-written.written two.seat two.log p (none_waits log.table c.requires.log.none_waits c.requires.running.1)
-
-pub install-requires-clause-table : goal.install-requires-clause-table
-install-requires-clause-table g c = let room = c.args.room in built_part _ room.versions _ _ c.requires.room.ready.built c.in_ok-table.ensures.table
+    told z s e log c.requires.holds c.requires.running.0 c.requires.running.1 c.requires.running.2 c.requires.coupled c.requires.below c.requires.seen.0 c.requires.seen.1 c.requires.stands c.requires.in_step c.requires.edits c.requires.log r.frozen r.edit c.requires.ready.0.asked c.requires.ready.0.frozen
+    one.edits one.edit k.2 k.4 k.5 holds c.in_ok-written.written two.seat two.log p (none_waits log.table c.requires.log.none_waits c.requires.running.1)
 
 pub returns-in_err-install : goal.returns-in_err-install
 returns-in_err-install g c =
-    let z = c.args.store.now in let s = c.args.seat.now in let e = c.args.edits.now in let log = c.args.log.now in let room = c.args.room in
+    let z = c.args.store.now in let s = c.args.seat.now in let e = c.args.edits.now in let log = c.args.log.now in let r = c.args.ready.flush in
     let one = c.write_table.new in let k = c.in_ok-table.ensures.writes in let holds = at_start z s one.seat one.edits log one.log k.0 k.1 k.3 in
     let two = c.write_segment.new in let p = subst (λ (x : SeatState × LogState). HasSegment z x.0 one.edits x.1 c.in_ok-written.written two.seat two.log) (λ i. (k.0 i, k.1 i)) c.in_ok-written.ensures in
     let three = c.install.new in let q = err_from_is_err_and c.from_residual-in_err-install.result c.from_residual-in_err-install.ensures.1 in
     subst (λ (r : Result Renewed RenewError). RenewsHolding (GoesOnAs s three.seat) z s e log r three.seat three.edits three.log) (sym (q.1 ∙ ap Err q.2))
-    (not_installed z s e log c.requires.holds c.requires.running.0 c.requires.running.1 c.requires.running.2 c.requires.coupled c.requires.below c.requires.seen.0 c.requires.seen.1 c.requires.stands c.requires.in_step c.requires.edits c.requires.log room.frozen room.versions c.requires.room.versions_are c.requires.room.frozen room.edit c.requires.room.ready
-    one.edits one.edit k.2 k.4 holds c.in_ok-written.written two.seat two.log p (Unit {0}) c.in_err-install.field-0.0 three.seat three.edits three.log c.in_err-install.ensures)
+    (not_installed z s e log c.requires.holds c.requires.running.0 c.requires.running.1 c.requires.running.2 c.requires.coupled c.requires.below c.requires.seen.0 c.requires.seen.1 c.requires.stands c.requires.in_step c.requires.edits c.requires.log r.frozen r.edit c.requires.ready.0.asked c.requires.ready.0.frozen
+    one.edits one.edit k.2 k.4 k.5 holds c.in_ok-written.written two.seat two.log p (Unit {0}) c.in_err-install.field-0.0 three.seat three.edits three.log c.in_err-install.ensures)
 
 -- ---- all of it
 
 pub put_table-requires-clause-holds : goal.put_table-requires-clause-holds
-put_table-requires-clause-holds g c = c.in_ok-install.ensures.holds
+put_table-requires-clause-holds g c = tables_beneath c.in_ok-install.ensures.holds.turn
 
 pub put_table-requires-clause-may : goal.put_table-requires-clause-may
 put_table-requires-clause-may g c =
-    let z = c.args.store.now in let s = c.args.seat.now in let e = c.args.edits.now in let log = c.args.log.now in let room = c.args.room in
+    let z = c.args.store.now in let s = c.args.seat.now in let e = c.args.edits.now in let log = c.args.log.now in let r = c.args.ready.flush in
     let one = c.write_table.new in let k = c.in_ok-table.ensures.writes in let holds = at_start z s one.seat one.edits log one.log k.0 k.1 k.3 in
     let two = c.write_segment.new in let p = subst (λ (x : SeatState × LogState). HasSegment z x.0 one.edits x.1 c.in_ok-written.written two.seat two.log) (λ i. (k.0 i, k.1 i)) c.in_ok-written.ensures in
-    let three = c.install.new in may_put z s e log c.requires.holds c.requires.running.0 c.requires.running.1 c.requires.running.2 c.requires.coupled c.requires.below c.requires.seen.0 c.requires.seen.1 c.requires.stands c.requires.in_step c.requires.edits c.requires.log room.frozen room.versions c.requires.room.versions_are c.requires.room.frozen room.edit c.requires.room.ready
-    one.edits one.edit k.2 k.4 holds c.in_ok-written.written two.seat two.log p three.seat three.edits three.log c.in_ok-install.ensures _ (built_part _ room.versions _ _ c.requires.room.ready.built c.in_ok-table.ensures.table)
+    let three = c.install.new in may_put z s e log c.requires.holds c.requires.running.0 c.requires.running.1 c.requires.running.2 c.requires.coupled c.requires.below c.requires.seen.0 c.requires.seen.1 c.requires.stands c.requires.in_step c.requires.edits c.requires.log r.frozen r.edit c.requires.ready.0.asked c.requires.ready.0.frozen
+    one.edits one.edit k.2 k.4 k.5 holds c.in_ok-written.written two.seat two.log p three.seat three.edits three.log c.in_ok-install.ensures _ (c.in_ok-table.ensures.table ∙ ap (λ (x : Asked). one_part x.versions) c.requires.ready.0.asked)
 
 pub returns : goal.returns
 returns g c =
-    let z = c.args.store.now in let s = c.args.seat.now in let e = c.args.edits.now in let log = c.args.log.now in let room = c.args.room in
+    let z = c.args.store.now in let s = c.args.seat.now in let e = c.args.edits.now in let log = c.args.log.now in let r = c.args.ready.flush in
     let one = c.write_table.new in let k = c.in_ok-table.ensures.writes in let holds = at_start z s one.seat one.edits log one.log k.0 k.1 k.3 in
     let two = c.write_segment.new in let p = subst (λ (x : SeatState × LogState). HasSegment z x.0 one.edits x.1 c.in_ok-written.written two.seat two.log) (λ i. (k.0 i, k.1 i)) c.in_ok-written.ensures in
-    let three = c.install.new in went_through z s e log c.requires.holds c.requires.running.0 c.requires.running.1 c.requires.running.2 c.requires.coupled c.requires.below c.requires.seen.0 c.requires.seen.1 c.requires.stands c.requires.in_step c.requires.edits c.requires.log room.frozen room.versions c.requires.room.versions_are c.requires.room.frozen room.edit c.requires.room.ready
-    one.edits one.edit k.2 k.4 holds c.in_ok-written.written two.seat two.log p three.seat three.edits three.log c.in_ok-install.ensures c.put_table.new.seat c.put_table.ensures.goes _ refl (c.undecided_count.ensures ∙ length-map (undecided log.table.history) _) c.put_table.ensures.in_step
+    let three = c.install.new in went_through z s e log c.requires.holds c.requires.running.0 c.requires.running.1 c.requires.running.2 c.requires.coupled c.requires.below c.requires.seen.0 c.requires.seen.1 c.requires.stands c.requires.in_step c.requires.edits c.requires.log r.frozen r.edit c.requires.ready.0.asked c.requires.ready.0.frozen
+    one.edits one.edit k.2 k.4 k.5 holds c.in_ok-written.written two.seat two.log p three.seat three.edits three.log c.in_ok-install.ensures c.put_table.new.seat (subst (λ (l : List Content). GoesOn is_of_tables l three.seat.turns three.seat c.put_table.new.seat) c.in_ok-install.ensures.holds.turn.held c.put_table.ensures.goes) _ refl (c.undecided_count.ensures ∙ length-map (undecided log.table.history) _) c.put_table.ensures.in_step

@@ -5,12 +5,11 @@ use Rattle.wp_model.specs.Flushed.{InstalledEdit, IsEditCovered}
 use Rattle.wp_rule.specs.Knows.{NextNamed}
 use Rattle.wp_core.specs.Effects.{with_failed}
 use Rattle.wp_core.specs.Tables.{Installed, writes, installed}
-use Rattle.wp_shared.specs.Installs.{HadCause}
-use Rattle.wp_shared.specs.Renewal.{SurvivesWrite}
-use Rattle.wp_shared.specs.Log.{LogState}
+use Rattle.wp_parts.specs.Log.{LogState}
 use Rattle.wp_shared.specs.Seats.{SeatState}
 use Rattle.wp_shared.specs.Turns.{HoldsTurn}
 use Rattle.wp_maint.specs.Calls.{IsUncalled}
+use Rattle.wp_maint.specs.Renewing.{SurvivesWrite}
 use Rattle.wp_maint.proofs.Made.{second_held}
 use Rattle.wp_stages.proofs.StageLemmas.{has_stopped, none_waits, waits_not}
 use Rattle.wp_stages.proofs.stages.write_table.Goals as goal
@@ -27,6 +26,7 @@ returns-in-Ok-clause-writes g c =
         log_of_store = h.log_of_store;
       },
       c.in-Ok.ensures.written.1,
+      c.in-Ok.ensures.asked,
       c.in-Ok.ensures.survives,
     )
 
@@ -37,7 +37,7 @@ pub remember_tables_fault-requires-clause-held : goal.remember_tables_fault-requ
 remember_tables_fault-requires-clause-held g c =
     let e = c.args.edits.now.table in let d = c.args.log.now.table in let left = c.write_table.new.self.table in
     let k = c.find_edits.ensures e (second_held c.args.seat.now.knows (writes d) (installed e) c.requires.holds.turn.held) in
-    let halted = c.in-Err.ensures.refused.1 in
+    let halted = c.in-Err.ensures.refused in
     let none : left.failed ≡ None = ap (λ (t : Installed). t.failed) halted ∙ c.devices_agree.ensures.edits.none_failed (c.devices_agree.ensures.edits.running c.requires.running.0) in (
       e,
       d,
@@ -51,7 +51,7 @@ pub remember_stop-requires-clause-held : goal.remember_stop-requires-clause-held
 remember_stop-requires-clause-held g c =
     let e = c.args.edits.now.table in let d = c.args.log.now.table in let left = c.write_table.new.self.table in
     let k = c.find_edits.ensures e (second_held c.args.seat.now.knows (writes d) (installed e) c.requires.holds.turn.held) in
-    let halted = c.in-Err.ensures.refused.1 in
+    let halted = c.in-Err.ensures.refused in
     let goes = c.remember_tables_fault.ensures.goes d e (ap (λ (x : SeatState). x.knows.held) k.is ∙ c.requires.holds.turn.held) in (
       d,
       ap (λ (x : SeatState). x.knows.held) goes.same,
@@ -66,13 +66,13 @@ pub returns-in-Err-clause-writes : goal.returns-in-Err-clause-writes
 returns-in-Err-clause-writes g c =
     let z = c.args.store.now in let s = c.args.seat.now in let e = c.args.edits.now in let log = c.args.log.now in let holds = c.requires.holds in
     let k = c.find_edits.ensures e.table (second_held s.knows (writes log.table) (installed e.table) holds.turn.held) in
-    let halted = c.in-Err.ensures.refused.1 in
+    let halted = c.in-Err.ensures.refused in
     has_stopped z s c.find_edits.new.seat c.remember_tables_fault.new.seat c.remember_stop.new.seat e c.write_table.new.self log c.stop.new.self log.table holds k None
     (ap (λ (x : Installed). x.last) halted) (ap (λ (x : Installed). x.failed) halted ∙ c.devices_agree.ensures.edits.none_failed (c.devices_agree.ensures.edits.running c.requires.running.0))
     (c.remember_tables_fault.ensures.goes log.table e.table (ap (λ (x : SeatState). x.knows.held) k.is ∙ holds.turn.held)) c.remember_stop.ensures.goes
-    (λ before after. SurvivesWrite before after c.args.edit.now × IsUncalled before after) halted
+    (λ before after. SurvivesWrite c.args.edit.now.edit.asked before after × IsUncalled before after) halted
     (c.stop.ensures ∙ ap (λ (o : Option Segment). record log { table = record log.table { next = o; closed = true; stopped = true } }) (none_waits log.table c.devices_agree-2.ensures.next c.requires.running.1))
-    c.in-Err.ensures.first (subst (HadCause e.set c.write_table.new.self.set) c.in-Err.ensures.refused.0 c.in-Err.ensures.cause) (c.in-Err.ensures.survives, c.in-Err.ensures.manifest)
+    c.in-Err.ensures.first c.in-Err.ensures.cause (c.in-Err.ensures.survives, c.in-Err.ensures.manifest)
     c.devices_agree.ensures.edits c.devices_agree-in-Err.ensures.edits c.devices_agree-2.ensures.log c.devices_agree-in-Err-2.ensures.log c.remember_stop.ensures.stands
 
 pub remember_tables_fault-requires-clause-seat : goal.remember_tables_fault-requires-clause-seat

@@ -1,6 +1,5 @@
-use Rattle.wp_maint.proofs.Made.{stands_after}
-use Rattle.wp_compact.proofs.Made.{may_compact, was_compacted, still_gone}
-use Rattle.wp_compact.proofs.steps.remember_compaction.Goals as goal
+use Rattle.wp_maint.proofs.Made.{may_compact, stands_after, was_compacted, still_gone}
+use Rattle.wp_maint.proofs.steps.remember_compaction.Goals as goal
 
 pub make_about-requires-clause-may : goal.make_about-requires-clause-may
 make_about-requires-clause-may g c = let h = c.requires.held in may_compact _ _ h.0 c.args.edits.now.table.last h.1 h.3 c.requires.gone

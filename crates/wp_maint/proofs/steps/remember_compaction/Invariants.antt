@@ -1,6 +1,6 @@
 use Rattle.wp_shared.specs.Seats.{place_at}
-use Rattle.wp_compact.proofs.Made.{compacting}
-use Rattle.wp_compact.proofs.steps.remember_compaction.Given as goal
+use Rattle.wp_maint.proofs.Made.{compacting}
+use Rattle.wp_maint.proofs.steps.remember_compaction.Given as goal
 
 abbrev pub ghosts-make_about : goal.ghosts-make_about
 ghosts-make_about g a = record { place = place_at a.self.now a.seat.now.by; steps = compacting a.about.now.table.last }
