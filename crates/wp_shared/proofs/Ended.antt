@@ -14,12 +14,12 @@ use Rattle.wp_wal.specs.Spelling.{NEWEST, IsLogAt, IsLogOrNextAt, HasAcknowledge
 use Rattle.wp_wal.specs.Wal.{WalState, LeavesCutOrNext, StoresCut}
 use Rattle.wp_wal.proofs.AppendLemmas.{known_other, running_cut}
 use Rattle.wp_manifest.specs.Spelling.{IsManifestOf, last_edit}
-use Rattle.wp_parts.specs.Cut.{Cut, IsCut, full_of}
-use Rattle.wp_parts.specs.Merge.{joined}
+use Rattle.wp_cuts.specs.Cut.{Cut, IsCut, full_of}
+use Rattle.wp_merge.specs.Merge.{joined}
 use Rattle.wp_parts.proofs.Reopens.{ReopensEdit, reopens_edit}
-use Rattle.wp_parts.proofs.Sorted.{in_order_sorted}
-use Rattle.wp_parts.specs.File.{HasTables}
-use Rattle.wp_parts.specs.Set.{TableSetState}
+use Rattle.wp_merge.proofs.Sorted.{in_order_sorted}
+use Rattle.wp_table.specs.File.{HasTables}
+use Rattle.wp_tableset.specs.Set.{TableSetState}
 use Rattle.wp_core.specs.Conditions.{NoneNext}
 use Rattle.wp_core.specs.Images.{MaySpell, MayName}
 use Rattle.wp_core.specs.IsSound.{participants}
@@ -32,19 +32,19 @@ use Rattle.wp_core.specs.Sound.History.{logged_part}
 use Rattle.wp_core.specs.Sound.Pasts.{AreHolders, IsBoard, AreFaults, AreEdits, past_of}
 use Rattle.wp_core.proofs.CrashImages.{left_by_crash, edit_by_crash, segment_by_crash}
 use Rattle.wp_core.proofs.PendingSteps.{none_logged}
-use Rattle.wp_core.proofs.Tests.{same_some}
+use Rattle.wp_model.proofs.Tests.{same_some}
 use Rattle.wp_rule.specs.Shows.{IsPart, Leaves, WasLast}
 use Rattle.wp_parts.specs.Log.{LogState, IsLog}
 use Rattle.wp_parts.specs.VersionSet.{VersionSetState, IsEdits}
-use Rattle.wp_parts.specs.Opens.{installed_of}
+use Rattle.wp_contents.specs.Opens.{installed_of}
 use Rattle.wp_parts.specs.Parts.{content, tells, IsGuardedBy}
 use Rattle.wp_parts.specs.declared.part.TurnValue.{TurnValue}
 use Rattle.wp_parts.specs.declared.part.TurnValue.TheVariants as part
 use Rattle.wp_parts.specs.Devices.{DevicesLeft, devices_behind}
 use Rattle.wp_shared.proofs.Tables.{in_place}
 use Rattle.wp_shared.specs.Opening.{IsOneStore}
-use Rattle.wp_shared.specs.Seats.{SharedState, SeatState, place_at}
-use Rattle.wp_shared.specs.Ending.{AreAll, participant_of, all_joined, Remains}
+use Rattle.wp_shared.specs.Seats.{SharedState, SeatState, place_at, participant_of}
+use Rattle.wp_shared.specs.Ending.{AreAll, all_joined, Remains}
 use Rattle.wp_shared.specs.Ended.{of_seats, IsFrom, OpensAsLeft, IsSince, IsEnded}
 
 abbrev writes_in : Option Content → WriteState → WriteState

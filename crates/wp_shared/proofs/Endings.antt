@@ -8,8 +8,8 @@ use Rattle.wp_core.specs.World.{Actor}
 use Rattle.wp_rule.specs.Shows.{Leaves}
 use Rattle.wp_parts.specs.declared.part.TurnValue.{TurnValue}
 use Rattle.wp_parts.specs.Parts.{content, tells}
-use Rattle.wp_shared.specs.Seats.{SharedState, SeatState, IsFree, turns_of, place_at}
-use Rattle.wp_shared.specs.Ending.{AllFree, AreAll, participant_of, all_joined, Remains}
+use Rattle.wp_shared.specs.Seats.{SharedState, SeatState, IsFree, turns_of, place_at, participant_of}
+use Rattle.wp_shared.specs.Ending.{AllFree, AreAll, all_joined, Remains}
 
 pub none_carried : {D : Type 0} (cs : List (ℕ × TurnValue D)) → turns_of cs ≡ [] → cs ≡ []
 none_carried [] e = refl

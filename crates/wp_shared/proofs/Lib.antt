@@ -12,6 +12,3 @@ pub mod OneStore
 pub mod Endings
 pub mod Ended
 pub mod Sent
-pub use Rattle.wp_parts.proofs.LaterVersions
-pub use Rattle.wp_parts.proofs.LogLemmas
-pub use Rattle.wp_parts.proofs.Reopens

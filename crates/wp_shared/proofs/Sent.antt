@@ -10,8 +10,9 @@ use Rattle.atomic_table.proofs.shared.Seat.TheSendSync as table
 use Rattle.wp_model.proofs.word.Word.TheSendSync as word
 use Rattle.wp_rule.proofs.words.Words.TheSendSync as words
 use Rattle.wp_parts.specs.contracts.part.TurnValue as TurnValue
-use Rattle.wp_parts.specs.contracts.part.PartHoldsPart.TheImpl.{ghosts, no_dict}
+use Rattle.wp_parts.specs.contracts.part.TurnValueHoldsPart.TheImpl.{ghosts, no_dict}
 use Rattle.wp_parts.proofs.Sent.{part_send}
+use Rattle.wp_shared.proofs.sleepers.Sleepers.TheSendSync as sleepers
 use Rattle.wp_shared.specs.contracts.shared.Shared as Shared
 use Rattle.wp_shared.specs.contracts.shared.Shared.TheInside as SharedInside
 use Rattle.wp_shared.specs.contracts.seat.Seat as Seat
@@ -23,7 +24,7 @@ pub shared_sync : (D : RattleType) (k : disk.Ghosts D.Denot) (g : Ghosts D.Denot
 shared_sync D k g d =
     view_sync (SharedInside.the_row D k g) _ _ _ _
     (recorded_sync (SharedInside.the_field D k g).row _ _ (SharedInside.the_type D k g).to_one
-    (struct_sync (shape (SharedInside.the_type D k g)) (words.the_sync (TurnValue.the_row D g) (ghosts D k no_dict g no_dict) (part_send D g d), (plain_sync _ _ _ _ _, (plain_sync _ _ _ _ _, tt)))))
+    (struct_sync (shape (SharedInside.the_type D k g)) (words.the_sync (TurnValue.the_row D g) (ghosts D k no_dict g no_dict) (part_send D g d), (plain_sync _ _ _ _ _, (plain_sync _ _ _ _ _, (sleepers.the_field_sync, tt))))))
 
 pub seat_send : (D : RattleType) (g : Ghosts D.Denot) → IsSend D → IsSend (Seat.the_row D g)
 seat_send D g d =

@@ -5,8 +5,7 @@ use Rattle.std.proofs.Math.Nat.{mod-le}
 use Rattle.std.proofs.lemmas.List.{get_or_past}
 use Rattle.wp_judge.specs.Words.{pair_of, CommitPair, is_pair, delta_bound}
 use Rattle.wp_model.specs.Decision.{decision_of}
-use Rattle.wp_model.specs.LockState.{LockState}
-use Rattle.wp_model.specs.PreparedSets.{PreparedSets, NoneDelayed}
+use Rattle.wp_model.specs.PreparedSets.{NoneDelayed}
 use Rattle.wp_model.specs.Snapshots.{Snapshots, NoOldCommits}
 use Rattle.wp_model.specs.declared.entry.Entry.{Entry}
 use Rattle.wp_model.specs.declared.segment.Segment.{Segment}
@@ -16,23 +15,23 @@ use Rattle.wp_core.specs.Entries.{extended}
 use Rattle.wp_core.specs.IsSound.{IsSound}
 use Rattle.wp_core.specs.Lists.{IsIn}
 use Rattle.wp_core.specs.Steps.{give_turn}
-use Rattle.wp_core.specs.Tables.{Content, WriteState, StoreState, Installed, writes, prepared, snapshots, store, locks, installed, turn_of}
+use Rattle.wp_core.specs.Tables.{Content, WriteState, Installed, writes, prepared, snapshots, store, locks, installed, turn_of}
 use Rattle.wp_core.specs.Views.{Fact, words_stay, tables_stay, nothing_flushed, delayed_flag_stays, old_flag_stays}
-use Rattle.wp_core.specs.World.{Actor, World, content_of}
+use Rattle.wp_core.specs.World.{Actor, World}
 use Rattle.wp_core.proofs.HistoryLaws.{decision_within}
-use Rattle.wp_core.proofs.Tests.{none_some, some_none, same_some}
-use Rattle.wp_rule.specs.Knows.{Noted}
+use Rattle.wp_model.proofs.Tests.{none_some, some_none, same_some}
+use Rattle.wp_rule.specs.Knows.{Noted, IsTableOf}
 use Rattle.wp_rule.specs.Moves.{MayStep}
 use Rattle.wp_rule.specs.Plays.{facts_at}
 use Rattle.wp_rule.specs.Words.{Place, IsAt}
-use Rattle.wp_rule.proofs.Knows.{held_is}
+use Rattle.wp_rule.proofs.Knows.{is_table, held_is}
 use Rattle.wp_rule.proofs.Needed.{needed}
 use Rattle.wp_parts.specs.Parts.{content, Tells}
 use Rattle.wp_parts.specs.Stock.{store_state}
 use Rattle.wp_parts.specs.declared.part.TurnValue.{TurnValue}
 use Rattle.wp_parts.specs.declared.part.TurnValue.TheVariants as part
 use Rattle.wp_shared.specs.Notes.{ArePublished}
-use Rattle.wp_shared.specs.Turns.{KnowsTaken, KnowsToGive, IsTableOf}
+use Rattle.wp_shared.specs.Turns.{KnowsTaken, KnowsToGive}
 use Rattle.wp_judge.proofs.Packing.{pair_parts, with_test}
 
 -- ---- where the log is
@@ -44,38 +43,6 @@ in_place t last (inr waits) (inl none) = absurd (none_some t.next last none wait
 in_place t last (inr waits) (inr closed) = absurd (true≢false (sym closed ∙ waits.1))
 
 -- ---- which table it is
-
-abbrev writes_in : WriteState → Content → WriteState
-writes_in t (writes d) = d
-writes_in t other = t
-
-abbrev prepared_in : PreparedSets → Content → PreparedSets
-prepared_in t (prepared d) = d
-prepared_in t other = t
-
-abbrev snapshots_in : Snapshots → Content → Snapshots
-snapshots_in m (snapshots d) = d
-snapshots_in m other = m
-
-abbrev store_in : StoreState → Content → StoreState
-store_in t (store d) = d
-store_in t other = t
-
-abbrev locks_in : LockState → Content → LockState
-locks_in t (locks d) = d
-locks_in t other = t
-
-abbrev installed_in : Installed → Content → Installed
-installed_in e (installed d) = d
-installed_in e other = e
-
-pub is_table : (w : World) (table : Content) → content_of w (turn_of table) ≡ table → IsTableOf w table
-is_table w (writes t) e = ap (writes_in t) e
-is_table w (prepared t) e = ap (prepared_in t) e
-is_table w (snapshots m) e = ap (snapshots_in m) e
-is_table w (store t) e = ap (store_in t) e
-is_table w (locks t) e = ap (locks_in t) e
-is_table w (installed d) e = ap (installed_in d) e
 
 -- a table that the seat holds is the world's
 pub held_table : (p : Place) (a : Actor) (w : World) (table : Content) → IsAt p a w → IsIn table a.held → IsTableOf w table

@@ -9,20 +9,20 @@ use Rattle.wp_core.specs.Tables.{Content, WriteState, writes, turn_of}
 use Rattle.wp_core.specs.Turns.{Turn, turn_holder}
 use Rattle.wp_core.specs.Views.{Fact, words_stay}
 use Rattle.wp_core.specs.World.{Actor, World, content_of}
-use Rattle.wp_core.proofs.Tests.{same_some}
-use Rattle.wp_rule.specs.Knows.{Noted}
+use Rattle.wp_model.proofs.Tests.{same_some}
+use Rattle.wp_rule.specs.Knows.{Noted, IsTableOf}
 use Rattle.wp_rule.specs.Moves.{MayStep}
 use Rattle.wp_rule.specs.Plays.{facts_at}
-use Rattle.wp_rule.proofs.Knows.{at_sound}
+use Rattle.wp_rule.proofs.Knows.{at_sound, is_table}
 use Rattle.wp_rule.proofs.Takes.{table_of}
 use Rattle.wp_parts.specs.declared.part.TurnValue.{TurnValue}
 use Rattle.wp_parts.specs.Log.{LogState}
 use Rattle.wp_parts.specs.Parts.{content, tells, log_first, IsGuardedBy}
 use Rattle.wp_shared.specs.Notes.{is_under, seeing, SawHistory, GoesOn}
 use Rattle.wp_shared.specs.Seats.{SharedState, SeatState, place_at}
-use Rattle.wp_shared.specs.Turns.{TookPart, MayGivePart, GavePart, HoldsTurn, KnowsToGive, IsTableOf, Taken, TookLog, Given}
+use Rattle.wp_shared.specs.Turns.{TookPart, MayGivePart, GavePart, HoldsTurn, KnowsToGive, Taken, TookLog, Given}
 use Rattle.wp_shared.proofs.Goes.{goes_with, is_free}
-use Rattle.wp_shared.proofs.Tables.{is_table, held_table, none_in, knows_taken, may_give}
+use Rattle.wp_shared.proofs.Tables.{held_table, none_in, knows_taken, may_give}
 
 in_front : {X : Type 0} (x : X) (xs ys : List X) → IsIn x xs → IsIn x (xs ++ ys)
 in_front x [] ys there = absurd there

@@ -13,11 +13,11 @@ use Rattle.wp_gatelog.specs.Spelling.{IsUpTo}
 use Rattle.wp_wal.specs.Spelling.{NEWEST}
 use Rattle.wp_wal.specs.Wal.{WalState, LosesNothingAt, LeavesCutOrNext}
 use Rattle.wp_manifest.specs.Spelling.{MAGIC}
-use Rattle.wp_parts.specs.Agree.{HaveSameValues}
-use Rattle.wp_parts.specs.Cut.{Cut, IsCut, cut_at}
-use Rattle.wp_parts.specs.Device.{KeepsFronts}
-use Rattle.wp_parts.specs.Set.{TableSetState}
-use Rattle.wp_parts.specs.Opens.{OpensTo}
+use Rattle.wp_cuts.specs.Agree.{HaveSameValues}
+use Rattle.wp_cuts.specs.Cut.{Cut, IsCut, cut_at}
+use Rattle.wp_tableset.specs.Device.{KeepsFronts}
+use Rattle.wp_tableset.specs.Set.{TableSetState}
+use Rattle.wp_contents.specs.Opens.{OpensTo}
 use Rattle.wp_core.specs.Images.{MaySpell, MayName}
 use Rattle.wp_core.specs.Tables.{WriteState, Installed}
 use Rattle.wp_core.specs.World.{Participant}
@@ -27,8 +27,7 @@ use Rattle.wp_rule.specs.Shows.{WasLast}
 use Rattle.wp_parts.specs.Parts.{content}
 use Rattle.wp_parts.specs.Devices.{DevicesLeft}
 use Rattle.wp_shared.specs.Opening.{IsOneStore}
-use Rattle.wp_shared.specs.Seats.{SharedState, SeatState}
-use Rattle.wp_shared.specs.Ending.{participant_of}
+use Rattle.wp_shared.specs.Seats.{SharedState, SeatState, participant_of}
 
 -- of the seats' participants, which are all there are
 abbrev pub of_seats : {X : Type 0} → (Participant → X) → List SeatState → List (List X)

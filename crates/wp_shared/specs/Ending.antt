@@ -2,11 +2,11 @@
 use Rattle.std.specs.Prelude.{◌≡◌, List, [], ◌∷◌, ◌++◌, length, map}
 use Rattle.atomic_table.specs.Seated.{TableId}
 use Rattle.wp_core.specs.Turns.{Turn}
-use Rattle.wp_core.specs.World.{Actor, Participant}
+use Rattle.wp_core.specs.World.{Actor}
 use Rattle.wp_rule.specs.Shows.{Leaves}
 use Rattle.wp_parts.specs.declared.part.TurnValue.{TurnValue}
 use Rattle.wp_parts.specs.Parts.{content, tells}
-use Rattle.wp_shared.specs.Seats.{SharedState, SeatState, IsFree, place_at}
+use Rattle.wp_shared.specs.Seats.{SharedState, SeatState, IsFree, participant_of, place_at}
 
 abbrev pub AllFree : TableId → List SeatState → Type 0
 AllFree table [] = Unit {0}
@@ -16,9 +16,6 @@ AllFree table (s ∷ seats) = IsFree table s × AllFree table seats
 abbrev pub AreAll : List SeatState → Type 0
 AreAll [] = ⊥
 AreAll (first ∷ others) = (first.by ≡ 0) × (first.knows.joined ≡ []) × (first.knows.made ≡ length others)
-
-abbrev pub participant_of : SeatState → Participant
-participant_of s = s.knows.participant
 
 -- the actor, once it took in these
 abbrev pub all_joined : Actor → List SeatState → Actor

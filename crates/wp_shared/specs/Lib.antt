@@ -7,12 +7,3 @@ pub mod Clients
 pub mod Calls
 pub mod Ending
 pub mod Ended
-pub use Rattle.wp_parts.specs.Cut
-pub use Rattle.wp_parts.specs.Log
-pub use Rattle.wp_parts.specs.Stock
-pub use Rattle.wp_parts.specs.VersionSet
-pub use Rattle.wp_parts.specs.Installs
-pub use Rattle.wp_parts.specs.Renewal
-pub use Rattle.wp_parts.specs.Parts
-pub use Rattle.wp_parts.specs.Devices
-pub use Rattle.wp_parts.specs.Opens

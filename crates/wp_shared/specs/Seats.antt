@@ -2,7 +2,8 @@
 use Rattle.std.specs.Prelude.{◌≡◌, ℕ, true, List, [], ◌∷◌}
 use Rattle.atomic_table.specs.Seated.{TableId}
 use Rattle.wp_model.specs.declared.entry.Entry.{Entry}
-use Rattle.wp_core.specs.World.{Actor, World}
+use Rattle.wp_core.specs.Tables.{Content}
+use Rattle.wp_core.specs.World.{Actor, Participant, World}
 use Rattle.wp_rule.specs.Words.{SharedWords, Place, place_of, IsAt}
 use Rattle.wp_parts.specs.declared.part.TurnValue.{TurnValue}
 use Rattle.wp_parts.specs.declared.part.TurnValue.TheVariants as part
@@ -23,6 +24,18 @@ pub record SeatState : Type 0 where
   pub by : ℕ
   pub knows : Actor
   pub turns : List ℕ
+
+-- who it is: what it has seen, had and done
+abbrev pub participant_of : SeatState → Participant
+participant_of s = s.knows.participant
+
+-- what it has seen of the history
+abbrev pub seen_by : SeatState → List Entry
+seen_by s = s.knows.participant.seen
+
+-- the tables of the turns that it holds
+abbrev pub held_by : SeatState → List Content
+held_by s = s.knows.held
 
 -- between calls each slot of a turn that is held has what stands in for its value
 abbrev pub AllAway : {D : Type 0} → List (ℕ × TurnValue D) → Type 0

@@ -1,5 +1,6 @@
 -- What it is to take a turn, to hold it, and to give it.
 use Rattle.std.specs.Prelude.{◌≡◌, ℕ, true, false, List, [], ◌∷◌, ◌++◌, length, Some, None}
+use Rattle.wp_model.specs.declared.entry.Entry.{Entry}
 use Rattle.wp_core.specs.Changes.{turn_index, held_without, sees}
 use Rattle.wp_core.specs.Conditions.{MayGive}
 use Rattle.wp_core.specs.Lists.{IsIn}
@@ -11,7 +12,7 @@ use Rattle.wp_model.specs.Snapshots.{NoOldCommits}
 use Rattle.wp_core.specs.Turns.{Turn, write_turn, turn_holder}
 use Rattle.wp_core.specs.Views.{Fact, words_stay, delayed_flag_stays, old_flag_stays}
 use Rattle.wp_core.specs.World.{Actor, World, content_of}
-use Rattle.wp_rule.specs.Knows.{Noted, KnowsTables}
+use Rattle.wp_rule.specs.Knows.{Noted, KnowsTables, IsTableOf}
 use Rattle.wp_rule.specs.Moves.{MayStep}
 use Rattle.wp_rule.specs.Plays.{facts_at, with_turn}
 use Rattle.wp_parts.specs.Log.{LogState}
@@ -19,6 +20,10 @@ use Rattle.wp_parts.specs.Parts.{content, tells, log_first}
 use Rattle.wp_parts.specs.declared.part.TurnValue.{TurnValue}
 use Rattle.wp_shared.specs.Notes.{no_fact, is_under, seeing, GoesOn, DelayedFlagTells, OldFlagTells, KnowsWords}
 use Rattle.wp_shared.specs.Seats.{SharedState, SeatState, IsFree, Stands, place_at}
+
+-- the history that the log's table has
+abbrev pub history_in : LogState → List Entry
+history_in log = log.table.history
 
 -- ---- what a seat knows of a turn's table
 
@@ -40,15 +45,6 @@ KnowsToGive a (snapshots m) = NoOldCommits m → Noted a (old_flag_stays 0)
 KnowsToGive a (store t) = Unit {0}
 KnowsToGive a (locks t) = Unit {0}
 KnowsToGive a (installed e) = KnowsTables a e.last
-
--- the table is the world's
-abbrev pub IsTableOf : World → Content → Type 0
-IsTableOf w (writes t) = w.writes ≡ t
-IsTableOf w (prepared t) = w.prepared ≡ t
-IsTableOf w (snapshots m) = w.snapshots ≡ m
-IsTableOf w (store t) = w.store ≡ t
-IsTableOf w (locks t) = w.locks ≡ t
-IsTableOf w (installed e) = w.installed ≡ e
 
 -- ---- what lies in a turn's slot
 

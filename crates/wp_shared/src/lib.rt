@@ -21,6 +21,7 @@ mod note;
 mod opening;
 mod seat;
 mod shared;
+mod sleepers;
 mod steps;
 mod turns;
 
@@ -28,4 +29,4 @@ pub use ending::Finished;
 pub use note::Note;
 pub use seat::Seat;
 pub use shared::Shared;
-pub use wp_parts::{Log, ReadySegment, Stock, VersionSet};
+pub use wp_parts::{Log, ReadyInstall, Stock, VersionSet};

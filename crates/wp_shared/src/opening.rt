@@ -11,6 +11,7 @@ ghost use Rattle.wp_shared.specs.Seats.{place_at};
 
 use crate::seat::Seat;
 use crate::shared::Shared;
+use crate::sleepers::Sleepers;
 use std::alloc::Global;
 use std::snapshot::Snapshot;
 use wp_history::History;
@@ -55,7 +56,15 @@ impl<D: Disk + Drop> Shared<D> {
             delayed_flag,
             slots,
         ) {
-            Ok((words, seat)) => Ok((Shared { words, bits, limit }, Seat { seat, client })),
+            Ok((words, seat)) => Ok((
+                Shared {
+                    words,
+                    bits,
+                    limit,
+                    sleepers: Sleepers::new(),
+                },
+                Seat { seat, client },
+            )),
             Err(slots) => Err(slots),
         }
     }

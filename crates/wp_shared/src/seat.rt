@@ -21,7 +21,7 @@ impl<D: Disk + Drop> Model for Seat<D> {
     ghost use Rattle.wp_model.specs.PreparedSets.{prepared_sets_code};
     ghost use Rattle.wp_model.specs.Snapshots.{snapshots_code};
     ghost use Rattle.wp_model.specs.LockState.{lock_state_code};
-    ghost use Rattle.wp_actor.specs.Codes.{transactions_code};
+    ghost use Rattle.wp_core.specs.Codes.{transactions_code};
     ghost use Rattle.wp_shared.specs.Seats.{SeatState, AllAway, turns_of};
 
     ghost Value = { SeatState };

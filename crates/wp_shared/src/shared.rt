@@ -15,6 +15,7 @@ ghost use Rattle.wp_shared.specs.Notes.{SawHistory};
 ghost use Rattle.wp_shared.specs.Seats.{Stands, place_at};
 
 use crate::seat::Seat;
+use crate::sleepers::Sleepers;
 use std::marker::{Brand, Model};
 use wp_model::{Name, Seq};
 use wp_outside::Disk;
@@ -26,6 +27,7 @@ pub struct Shared<D: Disk + Drop> {
     pub(crate) words: Words<TurnValue<D>>,
     pub(crate) bits: u32,
     pub(crate) limit: Seq,
+    pub(crate) sleepers: Sleepers,
 }
 
 impl<D: Disk + Drop> Model for Shared<D> {
@@ -167,6 +169,7 @@ impl<D: Disk + Drop> Shared<D> {
             words,
             bits: _bits,
             limit: _limit,
+            sleepers: _sleepers,
         } = self;
         words
     }
@@ -179,6 +182,7 @@ impl<D: Disk + Drop> Drop for Shared<D> {
             words: _words,
             bits: _bits,
             limit: _limit,
+            sleepers: _sleepers,
         } = self;
     }
 }

@@ -1,6 +1,6 @@
 //! Turns: a seat takes a turn with the value behind it, and gives both.
 ghost use Rattle.std.specs.Prelude.{◌≡◌, ◌∷◌, ℕ, List, true};
-ghost use Rattle.wp_actor.specs.Turns.{turn_of};
+ghost use Rattle.wp_core.specs.Turns.{turn_of};
 ghost use Rattle.wp_core.specs.Changes.{turn_index};
 ghost use Rattle.wp_core.specs.Tables.{Content};
 ghost use Rattle.wp_shared.specs.Turns.{TookPart, MayGivePart, GavePart, HoldsTurn, KnowsToGive, Taken, TookLog, Given};
@@ -60,7 +60,9 @@ impl<D: Disk + Drop> Shared<D> {
         } else if tries < TRIES || !is_long(turn) {
             thread::yield_now();
         } else {
+            self.sleepers.enter();
             self.words.park(rt, turn);
+            self.sleepers.leave();
         }
         tries.saturating_add(1)
     }
@@ -73,7 +75,7 @@ impl<D: Disk + Drop> Shared<D> {
     {
         self.words.exchange(&mut seat.seat, turn, part);
         self.words.unclaim(&mut seat.seat, turn);
-        if is_long(turn) {
+        if is_long(turn) && self.sleepers.are_there() {
             self.words.wake_one(turn);
         }
     }

@@ -1,6 +1,6 @@
 use Rattle.std.proofs.Common.{sym, ap, ◌∙◌}
 use Rattle.atomic_table.specs.Table.{Me}
-use Rattle.wp_actor.specs.Turns.{turn_of}
+use Rattle.wp_core.specs.Turns.{turn_of}
 use Rattle.wp_core.specs.World.{Actor}
 use Rattle.wp_core.specs.Changes.{turn_index}
 use Rattle.wp_parts.specs.declared.part.TurnValue.{TurnValue}

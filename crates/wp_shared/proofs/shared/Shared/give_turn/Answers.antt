@@ -1,6 +1,5 @@
 use Rattle.std.proofs.Common.{sym, subst, ◌∙◌}
-use Rattle.wp_actor.specs.Turns.{turn_of}
-use Rattle.wp_core.specs.Turns.{Turn}
+use Rattle.wp_core.specs.Turns.{turn_of, Turn}
 use Rattle.wp_shared.specs.Turns.{GavePart}
 use Rattle.wp_shared.proofs.TakenTurns.{may_give_part, given}
 use Rattle.wp_shared.proofs.shared.Shared.give_turn.Goals as goal

@@ -2,7 +2,7 @@ use Rattle.std.proofs.Common.{◌≡◌, ℕ, List, ◌∷◌, inl, refl, sym, a
 use Rattle.atomic_table.specs.Table.{Me, rest}
 use Rattle.wp_core.specs.Changes.{turn_index}
 use Rattle.wp_core.specs.World.{Actor}
-use Rattle.wp_actor.specs.Turns.{turn_of}
+use Rattle.wp_core.specs.Turns.{turn_of}
 use Rattle.wp_rule.specs.Words.{place_of}
 use Rattle.wp_parts.specs.declared.part.TurnValue.{TurnValue}
 use Rattle.wp_parts.specs.Parts.{content}

@@ -1,4 +1,4 @@
-use Rattle.wp_actor.specs.Turns.{turn_of}
+use Rattle.wp_core.specs.Turns.{turn_of}
 use Rattle.wp_shared.proofs.TakenTurns.{taken}
 use Rattle.wp_shared.proofs.shared.Shared.take_turn.Goals as goal
 
