@@ -55,7 +55,7 @@ if_stays P Q (Some x) f k = f x k
 module _ {D : Type 0} (z : SharedState D) (old new : SeatState) (direct : old.knows.participant.direct ≡ None) where
   -- the seat goes on as a participant that writes nothing directly
   pub wrote : (Stays : Fact → Type 0) (after : Participant) (goes : ContinuesWith Stays z old new after) (b : Option OpenState) (p : Option PreparedState) → after.direct ≡ None
-      → IfSome b (λ t. HasOpen new t.name t.batch) → IfSome p (λ t. HasPrepared new t.name t.number t.batch) → IsWriter z new b p
+      → IfSome b (HasOpen new) → IfSome p (HasPrepared new) → IsWriter z new b p
   wrote Stays after goes b p none has_b has_p = record {
     free = goes.free;
     direct = ap (λ (x : Participant). x.direct) goes.participant ∙ none;
@@ -65,7 +65,7 @@ module _ {D : Type 0} (z : SharedState D) (old new : SeatState) (direct : old.kn
 
   -- ... which has the prepared transaction still
   kept : (after : Participant) (goes : Continues z old new after) → after.transactions ≡ old.knows.participant.transactions → after.direct ≡ old.knows.participant.direct
-      → (p : Option PreparedState) → IfSome p (λ t. HasPrepared old t.name t.number t.batch) → IsWriter z new None p
+      → (p : Option PreparedState) → IfSome p (HasPrepared old) → IsWriter z new None p
   kept after goes same as_before p has = wrote IsLoose after goes None p (as_before ∙ direct) tt (if_stays _ _ p (λ t h. record {
     transaction = h.transaction;
     has = ap (λ (x : Participant). finite.get x.transactions t.name) goes.participant ∙ (ap (λ ts. finite.get ts t.name) same ∙ h.has);
@@ -78,7 +78,7 @@ module _ {D : Type 0} (z : SharedState D) (old new : SeatState) (direct : old.kn
 
   -- why a call put no entries there
   refused_as : (needed : ℕ) (Asks : List Entry → Type 0) (found after : Participant) (why : TxnError) → after.transactions ≡ old.knows.participant.transactions → after.direct ≡ old.knows.participant.direct
-      → Refuses z old new needed Asks found after why → (p : Option PreparedState) → IfSome p (λ t. HasPrepared old t.name t.number t.batch) → IsWriter z new None p
+      → Refuses z old new needed Asks found after why → (p : Option PreparedState) → IfSome p (HasPrepared old) → IsWriter z new None p
   refused_as needed Asks found after Memory t d c = kept _ c t d
   refused_as needed Asks found after (Stopped n) t d c = kept _ c.2 t d
   refused_as needed Asks found after (NumbersFull published limit) t d c = kept _ c.4 t d
@@ -96,14 +96,11 @@ module _ {D : Type 0} (z : SharedState D) (old new : SeatState) (direct : old.kn
   locking_direct true name key x = refl
   locking_direct false name key x = refl
 
-  has_open : (txn left : OpenState) → left ≡ txn → HasOpen new txn.name txn.batch → HasOpen new left.name left.batch
-  has_open txn left is has = subst (λ (l : OpenState). HasOpen new l.name l.batch) (sym is) has
-
   pub changed : (txn : OpenState) (change : Change) (answer : Result (Unit {0}) TxnError) (left : OpenState) → Changes z old txn change answer new left → IsWriter z new (Some left) None
-  changed txn change (Ok done) left c = wrote IsLoose _ c.3 (Some left) None (locking_direct (is_changed txn.batch (key_of change)) txn.name (key_of change) old.knows.participant ∙ direct) (has_open _ left c.1 c.2) tt
-  changed txn change (Err TooMany) left c = wrote IsLoose _ c.3 (Some left) None direct (has_open _ left c.1 c.2) tt
-  changed txn change (Err (Busy holder)) left c = wrote IsLoose _ c.5.goes_on (Some left) None direct (has_open _ left c.1 c.2) tt
-  changed txn change (Err Memory) left c = wrote IsLoose _ c.2 (Some left) None direct (has_open _ left c.0 c.1) tt
+  changed txn change (Ok done) left c = wrote IsLoose _ c.3 (Some left) None (locking_direct (is_changed txn.batch (key_of change)) txn.name (key_of change) old.knows.participant ∙ direct) c.2 tt
+  changed txn change (Err TooMany) left c = wrote IsLoose _ c.3 (Some left) None direct c.2 tt
+  changed txn change (Err (Busy holder)) left c = wrote IsLoose _ c.5.goes_on (Some left) None direct c.2 tt
+  changed txn change (Err Memory) left c = wrote IsLoose _ c.2 (Some left) None direct c.1 tt
   changed txn change (Err (Taken other)) left c = absurd c
   changed txn change (Err Silent) left c = absurd c
   changed txn change (Err (Unknown other at)) left c = absurd c
@@ -117,15 +114,15 @@ module _ {D : Type 0} (z : SharedState D) (old new : SeatState) (direct : old.kn
   abbrev asks_write : Change → List Entry → Type 0
   asks_write change entries = entries ≡ Write (change ∷ []) ∷ []
 
-  pub has_written : (change : Change) (n : ℕ) (p : Option PreparedState) → IfSome p (λ t. HasPrepared old t.name t.number t.batch) → WritesDirect z old change (Ok n) new → IsWriter z new None p
+  pub has_written : (change : Change) (n : ℕ) (p : Option PreparedState) → IfSome p (HasPrepared old) → WritesDirect z old change (Ok n) new → IsWriter z new None p
   has_written change n p has c = kept _ c.1.1.goes_on refl refl p has
 
   pub written_version : (change : Change) (n : ℕ) → WritesDirect z old change (Ok n) new → has_versions_at new.knows.participant.seen n ≡ true
   written_version change n c = last_version new.knows.participant.seen c.1.0 (Write (change ∷ [])) n c.0 c.1.1.seen refl
 
-  pub not_written : (change : Change) (why : TxnError) (p : Option PreparedState) → IfSome p (λ t. HasPrepared old t.name t.number t.batch) → WritesDirect z old change (Err why) new → IsWriter z new None p
+  pub not_written : (change : Change) (why : TxnError) (p : Option PreparedState) → IfSome p (HasPrepared old) → WritesDirect z old change (Err why) new → IsWriter z new None p
   not_written change (Busy holder) p has c = kept _ c.goes_on refl refl p has
-  not_written change Memory p has c = ⊎_elim (λ none. kept _ none refl refl p has) (λ freed. kept _ freed refl refl p has) c
+  not_written change Memory p has c = ⊎_elim (λ none. kept _ none refl refl p has) (λ freed. kept _ freed.0 refl refl p has) c
   not_written change (Stopped n) p has c = refused_as 1 (asks_write change) _ _ (Stopped n) refl refl c.0 p has
   not_written change (NumbersFull published limit) p has c = refused_as 1 (asks_write change) _ _ (NumbersFull published limit) refl refl c.0 p has
   not_written change LogFault p has c = refused_as 1 (asks_write change) _ _ LogFault refl refl c.0 p has

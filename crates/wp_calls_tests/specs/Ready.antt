@@ -10,8 +10,8 @@ use Rattle.wp_open_txns.specs.Txn.{OpenState, PreparedState, HasOpen, HasPrepare
 pub record IsWriter {D : Type 0} (z : SharedState D) (s : SeatState) (begun : Option OpenState) (prepared : Option PreparedState) : Type 0 where
   pub free : IsFree z.table s
   pub direct : s.knows.participant.direct ≡ None
-  pub has_begun : IfSome begun (λ t. HasOpen s t.name t.batch)
-  pub has_prepared : IfSome prepared (λ t. HasPrepared s t.name t.number t.batch)
+  pub has_begun : IfSome begun (HasOpen s)
+  pub has_prepared : IfSome prepared (HasPrepared s)
 
 -- The seat is free. The client's snapshot is registered, and the entry with its version's number has versions.
 pub record IsReader {D : Type 0} (z : SharedState D) (s : SeatState) (snapshot : Option Registration) (version : Option ℕ) : Type 0 where

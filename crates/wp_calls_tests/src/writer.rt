@@ -100,8 +100,8 @@ pub(super) fn write<R: Abort + Wait>(
             }
         }
         (Writing::Put(k, v), Some(mut txn), None) => {
-            let (k, v) = (key(rt, alloc, k), value(rt, alloc, v));
-            let outcome = match wp_txn::put(store, rt, alloc, seat, &mut txn, &k, &v) {
+            let change = Change::Put(key(rt, alloc, k), value(rt, alloc, v));
+            let outcome = match wp_txn::stage(store, rt, alloc, seat, &mut txn, change) {
                 Ok(()) => Some(true),
                 Err(why) => refused(why),
             };

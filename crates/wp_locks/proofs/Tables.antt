@@ -1,8 +1,8 @@
 -- What a step on one of the tables makes of it.
-use Rattle.std.proofs.Common.{◌≡◌, ℕ, ◌+◌, ◌<◌, true, List, [], ◌∷◌, ◌++◌, length, take, get_or, Option, Some, None, is_some, refl, sym, ap, subst, ◌∙◌}
-use Rattle.std.specs.FinMap as map
+use Rattle.std.proofs.Common.{◌≡◌, ℕ, ◌+◌, ◌<◌, true, List, [], ◌∷◌, ◌++◌, length, map, take, get_or, Option, Some, None, is_some, refl, sym, ap, subst, ◌∙◌}
+use Rattle.std.specs.FinMap as finite
 use Rattle.std.proofs.lemmas.Bool.{false≢true}
-use Rattle.std.proofs.lemmas.List.{take_more}
+use Rattle.std.proofs.lemmas.List.{map-append, take_more}
 use Rattle.std.proofs.lemmas.List.Sums.{fold-append}
 use Rattle.std.proofs.lemmas.Map.Text.{is_eq-slice_cmp}
 use Rattle.wp_model.specs.Batch.{key_cmp, key_of}
@@ -42,17 +42,17 @@ same_txn (Txn a) (Client b) h = absurd cc
 same_txn (Client a) b h = absurd cc
 
 -- a transaction that locks its own key once more changes nothing
-pub locked_again : (keys : map.FinMap key_cmp Holder) (k : List ℕ) (other holder : Holder) → map.get keys k ≡ Some other → is_same_txn other holder ≡ true → keys ≡ map.insert keys k holder
+pub locked_again : (keys : finite.FinMap key_cmp Holder) (k : List ℕ) (other holder : Holder) → finite.get keys k ≡ Some other → is_same_txn other holder ≡ true → keys ≡ finite.insert keys k holder
 locked_again keys k other holder found same = sym (insert_same keys k holder (found ∙ ap Some (same_txn other holder same)))
 
 -- one change more, and its key is free too
-pub freed_one : (es ns : List (List ℕ × Holder)) (keys : Keys) (changes : List Change) (i : ℕ) (change : Change) → i < length changes → change ≡ get_or changes i change → map_of es ≡ keys_without keys (take i changes) → UpdatedAt es ns (key_of change) None
-    → map_of ns ≡ keys_without keys (take (i + 1) changes)
+pub freed_one : (es ns : List (List ℕ × Holder)) (keys : Keys) (changes : List Change) (i : ℕ) (change : Change) → i < length changes → change ≡ get_or changes i change → map_of es ≡ keys_without keys (map key_of (take i changes)) → UpdatedAt es ns (key_of change) None
+    → map_of ns ≡ keys_without keys (map key_of (take (i + 1) changes))
 freed_one es ns keys changes i change within is so_far updated =
     map_of_removed es ns (key_of change) updated
-    ∙ ap (λ (ks : Keys). map.remove ks (key_of change)) so_far
-    ∙ sym (fold-append (λ (left : Keys) (x : Change). map.remove left (key_of x)) keys (take i changes) (change ∷ []))
-    ∙ ap (keys_without keys) (ap (λ (x : Change). take i changes ++ x ∷ []) is ∙ sym (take_more changes i change within))
+    ∙ ap (λ (ks : Keys). finite.remove ks (key_of change)) so_far
+    ∙ sym (fold-append (λ (left : Keys) (key : List ℕ). finite.remove left key) keys (map key_of (take i changes)) (key_of change ∷ []))
+    ∙ ap (keys_without keys) (sym (map-append key_of (take i changes) (change ∷ [])) ∙ ap (map key_of) (ap (λ (x : Change). take i changes ++ x ∷ []) is ∙ sym (take_more changes i change within)))
 
 -- the tables with other keys that equal theirs
 pub with_keys : (t : LockState) (keys : Keys) → t.keys ≡ keys → t ≡ record t { keys = keys }

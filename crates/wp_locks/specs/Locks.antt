@@ -2,8 +2,7 @@
 use Rattle.std.specs.Prelude.{◌≡◌, ℕ, Bool, true, false, List, ◌++◌, fold, Option, Some, None, is_some, Result, Ok, Err, if◌then◌else◌}
 use Rattle.std.specs.FinMap as map
 use Rattle.std.specs.BTreeMap as tree
-use Rattle.wp_model.specs.Batch.{key_cmp, key_of}
-use Rattle.wp_model.specs.declared.change.Change.{Change}
+use Rattle.wp_model.specs.Batch.{key_cmp}
 use Rattle.wp_model.specs.declared.holder.Holder.{Holder}
 use Rattle.wp_locks.specs.declared.error.LockError.{LockError}
 use Rattle.wp_locks.specs.declared.error.LockError.TheVariants.{Memory, Taken, Unknown, InUse, Busy}
@@ -49,9 +48,9 @@ Locking old key holder (Err (Taken taken)) new = ⊥
 Locking old key holder (Err (Unknown unknown)) new = ⊥
 Locking old key holder (Err (InUse used)) new = ⊥
 
--- the keys without those of the changes
-abbrev pub keys_without : Keys → List Change → Keys
-keys_without keys changes = fold (λ left change. map.remove left (key_of change)) keys changes
+-- the held keys without these
+abbrev pub keys_without : Keys → List (List ℕ) → Keys
+keys_without held keys = fold (λ left key. map.remove left key) held keys
 
 -- the entries come before those of the tree: what is under a key is what they have first, and then its own
 abbrev pub Joins : {X : Type 0} → List (List ℕ × X) → tree.BTreeMap (List ℕ) X → tree.BTreeMap (List ℕ) X → Type 0

@@ -1,7 +1,7 @@
-ghost use Rattle.std.specs.Prelude.{◌≡◌, IfOk, OnOk, OnErr};
-ghost use Rattle.std.specs.FinMap as map;
+ghost use Rattle.std.specs.Prelude.{◌≡◌, map, IfOk, OnOk, OnErr};
+ghost use Rattle.std.specs.FinMap as finite;
 ghost use Rattle.std.specs.FinMap.{from_entries};
-ghost use Rattle.wp_model.specs.Batch.{key_cmp};
+ghost use Rattle.wp_model.specs.Batch.{key_cmp, key_of};
 ghost use Rattle.wp_locks.specs.Locks.{Claims, TakesName, Locking, names_left, keys_without};
 ghost use Rattle.wp_model.specs.LockState.{nothing_locked};
 ghost use Rattle.wp_history_laws.specs.Opened.{AreOpened};
@@ -25,18 +25,18 @@ pub struct Locks {
 
 impl Model for Locks {
     ghost use Rattle.wp_model.specs.LockState.{LockState, lock_state_code};
-    ghost use Rattle.std.specs.FinMap as map;
+    ghost use Rattle.std.specs.FinMap as finite;
 
     ghost Value = { LockState };
 
     ghost coded = { lock_state_code };
 
-    ghost view = { λ l. record { names = map.from_entries l.names.entries; keys = map.from_entries l.keys.entries; labels = map.from_entries l.labels.entries } };
+    ghost view = { λ l. record { names = finite.from_entries l.names.entries; keys = finite.from_entries l.keys.entries; labels = finite.from_entries l.labels.entries } };
 }
 
 /// Frees the key of each of the changes.
 fn free_keys(keys: &mut BTreeMap<Key, Holder>, changes: &[Change])
-    ensures { from_entries {R = key_cmp} keys.new.entries ≡ keys_without (from_entries keys.old.entries) changes.now }
+    ensures { from_entries {R = key_cmp} keys.new.entries ≡ keys_without (from_entries keys.old.entries) (map key_of changes.now) }
 {
     for change in changes {
         keys.remove(change.key());
@@ -81,7 +81,7 @@ impl Locks {
 
     /// Ends a name.
     pub fn free_name(&mut self, name: &Name)
-        ensures { self.new ≡ record self.old { names = map.remove self.old.names name.now } }
+        ensures { self.new ≡ record self.old { names = finite.remove self.old.names name.now } }
     {
         self.names.remove(name);
     }
@@ -131,7 +131,7 @@ impl Locks {
 
     /// Frees the key, whoever holds it.
     pub fn unlock(&mut self, key: &Key)
-        ensures { self.new ≡ record self.old { keys = map.remove self.old.keys key.now } }
+        ensures { self.new ≡ record self.old { keys = finite.remove self.old.keys key.now } }
     {
         self.keys.remove(key);
     }
@@ -139,14 +139,14 @@ impl Locks {
     /// Frees the key of each of the changes, whoever holds it. Each takes a time that grows with the logarithm of the number of held
     /// keys.
     pub fn unlock_all(&mut self, changes: &[Change])
-        ensures { self.new ≡ record self.old { keys = keys_without self.old.keys changes.now } }
+        ensures { self.new ≡ record self.old { keys = keys_without self.old.keys (map key_of changes.now) } }
     {
         free_keys(&mut self.keys, changes);
     }
 
     /// Puts the number under the label, in place of an earlier one.
     pub fn tell(&mut self, label: Name, at: Seq) -> Result<(), AllocError>
-        ensures ok { OnOk result (self.new ≡ record self.old { labels = map.insert self.old.labels label at }) }
+        ensures ok { OnOk result (self.new ≡ record self.old { labels = finite.insert self.old.labels label at }) }
         ensures err { OnErr result (self.new ≡ self.old) }
     {
         self.labels.insert(label, at)?;
@@ -155,7 +155,7 @@ impl Locks {
 
     /// The number that was told last under the label.
     pub fn told(&self, label: &Name) -> Option<Seq>
-        ensures { result ≡ map.get self.now.labels label.now }
+        ensures { result ≡ finite.get self.now.labels label.now }
     {
         self.labels.get(label).copied()
     }

@@ -24,7 +24,7 @@ use Rattle.wp_core.specs.Views.{unprepared}
 use Rattle.wp_core.specs.Tables.{locks}
 use Rattle.wp_core.specs.Turns.{locks_turn}
 use Rattle.wp_core.specs.World.{Transaction, Participant}
-use Rattle.wp_core.proofs.Keyed.{at_inserted}
+use Rattle.wp_model.proofs.Keyed.{at_inserted}
 use Rattle.wp_shared.specs.Seats.{SharedState, SeatState}
 use Rattle.wp_shared.specs.Calls.{Continues}
 use Rattle.wp_shared.specs.Notes.{seat_of}
@@ -32,7 +32,7 @@ use Rattle.wp_shared.specs.Turns.{Taken, Given}
 use Rattle.wp_open_txns.specs.declared.error.TxnError.{TxnError}
 use Rattle.wp_open_txns.specs.declared.error.TxnError.TheVariants as why
 use Rattle.wp_open_txns.specs.Actors.{no_changes, transaction_in, with_key_locked, with_locked, with_batch}
-use Rattle.wp_open_txns.specs.Calls.{with_transaction, Finds, IsFull, locking, changing, Changes}
+use Rattle.wp_open_txns.specs.Calls.{with_transaction, IsFull, locking, changing, Changes}
 use Rattle.wp_open_txns.specs.Keys.{HoldsKey}
 use Rattle.wp_open_txns.specs.Txn.{OpenState, HasOpen}
 use Rattle.wp_open_txns.specs.Under.{LocksKey}
@@ -97,7 +97,13 @@ none_more batch key k there = by (bytes_eq key k) refl
 
 -- ---- the transaction with the key
 
-module _ {D : Type 0} (z : SharedState D) (old : SeatState) (name : List ℕ) (batch : List Change) (h : HasOpen old name batch) where
+module _ {D : Type 0} (z : SharedState D) (old : SeatState) (txn : OpenState) (h : HasOpen old txn) where
+  abbrev name : List ℕ
+  name = txn.name
+
+  abbrev batch : List Change
+  batch = txn.batch
+
   pub is_there : is_some (finite.get old.knows.participant.transactions name) ≡ true
   is_there = ap is_some h.has
 
@@ -123,7 +129,7 @@ module _ {D : Type 0} (z : SharedState D) (old : SeatState) (name : List ℕ) (b
 
   -- the seat has the key, and then the batch has the change
   pub changed_it : (change : Change) (s new : SeatState) (changed : List Change) → Continues z old s (locking (is_changed batch (key_of change)) name (key_of change) old.knows.participant) → changed ≡ with_change batch change
-      → new ≡ seat_of s (with_batch name changed s.knows) → HasOpen new name (with_change batch change) × Continues z old new (changing name batch change old.knows.participant)
+      → new ≡ seat_of s (with_batch name changed s.knows) → HasOpen new (record txn { batch = with_change batch change }) × Continues z old new (changing name batch change old.knows.participant)
   changed_it change s new changed goes is set_it =
       let q = locking (is_changed batch (key_of change)) name (key_of change) old.knows.participant in let x : Transaction = record (transaction_in q name) { batch = with_change batch change } in
       let set_now : new ≡ seat_of s (with_batch name (with_change batch change) s.knows) = set_it ∙ ap (λ (b : List Change). seat_of s (with_batch name b s.knows)) is in
@@ -172,9 +178,8 @@ key_held z old txn key t u s r new (Err why.Memory) k none c gave = nothing_done
 key_held z old txn key t u s r new (Err other) k none c gave = absurd c
 
 -- where the key was not locked the transaction is as it was
-pub not_changed : {D : Type 0} (z : SharedState D) (old : SeatState) (txn : OpenState) (key : List ℕ) (change : Change) (new : SeatState) (reason : TxnError) → (IsFull txn.batch (key_of change) → ⊥) → key_of change ≡ key → HasOpen old txn.name txn.batch → HoldsKey z old txn key (Err reason) new
+pub not_changed : {D : Type 0} (z : SharedState D) (old : SeatState) (txn : OpenState) (change : Change) (new : SeatState) (reason : TxnError) → (IsFull txn.batch (key_of change) → ⊥) → HasOpen old txn → HoldsKey z old txn (key_of change) (Err reason) new
     → Changes z old txn change (Err reason) new txn
-not_changed z old txn key change new why.Memory room same has c = (refl, open_still old new (still z old new old.knows.participant refl refl c) txn.name txn.batch has, c)
-not_changed z old txn key change new (why.Busy holder) room same has c =
-    (room, refl, open_still old new (still z old new _ refl refl c.2.goes_on) txn.name txn.batch has, subst (λ (k : List ℕ). is_changed txn.batch k ≡ false) (sym same) c.0, c.1, subst (λ (k : List ℕ). Finds z old new (Some k) holder) (sym same) c.2)
-not_changed z old txn key change new other room same has c = absurd c
+not_changed z old txn change new why.Memory room has c = (refl, open_still old new (still z old new old.knows.participant refl refl c) txn has, c)
+not_changed z old txn change new (why.Busy holder) room has c = (room, refl, open_still old new (still z old new _ refl refl c.2.goes_on) txn has, c.0, c.1, c.2)
+not_changed z old txn change new other room has c = absurd c

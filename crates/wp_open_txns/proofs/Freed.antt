@@ -1,5 +1,5 @@
 -- The tables once a transaction's name is free, with each of its keys.
-use Rattle.std.proofs.Common.{◌≡◌, ℕ, Bool, true, false, true≢false, cond, not, List, [], ◌∷◌, refl, sym, ap, ◌∙◌, Option, Some, None, is_some}
+use Rattle.std.proofs.Common.{◌≡◌, ℕ, Bool, true, false, true≢false, cond, not, List, [], ◌∷◌, map, refl, sym, ap, ◌∙◌, Option, Some, None, is_some}
 use Rattle.std.specs.Prelude.{unwrap_or, if◌then◌else◌}
 use Rattle.std.specs.FinSet as set
 use Rattle.std.specs.FinMap as finite
@@ -19,20 +19,20 @@ use Rattle.wp_model.specs.declared.holder.Holder.TheVariants.{Txn, Client}
 use Rattle.wp_locks.specs.Locks.{keys_without}
 use Rattle.wp_core.specs.Changes.{is_held_by, without_transaction}
 use Rattle.wp_core.specs.World.{Transaction, Participant}
-use Rattle.wp_core.proofs.Keyed.{at_removed, else_removed, txn_is}
+use Rattle.wp_model.proofs.Keyed.{at_removed, else_removed, txn_is}
 use Rattle.wp_shared.specs.Seats.{SeatState}
 use Rattle.wp_open_txns.specs.Actors.{no_changes, transaction_in}
 use Rattle.wp_open_txns.specs.Calls.{IsFreeName}
-use Rattle.wp_open_txns.specs.Txn.{HasLocked}
+use Rattle.wp_open_txns.specs.Txn.{OpenState, HasLocked}
 
 -- ---- the keys of a batch are those of its transaction
 
 -- the seat, which is the participant that it was, locked just the keys that the changes change, and the tables have just those for it
-pub just_changed : (old s : SeatState) (t : LockState) (name : List ℕ) (batch : List Change) → s.knows.participant ≡ old.knows.participant → HasLocked old name batch
-    → ((key : List ℕ) → is_held_by t (Txn name) key ≡ set.contains (transaction_in s.knows.participant name).locked key) → (key : List ℕ) → is_held_by t (Txn name) key ≡ is_changed batch key
-just_changed old s t name batch same h held key =
+pub just_changed : (old s : SeatState) (t : LockState) (x : OpenState) → s.knows.participant ≡ old.knows.participant → HasLocked old x
+    → ((key : List ℕ) → is_held_by t (Txn x.name) key ≡ set.contains (transaction_in s.knows.participant x.name).locked key) → (key : List ℕ) → is_held_by t (Txn x.name) key ≡ is_changed x.batch key
+just_changed old s t x same h held key =
     held key
-    ∙ ap (λ (p : Participant). set.contains (transaction_in p name).locked key) same
+    ∙ ap (λ (p : Participant). set.contains (transaction_in p x.name).locked key) same
     ∙ ap (λ (o : Option Transaction). set.contains (unwrap_or o no_changes).locked key) h.has
     ∙ h.keys key
 
@@ -41,7 +41,7 @@ neither true o none = refl
 neither false o none = none
 
 -- a key that the changes change is free, and any other is as it was
-at_without : (changes : List Change) (keys : Keys) (q : List ℕ) → finite.get (keys_without keys changes) q ≡ cond (is_changed changes q) None (finite.get keys q)
+at_without : (changes : List Change) (keys : Keys) (q : List ℕ) → finite.get (keys_without keys (map key_of changes)) q ≡ cond (is_changed changes q) None (finite.get keys q)
 at_without [] keys q = refl
 at_without (change ∷ changes) keys q = at_without changes (finite.remove keys (key_of change)) q ∙ by (bytes_eq (key_of change) q) refl
   where
@@ -62,12 +62,12 @@ at_retained : (t : LockState) (name q : List ℕ) → finite.get (without_transa
 at_retained t name q = let held : List ℕ → Bool = λ key. not (is_held_by t (Txn name) key) in finite.get-retain_keys t.keys held q (λ x e. ap held (sym (exact_bytes q x e)))
 
 -- without the name and the keys of the batch they are without the transaction
-pub freed_tables : (t l m : LockState) (name : List ℕ) (batch : List Change) → l ≡ record t { names = finite.remove t.names name } → m ≡ record l { keys = keys_without l.keys batch }
+pub freed_tables : (t l m : LockState) (name : List ℕ) (batch : List Change) → l ≡ record t { names = finite.remove t.names name } → m ≡ record l { keys = keys_without l.keys (map key_of batch) }
     → ((key : List ℕ) → is_held_by t (Txn name) key ≡ is_changed batch key) → m ≡ without_transaction t name
 freed_tables t l m name batch named freed just =
-    let keys : keys_without t.keys batch ≡ (without_transaction t name).keys = finite.same_map nat_list_cmp_total (slice_cmp-IsAntisymmetric nat_cmp-IsAntisymmetric) (keys_without t.keys batch) (without_transaction t name).keys (λ q.
+    let keys : keys_without t.keys (map key_of batch) ≡ (without_transaction t name).keys = finite.same_map nat_list_cmp_total (slice_cmp-IsAntisymmetric nat_cmp-IsAntisymmetric) (keys_without t.keys (map key_of batch)) (without_transaction t name).keys (λ q.
     at_without batch t.keys q ∙ ap (λ (b : Bool). cond b None (finite.get t.keys q)) (sym (just q)) ∙ turned (is_held_by t (Txn name) q) (finite.get t.keys q) ∙ sym (at_retained t name q)) in
-    freed ∙ ap (λ (x : LockState). record x { keys = keys_without x.keys batch }) named ∙ ap (λ (ks : Keys). record t { names = finite.remove t.names name; keys = ks }) keys
+    freed ∙ ap (λ (x : LockState). record x { keys = keys_without x.keys (map key_of batch) }) named ∙ ap (λ (ks : Keys). record t { names = finite.remove t.names name; keys = ks }) keys
 
 -- it holds no key any more
 no_key : (name : List ℕ) (o : Option Holder) → cond (not (option_map_or (is_same (Txn name)) o false)) o None ≡ Some (Txn name) → ⊥

@@ -18,8 +18,8 @@ use Rattle.wp_core.specs.Changes.{turn_index, held_with, sees, with_name}
 use Rattle.wp_core.specs.Sound.Actors.{StartsWith}
 use Rattle.wp_core.specs.Sound.Pasts.{past_of}
 use Rattle.wp_core.proofs.AllParticipants.{mine}
-use Rattle.wp_core.proofs.Keyed.{at_inserted}
-use Rattle.wp_core.proofs.Tests.{some_none}
+use Rattle.wp_model.proofs.Keyed.{at_inserted}
+use Rattle.wp_model.proofs.Tests.{some_none}
 use Rattle.wp_rule.specs.Accounts.{IsHolderIn, account_of}
 use Rattle.wp_rule.proofs.Knows.{at_sound}
 use Rattle.wp_rule.specs.Words.{IsAt}
@@ -176,7 +176,7 @@ module _ {D : Type 0} (z : SharedState D) (old : SeatState) (t : LockState) (s :
   -- ---- a name
 
   pub begun : (name : List ℕ) (r new : SeatState) → r ≡ seat_of s (with_claimed t name s.knows) → Given z locks_turn r new [] []
-      → HasOpen new name [] × Continues z old new (with_events (claimed name ∷ []) (with_transaction name no_changes old.knows.participant))
+      → HasOpen new (record { name = name; batch = [] }) × Continues z old new (with_events (claimed name ∷ []) (with_transaction name no_changes old.knows.participant))
   begun name r new e gave =
       let b = with_claimed t name (with_locks t old).knows in let is = under (with_claimed t name) r e in
       let goes = back_at_once b r new is gave refl refl refl (λ fact there. inr there) in (

@@ -29,7 +29,7 @@ use Rattle.wp_core.specs.Sound.Actors.{StartsWith}
 use Rattle.wp_core.specs.Sound.Locks.{owner_of}
 use Rattle.wp_core.proofs.AllParticipants.{mine}
 use Rattle.wp_core.proofs.HistoryGrows.{none_is}
-use Rattle.wp_core.proofs.Keyed.{at_inserted}
+use Rattle.wp_model.proofs.Keyed.{at_inserted}
 use Rattle.wp_core.proofs.KeepsSeen.{shorter}
 use Rattle.wp_rule.specs.Words.{Place, IsAt, SawAll}
 use Rattle.wp_rule.specs.Moves.{MayMake, Moved, first_of, actor_after, world_after, taking_name}
@@ -46,7 +46,7 @@ use Rattle.wp_open_txns.specs.Actors.{no_changes, transaction_in, with_claimed, 
 use Rattle.wp_open_txns.specs.Calls.{WasHistory}
 use Rattle.wp_open_txns.specs.Turns.{IsApartFrom, IsWithout, TakesPrepare}
 use Rattle.wp_shared.specs.Notes.{seat_of}
-use Rattle.wp_open_txns.specs.Txn.{HasPrepared}
+use Rattle.wp_open_txns.specs.Txn.{PreparedState, HasPrepared}
 
 -- ---- steps that end no note
 
@@ -186,12 +186,12 @@ pub may_free : (p : Place) (a : Actor) (t : LockState) (name : List ℕ) → is_
     → MayMake p a (λ w. free_transaction name ∷ [])
 may_free p a t name there held noted = known_made p a (free_transaction name) tt (record { table = t; held = held; so_is = ((transaction_in a.participant name, has_its a name there), noted) })
 
-pub may_leave : (p : Place) (s : SeatState) (t : LockState) (name : List ℕ) (number : ℕ) (batch : List Change) → HasPrepared s name number batch → IsIn (locks t) s.knows.held → MayMake p s.knows (λ w. leave_name name ∷ [])
-may_leave p s t name number batch h held =
-    known_made p s.knows (leave_name name) tt (record {
+pub may_leave : (p : Place) (s : SeatState) (t : LockState) (x : PreparedState) → HasPrepared s x → IsIn (locks t) s.knows.held → MayMake p s.knows (λ w. leave_name x.name ∷ [])
+may_leave p s t x h held =
+    known_made p s.knows (leave_name x.name) tt (record {
       table = t;
       held = held;
-      so_is = (h.transaction, h.has, (number, h.noted, h.seen, λ key locked. ap (λ (o : Option Entry). is_changed (prepared_batch o) key) h.stands ∙ sym (h.keys key) ∙ locked));
+      so_is = (h.transaction, h.has, (x.number, h.noted, h.seen, λ key locked. ap (λ (o : Option Entry). is_changed (prepared_batch o) key) h.stands ∙ sym (h.keys key) ∙ locked));
     })
 
 pub is_live : (p : Place) (a : Actor) (w : World) (t : LockState) (name : List ℕ) → IsAt p a w → is_some (finite.get a.participant.transactions name) ≡ true → IsIn (locks t) a.held → is_some (finite.get t.names name) ≡ true

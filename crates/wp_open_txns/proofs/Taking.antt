@@ -21,7 +21,7 @@ use Rattle.wp_core.specs.World.{Transaction, Participant, Actor, World}
 use Rattle.wp_core.specs.Changes.{sees, keys_of_holder}
 use Rattle.wp_core.specs.Sound.Actors.{StartsWith}
 use Rattle.wp_core.proofs.HistoryGrows.{none_is}
-use Rattle.wp_core.proofs.Keyed.{at_inserted}
+use Rattle.wp_model.proofs.Keyed.{at_inserted}
 use Rattle.wp_rule.specs.Accounts.{account_of}
 use Rattle.wp_rule.specs.Words.{Place, IsAt}
 use Rattle.wp_rule.proofs.Knows.{at_sound}
@@ -35,7 +35,7 @@ use Rattle.wp_shared.proofs.Onward.{loose_none, loose_under, goes_same, goes_sti
 use Rattle.wp_open_txns.specs.declared.error.TxnError.{TxnError}
 use Rattle.wp_open_txns.specs.declared.error.TxnError.TheVariants as why
 use Rattle.wp_open_txns.specs.Actors.{with_found, with_taken}
-use Rattle.wp_open_txns.specs.Calls.{Keeps, StoodWithLog, Takes, TakesPrepared}
+use Rattle.wp_open_txns.specs.Calls.{Keeps, StoodWithBoth, Takes, TakesPrepared}
 use Rattle.wp_open_txns.specs.Turns.{TakesPrepare}
 use Rattle.wp_open_txns.specs.Under.{IsPrepareOf, TakesUnder}
 use Rattle.wp_open_txns.proofs.GoesOn.{taken_are, stood_taken, with_locks}
@@ -140,17 +140,23 @@ module _ {D : Type 0} (z : SharedState D) (old : SeatState) (d : WriteState) (s 
       log_held : IsIn (writes d) s2.knows.held
       log_held = subst (λ (x : SeatState). IsIn (writes d) x.knows.held) (sym k2.seat) (inr log_last)
 
-      -- so many entries are published while the seat holds the log
-      published_then : length k2.world.writes.history ≡ length d.history
-      published_then = ap (λ (x : WriteState). length x.history) (held_table (place_at z s.by) s.knows k2.world (writes d) k2.before log_last)
+      -- as it had taken both, the tables were these, and the history that of the log
+      abbrev found_then : World
+      found_then = k2.stands.0
 
-      stood_then : StoodWithLog z old k2.world
+      locks_then : found_then.locks ≡ t
+      locks_then = taken_are z s s2 t k2
+
+      published_then : length found_then.writes.history ≡ length d.history
+      published_then = ap (λ (x : WriteState). length x.history) (held_table (place_at z s2.by) s2.knows found_then (writes d) k2.stands.1 log_held)
+
+      stood_then : StoodWithBoth z old found_then
       stood_then = record {
-        actor = s.knows;
-        there = subst (λ (by : ℕ). IsAt (place_at z by) s.knows k2.world) (ap (λ (x : SeatState). x.by) seat_then) k2.before;
+        actor = s2.knows;
+        there = subst (λ (by : ℕ). IsAt (place_at z by) s2.knows found_then) (ap (λ (x : SeatState). x.by) k2.seat ∙ ap (λ (x : SeatState). x.by) seat_then) k2.stands.1;
         table = d;
-        held = ap (λ (x : SeatState). x.knows.held) seat_then;
-        same = ap (λ (x : SeatState). record x.knows { held = s.knows.held; notes = s.knows.notes }) seat_then;
+        held = ap (λ (x : SeatState). x.knows.held) k2.seat ∙ ap (λ (x : SeatState). locks t ∷ x.knows.held) seat_then ∙ ap (λ (l : LockState). locks l ∷ writes d ∷ old.knows.held) (sym locks_then);
+        same = ap (λ (x : SeatState). record x.knows { held = s2.knows.held; notes = s2.knows.notes }) k2.seat ∙ ap (λ (x : SeatState). record x.knows { held = s2.knows.held; notes = s2.knows.notes }) seat_then;
       }
 
       pub not_taken : (name : List ℕ) (reason : TxnError) (u : LockState) → TakesUnder t s2 name (Err reason) u r → TakesPrepared z old name (Err reason) new
@@ -162,20 +168,20 @@ module _ {D : Type 0} (z : SharedState D) (old : SeatState) (d : WriteState) (s 
             c.3.3 ∙ ap (λ (entries : List Entry). length entries) (sym seen),
             ap (λ (entries : List Entry). named entries name) seen ∙ c.3.2,
             record { free = goes.free; same_by = goes.same_by; seen = goes.seen; participant = goes.participant; notes = goes.notes; made = goes.made; joined = goes.joined },
-            (k2.world, stood_then, ap (λ (l : LockState). finite.get l.names name) k2.is ∙ c.1, published_then ∙ ap (λ (es : List Entry). length es) (sym (c.3.5 d log_held)) ∙ sym c.3.3),
+            (found_then, stood_then, ap (λ (l : LockState). finite.get l.names name) locks_then ∙ c.1, published_then ∙ ap (λ (es : List Entry). length es) (sym (c.3.5 d log_held)) ∙ sym c.3.3),
           )
       not_taken name (why.InUse other) u c = (
         c.0,
         record {
-          world = k2.world;
+          world = found_then;
           stood = stood_then;
-          holds = (name, refl, ap (λ (l : LockState). is_some (finite.get l.names name)) k2.is ∙ c.1.0);
+          holds = (name, refl, ap (λ (l : LockState). is_some (finite.get l.names name)) locks_then ∙ c.1.0);
           published = c.1.2.0;
           reached = subst (λ (seen : List Entry). length seen ≤ c.1.2.0) was_seen c.1.2.1;
-          goes_on = subst (λ (l : LockState). Continues z old new (with_events (found None (Txn name) (length old.knows.participant.seen) (account_of old.knows.participant l c.1.2.0 None (Txn name)) ∷ []) old.knows.participant)) (sym k2.is)
+          goes_on = subst (λ (l : LockState). Continues z old new (with_events (found None (Txn name) (length old.knows.participant.seen) (account_of old.knows.participant l c.1.2.0 None (Txn name)) ∷ []) old.knows.participant)) (sym locks_then)
               (both_at_once (with_found t c.1.2.0 None (Txn name) both) (under_both (with_found t c.1.2.0 None (Txn name)) r c.1.2.2) refl refl refl (λ fact there. there));
         },
-        (c.2.0, ap (λ (l : LockState). finite.get l.names name) k2.is ∙ c.2.1),
+        (c.2.0, ap (λ (l : LockState). finite.get l.names name) locks_then ∙ c.2.1),
       )
       not_taken name other u c = absurd c
 

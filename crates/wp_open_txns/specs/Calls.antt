@@ -78,7 +78,7 @@ pub record Frees {D : Type 0} (z : SharedState D) (old new : SeatState) (name : 
   pub freed : LocksWere z new (IsFreeName name)
 
 abbrev pub Begins : {D : Type 0} → SharedState D → SeatState → List ℕ → Result OpenState TxnError → SeatState → Type 0
-Begins z old name (Ok txn) new = (txn ≡ record { name = name; batch = [] }) × HasOpen new name [] × Continues z old new (with_events (claimed name ∷ []) (with_transaction name no_changes old.knows.participant))
+Begins z old name (Ok txn) new = (txn ≡ record { name = name; batch = [] }) × HasOpen new txn × Continues z old new (with_events (claimed name ∷ []) (with_transaction name no_changes old.knows.participant))
     × (finite.get old.knows.participant.transactions name ≡ None) × LocksWere z old (λ t. finite.get t.names name ≡ None)
 Begins z old name (Err (Taken other)) new = (other ≡ name) × Finds z old new None (Txn name)
 Begins z old name (Err Memory) new = Keeps z old new
@@ -99,27 +99,27 @@ locking false name key p = with_events (locked key (Txn name) ∷ []) (with_tran
 abbrev pub changing : List ℕ → List Change → Change → Participant → Participant
 changing name batch change p = let q = locking (is_changed batch (key_of change)) name (key_of change) p in with_transaction name (record (transaction_in q name) { batch = with_change batch change }) q
 
--- what `put` and `del` answer, and what they leave; a key that has no change yet was found free
+-- what `stage` answers, and what it leaves; a key that has no change yet was found free
 abbrev pub Changes : {D : Type 0} → SharedState D → SeatState → OpenState → Change → Result (Unit {0}) TxnError → SeatState → OpenState → Type 0
 Changes z old txn change (Ok done) new left =
-    (IsFull txn.batch (key_of change) → ⊥) × (left ≡ record txn { batch = with_change txn.batch change }) × HasOpen new txn.name (with_change txn.batch change)
+    (IsFull txn.batch (key_of change) → ⊥) × (left ≡ record txn { batch = with_change txn.batch change }) × HasOpen new left
     × Continues z old new (changing txn.name txn.batch change old.knows.participant)
     × (is_changed txn.batch (key_of change) ≡ false → LocksWere z old (λ t. finite.get t.keys (key_of change) ≡ None))
-Changes z old txn change (Err TooMany) new left = IsFull txn.batch (key_of change) × (left ≡ txn) × HasOpen new txn.name txn.batch × Keeps z old new
+Changes z old txn change (Err TooMany) new left = IsFull txn.batch (key_of change) × (left ≡ txn) × HasOpen new left × Keeps z old new
 Changes z old txn change (Err (Busy holder)) new left =
-    (IsFull txn.batch (key_of change) → ⊥) × (left ≡ txn) × HasOpen new txn.name txn.batch
+    (IsFull txn.batch (key_of change) → ⊥) × (left ≡ txn) × HasOpen new left
     × (is_changed txn.batch (key_of change) ≡ false) × (holder ≡ Txn txn.name → ⊥) × Finds z old new (Some (key_of change)) holder
-Changes z old txn change (Err Memory) new left = (left ≡ txn) × HasOpen new txn.name txn.batch × Keeps z old new
+Changes z old txn change (Err Memory) new left = (left ≡ txn) × HasOpen new left × Keeps z old new
 Changes z old txn change (Err other) new left = ⊥
 
 -- ---- prepared transactions
 
--- a reached world in which the seat had done what it had before the call, and held the write turn by now
-pub record StoodWithLog {D : Type 0} (z : SharedState D) (old : SeatState) (w : World) : Type 0 where
+-- a reached world in which the seat had done what it had before the call, and held the write turn and the locks turn by now
+pub record StoodWithBoth {D : Type 0} (z : SharedState D) (old : SeatState) (w : World) : Type 0 where
   pub actor : Actor
   pub there : IsAt (place_at z old.by) actor w
   pub table : WriteState
-  pub held : actor.held ≡ writes table ∷ old.knows.held
+  pub held : actor.held ≡ locks w.locks ∷ writes table ∷ old.knows.held
   pub same : actor ≡ record old.knows { held = actor.held; notes = actor.notes }
 
 -- A prepare of the seen is taken, which is undecided there, and which was nobody's.
@@ -128,21 +128,21 @@ pub record Takes {D : Type 0} (z : SharedState D) (old : SeatState) (name : List
   pub not_had : finite.get old.knows.participant.transactions name ≡ None
   pub nobodys : LocksWere z old (λ t. finite.get t.names name ≡ Some None)
   pub number_is : named new.knows.participant.seen name ≡ Some txn.number
-  pub has : HasPrepared new name txn.number txn.batch
+  pub has : HasPrepared new txn
   pub goes_on : Continues z old new (with_events (took name ∷ []) (with_transaction name has.transaction old.knows.participant))
 
 -- a client has the transaction of this name
 abbrev pub IsInUse : World → List ℕ → Type 0
 IsInUse w name = (client : List ℕ) × (finite.get w.locks.names name ≡ Some (Some client))
 
--- in a world in which the seat held the write turn, and so many entries were published, the name was not live
+-- in a world in which the seat held both turns, and so many entries were published, the name was not live
 abbrev pub IsNotLive : {D : Type 0} → SharedState D → SeatState → List ℕ → ℕ → Type 0
-IsNotLive z old name at = (w : World) × StoodWithLog z old w × (finite.get w.locks.names name ≡ None) × (length w.writes.history ≡ at)
+IsNotLive z old name at = (w : World) × StoodWithBoth z old w × (finite.get w.locks.names name ≡ None) × (length w.writes.history ≡ at)
 
 abbrev pub TakesPrepared : {D : Type 0} → SharedState D → SeatState → List ℕ → Result PreparedState TxnError → SeatState → Type 0
 TakesPrepared z old name (Ok txn) new = Takes z old name txn new
 TakesPrepared z old name (Err (Unknown other at)) new = (other ≡ name) × (at ≡ length new.knows.participant.seen) × (named new.knows.participant.seen name ≡ None) × Keeps z old new × IsNotLive z old name at
-TakesPrepared z old name (Err (InUse other)) new = (other ≡ name) × (found : FindsWhere (StoodWithLog z old) z old new None (Txn name)) × IsInUse found.world name
+TakesPrepared z old name (Err (InUse other)) new = (other ≡ name) × (found : FindsWhere (StoodWithBoth z old) z old new None (Txn name)) × IsInUse found.world name
 TakesPrepared z old name (Err Memory) new = Keeps z old new
 TakesPrepared z old name (Err other) new = ⊥
 

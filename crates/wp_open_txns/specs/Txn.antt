@@ -19,28 +19,31 @@ pub record PreparedState : Type 0 where
   pub number : ℕ
   pub batch : List Change
 
--- the seat has a transaction of this name, which locked just the keys that these changes change
-pub record HasLocked (s : SeatState) (name : List ℕ) (batch : List Change) : Type 0 where
-  pub transaction : Transaction
-  pub has : finite.get s.knows.participant.transactions name ≡ Some transaction
-  pub keys : (key : List ℕ) → set.contains transaction.locked key ≡ is_changed batch key
+-- what it is but for its number
+abbrev pub without_number : PreparedState → OpenState
+without_number t = record { name = t.name; batch = t.batch }
 
--- The seat has a transaction of this name with these changes, which locked just the keys that they change. No undecided prepare
--- has the name.
-pub record HasOpen (s : SeatState) (name : List ℕ) (batch : List Change) : Type 0 where
+-- the seat has a transaction of this name, which locked just the keys that its changes change
+pub record HasLocked (s : SeatState) (t : OpenState) : Type 0 where
   pub transaction : Transaction
-  pub has : finite.get s.knows.participant.transactions name ≡ Some transaction
-  pub batch_is : transaction.batch ≡ batch
-  pub keys : (key : List ℕ) → set.contains transaction.locked key ≡ is_changed batch key
-  pub noted : IsIn (unprepared name) s.knows.notes
+  pub has : finite.get s.knows.participant.transactions t.name ≡ Some transaction
+  pub keys : (key : List ℕ) → set.contains transaction.locked key ≡ is_changed t.batch key
 
--- The seat has a transaction of this name with these changes, which locked just the keys that they change. It is the undecided prepare
--- with this number, which the seat has seen with just these changes.
-pub record HasPrepared (s : SeatState) (name : List ℕ) (number : ℕ) (batch : List Change) : Type 0 where
+-- The seat has this transaction, which locked just the keys that its changes change. No undecided prepare has its name.
+pub record HasOpen (s : SeatState) (t : OpenState) : Type 0 where
   pub transaction : Transaction
-  pub has : finite.get s.knows.participant.transactions name ≡ Some transaction
-  pub batch_is : transaction.batch ≡ batch
-  pub keys : (key : List ℕ) → set.contains transaction.locked key ≡ is_changed batch key
-  pub noted : IsIn (undecided_at name number) s.knows.notes
-  pub seen : number ≤ length s.knows.participant.seen
-  pub stands : entry_at s.knows.participant.seen number ≡ Some (Prepare name batch)
+  pub has : finite.get s.knows.participant.transactions t.name ≡ Some transaction
+  pub batch_is : transaction.batch ≡ t.batch
+  pub keys : (key : List ℕ) → set.contains transaction.locked key ≡ is_changed t.batch key
+  pub noted : IsIn (unprepared t.name) s.knows.notes
+
+-- The seat has this transaction, which locked just the keys that its changes change. It is the undecided prepare with its number,
+-- which the seat has seen with just these changes.
+pub record HasPrepared (s : SeatState) (t : PreparedState) : Type 0 where
+  pub transaction : Transaction
+  pub has : finite.get s.knows.participant.transactions t.name ≡ Some transaction
+  pub batch_is : transaction.batch ≡ t.batch
+  pub keys : (key : List ℕ) → set.contains transaction.locked key ≡ is_changed t.batch key
+  pub noted : IsIn (undecided_at t.name t.number) s.knows.notes
+  pub seen : t.number ≤ length s.knows.participant.seen
+  pub stands : entry_at s.knows.participant.seen t.number ≡ Some (Prepare t.name t.batch)

@@ -2,7 +2,7 @@
 ghost use Rattle.std.specs.Prelude.{◌≡◌, [], length, OnOk};
 ghost use Rattle.wp_core.specs.Tables.{locks};
 ghost use Rattle.wp_core.specs.World.{World};
-ghost use Rattle.wp_shared.specs.Seats.{IsFree, Stands};
+ghost use Rattle.wp_shared.specs.Seats.{IsFree, Stands, seen_by};
 ghost use Rattle.wp_shared.specs.Turns.{HoldsTurn};
 ghost use Rattle.wp_open_txns.specs.Calls.{WasHistory, Tells, Hears};
 ghost use Rattle.wp_open_txns.specs.Under.{TellsUnder, HearsUnder};
@@ -27,7 +27,7 @@ fn tell_under<D: Disk + Drop>(
 ) -> Result<(), TxnError>
     requires seat { HoldsTurn store.now seat.old (locks tables.old) [] [] }
     requires label { told ≡ label.now }
-    requires seen { published ≡ length seat.old.knows.participant.seen }
+    requires seen { published ≡ length (seen_by seat.old) }
     ensures answered { TellsUnder tables.old seat.old label.now result tables.new seat.new }
     ensures holds { HoldsTurn store.now seat.new (locks tables.new) [] [] }
     ensures stands { OnOk result ((w : World) × Stands store.now seat.new w) }
@@ -68,7 +68,7 @@ fn hear_under<D: Disk + Drop>(
     requires { HoldsTurn store.now seat.old (locks tables.now) [] [] }
     ensures answered { HearsUnder tables.now seat.old label.now result seat.new }
     ensures holds { HoldsTurn store.now seat.new (locks tables.now) [] [] }
-    ensures published { OnOk result (WasHistory store.now seat.old seat.new.knows.participant.seen) }
+    ensures published { OnOk result (WasHistory store.now seat.old (seen_by seat.new)) }
 {
     match tables.told(label) {
         Some(number) => Ok(hear_label(store, seat, tables, label, number)),

@@ -3,10 +3,8 @@ ghost use Rattle.std.specs.Prelude.{◌≡◌, [], true, false, is_some};
 ghost use Rattle.std.specs.FinSet as set;
 ghost use Rattle.std.specs.FinMap as finite;
 ghost use Rattle.wp_core.specs.Tables.{locks};
-ghost use Rattle.wp_model.specs.Batch.{key_of};
-ghost use Rattle.wp_model.specs.declared.change.Change.TheVariants.{Put, Del};
 ghost use Rattle.wp_model.specs.declared.holder.Holder.TheVariants.{Txn};
-ghost use Rattle.wp_shared.specs.Seats.{IsFree};
+ghost use Rattle.wp_shared.specs.Seats.{IsFree, participant_of};
 ghost use Rattle.wp_shared.specs.Turns.{HoldsTurn};
 ghost use Rattle.wp_open_txns.specs.Actors.{transaction_in};
 ghost use Rattle.wp_open_txns.specs.Calls.{Changes};
@@ -21,7 +19,7 @@ use crate::txn::OpenTxn;
 use std::alloc::Global;
 use std::sync::Wait;
 use wp_locks::Locks;
-use wp_model::{Batch, Change, Holder, Key, Name, SetError, Value};
+use wp_model::{Batch, Change, Holder, Key, Name, SetError};
 use wp_outside::Disk;
 use wp_shared::{Seat, Shared};
 
@@ -49,7 +47,7 @@ fn lock<D: Disk + Drop>(
     requires seat { HoldsTurn store.now seat.old (locks tables.old) [] [] }
     requires holder { holder ≡ Txn name.now }
     requires has { is_some (finite.get seat.old.knows.participant.transactions name.now) ≡ true }
-    requires unlocked { set.contains (transaction_in seat.old.knows.participant name.now).locked key.now ≡ false }
+    requires unlocked { set.contains (transaction_in (participant_of seat.old) name.now).locked key.now ≡ false }
     ensures answered { LocksKey tables.old seat.old name.now key.now result tables.new seat.new }
     ensures holds { HoldsTurn store.now seat.new (locks tables.new) [] [] }
 {
@@ -68,7 +66,7 @@ fn hold_key<D: Disk + Drop, R: Wait>(
     key: &Key,
 ) -> Result<(), TxnError>
     requires free { IsFree store.now.table seat.old }
-    requires open { HasOpen seat.old txn.now.name txn.now.batch }
+    requires open { HasOpen seat.old txn.now }
     ensures { HoldsKey store.now seat.old txn.now key.now result seat.new }
 {
     if txn.batch.get(key).is_some() {
@@ -81,59 +79,24 @@ fn hold_key<D: Disk + Drop, R: Wait>(
     outcome
 }
 
-/// Adds the change of the key to the transaction's batch.
-fn add<D: Disk + Drop, R: Wait>(
+/// Takes the change into the transaction's batch, in place of an earlier one to its key. The key is locked for the transaction until
+/// that is decided or dropped.
+pub fn stage<D: Disk + Drop, R: Wait>(
     store: &Shared<D>,
     rt: &R,
     alloc: Global,
     seat: &mut Seat<D>,
     txn: &mut OpenTxn,
-    key: &Key,
     change: Change,
 ) -> Result<(), TxnError>
     requires free { IsFree store.now.table seat.old }
-    requires open { HasOpen seat.old txn.old.name txn.old.batch }
-    requires key { key_of change ≡ key.now }
+    requires open { HasOpen seat.old txn.old }
     ensures { Changes store.now seat.old txn.old change result seat.new txn.new }
 {
+    let key = change.key().copy(alloc)?;
     let batch = with_change(alloc, &txn.batch, change)?;
-    hold_key(store, rt, alloc, seat, txn, key)?;
+    hold_key(store, rt, alloc, seat, txn, &key)?;
     set_batch(store, seat, &txn.name, &batch);
     txn.batch = batch;
     Ok(())
-}
-
-/// Gives the key the value, in the transaction's batch. The key is locked for the transaction until that is decided or dropped.
-pub fn put<D: Disk + Drop, R: Wait>(
-    store: &Shared<D>,
-    rt: &R,
-    alloc: Global,
-    seat: &mut Seat<D>,
-    txn: &mut OpenTxn,
-    key: &Key,
-    value: &Value,
-) -> Result<(), TxnError>
-    requires free { IsFree store.now.table seat.old }
-    requires open { HasOpen seat.old txn.old.name txn.old.batch }
-    ensures { Changes store.now seat.old txn.old (Put key.now value.now) result seat.new txn.new }
-{
-    let change = Change::Put(key.copy(alloc)?, value.copy(alloc)?);
-    add(store, rt, alloc, seat, txn, key, change)
-}
-
-/// Deletes the key, in the transaction's batch. It is locked as `put` locks it.
-pub fn del<D: Disk + Drop, R: Wait>(
-    store: &Shared<D>,
-    rt: &R,
-    alloc: Global,
-    seat: &mut Seat<D>,
-    txn: &mut OpenTxn,
-    key: &Key,
-) -> Result<(), TxnError>
-    requires free { IsFree store.now.table seat.old }
-    requires open { HasOpen seat.old txn.old.name txn.old.batch }
-    ensures { Changes store.now seat.old txn.old (Del key.now) result seat.new txn.new }
-{
-    let change = Change::Del(key.copy(alloc)?);
-    add(store, rt, alloc, seat, txn, key, change)
 }

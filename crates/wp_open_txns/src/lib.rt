@@ -4,7 +4,7 @@
 //! it does it does while it holds the turn that guards the tables concerned, by steps of the machine of `wp_core`; its
 //! clause says what the seat's actor then has and remembers, and of a refusal also what the tables held as it found them.
 //!
-//! - `begin` claims a name for an open transaction. `put` and `del` add a change to its batch, and lock the change's key first
+//! - `begin` claims a name for an open transaction. `stage` takes a change into its batch, and locks the change's key first
 //!   where the batch has none of it. `abandon` drops it, with its name and its keys.
 //! - `leave` gives up a prepared transaction, whose name stays live and whose keys stay held, and `take_prepared` takes one that
 //!   nobody has.
@@ -26,7 +26,7 @@ mod steps;
 mod txn;
 
 pub use board::{hear, tell};
-pub use changes::{del, put};
+pub use changes::stage;
 pub use error::{Refused, TxnError};
 pub use locking::{free, lock_for};
 pub use names::{abandon, begin};

@@ -11,9 +11,10 @@ ghost use Rattle.wp_open_txns.specs.Under.{LocksFor};
 
 use crate::error::TxnError;
 use crate::steps::{find_holder, free_transaction};
+use crate::txn::OpenTxn;
 use std::sync::Wait;
 use wp_locks::{LockError, Locks};
-use wp_model::{Batch, Holder, Key, Name};
+use wp_model::{Holder, Key};
 use wp_outside::Disk;
 use wp_shared::{Seat, Shared};
 
@@ -42,18 +43,13 @@ pub fn lock_for<D: Disk + Drop>(
 
 /// Frees the name of a transaction that is no undecided prepare, and its keys, which are those that its batch changes. It takes no
 /// memory.
-pub fn free<D: Disk + Drop, R: Wait>(
-    store: &Shared<D>,
-    rt: &R,
-    seat: &mut Seat<D>,
-    name: Name,
-    batch: Batch,
-)
+pub fn free<D: Disk + Drop, R: Wait>(store: &Shared<D>, rt: &R, seat: &mut Seat<D>, txn: OpenTxn)
     requires free { IsFree store.now.table seat.old }
-    requires has { HasLocked seat.old name batch }
-    requires noted { IsIn (unprepared name) seat.old.knows.notes }
-    ensures { Frees store.now seat.old seat.new name }
+    requires has { HasLocked seat.old txn }
+    requires noted { IsIn (unprepared txn.name) seat.old.knows.notes }
+    ensures { Frees store.now seat.old seat.new txn.name }
 {
+    let OpenTxn { name, batch } = txn;
     let mut tables = store.take_turn::<Locks, R>(rt, seat);
     free_transaction(store, seat, &tables, &name);
     tables.free_name(&name);

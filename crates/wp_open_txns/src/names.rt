@@ -72,10 +72,9 @@ pub fn begin<D: Disk + Drop, R: Wait>(
 /// Drops an open transaction: its name and its keys are free again. It takes no memory.
 pub fn abandon<D: Disk + Drop, R: Wait>(store: &Shared<D>, rt: &R, seat: &mut Seat<D>, txn: OpenTxn)
     requires free { IsFree store.now.table seat.old }
-    requires open { HasOpen seat.old txn.name txn.batch }
+    requires open { HasOpen seat.old txn }
     ensures gives_up { GivesUp store.now seat.old seat.new txn.name }
     ensures freed { LocksWere store.now seat.new (IsFreeName txn.name) }
 {
-    let OpenTxn { name, batch } = txn;
-    free(store, rt, seat, name, batch);
+    free(store, rt, seat, txn);
 }

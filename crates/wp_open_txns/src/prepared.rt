@@ -27,7 +27,7 @@ pub fn leave<D: Disk + Drop, R: Wait>(
     txn: PreparedTxn,
 )
     requires free { IsFree store.now.table seat.old }
-    requires prepared { HasPrepared seat.old txn.name txn.number txn.batch }
+    requires prepared { HasPrepared seat.old txn }
     ensures gives_up { GivesUp store.now seat.old seat.new txn.name }
     ensures left { LocksWere store.now seat.new (λ t. finite.get t.names txn.name ≡ Some None) }
 {

@@ -14,7 +14,7 @@ ghost use Rattle.wp_core.specs.Tables.{locks};
 ghost use Rattle.wp_core.specs.Views.{unprepared};
 ghost use Rattle.wp_core.specs.World.{World};
 ghost use Rattle.wp_shared.specs.Notes.{seat_of};
-ghost use Rattle.wp_shared.specs.Seats.{Stands};
+ghost use Rattle.wp_shared.specs.Seats.{Stands, held_by, participant_of, seen_by};
 ghost use Rattle.wp_open_txns.specs.Calls.{WasHistory};
 ghost use Rattle.wp_open_txns.specs.Actors.{transaction_in, with_claimed, with_found, with_locked, with_batch, with_told, with_heard};
 ghost use Rattle.wp_open_txns.specs.Turns.{IsWithout, TakesPrepare};
@@ -30,8 +30,8 @@ use wp_shared::{Seat, Shared};
 /// The seat claimed the name, which was not live. It still holds the tables as they were before.
 pub(crate) fn claim_name<D: Disk + Drop>(store: &Shared<D>, seat: &mut Seat<D>, name: &Name)
     requires seat { seat.old.table ≡ store.now.table }
-    requires free { (t : LockState) × IsIn (locks t) seat.old.knows.held × (finite.get t.names name.now ≡ None) }
-    ensures { (t : LockState) → IsIn (locks t) seat.old.knows.held → seat.new ≡ seat_of seat.old (with_claimed t name.now seat.old.knows) }
+    requires free { (t : LockState) × IsIn (locks t) (held_by seat.old) × (finite.get t.names name.now ≡ None) }
+    ensures { (t : LockState) → IsIn (locks t) (held_by seat.old) → seat.new ≡ seat_of seat.old (with_claimed t name.now seat.old.knows) }
 {
     store.make_about::<Brand, Name>(seat, name);
 }
@@ -44,9 +44,9 @@ pub(crate) fn find_name<D: Disk + Drop>(
     name: &Name,
 )
     requires seat { seat.old.table ≡ store.now.table }
-    requires held { IsIn (locks tables.now) seat.old.knows.held }
+    requires held { IsIn (locks tables.now) (held_by seat.old) }
     requires live { is_some (finite.get tables.now.names name.now) ≡ true }
-    ensures { (published : ℕ) × (length seat.old.knows.participant.seen ≤ published) × (seat.new ≡ seat_of seat.old (with_found tables.now published None (Txn name.now) seat.old.knows)) }
+    ensures { (published : ℕ) × (length (seen_by seat.old) ≤ published) × (seat.new ≡ seat_of seat.old (with_found tables.now published None (Txn name.now) seat.old.knows)) }
 {
     store.make_about::<Brand, Name>(seat, name);
 }
@@ -60,9 +60,9 @@ pub(crate) fn find_holder<D: Disk + Drop>(
     holder: &Holder,
 )
     requires seat { seat.old.table ≡ store.now.table }
-    requires held { IsIn (locks tables.now) seat.old.knows.held }
+    requires held { IsIn (locks tables.now) (held_by seat.old) }
     requires holds { finite.get tables.now.keys key.now ≡ Some holder.now }
-    ensures { (published : ℕ) × (length seat.old.knows.participant.seen ≤ published) × (seat.new ≡ seat_of seat.old (with_found tables.now published (Some key.now) holder.now seat.old.knows)) }
+    ensures { (published : ℕ) × (length (seen_by seat.old) ≤ published) × (seat.new ≡ seat_of seat.old (with_found tables.now published (Some key.now) holder.now seat.old.knows)) }
 {
     store.make_about::<Brand, (&Key, &Holder)>(seat, &(key, holder));
 }
@@ -76,10 +76,10 @@ pub(crate) fn lock_key<D: Disk + Drop>(
 )
     requires seat { seat.old.table ≡ store.now.table }
     requires has { is_some (finite.get seat.old.knows.participant.transactions name.now) ≡ true }
-    requires unlocked { set.contains (transaction_in seat.old.knows.participant name.now).locked key.now ≡ false }
-    requires free { (t : LockState) × IsIn (locks t) seat.old.knows.held × (is_free_for (finite.get t.keys key.now) (Txn name.now) ≡ true) }
-    ensures locked { (t : LockState) → IsIn (locks t) seat.old.knows.held → seat.new ≡ seat_of seat.old (with_locked t name.now key.now seat.old.knows) }
-    ensures nobodys { (t : LockState) → IsIn (locks t) seat.old.knows.held → finite.get t.keys key.now ≡ None }
+    requires unlocked { set.contains (transaction_in (participant_of seat.old) name.now).locked key.now ≡ false }
+    requires free { (t : LockState) × IsIn (locks t) (held_by seat.old) × (is_free_for (finite.get t.keys key.now) (Txn name.now) ≡ true) }
+    ensures locked { (t : LockState) → IsIn (locks t) (held_by seat.old) → seat.new ≡ seat_of seat.old (with_locked t name.now key.now seat.old.knows) }
+    ensures nobodys { (t : LockState) → IsIn (locks t) (held_by seat.old) → finite.get t.keys key.now ≡ None }
 {
     store.make_about::<Brand, (&Name, &Key)>(seat, &(name, key));
 }
@@ -108,11 +108,11 @@ pub(crate) fn free_transaction<D: Disk + Drop>(
     name: &Name,
 )
     requires seat { seat.old.table ≡ store.now.table }
-    requires held { IsIn (locks tables.now) seat.old.knows.held }
+    requires held { IsIn (locks tables.now) (held_by seat.old) }
     requires has { is_some (finite.get seat.old.knows.participant.transactions name.now) ≡ true }
     requires noted { IsIn (unprepared name.now) seat.old.knows.notes }
     ensures without { IsWithout seat.old seat.new (without_transaction tables.now name.now) name.now }
-    ensures keys { (key : List ℕ) → is_held_by tables.now (Txn name.now) key ≡ set.contains (transaction_in seat.old.knows.participant name.now).locked key }
+    ensures keys { (key : List ℕ) → is_held_by tables.now (Txn name.now) key ≡ set.contains (transaction_in (participant_of seat.old) name.now).locked key }
     ensures stands { (w : World) × Stands store.now seat.new w }
 {
     store.make_about::<Brand, Name>(seat, name);
@@ -126,8 +126,8 @@ pub(crate) fn leave_name<D: Disk + Drop>(
     txn: &PreparedTxn,
 )
     requires seat { seat.old.table ≡ store.now.table }
-    requires held { IsIn (locks tables.now) seat.old.knows.held }
-    requires prepared { HasPrepared seat.old txn.now.name txn.now.number txn.now.batch }
+    requires held { IsIn (locks tables.now) (held_by seat.old) }
+    requires prepared { HasPrepared seat.old txn.now }
     ensures without { IsWithout seat.old seat.new (with_name tables.now txn.now.name None) txn.now.name }
     ensures live { is_some (finite.get tables.now.names txn.now.name) ≡ true }
     ensures stands { (w : World) × Stands store.now seat.new w }
@@ -138,8 +138,8 @@ pub(crate) fn leave_name<D: Disk + Drop>(
 /// The seat took the undecided prepare of this name, which nobody had. It still holds the tables as they were before.
 pub(crate) fn take_name<D: Disk + Drop>(store: &Shared<D>, seat: &mut Seat<D>, name: &Name)
     requires seat { seat.old.table ≡ store.now.table }
-    requires left { (t : LockState) × IsIn (locks t) seat.old.knows.held × (finite.get t.names name.now ≡ Some None) }
-    ensures { (t : LockState) → IsIn (locks t) seat.old.knows.held → TakesPrepare seat.old t name.now seat.new }
+    requires left { (t : LockState) × IsIn (locks t) (held_by seat.old) × (finite.get t.names name.now ≡ Some None) }
+    ensures { (t : LockState) → IsIn (locks t) (held_by seat.old) → TakesPrepare seat.old t name.now seat.new }
 {
     store.make_about::<Brand, Name>(seat, name);
 }
@@ -147,8 +147,8 @@ pub(crate) fn take_name<D: Disk + Drop>(store: &Shared<D>, seat: &mut Seat<D>, n
 /// The seat told under the label how much it has seen. It still holds the tables as they were before.
 pub(crate) fn tell_label<D: Disk + Drop>(store: &Shared<D>, seat: &mut Seat<D>, label: &Name)
     requires seat { seat.old.table ≡ store.now.table }
-    requires held { (t : LockState) × IsIn (locks t) seat.old.knows.held }
-    ensures told { (t : LockState) → IsIn (locks t) seat.old.knows.held → seat.new ≡ seat_of seat.old (with_told t label.now seat.old.knows) }
+    requires held { (t : LockState) × IsIn (locks t) (held_by seat.old) }
+    ensures told { (t : LockState) → IsIn (locks t) (held_by seat.old) → seat.new ≡ seat_of seat.old (with_told t label.now seat.old.knows) }
     ensures stands { (w : World) × Stands store.now seat.new w }
 {
     store.make_about::<Brand, Name>(seat, label);
@@ -163,11 +163,11 @@ pub(crate) fn hear_label<D: Disk + Drop>(
     number: Seq,
 ) -> Seq
     requires seat { seat.old.table ≡ store.now.table }
-    requires held { IsIn (locks tables.now) seat.old.knows.held }
+    requires held { IsIn (locks tables.now) (held_by seat.old) }
     requires there { finite.get tables.now.labels label.now ≡ Some number }
-    ensures heard { (history : List Entry) × StartsWith history seat.old.knows.participant.seen × (number ≤ length history) × (result ≡ length history)
+    ensures heard { (history : List Entry) × StartsWith history (seen_by seat.old) × (number ≤ length history) × (result ≡ length history)
         × (seat.new ≡ seat_of seat.old (with_heard history label.now number seat.old.knows)) }
-    ensures published { WasHistory store.now seat.old seat.new.knows.participant.seen }
+    ensures published { WasHistory store.now seat.old (seen_by seat.new) }
 {
     store.make_about::<Brand, (&Name, Seq)>(seat, &(label, number))
 }

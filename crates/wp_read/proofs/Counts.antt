@@ -7,7 +7,7 @@ use Rattle.std.proofs.lemmas.List.Sums.{fold-append}
 use Rattle.wp_model.specs.Snapshots as snaps
 use Rattle.wp_model.specs.Snapshots.{Snapshots, IsLive, after_register, NoOldCommits}
 use Rattle.wp_core.specs.Changes.{with_registered, with_released}
-use Rattle.wp_core.proofs.Tests.{same_some}
+use Rattle.wp_model.proofs.Tests.{same_some}
 use Rattle.wp_read.specs.Registers.{AreCounted, with_each}
 use Rattle.wp_read.proofs.Registers.{placed_there, placed_else, registered_and_released, kept_by_register}
 

@@ -13,8 +13,8 @@ use Rattle.wp_core.specs.Lists.{IsIn}
 use Rattle.wp_core.specs.Reading.{Registration, reads}
 use Rattle.wp_core.specs.Sound.Reader.{IsRight}
 use Rattle.wp_core.specs.World.{World}
-use Rattle.wp_core.proofs.ReaderOrder.{At, asked}
-use Rattle.wp_core.proofs.Tests.{none_some}
+use Rattle.wp_judge.proofs.ReaderOrder.{At, asked}
+use Rattle.wp_model.proofs.Tests.{none_some}
 use Rattle.wp_shared.specs.Calls.{Continues}
 use Rattle.wp_shared.specs.Notes.{noting_only}
 use Rattle.wp_shared.specs.Seats.{SharedState, SeatState, IsFree}

@@ -14,7 +14,7 @@ use Rattle.wp_history_laws.proofs.Growth.{by_growth}
 use Rattle.wp_history_laws.proofs.Held.{not_free, free_key}
 use Rattle.wp_core.proofs.HistoryGrows.{none_is, undecided_before_or_now, batch_at_grown, newest_kept, prior_same}
 use Rattle.wp_core.proofs.OneHolder.{holder_is}
-use Rattle.wp_core.proofs.Tests.{same_some}
+use Rattle.wp_model.proofs.Tests.{same_some}
 
 -- what comes next and does not decide the prepare commits no change of its keys
 commits_none : (history : List Entry) → IsLegal history → (entry : Entry) → IsLegalNext history entry → (p : ℕ) (key : List ℕ) → is_undecided history p ≡ true → is_changed (batch_at history p) key ≡ true → decides p entry ≡ false → change_to (changes_of history entry) key ≡ None

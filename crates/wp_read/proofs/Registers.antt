@@ -20,7 +20,7 @@ use Rattle.wp_core.specs.Tables.{prepared, snapshots}
 use Rattle.wp_core.specs.World.{Actor, World}
 use Rattle.wp_core.proofs.HistoryLaws.{is_equal}
 use Rattle.wp_model.proofs.Numbers.{get_inserted, get_inserted_else, get_removed, get_removed_else}
-use Rattle.wp_core.proofs.Tests.{both}
+use Rattle.wp_model.proofs.Tests.{both}
 use Rattle.wp_rule.specs.Words.{Place}
 use Rattle.wp_rule.specs.Moves.{MayMake, Moved, first_of}
 use Rattle.wp_rule.proofs.Forgets.{EndsNothing, forgets_nothing}

@@ -25,7 +25,7 @@ use Rattle.wp_merge.proofs.Sorted.{in_order_sorted, at_sorted}
 use Rattle.wp_rule.specs.Words.{IsAt}
 use Rattle.wp_rule.proofs.Knows.{at_sound, seen_is}
 use Rattle.wp_store.specs.Store.{of_key, newest_of}
-use Rattle.wp_shared.specs.Stock.{StockState, store_state}
+use Rattle.wp_parts.specs.Stock.{StockState, store_state}
 use Rattle.wp_shared.specs.Seats.{SharedState, SeatState, Stands, place_at}
 use Rattle.wp_read.specs.Values.{ShowsValue}
 use Rattle.wp_read.proofs.Readings.{right_before, registered_low}

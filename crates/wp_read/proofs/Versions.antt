@@ -18,7 +18,7 @@ use Rattle.wp_core.specs.Lists.{IsIn}
 use Rattle.wp_core.specs.Tables.{up_to}
 use Rattle.wp_core.proofs.Frames.{in_filter}
 use Rattle.wp_core.proofs.PublishesVersions.{up_to_within, up_to_past}
-use Rattle.wp_core.proofs.Tests.{same_some, none_some}
+use Rattle.wp_model.proofs.Tests.{same_some, none_some}
 use Rattle.wp_store.specs.Store.{of_key}
 use Rattle.wp_read.specs.Values.{NoneCommitted}
 

@@ -9,7 +9,7 @@ ghost use Rattle.wp_core.specs.Lists.{IsIn};
 ghost use Rattle.wp_core.specs.Reading.{Registration};
 ghost use Rattle.wp_core.specs.Tables as table;
 ghost use Rattle.wp_shared.specs.Calls.{Continues, GoesOnWith};
-ghost use Rattle.wp_shared.specs.Seats.{IsFree};
+ghost use Rattle.wp_shared.specs.Seats.{IsFree, held_by, participant_of, seen_by};
 ghost use Rattle.wp_shared.specs.Turns.{HoldsTurn};
 ghost use Rattle.wp_read.specs.AtOnce.{BeginsRead, IsBegun, IsNotOfStore, ReadsOn, kept_by};
 ghost use Rattle.wp_read.specs.Registers.{Unregisters, registered_by};
@@ -45,7 +45,7 @@ fn newest_value<D: Disk + Drop, R: Wait>(
     requires holds { (m : Snapshots) × HoldsTurn store.now seat.old (table.snapshots m) [] [] }
     requires registered { IsIn snapshot.now seat.old.knows.participant.registered }
     ensures goes { ReadsOn seat.old seat.new }
-    ensures value { IfOk result (λ found. MatchOption found (Unit {0}) (λ value. value ≡ value_at seat.old.knows.participant.seen key.now snapshot.now.number)) }
+    ensures value { IfOk result (λ found. MatchOption found (Unit {0}) (λ value. value ≡ value_at (seen_by seat.old) key.now snapshot.now.number)) }
 {
     let found = copy_newest(store, rt, seat, key, FIRST_COPIES)?;
     if found.as_slice().is_empty() {
@@ -62,9 +62,9 @@ fn newest_value<D: Disk + Drop, R: Wait>(
 fn give_back<D: Disk + Drop>(store: &Shared<D>, seat: &mut Seat<D>, snapshot: Snapshot)
     requires seat { seat.old.table ≡ store.now.table }
     requires last { (front : List Registration) × (seat.old.knows.participant.registered ≡ front ++ snapshot ∷ []) }
-    requires snapshots { (m : Snapshots) × IsIn (table.snapshots m) seat.old.knows.held }
+    requires snapshots { (m : Snapshots) × IsIn (table.snapshots m) (held_by seat.old) }
     ensures { (front : List Registration) (m : Snapshots) → seat.old.knows.participant.registered ≡ front ++ snapshot ∷ []
-        → IsIn (table.snapshots m) seat.old.knows.held → Unregisters seat.old seat.new front [] snapshot m }
+        → IsIn (table.snapshots m) (held_by seat.old) → Unregisters seat.old seat.new front [] snapshot m }
 {
     unregister_last(store, seat);
     let Snapshot {
@@ -82,9 +82,9 @@ fn begin_in<D: Disk + Drop, R: Wait>(
     snaps: &mut Snaps,
 ) -> Result<Begun, AllocError>
     requires holds { HoldsTurn store.now seat.old (table.snapshots snaps.old) [] [] }
-    ensures goes { GoesOnWith IsNotOfStore seat.old seat.new (registered_by kept_by result seat.old.knows.participant) }
+    ensures goes { GoesOnWith IsNotOfStore seat.old seat.new (registered_by kept_by result (participant_of seat.old)) }
     ensures holds { HoldsTurn store.now seat.new (table.snapshots snaps.new) [] [] }
-    ensures begun { IfOk result (IsBegun store.now seat.old seat.new.knows.participant.seen key.now) }
+    ensures begun { IfOk result (IsBegun store.now seat.old (seen_by seat.new) key.now) }
     ensures kept { NoOldCommits snaps.new → NoOldCommits snaps.old }
 {
     let number = register(store, seat, Some(NOTHING_KNOWN));
@@ -121,7 +121,7 @@ pub fn begin_read<D: Disk + Drop, R: Wait>(
 ) -> Result<Begun, AllocError>
     requires { IsFree store.now.table seat.old }
     ensures begun { IfOk result (BeginsRead store.now seat.old seat.new key.now) }
-    ensures refused { OnErr result (Continues store.now seat.old seat.new seat.old.knows.participant) }
+    ensures refused { OnErr result (Continues store.now seat.old seat.new (participant_of seat.old)) }
 {
     let mut snaps = store.take_turn::<Snaps, R>(rt, seat);
     let begun = begin_in(store, rt, seat, key, &mut snaps);

@@ -6,7 +6,7 @@ ghost use Rattle.wp_core.specs.Sound.Snapshots.{has_versions_at};
 ghost use Rattle.wp_judge.specs.declared.observed.Load as load;
 ghost use Rattle.wp_shared.specs.Calls.{Continues};
 ghost use Rattle.wp_shared.specs.Notes.{noting_only};
-ghost use Rattle.wp_shared.specs.Seats.{IsFree};
+ghost use Rattle.wp_shared.specs.Seats.{IsFree, participant_of, seen_by};
 ghost use Rattle.wp_read.specs.Decides.{Looks, DecidesFree};
 ghost use Rattle.wp_read.specs.Reads.{Loads, IsNext, KeepsNotes};
 
@@ -31,7 +31,7 @@ pub fn look<D: Disk + Drop>(
 ) -> Look
     requires free { IsFree store.now.table seat.old }
     requires registered { IsIn snapshot.now seat.old.knows.participant.registered }
-    requires version { p ≤ snapshot.now.number → has_versions_at seat.old.knows.participant.seen p ≡ true }
+    requires version { p ≤ snapshot.now.number → has_versions_at (seen_by seat.old) p ≡ true }
     ensures { Looks store.now seat.old seat.new p snapshot.now result }
 {
     let bits = store.bits();
@@ -62,7 +62,7 @@ pub fn decide_free<D: Disk + Drop>(
 ) -> Free
     requires seat { seat.old.table ≡ store.now.table }
     requires registered { IsIn snapshot.now seat.old.knows.participant.registered }
-    requires version { p ≤ snapshot.now.number → has_versions_at seat.old.knows.participant.seen p ≡ true }
+    requires version { p ≤ snapshot.now.number → has_versions_at (seen_by seat.old) p ≡ true }
     ensures { DecidesFree store.now seat.old seat.new p snapshot.now result }
 {
     let bits = store.bits();
@@ -143,9 +143,9 @@ fn decide<D: Disk + Drop, R: Wait>(
     requires free { IsFree store.now.table seat.old }
     requires next { (which : load.Load) × IsNext seat.old start which }
     requires cells { (2 ^ start.bits ≡ store.now.cells) × (start.bits ≤ 16) }
-    ensures continues { Continues store.now seat.old seat.new seat.old.knows.participant }
-    ensures same { seat.new.knows.participant ≡ seat.old.knows.participant }
-    ensures right { IsRight seat.old.knows.participant.seen start.version start.snapshot result }
+    ensures continues { Continues store.now seat.old seat.new (participant_of seat.old) }
+    ensures same { participant_of seat.new ≡ participant_of seat.old }
+    ensures right { IsRight (seen_by seat.old) start.version start.snapshot result }
 {
     let mut seen = start;
     'loads: loop {
@@ -166,10 +166,10 @@ pub fn visible<D: Disk + Drop, R: Wait>(
 ) -> bool
     requires free { IsFree store.now.table seat.old }
     requires registered { IsIn snapshot.now seat.old.knows.participant.registered }
-    requires version { p ≤ snapshot.now.number → has_versions_at seat.old.knows.participant.seen p ≡ true }
-    ensures continues { Continues store.now seat.old seat.new seat.old.knows.participant }
-    ensures same { seat.new.knows.participant ≡ seat.old.knows.participant }
-    ensures right { IsRight seat.old.knows.participant.seen p snapshot.now.number result }
+    requires version { p ≤ snapshot.now.number → has_versions_at (seen_by seat.old) p ≡ true }
+    ensures continues { Continues store.now seat.old seat.new (participant_of seat.old) }
+    ensures same { participant_of seat.new ≡ participant_of seat.old }
+    ensures right { IsRight (seen_by seat.old) p snapshot.now.number result }
     ensures above { snapshot.now.number < p → result ≡ false }
 {
     match decide_free(store, seat, p, snapshot) {

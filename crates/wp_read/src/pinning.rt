@@ -5,7 +5,7 @@ ghost use Rattle.wp_core.specs.Lists.{IsIn};
 ghost use Rattle.wp_core.specs.Tables as table;
 ghost use Rattle.wp_core.specs.Views.{live_listed};
 ghost use Rattle.wp_shared.specs.Calls.{Continues};
-ghost use Rattle.wp_shared.specs.Seats.{IsFree};
+ghost use Rattle.wp_shared.specs.Seats.{IsFree, participant_of, seen_by};
 ghost use Rattle.wp_shared.specs.Turns.{HoldsTurn};
 ghost use Rattle.wp_read.specs.Registers.{AreCounted, AreLive, ChangesSnapshots, IsPinned, again, numbers_of, registered_by, with_each};
 
@@ -103,9 +103,9 @@ fn pin_in<D: Disk + Drop>(
     snaps: &mut Snaps,
 ) -> Result<Pinned, AllocError>
     requires holds { HoldsTurn store.now seat.old (table.snapshots snaps.old) (table.prepared tables.now ∷ []) (1 ∷ []) }
-    ensures changes { ChangesSnapshots store.now seat.old seat.new (registered_by (λ p. p.floor ∷ p.live.items) result seat.old.knows.participant) snaps.new (table.prepared tables.now ∷ []) (1 ∷ []) }
-    ensures number { IfOk result (λ p. p.floor.number ≡ length seat.new.knows.participant.seen) }
-    ensures pinned { IfOk result (λ p. IsPinned store.now seat.old seat.new.knows.participant.seen p.floor p.live.items) }
+    ensures changes { ChangesSnapshots store.now seat.old seat.new (registered_by (λ p. p.floor ∷ p.live.items) result (participant_of seat.old)) snaps.new (table.prepared tables.now ∷ []) (1 ∷ []) }
+    ensures number { IfOk result (λ p. p.floor.number ≡ length (seen_by seat.new)) }
+    ensures pinned { IfOk result (λ p. IsPinned store.now seat.old (seen_by seat.new) p.floor p.live.items) }
     ensures listed { IfOk result (λ p. IsIn (live_listed p.floor.number (numbers_of p.live.items)) seat.new.knows.notes) }
     ensures kept { NoOldCommits snaps.new → NoOldCommits snaps.old }
 {
@@ -133,11 +133,11 @@ pub fn pin_all<D: Disk + Drop, R: Wait>(
     seat: &mut Seat<D>,
 ) -> Result<Pinned, AllocError>
     requires { IsFree store.now.table seat.old }
-    ensures registered { IfOk result (λ p. Continues store.now seat.old seat.new (record seat.old.knows.participant { registered = seat.old.knows.participant.registered ++ p.floor ∷ p.live.items })) }
-    ensures number { IfOk result (λ p. p.floor.number ≡ length seat.new.knows.participant.seen) }
-    ensures pinned { IfOk result (λ p. IsPinned store.now seat.old seat.new.knows.participant.seen p.floor p.live.items) }
+    ensures registered { IfOk result (λ p. Continues store.now seat.old seat.new (record (participant_of seat.old) { registered = seat.old.knows.participant.registered ++ p.floor ∷ p.live.items })) }
+    ensures number { IfOk result (λ p. p.floor.number ≡ length (seen_by seat.new)) }
+    ensures pinned { IfOk result (λ p. IsPinned store.now seat.old (seen_by seat.new) p.floor p.live.items) }
     ensures listed { IfOk result (λ p. IsIn (live_listed p.floor.number (numbers_of p.live.items)) seat.new.knows.notes) }
-    ensures refused { OnErr result (Continues store.now seat.old seat.new seat.old.knows.participant) }
+    ensures refused { OnErr result (Continues store.now seat.old seat.new (participant_of seat.old)) }
 {
     let tables = store.take_turn::<Prepared, R>(rt, seat);
     let mut snaps = store.take_turn::<Snaps, R>(rt, seat);

@@ -4,7 +4,7 @@ ghost use Rattle.wp_model.specs.History.{newest};
 ghost use Rattle.wp_model.specs.Legal.{change_that_leaves, prior};
 ghost use Rattle.wp_core.specs.Lists.{IsIn};
 ghost use Rattle.wp_shared.specs.Calls.{Continues};
-ghost use Rattle.wp_shared.specs.Seats.{IsFree};
+ghost use Rattle.wp_shared.specs.Seats.{IsFree, participant_of, seen_by};
 
 use crate::registration::Snapshot;
 use crate::values::get;
@@ -25,9 +25,9 @@ fn restoring<D: Disk + Drop, R: Wait>(
 ) -> Result<Change, AllocError>
     requires free { IsFree store.now.table seat.old }
     requires registered { IsIn snapshot.now seat.old.knows.participant.registered }
-    ensures continues { Continues store.now seat.old seat.new seat.old.knows.participant }
-    ensures same { seat.new.knows.participant ≡ seat.old.knows.participant }
-    ensures change { IfOk result (λ change. change ≡ change_that_leaves key.now (newest (take snapshot.now.number seat.new.knows.participant.seen) key.now)) }
+    ensures continues { Continues store.now seat.old seat.new (participant_of seat.old) }
+    ensures same { participant_of seat.new ≡ participant_of seat.old }
+    ensures change { IfOk result (λ change. change ≡ change_that_leaves key.now (newest (take snapshot.now.number (seen_by seat.new)) key.now)) }
 {
     let value = get(store, rt, seat, key, snapshot)?;
     let key = key.copy(alloc)?;
@@ -48,8 +48,8 @@ pub fn prior<D: Disk + Drop, R: Wait>(
 ) -> Result<Batch, AllocError>
     requires free { IsFree store.now.table seat.old }
     requires registered { IsIn snapshot.now seat.old.knows.participant.registered }
-    ensures continues { Continues store.now seat.old seat.new seat.old.knows.participant }
-    ensures prior { IfOk result (λ found. found ≡ prior (take snapshot.now.number seat.new.knows.participant.seen) batch.now) }
+    ensures continues { Continues store.now seat.old seat.new (participant_of seat.old) }
+    ensures prior { IfOk result (λ found. found ≡ prior (take snapshot.now.number (seen_by seat.new)) batch.now) }
 {
     let mut found = Batch::new(alloc);
     for change in batch.changes() {

@@ -11,7 +11,7 @@ ghost use Rattle.wp_core.specs.Turns.{snapshots_turn};
 ghost use Rattle.wp_core.specs.Views.{old_flag_stays};
 ghost use Rattle.wp_shared.specs.Calls.{Continues};
 ghost use Rattle.wp_shared.specs.Notes.{is_under, GoesOn};
-ghost use Rattle.wp_shared.specs.Seats.{IsFree};
+ghost use Rattle.wp_shared.specs.Seats.{IsFree, held_by, participant_of, seen_by};
 ghost use Rattle.wp_shared.specs.Turns.{HoldsTurn};
 ghost use Rattle.wp_read.specs.Registers.{ChangesSnapshots, HasLeast, IsTaken, IsTakenAt, IsTakenWithLeast, MayRegister, registered_by, registration_of};
 
@@ -61,13 +61,13 @@ pub fn register_in<D: Disk + Drop>(
     smallest: Option<Seq>,
 ) -> Result<Snapshot, AllocError>
     requires holds { (others : List Content) × (beneath : List ℕ) × HoldsTurn store.now seat.old (table.snapshots snaps.old) others beneath }
-    requires smallest { MayRegister seat.old.knows.held smallest }
+    requires smallest { MayRegister (held_by seat.old) smallest }
     ensures changes { (others : List Content) (beneath : List ℕ) → HoldsTurn store.now seat.old (table.snapshots snaps.old) others beneath
-        → ChangesSnapshots store.now seat.old seat.new (registered_by (λ s. s ∷ []) result seat.old.knows.participant) snaps.new others beneath }
-    ensures number { IfOk result (λ s. s.number ≡ length seat.new.knows.participant.seen) }
+        → ChangesSnapshots store.now seat.old seat.new (registered_by (λ s. s ∷ []) result (participant_of seat.old)) snaps.new others beneath }
+    ensures number { IfOk result (λ s. s.number ≡ length (seen_by seat.new)) }
     ensures smallest { IfOk result (λ s. s.smallest ≡ unwrap_or smallest (suc s.number)) }
-    ensures taken { IfOk result (λ s. (taken : IsTakenAt store.now seat.old seat.new.knows.participant.seen s snaps.old)
-        × ((t : PreparedSets) → IsIn (table.prepared t) seat.old.knows.held → MatchOption smallest (NonePrepared t) (IsSmallest t) → HasLeast taken.world s)) }
+    ensures taken { IfOk result (λ s. (taken : IsTakenAt store.now seat.old (seen_by seat.new) s snaps.old)
+        × ((t : PreparedSets) → IsIn (table.prepared t) (held_by seat.old) → MatchOption smallest (NonePrepared t) (IsSmallest t) → HasLeast taken.world s)) }
     ensures entered { IfOk result (λ s. snaps.new ≡ with_registered snaps.old s.number) }
     ensures kept { NoOldCommits snaps.new → NoOldCommits snaps.old }
 {
@@ -89,10 +89,10 @@ pub fn snapshot<D: Disk + Drop, R: Wait>(
     seat: &mut Seat<D>,
 ) -> Result<Snapshot, AllocError>
     requires { IsFree store.now.table seat.old }
-    ensures registered { IfOk result (λ s. Continues store.now seat.old seat.new (record seat.old.knows.participant { registered = seat.old.knows.participant.registered ++ s ∷ [] })) }
-    ensures number { IfOk result (λ s. s.number ≡ length seat.new.knows.participant.seen) }
-    ensures taken { IfOk result (λ s. IsTakenWithLeast store.now seat.old seat.new.knows.participant.seen s) }
-    ensures refused { OnErr result (Continues store.now seat.old seat.new seat.old.knows.participant) }
+    ensures registered { IfOk result (λ s. Continues store.now seat.old seat.new (record (participant_of seat.old) { registered = seat.old.knows.participant.registered ++ s ∷ [] })) }
+    ensures number { IfOk result (λ s. s.number ≡ length (seen_by seat.new)) }
+    ensures taken { IfOk result (λ s. IsTakenWithLeast store.now seat.old (seen_by seat.new) s) }
+    ensures refused { OnErr result (Continues store.now seat.old seat.new (participant_of seat.old)) }
 {
     let tables = store.take_turn::<Prepared, R>(rt, seat);
     let mut snaps = store.take_turn::<Snaps, R>(rt, seat);
@@ -111,11 +111,11 @@ pub fn brief_snapshot<D: Disk + Drop, R: Wait>(
     seat: &mut Seat<D>,
 ) -> Result<Snapshot, AllocError>
     requires { IsFree store.now.table seat.old }
-    ensures registered { IfOk result (λ s. Continues store.now seat.old seat.new (record seat.old.knows.participant { registered = seat.old.knows.participant.registered ++ s ∷ [] })) }
-    ensures number { IfOk result (λ s. s.number ≡ length seat.new.knows.participant.seen) }
+    ensures registered { IfOk result (λ s. Continues store.now seat.old seat.new (record (participant_of seat.old) { registered = seat.old.knows.participant.registered ++ s ∷ [] })) }
+    ensures number { IfOk result (λ s. s.number ≡ length (seen_by seat.new)) }
     ensures smallest { IfOk result (λ s. s.smallest ≡ 1) }
-    ensures taken { IfOk result (λ s. IsTaken store.now seat.old seat.new.knows.participant.seen s) }
-    ensures refused { OnErr result (Continues store.now seat.old seat.new seat.old.knows.participant) }
+    ensures taken { IfOk result (λ s. IsTaken store.now seat.old (seen_by seat.new) s) }
+    ensures refused { OnErr result (Continues store.now seat.old seat.new (participant_of seat.old)) }
 {
     let mut snaps = store.take_turn::<Snaps, R>(rt, seat);
     let taken = register_in(store, seat, &mut snaps, Some(NOTHING_KNOWN));
@@ -134,7 +134,7 @@ fn release_in<D: Disk + Drop>(
     requires holds { HoldsTurn store.now seat.old (table.snapshots snaps.old) [] [] }
     ensures { (front : List Registration) × (back : List Registration) × (seat.old.knows.participant.registered ≡ front ++ snapshot ∷ back)
         × (IsIn snapshot back → ⊥)
-        × ChangesSnapshots store.now seat.old seat.new (record seat.old.knows.participant { registered = front ++ back }) snaps.new [] [] }
+        × ChangesSnapshots store.now seat.old seat.new (record (participant_of seat.old) { registered = front ++ back }) snaps.new [] [] }
 {
     unregister(store, seat, &snapshot);
     withdraw(snaps, snapshot);
@@ -151,7 +151,7 @@ pub fn release_last<D: Disk + Drop>(
     requires holds { (others : List Content) × (beneath : List ℕ) × HoldsTurn store.now seat.old (table.snapshots snaps.old) others beneath }
     ensures changes { (front : List Registration) (others : List Content) (beneath : List ℕ) → seat.old.knows.participant.registered ≡ front ++ snapshot ∷ []
         → HoldsTurn store.now seat.old (table.snapshots snaps.old) others beneath
-        → ChangesSnapshots store.now seat.old seat.new (record seat.old.knows.participant { registered = front }) snaps.new others beneath }
+        → ChangesSnapshots store.now seat.old seat.new (record (participant_of seat.old) { registered = front }) snaps.new others beneath }
     ensures released { snaps.new ≡ with_released snaps.old snapshot.number }
 {
     unregister_last(store, seat);
@@ -166,9 +166,9 @@ fn settle_old_flag<D: Disk + Drop>(
     was_empty: bool,
 )
     requires seat { seat.old.table ≡ store.now.table }
-    requires held { IsIn (table.snapshots snaps.now) seat.old.knows.held }
+    requires held { IsIn (table.snapshots snaps.now) (held_by seat.old) }
     requires down { was_empty ≡ true → IsIn (old_flag_stays 0) seat.old.knows.notes }
-    ensures seat { GoesOn (is_under snapshots_turn) seat.old.knows.held seat.old.turns seat.old seat.new }
+    ensures seat { GoesOn (is_under snapshots_turn) (held_by seat.old) seat.old.turns seat.old seat.new }
     ensures flag { NoOldCommits snaps.now → IsIn (old_flag_stays 0) seat.new.knows.notes }
 {
     if was_empty {
@@ -190,7 +190,7 @@ pub fn release<D: Disk + Drop, R: Wait>(
     requires registered { IsIn snapshot seat.old.knows.participant.registered }
     ensures { (front : List Registration) × (back : List Registration) × (seat.old.knows.participant.registered ≡ front ++ snapshot ∷ back)
         × (IsIn snapshot back → ⊥)
-        × Continues store.now seat.old seat.new (record seat.old.knows.participant { registered = front ++ back }) }
+        × Continues store.now seat.old seat.new (record (participant_of seat.old) { registered = front ++ back }) }
 {
     let mut snaps = store.take_turn::<Snaps, R>(rt, seat);
     let was_empty = snaps.none_kept();

@@ -13,7 +13,7 @@ ghost use Rattle.wp_core.specs.Steps as step;
 ghost use Rattle.wp_core.specs.Tables as table;
 ghost use Rattle.wp_core.specs.World.{World};
 ghost use Rattle.wp_shared.specs.Notes.{is_under, GoesOn};
-ghost use Rattle.wp_shared.specs.Seats.{place_at};
+ghost use Rattle.wp_shared.specs.Seats.{place_at, held_by, seen_by};
 ghost use Rattle.wp_model.specs.Snapshots.{Snapshots, NoOldCommits};
 ghost use Rattle.wp_core.specs.Tables.{Content};
 ghost use Rattle.wp_core.specs.Turns.{snapshots_turn};
@@ -42,7 +42,7 @@ fn begin<D: Disk + Drop, J: Moves>(
     requires steps { J.steps ≡ (λ w. step.begin_reading bits p snapshot.now ∷ []) }
     requires cells { 2 ^ bits ≡ store.now.cells }
     requires registered { IsIn snapshot.now seat.old.knows.participant.registered }
-    requires version { p ≤ snapshot.now.number → has_versions_at seat.old.knows.participant.seen p ≡ true }
+    requires version { p ≤ snapshot.now.number → has_versions_at (seen_by seat.old) p ≡ true }
     ensures { Reads store.now seat.old seat.new (reads bits p snapshot.now) }
 {
     store.make::<J>(seat);
@@ -59,7 +59,7 @@ pub fn begin_reading<D: Disk + Drop>(
     requires seat { seat.old.table ≡ store.now.table }
     requires cells { 2 ^ bits ≡ store.now.cells }
     requires registered { IsIn snapshot.now seat.old.knows.participant.registered }
-    requires version { p ≤ snapshot.now.number → has_versions_at seat.old.knows.participant.seen p ≡ true }
+    requires version { p ≤ snapshot.now.number → has_versions_at (seen_by seat.old) p ≡ true }
     ensures reads { Reads store.now seat.old seat.new result }
     ensures nothing_loaded { result ≡ reads bits p snapshot.now }
 {
@@ -174,7 +174,7 @@ pub fn look_in_prepared<D: Disk + Drop>(
 )
     requires seat { seat.old.table ≡ store.now.table }
     requires next { IsNext seat.old seen.old Load.InPrepared }
-    requires held { IsIn (table.prepared tables.now) seat.old.knows.held }
+    requires held { IsIn (table.prepared tables.now) (held_by seat.old) }
     ensures { Loads store.now Load.InPrepared seat.old seat.new seen.old seen.new }
 {
     store.make::<Brand>(seat);
@@ -190,7 +190,7 @@ pub fn look_in_old_commits<D: Disk + Drop>(
 )
     requires seat { seat.old.table ≡ store.now.table }
     requires next { IsNext seat.old seen.old Load.IsOldCommit }
-    requires held { IsIn (table.snapshots snaps.now) seat.old.knows.held }
+    requires held { IsIn (table.snapshots snaps.now) (held_by seat.old) }
     ensures { Loads store.now Load.IsOldCommit seat.old seat.new seen.old seen.new }
 {
     store.make::<Brand>(seat);
@@ -205,9 +205,9 @@ fn register_with<D: Disk + Drop, J: Moves>(
 ) -> Seq
     requires seat { (seat.old.table ≡ store.now.table) × (J.place ≡ place_at store.now seat.old.by) }
     requires steps { J.steps ≡ (λ w. step.register (unwrap_or smallest (suc (length w.writes.history))) ∷ []) }
-    requires snapshots { (m : Snapshots) × IsIn (table.snapshots m) seat.old.knows.held }
-    requires smallest { MayRegister seat.old.knows.held smallest }
-    ensures { (m : Snapshots) → IsIn (table.snapshots m) seat.old.knows.held → Registers store.now seat.old seat.new result smallest m }
+    requires snapshots { (m : Snapshots) × IsIn (table.snapshots m) (held_by seat.old) }
+    requires smallest { MayRegister (held_by seat.old) smallest }
+    ensures { (m : Snapshots) → IsIn (table.snapshots m) (held_by seat.old) → Registers store.now seat.old seat.new result smallest m }
 {
     store.make::<J>(seat)
 }
@@ -216,9 +216,9 @@ fn register_with<D: Disk + Drop, J: Moves>(
 /// snapshots turn, and the prepared turn too where the smallest is not 1.
 pub fn register<D: Disk + Drop>(store: &Shared<D>, seat: &mut Seat<D>, smallest: Option<Seq>) -> Seq
     requires seat { seat.old.table ≡ store.now.table }
-    requires snapshots { (m : Snapshots) × IsIn (table.snapshots m) seat.old.knows.held }
-    requires smallest { MayRegister seat.old.knows.held smallest }
-    ensures { (m : Snapshots) → IsIn (table.snapshots m) seat.old.knows.held → Registers store.now seat.old seat.new result smallest m }
+    requires snapshots { (m : Snapshots) × IsIn (table.snapshots m) (held_by seat.old) }
+    requires smallest { MayRegister (held_by seat.old) smallest }
+    ensures { (m : Snapshots) → IsIn (table.snapshots m) (held_by seat.old) → Registers store.now seat.old seat.new result smallest m }
 {
     register_with::<D, Brand>(store, seat, smallest)
 }
@@ -232,9 +232,9 @@ fn register_again_with<D: Disk + Drop, J: Moves>(
     requires seat { (seat.old.table ≡ store.now.table) × (J.place ≡ place_at store.now seat.old.by) }
     requires steps { J.steps ≡ (λ w. pinning floor numbers.now) }
     requires live { seat.old.knows.live ≡ true }
-    requires held { (m : Snapshots) × (others : List Content) × (seat.old.knows.held ≡ table.snapshots m ∷ others)
-        × MayPin seat.old.knows.participant.seen m floor numbers.now }
-    ensures { (m : Snapshots) (others : List Content) → seat.old.knows.held ≡ table.snapshots m ∷ others → seat.new ≡ pinned seat.old floor numbers.now m others }
+    requires held { (m : Snapshots) × (others : List Content) × (held_by seat.old ≡ table.snapshots m ∷ others)
+        × MayPin (seen_by seat.old) m floor numbers.now }
+    ensures { (m : Snapshots) (others : List Content) → held_by seat.old ≡ table.snapshots m ∷ others → seat.new ≡ pinned seat.old floor numbers.now m others }
 {
     store.make::<J>(seat);
 }
@@ -248,9 +248,9 @@ pub fn register_again<D: Disk + Drop>(
 )
     requires seat { seat.old.table ≡ store.now.table }
     requires live { seat.old.knows.live ≡ true }
-    requires held { (m : Snapshots) × (others : List Content) × (seat.old.knows.held ≡ table.snapshots m ∷ others)
-        × MayPin seat.old.knows.participant.seen m floor numbers.now }
-    ensures { (m : Snapshots) (others : List Content) → seat.old.knows.held ≡ table.snapshots m ∷ others → seat.new ≡ pinned seat.old floor numbers.now m others }
+    requires held { (m : Snapshots) × (others : List Content) × (held_by seat.old ≡ table.snapshots m ∷ others)
+        × MayPin (seen_by seat.old) m floor numbers.now }
+    ensures { (m : Snapshots) (others : List Content) → held_by seat.old ≡ table.snapshots m ∷ others → seat.new ≡ pinned seat.old floor numbers.now m others }
 {
     register_again_with::<D, Brand>(store, seat, floor, numbers)
 }
@@ -259,9 +259,9 @@ fn unregister_at<D: Disk + Drop, J: Moves>(store: &Shared<D>, seat: &mut Seat<D>
     requires seat { (seat.old.table ≡ store.now.table) × (J.place ≡ place_at store.now seat.old.by) }
     requires steps { (front : List Registration) × (back : List Registration) × (r : Registration) × (J.steps ≡ (λ w. step.release front r back ∷ []))
         × (seat.old.knows.participant.registered ≡ front ++ r ∷ back) }
-    requires snapshots { (m : Snapshots) × IsIn (table.snapshots m) seat.old.knows.held }
+    requires snapshots { (m : Snapshots) × IsIn (table.snapshots m) (held_by seat.old) }
     ensures { (front back : List Registration) (r : Registration) (m : Snapshots) → J.steps ≡ (λ w. step.release front r back ∷ [])
-        → seat.old.knows.participant.registered ≡ front ++ r ∷ back → IsIn (table.snapshots m) seat.old.knows.held
+        → seat.old.knows.participant.registered ≡ front ++ r ∷ back → IsIn (table.snapshots m) (held_by seat.old)
         → Unregisters seat.old seat.new front back r m }
 {
     store.make::<J>(seat);
@@ -271,9 +271,9 @@ fn unregister_at<D: Disk + Drop, J: Moves>(store: &Shared<D>, seat: &mut Seat<D>
 pub fn unregister_last<D: Disk + Drop>(store: &Shared<D>, seat: &mut Seat<D>)
     requires seat { seat.old.table ≡ store.now.table }
     requires last { (front : List Registration) × (r : Registration) × (seat.old.knows.participant.registered ≡ front ++ r ∷ []) }
-    requires snapshots { (m : Snapshots) × IsIn (table.snapshots m) seat.old.knows.held }
+    requires snapshots { (m : Snapshots) × IsIn (table.snapshots m) (held_by seat.old) }
     ensures { (front : List Registration) (r : Registration) (m : Snapshots) → seat.old.knows.participant.registered ≡ front ++ r ∷ []
-        → IsIn (table.snapshots m) seat.old.knows.held → Unregisters seat.old seat.new front [] r m }
+        → IsIn (table.snapshots m) (held_by seat.old) → Unregisters seat.old seat.new front [] r m }
 {
     unregister_at::<D, Brand>(store, seat);
 }
@@ -286,8 +286,8 @@ fn unregister_with<D: Disk + Drop, J: Moves>(
     requires seat { (seat.old.table ≡ store.now.table) × (J.place ≡ place_at store.now seat.old.by) }
     requires steps { J.steps ≡ (λ w. step.release (before_last snapshot.now seat.old.knows.participant.registered) snapshot.now (behind_last snapshot.now seat.old.knows.participant.registered) ∷ []) }
     requires registered { IsIn snapshot.now seat.old.knows.participant.registered }
-    requires snapshots { (m : Snapshots) × IsIn (table.snapshots m) seat.old.knows.held }
-    ensures { (m : Snapshots) → IsIn (table.snapshots m) seat.old.knows.held
+    requires snapshots { (m : Snapshots) × IsIn (table.snapshots m) (held_by seat.old) }
+    ensures { (m : Snapshots) → IsIn (table.snapshots m) (held_by seat.old)
         → Unregisters seat.old seat.new (before_last snapshot.now seat.old.knows.participant.registered) (behind_last snapshot.now seat.old.knows.participant.registered) snapshot.now m }
 {
     unregister_at::<D, J>(store, seat);
@@ -297,8 +297,8 @@ fn unregister_with<D: Disk + Drop, J: Moves>(
 pub fn unregister<D: Disk + Drop>(store: &Shared<D>, seat: &mut Seat<D>, snapshot: &Snapshot)
     requires seat { seat.old.table ≡ store.now.table }
     requires registered { IsIn snapshot.now seat.old.knows.participant.registered }
-    requires snapshots { (m : Snapshots) × IsIn (table.snapshots m) seat.old.knows.held }
-    ensures { (m : Snapshots) → IsIn (table.snapshots m) seat.old.knows.held
+    requires snapshots { (m : Snapshots) × IsIn (table.snapshots m) (held_by seat.old) }
+    ensures { (m : Snapshots) → IsIn (table.snapshots m) (held_by seat.old)
         → Unregisters seat.old seat.new (before_last snapshot.now seat.old.knows.participant.registered) (behind_last snapshot.now seat.old.knows.participant.registered) snapshot.now m }
 {
     unregister_with::<D, Brand>(store, seat, snapshot);
@@ -307,8 +307,8 @@ pub fn unregister<D: Disk + Drop>(store: &Shared<D>, seat: &mut Seat<D>, snapsho
 /// Stores the old-map flag as 0, where the old commit map is empty.
 pub fn lower_old_flag<D: Disk + Drop>(store: &Shared<D>, seat: &mut Seat<D>)
     requires seat { seat.old.table ≡ store.now.table }
-    requires none_kept { (m : Snapshots) × IsIn (table.snapshots m) seat.old.knows.held × NoOldCommits m }
-    ensures seat { GoesOn (is_under snapshots_turn) seat.old.knows.held seat.old.turns seat.old seat.new }
+    requires none_kept { (m : Snapshots) × IsIn (table.snapshots m) (held_by seat.old) × NoOldCommits m }
+    ensures seat { GoesOn (is_under snapshots_turn) (held_by seat.old) seat.old.turns seat.old seat.new }
     ensures flag { IsIn (old_flag_stays 0) seat.new.knows.notes }
 {
     store.store_old_flag(seat, 0);

@@ -11,7 +11,7 @@ ghost use Rattle.wp_core.specs.Sound.Snapshots.{has_versions_at};
 ghost use Rattle.wp_core.specs.Turns.{store_turn};
 ghost use Rattle.wp_shared.specs.Calls.{Continues};
 ghost use Rattle.wp_shared.specs.Notes.{is_under, GoesOn};
-ghost use Rattle.wp_shared.specs.Seats.{IsFree};
+ghost use Rattle.wp_shared.specs.Seats.{IsFree, held_by, participant_of, seen_by};
 ghost use Rattle.wp_read.specs.Values.{AreVersions, IsFirstCommitted, NoneCommitted, NoneLater, Says, ShowsValue};
 
 use crate::deciding::visible;
@@ -37,9 +37,9 @@ pub fn copy_newest<D: Disk + Drop, R: Wait>(
     most: usize,
 ) -> Result<Versions, AllocError>
     requires seat { (seat.old.table ≡ store.now.table) × (seat.old.knows.live ≡ true) }
-    requires others { held_without seat.old.knows.held store_turn ≡ seat.old.knows.held }
-    ensures goes { GoesOn (is_under store_turn) seat.old.knows.held seat.old.turns seat.old seat.new }
-    ensures found { IfOk result (λ found. (r : Registration) → IsIn r seat.old.knows.participant.registered → ShowsValue seat.old.knows.participant.seen key.now r.number most found) }
+    requires others { held_without (held_by seat.old) store_turn ≡ held_by seat.old }
+    ensures goes { GoesOn (is_under store_turn) (held_by seat.old) seat.old.turns seat.old seat.new }
+    ensures found { IfOk result (λ found. (r : Registration) → IsIn r seat.old.knows.participant.registered → ShowsValue (seen_by seat.old) key.now r.number most found) }
 {
     let stock = store.take_turn::<Stock, R>(rt, seat);
     let found = stock.collect(key, most);
@@ -64,12 +64,12 @@ fn is_visible<D: Disk + Drop, R: Wait>(
 ) -> bool
     requires free { IsFree store.now.table seat.old }
     requires registered { IsIn snapshot.now seat.old.knows.participant.registered }
-    requires version { p ≤ snapshot.now.number → has_versions_at seat.old.knows.participant.seen p ≡ true }
-    requires none_later { NoneLater seat.old.knows.participant.seen snapshot.now.number }
-    requires earlier { NoneCommitted seat.old.knows.participant.seen snapshot.now.number earlier.now }
-    ensures continues { Continues store.now seat.old seat.new seat.old.knows.participant }
-    ensures same { seat.new.knows.participant ≡ seat.old.knows.participant }
-    ensures right { IsRight seat.old.knows.participant.seen p snapshot.now.number result }
+    requires version { p ≤ snapshot.now.number → has_versions_at (seen_by seat.old) p ≡ true }
+    requires none_later { NoneLater (seen_by seat.old) snapshot.now.number }
+    requires earlier { NoneCommitted (seen_by seat.old) snapshot.now.number earlier.now }
+    ensures continues { Continues store.now seat.old seat.new (participant_of seat.old) }
+    ensures same { participant_of seat.new ≡ participant_of seat.old }
+    ensures right { IsRight (seen_by seat.old) p snapshot.now.number result }
 {
     if snapshot.number() < p {
         return false;
@@ -91,13 +91,13 @@ fn first_visible<D: Disk + Drop, R: Wait>(
 ) -> Option<usize>
     requires free { IsFree store.now.table seat.old }
     requires registered { IsIn snapshot.now seat.old.knows.participant.registered }
-    requires versions { AreVersions seat.old.knows.participant.seen snapshot.now.number found.now }
-    requires none_later { NoneLater seat.old.knows.participant.seen snapshot.now.number }
-    requires earlier { NoneCommitted seat.old.knows.participant.seen snapshot.now.number earlier.now }
-    ensures continues { Continues store.now seat.old seat.new seat.old.knows.participant }
-    ensures same { seat.new.knows.participant ≡ seat.old.knows.participant }
-    ensures first { MatchOption result (NoneCommitted seat.old.knows.participant.seen snapshot.now.number found.now)
-        (IsFirstCommitted seat.old.knows.participant.seen snapshot.now.number found.now) }
+    requires versions { AreVersions (seen_by seat.old) snapshot.now.number found.now }
+    requires none_later { NoneLater (seen_by seat.old) snapshot.now.number }
+    requires earlier { NoneCommitted (seen_by seat.old) snapshot.now.number earlier.now }
+    ensures continues { Continues store.now seat.old seat.new (participant_of seat.old) }
+    ensures same { participant_of seat.new ≡ participant_of seat.old }
+    ensures first { MatchOption result (NoneCommitted (seen_by seat.old) snapshot.now.number found.now)
+        (IsFirstCommitted (seen_by seat.old) snapshot.now.number found.now) }
 {
     for i in 0..found.len() {
         if is_visible(store, rt, seat, found[i].number, earlier, snapshot) {
@@ -136,10 +136,10 @@ fn look_through<D: Disk + Drop, R: Wait>(
 ) -> Result<Round, AllocError>
     requires free { IsFree store.now.table seat.old }
     requires registered { IsIn snapshot.now seat.old.knows.participant.registered }
-    requires earlier { NoneCommitted seat.old.knows.participant.seen snapshot.now.number earlier.now }
-    ensures continues { Continues store.now seat.old seat.new seat.old.knows.participant }
-    ensures same { seat.new.knows.participant ≡ seat.old.knows.participant }
-    ensures says { IfOk result (λ round. Says seat.old.knows.participant.seen key.now snapshot.now.number round) }
+    requires earlier { NoneCommitted (seen_by seat.old) snapshot.now.number earlier.now }
+    ensures continues { Continues store.now seat.old seat.new (participant_of seat.old) }
+    ensures same { participant_of seat.new ≡ participant_of seat.old }
+    ensures says { IfOk result (λ round. Says (seen_by seat.old) key.now snapshot.now.number round) }
 {
     let found = copy_newest(store, rt, seat, key, most)?;
     match first_visible(store, rt, seat, found.as_slice(), earlier, snapshot) {
@@ -165,9 +165,9 @@ pub fn get<D: Disk + Drop, R: Wait>(
 ) -> Result<Option<Value>, AllocError>
     requires free { IsFree store.now.table seat.old }
     requires registered { IsIn snapshot.now seat.old.knows.participant.registered }
-    ensures continues { Continues store.now seat.old seat.new seat.old.knows.participant }
-    ensures same { seat.new.knows.participant ≡ seat.old.knows.participant }
-    ensures value { IfOk result (λ value. value ≡ value_at seat.new.knows.participant.seen key.now snapshot.now.number) }
+    ensures continues { Continues store.now seat.old seat.new (participant_of seat.old) }
+    ensures same { participant_of seat.new ≡ participant_of seat.old }
+    ensures value { IfOk result (λ value. value ≡ value_at (seen_by seat.new) key.now snapshot.now.number) }
 {
     let mut most = FIRST_COPIES;
     let mut earlier = match look_through(store, rt, seat, key, snapshot, most, &[])? {

@@ -10,7 +10,7 @@ use Rattle.wp_model.specs.declared.holder.Holder.TheVariants.{Client}
 use Rattle.wp_core.specs.Sound.Pasts.{is_log_fault}
 use Rattle.wp_core.specs.Views.{Event, found, locked, log_failed, stopped}
 use Rattle.wp_core.specs.World.{Participant}
-use Rattle.wp_shared.specs.Log.{LogState}
+use Rattle.wp_parts.specs.Log.{LogState}
 use Rattle.wp_records.specs.declared.error.WriteError.{WriteError}
 use Rattle.wp_records.specs.declared.error.WriteError.TheVariants as write_error
 use Rattle.wp_records.specs.Records.{Puts, IsUncalled, FailsAppend}
@@ -18,7 +18,7 @@ use Rattle.wp_rule.specs.Accounts.{account_of}
 use Rattle.wp_shared.specs.Calls.{Continues, with_events}
 use Rattle.wp_shared.specs.Seats.{SharedState, SeatState}
 use Rattle.wp_open_txns.specs.Calls.{Keeps}
-use Rattle.wp_txn.specs.Writes.{Refuses, failed_appends, MadeNoAppend, FailedOnce, LeavesDevice, MayLeaveDevice, RefusesBeforeLog, wrote_direct, writing_direct, WritesDirect}
+use Rattle.wp_txn.specs.Writes.{Refuses, failed_appends, MadeNoAppend, FailedOnce, LeavesDevice, MayLeaveDevice, RefusesBeforeLog, wrote_direct, writing_direct, KeyIsFree, WritesDirect}
 use Rattle.wp_open_txns.specs.declared.error.TxnError.{TxnError}
 use Rattle.wp_open_txns.specs.declared.error.TxnError.TheVariants as why
 
@@ -75,7 +75,7 @@ module _ {D : Type 0} (z : SharedState D) (old new : SeatState) (change : Change
 
   pub written_before : (answer : Result ℕ TxnError) → WritesDirect z old change answer new → IfErr answer (λ reason. MayLeaveDevice z writing old reason new) → IfErr answer (λ reason. RefusesBeforeLog z writing old reason new)
   written_before (Ok n) c d = tt
-  written_before (Err why.Memory) c d = (⊎_elim (λ (k : Keeps z old new). goes_unlogged z old new was (as_it_was was) k) (λ (k : Continues z old new wrote). goes_unlogged z old new wrote so_wrote k) c, d)
+  written_before (Err why.Memory) c d = (⊎_elim (λ (k : Keeps z old new). goes_unlogged z old new was (as_it_was was) k) (λ (k : Continues z old new wrote × KeyIsFree z old new (key_of change)). goes_unlogged z old new wrote so_wrote k.0) c, d)
   written_before (Err (why.Busy holder)) c d =
       let events : List Event = found (Some (key_of change)) holder (length was.seen) (account_of was c.world.locks c.published (Some (key_of change)) holder) ∷ [] in
       (goes_unlogged z old new (with_events events was) (remembers_more was was events refl (as_it_was was)) c.goes_on, d)

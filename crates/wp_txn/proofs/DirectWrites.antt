@@ -22,8 +22,8 @@ use Rattle.wp_core.specs.Views.{Fact, passed, in_old_commits, apart, words_stay,
 use Rattle.wp_core.specs.World.{Actor, Participant, World}
 use Rattle.wp_core.specs.Sound.Views.{guarded_by}
 use Rattle.wp_core.proofs.HistoryGrows.{none_is}
-use Rattle.wp_core.proofs.Keyed.{at_inserted, at_removed}
-use Rattle.wp_core.proofs.Tests.{some_none}
+use Rattle.wp_model.proofs.Keyed.{at_inserted, at_removed}
+use Rattle.wp_model.proofs.Tests.{some_none}
 use Rattle.wp_rule.specs.Knows.{Noted}
 use Rattle.wp_rule.specs.Moves.{MayMake, Moved, actor_after}
 use Rattle.wp_rule.specs.Words.{Place, IsAt}
@@ -221,7 +221,7 @@ module _ {D : Type 0} (z : SharedState D) (old mid left new : SeatState) (change
       (λ events goes. given IsLoose (with_events events) (λ fact loose. loose) (λ x seen. refl) goes) (λ asked. asked ≡ Write (change ∷ []) ∷ []) (λ asked. asked ≡ Write (change ∷ []) ∷ []) (λ asked is legal. is) reason c
 
   pub not_written : (reason : TxnError) → Refuses z mid left 1 (λ asked. asked ≡ Write (change ∷ []) ∷ []) mid.knows.participant mid.knows.participant reason → WritesDirect z old change (Err reason) new
-  not_written why.Memory c = inr (refused why.Memory c)
+  not_written why.Memory c = inr (refused why.Memory c, (held.found, ended.freed))
   not_written (why.Stopped n) c = (refused (why.Stopped n) c, (held.found, ended.freed))
   not_written (why.NumbersFull published limit) c = (refused (why.NumbersFull published limit) c, (held.found, ended.freed))
   not_written why.LogFault c = (refused why.LogFault c, (held.found, ended.freed))

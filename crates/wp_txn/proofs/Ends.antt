@@ -73,8 +73,8 @@ module _ {D : Type 0} (z : SharedState D) (old start mid new : SeatState) (name 
   ended frees = (number_still frees, (r.1.0, put_and_freed frees), frees.freed)
 
   -- it has the transaction until then, with the keys that it locked
-  pub locked_until : (batch : List Change) → HasLocked old name batch → HasLocked mid name batch
-  locked_until batch h = record { transaction = h.transaction; has = ap (λ (p : Participant). finite.get p.transactions name) until_then.participant ∙ h.has; keys = h.keys }
+  pub locked_until : (x : OpenState) → HasLocked old x → HasLocked mid x
+  locked_until x h = record { transaction = h.transaction; has = ap (λ (p : Participant). finite.get p.transactions x.name) until_then.participant ∙ h.has; keys = h.keys }
 
 -- a refusal behind such a beginning
 pub refused_from : {D : Type 0} (z : SharedState D) (old start new : SeatState) (needed : ℕ) (Asks More : List Entry → Type 0) (wider : (entries : List Entry) → Asks entries → IsLegal (new.knows.participant.seen ++ entries) → More entries) (begins : Continues z old start old.knows.participant) (why : TxnError)
@@ -108,35 +108,35 @@ freed_then z old mid new name frees goes same = record {
 
 -- ---- a prepare is decided
 
-module _ {D : Type 0} (z : SharedState D) (old mid : SeatState) (name : List ℕ) (number : ℕ) (batch : List Change) (h : HasPrepared old name number batch) where
+module _ {D : Type 0} (z : SharedState D) (old mid : SeatState) (x : PreparedState) (h : HasPrepared old x) where
   -- its prepare stands in what the record was put behind
-  pub stands_before : (history : List Entry) → StartsWith history old.knows.participant.seen → entry_at history number ≡ Some (Prepare name batch)
-  stands_before history grown = ap (λ (es : List Entry). entry_at es number) grown.1 ∙ entry_at_old old.knows.participant.seen grown.0 number h.seen ∙ h.stands
+  pub stands_before : (history : List Entry) → StartsWith history old.knows.participant.seen → entry_at history x.number ≡ Some (Prepare x.name x.batch)
+  stands_before history grown = ap (λ (es : List Entry). entry_at es x.number) grown.1 ∙ entry_at_old old.knows.participant.seen grown.0 x.number h.seen ∙ h.stands
 
-  pub name_before : (history : List Entry) → StartsWith history old.knows.participant.seen → Some (name_at history number) ≡ Some name
+  pub name_before : (history : List Entry) → StartsWith history old.knows.participant.seen → Some (name_at history x.number) ≡ Some x.name
   name_before history grown = ap (λ (o : Option Entry). Some (prepared_name o)) (stands_before history grown)
 
-  module _ (facts : ℕ → List Fact) (n : ℕ) (r : Records z old (Commit number ∷ []) facts (Ok n) mid) where
-    pub commit_is_of : (fact : Fact) → is_about (Some name) fact ≡ false → IsAboutNone r.1.0 (Commit number ∷ []) fact
+  module _ (facts : ℕ → List Fact) (n : ℕ) (r : Records z old (Commit x.number ∷ []) facts (Ok n) mid) where
+    pub commit_is_of : (fact : Fact) → is_about (Some x.name) fact ≡ false → IsAboutNone r.1.0 (Commit x.number ∷ []) fact
     commit_is_of fact apart = (ap (λ (o : Option (List ℕ)). is_about o fact) (name_before r.1.0 r.1.1.put.grown) ∙ apart, tt)
 
     -- the number is decided in what the seat has seen, by the record's entry
-    pub commit_decides : (decision_of mid.knows.participant.seen number ≡ Some n) × (number ≤ n) × (n < seq_end)
+    pub commit_decides : (decision_of mid.knows.participant.seen x.number ≡ Some n) × (x.number ≤ n) × (n < seq_end)
     commit_decides =
         let k = r.1.1 in let history = r.1.0 in
-        let undecided = (after_front history (Commit number) [] k.legal).orderly.names_undecided in
-        let long = length_next history (Commit number) in
+        let undecided = (after_front history (Commit x.number) [] k.legal).orderly.names_undecided in
+        let long = length_next history (Commit x.number) in
         let last : n ≡ length history + 1 = r.0 ∙ ap (λ (es : List Entry). length es) k.put.seen ∙ long in
         let is : suc (length history) ≡ n = omega (arith, last) in
-        let low = (undecided_within history number undecided).1 in let few = k.legal.few in (
-          ap (λ (es : List Entry). decision_of es number) k.put.seen ∙ (next_decides_prepare history (Commit number) number undecided (eq-eqb number number refl) ∙ ap Some is),
+        let low = (undecided_within history x.number undecided).1 in let few = k.legal.few in (
+          ap (λ (es : List Entry). decision_of es x.number) k.put.seen ∙ (next_decides_prepare history (Commit x.number) x.number undecided (eq-eqb x.number x.number refl) ∙ ap Some is),
           omega (arith, last, low),
           omega (arith, last, long, few),
         )
 
 -- ---- a transaction is prepared
 
-pub prepares : {D : Type 0} (z : SharedState D) (old new : SeatState) (txn : OpenState) (n : ℕ) → HasOpen old txn.name txn.batch → Records z old (Prepare txn.name txn.batch ∷ []) (λ m. undecided_at txn.name m ∷ []) (Ok n) new
+pub prepares : {D : Type 0} (z : SharedState D) (old new : SeatState) (txn : OpenState) (n : ℕ) → HasOpen old txn → Records z old (Prepare txn.name txn.batch ∷ []) (λ m. undecided_at txn.name m ∷ []) (Ok n) new
     → Prepares z old txn (record { name = txn.name; number = n; batch = txn.batch }) n new
 prepares z old new txn n h r =
     let history = r.1.0 in let put = r.1.1.put in let seen = put.seen in
@@ -166,9 +166,9 @@ prepares z old new txn n h r =
 
 -- ---- a refusal
 
-pub refuses_open : {D : Type 0} (z : SharedState D) (old new : SeatState) (txn : OpenState) (entry : Entry) (why : TxnError) → HasOpen old txn.name txn.batch → Refuses z old new 1 (λ asked. asked ≡ entry ∷ []) old.knows.participant old.knows.participant why → RefusesOpen z old txn entry txn why new
-refuses_open z old new txn entry why h c = (refl, open_still old new (refused_still z old new 1 (λ asked. asked ≡ entry ∷ []) why c) txn.name txn.batch h, c)
+pub refuses_open : {D : Type 0} (z : SharedState D) (old new : SeatState) (txn : OpenState) (entry : Entry) (why : TxnError) → HasOpen old txn → Refuses z old new 1 (λ asked. asked ≡ entry ∷ []) old.knows.participant old.knows.participant why → RefusesOpen z old txn entry txn why new
+refuses_open z old new txn entry why h c = (refl, open_still old new (refused_still z old new 1 (λ asked. asked ≡ entry ∷ []) why c) txn h, c)
 
-pub refuses_prepared : {D : Type 0} (z : SharedState D) (old new : SeatState) (txn : PreparedState) (needed : ℕ) (Asks : List Entry → PreparedState → List Entry → Type 0) (why : TxnError) → HasPrepared old txn.name txn.number txn.batch
+pub refuses_prepared : {D : Type 0} (z : SharedState D) (old new : SeatState) (txn : PreparedState) (needed : ℕ) (Asks : List Entry → PreparedState → List Entry → Type 0) (why : TxnError) → HasPrepared old txn
     → Refuses z old new needed (Asks new.knows.participant.seen txn) old.knows.participant old.knows.participant why → RefusesPrepared z old txn needed Asks txn why new
-refuses_prepared z old new txn needed Asks why h c = (refl, prepared_still old new (refused_still z old new needed (Asks new.knows.participant.seen txn) why c) txn.name txn.number txn.batch h, c)
+refuses_prepared z old new txn needed Asks why h c = (refl, prepared_still old new (refused_still z old new needed (Asks new.knows.participant.seen txn) why c) txn h, c)

@@ -6,3 +6,4 @@ mod DirectWrites
 mod BeforeLog
 mod Ends
 mod RollsBack
+mod Recorded

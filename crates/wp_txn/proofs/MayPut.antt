@@ -26,13 +26,13 @@ use Rattle.wp_core.specs.Tables.{WriteState}
 use Rattle.wp_core.specs.Views.{direct_free, undecided_at, unprepared}
 use Rattle.wp_core.specs.World.{Transactions, Participant}
 use Rattle.wp_core.proofs.HistoryGrows.{none_is}
-use Rattle.wp_core.proofs.Tests.{either, same_some, some_none}
+use Rattle.wp_model.proofs.Tests.{either, same_some, some_none}
 use Rattle.wp_rule.proofs.Knows.{at_sound, noted_is}
-use Rattle.wp_shared.specs.Log.{LogState}
+use Rattle.wp_parts.specs.Log.{LogState}
 use Rattle.wp_records.specs.Records.{OwnsEntry, MayPut}
 use Rattle.wp_shared.specs.Seats.{SharedState, SeatState, place_at}
 use Rattle.wp_txn.specs.Recording.{OpensLog}
-use Rattle.wp_open_txns.specs.Txn.{HasOpen, HasPrepared}
+use Rattle.wp_open_txns.specs.Txn.{OpenState, PreparedState, HasOpen, HasPrepared}
 use Rattle.wp_open_txns.proofs.Adding.{changed_one}
 
 -- ---- numbers
@@ -114,30 +114,30 @@ module _ {D : Type 0} (z : SharedState D) (old new : SeatState) (log : LogState)
 
   -- ---- an open transaction
 
-  module _ (name : List ℕ) (batch : List Change) (h : HasOpen old name batch) (whole : is_batch batch ≡ true) (one : 1 ≤ needed) where
-    has : HasTransaction new.knows name h.transaction
-    has = ap (λ (ts : Transactions). finite.get ts name) same_transactions ∙ h.has
+  module _ (x : OpenState) (h : HasOpen old x) (whole : is_batch x.batch ≡ true) (one : 1 ≤ needed) where
+    has : HasTransaction new.knows x.name h.transaction
+    has = ap (λ (ts : Transactions). finite.get ts x.name) same_transactions ∙ h.has
 
-    open_so : (named history name ≡ None) × ((key : List ℕ) → is_changed batch key ≡ true → holder_of history key ≡ None)
+    open_so : (named history x.name ≡ None) × ((key : List ℕ) → is_changed x.batch key ≡ true → holder_of history key ≡ None)
     open_so =
-        let so = (noted_is (place_at z new.by) new.knows o.took.world (unprepared name) o.took.stands (o.took.goes.noted (unprepared name) refl h.noted)).is_so in (
-          ap (λ (d : WriteState). named d.history name) (sym o.took.is) ∙ so.1,
+        let so = (noted_is (place_at z new.by) new.knows o.took.world (unprepared x.name) o.took.stands (o.took.goes.noted (unprepared x.name) refl h.noted)).is_so in (
+          ap (λ (d : WriteState). named d.history x.name) (sym o.took.is) ∙ so.1,
           λ key changed. ap (λ (d : WriteState). holder_of d.history key) (sym o.took.is) ∙ so.2 h.transaction key has (h.keys key ∙ changed),
         )
 
-    pub may_write_open : MayPut new.knows history (Write batch ∷ [])
+    pub may_write_open : MayPut new.knows history (Write x.batch ∷ [])
     may_write_open = record {
-      legal = grows_by (Write batch) one (writes_next batch whole open_so.1);
-      owned = (record { keys = λ key changed. inr (name, h.transaction, has, h.keys key ∙ changed); transaction = λ other e. absurd (some_none other (sym e)) }, tt);
+      legal = grows_by (Write x.batch) one (writes_next x.batch whole open_so.1);
+      owned = (record { keys = λ key changed. inr (x.name, h.transaction, has, h.keys key ∙ changed); transaction = λ other e. absurd (some_none other (sym e)) }, tt);
     }
 
-    pub may_prepare : MayPut new.knows history (Prepare name batch ∷ [])
+    pub may_prepare : MayPut new.knows history (Prepare x.name x.batch ∷ [])
     may_prepare = record {
-      legal = grows_by (Prepare name batch) one (record { orderly = record { ascending = batch_ascends batch whole; names_undecided = tt; undo_is_closed = nothing_undone; keys_are_free = (all_free history batch open_so.1, open_so.0) }; restores_prior = tt });
+      legal = grows_by (Prepare x.name x.batch) one (record { orderly = record { ascending = batch_ascends x.batch whole; names_undecided = tt; undo_is_closed = nothing_undone; keys_are_free = (all_free history x.batch open_so.1, open_so.0) }; restores_prior = tt });
       owned = (
         record {
-          keys = λ key changed. inr (name, h.transaction, has, h.keys key ∙ changed);
-          transaction = λ other e. (h.transaction, subst (λ (n : List ℕ). HasTransaction new.knows n h.transaction) (same_some name other e) has, λ key changed. h.keys key ∙ changed);
+          keys = λ key changed. inr (x.name, h.transaction, has, h.keys key ∙ changed);
+          transaction = λ other e. (h.transaction, subst (λ (n : List ℕ). HasTransaction new.knows n h.transaction) (same_some x.name other e) has, λ key changed. h.keys key ∙ changed);
         },
         tt,
       );
@@ -145,53 +145,53 @@ module _ {D : Type 0} (z : SharedState D) (old new : SeatState) (log : LogState)
 
   -- ---- a prepared transaction
 
-  module _ (name : List ℕ) (number : ℕ) (batch : List Change) (h : HasPrepared old name number batch) where
-    still_has : HasTransaction new.knows name h.transaction
-    still_has = ap (λ (ts : Transactions). finite.get ts name) same_transactions ∙ h.has
+  module _ (x : PreparedState) (h : HasPrepared old x) where
+    still_has : HasTransaction new.knows x.name h.transaction
+    still_has = ap (λ (ts : Transactions). finite.get ts x.name) same_transactions ∙ h.has
 
     -- its prepare stands where it stood
-    pub stands_still : entry_at history number ≡ Some (Prepare name batch)
-    stands_still = ap (λ (es : List Entry). entry_at es number) o.took.grown.1 ∙ entry_at_old old.knows.participant.seen o.took.grown.0 number h.seen ∙ h.stands
+    pub stands_still : entry_at history x.number ≡ Some (Prepare x.name x.batch)
+    stands_still = ap (λ (es : List Entry). entry_at es x.number) o.took.grown.1 ∙ entry_at_old old.knows.participant.seen o.took.grown.0 x.number h.seen ∙ h.stands
 
-    pub named_still : named history name ≡ Some number
+    pub named_still : named history x.name ≡ Some x.number
     named_still =
-        let so = (noted_is (place_at z new.by) new.knows o.took.world (undecided_at name number) o.took.stands (o.took.goes.noted (undecided_at name number) refl h.noted)).is_so in
-        ap (λ (d : WriteState). named d.history name) (sym o.took.is) ∙ so.1
+        let so = (noted_is (place_at z new.by) new.knows o.took.world (undecided_at x.name x.number) o.took.stands (o.took.goes.noted (undecided_at x.name x.number) refl h.noted)).is_so in
+        ap (λ (d : WriteState). named d.history x.name) (sym o.took.is) ∙ so.1
 
-    pub undecided_still : is_undecided history number ≡ true
-    undecided_still = (found_named history name number named_still).0
+    pub undecided_still : is_undecided history x.number ≡ true
+    undecided_still = (found_named history x.name x.number named_still).0
 
-    owns_end : (before : List Entry) (entry : Entry) → entry_at before number ≡ Some (Prepare name batch) → transaction_of before entry ≡ Some (name_at before number)
-        → ((key : List ℕ) → is_changed (changes_under before entry) key ≡ true → is_changed batch key ≡ true) → OwnsEntry new.knows before entry
+    owns_end : (before : List Entry) (entry : Entry) → entry_at before x.number ≡ Some (Prepare x.name x.batch) → transaction_of before entry ≡ Some (name_at before x.number)
+        → ((key : List ℕ) → is_changed (changes_under before entry) key ≡ true → is_changed x.batch key ≡ true) → OwnsEntry new.knows before entry
     owns_end before entry there is keys = record {
-      keys = λ key changed. inr (name, h.transaction, still_has, h.keys key ∙ keys key changed);
+      keys = λ key changed. inr (x.name, h.transaction, still_has, h.keys key ∙ keys key changed);
       transaction = λ other e. (
         h.transaction,
-        subst (λ (n : List ℕ). HasTransaction new.knows n h.transaction) (sym (ap prepared_name there) ∙ same_some (name_at before number) other (sym is ∙ e)) still_has,
+        subst (λ (n : List ℕ). HasTransaction new.knows n h.transaction) (sym (ap prepared_name there) ∙ same_some (name_at before x.number) other (sym is ∙ e)) still_has,
         λ key changed. h.keys key ∙ keys key changed,
       );
     }
 
-    pub may_commit : 1 ≤ needed → MayPut new.knows history (Commit number ∷ [])
+    pub may_commit : 1 ≤ needed → MayPut new.knows history (Commit x.number ∷ [])
     may_commit one = record {
-      legal = grows_by (Commit number) one (record { orderly = record { ascending = refl; names_undecided = undecided_still; undo_is_closed = nothing_undone; keys_are_free = tt }; restores_prior = tt });
-      owned = (owns_end history (Commit number) stands_still refl (λ key changed. ap (λ (b : List Change). is_changed b key) (sym (ap prepared_batch stands_still)) ∙ changed), tt);
+      legal = grows_by (Commit x.number) one (record { orderly = record { ascending = refl; names_undecided = undecided_still; undo_is_closed = nothing_undone; keys_are_free = tt }; restores_prior = tt });
+      owned = (owns_end history (Commit x.number) stands_still refl (λ key changed. ap (λ (b : List Change). is_changed b key) (sym (ap prepared_batch stands_still)) ∙ changed), tt);
     }
 
-    -- the batch is what its keys have in the history
-    pub may_roll_back : 2 ≤ needed → (restored : List Change) → is_batch restored ≡ true → restored ≡ prior history (batch_at history number) → MayPut new.knows history (Undo number restored ∷ Close number ∷ [])
+    -- what is restored is what its keys have in the history
+    pub may_roll_back : 2 ≤ needed → (restored : List Change) → is_batch restored ≡ true → restored ≡ prior history (batch_at history x.number) → MayPut new.knows history (Undo x.number restored ∷ Close x.number ∷ [])
     may_roll_back two restored whole is =
-        let undo : IsLegalNext history (Undo number restored) = record { orderly = record { ascending = batch_ascends restored whole; names_undecided = undecided_still; undo_is_closed = nothing_undone; keys_are_free = tt }; restores_prior = is } in
-        let grown : List Entry = history ++ Undo number restored ∷ [] in
-        let first : IsLegal grown = grows_by (Undo number restored) (omega (arith, two)) undo in
-        let there : entry_at grown number ≡ Some (Prepare name batch) = entry_at_old history (Undo number restored ∷ []) number (undecided_within history number undecided_still).1 ∙ stands_still in
+        let undo : IsLegalNext history (Undo x.number restored) = record { orderly = record { ascending = batch_ascends restored whole; names_undecided = undecided_still; undo_is_closed = nothing_undone; keys_are_free = tt }; restores_prior = is } in
+        let grown : List Entry = history ++ Undo x.number restored ∷ [] in
+        let first : IsLegal grown = grows_by (Undo x.number restored) (omega (arith, two)) undo in
+        let there : entry_at grown x.number ≡ Some (Prepare x.name x.batch) = entry_at_old history (Undo x.number restored ∷ []) x.number (undecided_within history x.number undecided_still).1 ∙ stands_still in
         let a = o.numbers in let b = numbers_end log.wal.format in
         record {
-          legal = subst IsLegal (append_assoc history (Undo number restored ∷ []) (Close number ∷ []))
-              (legal_next grown (Close number) first (close_follows history number restored undo) (omega (arith, a, b, two, length_next history (Undo number restored))));
+          legal = subst IsLegal (append_assoc history (Undo x.number restored ∷ []) (Close x.number ∷ []))
+              (legal_next grown (Close x.number) first (close_follows history x.number restored undo) (omega (arith, a, b, two, length_next history (Undo x.number restored))));
           owned = (
-            owns_end history (Undo number restored) stands_still refl
-                (λ key changed. ap (λ (c : List Change). is_changed c key) (sym (ap prepared_batch stands_still)) ∙ sym (prior_changes history (batch_at history number) key) ∙ ap (λ (c : List Change). is_changed c key) (sym is) ∙ changed),
-            (owns_end grown (Close number) there refl (λ key changed. ap (λ (c : List Change). is_changed c key) (sym (ap prepared_batch there)) ∙ changed), tt),
+            owns_end history (Undo x.number restored) stands_still refl
+                (λ key changed. ap (λ (c : List Change). is_changed c key) (sym (ap prepared_batch stands_still)) ∙ sym (prior_changes history (batch_at history x.number) key) ∙ ap (λ (c : List Change). is_changed c key) (sym is) ∙ changed),
+            (owns_end grown (Close x.number) there refl (λ key changed. ap (λ (c : List Change). is_changed c key) (sym (ap prepared_batch there)) ∙ changed), tt),
           );
         }

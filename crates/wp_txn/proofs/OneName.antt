@@ -9,7 +9,7 @@ use Rattle.wp_model.proofs.Entries.{undecided_within}
 use Rattle.wp_model.proofs.Found.{found_named}
 use Rattle.wp_history_laws.proofs.Growth.{by_growth}
 use Rattle.wp_core.proofs.HistoryGrows.{none_is, before, after, at_next, undecided_before_or_now, name_at_old}
-use Rattle.wp_core.proofs.HistoryHolders.{none_named}
+use Rattle.wp_history_laws.proofs.Named.{none_named}
 
 -- a Prepare that comes next has a name that no undecided one has
 new_name : (history : List Entry) (entry : Entry) → IsLegalNext history entry → is_prepare (Some entry) ≡ true → named history (prepared_name (Some entry)) ≡ None

@@ -19,7 +19,7 @@ use Rattle.wp_core.specs.Sound.Actors.{StartsWith}
 use Rattle.wp_core.proofs.HistoryGrows.{named_stays}
 use Rattle.wp_core.proofs.HistoryLaws.{next_decides_prepare}
 use Rattle.wp_core.proofs.KeepsSeen.{shorter}
-use Rattle.wp_shared.specs.Log.{LogState}
+use Rattle.wp_parts.specs.Log.{LogState}
 use Rattle.wp_records.specs.Records.{IsAboutNone}
 use Rattle.wp_shared.specs.Notes.{is_about}
 use Rattle.wp_shared.specs.Calls.{IsLoose, Continues}
@@ -28,7 +28,7 @@ use Rattle.wp_shared.proofs.Onward.{continues_none}
 use Rattle.wp_open_txns.specs.Calls.{without_transaction, Frees}
 use Rattle.wp_txn.specs.Recording.{OpensLog, Records, HadPrior, IsPriorSince}
 use Rattle.wp_open_txns.specs.Turns.{IsApartFrom}
-use Rattle.wp_open_txns.specs.Txn.{HasLocked, HasPrepared}
+use Rattle.wp_open_txns.specs.Txn.{PreparedState, without_number, HasLocked, HasPrepared}
 use Rattle.wp_txn.specs.Writes.{HasPut, RollsBack, AsksRollback}
 use Rattle.wp_txn.proofs.Ends.{put_and_freed, number_still, locked_until, name_before, stands_before}
 use Rattle.wp_txn.proofs.Goes.{chain}
@@ -142,66 +142,63 @@ module _ (history : List Entry) (p : ℕ) (batch : List Change) (legal : IsLegal
 abbrev pub KeysKeepValues : Type 0
 KeysKeepValues = (h : List Entry) (p n : ℕ) → IsLegal h → is_undecided h p ≡ true → p ≤ n → n ≤ length h → prior (take n h) (batch_at h p) ≡ prior h (batch_at h p)
 
-module _ {D : Type 0} (z : SharedState D) (old new : SeatState) (log : LogState) (needed : ℕ) (o : OpensLog z old new log needed) (name : List ℕ) (number : ℕ) (batch : List Change) (h : HasPrepared old name number batch) where
+module _ {D : Type 0} (z : SharedState D) (old new : SeatState) (log : LogState) (needed : ℕ) (o : OpensLog z old new log needed) (x : PreparedState) (h : HasPrepared old x) where
   -- the seat saw a part of this history then
-  pub restores : KeysKeepValues → (found : List Change) → HadPrior old number batch found → found ≡ prior log.table.history (batch_at log.table.history number)
+  pub restores : KeysKeepValues → (found : List Change) → HadPrior old x.number x.batch found → found ≡ prior log.table.history (batch_at log.table.history x.number)
   restores law found had =
       let history = log.table.history in let seen = old.knows.participant.seen in let n = had.0 in let high = had.2 in
       let long = shorter history seen o.took.grown in
-      let same : batch ≡ batch_at history number = sym (ap prepared_batch (stands_still z old new log needed o name number batch h)) in
+      let same : x.batch ≡ batch_at history x.number = sym (ap prepared_batch (stands_still z old new log needed o x h)) in
       had.3 ∙ ap (prior (take n seen)) same
-      ∙ ap (λ (es : List Entry). prior es (batch_at history number)) (sym (ap (take n) o.took.grown.1 ∙ take-append-le n seen o.took.grown.0 high))
-      ∙ law history number n (legal_now z old new log needed o) (undecided_still z old new log needed o name number batch h) had.1 (omega (arith, long, high))
+      ∙ ap (λ (es : List Entry). prior es (batch_at history x.number)) (sym (ap (take n) o.took.grown.1 ∙ take-append-le n seen o.took.grown.0 high))
+      ∙ law history x.number n (legal_now z old new log needed o) (undecided_still z old new log needed o x h) had.1 (omega (arith, long, high))
 
 -- what is asked for behind a history restores what the keys have there
-pub asks_prior : {D : Type 0} (z : SharedState D) (old new : SeatState) (name : List ℕ) (number : ℕ) (batch restored : List Change) (asked : List Entry) → HasPrepared old name number batch
-    → StartsWith new.knows.participant.seen old.knows.participant.seen → asked ≡ Undo number restored ∷ Close number ∷ [] → IsLegal (new.knows.participant.seen ++ asked)
-    → AsksRollback new.knows.participant.seen (record { name = name; number = number; batch = batch }) asked
-asks_prior z old new name number batch restored asked h grown is legal =
+pub asks_prior : {D : Type 0} (z : SharedState D) (old new : SeatState) (x : PreparedState) (restored : List Change) (asked : List Entry) → HasPrepared old x
+    → StartsWith new.knows.participant.seen old.knows.participant.seen → asked ≡ Undo x.number restored ∷ Close x.number ∷ [] → IsLegal (new.knows.participant.seen ++ asked) → AsksRollback new.knows.participant.seen x asked
+asks_prior z old new x restored asked h grown is legal =
     let history = new.knows.participant.seen in
-    let k = after_front history (Undo number restored) (Close number ∷ []) (subst (λ (es : List Entry). IsLegal (history ++ es)) is legal) in
-    is
-    ∙ ap (λ (b : List Change). Undo number b ∷ Close number ∷ [])
-    (k.restores_prior ∙ ap (prior history) (ap prepared_batch (stands_before z old new name number batch h history grown)))
+    let k = after_front history (Undo x.number restored) (Close x.number ∷ []) (subst (λ (es : List Entry). IsLegal (history ++ es)) is legal) in
+    is ∙ ap (λ (b : List Change). Undo x.number b ∷ Close x.number ∷ []) (k.restores_prior ∙ ap (prior history) (ap prepared_batch (stands_before z old new x h history grown)))
 
 -- ---- the transaction is rolled back
 
 -- it is as it was, behind what left the seat as it was
-pub prepared_since : {D : Type 0} (z : SharedState D) (old new : SeatState) (name : List ℕ) (number : ℕ) (batch : List Change) → Continues z old new old.knows.participant → HasPrepared old name number batch → HasPrepared new name number batch
-prepared_since z old new name number batch begins = prepared_still old new (still z old new old.knows.participant refl refl begins) name number batch
+pub prepared_since : {D : Type 0} (z : SharedState D) (old new : SeatState) (x : PreparedState) → Continues z old new old.knows.participant → HasPrepared old x → HasPrepared new x
+prepared_since z old new x begins = prepared_still old new (still z old new old.knows.participant refl refl begins) x
 
-module _ {D : Type 0} (z : SharedState D) (old start mid : SeatState) (name : List ℕ) (number : ℕ) (batch restored : List Change) (begins : Continues z old start old.knows.participant) (h : HasPrepared start name number batch)
-    (facts : ℕ → List Fact) (n : ℕ) (r : Records z start (Undo number restored ∷ Close number ∷ []) facts (Ok n) mid) where
+module _ {D : Type 0} (z : SharedState D) (old start mid : SeatState) (x : PreparedState) (restored : List Change) (begins : Continues z old start old.knows.participant) (h : HasPrepared start x)
+    (facts : ℕ → List Fact) (n : ℕ) (r : Records z start (Undo x.number restored ∷ Close x.number ∷ []) facts (Ok n) mid) where
   abbrev before_it : List Entry
   before_it = r.1.0
 
-  rollback_is_of : (fact : Fact) → is_about (Some name) fact ≡ false → IsAboutNone before_it (Undo number restored ∷ Close number ∷ []) fact
+  rollback_is_of : (fact : Fact) → is_about (Some x.name) fact ≡ false → IsAboutNone before_it (Undo x.number restored ∷ Close x.number ∷ []) fact
   rollback_is_of fact apart =
       let grown = r.1.1.put.grown in
-      let later : StartsWith (before_it ++ Undo number restored ∷ []) start.knows.participant.seen =
-      (grown.0 ++ Undo number restored ∷ [], ap (λ (es : List Entry). es ++ Undo number restored ∷ []) grown.1 ∙ append_assoc start.knows.participant.seen grown.0 (Undo number restored ∷ [])) in (
-        ap (λ (o : Option (List ℕ)). is_about o fact) (name_before z start mid name number batch h before_it grown) ∙ apart,
-        (ap (λ (o : Option (List ℕ)). is_about o fact) (name_before z start mid name number batch h (before_it ++ Undo number restored ∷ []) later) ∙ apart, tt),
+      let later : StartsWith (before_it ++ Undo x.number restored ∷ []) start.knows.participant.seen =
+      (grown.0 ++ Undo x.number restored ∷ [], ap (λ (es : List Entry). es ++ Undo x.number restored ∷ []) grown.1 ∙ append_assoc start.knows.participant.seen grown.0 (Undo x.number restored ∷ [])) in (
+        ap (λ (o : Option (List ℕ)). is_about o fact) (name_before z start mid x h before_it grown) ∙ apart,
+        (ap (λ (o : Option (List ℕ)). is_about o fact) (name_before z start mid x h (before_it ++ Undo x.number restored ∷ []) later) ∙ apart, tt),
       )
 
-  pub rolled_back_decides : (decision_of mid.knows.participant.seen number ≡ Some n) × (number ≤ n) × (n < seq_end)
+  pub rolled_back_decides : (decision_of mid.knows.participant.seen x.number ≡ Some n) × (x.number ≤ n) × (n < seq_end)
   rolled_back_decides =
-      subst (λ (es : List Entry). (decision_of es number ≡ Some n) × (number ≤ n) × (n < seq_end)) (sym r.1.1.put.seen)
-      (rollback_decides before_it number restored r.1.1.legal n (r.0 ∙ ap (λ (es : List Entry). length es) r.1.1.put.seen))
+      subst (λ (es : List Entry). (decision_of es x.number ≡ Some n) × (x.number ≤ n) × (n < seq_end)) (sym r.1.1.put.seen)
+      (rollback_decides before_it x.number restored r.1.1.legal n (r.0 ∙ ap (λ (es : List Entry). length es) r.1.1.put.seen))
 
-  restored_is : restored ≡ prior before_it batch
-  restored_is = (after_front before_it (Undo number restored) (Close number ∷ []) r.1.1.legal).restores_prior ∙ ap (prior before_it) (ap prepared_batch (stands_before z start mid name number batch h before_it r.1.1.put.grown))
+  restored_is : restored ≡ prior before_it x.batch
+  restored_is = (after_front before_it (Undo x.number restored) (Close x.number ∷ []) r.1.1.legal).restores_prior ∙ ap (prior before_it) (ap prepared_batch (stands_before z start mid x h before_it r.1.1.put.grown))
 
   -- it has the transaction until the record is put
-  pub locked_still : HasLocked mid name batch
-  locked_still = locked_until z start start mid mid name (Undo number restored ∷ Close number ∷ []) facts n (continues_none z start begins.free) r rollback_is_of batch (prepared_locked start name number batch h)
+  pub locked_still : HasLocked mid (without_number x)
+  locked_still = locked_until z start start mid mid x.name (Undo x.number restored ∷ Close x.number ∷ []) facts n (continues_none z start begins.free) r rollback_is_of (without_number x) (prepared_locked start x h)
 
-  pub rolled_back : (new : SeatState) → Frees z mid new name → (fits z.cells (record { number = number; decision = n }) ≡ true → IsIn (has_left number) new.knows.notes) → RollsBack z old (record { name = name; number = number; batch = batch }) n new
+  pub rolled_back : (new : SeatState) → Frees z mid new x.name → (fits z.cells (record { number = x.number; decision = n }) ≡ true → IsIn (has_left x.number) new.knows.notes) → RollsBack z old x n new
   rolled_back new frees gone =
-      let entries : List Entry = Undo number restored ∷ Close number ∷ [] in
-      let Put : List Change → Type 0 = λ b. HasPut (IsApartFrom name) z old new old.knows.participant (without_transaction name old.knows.participant) before_it (Undo number b ∷ Close number ∷ []) in (
-        number_still z old start mid new name entries facts n begins r rollback_is_of frees,
-        (before_it, subst Put restored_is (put_and_freed z old start mid new name entries facts n begins r rollback_is_of frees)),
+      let entries : List Entry = Undo x.number restored ∷ Close x.number ∷ [] in
+      let Put : List Change → Type 0 = λ b. HasPut (IsApartFrom x.name) z old new old.knows.participant (without_transaction x.name old.knows.participant) before_it (Undo x.number b ∷ Close x.number ∷ []) in (
+        number_still z old start mid new x.name entries facts n begins r rollback_is_of frees,
+        (before_it, subst Put restored_is (put_and_freed z old start mid new x.name entries facts n begins r rollback_is_of frees)),
         gone,
         frees.freed,
       )

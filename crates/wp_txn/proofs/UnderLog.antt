@@ -1,5 +1,5 @@
 -- A seat that took the write turn, put a record into the history or could not, and gave the turn.
-use Rattle.std.proofs.Common.{◌≡◌, ◌⊎◌, ⊎_elim, inl, inr, ℕ, suc, ◌+◌, ◌≤◌, ◌<◌, Bool, cond, true, false, List, [], ◌∷◌, ◌++◌, length, min, refl, sym, subst, ap, ◌∙◌, Some, None, is_some, length-append, eq-eqb, arith}
+use Rattle.std.proofs.Common.{◌≡◌, ◌⊎◌, ⊎_elim, inl, inr, ℕ, suc, ◌+◌, ◌-◌, ◌^◌, ◌≤◌, ◌<◌, Bool, cond, true, false, List, [], ◌∷◌, ◌++◌, length, min, refl, sym, subst, ap, ◌∙◌, Some, None, is_some, length-append, eq-eqb, arith}
 use Rattle.std.specs.Prelude.{Result, Ok, Err}
 use Rattle.std.specs.FinMap as finite
 use Rattle.std.proofs.lemmas.Slice.Eq.{bytes_eq-Decides}
@@ -11,10 +11,11 @@ use Rattle.wp_model.specs.declared.segment.Segment.{Segment}
 use Rattle.wp_model.specs.declared.entry.Entry.TheVariants.{Prepare, Commit, Undo, Close}
 use Rattle.wp_model.proofs.Found.{found_named}
 use Rattle.wp_fields.specs.declared.format.Format.{Format}
+use Rattle.wp_fields.specs.declared.format.Format.TheVariants.{One, Two}
 use Rattle.wp_entry.specs.Record.{last_number}
-use Rattle.wp_records.specs.Ways.{way_of, ways_of, MayPrecede, AreApart}
-use Rattle.wp_records.specs.Way.{Way}
-use Rattle.wp_records.specs.Way.TheVariants.{Undecided, InWord, Delayed}
+use Rattle.wp_commits.specs.Ways.{way_of, ways_of, MayPrecede, AreApart}
+use Rattle.wp_commits.specs.declared.way.Way.{Way}
+use Rattle.wp_commits.specs.declared.way.Way.TheVariants.{Undecided, InWord, Delayed}
 use Rattle.wp_judge.specs.Words.{fits}
 use Rattle.wp_core.specs.Conditions.{NoneNext}
 use Rattle.wp_core.specs.Entries.{transaction_of, pair_by}
@@ -37,8 +38,8 @@ use Rattle.wp_rule.proofs.Knows.{at_sound}
 use Rattle.wp_shared.proofs.Tables.{held_table, in_place}
 use Rattle.wp_shared.specs.Limits.{limit_at}
 use Rattle.wp_shared.proofs.Limits.{limit_is}
-use Rattle.wp_shared.specs.Log.{LogState, IsLog, format_at}
-use Rattle.wp_shared.specs.Parts.{log_first}
+use Rattle.wp_parts.specs.Log.{LogState, IsLog, format_at}
+use Rattle.wp_parts.specs.Parts.{log_first}
 use Rattle.wp_records.specs.declared.error.WriteError.{WriteError}
 use Rattle.wp_records.specs.declared.error.WriteError.TheVariants as write_error
 use Rattle.wp_records.specs.Records.{numbers_behind, putting, IsAboutNone, failing, MayPut, IsPut, IsNotPut, IsUncalled}
@@ -202,6 +203,11 @@ module _ {D : Type 0} (z : SharedState D) (old s : SeatState) (log : LogState) (
         ),
         left_alone log new false seen running is_log took.of_store is_log refl,
       )
+
+-- a sum that is no number of its type is above each limit
+pub unsaturated : (sum found limit most : ℕ) (format : Format) → found ≡ min sum (2 ^ 64 - 1) → limit ≡ min most (last_number format) → found ≤ limit → sum ≤ limit
+unsaturated sum found limit most One is at low = omega (arith, is, at, low)
+unsaturated sum found limit most Two is at low = omega (arith, is, at, low)
 
 -- ---- a record
 

@@ -11,10 +11,11 @@ use Rattle.wp_core.specs.Lists.{IsIn}
 use Rattle.wp_core.specs.Sound.Views.{guarded_by}
 use Rattle.wp_core.specs.Views.{Fact, undecided_at, unprepared, direct_free}
 use Rattle.wp_core.specs.World.{Participant}
-use Rattle.wp_shared.specs.Log.{LogState, IsLog}
+use Rattle.wp_parts.specs.Log.{LogState, IsLog}
 use Rattle.wp_records.specs.declared.error.WriteError.{WriteError}
 use Rattle.wp_records.specs.declared.error.WriteError.TheVariants as write_error
-use Rattle.wp_records.specs.Records.{IsAboutNone, IsPut, Puts}
+use Rattle.wp_commits.specs.Ways.{ways_of, AreApart}
+use Rattle.wp_records.specs.Records.{IsAboutNone, MayPut, IsPut, Puts}
 use Rattle.wp_records.specs.Writing.{HoldsWrite}
 use Rattle.wp_shared.specs.Calls.{ContinuesWith, Continues}
 use Rattle.wp_shared.specs.Limits.{limit_at}
@@ -53,6 +54,11 @@ pub record OpensLog {D : Type 0} (z : SharedState D) (old new : SeatState) (log 
   pub within : length log.table.history + needed ≤ limit_at z took.world.installed.last.segment.base
   pub numbers : length log.table.history + needed ≤ last_number log.wal.format
   pub is_log : IsLog log
+
+-- these entries may be put into whatever log the seat finds running, so much may be noted of them, and their pairs are kept apart
+pub record MayRecord {D : Type 0} (z : SharedState D) (s : SeatState) (entries : List Entry) (noting : Noting) : Type 0 where
+  pub may : (t : SeatState) (log : LogState) → OpensLog z s t log (length entries) → MayPut t.knows log.table.history entries × MayNote noting log.table.history entries
+  pub apart : (n : ℕ) → AreApart z.cells (ways_of z.cells n entries)
 
 -- what a record leaves, behind which these facts are noted while the write turn is held
 abbrev pub PutsNoting : {D : Type 0} → SharedState D → SeatState → LogState → List Entry → List Fact → Result (Unit {0}) WriteError → SeatState → LogState → Type 0

@@ -15,8 +15,8 @@ use Rattle.wp_core.specs.Lists.{IsIn}
 use Rattle.wp_core.specs.Sound.Pasts.{is_log_fault}
 use Rattle.wp_core.specs.Views.{Event, Fact, has_left, locked, log_failed, stopped}
 use Rattle.wp_core.specs.World.{Participant}
-use Rattle.wp_shared.specs.Log.{LogState, IsLog}
-use Rattle.wp_shared.specs.Parts.{log_first}
+use Rattle.wp_parts.specs.Log.{LogState, IsLog}
+use Rattle.wp_parts.specs.Parts.{log_first}
 use Rattle.wp_records.specs.Writing.{FoundLog}
 use Rattle.wp_records.specs.Records.{numbers_behind, failing, FailsAppend, IsUncalled}
 use Rattle.wp_shared.specs.Calls.{ContinuesWith, Continues, with_events}
@@ -141,7 +141,7 @@ WritesDirect z old change (Ok n) new =
     × HasPutThese (λ fact. guarded_by fact ≡ None) z old new (writing_direct (key_of change) old.knows.participant) (wrote_direct (key_of change) old.knows.participant) (Write (change ∷ []) ∷ [])
     × KeyIsFree z old new (key_of change)
 WritesDirect z old change (Err (Busy holder)) new = Finds z old new (Some (key_of change)) holder
-WritesDirect z old change (Err Memory) new = Keeps z old new ⊎ Continues z old new (wrote_direct (key_of change) old.knows.participant)
+WritesDirect z old change (Err Memory) new = Keeps z old new ⊎ (Continues z old new (wrote_direct (key_of change) old.knows.participant) × KeyIsFree z old new (key_of change))
 WritesDirect z old change (Err why) new =
     Refuses z old new 1 (λ entries. entries ≡ Write (change ∷ []) ∷ []) (writing_direct (key_of change) old.knows.participant) (wrote_direct (key_of change) old.knows.participant) why
     × KeyIsFree z old new (key_of change)
@@ -150,7 +150,7 @@ WritesDirect z old change (Err why) new =
 
 abbrev pub Prepares : {D : Type 0} → SharedState D → SeatState → OpenState → PreparedState → ℕ → SeatState → Type 0
 Prepares z old txn prepared n new =
-    (n ≡ length new.knows.participant.seen) × (prepared ≡ record { name = txn.name; number = n; batch = txn.batch }) × HasPrepared new txn.name n txn.batch
+    (n ≡ length new.knows.participant.seen) × (prepared ≡ record { name = txn.name; number = n; batch = txn.batch }) × HasPrepared new prepared
     × HasPutThese (IsApartFrom txn.name) z old new old.knows.participant old.knows.participant (Prepare txn.name txn.batch ∷ [])
 
 -- These entries end the transaction of that name, which the seat has no more. Its name and its keys are free again.
@@ -177,7 +177,7 @@ RollsBack z old txn n new =
 
 -- it is refused, and the transaction is as it was
 abbrev pub RefusesOpen : {D : Type 0} → SharedState D → SeatState → OpenState → Entry → OpenState → TxnError → SeatState → Type 0
-RefusesOpen z old txn entry left why new = (left ≡ txn) × HasOpen new txn.name txn.batch × Refuses z old new 1 (λ entries. entries ≡ entry ∷ []) old.knows.participant old.knows.participant why
+RefusesOpen z old txn entry left why new = (left ≡ txn) × HasOpen new left × Refuses z old new 1 (λ entries. entries ≡ entry ∷ []) old.knows.participant old.knows.participant why
 
 -- the entries that a commit asks for behind this history, and a rollback
 abbrev pub AsksCommit : List Entry → PreparedState → List Entry → Type 0
@@ -187,4 +187,4 @@ abbrev pub AsksRollback : List Entry → PreparedState → List Entry → Type 0
 AsksRollback history txn entries = entries ≡ Undo txn.number (prior history txn.batch) ∷ Close txn.number ∷ []
 
 abbrev pub RefusesPrepared : {D : Type 0} → SharedState D → SeatState → PreparedState → ℕ → (List Entry → PreparedState → List Entry → Type 0) → PreparedState → TxnError → SeatState → Type 0
-RefusesPrepared z old txn needed Asks left why new = (left ≡ txn) × HasPrepared new txn.name txn.number txn.batch × Refuses z old new needed (Asks new.knows.participant.seen txn) old.knows.participant old.knows.participant why
+RefusesPrepared z old txn needed Asks left why new = (left ≡ txn) × HasPrepared new left × Refuses z old new needed (Asks new.knows.participant.seen txn) old.knows.participant old.knows.participant why

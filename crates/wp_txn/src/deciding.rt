@@ -5,19 +5,19 @@ ghost use Rattle.wp_judge.specs.Words.{seq_end};
 ghost use Rattle.wp_model.specs.Decision.{decision_of};
 ghost use Rattle.wp_core.specs.Lists.{IsIn};
 ghost use Rattle.wp_core.specs.Views.{has_left, unprepared};
-ghost use Rattle.wp_shared.specs.Seats.{IsFree};
+ghost use Rattle.wp_shared.specs.Seats.{IsFree, participant_of, seen_by};
 ghost use Rattle.wp_open_txns.specs.Calls.{Frees};
-ghost use Rattle.wp_open_txns.specs.Txn.{HasLocked, HasPrepared};
+ghost use Rattle.wp_open_txns.specs.Txn.{HasLocked, HasPrepared, without_number};
 ghost use Rattle.wp_txn.specs.Writes.{RefusesBeforeLog, Commits, AsksCommit, RefusesPrepared};
 
-use crate::recording::record_commit;
+use crate::recording::{Noting, record};
 use std::alloc::Global;
 use std::sync::Wait;
 use wp_judge::fits;
 use wp_model::Seq;
-use wp_open_txns::{PreparedTxn, Refused, free};
+use wp_open_txns::{OpenTxn, PreparedTxn, Refused, TxnError, free};
 use wp_outside::Disk;
-use wp_records::forget_prepared;
+use wp_records::{Record, forget_prepared};
 use wp_shared::{Seat, Shared};
 
 /// Frees a transaction whose prepare is decided, and takes the number of that out of the prepared tables, where its pair fits a word.
@@ -30,9 +30,9 @@ pub(crate) fn end<D: Disk + Drop, R: Wait>(
     decision: Seq,
 )
     requires free { IsFree store.now.table seat.old }
-    requires has { HasLocked seat.old txn.name txn.batch }
+    requires has { HasLocked seat.old (without_number txn) }
     requires noted { IsIn (unprepared txn.name) seat.old.knows.notes }
-    requires decided { decision_of seat.old.knows.participant.seen txn.number ≡ Some decision }
+    requires decided { decision_of (seen_by seat.old) txn.number ≡ Some decision }
     requires order { (txn.number ≤ decision) × (decision < seq_end) }
     ensures frees { Frees store.now seat.old seat.new txn.name }
     ensures gone { words.fits store.now.cells (record { number = txn.number; decision = decision }) ≡ true → IsIn (has_left txn.number) seat.new.knows.notes }
@@ -42,7 +42,7 @@ pub(crate) fn end<D: Disk + Drop, R: Wait>(
         number,
         batch,
     } = txn;
-    free(store, rt, seat, name, batch);
+    free(store, rt, seat, OpenTxn { name, batch });
     if !fits(store.bits(), number, decision) {
         return;
     }
@@ -58,12 +58,18 @@ pub fn commit<D: Disk + Drop, R: Wait>(
     txn: PreparedTxn,
 ) -> Result<Seq, Refused<PreparedTxn>>
     requires free { IsFree store.now.table seat.old }
-    requires prepared { HasPrepared seat.old txn.name txn.number txn.batch }
+    requires prepared { HasPrepared seat.old txn }
     ensures ok { IfOk result (λ n. Commits store.now seat.old txn n seat.new) }
     ensures refused { IfErr result (λ r. RefusesPrepared store.now seat.old txn 1 AsksCommit r.txn r.why seat.new) }
-    ensures before_log { IfErr result (λ r. RefusesBeforeLog store.now seat.old.knows.participant seat.old r.why seat.new) }
+    ensures before_log { IfErr result (λ r. RefusesBeforeLog store.now (participant_of seat.old) seat.old r.why seat.new) }
 {
-    match record_commit(store, rt, alloc, seat, &txn) {
+    let Ok(commit) = Record::commit(alloc, txn.number) else {
+        return Err(Refused {
+            txn,
+            why: TxnError::Memory,
+        });
+    };
+    match record(store, rt, seat, commit, Noting::Unprepared(&txn.name)) {
         Ok(number) => {
             end(store, rt, seat, txn, number);
             Ok(number)

@@ -3,20 +3,21 @@ ghost use Rattle.std.specs.Prelude.{◌≡◌, [], Some, None, IfErr};
 ghost use Rattle.wp_core.specs.Tables.{locks};
 ghost use Rattle.wp_model.specs.Batch.{key_of};
 ghost use Rattle.wp_model.specs.declared.holder.Holder.TheVariants.{Client};
-ghost use Rattle.wp_shared.specs.Seats.{IsFree};
+ghost use Rattle.wp_shared.specs.Seats.{IsFree, participant_of};
 ghost use Rattle.wp_shared.specs.Turns.{HoldsTurn};
 ghost use Rattle.wp_txn.specs.Recording.{HoldsDirect, EndsDirect};
 ghost use Rattle.wp_open_txns.specs.Under.{LocksDirect};
 ghost use Rattle.wp_txn.specs.Writes.{RefusesBeforeLog, WritesDirect, writing_direct};
 
-use crate::recording::record_write;
+use crate::recording::{Noting, record};
 use crate::steps::{free_direct, lock_direct};
 use std::alloc::Global;
 use std::sync::Wait;
 use wp_locks::Locks;
-use wp_model::{Batch, Change, Holder, Key, Seq};
+use wp_model::{Change, Holder, Key, Seq};
 use wp_open_txns::{TxnError, lock_for};
 use wp_outside::Disk;
+use wp_records::Record;
 use wp_shared::{Seat, Shared};
 
 /// Locks the key for the direct write of the seat's client, or finds its holder.
@@ -81,12 +82,12 @@ pub fn write<D: Disk + Drop, R: Wait>(
     requires free { IsFree store.now.table seat.old }
     requires none { seat.old.knows.participant.direct ≡ None }
     ensures answers { WritesDirect store.now seat.old change result seat.new }
-    ensures before_log { IfErr result (λ why. RefusesBeforeLog store.now (writing_direct (key_of change) seat.old.knows.participant) seat.old why seat.new) }
+    ensures before_log { IfErr result (λ why. RefusesBeforeLog store.now (writing_direct (key_of change) (participant_of seat.old)) seat.old why seat.new) }
 {
-    let batch = Batch::of(alloc, change)?;
-    let key = batch.changes()[0].key();
-    hold(store, rt, alloc, seat, key)?;
-    let outcome = record_write(store, rt, alloc, seat, &batch);
-    give_back(store, rt, seat, key);
+    let key = change.key().copy(alloc)?;
+    let write = Record::write_one(alloc, change)?;
+    hold(store, rt, alloc, seat, &key)?;
+    let outcome = record(store, rt, seat, write, Noting::Nothing);
+    give_back(store, rt, seat, &key);
     outcome
 }

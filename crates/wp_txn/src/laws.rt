@@ -2,7 +2,7 @@
 ghost use Rattle.std.specs.Prelude.{◌≡◌, ◌⊎◌, List, Err};
 ghost use Rattle.wp_model.specs.declared.entry.Entry.{Entry};
 ghost use Rattle.wp_core.specs.World.{Participant};
-ghost use Rattle.wp_shared.specs.Log.{LogState};
+ghost use Rattle.wp_parts.specs.Log.{LogState};
 ghost use Rattle.wp_records.specs.declared.error.WriteError.{WriteError};
 ghost use Rattle.wp_records.specs.declared.error.WriteError.TheVariants as write_error;
 ghost use Rattle.wp_records.specs.Records.{Puts, IsUncalled, FailsAppend};

@@ -31,6 +31,6 @@ pub use laws::behind_an_append_only_the_device_refuses;
 pub use preparing::{commit_now, prepare};
 pub use undoing::rollback;
 pub use wp_open_txns::{
-    OpenTxn, PreparedTxn, Refused, TxnError, abandon, begin, del, hear, leave, put, take_prepared,
+    OpenTxn, PreparedTxn, Refused, TxnError, abandon, begin, hear, leave, stage, take_prepared,
     tell,
 };

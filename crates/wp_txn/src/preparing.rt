@@ -1,16 +1,17 @@
 //! An open transaction is prepared, or committed at once.
 ghost use Rattle.std.specs.Prelude.{◌≡◌, IfOk, IfErr};
-ghost use Rattle.wp_shared.specs.Seats.{IsFree};
+ghost use Rattle.wp_shared.specs.Seats.{IsFree, participant_of};
 ghost use Rattle.wp_open_txns.specs.Txn.{HasOpen};
 ghost use Rattle.wp_model.specs.declared.entry.Entry.TheVariants.{Write, Prepare};
 ghost use Rattle.wp_txn.specs.Writes.{RefusesBeforeLog, Prepares, CommitsNow, RefusesOpen};
 
-use crate::recording::{record_prepare, record_write, shows_batch};
+use crate::recording::{Noting, record, shows_batch};
 use std::alloc::Global;
 use std::sync::Wait;
 use wp_model::Seq;
-use wp_open_txns::{OpenTxn, PreparedTxn, Refused, free};
+use wp_open_txns::{OpenTxn, PreparedTxn, Refused, TxnError, free};
 use wp_outside::Disk;
+use wp_records::Record;
 use wp_shared::{Seat, Shared};
 
 /// Prepares the transaction: its changes go to the log and into memory, and are not committed. The answer is the number of its
@@ -23,12 +24,19 @@ pub fn prepare<D: Disk + Drop, R: Wait>(
     txn: OpenTxn,
 ) -> Result<(PreparedTxn, Seq), Refused<OpenTxn>>
     requires free { IsFree store.now.table seat.old }
-    requires open { HasOpen seat.old txn.name txn.batch }
+    requires open { HasOpen seat.old txn }
     ensures ok { IfOk result (λ r. Prepares store.now seat.old txn r.0 r.1 seat.new) }
     ensures refused { IfErr result (λ r. RefusesOpen store.now seat.old txn (Prepare txn.name txn.batch) r.txn r.why seat.new) }
-    ensures before_log { IfErr result (λ r. RefusesBeforeLog store.now seat.old.knows.participant seat.old r.why seat.new) }
+    ensures before_log { IfErr result (λ r. RefusesBeforeLog store.now (participant_of seat.old) seat.old r.why seat.new) }
 {
-    match record_prepare(store, rt, alloc, seat, &txn) {
+    shows_batch(&txn.batch);
+    let Ok(prepare) = Record::prepare(alloc, &txn.name, &txn.batch) else {
+        return Err(Refused {
+            txn,
+            why: TxnError::Memory,
+        });
+    };
+    match record(store, rt, seat, prepare, Noting::Undecided(&txn.name)) {
         Ok(number) => {
             let OpenTxn { name, batch } = txn;
             let prepared = PreparedTxn {
@@ -51,16 +59,21 @@ pub fn commit_now<D: Disk + Drop, R: Wait>(
     txn: OpenTxn,
 ) -> Result<Seq, Refused<OpenTxn>>
     requires free { IsFree store.now.table seat.old }
-    requires open { HasOpen seat.old txn.name txn.batch }
+    requires open { HasOpen seat.old txn }
     ensures ok { IfOk result (λ n. CommitsNow store.now seat.old txn n seat.new) }
     ensures refused { IfErr result (λ r. RefusesOpen store.now seat.old txn (Write txn.batch) r.txn r.why seat.new) }
-    ensures before_log { IfErr result (λ r. RefusesBeforeLog store.now seat.old.knows.participant seat.old r.why seat.new) }
+    ensures before_log { IfErr result (λ r. RefusesBeforeLog store.now (participant_of seat.old) seat.old r.why seat.new) }
 {
     shows_batch(&txn.batch);
-    match record_write(store, rt, alloc, seat, &txn.batch) {
+    let Ok(write) = Record::write(alloc, &txn.batch) else {
+        return Err(Refused {
+            txn,
+            why: TxnError::Memory,
+        });
+    };
+    match record(store, rt, seat, write, Noting::Nothing) {
         Ok(number) => {
-            let OpenTxn { name, batch } = txn;
-            free(store, rt, seat, name, batch);
+            free(store, rt, seat, txn);
             Ok(number)
         }
         Err(why) => Err(Refused { txn, why }),

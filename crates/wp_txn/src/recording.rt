@@ -1,29 +1,24 @@
 //! A record of entries, from the taking of the write turn to its giving.
-ghost use Rattle.std.specs.Prelude.{◌≡◌, ◌+◌, ◌≤◌, ℕ, min, true, false, List, [], ◌∷◌, length, IfOk, IfErr};
+ghost use Rattle.std.specs.Prelude.{◌≡◌, ◌+◌, ◌≤◌, ℕ, min, true, false, List, [], length, IfOk, IfErr};
 ghost use Rattle.wp_model.specs.Batch.{is_batch};
-ghost use Rattle.wp_model.specs.declared.entry.Entry.TheVariants.{Write, Prepare, Commit, Undo, Close};
 ghost use Rattle.wp_fields.specs.declared.format.Format.TheVariants.{Two};
 ghost use Rattle.wp_entry.specs.Record.{last_number};
 ghost use Rattle.wp_core.specs.Turns.{write_turn};
-ghost use Rattle.wp_core.specs.Views.{undecided_at, unprepared};
-ghost use Rattle.wp_records.specs.Ways.{ways_of, AreApart};
-ghost use Rattle.wp_shared.specs.Log.{LogState, IsLog};
+ghost use Rattle.wp_commits.specs.Ways.{ways_of, AreApart};
+ghost use Rattle.wp_parts.specs.Log.{IsLog};
 ghost use Rattle.wp_records.specs.Records.{MayPut};
 ghost use Rattle.wp_records.specs.Writing.{HoldsWrite};
-ghost use Rattle.wp_shared.specs.Seats.{IsFree, SeatState};
-ghost use Rattle.wp_shared.specs.Turns.{Given};
-ghost use Rattle.wp_txn.specs.Recording.{OpensLog, MayNote, notes_of, PutsNoting, Records, HadPrior, answer_of};
-ghost use Rattle.wp_open_txns.specs.Txn.{HasOpen, HasPrepared};
+ghost use Rattle.wp_shared.specs.Seats.{IsFree, held_by, participant_of};
+ghost use Rattle.wp_shared.specs.Turns.{Given, history_in};
+ghost use Rattle.wp_txn.specs.Recording.{OpensLog, MayNote, MayRecord, notes_of, PutsNoting, Records, answer_of};
 ghost use Rattle.wp_txn.specs.Writes.{Refuses, MayLeaveDevice};
 
 use crate::steps::{find_log_closed, note_undecided, note_unprepared};
-use std::alloc::Global;
 use std::sync::Wait;
 use wp_fields::Format;
 use wp_model::{Batch, Name, Seq};
-use wp_open_txns::{OpenTxn, PreparedTxn, TxnError};
+use wp_open_txns::TxnError;
 use wp_outside::Disk;
-use wp_read::laws::held_keys_keep_their_values;
 use wp_records::{Record, WriteError, put};
 use wp_shared::{Log, Seat, Shared};
 
@@ -57,9 +52,8 @@ fn open_log<D: Disk + Drop, R: Wait>(
     needed: Seq,
 ) -> Result<Box<Log<D>>, TxnError>
     requires free { IsFree store.now.table seat.old }
-    requires needed { needed ≤ 2 }
     ensures ok { IfOk result (λ log. OpensLog store.now seat.old seat.new log.value needed) }
-    ensures refused { IfErr result (λ why. Refuses store.now seat.old seat.new needed (λ asked. ⊥) seat.old.knows.participant seat.old.knows.participant why × MayLeaveDevice store.now seat.old.knows.participant seat.old why seat.new) }
+    ensures refused { IfErr result (λ why. Refuses store.now seat.old seat.new needed (λ asked. ⊥) (participant_of seat.old) (participant_of seat.old) why × MayLeaveDevice store.now (participant_of seat.old) seat.old why seat.new) }
 {
     let log = store.take_log(rt, seat);
     log.devices_agree();
@@ -70,7 +64,7 @@ fn open_log<D: Disk + Drop, R: Wait>(
         return Err(TxnError::Stopped(published));
     }
     let limit = least_limit(store.limit(), log.format());
-    if published + needed > limit {
+    if published.saturating_add(needed) > limit {
         store.give_turn(seat, log);
         return Err(TxnError::NumbersFull { published, limit });
     }
@@ -110,11 +104,11 @@ fn put_noting<D: Disk + Drop, R: Wait>(
 ) -> Result<(), WriteError>
     requires holds { HoldsWrite store.now seat.old log.old }
     requires running { log.old.table.closed ≡ false }
-    requires may { MayPut seat.old.knows log.old.table.history entries }
+    requires may { MayPut seat.old.knows (history_in log.old) entries }
     requires apart { (n : ℕ) → AreApart store.now.cells (ways_of store.now.cells n entries) }
-    requires within { length log.old.table.history + length entries ≤ last_number log.old.wal.format }
-    requires noting { MayNote noting log.old.table.history entries }
-    ensures { PutsNoting store.now seat.old log.old entries (notes_of noting.entry (length log.new.table.history)) result seat.new log.new }
+    requires within { length (history_in log.old) + length entries ≤ last_number log.old.wal.format }
+    requires noting { MayNote noting (history_in log.old) entries }
+    ensures { PutsNoting store.now seat.old log.old entries (notes_of noting.entry (length (history_in log.new))) result seat.new log.new }
 {
     put(store, rt, seat, log, entries)?;
     match noting {
@@ -132,7 +126,7 @@ fn put_noting<D: Disk + Drop, R: Wait>(
 
 /// Puts the record into the history, where it may come next, and notes what is to be noted of it. The answer is the number of
 /// its last entry.
-fn record_entries<D: Disk + Drop, R: Wait>(
+pub(crate) fn record<D: Disk + Drop, R: Wait>(
     store: &Shared<D>,
     rt: &R,
     seat: &mut Seat<D>,
@@ -140,9 +134,7 @@ fn record_entries<D: Disk + Drop, R: Wait>(
     noting: Noting,
 ) -> Result<Seq, TxnError>
     requires free { IsFree store.now.table seat.old }
-    requires few { length entries ≤ 2 }
-    requires may { (s : SeatState) (log : LogState) → OpensLog store.now seat.old s log (length entries) → MayPut s.knows log.table.history entries × MayNote noting log.table.history entries }
-    requires apart { (n : ℕ) → AreApart store.now.cells (ways_of store.now.cells n entries) }
+    requires may { MayRecord store.now seat.old entries noting }
     ensures { Records store.now seat.old entries (notes_of noting.entry) result seat.new }
 {
     let mut log = open_log(store, rt, seat, entries.len() as Seq)?;
@@ -155,79 +147,4 @@ pub(crate) fn shows_batch(batch: &Batch)
     ensures { is_batch batch.now ≡ true }
 {
     batch.changes();
-}
-
-/// Puts a Write entry with these changes into the history, where it may come next. The answer is its number.
-pub(crate) fn record_write<D: Disk + Drop, R: Wait>(
-    store: &Shared<D>,
-    rt: &R,
-    alloc: Global,
-    seat: &mut Seat<D>,
-    batch: &Batch,
-) -> Result<Seq, TxnError>
-    requires free { IsFree store.now.table seat.old }
-    requires may { (s : SeatState) (log : LogState) → OpensLog store.now seat.old s log 1 → MayPut s.knows log.table.history (Write batch.now ∷ []) }
-    ensures { Records store.now seat.old (Write batch.now ∷ []) (λ n. []) result seat.new }
-{
-    record_entries(
-        store,
-        rt,
-        seat,
-        Record::write(alloc, batch)?,
-        Noting::Nothing,
-    )
-}
-
-/// Puts the Prepare entry of an open transaction into the history. The answer is its number, which is noted.
-pub(crate) fn record_prepare<D: Disk + Drop, R: Wait>(
-    store: &Shared<D>,
-    rt: &R,
-    alloc: Global,
-    seat: &mut Seat<D>,
-    txn: &OpenTxn,
-) -> Result<Seq, TxnError>
-    requires free { IsFree store.now.table seat.old }
-    requires open { HasOpen seat.old txn.now.name txn.now.batch }
-    ensures { Records store.now seat.old (Prepare txn.now.name txn.now.batch ∷ []) (λ n. undecided_at txn.now.name n ∷ []) result seat.new }
-{
-    shows_batch(&txn.batch);
-    let prepare = Record::prepare(alloc, &txn.name, &txn.batch)?;
-    record_entries(store, rt, seat, prepare, Noting::Undecided(&txn.name))
-}
-
-/// Puts the Commit entry of a prepared transaction into the history. The answer is its number. That no prepare has the name is noted.
-pub(crate) fn record_commit<D: Disk + Drop, R: Wait>(
-    store: &Shared<D>,
-    rt: &R,
-    alloc: Global,
-    seat: &mut Seat<D>,
-    txn: &PreparedTxn,
-) -> Result<Seq, TxnError>
-    requires free { IsFree store.now.table seat.old }
-    requires prepared { HasPrepared seat.old txn.now.name txn.now.number txn.now.batch }
-    ensures { Records store.now seat.old (Commit txn.now.number ∷ []) (λ n. unprepared txn.now.name ∷ []) result seat.new }
-{
-    let commit = Record::commit(alloc, txn.number)?;
-    record_entries(store, rt, seat, commit, Noting::Unprepared(&txn.name))
-}
-
-/// Puts the Undo entry and the Close entry of a prepared transaction into the history, with what its keys have there. The answer
-/// is the number of the Close. That no prepare has the name is noted.
-pub(crate) fn record_rollback<D: Disk + Drop, R: Wait>(
-    store: &Shared<D>,
-    rt: &R,
-    alloc: Global,
-    seat: &mut Seat<D>,
-    txn: &PreparedTxn,
-    prior: &Batch,
-) -> Result<Seq, TxnError>
-    requires free { IsFree store.now.table seat.old }
-    requires prepared { HasPrepared seat.old txn.now.name txn.now.number txn.now.batch }
-    requires prior { HadPrior seat.old txn.now.number txn.now.batch prior.now }
-    ensures { Records store.now seat.old (Undo txn.now.number prior.now ∷ Close txn.now.number ∷ []) (λ n. unprepared txn.now.name ∷ []) result seat.new }
-{
-    held_keys_keep_their_values();
-    shows_batch(prior);
-    let rollback = Record::roll_back(alloc, txn.number, prior)?;
-    record_entries(store, rt, seat, rollback, Noting::Unprepared(&txn.name))
 }

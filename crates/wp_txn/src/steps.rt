@@ -11,7 +11,8 @@ ghost use Rattle.wp_core.specs.Tables.{writes, locks};
 ghost use Rattle.wp_core.specs.Views.{unprepared, undecided_at};
 ghost use Rattle.wp_core.specs.World.{World};
 ghost use Rattle.wp_shared.specs.Notes.{with_note, seat_of};
-ghost use Rattle.wp_shared.specs.Seats.{Stands};
+ghost use Rattle.wp_shared.specs.Seats.{Stands, held_by};
+ghost use Rattle.wp_shared.specs.Turns.{history_in};
 ghost use Rattle.wp_open_txns.specs.Actors.{with_direct, with_stopped};
 ghost use Rattle.wp_open_txns.specs.Turns.{IsWithoutDirect};
 
@@ -25,8 +26,8 @@ use wp_shared::{Log, Seat, Shared};
 pub(crate) fn lock_direct<D: Disk + Drop>(store: &Shared<D>, seat: &mut Seat<D>, key: &Key)
     requires seat { (seat.old.table ≡ store.now.table) × (seat.old.knows.live ≡ true) }
     requires none { seat.old.knows.participant.direct ≡ None }
-    requires free { (t : LockState) × IsIn (locks t) seat.old.knows.held × (is_free_for (finite.get t.keys key.now) (Client seat.old.knows.participant.client) ≡ true) }
-    ensures { (t : LockState) → IsIn (locks t) seat.old.knows.held → seat.new ≡ seat_of seat.old (with_direct t key.now seat.old.knows) }
+    requires free { (t : LockState) × IsIn (locks t) (held_by seat.old) × (is_free_for (finite.get t.keys key.now) (Client seat.old.knows.participant.client) ≡ true) }
+    ensures { (t : LockState) → IsIn (locks t) (held_by seat.old) → seat.new ≡ seat_of seat.old (with_direct t key.now seat.old.knows) }
 {
     store.make_about::<Brand, Key>(seat, key);
 }
@@ -39,7 +40,7 @@ pub(crate) fn free_direct<D: Disk + Drop>(
     key: &Key,
 )
     requires seat { seat.old.table ≡ store.now.table }
-    requires held { IsIn (locks tables.now) seat.old.knows.held }
+    requires held { IsIn (locks tables.now) (held_by seat.old) }
     requires has { seat.old.knows.participant.direct ≡ Some key.now }
     ensures without { IsWithoutDirect seat.old seat.new (without_key tables.now key.now) }
     ensures stands { (w : World) × Stands store.now seat.new w }
@@ -50,9 +51,9 @@ pub(crate) fn free_direct<D: Disk + Drop>(
 /// The seat found the log closed.
 pub(crate) fn find_log_closed<D: Disk + Drop>(store: &Shared<D>, seat: &mut Seat<D>, log: &Log<D>)
     requires seat { seat.old.table ≡ store.now.table }
-    requires held { IsIn (writes log.now.table) seat.old.knows.held }
+    requires held { IsIn (writes log.now.table) (held_by seat.old) }
     requires closed { log.now.table.closed ≡ true }
-    ensures { seat.new ≡ seat_of seat.old (with_stopped (length log.now.table.history) seat.old.knows) }
+    ensures { seat.new ≡ seat_of seat.old (with_stopped (length (history_in log.now)) seat.old.knows) }
 {
     store.make::<Brand>(seat);
 }
@@ -66,9 +67,9 @@ pub(crate) fn note_undecided<D: Disk + Drop>(
     number: Seq,
 )
     requires seat { (seat.old.table ≡ store.now.table) × (seat.old.knows.live ≡ true) }
-    requires held { IsIn (writes log.now.table) seat.old.knows.held }
+    requires held { IsIn (writes log.now.table) (held_by seat.old) }
     requires has { is_some (finite.get seat.old.knows.participant.transactions name.now) ≡ true }
-    requires prepare { named log.now.table.history name.now ≡ Some number }
+    requires prepare { named (history_in log.now) name.now ≡ Some number }
     ensures { seat.new ≡ seat_of seat.old (with_note (undecided_at name.now number) seat.old.knows) }
 {
     store.make_about::<Brand, (&Name, Seq)>(seat, &(name, number));
@@ -82,9 +83,9 @@ pub(crate) fn note_unprepared<D: Disk + Drop>(
     name: &Name,
 )
     requires seat { (seat.old.table ≡ store.now.table) × (seat.old.knows.live ≡ true) }
-    requires held { IsIn (writes log.now.table) seat.old.knows.held }
+    requires held { IsIn (writes log.now.table) (held_by seat.old) }
     requires has { is_some (finite.get seat.old.knows.participant.transactions name.now) ≡ true }
-    requires none { named log.now.table.history name.now ≡ None }
+    requires none { named (history_in log.now) name.now ≡ None }
     ensures { seat.new ≡ seat_of seat.old (with_note (unprepared name.now) seat.old.knows) }
 {
     store.make_about::<Brand, Name>(seat, name);

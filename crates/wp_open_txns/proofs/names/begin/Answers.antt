@@ -6,7 +6,7 @@ use Rattle.wp_model.specs.declared.change.Change.{Change}
 use Rattle.wp_shared.proofs.Onward.{continues_none, holds_alone}
 use Rattle.wp_open_txns.specs.declared.error.TxnError.{TxnError}
 use Rattle.wp_open_txns.specs.Calls.{Begins}
-use Rattle.wp_open_txns.specs.Txn.{OpenState}
+use Rattle.wp_open_txns.specs.Txn.{OpenState, HasOpen}
 use Rattle.wp_open_txns.proofs.GoesOn.{lent_as, begun, not_begun, not_live, locks_found}
 use Rattle.wp_open_txns.proofs.names.begin.Goals as goal
 
@@ -26,7 +26,8 @@ returns g c =
     let z = c.args.store.now in let old = c.args.seat.now in let t = c.deref_mut.result.now in let k = (lent_as c.deref_mut.ensures.value c.take_turn-tables.ensures.taken) in let claimed = (c.in_ok-outcome.ensures {u = tt}).answered in
     let b = begun z old t _ k c.args.name _ c.give_turn.new.seat claimed.1 (c.give_turn.ensures [] [] c.claim-outcome.ensures.holds) in
     let begun_with : List Change → OpenState = λ batch. record { name = c.args.name; batch = batch } in
-    (ap begun_with c.new.ensures, b.0, b.1, not_live z old _ t c.args.name k claimed.2, locks_found z old _ t (λ l. finite.get l.names c.args.name ≡ None) k claimed.2)
+    let is = ap begun_with c.new.ensures in
+    (is, subst (HasOpen c.give_turn.new.seat) (sym is) b.0, b.1, not_live z old _ t c.args.name k claimed.2, locks_found z old _ t (λ l. finite.get l.names c.args.name ≡ None) k claimed.2)
 
 pub returns-in_err-claimed : goal.returns-in_err-claimed
 returns-in_err-claimed g c =

@@ -5,7 +5,7 @@ use Rattle.wp_locks.specs.Locks.{names_left}
 use Rattle.wp_core.specs.Changes.{with_name}
 use Rattle.wp_shared.specs.Seats.{SeatState}
 use Rattle.wp_shared.proofs.Onward.{holds_alone}
-use Rattle.wp_core.proofs.Keyed.{at_inserted}
+use Rattle.wp_model.proofs.Keyed.{at_inserted}
 use Rattle.wp_open_txns.specs.Calls.{GivesUp, LocksWere}
 use Rattle.wp_open_txns.specs.Turns.{IsWithout}
 use Rattle.wp_open_txns.specs.Txn.{PreparedState, HasPrepared}
@@ -18,7 +18,7 @@ leave_name-requires-clause-held g c = held_last (holds_alone c.requires.free (le
 pub leave_name-requires-clause-prepared : goal.leave_name-requires-clause-prepared
 leave_name-requires-clause-prepared g c =
     let h = c.requires.prepared in
-    subst (λ (s : SeatState). HasPrepared s c.args.txn.name c.args.txn.number c.args.txn.batch) (sym c.take_turn-tables.ensures.taken.seat)
+    subst (λ (s : SeatState). HasPrepared s c.args.txn) (sym c.take_turn-tables.ensures.taken.seat)
     (record { transaction = h.transaction; has = h.has; batch_is = h.batch_is; keys = h.keys; noted = h.noted; seen = h.seen; stands = h.stands })
 
 pub give_turn-requires-clause-holds : goal.give_turn-requires-clause-holds

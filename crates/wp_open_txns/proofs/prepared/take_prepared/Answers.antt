@@ -4,7 +4,7 @@ use Rattle.std.specs.Prelude.{ℕ, Option, Result}
 use Rattle.wp_model.specs.declared.change.Change.{Change}
 use Rattle.wp_model.specs.declared.entry.Entry.{Entry}
 use Rattle.wp_core.specs.Tables.{writes}
-use Rattle.wp_shared.specs.Log.{LogState}
+use Rattle.wp_parts.specs.Log.{LogState}
 use Rattle.wp_shared.proofs.Onward.{continues_none, holds_alone, holds_two, holds_next}
 use Rattle.wp_open_txns.specs.declared.error.TxnError.{TxnError}
 use Rattle.wp_open_txns.specs.Calls.{Takes, TakesPrepared}

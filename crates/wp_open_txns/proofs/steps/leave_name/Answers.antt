@@ -7,8 +7,7 @@ use Rattle.wp_open_txns.proofs.steps.leave_name.Goals as goal
 
 pub make_about-requires-clause-may : goal.make_about-requires-clause-may
 make_about-requires-clause-may g c =
-    let x = c.txn.inside in
-    may_leave _ _ c.args.tables.now x.name x.number x.batch (subst (λ (t : PreparedState). HasPrepared c.args.seat.now t.name t.number t.batch) (sym c.txn.view_is) c.requires.prepared) c.requires.held
+    may_leave _ _ c.args.tables.now _ (subst (HasPrepared c.args.seat.now) (sym c.txn.view_is) c.requires.prepared) c.requires.held
 
 pub returns-clause-without : goal.returns-clause-without
 returns-clause-without g c =

@@ -1,7 +1,7 @@
 use Rattle.std.proofs.Common.{◌∷◌, sym, subst, ap, ◌∙◌}
 use Rattle.wp_core.specs.Tables.{store}
 use Rattle.wp_core.specs.Turns.{store_turn}
-use Rattle.wp_shared.specs.Stock.{store_state}
+use Rattle.wp_parts.specs.Stock.{store_state}
 use Rattle.wp_shared.specs.Notes.{no_fact, is_under, GoesOn}
 use Rattle.wp_shared.proofs.Goes.{then, wider, none_too}
 use Rattle.wp_read.proofs.Shows.{copies_show}

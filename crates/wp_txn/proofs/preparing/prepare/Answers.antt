@@ -1,23 +1,42 @@
-use Rattle.std.proofs.Common.{◌≡◌, [], ◌∷◌, Ok, subst, sym}
+use Rattle.std.proofs.Common.{◌≡◌, List, [], ◌∷◌, inl, refl, Ok, subst, sym}
+use Rattle.std.specs.Prelude.{Err}
+use Rattle.wp_model.specs.declared.change.Change.{Change}
+use Rattle.wp_model.specs.declared.entry.Entry.{Entry}
 use Rattle.wp_model.specs.declared.entry.Entry.TheVariants.{Prepare}
 use Rattle.wp_core.specs.Views.{undecided_at}
-use Rattle.wp_txn.specs.Recording.{Records}
+use Rattle.wp_shared.proofs.Onward.{continues_none}
+use Rattle.wp_open_txns.specs.declared.error.TxnError.TheVariants.{Memory}
 use Rattle.wp_open_txns.specs.Txn.{OpenState, HasOpen}
+use Rattle.wp_txn.specs.Recording.{Records}
 use Rattle.wp_txn.specs.Writes.{Prepares}
 use Rattle.wp_txn.proofs.BeforeLog.{refused_txn_before}
 use Rattle.wp_txn.proofs.Ends.{prepares, refuses_open}
+use Rattle.wp_txn.proofs.Recorded.{records_prepare}
 use Rattle.wp_txn.proofs.preparing.prepare.Goals as goal
 
-pub returns-in-Ok-clause-ok : goal.returns-in-Ok-clause-ok
-returns-in-Ok-clause-ok g c =
-    let z = c.args.store.now in let s = c.args.seat.now in let t = c.record_prepare.new.seat in let n = c.in-Ok.number in
+-- there was no memory for the record
+pub returns-in_default-clause-refused : goal.returns-in_default-clause-refused
+returns-in_default-clause-refused g c = let s = c.args.seat.now in refuses_open c.args.store.now s s c.args.txn (Prepare c.args.txn.name c.args.txn.batch) Memory c.requires.open (continues_none c.args.store.now s c.requires.free)
+
+pub returns-in_default-clause-before_log : goal.returns-in_default-clause-before_log
+returns-in_default-clause-before_log g c = let z = c.args.store.now in let s = c.args.seat.now in refused_txn_before z s s 1 (λ asked. Unit {0}) Memory (continues_none z s c.requires.free) (inl refl)
+
+pub record-requires-clause-may : goal.record-requires-clause-may
+record-requires-clause-may g c =
+    let z = c.args.store.now in let s = c.args.seat.now in let x : OpenState = record { name = c.txn.inside.name; batch = c.txn.inside.batch } in
+    let it : (batch : List Change) × (Prepare x.name x.batch ∷ [] ≡ Prepare x.name batch ∷ []) = (x.batch, refl) in
+    records_prepare z s c.in-Ok.prepare x _ c.in-Ok.ensures (subst (HasOpen s) (sym c.txn.view_is) c.requires.open) c.shows_batch.ensures (λ history. it)
+
+pub returns-in-Ok-record-clause-ok : goal.returns-in-Ok-record-clause-ok
+returns-in-Ok-record-clause-ok g c =
+    let z = c.args.store.now in let s = c.args.seat.now in let t = c.record.new.seat in let n = c.in-Ok-record.number in
     let x : OpenState = record { name = c.txn.inside.name; batch = c.txn.inside.batch } in
-    subst (λ (y : OpenState). Prepares z s y (record { name = x.name; number = n; batch = x.batch }) n t) c.txn.view_is
-    (prepares z s t x n (subst (λ (y : OpenState). HasOpen s y.name y.batch) (sym c.txn.view_is) c.requires.open)
-    (subst (λ (y : OpenState). Records z s (Prepare y.name y.batch ∷ []) (λ m. undecided_at y.name m ∷ []) (Ok n) t) (sym c.txn.view_is) (c.in-Ok.ensures {u = tt})))
+    let r = subst (λ (es : List Entry). Records z s es (λ m. undecided_at x.name m ∷ []) (Ok n) t) c.in-Ok.ensures (c.in-Ok-record.ensures {u = tt}) in
+    subst (λ (y : OpenState). Prepares z s y (record { name = x.name; number = n; batch = x.batch }) n t) c.txn.view_is (prepares z s t x n (subst (HasOpen s) (sym c.txn.view_is) c.requires.open) r)
 
 pub returns-in-Err-clause-refused : goal.returns-in-Err-clause-refused
-returns-in-Err-clause-refused g c = refuses_open c.args.store.now c.args.seat.now c.record_prepare.new.seat c.args.txn (Prepare c.args.txn.name c.args.txn.batch) c.in-Err.why c.requires.open (c.in-Err.ensures {u = tt}).0
-
-pub returns-in-Err-clause-before_log : goal.returns-in-Err-clause-before_log
-returns-in-Err-clause-before_log g c = refused_txn_before c.args.store.now c.args.seat.now c.record_prepare.new.seat 1 (λ asked. asked ≡ Prepare c.args.txn.name c.args.txn.batch ∷ []) c.in-Err.why (c.in-Err.ensures {u = tt}).0 (c.in-Err.ensures {u = tt}).1
+returns-in-Err-clause-refused g c =
+    let z = c.args.store.now in let s = c.args.seat.now in let new = c.record.new.seat in let x = c.args.txn in let why = c.in-Err.why in
+    let r = subst (λ (y : OpenState). Records z s (Prepare y.name y.batch ∷ []) (λ m. undecided_at y.name m ∷ []) (Err why) new) c.txn.view_is
+    (subst (λ (es : List Entry). Records z s es (λ m. undecided_at c.txn.inside.name m ∷ []) (Err why) new) c.in-Ok.ensures (c.in-Err.ensures {u = tt})) in
+    refuses_open z s new x (Prepare x.name x.batch) why c.requires.open r.0

@@ -1,9 +1,9 @@
-use Rattle.std.proofs.Common.{[], length, min, sym, subst, ap, ◌∙◌}
+use Rattle.std.proofs.Common.{[], ◌+◌, length, min, sym, subst, ap, ◌∙◌, arith}
 use Rattle.wp_entry.specs.Record.{last_number}
-use Rattle.wp_shared.specs.Log.{LogState, IsLog}
+use Rattle.wp_parts.specs.Log.{LogState, IsLog}
 use Rattle.wp_shared.specs.Notes.{seat_of}
 use Rattle.wp_open_txns.specs.Actors.{with_stopped}
-use Rattle.wp_txn.proofs.UnderLog.{alone, alone_still, stopped_back, full_back, opened}
+use Rattle.wp_txn.proofs.UnderLog.{alone, alone_still, unsaturated, stopped_back, full_back, opened}
 use Rattle.wp_txn.proofs.recording.open_log.Goals as goal
 
 pub give_turn-requires-clause-holds : goal.give_turn-requires-clause-holds
@@ -21,20 +21,21 @@ returns-then-is_closed-clause-refused g c =
     let closed = ap (λ (x : LogState). x.table.closed) (sym c.deref-3.ensures) ∙ sym c.is_closed.ensures ∙ c.if-is_closed.true in
     stopped_back _ _ _ _ c.take_log-log.ensures t c.give_turn.new.seat p.result found number c.args.needed (λ asked. ⊥) closed (subst IsLog c.deref.ensures c.devices_agree.ensures.log) (c.give_turn.ensures [] [] (alone_still _ _ _ _ c.take_log-log.ensures t t p.result found number c.requires.free))
 
-pub give_turn-requires-then-published-needed-clause-holds : goal.give_turn-requires-then-published-needed-clause-holds
-give_turn-requires-then-published-needed-clause-holds g c = ([], [], alone _ _ _ _ c.take_log-log.ensures c.requires.free)
+pub give_turn-requires-then-saturating_add-limit-clause-holds : goal.give_turn-requires-then-saturating_add-limit-clause-holds
+give_turn-requires-then-saturating_add-limit-clause-holds g c = ([], [], alone _ _ _ _ c.take_log-log.ensures c.requires.free)
 
-pub returns-then-published-needed-clause-refused : goal.returns-then-published-needed-clause-refused
-returns-then-published-needed-clause-refused g c =
+pub returns-then-saturating_add-limit-clause-refused : goal.returns-then-saturating_add-limit-clause-refused
+returns-then-saturating_add-limit-clause-refused g c =
     let p = c.published-published in
     let number = p.ensures.value ∙ ap (λ (x : LogState). length x.table.history) c.deref-2.ensures in
     let running = ap (λ (x : LogState). x.table.closed) (sym c.deref-3.ensures) ∙ sym c.is_closed.ensures ∙ c.if-is_closed.false in
-    full_back _ _ _ _ c.take_log-log.ensures c.give_turn-then-published-needed.new.seat c.args.needed p.result c.least_limit-limit.result (λ asked. ⊥) running (subst IsLog c.deref.ensures c.devices_agree.ensures.log) number (c.least_limit-limit.ensures ∙ (λ i. min (c.limit.ensures.0 i) (last_number ((c.format.ensures ∙ ap (λ (x : LogState). x.wal.format) c.deref-4.ensures) i)))) c.if-published-needed.true
-    (c.give_turn-then-published-needed.ensures [] [] (alone _ _ _ _ c.take_log-log.ensures c.requires.free))
+    full_back _ _ _ _ c.take_log-log.ensures c.give_turn-then-saturating_add-limit.new.seat c.args.needed p.result c.least_limit-limit.result (λ asked. ⊥) running (subst IsLog c.deref.ensures c.devices_agree.ensures.log) number (c.least_limit-limit.ensures ∙ (λ i. min (c.limit.ensures.0 i) (last_number ((c.format.ensures ∙ ap (λ (x : LogState). x.wal.format) c.deref-4.ensures) i)))) (let above = c.if-saturating_add-limit.true in let sum = c.saturating_add.ensures in omega (arith, above, sum))
+    (c.give_turn-then-saturating_add-limit.ensures [] [] (alone _ _ _ _ c.take_log-log.ensures c.requires.free))
 
 pub returns-clause-ok : goal.returns-clause-ok
 returns-clause-ok g c =
     let p = c.published-published in
     let number = p.ensures.value ∙ ap (λ (x : LogState). length x.table.history) c.deref-2.ensures in
     let running = ap (λ (x : LogState). x.table.closed) (sym c.deref-3.ensures) ∙ sym c.is_closed.ensures ∙ c.if-is_closed.false in
-    opened _ _ _ _ c.take_log-log.ensures c.requires.free c.args.needed p.result c.least_limit-limit.result running number (c.least_limit-limit.ensures ∙ (λ i. min (c.limit.ensures.0 i) (last_number ((c.format.ensures ∙ ap (λ (x : LogState). x.wal.format) c.deref-4.ensures) i)))) c.if-published-needed.false (subst IsLog c.deref.ensures c.devices_agree.ensures.log)
+    let within = unsaturated (p.result + c.args.needed) c.saturating_add.result c.least_limit-limit.result c.limit.result c.format.result c.saturating_add.ensures c.least_limit-limit.ensures c.if-saturating_add-limit.false in
+    opened _ _ _ _ c.take_log-log.ensures c.requires.free c.args.needed p.result c.least_limit-limit.result running number (c.least_limit-limit.ensures ∙ (λ i. min (c.limit.ensures.0 i) (last_number ((c.format.ensures ∙ ap (λ (x : LogState). x.wal.format) c.deref-4.ensures) i)))) within (subst IsLog c.deref.ensures c.devices_agree.ensures.log)

@@ -3,14 +3,14 @@ use Rattle.std.specs.Prelude.{Result}
 use Rattle.std.proofs.lemmas.Result.{err_from_is_err_and}
 use Rattle.wp_entry.specs.Record.{last_number}
 use Rattle.wp_open_txns.specs.declared.error.TxnError.{TxnError}
-use Rattle.wp_shared.specs.Log.{LogState}
+use Rattle.wp_parts.specs.Log.{LogState}
 use Rattle.wp_records.specs.Records.{MayPut}
 use Rattle.wp_records.specs.Writing.{HoldsWrite}
 use Rattle.wp_txn.specs.Recording.{OpensLog, MayNote, PutsNoting, Records, notes_of}
 use Rattle.wp_txn.specs.Writes.{Refuses}
 use Rattle.wp_txn.proofs.Goes.{refused_for}
 use Rattle.wp_txn.proofs.UnderLog.{recorded, holds_then, noting_loose}
-use Rattle.wp_txn.proofs.recording.record_entries.Goals as goal
+use Rattle.wp_txn.proofs.recording.record.Goals as goal
 
 pub returns-in_err-log : goal.returns-in_err-log
 returns-in_err-log g c = let p = err_from_is_err_and c.from_residual.result c.from_residual.ensures.1 in let z = c.args.store.now in let s = c.args.seat.now in let new = c.open_log.new.seat in let was = s.knows.participant in
@@ -27,7 +27,7 @@ put_noting-outcome-requires-clause-running g c = ap (λ (x : LogState). x.table.
 
 pub put_noting-outcome-requires-clause-may : goal.put_noting-outcome-requires-clause-may
 put_noting-outcome-requires-clause-may g c = let t = c.open_log.new.seat in
-    subst (λ (x : LogState). MayPut t.knows x.table.history c.args.entries) (sym c.deref_mut.ensures.value) (c.requires.may t c.in_ok-log.log.value (subst (OpensLog c.args.store.now c.args.seat.now t c.in_ok-log.log.value) c.len.ensures c.in_ok-log.ensures.ok)).0
+    subst (λ (x : LogState). MayPut t.knows x.table.history c.args.entries) (sym c.deref_mut.ensures.value) (c.requires.may.may t c.in_ok-log.log.value (subst (OpensLog c.args.store.now c.args.seat.now t c.in_ok-log.log.value) c.len.ensures c.in_ok-log.ensures.ok)).0
 
 pub put_noting-outcome-requires-clause-within : goal.put_noting-outcome-requires-clause-within
 put_noting-outcome-requires-clause-within g c =
@@ -36,7 +36,7 @@ put_noting-outcome-requires-clause-within g c =
 
 pub put_noting-outcome-requires-clause-noting : goal.put_noting-outcome-requires-clause-noting
 put_noting-outcome-requires-clause-noting g c = let t = c.open_log.new.seat in
-    subst (λ (x : LogState). MayNote c.args.noting x.table.history c.args.entries) (sym c.deref_mut.ensures.value) (c.requires.may t c.in_ok-log.log.value (subst (OpensLog c.args.store.now c.args.seat.now t c.in_ok-log.log.value) c.len.ensures c.in_ok-log.ensures.ok)).1
+    subst (λ (x : LogState). MayNote c.args.noting x.table.history c.args.entries) (sym c.deref_mut.ensures.value) (c.requires.may.may t c.in_ok-log.log.value (subst (OpensLog c.args.store.now c.args.seat.now t c.in_ok-log.log.value) c.len.ensures c.in_ok-log.ensures.ok)).1
 
 pub close_log-requires : goal.close_log-requires
 close_log-requires g c = let put = c.put_noting-outcome in holds_then c.args.store.now c.open_log.new.seat put.new.seat c.deref_mut.result.now put.new.log c.args.entries (notes_of c.args.noting (length put.new.log.table.history)) put.result put.ensures
@@ -47,4 +47,4 @@ returns g c =
     let o = subst (OpensLog z s t log) c.len.ensures c.in_ok-log.ensures.ok in
     let puts = subst (λ (x : LogState). PutsNoting z t x entries (notes_of noting (length put.new.log.table.history)) put.result put.new.seat put.new.log) c.deref_mut.ensures.value put.ensures in
     subst (λ (r : Result ℕ TxnError). Records z s entries (notes_of noting) r c.close_log.new.seat) (sym c.close_log.ensures.answer)
-    (recorded z s t put.new.seat c.close_log.new.seat log put.new.log entries (notes_of noting) o (c.requires.may t log o).0.legal (noting_loose noting) c.close_log.ensures.gives c.close_log.ensures.log put.result puts)
+    (recorded z s t put.new.seat c.close_log.new.seat log put.new.log entries (notes_of noting) o (c.requires.may.may t log o).0.legal (noting_loose noting) c.close_log.ensures.gives c.close_log.ensures.log put.result puts)
