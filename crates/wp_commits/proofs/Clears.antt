@@ -4,12 +4,12 @@ use Rattle.std.specs.Prelude.{Result, Ok, Err, OnOk, OnErr, MatchBool}
 use Rattle.std.specs.Option.{option_map}
 use Rattle.std.proofs.lemmas.Bool.Decides.{nat_tests}
 use Rattle.wp_model.specs.declared.entry.Entry.{Entry}
-use Rattle.wp_judge.specs.Words.{CommitPair, numbers_of}
+use Rattle.wp_judge.specs.Words.{CommitPair, commit_pair, numbers_of}
 use Rattle.wp_core.specs.Tables.{Content}
 use Rattle.wp_core.specs.Turns.{prepared_turn, snapshots_turn}
 use Rattle.wp_core.specs.Views.{Fact, passed, in_old_commits, apart, words_stay, none_waits, delayed_flag_stays, old_flag_stays}
 use Rattle.wp_core.specs.World.{Actor}
-use Rattle.wp_core.proofs.Tests.{same_some, some_none}
+use Rattle.wp_model.proofs.Tests.{same_some, some_none}
 use Rattle.wp_rule.specs.Knows.{Noted}
 use Rattle.wp_shared.specs.Seats.{SeatState}
 use Rattle.wp_rule.specs.Bound.{bound_past}
@@ -69,11 +69,11 @@ pub no_pair : (o : Option CommitPair) → None ≡ option_map numbers_of o → o
 no_pair None e = refl
 no_pair (Some pair) e = let no : None ≡ Some (numbers_of pair) = e in absurd (cc)
 
-pub that_pair : (o : Option CommitPair) (p c : ℕ) → Some (p, c) ≡ option_map numbers_of o → o ≡ Some (record { number = p; decision = c })
+pub that_pair : (o : Option CommitPair) (p c : ℕ) → Some (p, c) ≡ option_map numbers_of o → o ≡ Some (commit_pair p c)
 that_pair None p c e = absurd (some_none (p, c) e)
 that_pair (Some pair) p c e =
     let same : (p, c) ≡ numbers_of pair = same_some (p, c) (numbers_of pair) e in
-    ap (λ (x : ℕ × ℕ). Some (record { number = x.0; decision = x.1 })) (sym same)
+    ap (λ (x : ℕ × ℕ). Some (commit_pair x.0 x.1)) (sym same)
 
 pub on_ok : {T E : Type 0} (r : Result T E) (P Q : Type 0) → (P → Q) → OnOk r P → OnOk r Q
 on_ok (Ok x) P Q f h = f h

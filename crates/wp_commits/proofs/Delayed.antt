@@ -12,7 +12,7 @@ use Rattle.std.specs.FinMap as finite
 use Rattle.wp_model.specs.declared.entry.Entry.{Entry}
 use Rattle.wp_model.specs.Decision.{decision_of}
 use Rattle.wp_model.specs.PreparedSets.{PreparedSets, is_prepared, commits_with, NoneDelayed}
-use Rattle.wp_judge.specs.Words.{CommitPair}
+use Rattle.wp_judge.specs.Words.{CommitPair, commit_pair}
 use Rattle.wp_core.specs.Changes.{held_with}
 use Rattle.wp_core.specs.Lists.{IsIn}
 use Rattle.wp_core.specs.Notes.{ends}
@@ -22,7 +22,7 @@ use Rattle.wp_core.specs.Views.{Fact, words_stay, none_waits, delayed_flag_stays
 use Rattle.wp_core.specs.World.{Actor, World}
 use Rattle.wp_core.specs.Sound.Views.{IsApart}
 use Rattle.wp_model.proofs.Numbers.{get_inserted, get_inserted_else}
-use Rattle.wp_core.proofs.Tests.{none_some}
+use Rattle.wp_model.proofs.Tests.{none_some}
 use Rattle.wp_rule.specs.Knows.{Noted, IsUp, IsRise, Knows}
 use Rattle.wp_rule.specs.Moves.{AreQuiet, AreMet, MayMake, Moved, actor_after, storing_max}
 use Rattle.wp_rule.specs.Words.{Place, IsAt}
@@ -162,7 +162,7 @@ none_before_commit t p c none = (none.0, λ q. at (is_prepared t p) q (none.1 q)
         (λ (same : q ≡ p). absurd (none_some (finite.get (finite.insert t.delayed_commits p c) p) c (ap (finite.get (finite.insert t.delayed_commits p c)) (sym same) ∙ e) (get_inserted t.delayed_commits p c)))
         (λ (ne : q ≢ p). sym (get_inserted_else t.delayed_commits p c q ne) ∙ e)
 
-pub apart_now : (t : PreparedSets) (p c : ℕ) → IsApart (with_commit t p c) (record { number = p; decision = c })
+pub apart_now : (t : PreparedSets) (p c : ℕ) → IsApart (with_commit t p c) (commit_pair p c)
 apart_now t p c = at (is_prepared t p) refl
   where
     at : (b : Bool) → is_prepared t p ≡ b → (is_prepared t p ≡ false) ⊎ (finite.get (commits_with t p c) p ≡ Some c)
@@ -174,12 +174,12 @@ commit_ends pair = record { guard = λ turn. refl; place = λ words place. refl;
 
 module _ (place : Place) (s t : SeatState) (d : WriteState) (old tables : PreparedSets) (p c : ℕ) (held : s.knows.held ≡ prepared old ∷ writes d ∷ []) (is : tables ≡ with_commit old p c) where
   abbrev steps_if : Bool → List Step
-  steps_if b = cond b (add_delayed_commit (record { number = p; decision = c }) ∷ []) []
+  steps_if b = cond b (add_delayed_commit (commit_pair p c) ∷ []) []
 
   table_is : (w : World) → IsAt place s.knows w → w.prepared ≡ old
   table_is w k = held_table place s.knows w (prepared old) k (subst (IsIn (prepared old)) (sym held) (inl refl))
 
-  pub may_delay : decision_of d.history p ≡ Some c → DelayedFlagTells s.knows tables → MayMake place s.knows (delaying (record { number = p; decision = c }))
+  pub may_delay : decision_of d.history p ≡ Some c → DelayedFlagTells s.knows tables → MayMake place s.knows (delaying (commit_pair p c))
   may_delay decided flag w k = by_test (is_prepared w.prepared p) refl
     where
       history_is : w.writes ≡ d
@@ -200,7 +200,7 @@ module _ (place : Place) (s t : SeatState) (d : WriteState) (old tables : Prepar
         (((held_is place s.knows w (prepared old) k (subst (IsIn (prepared old)) (sym held) (inl refl))).0, up e, subst (λ (x : WriteState). decision_of x.history p ≡ Some c) (sym history_is) decided), tt),
       )
 
-  pub delayed_now : (so : World → Type 0) → (t.table ≡ s.table) × (t.by ≡ s.by) × (t.turns ≡ s.turns) → Moved place (delaying (record { number = p; decision = c })) so s.knows t.knows
+  pub delayed_now : (so : World → Type 0) → (t.table ≡ s.table) × (t.by ≡ s.by) × (t.turns ≡ s.turns) → Moved place (delaying (commit_pair p c)) so s.knows t.knows
       → t ≡ record s { knows = record s.knows { held = prepared tables ∷ writes d ∷ [] } }
   delayed_now so same m = becomes s t (record s.knows { held = prepared tables ∷ writes d ∷ [] }) same (m.actor ∙ (by_test (is_prepared m.world.prepared p) refl ∙ ap (λ (x : PreparedSets). record s.knows { held = prepared x ∷ writes d ∷ [] }) (sym is)))
     where
@@ -216,7 +216,7 @@ module _ (place : Place) (s t : SeatState) (d : WriteState) (old tables : Prepar
           let next_is : next ≡ with_commit old p c =
           ap (λ (x : PreparedSets). record x { delayed_commits = finite.insert x.delayed_commits p c }) (table_is w m.before)
           ∙ ap (λ (x : Bool). record old { delayed_commits = cond x (finite.insert old.delayed_commits p c) old.delayed_commits }) (sym there) in
-          ap (λ (x : Actor). record x { held = held_with x.held (prepared next) }) (forgets_nothing w.writes.history (length w.cache) (add_delayed_commit (record { number = p; decision = c })) s.knows (commit_ends (record { number = p; decision = c })))
+          ap (λ (x : Actor). record x { held = held_with x.held (prepared next) }) (forgets_nothing w.writes.history (length w.cache) (add_delayed_commit (commit_pair p c)) s.knows (commit_ends (commit_pair p c)))
           ∙ (ap (λ (h : List Content). record s.knows { held = held_with h (prepared next) }) held ∙ ap (λ (x : PreparedSets). record s.knows { held = prepared x ∷ writes d ∷ [] }) next_is)
 
 pub delaying_keeps : (pair : CommitPair) (w : World) → KeepClient (delaying pair w)

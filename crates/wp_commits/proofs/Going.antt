@@ -12,7 +12,7 @@ use Rattle.wp_model.specs.Decision.{decision_of, decision_in}
 use Rattle.wp_model.specs.History.{entry_at, is_prepare, decides}
 use Rattle.wp_model.specs.PreparedSets.{PreparedSets, is_prepared}
 use Rattle.wp_model.specs.Snapshots.{Snapshots}
-use Rattle.wp_judge.specs.Words.{CommitPair}
+use Rattle.wp_judge.specs.Words.{CommitPair, commit_pair}
 use Rattle.wp_core.specs.Cache.{pair_at}
 use Rattle.wp_core.specs.Entries.{extended}
 use Rattle.wp_core.specs.Lists.{IsIn}
@@ -25,7 +25,7 @@ use Rattle.wp_core.specs.World.{Actor, World}
 use Rattle.wp_core.specs.Sound.Prepared.{IsInOldCommits}
 use Rattle.wp_core.specs.Sound.Views.{IsApart, IsClearing}
 use Rattle.wp_core.proofs.ReaderFacts.{extended_stays}
-use Rattle.wp_core.proofs.Tests.{same_some}
+use Rattle.wp_model.proofs.Tests.{same_some}
 use Rattle.wp_rule.specs.Knows.{KnowsFact}
 use Rattle.wp_rule.specs.Moves.{MayMake, Moved}
 use Rattle.wp_rule.specs.Words.{Place, IsAt}
@@ -39,17 +39,17 @@ use Rattle.wp_commits.specs.Cleared.{IsThere}
 use Rattle.wp_commits.specs.Making.{noting_all, noted_all}
 
 module _ (a : Actor) (d : WriteState) (place p c : ℕ) where
-  pub knows_passed : IsIn (writes d) a.held → (k : IsThere a d.history place p c) × (c ≤ k.bound) → KnowsFact a (passed place (record { number = p; decision = c }))
+  pub knows_passed : IsIn (writes d) a.held → (k : IsThere a d.history place p c) × (c ≤ k.bound) → KnowsFact a (passed place (commit_pair p c))
   knows_passed held k = let t = k.0 in record { table = d; held = held; so_is = (t.bound, t.words, t.noted, t.within, t.there, t.published, k.1) }
 
-  pub knows_apart : (t : PreparedSets) → a.held ≡ prepared t ∷ writes d ∷ [] → IsThere a d.history place p c → IsApart t (record { number = p; decision = c }) → KnowsFact a (apart place (record { number = p; decision = c }))
+  pub knows_apart : (t : PreparedSets) → a.held ≡ prepared t ∷ writes d ∷ [] → IsThere a d.history place p c → IsApart t (commit_pair p c) → KnowsFact a (apart place (commit_pair p c))
   knows_apart t held k is = record {
     table = d;
     held = subst (IsIn (writes d)) (sym held) (inr (inl refl));
     so_is = record { table = t; held = subst (IsIn (prepared t)) (sym held) (inl refl); so_is = (k.bound, k.words, k.noted, k.within, k.there, k.published, is) };
   }
 
-  pub knows_in_old_commits : (m : Snapshots) → a.held ≡ snapshots m ∷ writes d ∷ [] → IsThere a d.history place p c → IsInOldCommits m p c → KnowsFact a (in_old_commits place (record { number = p; decision = c }))
+  pub knows_in_old_commits : (m : Snapshots) → a.held ≡ snapshots m ∷ writes d ∷ [] → IsThere a d.history place p c → IsInOldCommits m p c → KnowsFact a (in_old_commits place (commit_pair p c))
   knows_in_old_commits m held k is = record {
     table = d;
     held = subst (IsIn (writes d)) (sym held) (inr (inl refl));
@@ -90,7 +90,7 @@ module _ (at : Place) (a : Actor) (d : WriteState) (place n : ℕ) (live : a.liv
     words_are : (w.max_evicted ≡ k.bound) × (w.cache ≡ k.words)
     words_are = (noted_is at a w (words_stay k.bound k.words) there k.noted).is_so
 
-    clearing : (why : Type 0) → why → IsClearing (length w.writes.history) w.cache place (record { number = n; decision = n }) why
+    clearing : (why : Type 0) → why → IsClearing (length w.writes.history) w.cache place (commit_pair n n) why
     clearing why is = record {
       place_within = subst (λ (x : List ℕ). place < length x) (sym words_are.1) k.within;
       there = ap (λ (x : List ℕ). pair_at x place) words_are.1 ∙ k.there;
@@ -103,7 +103,7 @@ module _ (at : Place) (a : Actor) (d : WriteState) (place n : ℕ) (live : a.liv
         not_own (extended w.writes.history w.writes.pending) n ((at_sound at a w there).undecided.known n is)
         (extended_stays w.writes.history w.writes.pending n n (subst (λ (x : WriteState). decision_of x.history n ≡ Some n) (sym table_is) k.decided)))
 
-  pub may_note_own : MayMake at a (λ w. noting_all place (record { number = n; decision = n }))
+  pub may_note_own : MayMake at a (λ w. noting_all place (commit_pair n n))
   may_note_own w there =
       let g = guarded at a w there write_turn (holds w there) in (
         (tt, (tt, (tt, tt))),
@@ -111,7 +111,7 @@ module _ (at : Place) (a : Actor) (d : WriteState) (place n : ℕ) (live : a.liv
           (live, g, clearing w there (n ≤ w.max_evicted) (subst (λ (x : ℕ). n ≤ x) (sym (words_are w there).0) low)),
           (
             (live, g, clearing w there (IsInOldCommits w.snapshots n n) (λ s is from below. absurd (omega (arith, from, below)))),
-            ((live, g, clearing w there (IsApart w.prepared (record { number = n; decision = n })) (inl (not_prepared w there))), tt),
+            ((live, g, clearing w there (IsApart w.prepared (commit_pair n n)) (inl (not_prepared w there))), tt),
           ),
         ),
       )

@@ -16,7 +16,7 @@ use Rattle.wp_model.specs.PreparedSets.{PreparedSets, is_prepared, NoneDelayed}
 use Rattle.wp_model.specs.Snapshots.{Snapshots}
 use Rattle.wp_model.proofs.Numbers.{get_inserted}
 use Rattle.wp_history_laws.proofs.Growth.{after_front}
-use Rattle.wp_judge.specs.Words.{CommitPair, delta_of, delta_bound, fits}
+use Rattle.wp_judge.specs.Words.{CommitPair, commit_pair, delta_of, delta_bound, fits}
 use Rattle.wp_prepared.specs.Passed.{NonePassed, IsFirstPassed}
 use Rattle.wp_core.specs.Changes.{held_with}
 use Rattle.wp_core.specs.Entries.{extended, pending_pair}
@@ -32,7 +32,7 @@ use Rattle.wp_core.specs.Sound.Prepared.{IsInOldCommits}
 use Rattle.wp_core.specs.Sound.Views.{NoneWaits}
 use Rattle.wp_core.proofs.HistoryLaws.{decided_late, first_legal}
 use Rattle.wp_core.proofs.ReaderFacts.{extended_was}
-use Rattle.wp_core.proofs.Tests.{same_some, none_some}
+use Rattle.wp_model.proofs.Tests.{same_some, none_some}
 use Rattle.wp_rule.specs.Knows.{Noted, KnowsFact}
 use Rattle.wp_rule.specs.Moves.{AreQuiet, AreMet, MayMake, Moved, actor_after}
 use Rattle.wp_rule.specs.Words.{Place, IsAt}
@@ -55,15 +55,15 @@ use Rattle.wp_commits.proofs.TakenOut.{take_ends}
 -- ---- where a number is to which the bound has come
 
 -- the numbers of a pair that fits no word are apart
-pub wide_apart : (cells p c : ℕ) → 1 ≤ cells → fits cells (record { number = p; decision = c }) ≡ false → p < c
-wide_apart cells p c some wide = let far : delta_bound cells ≤ delta_of (record { number = p; decision = c }) = ltb-false (delta_of (record { number = p; decision = c })) (delta_bound cells) wide in omega (arith, some, far)
+pub wide_apart : (cells p c : ℕ) → 1 ≤ cells → fits cells (commit_pair p c) ≡ false → p < c
+wide_apart cells p c some wide = let far : delta_bound cells ≤ delta_of (commit_pair p c) = ltb-false (delta_of (commit_pair p c)) (delta_bound cells) wide in omega (arith, some, far)
 
 -- the pending entry decides a prepare, where it does not decide itself
-pending_undecided : (history pending : List Entry) (p c : ℕ) → IsLegal (history ++ pending) → pending_pair history pending ≡ Some (record { number = p; decision = c }) → p < c → is_undecided history p ≡ true
-pending_undecided history [] p c legal e apart = absurd (none_some None (record { number = p; decision = c }) refl e)
+pending_undecided : (history pending : List Entry) (p c : ℕ) → IsLegal (history ++ pending) → pending_pair history pending ≡ Some (commit_pair p c) → p < c → is_undecided history p ≡ true
+pending_undecided history [] p c legal e apart = absurd (none_some None (commit_pair p c) refl e)
 pending_undecided history (Write batch ∷ others) p c legal e apart = let same = same_some _ _ e in let one = ap (λ (x : CommitPair). x.number) same in let two = ap (λ (x : CommitPair). x.decision) same in absurd (omega (arith, one, two, apart))
 pending_undecided history (Undo q batch ∷ others) p c legal e apart = let same = same_some _ _ e in let one = ap (λ (x : CommitPair). x.number) same in let two = ap (λ (x : CommitPair). x.decision) same in absurd (omega (arith, one, two, apart))
-pending_undecided history (Prepare name batch ∷ others) p c legal e apart = absurd (none_some None (record { number = p; decision = c }) refl e)
+pending_undecided history (Prepare name batch ∷ others) p c legal e apart = absurd (none_some None (commit_pair p c) refl e)
 pending_undecided history (Commit q ∷ others) p c legal e apart =
     let same = same_some _ _ e in
     subst (λ (n : ℕ). is_undecided history n ≡ true) (ap (λ (x : CommitPair). x.number) same) (after_front history (Commit q) [] (first_legal history (Commit q) others legal)).orderly.names_undecided
@@ -109,7 +109,7 @@ module _ {D : Type 0} (z : SharedState D) (s t : SeatState) (tables : PreparedSe
       ∙ false_from_ne_true (set.contains at.0.prepared.heap p) (λ there. let above = sound.undecided.heap_above p there in let low = max_reached p r in absurd (omega (arith, above, low)))
 
   -- so what the pending entry decides by a wide pair is delayed
-  pub is_delayed : (d : WriteState) → IsIn (writes d) s.knows.held → (p c : ℕ) → pending_pair d.history d.pending ≡ Some (record { number = p; decision = c }) → fits z.cells (record { number = p; decision = c }) ≡ false → IsReached s.knows p → set.contains tables.delayed p ≡ true
+  pub is_delayed : (d : WriteState) → IsIn (writes d) s.knows.held → (p c : ℕ) → pending_pair d.history d.pending ≡ Some (commit_pair p c) → fits z.cells (commit_pair p c) ≡ false → IsReached s.knows p → set.contains tables.delayed p ≡ true
   is_delayed d has p c pending wide r =
       let some : 1 ≤ z.cells = subst (λ (n : ℕ). 1 ≤ n) stands.cells sound.cache.some in
       let legal : IsLegal (d.history ++ d.pending) = subst (λ (x : WriteState). IsLegal (x.history ++ x.pending)) (writes_are d has) sound.history.legal_next in
@@ -139,14 +139,14 @@ passed_is (Some r) a history commits found bound words noted is decided k =
 pub knows_none_waits : (a : Actor) (d : WriteState) (t : PreparedSets) → IsIn (writes d) a.held → IsIn (prepared t) a.held → NoneReached a t.delayed_commits → KnowsFact a none_waits
 knows_none_waits a d t has there k = record { table = d; held = has; so_is = record { table = t; held = there; so_is = (k.bound, k.words, k.noted, k.above) } }
 
-pub knows_pair_delayed : (a : Actor) (d : WriteState) (t : PreparedSets) (p c : ℕ) → IsIn (writes d) a.held → IsIn (prepared t) a.held → pending_pair d.history d.pending ≡ Some (record { number = p; decision = c }) → finite.get t.delayed_commits p ≡ Some c → KnowsFact a pair_delayed
+pub knows_pair_delayed : (a : Actor) (d : WriteState) (t : PreparedSets) (p c : ℕ) → IsIn (writes d) a.held → IsIn (prepared t) a.held → pending_pair d.history d.pending ≡ Some (commit_pair p c) → finite.get t.delayed_commits p ≡ Some c → KnowsFact a pair_delayed
 knows_pair_delayed a d t p c has there pending commit = record {
   table = d;
   held = has;
   so_is = record {
     table = t;
     held = there;
-    so_is = λ pair is. let same : record { number = p; decision = c } ≡ pair = same_some (record { number = p; decision = c }) pair (sym pending ∙ is) in
+    so_is = λ pair is. let same : commit_pair p c ≡ pair = same_some (commit_pair p c) pair (sym pending ∙ is) in
         subst (λ (x : CommitPair). finite.get t.delayed_commits x.number ≡ Some x.decision) same commit;
   };
 }
@@ -259,21 +259,21 @@ pub commit_there : (old tables : PreparedSets) (p c : ℕ) → tables ≡ record
 commit_there old tables p c is = ap (λ (x : PreparedSets). finite.get x.delayed_commits p) is ∙ get_inserted old.delayed_commits p c
 
 module _ (place : Place) (s t : SeatState) (d : WriteState) (old tables : PreparedSets) (p c : ℕ) (held : s.knows.held ≡ prepared old ∷ writes d ∷ []) (is : tables ≡ record old { delayed_commits = finite.insert old.delayed_commits p c }) where
-  pub may_delay_pending : pending_pair d.history d.pending ≡ Some (record { number = p; decision = c }) → DelayedFlagTells s.knows tables → MayMake place s.knows (λ w. delay_pending (record { number = p; decision = c }) ∷ [])
+  pub may_delay_pending : pending_pair d.history d.pending ≡ Some (commit_pair p c) → DelayedFlagTells s.knows tables → MayMake place s.knows (λ w. delay_pending (commit_pair p c) ∷ [])
   may_delay_pending pending flag w k =
       let history_is : w.writes ≡ d = held_table place s.knows w (writes d) k (subst (IsIn (writes d)) (sym held) (inr (inl refl))) in
       let value_is : w.delayed_flag ≡ flag.value = (noted_is place s.knows w (delayed_flag_stays flag.value) k flag.noted).is_so in
       let up : w.delayed_flag ≢ 0 = λ zero_flag. none_some (finite.get tables.delayed_commits p) c ((flag.empty (sym value_is ∙ zero_flag)).1 p) (commit_there old tables p c is) in
       let one = (held_is place s.knows w (writes d) k (subst (IsIn (writes d)) (sym held) (inr (inl refl)))).0 in
       let two = (held_is place s.knows w (prepared old) k (subst (IsIn (prepared old)) (sym held) (inl refl))).0 in
-      ((tt, tt), ((one, two, up, subst (λ (x : WriteState). pending_pair x.history x.pending ≡ Some (record { number = p; decision = c })) (sym history_is) pending), tt))
+      ((tt, tt), ((one, two, up, subst (λ (x : WriteState). pending_pair x.history x.pending ≡ Some (commit_pair p c)) (sym history_is) pending), tt))
 
-  module _ (so : World → Type 0) (same : (t.table ≡ s.table) × (t.by ≡ s.by) × (t.turns ≡ s.turns)) (moved : Moved place (λ w. delay_pending (record { number = p; decision = c }) ∷ []) so s.knows t.knows) where
+  module _ (so : World → Type 0) (same : (t.table ≡ s.table) × (t.by ≡ s.by) × (t.turns ≡ s.turns)) (moved : Moved place (λ w. delay_pending (commit_pair p c) ∷ []) so s.knows t.knows) where
     keeps : (fact : Fact) → is_of_delayed fact ≡ false → Noted s.knows fact → Noted t.knows fact
     keeps fact other there =
         let w = moved.world in
         subst (λ (x : Actor). Noted x fact) (sym moved.actor)
-        (outlasts fact (delay_pending (record { number = p; decision = c }) ∷ []) w place.by s.knows there ((λ x. x), delay_ends w.writes.history (length w.cache) (record { number = p; decision = c }) fact other, tt))
+        (outlasts fact (delay_pending (commit_pair p c) ∷ []) w place.by s.knows there ((λ x. x), delay_ends w.writes.history (length w.cache) (commit_pair p c) fact other, tt))
 
     held_now : held_with s.knows.held (prepared (record moved.world.prepared { delayed_commits = finite.insert moved.world.prepared.delayed_commits p c })) ≡ prepared tables ∷ writes d ∷ []
     held_now =
@@ -285,7 +285,7 @@ module _ (place : Place) (s t : SeatState) (d : WriteState) (old tables : Prepar
     pub pending_delayed : GoesOn is_of_delayed (prepared tables ∷ writes d ∷ []) s.turns s t
     pending_delayed = record {
       same = goes_with s t (prepared tables ∷ writes d ∷ []) s.turns _ same.0 same.1 same.2
-          (moved.actor ∙ ap (λ (h : List Content). record s.knows { held = h; notes = (actor_after (delay_pending (record { number = p; decision = c }) ∷ []) moved.world place.by s.knows).notes }) held_now);
+          (moved.actor ∙ ap (λ (h : List Content). record s.knows { held = h; notes = (actor_after (delay_pending (commit_pair p c) ∷ []) moved.world place.by s.knows).notes }) held_now);
       noted = keeps;
     }
 
@@ -293,7 +293,7 @@ module _ (place : Place) (s t : SeatState) (d : WriteState) (old tables : Prepar
     flag_still f =
         let w = moved.world in record {
           value = f.value;
-          noted = subst (λ (x : Actor). Noted x (delayed_flag_stays f.value)) (sym moved.actor) (outlasts (delayed_flag_stays f.value) (delay_pending (record { number = p; decision = c }) ∷ []) w place.by s.knows f.noted ((λ x. x), refl, tt));
+          noted = subst (λ (x : Actor). Noted x (delayed_flag_stays f.value)) (sym moved.actor) (outlasts (delayed_flag_stays f.value) (delay_pending (commit_pair p c) ∷ []) w place.by s.knows f.noted ((λ x. x), refl, tt));
           empty = f.empty;
           down = f.down;
         }

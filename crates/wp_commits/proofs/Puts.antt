@@ -14,7 +14,7 @@ use Rattle.wp_core.specs.Tables.{WriteState, writes}
 use Rattle.wp_core.specs.Views.{Fact, passed, in_old_commits, apart, words_stay, none_waits, delayed_flag_stays, old_flag_stays}
 use Rattle.wp_core.specs.World.{Actor, World}
 use Rattle.wp_core.proofs.StoresWord.{pending_next}
-use Rattle.wp_core.proofs.Tests.{same_some, none_some}
+use Rattle.wp_model.proofs.Tests.{same_some, none_some}
 use Rattle.wp_rule.specs.Knows.{Noted, KnowsCleared}
 use Rattle.wp_rule.specs.Moves.{MayStep, Moved, storing_word}
 use Rattle.wp_rule.specs.Words.{Place}

@@ -12,7 +12,7 @@ use Rattle.wp_core.specs.Views.{Fact, has_left, delayed_flag_stays, old_flag_sta
 use Rattle.wp_core.specs.World.{Actor, World}
 use Rattle.wp_core.specs.Sound.Views.{guarded_by}
 use Rattle.wp_model.proofs.Numbers.{in_removed}
-use Rattle.wp_core.proofs.Tests.{none_some, some_none}
+use Rattle.wp_model.proofs.Tests.{none_some, some_none}
 use Rattle.wp_rule.specs.Moves.{MayMake, Moved}
 use Rattle.wp_rule.specs.Words.{Place}
 use Rattle.wp_rule.proofs.Forgets.{EndsNothing, forgets_nothing, note_ends}
@@ -23,13 +23,12 @@ use Rattle.wp_shared.proofs.Goes.{holds, notes, then, is_free}
 use Rattle.wp_shared.proofs.OneStep.{becomes}
 use Rattle.wp_shared.proofs.Tables.{held_table}
 use Rattle.wp_shared.specs.Notes.{is_flag, noting, GoesOn}
-use Rattle.wp_shared.proofs.Goes.{then}
-use Rattle.wp_judge.specs.Words.{fits}
+use Rattle.wp_judge.specs.Words.{commit_pair, fits}
 
 pub take_ends : (p : ℕ) → EndsNothing (take_out p)
 take_ends p = record { guard = λ turn. refl; place = λ words place. refl; words = refl; delayed_flag = refl; old_flag = refl; pending = refl; adds = refl; takes = refl; prepared = refl; unprepared = refl; delays = refl; transaction = λ history name. refl; direct = refl; moves = refl; replaces = refl; installing = refl }
 
-pub may_take_out : (at : Place) (a : Actor) (t : PreparedSets) (p : ℕ) → a.live ≡ true → a.held ≡ prepared t ∷ [] → (c : ℕ) × (decision_of a.participant.seen p ≡ Some c) × (fits at.cells (record { number = p; decision = c }) ≡ true) → MayMake at a (λ w. take_out p ∷ note (has_left p) ∷ [])
+pub may_take_out : (at : Place) (a : Actor) (t : PreparedSets) (p : ℕ) → a.live ≡ true → a.held ≡ prepared t ∷ [] → (c : ℕ) × (decision_of a.participant.seen p ≡ Some c) × (fits at.cells (commit_pair p c) ≡ true) → MayMake at a (λ w. take_out p ∷ note (has_left p) ∷ [])
 may_take_out at a t p live held decided w k =
     let n = needed at a w k (take_out p) (record { table = t; held = subst (IsIn (prepared t)) (sym held) (inl refl); so_is = (decided.0, decided.1, inl decided.2) }) in
     ((tt, (tt, tt)), (n, ((live, (λ turn e. absurd (none_some None turn refl e)), ((n.1.0, n.1.1), (λ i. in_removed w.prepared.heap p i || in_removed w.prepared.delayed p i))), tt)))

@@ -6,14 +6,14 @@ use Rattle.std.specs.List.{cons_option}
 use Rattle.std.proofs.lemmas.Bool.{cases_eq}
 use Rattle.std.proofs.lemmas.Bool.Decides.{nat_tests}
 use Rattle.wp_model.specs.declared.entry.Entry.{Entry}
-use Rattle.wp_judge.specs.Words.{CommitPair, fits}
+use Rattle.wp_judge.specs.Words.{CommitPair, commit_pair, fits}
 use Rattle.wp_core.specs.Cache.{cache_place, pair_at}
 use Rattle.wp_core.specs.Entries.{pair_by, pending_pair, pairs_of}
 use Rattle.wp_core.specs.Lists.{IsIn}
 use Rattle.wp_core.specs.Tables.{Content}
 use Rattle.wp_core.specs.Views.{Fact, passed, in_old_commits, apart, words_stay}
 use Rattle.wp_core.specs.World.{Actor}
-use Rattle.wp_core.proofs.Tests.{same_some, none_some}
+use Rattle.wp_model.proofs.Tests.{same_some, none_some}
 use Rattle.wp_rule.specs.Knows.{Noted}
 use Rattle.wp_shared.specs.Seats.{SeatState}
 use Rattle.wp_commits.specs.declared.way.Way.{Way}
@@ -177,25 +177,25 @@ next_in history [] pair e = absurd (none_some None pair refl e)
 next_in history (entry ∷ others) pair e = first_in (suc (length history)) entry others pair (pair_by (suc (length history)) entry) e
 
 -- the pair that is kept in a word, or as a delayed commit
-pub pair_of_way : (cells : ℕ) (o : Option CommitPair) (p c : ℕ) → way_of cells o ≡ InWord p c → (o ≡ Some (record { number = p; decision = c })) × (fits cells (record { number = p; decision = c }) ≡ true)
+pub pair_of_way : (cells : ℕ) (o : Option CommitPair) (p c : ℕ) → way_of cells o ≡ InWord p c → (o ≡ Some (commit_pair p c)) × (fits cells (commit_pair p c) ≡ true)
 pair_of_way cells None p c e = absurd cc
 pair_of_way cells (Some pair) p c e = by_fit (fits cells pair) refl e
   where
-    by_fit : (b : Bool) → fits cells pair ≡ b → cond b (InWord pair.number pair.decision) (Delayed pair.number pair.decision) ≡ InWord p c → (Some pair ≡ Some (record { number = p; decision = c })) × (fits cells (record { number = p; decision = c }) ≡ true)
+    by_fit : (b : Bool) → fits cells pair ≡ b → cond b (InWord pair.number pair.decision) (Delayed pair.number pair.decision) ≡ InWord p c → (Some pair ≡ Some (commit_pair p c)) × (fits cells (commit_pair p c) ≡ true)
     by_fit true is f =
         let number : pair.number ≡ p = cc in let decision : pair.decision ≡ c = cc in
-        ((λ i. Some (record { number = number i; decision = decision i })), sym (λ i. fits cells (record { number = number i; decision = decision i })) ∙ is)
+        ((λ i. Some (commit_pair (number i) (decision i))), sym (λ i. fits cells (commit_pair (number i) (decision i))) ∙ is)
     by_fit false is f = absurd cc
 
-pub pair_of_delayed : (cells : ℕ) (o : Option CommitPair) (p c : ℕ) → way_of cells o ≡ Delayed p c → (o ≡ Some (record { number = p; decision = c })) × (fits cells (record { number = p; decision = c }) ≡ false)
+pub pair_of_delayed : (cells : ℕ) (o : Option CommitPair) (p c : ℕ) → way_of cells o ≡ Delayed p c → (o ≡ Some (commit_pair p c)) × (fits cells (commit_pair p c) ≡ false)
 pair_of_delayed cells None p c e = absurd cc
 pair_of_delayed cells (Some pair) p c e = by_fit (fits cells pair) refl e
   where
-    by_fit : (b : Bool) → fits cells pair ≡ b → cond b (InWord pair.number pair.decision) (Delayed pair.number pair.decision) ≡ Delayed p c → (Some pair ≡ Some (record { number = p; decision = c })) × (fits cells (record { number = p; decision = c }) ≡ false)
+    by_fit : (b : Bool) → fits cells pair ≡ b → cond b (InWord pair.number pair.decision) (Delayed pair.number pair.decision) ≡ Delayed p c → (Some pair ≡ Some (commit_pair p c)) × (fits cells (commit_pair p c) ≡ false)
     by_fit true is f = absurd cc
     by_fit false is f =
         let number : pair.number ≡ p = cc in let decision : pair.decision ≡ c = cc in
-        ((λ i. Some (record { number = number i; decision = decision i })), sym (λ i. fits cells (record { number = number i; decision = decision i })) ∙ is)
+        ((λ i. Some (commit_pair (number i) (decision i))), sym (λ i. fits cells (commit_pair (number i) (decision i))) ∙ is)
 
 -- entering leaves the bound where it is, or higher
 pub enters_reached : (a b : Actor) (cells published : ℕ) (way : Way) → ((bound : ℕ) (words : List ℕ) → Noted a (words_stay bound words) → Noted b (words_stay (bound_with cells published bound words way) (with_way words way))) → (p : ℕ) → IsReached a p → IsReached b p

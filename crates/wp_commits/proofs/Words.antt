@@ -5,7 +5,7 @@ use Rattle.std.specs.Option.{option_map}
 use Rattle.std.proofs.lemmas.Bool.{cases_lt}
 use Rattle.wp_model.specs.declared.entry.Entry.{Entry}
 use Rattle.wp_model.specs.Decision.{decision_of}
-use Rattle.wp_judge.specs.Words.{CommitPair, pair_of, numbers_of}
+use Rattle.wp_judge.specs.Words.{CommitPair, commit_pair, pair_of, numbers_of}
 use Rattle.wp_core.specs.Cache.{cache_place, pair_at}
 use Rattle.wp_core.specs.Entries.{extended, pending_pair}
 use Rattle.wp_core.specs.Lists.{IsIn}
@@ -14,7 +14,7 @@ use Rattle.wp_core.specs.Views.{passed, words_stay}
 use Rattle.wp_core.specs.World.{World}
 use Rattle.wp_core.specs.Sound.Prepared.{IsPairAt}
 use Rattle.wp_core.proofs.HistoryLaws.{decision_was, decision_within, decided_by_last}
-use Rattle.wp_core.proofs.Tests.{same_some, none_some}
+use Rattle.wp_model.proofs.Tests.{same_some, none_some}
 use Rattle.wp_core.proofs.ReaderFacts.{pair_ordered, extended_was}
 use Rattle.wp_rule.specs.Knows.{Noted}
 use Rattle.wp_rule.specs.Words.{IsAt}
@@ -36,7 +36,7 @@ decided_without history (entry ∷ others) pair other low e =
     elim (cases_lt (length history) pair.decision) [
       | inl past ↦
           let is : pair.decision ≡ suc (length history) = omega (arith, length-append history (entry ∷ [])) in
-          absurd (other (decided_by_last history entry pair.number (e ∙ ap Some is) ∙ ap (λ (c : ℕ). Some (record { number = pair.number; decision = c })) (sym is)))
+          absurd (other (decided_by_last history entry pair.number (e ∙ ap Some is) ∙ ap (λ (c : ℕ). Some (commit_pair pair.number c)) (sym is)))
       | inr within ↦ (decision_was history (entry ∷ []) pair.number pair.decision (omega arith) within e, within)
     ]
 
@@ -93,7 +93,7 @@ module _ {D : Type 0} (z : SharedState D) (s t : SeatState) (d : WriteState) (pl
 
       itself_low : DecidesItself s.knows (length d.history) place → pair.decision ≤ length d.history
       itself_low k =
-          let same : record { number = k.2; decision = k.2 } ≡ pair = same_some (record { number = k.2; decision = k.2 }) pair (sym k.5 ∙ in_words k.0 k.1 k.3) in subst (λ (x : CommitPair). x.decision ≤ length d.history) same k.4
+          let same : commit_pair k.2 k.2 ≡ pair = same_some (commit_pair k.2 k.2) pair (sym k.5 ∙ in_words k.0 k.1 k.3) in subst (λ (x : CommitPair). x.decision ≤ length d.history) same k.4
 
       low : pair.decision ≤ length d.history
       low = ⊎_elim unentered_low (λ (r : IsReadyAt s.knows (length d.history) place). ⊎_elim cleared_low itself_low r) ready

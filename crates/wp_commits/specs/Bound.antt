@@ -1,10 +1,21 @@
--- How far the evicted bound rises before pairs go.
+-- What a seat knows of the evicted bound and of the words, and how far the bound rises before pairs go.
 use Rattle.std.specs.Prelude.{ℕ, nat_le, if◌then◌else◌, List, [], ◌∷◌, Option, Some, None}
 use Rattle.wp_judge.specs.Words.{CommitPair}
 use Rattle.wp_core.specs.Cache.{cache_place, pair_at}
+use Rattle.wp_core.specs.Views.{words_stay}
+use Rattle.wp_core.specs.World.{Actor}
 use Rattle.wp_rule.specs.Bound.{bound_past}
+use Rattle.wp_rule.specs.Knows.{Noted}
 use Rattle.wp_commits.specs.declared.way.Way.{Way}
 use Rattle.wp_commits.specs.declared.way.Way.TheVariants.{Undecided, InWord, Delayed}
+
+-- it noted the bound and the words of the cache
+abbrev pub NotedWords : Actor → Type 0
+NotedWords a = (bound : ℕ) × (words : List ℕ) × Noted a (words_stay bound words)
+
+-- the words are as they were, and the bound is what comes of it and of them
+abbrev pub BoundBecomes : (ℕ → List ℕ → ℕ) → Actor → Actor → Type 0
+BoundBecomes after old new = (bound : ℕ) (words : List ℕ) → Noted old (words_stay bound words) → Noted new (words_stay (after bound words) words)
 
 -- the bound once a pair with this decision may go: it is no less than before, and no less than the decision
 abbrev pub raised : ℕ → ℕ → ℕ → ℕ → ℕ

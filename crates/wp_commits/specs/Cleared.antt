@@ -2,7 +2,7 @@
 use Rattle.std.specs.Prelude.{◌≡◌, ◌≢◌, ◌⊎◌, ℕ, suc, true, ◌<◌, ◌≤◌, List, length, Some, None}
 use Rattle.wp_model.specs.declared.entry.Entry.{Entry}
 use Rattle.wp_model.specs.Decision.{decision_of}
-use Rattle.wp_judge.specs.Words.{CommitPair, fits}
+use Rattle.wp_judge.specs.Words.{CommitPair, commit_pair, fits}
 use Rattle.wp_core.specs.Cache.{cache_place, pair_at}
 use Rattle.wp_core.specs.Entries.{pending_pair, pairs_of}
 use Rattle.wp_core.specs.Lists.{IsIn}
@@ -17,7 +17,7 @@ pub record IsThere (a : Actor) (history : List Entry) (place p c : ℕ) : Type 0
   pub words : List ℕ
   pub noted : Noted a (words_stay bound words)
   pub within : place < length words
-  pub there : pair_at words place ≡ Some (record { number = p; decision = c })
+  pub there : pair_at words place ≡ Some (commit_pair p c)
   pub published : c ≤ length history
   pub decided : decision_of history p ≡ Some c
   pub ordered : p ≤ c
@@ -42,7 +42,7 @@ IsCleared a place = IsEmptyAt a place ⊎ ((gone : CommitPair) × MayGoFrom a pl
 -- and it is no prepared transaction. So nothing but the bound has to be ready for it to go.
 abbrev pub DecidesItself : Actor → ℕ → ℕ → Type 0
 DecidesItself a published place =
-    (bound : ℕ) × (words : List ℕ) × (n : ℕ) × Noted a (words_stay bound words) × (n ≤ published) × (pair_at words place ≡ Some (record { number = n; decision = n }))
+    (bound : ℕ) × (words : List ℕ) × (n : ℕ) × Noted a (words_stay bound words) × (n ≤ published) × (pair_at words place ≡ Some (commit_pair n n))
 
 -- the pair of the pending entry is not in its word yet
 abbrev pub IsUnentered : Actor → ℕ → WriteState → Type 0

@@ -1,11 +1,11 @@
 //! Late clean-up: a decided number leaves the prepared tables.
 ghost use Rattle.std.specs.Prelude.{◌≡◌, ℕ, true, Some};
-ghost use Rattle.wp_judge.specs.Words.{fits};
+ghost use Rattle.wp_judge.specs.Words.{commit_pair, fits};
 ghost use Rattle.wp_model.specs.Decision.{decision_of};
 ghost use Rattle.wp_core.specs.Lists.{IsIn};
 ghost use Rattle.wp_core.specs.Views.{has_left};
 ghost use Rattle.wp_shared.specs.Calls.{Continues};
-ghost use Rattle.wp_shared.specs.Seats.{IsFree};
+ghost use Rattle.wp_shared.specs.Seats.{IsFree, participant_of, seen_by};
 
 use crate::steps;
 use std::sync::Wait;
@@ -23,9 +23,9 @@ pub fn forget_prepared<D: Disk + Drop, R: Wait>(
     p: Seq,
 )
     requires free { IsFree store.now.table seat.old }
-    requires decided { (c : ℕ) × (decision_of seat.old.knows.participant.seen p ≡ Some c) × (fits store.now.cells (record { number = p; decision = c }) ≡ true) }
-    ensures seat { Continues store.now seat.old seat.new seat.old.knows.participant }
-    ensures same { seat.new.knows.participant ≡ seat.old.knows.participant }
+    requires decided { (c : ℕ) × (decision_of (seen_by seat.old) p ≡ Some c) × (fits store.now.cells (commit_pair p c) ≡ true) }
+    ensures seat { Continues store.now seat.old seat.new (participant_of seat.old) }
+    ensures same { participant_of seat.new ≡ participant_of seat.old }
     ensures gone { IsIn (has_left p) seat.new.knows.notes }
 {
     let mut tables = store.take_turn::<Prepared, R>(rt, seat);

@@ -1,17 +1,19 @@
 //! Clearing words: the pairs that are there are made ready to go.
-ghost use Rattle.std.specs.Prelude.{◌≡◌, ◌≤◌, ◌<◌, ◌⊎◌, ℕ, suc, true, false, List, [], ◌∷◌, ◌++◌, length, Option, Some, OnOk, OnErr};
-ghost use Rattle.wp_judge.specs.Words.{CommitPair, fits};
+ghost use Rattle.std.specs.Prelude.{◌≡◌, ◌<◌, ◌⊎◌, suc, true, false, [], ◌∷◌, length, Option, Some, OnOk, OnErr};
+ghost use Rattle.wp_judge.specs.Words.{CommitPair, commit_pair, fits};
 ghost use Rattle.wp_core.specs.Cache.{pair_at};
 ghost use Rattle.wp_core.specs.Entries.{pairs_of};
 ghost use Rattle.wp_core.specs.Lists.{IsIn};
 ghost use Rattle.wp_core.specs.Tables.{writes, prepared, snapshots};
-ghost use Rattle.wp_core.specs.Views.{passed, in_old_commits, apart, words_stay, none_waits};
+ghost use Rattle.wp_core.specs.Views.{passed, in_old_commits, apart, none_waits};
 ghost use Rattle.wp_rule.specs.Knows.{Noted};
-ghost use Rattle.wp_commits.specs.Bound.{raised, bound_after, bound_with};
+ghost use Rattle.wp_commits.specs.Bound.{NotedWords, BoundBecomes, raised, bound_after, bound_with};
 ghost use Rattle.wp_commits.specs.Cleared.{IsThere, IsWanted, IsCleared, IsUnentered};
 ghost use Rattle.wp_shared.specs.Notes.{is_flag, GoesOn, DelayedFlagTells, OldFlagTells};
+ghost use Rattle.wp_shared.specs.Seats.{held_by};
+ghost use Rattle.wp_shared.specs.Turns.{history_in};
 ghost use Rattle.wp_commits.specs.Notes.{is_of_words};
-ghost use Rattle.wp_commits.specs.Ways.{way_of, ways_of, Clears, AnyClears, RisesFor, IsClearedFor, AreCleared};
+ghost use Rattle.wp_commits.specs.Ways.{way_of, ways_in, Clears, AnyClears, RisesForAll, RisesForSome, IsClearedFor, AreCleared};
 ghost use Rattle.wp_commits.specs.declared.way.Way.{Way};
 ghost use Rattle.wp_commits.specs.declared.way.Way.TheVariants.{Delayed};
 
@@ -39,14 +41,13 @@ fn raise_past<D: Disk + Drop>(
     c: Seq,
 )
     requires seat { seat.old.table ≡ store.now.table }
-    requires held { seat.old.knows.held ≡ prepared tables.old ∷ writes log.now.table ∷ [] }
+    requires held { held_by seat.old ≡ prepared tables.old ∷ writes log.now.table ∷ [] }
     requires wanted { IsWanted store.now.cells log.now.table place }
-    requires there { IsThere seat.old.knows log.now.table.history place p c }
+    requires there { IsThere seat.old.knows (history_in log.now) place p c }
     requires flag { DelayedFlagTells seat.old.knows tables.old }
     ensures seat { GoesOn is_of_words (prepared tables.new ∷ writes log.now.table ∷ []) seat.old.turns seat.old seat.new }
     ensures flag { DelayedFlagTells seat.new.knows tables.new }
-    ensures bound { (bound : ℕ) (words : List ℕ) → Noted seat.old.knows (words_stay bound words)
-        → Noted seat.new.knows (words_stay (raised store.now.cells (length log.now.table.history) bound c) words) }
+    ensures bound { BoundBecomes (λ bound words. raised store.now.cells (length (history_in log.now)) bound c) seat.old.knows seat.new.knows }
 {
     let bound = store.max(seat);
     if c <= bound {
@@ -67,12 +68,12 @@ fn ready_snaps<D: Disk + Drop>(
     c: Seq,
 ) -> Result<(), AllocError>
     requires seat { (seat.old.table ≡ store.now.table) × (seat.old.knows.live ≡ true) }
-    requires held { seat.old.knows.held ≡ snapshots snaps.old ∷ writes log.now.table ∷ [] }
-    requires there { IsThere seat.old.knows log.now.table.history place p c }
+    requires held { held_by seat.old ≡ snapshots snaps.old ∷ writes log.now.table ∷ [] }
+    requires there { IsThere seat.old.knows (history_in log.now) place p c }
     requires flag { OldFlagTells seat.old.knows snaps.old }
     ensures seat { GoesOn is_flag (snapshots snaps.new ∷ writes log.now.table ∷ []) seat.old.turns seat.old seat.new }
     ensures flag { OldFlagTells seat.new.knows snaps.new }
-    ensures ready { OnOk result (Noted seat.new.knows (in_old_commits place (record { number = p; decision = c }))) }
+    ensures ready { OnOk result (Noted seat.new.knows (in_old_commits place (commit_pair p c))) }
 {
     steps::keep(store, seat, log, snaps, p, c)?;
     steps::note(store, seat, PairNote::InOldCommits(place, p, c));
@@ -91,13 +92,12 @@ fn clear_prepared<D: Disk + Drop, R: Wait>(
     c: Seq,
 )
     requires seat { (seat.old.table ≡ store.now.table) × (seat.old.knows.live ≡ true) }
-    requires held { seat.old.knows.held ≡ writes log.now.table ∷ [] }
+    requires held { held_by seat.old ≡ writes log.now.table ∷ [] }
     requires wanted { IsWanted store.now.cells log.now.table place }
-    requires there { IsThere seat.old.knows log.now.table.history place p c }
+    requires there { IsThere seat.old.knows (history_in log.now) place p c }
     ensures seat { GoesOn is_of_words (writes log.now.table ∷ []) seat.old.turns seat.old seat.new }
-    ensures bound { (bound : ℕ) (words : List ℕ) → Noted seat.old.knows (words_stay bound words)
-        → Noted seat.new.knows (words_stay (raised store.now.cells (length log.now.table.history) bound c) words) }
-    ensures ready { Noted seat.new.knows (passed place (record { number = p; decision = c })) × Noted seat.new.knows (apart place (record { number = p; decision = c })) }
+    ensures bound { BoundBecomes (λ bound words. raised store.now.cells (length (history_in log.now)) bound c) seat.old.knows seat.new.knows }
+    ensures ready { Noted seat.new.knows (passed place (commit_pair p c)) × Noted seat.new.knows (apart place (commit_pair p c)) }
 {
     let mut tables = store.take_turn::<Prepared, R>(rt, seat);
     raise_past(store, seat, log, &mut tables, place, p, c);
@@ -118,10 +118,10 @@ fn clear_snaps<D: Disk + Drop, R: Wait>(
     c: Seq,
 ) -> Result<(), AllocError>
     requires seat { (seat.old.table ≡ store.now.table) × (seat.old.knows.live ≡ true) }
-    requires held { seat.old.knows.held ≡ writes log.now.table ∷ [] }
-    requires there { IsThere seat.old.knows log.now.table.history place p c }
+    requires held { held_by seat.old ≡ writes log.now.table ∷ [] }
+    requires there { IsThere seat.old.knows (history_in log.now) place p c }
     ensures seat { GoesOn is_flag (writes log.now.table ∷ []) seat.old.turns seat.old seat.new }
-    ensures ready { OnOk result (Noted seat.new.knows (in_old_commits place (record { number = p; decision = c }))) }
+    ensures ready { OnOk result (Noted seat.new.knows (in_old_commits place (commit_pair p c))) }
 {
     let mut snaps = store.take_turn::<Snaps, R>(rt, seat);
     let result = ready_snaps(store, seat, log, &mut snaps, place, p, c);
@@ -140,12 +140,11 @@ fn let_pass<D: Disk + Drop, R: Wait>(
     c: Seq,
 )
     requires seat { (seat.old.table ≡ store.now.table) × (seat.old.knows.live ≡ true) }
-    requires held { seat.old.knows.held ≡ writes log.now.table ∷ [] }
+    requires held { held_by seat.old ≡ writes log.now.table ∷ [] }
     requires wanted { IsWanted store.now.cells log.now.table place }
-    requires there { IsThere seat.old.knows log.now.table.history place p c }
+    requires there { IsThere seat.old.knows (history_in log.now) place p c }
     ensures seat { GoesOn is_of_words (writes log.now.table ∷ []) seat.old.turns seat.old seat.new }
-    ensures bound { (bound : ℕ) (words : List ℕ) → Noted seat.old.knows (words_stay bound words)
-        → Noted seat.new.knows (words_stay (raised store.now.cells (length log.now.table.history) bound c) words) }
+    ensures bound { BoundBecomes (λ bound words. raised store.now.cells (length (history_in log.now)) bound c) seat.old.knows seat.new.knows }
 {
     let bound = store.max(seat);
     if c <= bound {
@@ -168,13 +167,12 @@ pub(crate) fn clear_own<D: Disk + Drop, R: Wait>(
     c: Seq,
 )
     requires seat { (seat.old.table ≡ store.now.table) × (seat.old.knows.live ≡ true) }
-    requires held { seat.old.knows.held ≡ writes log.now.table ∷ [] }
+    requires held { held_by seat.old ≡ writes log.now.table ∷ [] }
     requires wanted { IsWanted store.now.cells log.now.table place }
-    requires there { IsThere seat.old.knows log.now.table.history place p c }
+    requires there { IsThere seat.old.knows (history_in log.now) place p c }
     requires ready { IsCleared seat.old.knows place ⊎ (p ≡ c) }
     ensures seat { GoesOn is_of_words (writes log.now.table ∷ []) seat.old.turns seat.old seat.new }
-    ensures bound { (bound : ℕ) (words : List ℕ) → Noted seat.old.knows (words_stay bound words)
-        → Noted seat.new.knows (words_stay (raised store.now.cells (length log.now.table.history) bound c) words) }
+    ensures bound { BoundBecomes (λ bound words. raised store.now.cells (length (history_in log.now)) bound c) seat.old.knows seat.new.knows }
     ensures cleared { IsCleared seat.new.knows place }
 {
     let_pass(store, rt, seat, log, place, p, c);
@@ -195,12 +193,11 @@ fn clear_there<D: Disk + Drop, R: Wait>(
     c: Seq,
 ) -> Result<(), AllocError>
     requires seat { (seat.old.table ≡ store.now.table) × (seat.old.knows.live ≡ true) }
-    requires held { seat.old.knows.held ≡ writes log.now.table ∷ [] }
+    requires held { held_by seat.old ≡ writes log.now.table ∷ [] }
     requires wanted { IsWanted store.now.cells log.now.table place }
-    requires there { IsThere seat.old.knows log.now.table.history place p c }
+    requires there { IsThere seat.old.knows (history_in log.now) place p c }
     ensures seat { GoesOn is_of_words (writes log.now.table ∷ []) seat.old.turns seat.old seat.new }
-    ensures bound { (bound : ℕ) (words : List ℕ) → Noted seat.old.knows (words_stay bound words)
-        → Noted seat.new.knows (words_stay (raised store.now.cells (length log.now.table.history) bound c) words) }
+    ensures bound { BoundBecomes (λ bound words. raised store.now.cells (length (history_in log.now)) bound c) seat.old.knows seat.new.knows }
     ensures cleared { OnOk result (IsCleared seat.new.knows place) }
 {
     if p == c {
@@ -222,14 +219,13 @@ fn clear_place<D: Disk + Drop, R: Wait>(
     place: usize,
 ) -> Result<(), AllocError>
     requires seat { (seat.old.table ≡ store.now.table) × (seat.old.knows.live ≡ true) }
-    requires held { seat.old.knows.held ≡ writes log.now.table ∷ [] }
+    requires held { held_by seat.old ≡ writes log.now.table ∷ [] }
     requires wanted { IsWanted store.now.cells log.now.table place }
-    requires words { (bound : ℕ) × (words : List ℕ) × Noted seat.old.knows (words_stay bound words) }
+    requires words { NotedWords seat.old.knows }
     requires unentered { IsUnentered seat.old.knows store.now.cells log.now.table }
     requires within { place < store.now.cells }
     ensures seat { GoesOn is_of_words (writes log.now.table ∷ []) seat.old.turns seat.old seat.new }
-    ensures bound { (bound : ℕ) (words : List ℕ) → Noted seat.old.knows (words_stay bound words)
-        → Noted seat.new.knows (words_stay (bound_after store.now.cells (length log.now.table.history) bound (pair_at words place)) words) }
+    ensures bound { BoundBecomes (λ bound words. bound_after store.now.cells (length (history_in log.now)) bound (pair_at words place)) seat.old.knows seat.new.knows }
     ensures cleared { OnOk result (IsCleared seat.new.knows place) }
 {
     match steps::pair(store, seat, log, place) {
@@ -248,13 +244,12 @@ fn reach<D: Disk + Drop, R: Wait>(
     c: Seq,
 )
     requires seat { (seat.old.table ≡ store.now.table) × (seat.old.knows.live ≡ true) }
-    requires held { seat.old.knows.held ≡ writes log.now.table ∷ [] }
-    requires wanted { IsIn (record { number = p; decision = c }) (pairs_of (suc (length log.now.table.history)) log.now.table.pending) }
-    requires wide { fits store.now.cells (record { number = p; decision = c }) ≡ false }
-    requires words { (bound : ℕ) × (words : List ℕ) × Noted seat.old.knows (words_stay bound words) }
+    requires held { held_by seat.old ≡ writes log.now.table ∷ [] }
+    requires wanted { IsIn (commit_pair p c) (pairs_of (suc (length (history_in log.now))) log.now.table.pending) }
+    requires wide { fits store.now.cells (commit_pair p c) ≡ false }
+    requires words { NotedWords seat.old.knows }
     ensures seat { GoesOn is_of_words (writes log.now.table ∷ []) seat.old.turns seat.old seat.new }
-    ensures bound { (bound : ℕ) (words : List ℕ) → Noted seat.old.knows (words_stay bound words)
-        → Noted seat.new.knows (words_stay (bound_with store.now.cells (length log.now.table.history) bound words (Delayed p c)) words) }
+    ensures bound { BoundBecomes (λ bound words. bound_with store.now.cells (length (history_in log.now)) bound words (Delayed p c)) seat.old.knows seat.new.knows }
 {
     let bound = store.max(seat);
     if p <= bound {
@@ -274,13 +269,12 @@ fn clear<D: Disk + Drop, R: Wait>(
     way: Way,
 ) -> Result<(), AllocError>
     requires seat { (seat.old.table ≡ store.now.table) × (seat.old.knows.live ≡ true) }
-    requires held { seat.old.knows.held ≡ writes log.now.table ∷ [] }
-    requires wanted { (o : Option CommitPair) × (way ≡ way_of store.now.cells o) × ((pair : CommitPair) → o ≡ Some pair → IsIn pair (pairs_of (suc (length log.now.table.history)) log.now.table.pending)) }
-    requires words { (bound : ℕ) × (words : List ℕ) × Noted seat.old.knows (words_stay bound words) }
+    requires held { held_by seat.old ≡ writes log.now.table ∷ [] }
+    requires wanted { (o : Option CommitPair) × (way ≡ way_of store.now.cells o) × ((pair : CommitPair) → o ≡ Some pair → IsIn pair (pairs_of (suc (length (history_in log.now))) log.now.table.pending)) }
+    requires words { NotedWords seat.old.knows }
     requires unentered { IsUnentered seat.old.knows store.now.cells log.now.table }
     ensures seat { GoesOn is_of_words (writes log.now.table ∷ []) seat.old.turns seat.old seat.new }
-    ensures bound { (bound : ℕ) (words : List ℕ) → Noted seat.old.knows (words_stay bound words)
-        → Noted seat.new.knows (words_stay (bound_with store.now.cells (length log.now.table.history) bound words way) words) }
+    ensures bound { BoundBecomes (λ bound words. bound_with store.now.cells (length (history_in log.now)) bound words way) seat.old.knows seat.new.knows }
     ensures cleared { OnOk result (IsClearedFor seat.new.knows store.now.cells way) }
     ensures waits { OnOk result (Clears way ⊎ Noted seat.old.knows none_waits → Noted seat.new.knows none_waits) }
     ensures wanting { OnErr result (Clears way) }
@@ -309,15 +303,14 @@ pub fn clear_all<D: Disk + Drop, R: Wait>(
     log: &Log<D>,
 ) -> Result<(), AllocError>
     requires seat { (seat.old.table ≡ store.now.table) × (seat.old.knows.live ≡ true) }
-    requires held { seat.old.knows.held ≡ writes log.now.table ∷ [] }
-    requires words { (bound : ℕ) × (words : List ℕ) × Noted seat.old.knows (words_stay bound words) }
+    requires held { held_by seat.old ≡ writes log.now.table ∷ [] }
+    requires words { NotedWords seat.old.knows }
     requires unentered { IsUnentered seat.old.knows store.now.cells log.now.table }
-    ensures seat { GoesOn is_of_words seat.old.knows.held seat.old.turns seat.old seat.new }
-    ensures bound { OnOk result (RisesFor store.now.cells (length log.now.table.history) seat.old.knows seat.new.knows (ways_of store.now.cells (suc (length log.now.table.history)) log.now.table.pending)) }
-    ensures refused { OnErr result ((front : List Way) × (way : Way) × (back : List Way) × Clears way × (ways_of store.now.cells (suc (length log.now.table.history)) log.now.table.pending ≡ front ++ way ∷ back)
-        × RisesFor store.now.cells (length log.now.table.history) seat.old.knows seat.new.knows (front ++ way ∷ [])) }
-    ensures cleared { OnOk result (AreCleared seat.new.knows store.now.cells (ways_of store.now.cells (suc (length log.now.table.history)) log.now.table.pending)) }
-    ensures waits { OnOk result (AnyClears (ways_of store.now.cells (suc (length log.now.table.history)) log.now.table.pending) → Noted seat.new.knows none_waits) }
+    ensures seat { GoesOn is_of_words (held_by seat.old) seat.old.turns seat.old seat.new }
+    ensures bound { OnOk result (RisesForAll store.now.cells log.now.table seat.old.knows seat.new.knows) }
+    ensures refused { OnErr result (RisesForSome store.now.cells log.now.table seat.old.knows seat.new.knows) }
+    ensures cleared { OnOk result (AreCleared seat.new.knows store.now.cells (ways_in store.now.cells log.now.table)) }
+    ensures waits { OnOk result (AnyClears (ways_in store.now.cells log.now.table) → Noted seat.new.knows none_waits) }
 {
     log.devices_agree();
     let bits = store.bits();

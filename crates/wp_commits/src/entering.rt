@@ -1,16 +1,18 @@
 //! Entering a pair: its word takes the place of what was there.
 ghost use Rattle.std.specs.Prelude.{◌≡◌, ◌≢◌, ◌<◌, ◌≤◌, ℕ, true, false, List, [], ◌∷◌, length, Some};
-ghost use Rattle.wp_judge.specs.Words.{fits};
+ghost use Rattle.wp_judge.specs.Words.{commit_pair, fits};
 ghost use Rattle.wp_core.specs.Cache.{cache_place, pair_at, with_pair};
 ghost use Rattle.wp_core.specs.Entries.{pending_pair};
 ghost use Rattle.wp_core.specs.Tables.{writes};
 ghost use Rattle.wp_core.specs.Views.{words_stay, pair_delayed};
 ghost use Rattle.wp_rule.specs.Knows.{Noted};
-ghost use Rattle.wp_commits.specs.Bound.{bound_after, bound_with};
+ghost use Rattle.wp_commits.specs.Bound.{NotedWords, BoundBecomes, bound_after};
 ghost use Rattle.wp_commits.specs.Cleared.{IsWanted, IsCleared, IsReadyAt};
 ghost use Rattle.wp_shared.specs.Notes.{GoesOn};
+ghost use Rattle.wp_shared.specs.Seats.{held_by};
+ghost use Rattle.wp_shared.specs.Turns.{history_in};
 ghost use Rattle.wp_commits.specs.Notes.{is_of_words, is_of_delayed, is_of_place};
-ghost use Rattle.wp_commits.specs.Ways.{way_of, is_of_way, with_way, IsReached, IsReadyFor, IsElsewhere, IsEntered};
+ghost use Rattle.wp_commits.specs.Ways.{next_way_in, is_of_way, IsReached, IsReadyForNext, EntersNext, HasEntered, StayReady};
 
 use crate::clear::clear_own;
 use crate::steps;
@@ -30,14 +32,13 @@ fn clear_again<D: Disk + Drop, R: Wait>(
     place: usize,
 )
     requires seat { (seat.old.table ≡ store.now.table) × (seat.old.knows.live ≡ true) }
-    requires held { seat.old.knows.held ≡ writes log.now.table ∷ [] }
+    requires held { held_by seat.old ≡ writes log.now.table ∷ [] }
     requires wanted { IsWanted store.now.cells log.now.table place }
-    requires words { (bound : ℕ) × (words : List ℕ) × Noted seat.old.knows (words_stay bound words) }
+    requires words { NotedWords seat.old.knows }
     requires within { place < store.now.cells }
-    requires ready { IsReadyAt seat.old.knows (length log.now.table.history) place }
+    requires ready { IsReadyAt seat.old.knows (length (history_in log.now)) place }
     ensures seat { GoesOn is_of_words (writes log.now.table ∷ []) seat.old.turns seat.old seat.new }
-    ensures bound { (bound : ℕ) (words : List ℕ) → Noted seat.old.knows (words_stay bound words)
-        → Noted seat.new.knows (words_stay (bound_after store.now.cells (length log.now.table.history) bound (pair_at words place)) words) }
+    ensures bound { BoundBecomes (λ bound words. bound_after store.now.cells (length (history_in log.now)) bound (pair_at words place)) seat.old.knows seat.new.knows }
     ensures cleared { IsCleared seat.new.knows place }
 {
     match steps::pair(store, seat, log, place) {
@@ -56,16 +57,16 @@ fn enter_pair<D: Disk + Drop, R: Wait>(
     c: Seq,
 )
     requires seat { (seat.old.table ≡ store.now.table) × (seat.old.knows.live ≡ true) }
-    requires held { seat.old.knows.held ≡ writes log.now.table ∷ [] }
-    requires words { (bound : ℕ) × (words : List ℕ) × Noted seat.old.knows (words_stay bound words) }
-    requires pending { pending_pair log.now.table.history log.now.table.pending ≡ Some (record { number = p; decision = c }) }
-    requires narrow { fits store.now.cells (record { number = p; decision = c }) ≡ true }
-    requires ready { IsReadyAt seat.old.knows (length log.now.table.history) (cache_place store.now.cells p) }
-    ensures seat { GoesOn (is_of_place (cache_place store.now.cells p)) seat.old.knows.held seat.old.turns seat.old seat.new }
+    requires held { held_by seat.old ≡ writes log.now.table ∷ [] }
+    requires words { NotedWords seat.old.knows }
+    requires pending { pending_pair (history_in log.now) log.now.table.pending ≡ Some (commit_pair p c) }
+    requires narrow { fits store.now.cells (commit_pair p c) ≡ true }
+    requires ready { IsReadyAt seat.old.knows (length (history_in log.now)) (cache_place store.now.cells p) }
+    ensures seat { GoesOn (is_of_place (cache_place store.now.cells p)) (held_by seat.old) seat.old.turns seat.old seat.new }
     ensures words { (bound : ℕ) (words : List ℕ) → Noted seat.old.knows (words_stay bound words)
-        → Noted seat.new.knows (words_stay (bound_after store.now.cells (length log.now.table.history) bound (pair_at words (cache_place store.now.cells p))) (with_pair words (record { number = p; decision = c }))) }
-    ensures there { (bound : ℕ) (words : List ℕ) → Noted seat.new.knows (words_stay bound words) → pair_at words (cache_place store.now.cells p) ≡ Some (record { number = p; decision = c }) }
-    ensures elsewhere { (place : ℕ) → place ≢ cache_place store.now.cells p → IsReadyAt seat.old.knows (length log.now.table.history) place → IsReadyAt seat.new.knows (length log.now.table.history) place }
+        → Noted seat.new.knows (words_stay (bound_after store.now.cells (length (history_in log.now)) bound (pair_at words (cache_place store.now.cells p))) (with_pair words (commit_pair p c))) }
+    ensures there { (bound : ℕ) (words : List ℕ) → Noted seat.new.knows (words_stay bound words) → pair_at words (cache_place store.now.cells p) ≡ Some (commit_pair p c) }
+    ensures elsewhere { (place : ℕ) → place ≢ cache_place store.now.cells p → IsReadyAt seat.old.knows (length (history_in log.now)) place → IsReadyAt seat.new.knows (length (history_in log.now)) place }
 {
     let place = store.place_of(p);
     clear_again(store, rt, seat, log, place);
@@ -82,11 +83,11 @@ fn enter_delayed<D: Disk + Drop, R: Wait>(
     c: Seq,
 )
     requires seat { (seat.old.table ≡ store.now.table) × (seat.old.knows.live ≡ true) }
-    requires held { seat.old.knows.held ≡ writes log.now.table ∷ [] }
-    requires pending { pending_pair log.now.table.history log.now.table.pending ≡ Some (record { number = p; decision = c }) }
-    requires wide { fits store.now.cells (record { number = p; decision = c }) ≡ false }
+    requires held { held_by seat.old ≡ writes log.now.table ∷ [] }
+    requires pending { pending_pair (history_in log.now) log.now.table.pending ≡ Some (commit_pair p c) }
+    requires wide { fits store.now.cells (commit_pair p c) ≡ false }
     requires reached { IsReached seat.old.knows p }
-    ensures seat { GoesOn is_of_delayed seat.old.knows.held seat.old.turns seat.old seat.new }
+    ensures seat { GoesOn is_of_delayed (held_by seat.old) seat.old.turns seat.old seat.new }
     ensures there { Noted seat.new.knows pair_delayed }
     ensures low { (bound : ℕ) (words : List ℕ) → Noted seat.old.knows (words_stay bound words) → p ≤ bound }
 {
@@ -100,14 +101,13 @@ fn enter_delayed<D: Disk + Drop, R: Wait>(
 /// no memory.
 pub fn enter<D: Disk + Drop, R: Wait>(store: &Shared<D>, rt: &R, seat: &mut Seat<D>, log: &Log<D>)
     requires seat { (seat.old.table ≡ store.now.table) × (seat.old.knows.live ≡ true) }
-    requires held { seat.old.knows.held ≡ writes log.now.table ∷ [] }
-    requires words { (bound : ℕ) × (words : List ℕ) × Noted seat.old.knows (words_stay bound words) }
-    requires ready { IsReadyFor seat.old.knows store.now.cells (length log.now.table.history) (way_of store.now.cells (pending_pair log.now.table.history log.now.table.pending)) }
-    ensures seat { GoesOn (is_of_way store.now.cells (way_of store.now.cells (pending_pair log.now.table.history log.now.table.pending))) seat.old.knows.held seat.old.turns seat.old seat.new }
-    ensures words { (bound : ℕ) (words : List ℕ) → Noted seat.old.knows (words_stay bound words)
-        → Noted seat.new.knows (words_stay (bound_with store.now.cells (length log.now.table.history) bound words (way_of store.now.cells (pending_pair log.now.table.history log.now.table.pending))) (with_way words (way_of store.now.cells (pending_pair log.now.table.history log.now.table.pending)))) }
-    ensures there { (bound : ℕ) (words : List ℕ) → Noted seat.new.knows (words_stay bound words) → IsEntered seat.new.knows store.now.cells words (way_of store.now.cells (pending_pair log.now.table.history log.now.table.pending)) }
-    ensures elsewhere { (place : ℕ) → IsElsewhere store.now.cells place (way_of store.now.cells (pending_pair log.now.table.history log.now.table.pending)) → IsReadyAt seat.old.knows (length log.now.table.history) place → IsReadyAt seat.new.knows (length log.now.table.history) place }
+    requires held { held_by seat.old ≡ writes log.now.table ∷ [] }
+    requires words { NotedWords seat.old.knows }
+    requires ready { IsReadyForNext seat.old.knows store.now.cells log.now.table }
+    ensures seat { GoesOn (is_of_way store.now.cells (next_way_in store.now.cells log.now.table)) (held_by seat.old) seat.old.turns seat.old seat.new }
+    ensures words { EntersNext store.now.cells log.now.table seat.old.knows seat.new.knows }
+    ensures there { HasEntered seat.new.knows store.now.cells (next_way_in store.now.cells log.now.table) }
+    ensures elsewhere { StayReady store.now.cells (length (history_in log.now)) (next_way_in store.now.cells log.now.table) seat.old.knows seat.new.knows }
 {
     match next_way(store.bits(), log) {
         Way::Undecided => {}

@@ -1,5 +1,5 @@
 //! What the rule of the evicted bound comes to.
-ghost use Rattle.std.specs.Prelude.{◌≡◌, ℕ, ◌≤◌, Option, Some};
+ghost use Rattle.std.specs.Prelude.{ℕ, ◌≤◌, Option, Some};
 ghost use Rattle.wp_judge.specs.Words.{CommitPair};
 ghost use Rattle.wp_commits.specs.Bound.{bound_after};
 

@@ -1,9 +1,11 @@
 //! Taking out of the prepared tables what the evicted bound has passed.
-ghost use Rattle.std.specs.Prelude.{◌≡◌, ℕ, true, List, [], ◌∷◌, OnOk};
+ghost use Rattle.std.specs.Prelude.{◌≡◌, true, [], ◌∷◌, OnOk};
 ghost use Rattle.wp_core.specs.Tables.{writes, prepared, snapshots};
-ghost use Rattle.wp_core.specs.Views.{words_stay, none_waits};
+ghost use Rattle.wp_core.specs.Views.{none_waits};
 ghost use Rattle.wp_rule.specs.Knows.{Noted};
+ghost use Rattle.wp_commits.specs.Bound.{NotedWords};
 ghost use Rattle.wp_shared.specs.Notes.{is_flag, GoesOn, DelayedFlagTells, OldFlagTells};
+ghost use Rattle.wp_shared.specs.Seats.{held_by};
 
 use crate::pair_note::PairNote;
 use crate::steps;
@@ -24,8 +26,8 @@ fn pass_all<D: Disk + Drop>(
     snaps: &mut Snaps,
 ) -> Result<(), AllocError>
     requires seat { (seat.old.table ≡ store.now.table) × (seat.old.knows.live ≡ true) }
-    requires held { seat.old.knows.held ≡ snapshots snaps.old ∷ prepared tables.old ∷ writes log.now.table ∷ [] }
-    requires words { (bound : ℕ) × (words : List ℕ) × Noted seat.old.knows (words_stay bound words) }
+    requires held { held_by seat.old ≡ snapshots snaps.old ∷ prepared tables.old ∷ writes log.now.table ∷ [] }
+    requires words { NotedWords seat.old.knows }
     requires delayed_flag { DelayedFlagTells seat.old.knows tables.old }
     requires old_flag { OldFlagTells seat.old.knows snaps.old }
     ensures seat { GoesOn is_flag (snapshots snaps.new ∷ prepared tables.new ∷ writes log.now.table ∷ []) seat.old.turns seat.old seat.new }
@@ -50,8 +52,8 @@ pub(crate) fn pass<D: Disk + Drop, R: Wait>(
     log: &Log<D>,
 ) -> Result<(), AllocError>
     requires seat { (seat.old.table ≡ store.now.table) × (seat.old.knows.live ≡ true) }
-    requires held { seat.old.knows.held ≡ writes log.now.table ∷ [] }
-    requires words { (bound : ℕ) × (words : List ℕ) × Noted seat.old.knows (words_stay bound words) }
+    requires held { held_by seat.old ≡ writes log.now.table ∷ [] }
+    requires words { NotedWords seat.old.knows }
     ensures seat { GoesOn is_flag (writes log.now.table ∷ []) seat.old.turns seat.old seat.new }
     ensures waits { OnOk result (Noted seat.new.knows none_waits) }
 {

@@ -1,7 +1,7 @@
 //! The steps of the machine that the calls make, each as what it leaves of the seat.
 ghost use Rattle.std.specs.Prelude.{◌≡◌, ◌≢◌, ◌⊎◌, ◌≤◌, ◌<◌, ℕ, true, false, List, [], ◌∷◌, length, Some, IfSome, OnOk, MatchBool, MatchOption};
 ghost use Rattle.std.specs.Option.{option_map};
-ghost use Rattle.wp_judge.specs.Words.{numbers_of, fits};
+ghost use Rattle.wp_judge.specs.Words.{commit_pair, numbers_of, fits};
 ghost use Rattle.wp_model.specs.Decision.{decision_of};
 ghost use Rattle.wp_model.specs.PreparedSets.{NoneDelayed};
 ghost use Rattle.wp_model.specs.Snapshots.{NoOldCommits};
@@ -13,12 +13,15 @@ ghost use Rattle.wp_core.specs.Sound.Prepared.{IsInOldCommits};
 ghost use Rattle.wp_core.specs.Sound.Views.{IsApart};
 ghost use Rattle.wp_core.specs.Views.{passed, apart, words_stay, has_left, pair_delayed, none_waits, delayed_flag_stays, old_flag_stays};
 ghost use Rattle.wp_rule.specs.Knows.{Holding, Noted, KnowsFact, IsRise};
+ghost use Rattle.wp_commits.specs.Bound.{NotedWords, BoundBecomes};
 ghost use Rattle.wp_commits.specs.Cleared.{IsThere, IsCleared, IsReadyAt, IsUnentered};
 ghost use Rattle.wp_commits.specs.PairNotes.{fact_of};
 ghost use Rattle.wp_commits.specs.Making.{noted_all};
 ghost use Rattle.wp_commits.specs.Passing.{NoneReached, IsReachedCommit};
 ghost use Rattle.wp_commits.specs.Ways.{IsReached};
 ghost use Rattle.wp_shared.specs.Notes.{noting, is_flag, GoesOn, FlagTells, DelayedFlagTells, OldFlagTells};
+ghost use Rattle.wp_shared.specs.Seats.{held_by, seen_by};
+ghost use Rattle.wp_shared.specs.Turns.{history_in};
 ghost use Rattle.wp_commits.specs.Notes.{is_of_words, is_of_delayed, is_of_place};
 
 use crate::pair_note::PairNote;
@@ -34,20 +37,20 @@ use wp_snaps::Snaps;
 // ---- what the words are
 
 /// The pair of the word at this place, if it has one. It is published.
-pub fn pair<D: Disk + Drop>(
+pub(crate) fn pair<D: Disk + Drop>(
     store: &Shared<D>,
     seat: &mut Seat<D>,
     log: &Log<D>,
     place: usize,
 ) -> Option<(Seq, Seq)>
     requires seat { seat.old.table ≡ store.now.table }
-    requires held { IsIn (writes log.now.table) seat.old.knows.held }
+    requires held { IsIn (writes log.now.table) (held_by seat.old) }
     requires within { place < store.now.cells }
-    requires words { (bound : ℕ) × (words : List ℕ) × Noted seat.old.knows (words_stay bound words) }
-    requires published { IsUnentered seat.old.knows store.now.cells log.now.table ⊎ IsReadyAt seat.old.knows (length log.now.table.history) place }
+    requires words { NotedWords seat.old.knows }
+    requires published { IsUnentered seat.old.knows store.now.cells log.now.table ⊎ IsReadyAt seat.old.knows (length (history_in log.now)) place }
     ensures same { seat.new ≡ seat.old }
     ensures pair { (bound : ℕ) (words : List ℕ) → Noted seat.old.knows (words_stay bound words) → result ≡ option_map numbers_of (pair_at words place) }
-    ensures there { IfSome result (λ r. IsThere seat.old.knows log.now.table.history place r.0 r.1) }
+    ensures there { IfSome result (λ r. IsThere seat.old.knows (history_in log.now) place r.0 r.1) }
 {
     let bits = store.bits();
     unpack(bits, place, store.word(seat, place))
@@ -56,7 +59,7 @@ pub fn pair<D: Disk + Drop>(
 // ---- notes
 
 /// Notes this of a pair, which the seat knows.
-pub fn note<D: Disk + Drop>(store: &Shared<D>, seat: &mut Seat<D>, what: PairNote)
+pub(crate) fn note<D: Disk + Drop>(store: &Shared<D>, seat: &mut Seat<D>, what: PairNote)
     requires seat { (seat.old.table ≡ store.now.table) × (seat.old.knows.live ≡ true) }
     requires known { KnowsFact seat.old.knows (fact_of what) }
     ensures { seat.new ≡ noting (fact_of what) seat.old }
@@ -66,7 +69,7 @@ pub fn note<D: Disk + Drop>(store: &Shared<D>, seat: &mut Seat<D>, what: PairNot
 
 /// Notes that the pair of the word at this place may go, which is that of a version that decided itself: it overlaps no
 /// snapshot, and its number is no prepared one.
-pub fn note_own<D: Disk + Drop>(
+pub(crate) fn note_own<D: Disk + Drop>(
     store: &Shared<D>,
     seat: &mut Seat<D>,
     log: &Log<D>,
@@ -74,9 +77,9 @@ pub fn note_own<D: Disk + Drop>(
     n: Seq,
 )
     requires seat { (seat.old.table ≡ store.now.table) × (seat.old.knows.live ≡ true) }
-    requires held { IsIn (writes log.now.table) seat.old.knows.held }
-    requires passed { (k : IsThere seat.old.knows log.now.table.history place n n) × (n ≤ k.bound) }
-    ensures { seat.new ≡ noted_all place (record { number = n; decision = n }) seat.old }
+    requires held { IsIn (writes log.now.table) (held_by seat.old) }
+    requires passed { (k : IsThere seat.old.knows (history_in log.now) place n n) × (n ≤ k.bound) }
+    ensures { seat.new ≡ noted_all place (commit_pair n n) seat.old }
 {
     store.make_about::<Brand, (usize, Seq)>(seat, &(place, n));
 }
@@ -84,7 +87,7 @@ pub fn note_own<D: Disk + Drop>(
 // ---- a word
 
 /// Stores the word of the pending entry's pair at its place, which is cleared.
-pub fn put_word<D: Disk + Drop>(
+pub(crate) fn put_word<D: Disk + Drop>(
     store: &Shared<D>,
     seat: &mut Seat<D>,
     log: &Log<D>,
@@ -93,14 +96,14 @@ pub fn put_word<D: Disk + Drop>(
     c: Seq,
 )
     requires seat { seat.old.table ≡ store.now.table }
-    requires held { IsIn (writes log.now.table) seat.old.knows.held }
+    requires held { IsIn (writes log.now.table) (held_by seat.old) }
     requires place { (place ≡ cache_place store.now.cells p) × (place < store.now.cells) }
-    requires pending { pending_pair log.now.table.history log.now.table.pending ≡ Some (record { number = p; decision = c }) }
-    requires narrow { fits store.now.cells (record { number = p; decision = c }) ≡ true }
+    requires pending { pending_pair (history_in log.now) log.now.table.pending ≡ Some (commit_pair p c) }
+    requires narrow { fits store.now.cells (commit_pair p c) ≡ true }
     requires cleared { IsCleared seat.old.knows place }
-    ensures seat { GoesOn (is_of_place place) seat.old.knows.held seat.old.turns seat.old seat.new }
-    ensures words { (bound : ℕ) (words : List ℕ) → Noted seat.old.knows (words_stay bound words) → Noted seat.new.knows (words_stay bound (with_pair words (record { number = p; decision = c }))) }
-    ensures there { (bound : ℕ) (words : List ℕ) → Noted seat.new.knows (words_stay bound words) → pair_at words place ≡ Some (record { number = p; decision = c }) }
+    ensures seat { GoesOn (is_of_place place) (held_by seat.old) seat.old.turns seat.old seat.new }
+    ensures words { (bound : ℕ) (words : List ℕ) → Noted seat.old.knows (words_stay bound words) → Noted seat.new.knows (words_stay bound (with_pair words (commit_pair p c))) }
+    ensures there { (bound : ℕ) (words : List ℕ) → Noted seat.new.knows (words_stay bound words) → pair_at words place ≡ Some (commit_pair p c) }
     ensures elsewhere { (published i : ℕ) → i ≢ place → IsReadyAt seat.old.knows published i → IsReadyAt seat.new.knows published i }
 {
     log.devices_agree();
@@ -120,7 +123,7 @@ fn fit_delayed_flag<D: Disk + Drop>(
     requires seat { seat.old.table ≡ store.now.table }
     requires held { Holding seat.old.knows prepared (λ t. NoneDelayed tables.now → NoneDelayed t) }
     requires flag { FlagTells seat.old.knows delayed_flag_stays (was_none ≡ true) }
-    ensures seat { GoesOn is_flag seat.old.knows.held seat.old.turns seat.old seat.new }
+    ensures seat { GoesOn is_flag (held_by seat.old) seat.old.turns seat.old seat.new }
     ensures flag { DelayedFlagTells seat.new.knows tables.now }
     ensures other { (value : ℕ) → Noted seat.old.knows (old_flag_stays value) → Noted seat.new.knows (old_flag_stays value) }
 {
@@ -132,7 +135,7 @@ fn fit_delayed_flag<D: Disk + Drop>(
 }
 
 /// Raises the evicted bound to this number. Those of the heap that it reaches become delayed ones, with the flag up.
-pub fn raise<D: Disk + Drop>(
+pub(crate) fn raise<D: Disk + Drop>(
     store: &Shared<D>,
     seat: &mut Seat<D>,
     log: &Log<D>,
@@ -140,12 +143,12 @@ pub fn raise<D: Disk + Drop>(
     m: Seq,
 )
     requires seat { seat.old.table ≡ store.now.table }
-    requires held { seat.old.knows.held ≡ prepared tables.old ∷ writes log.now.table ∷ [] }
+    requires held { held_by seat.old ≡ prepared tables.old ∷ writes log.now.table ∷ [] }
     requires rises { IsRise seat.old.knows store.now.cells log.now.table m }
     requires flag { DelayedFlagTells seat.old.knows tables.old }
     ensures seat { GoesOn is_of_words (prepared tables.new ∷ writes log.now.table ∷ []) seat.old.turns seat.old seat.new }
     ensures flag { DelayedFlagTells seat.new.knows tables.new }
-    ensures bound { (bound : ℕ) (words : List ℕ) → Noted seat.old.knows (words_stay bound words) → Noted seat.new.knows (words_stay m words) }
+    ensures bound { BoundBecomes (λ bound words. m) seat.old.knows seat.new.knows }
 {
     let none = tables.none_delayed();
     tables.advance(m);
@@ -155,7 +158,7 @@ pub fn raise<D: Disk + Drop>(
 
 /// Makes the pair, to whose decision the bound has come, a delayed commit where its number is prepared, with the flag up. It takes no
 /// memory.
-pub fn delay<D: Disk + Drop>(
+pub(crate) fn delay<D: Disk + Drop>(
     store: &Shared<D>,
     seat: &mut Seat<D>,
     log: &Log<D>,
@@ -164,13 +167,13 @@ pub fn delay<D: Disk + Drop>(
     c: Seq,
 )
     requires seat { seat.old.table ≡ store.now.table }
-    requires held { seat.old.knows.held ≡ prepared tables.old ∷ writes log.now.table ∷ [] }
-    requires decided { decision_of log.now.table.history p ≡ Some c }
+    requires held { held_by seat.old ≡ prepared tables.old ∷ writes log.now.table ∷ [] }
+    requires decided { decision_of (history_in log.now) p ≡ Some c }
     requires reached { IsReached seat.old.knows p }
     requires flag { DelayedFlagTells seat.old.knows tables.old }
     ensures seat { GoesOn is_flag (prepared tables.new ∷ writes log.now.table ∷ []) seat.old.turns seat.old seat.new }
     ensures flag { DelayedFlagTells seat.new.knows tables.new }
-    ensures apart { IsApart tables.new (record { number = p; decision = c }) }
+    ensures apart { IsApart tables.new (commit_pair p c) }
 {
     store.shows_world(seat);
     let none = tables.none_delayed();
@@ -180,7 +183,7 @@ pub fn delay<D: Disk + Drop>(
 }
 
 /// Makes the pending entry's pair a delayed commit, with the flag up, and notes it. The bound has come to its number. It takes no memory.
-pub fn delay_pending<D: Disk + Drop>(
+pub(crate) fn delay_pending<D: Disk + Drop>(
     store: &Shared<D>,
     seat: &mut Seat<D>,
     log: &Log<D>,
@@ -189,9 +192,9 @@ pub fn delay_pending<D: Disk + Drop>(
     c: Seq,
 )
     requires seat { (seat.old.table ≡ store.now.table) × (seat.old.knows.live ≡ true) }
-    requires held { seat.old.knows.held ≡ prepared tables.old ∷ writes log.now.table ∷ [] }
-    requires pending { pending_pair log.now.table.history log.now.table.pending ≡ Some (record { number = p; decision = c }) }
-    requires wide { fits store.now.cells (record { number = p; decision = c }) ≡ false }
+    requires held { held_by seat.old ≡ prepared tables.old ∷ writes log.now.table ∷ [] }
+    requires pending { pending_pair (history_in log.now) log.now.table.pending ≡ Some (commit_pair p c) }
+    requires wide { fits store.now.cells (commit_pair p c) ≡ false }
     requires reached { IsReached seat.old.knows p }
     requires flag { DelayedFlagTells seat.old.knows tables.old }
     ensures seat { GoesOn is_of_delayed (prepared tables.new ∷ writes log.now.table ∷ []) seat.old.turns seat.old seat.new }
@@ -209,15 +212,15 @@ pub fn delay_pending<D: Disk + Drop>(
 
 /// Takes the number, which is decided, out of all prepared tables, the delayed commits too, and puts the flag down where nothing
 /// is delayed any more.
-pub fn forget_prepared<D: Disk + Drop>(
+pub(crate) fn forget_prepared<D: Disk + Drop>(
     store: &Shared<D>,
     seat: &mut Seat<D>,
     tables: &mut Prepared,
     p: Seq,
 )
     requires seat { (seat.old.table ≡ store.now.table) × (seat.old.knows.live ≡ true) }
-    requires held { seat.old.knows.held ≡ prepared tables.old ∷ [] }
-    requires decided { (c : ℕ) × (decision_of seat.old.knows.participant.seen p ≡ Some c) × (fits store.now.cells (record { number = p; decision = c }) ≡ true) }
+    requires held { held_by seat.old ≡ prepared tables.old ∷ [] }
+    requires decided { (c : ℕ) × (decision_of (seen_by seat.old) p ≡ Some c) × (fits store.now.cells (commit_pair p c) ≡ true) }
     requires flag { DelayedFlagTells seat.old.knows tables.old }
     ensures seat { GoesOn is_flag (prepared tables.new ∷ []) seat.old.turns seat.old seat.new }
     ensures flag { DelayedFlagTells seat.new.knows tables.new }
@@ -233,26 +236,30 @@ pub fn forget_prepared<D: Disk + Drop>(
 // ---- delayed commits that the bound has passed
 
 /// Whether nothing is delayed, by the delayed flag alone. Where nothing is, no prepared number waits to be taken out, which is noted.
-pub fn none_delayed<D: Disk + Drop>(store: &Shared<D>, seat: &mut Seat<D>, log: &Log<D>) -> bool
+pub(crate) fn none_delayed<D: Disk + Drop>(
+    store: &Shared<D>,
+    seat: &mut Seat<D>,
+    log: &Log<D>,
+) -> bool
     requires seat { (seat.old.table ≡ store.now.table) × (seat.old.knows.live ≡ true) }
-    requires held { IsIn (writes log.now.table) seat.old.knows.held }
+    requires held { IsIn (writes log.now.table) (held_by seat.old) }
     ensures { MatchBool result (seat.new ≡ noting none_waits seat.old) (seat.new ≡ seat.old) }
 {
     store.load_delayed_flag::<Brand>(seat) == 0
 }
 
 /// Of the delayed commits to which the bound has come the one of the least number.
-pub fn passed<D: Disk + Drop>(
+pub(crate) fn passed<D: Disk + Drop>(
     store: &Shared<D>,
     seat: &mut Seat<D>,
     log: &Log<D>,
     tables: &Prepared,
 ) -> Option<(Seq, Seq)>
     requires seat { seat.old.table ≡ store.now.table }
-    requires held { IsIn (writes log.now.table) seat.old.knows.held × IsIn (prepared tables.now) seat.old.knows.held }
-    requires words { (bound : ℕ) × (words : List ℕ) × Noted seat.old.knows (words_stay bound words) }
+    requires held { IsIn (writes log.now.table) (held_by seat.old) × IsIn (prepared tables.now) (held_by seat.old) }
+    requires words { NotedWords seat.old.knows }
     ensures same { seat.new ≡ seat.old }
-    ensures passed { MatchOption result (NoneReached seat.old.knows tables.now.delayed_commits) (IsReachedCommit seat.old.knows log.now.table.history tables.now.delayed_commits) }
+    ensures passed { MatchOption result (NoneReached seat.old.knows tables.now.delayed_commits) (IsReachedCommit seat.old.knows (history_in log.now) tables.now.delayed_commits) }
 {
     let bound = store.max(seat);
     tables.passed(bound)
@@ -260,7 +267,7 @@ pub fn passed<D: Disk + Drop>(
 
 /// Takes the number, to whose decision the bound has come and which is kept for the snapshots, out of all prepared tables, and puts the
 /// flag down where nothing is delayed any more.
-pub fn let_go<D: Disk + Drop>(
+pub(crate) fn let_go<D: Disk + Drop>(
     store: &Shared<D>,
     seat: &mut Seat<D>,
     log: &Log<D>,
@@ -270,8 +277,8 @@ pub fn let_go<D: Disk + Drop>(
     c: Seq,
 )
     requires seat { seat.old.table ≡ store.now.table }
-    requires held { seat.old.knows.held ≡ snapshots snaps.now ∷ prepared tables.old ∷ writes log.now.table ∷ [] }
-    requires decided { decision_of log.now.table.history p ≡ Some c }
+    requires held { held_by seat.old ≡ snapshots snaps.now ∷ prepared tables.old ∷ writes log.now.table ∷ [] }
+    requires decided { decision_of (history_in log.now) p ≡ Some c }
     requires reached { IsReached seat.old.knows c }
     requires kept { IsInOldCommits snaps.now p c }
     requires flag { DelayedFlagTells seat.old.knows tables.old }
@@ -298,7 +305,7 @@ fn fit_old_flag<D: Disk + Drop>(
     requires seat { seat.old.table ≡ store.now.table }
     requires held { Holding seat.old.knows snapshots (λ m. NoOldCommits snaps.now → NoOldCommits m) }
     requires flag { FlagTells seat.old.knows old_flag_stays (was_none ≡ true) }
-    ensures seat { GoesOn is_flag seat.old.knows.held seat.old.turns seat.old seat.new }
+    ensures seat { GoesOn is_flag (held_by seat.old) seat.old.turns seat.old seat.new }
     ensures flag { OldFlagTells seat.new.knows snaps.now }
     ensures other { (value : ℕ) → Noted seat.old.knows (delayed_flag_stays value) → Noted seat.new.knows (delayed_flag_stays value) }
 {
@@ -310,7 +317,7 @@ fn fit_old_flag<D: Disk + Drop>(
 }
 
 /// Keeps the pair under each live number that overlaps it, with the flag up where there is one.
-pub fn keep<D: Disk + Drop>(
+pub(crate) fn keep<D: Disk + Drop>(
     store: &Shared<D>,
     seat: &mut Seat<D>,
     log: &Log<D>,
@@ -319,11 +326,11 @@ pub fn keep<D: Disk + Drop>(
     c: Seq,
 ) -> Result<(), AllocError>
     requires seat { seat.old.table ≡ store.now.table }
-    requires held { (others : List Content) × (seat.old.knows.held ≡ snapshots snaps.old ∷ others) × IsIn (writes log.now.table) others }
+    requires held { (others : List Content) × (held_by seat.old ≡ snapshots snaps.old ∷ others) × IsIn (writes log.now.table) others }
     requires ordered { p ≤ c }
-    requires decided { decision_of log.now.table.history p ≡ Some c }
+    requires decided { decision_of (history_in log.now) p ≡ Some c }
     requires flag { OldFlagTells seat.old.knows snaps.old }
-    ensures seat { (others : List Content) → seat.old.knows.held ≡ snapshots snaps.old ∷ others → GoesOn is_flag (snapshots snaps.new ∷ others) seat.old.turns seat.old seat.new }
+    ensures seat { (others : List Content) → held_by seat.old ≡ snapshots snaps.old ∷ others → GoesOn is_flag (snapshots snaps.new ∷ others) seat.old.turns seat.old seat.new }
     ensures flag { OldFlagTells seat.new.knows snaps.new }
     ensures other { (value : ℕ) → Noted seat.old.knows (delayed_flag_stays value) → Noted seat.new.knows (delayed_flag_stays value) }
     ensures kept { OnOk result (IsInOldCommits snaps.new p c) }

@@ -1,7 +1,8 @@
 //! How a pair is kept.
 ghost use Rattle.std.specs.Prelude.{◌≡◌, ◌<◌, ◌≤◌, ◌^◌, Some};
-ghost use Rattle.wp_judge.specs.Words.{CommitPair, seq_end};
+ghost use Rattle.wp_judge.specs.Words.{CommitPair, commit_pair, seq_end};
 ghost use Rattle.wp_core.specs.Entries.{pair_by, pending_pair};
+ghost use Rattle.wp_shared.specs.Turns.{history_in};
 ghost use Rattle.wp_commits.specs.Ways.{way_of};
 
 use wp_judge::fits;
@@ -25,7 +26,7 @@ impl Way {
     fn of_pair(bits: u32, p: Seq, c: Seq) -> Way
         requires bits { bits ≤ 16 }
         requires pair { (p ≤ c) × (c < seq_end) }
-        ensures { result ≡ way_of (2 ^ bits) (Some (record { number = p; decision = c })) }
+        ensures { result ≡ way_of (2 ^ bits) (Some (commit_pair p c)) }
     {
         if fits(bits, p, c) {
             Way::InWord(p, c)
@@ -51,7 +52,7 @@ impl Way {
 /// How the pair of the first pending entry is kept.
 pub(crate) fn next_way<D: Disk>(bits: u32, log: &Log<D>) -> Way
     requires { bits ≤ 16 }
-    ensures { result ≡ way_of (2 ^ bits) (pending_pair log.now.table.history log.now.table.pending) }
+    ensures { result ≡ way_of (2 ^ bits) (pending_pair (history_in log.now) log.now.table.pending) }
 {
     log.devices_agree();
     match log.pending().first() {

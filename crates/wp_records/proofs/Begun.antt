@@ -2,14 +2,13 @@
 use Rattle.std.proofs.Common.{◌≡◌, false, List, [], ◌∷◌, ◌++◌, length, refl, sym, subst, ap, ◌∙◌}
 use Rattle.wp_model.specs.declared.entry.Entry.{Entry}
 use Rattle.wp_model.specs.Legal.{IsLegal}
-use Rattle.wp_core.specs.Entries.{IsOneRecord}
+use Rattle.wp_model.specs.Record.{IsOneRecord}
 use Rattle.wp_core.specs.Tables.{WriteState, writes}
 use Rattle.wp_core.specs.Views.{versions_nowhere, number_not_in_heap, pair_not_delayed}
 use Rattle.wp_rule.specs.Knows.{Noted}
-use Rattle.wp_shared.specs.Log.{LogState}
+use Rattle.wp_parts.specs.Log.{LogState}
 use Rattle.wp_shared.specs.Seats.{SharedState, SeatState}
-use Rattle.wp_shared.specs.Notes.{GoesOn}
-use Rattle.wp_shared.specs.Notes.{KnowsWords}
+use Rattle.wp_shared.specs.Notes.{GoesOn, KnowsWords}
 use Rattle.wp_records.specs.Records.{IsUncalled}
 use Rattle.wp_records.specs.Writing.{HoldsWrite}
 use Rattle.wp_records.specs.Stages.{is_of_pending, HoldsPending, IsBegun}

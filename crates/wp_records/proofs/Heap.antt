@@ -13,12 +13,13 @@ use Rattle.wp_core.specs.Tables.{WriteState, Content, writes, prepared}
 use Rattle.wp_core.specs.Views.{delayed_flag_stays, number_not_in_heap}
 use Rattle.wp_core.specs.World.{Actor, World}
 use Rattle.wp_core.proofs.HistoryGrows.{none_is}
-use Rattle.wp_core.proofs.Tests.{none_some}
+use Rattle.wp_model.proofs.Tests.{none_some}
 use Rattle.wp_core.specs.Entries.{extended, pending_pair}
 use Rattle.wp_commits.proofs.Passed.{extended_legal}
 use Rattle.wp_commits.proofs.Words.{decided_without}
 use Rattle.wp_core.proofs.HistoryLaws.{decided_late}
 use Rattle.wp_model.proofs.Numbers.{in_removed, in_removed_else, get_removed, get_removed_else}
+use Rattle.wp_judge.specs.Words.{commit_pair}
 use Rattle.wp_rule.specs.Knows.{Noted}
 use Rattle.wp_rule.specs.Words.{IsAt}
 use Rattle.wp_rule.proofs.Knows.{at_sound, noted_is}
@@ -74,7 +75,7 @@ module _ {D : Type 0} (z : SharedState D) (s t : SeatState) (d : WriteState) (ta
       let next = sound.delayed.commits n c here in
       let late = decided_late (extended w.writes.history w.writes.pending) n c (extended_legal w.writes.history w.writes.pending sound.history.legal sound.history.legal_next) next in
       let none : pending_pair w.writes.history w.writes.pending ≡ None = ap (λ (x : WriteState). pending_pair x.history x.pending) writes_is ∙ ap (pending_pair d.history) prepare.3 in
-      let low = (decided_without w.writes.history w.writes.pending (record { number = n; decision = c }) (λ e. none_some (pending_pair w.writes.history w.writes.pending) (record { number = n; decision = c }) none e) late next).1 in absurd (omega (arith, low, late, len)))
+      let low = (decided_without w.writes.history w.writes.pending (commit_pair n c) (λ e. none_some (pending_pair w.writes.history w.writes.pending) (commit_pair n c) none e) late next).1 in absurd (omega (arith, low, late, len)))
 
   removed_same : set.remove tables.delayed n ≡ tables.delayed
   removed_same = set.same_set nat_cmp_total nat_cmp-IsAntisymmetric (set.remove tables.delayed n) tables.delayed (λ q. elim (cases_eq q n) [

@@ -6,10 +6,9 @@ use Rattle.wp_core.specs.Tables.{Content, writes}
 use Rattle.wp_core.specs.Views.{Fact, words_stay}
 use Rattle.wp_core.specs.World.{Participant, Actor}
 use Rattle.wp_rule.specs.Knows.{Noted}
-use Rattle.wp_shared.specs.Log.{LogState}
+use Rattle.wp_parts.specs.Log.{LogState}
 use Rattle.wp_shared.specs.Seats.{SharedState, SeatState}
-use Rattle.wp_shared.specs.Notes.{GoesOn}
-use Rattle.wp_shared.specs.Notes.{KnowsWords}
+use Rattle.wp_shared.specs.Notes.{GoesOn, KnowsWords}
 use Rattle.wp_records.specs.Writing.{HoldsWrite}
 use Rattle.wp_records.specs.Stages.{holding, HoldsPending}
 

@@ -5,26 +5,26 @@ use Rattle.wp_model.specs.declared.entry.Entry.{Entry}
 use Rattle.wp_model.specs.declared.entry.Entry.TheVariants.{Prepare, Commit, Undo, Close}
 use Rattle.wp_model.specs.History.{is_prepare}
 use Rattle.wp_model.specs.Legal.{IsLegal}
-use Rattle.wp_judge.specs.Words.{CommitPair}
+use Rattle.wp_judge.specs.Words.{CommitPair, commit_pair}
 use Rattle.wp_core.specs.Cache.{cache_place}
 use Rattle.wp_core.specs.Conditions.{HasTransaction, IsPrepare}
-use Rattle.wp_core.specs.Entries.{next_of, pair_by, pending_pair, IsOneRecord}
+use Rattle.wp_model.specs.Record.{IsOneRecord}
+use Rattle.wp_core.specs.Entries.{next_of, pair_by, pending_pair}
 use Rattle.wp_core.specs.Tables.{WriteState, writes}
 use Rattle.wp_core.specs.Views as view
 use Rattle.wp_core.specs.Views.{Fact, passed, in_old_commits, words_stay, versions_in_memory, versions_nowhere, number_in_heap, number_not_in_heap}
 use Rattle.wp_core.specs.World.{Transaction, Participant, Actor}
 use Rattle.wp_core.proofs.HistoryLaws.{first_legal}
 use Rattle.wp_rule.specs.Knows.{KnowsHeld, Noted}
-use Rattle.wp_shared.specs.Log.{LogState}
+use Rattle.wp_parts.specs.Log.{LogState}
 use Rattle.wp_shared.specs.Seats.{SharedState, SeatState}
 use Rattle.wp_commits.specs.declared.way.Way.{Way}
 use Rattle.wp_commits.specs.declared.way.Way.TheVariants.{Undecided, InWord, Delayed}
 use Rattle.wp_commits.specs.Bound.{bound_with}
 use Rattle.wp_commits.specs.Cleared.{IsReadyAt}
-use Rattle.wp_shared.specs.Notes.{noting, GoesOn}
+use Rattle.wp_shared.specs.Notes.{noting, GoesOn, ArePublished}
 use Rattle.wp_commits.specs.Ways.{way_of, ways_of, is_of_way, with_way, IsReached, IsReadyFor, AreReady, IsElsewhere, MayPrecede, AreApart, IsEntered}
 use Rattle.wp_commits.proofs.Ways.{KeepsReady, keeps_ready, ready_still, reached_still, are_ready_still, ready_behind, delayed_reached, pair_of_way}
-use Rattle.wp_shared.specs.Notes.{ArePublished}
 use Rattle.wp_records.specs.Records.{OwnsEntry, OwnsEntries, MayPut}
 use Rattle.wp_records.specs.Stages.{is_of_versions, is_of_heap, is_over, may_end, as_published, rest_of, HoldsPending, IsNext, IsInPlace, IsReadied, IsLogged, IsPublished, HasJoined, AreBehind, MayJoin}
 use Rattle.wp_records.proofs.Facts.{still_over, still_kept}
@@ -54,10 +54,6 @@ module _ (a b : Actor) (direct : b.participant.direct ≡ a.participant.direct) 
 pub split : (pending : List Entry) → pending ≢ [] → (entry : Entry) × (others : List Entry) × (pending ≡ entry ∷ others)
 split [] some = absurd (some refl)
 split (entry ∷ others) some = (entry, others, refl)
-
-pub one_some : (entries : List Entry) → IsOneRecord entries → entries ≢ []
-one_some [] one e = absurd one
-one_some (entry ∷ others) one e = absurd cc
 
 -- of one record those behind the first have no versions
 pub one_behind : (entries : List Entry) → IsOneRecord entries → AreBehind (rest_of entries)
@@ -198,7 +194,7 @@ module _ {D : Type 0} (z : SharedState D) (s t u : SeatState) (log left : LogSta
           let keeps = keeps_ready (is_over log.table.history entry) (as_published log.table.history entry t) u (writes left.table ∷ []) t.turns (λ place pair. (refl, refl, refl)) k.seat (λ b list n. (b, k.seat.noted (words_stay b list) refl n, omega arith)) in
           let later : length log.table.history ≤ length left.table.history = let l = longer in omega (arith, l) in
           let own : (p c : ℕ) → way ≡ InWord p c → p ≡ c → IsReadyAt u.knows (length left.table.history) (cache_place z.cells p) = λ p c is itself.
-          let last : c ≡ suc (length log.table.history) = pending_decides log.table.history log.table.pending (record { number = p; decision = c }) (pair_of_way z.cells (pending_pair log.table.history log.table.pending) p c is).0 in
+          let last : c ≡ suc (length log.table.history) = pending_decides log.table.history log.table.pending (commit_pair p c) (pair_of_way z.cells (pending_pair log.table.history log.table.pending) p c is).0 in
           let l = longer in
           inr (
             bound,
@@ -206,7 +202,7 @@ module _ {D : Type 0} (z : SharedState D) (s t u : SeatState) (log left : LogSta
             c,
             k.seat.noted (words_stay bound words) refl noted,
             omega (arith, l, last),
-            subst (λ (w : Way). IsEntered t.knows z.cells words w) is there ∙ ap (λ (q : ℕ). Some (record { number = q; decision = c })) itself,
+            subst (λ (w : Way). IsEntered t.knows z.cells words w) is there ∙ ap (λ (q : ℕ). Some (commit_pair q c)) itself,
           ) in
           let ready : AreReady u.knows z.cells (length left.table.history) (ways_of z.cells (suc (suc (length log.table.history))) others) =
           ready_behind s.knows u.knows z.cells (length log.table.history) (length left.table.history) (λ p r. reached_still (as_published log.table.history entry t).knows u.knows keeps p (reached p r)) way (ways_of z.cells (suc (suc (length log.table.history))) others)

@@ -12,7 +12,8 @@ use Rattle.wp_core.specs.Conditions.{NoneNext}
 use Rattle.wp_core.specs.Cache.{cache_place, cached, pair_at}
 use Rattle.wp_core.specs.Changes.{held_with}
 use Rattle.wp_core.specs.Effects.{publishes, with_entry}
-use Rattle.wp_core.specs.Entries.{next_of, IsOneRecord, HasVersionsAt}
+use Rattle.wp_model.specs.Record.{IsOneRecord}
+use Rattle.wp_core.specs.Entries.{next_of, HasVersionsAt}
 use Rattle.wp_core.specs.Lists.{IsIn}
 use Rattle.wp_core.specs.Notes.{ends}
 use Rattle.wp_core.specs.Steps.{Step, make_pending, log_pending, close_log, drop_pending, add_prepared, take_pending_prepared, add_versions, take_versions, store_published, note}
@@ -32,13 +33,12 @@ use Rattle.wp_rule.proofs.Outlasting.{outlasts}
 use Rattle.wp_rule.proofs.Stores.{holder_is_live}
 use Rattle.wp_shared.specs.Seats.{SeatState}
 use Rattle.wp_shared.proofs.OneStep.{made, becomes}
-use Rattle.wp_shared.specs.Notes.{GoesOn}
+use Rattle.wp_shared.specs.Notes.{GoesOn, KnowsWords}
 use Rattle.wp_shared.proofs.Goes.{goes_with}
 use Rattle.wp_shared.proofs.Tables.{held_table}
 use Rattle.wp_commits.specs.declared.way.Way.TheVariants.{InWord, Delayed}
 use Rattle.wp_commits.specs.Ways.{way_of, IsEntered}
 use Rattle.wp_commits.proofs.Flags.{note_ends_none}
-use Rattle.wp_shared.specs.Notes.{KnowsWords}
 use Rattle.wp_records.specs.Stages.{is_of_versions, is_of_heap, is_of_pending, is_over, holding, as_failed, as_published, HasPrepare, IsUnlogged, IsNext, IsInPlace}
 use Rattle.wp_records.proofs.Words.{uncached}
 

@@ -11,7 +11,7 @@ use Rattle.wp_core.specs.Tables.{WriteState, Content, writes}
 use Rattle.wp_core.specs.Views.{Fact, words_stay, versions_in_memory, none_waits}
 use Rattle.wp_core.specs.World.{Participant, World}
 use Rattle.wp_rule.specs.Knows.{Noted}
-use Rattle.wp_shared.specs.Log.{LogState}
+use Rattle.wp_parts.specs.Log.{LogState}
 use Rattle.wp_shared.specs.Seats.{SharedState, SeatState, Stands}
 use Rattle.wp_shared.specs.Notes.{is_about, with_participant, noting, GoesOn}
 use Rattle.wp_shared.proofs.Goes.{holds, notes}

@@ -2,12 +2,12 @@
 use Rattle.std.proofs.Common.{◌≡◌, ℕ, suc, false, List, length, refl, sym, subst, ap, ◌∙◌}
 use Rattle.std.specs.Prelude.{Result}
 use Rattle.wp_model.specs.declared.entry.Entry.{Entry}
-use Rattle.wp_core.specs.Entries.{IsOneRecord}
+use Rattle.wp_model.specs.Record.{IsOneRecord}
 use Rattle.wp_core.specs.Tables.{WriteState}
 use Rattle.wp_core.specs.Views.{words_stay}
 use Rattle.wp_core.specs.World.{Participant, Actor}
 use Rattle.wp_rule.specs.Knows.{Noted}
-use Rattle.wp_shared.specs.Log.{LogState}
+use Rattle.wp_parts.specs.Log.{LogState}
 use Rattle.wp_shared.specs.Seats.{SharedState, SeatState}
 use Rattle.wp_shared.specs.Notes.{GoesOn}
 use Rattle.wp_shared.proofs.Goes.{wider}
@@ -18,7 +18,8 @@ use Rattle.wp_records.specs.Records.{MayPut, Puts}
 use Rattle.wp_records.specs.Stages.{is_guarded, is_of_pending, HoldsPending, IsUnlogged, IsBegun}
 use Rattle.wp_records.proofs.Facts.{not_pending}
 use Rattle.wp_records.proofs.Holding.{still_holds, words_still}
-use Rattle.wp_records.proofs.Joined.{own_still, one_some}
+use Rattle.wp_model.proofs.Records.{one_some}
+use Rattle.wp_records.proofs.Joined.{own_still}
 use Rattle.wp_records.proofs.Puts.{in_step, unreserved, puts_before}
 
 -- words were cleared

@@ -15,7 +15,7 @@ use Rattle.wp_rule.specs.Knows.{Noted}
 use Rattle.wp_core.specs.World.{World}
 use Rattle.wp_rule.specs.Words.{IsAt}
 use Rattle.wp_rule.proofs.Knows.{at_sound, noted_is}
-use Rattle.wp_shared.specs.Stock.{StockState, store_state, HasNoneAt}
+use Rattle.wp_parts.specs.Stock.{StockState, store_state, HasNoneAt}
 use Rattle.wp_shared.specs.Seats.{SharedState, SeatState, Stands, place_at}
 use Rattle.wp_shared.specs.Turns.{Taken}
 use Rattle.wp_shared.specs.Notes.{GoesOn}

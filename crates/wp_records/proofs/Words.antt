@@ -7,13 +7,13 @@ use Rattle.std.proofs.lemmas.List.{get_or-set_same, get_or-set_other, set_past}
 use Rattle.wp_model.specs.declared.entry.Entry.{Entry}
 use Rattle.wp_model.specs.Legal.{IsLegal}
 use Rattle.wp_model.specs.declared.entry.Entry.TheVariants.{Write, Prepare, Commit, Undo, Close}
-use Rattle.wp_judge.specs.Words.{CommitPair, delta_of, delta_bound, fits, word_of, is_pair, pair_with, pair_of, decision_if}
+use Rattle.wp_judge.specs.Words.{CommitPair, commit_pair, delta_of, delta_bound, fits, word_of, is_pair, pair_with, pair_of, decision_if}
 use Rattle.wp_core.specs.Cache.{cache_place, cached, pair_at, with_pair}
 use Rattle.wp_core.specs.Entries.{pair_by, pending_pair}
 use Rattle.wp_core.specs.Tables.{WriteState}
 use Rattle.wp_core.specs.World.{Actor}
 use Rattle.wp_core.proofs.StoresWord.{pending_next}
-use Rattle.wp_core.proofs.Tests.{same_some}
+use Rattle.wp_model.proofs.Tests.{same_some}
 use Rattle.wp_commits.specs.declared.way.Way.TheVariants.{InWord, Delayed}
 use Rattle.wp_commits.specs.Cleared.{IsUnentered}
 use Rattle.wp_commits.specs.Ways.{way_of, with_way}
@@ -22,10 +22,10 @@ use Rattle.wp_shared.specs.Notes.{ArePublished, KnowsWords}
 -- ---- the pair of the pending entry
 
 pub decides_last : (n : ℕ) (entry : Entry) (pair : CommitPair) → pair_by n entry ≡ Some pair → pair.decision ≡ n
-decides_last n (Write batch) pair e = ap (λ (x : CommitPair). x.decision) (sym (same_some (record { number = n; decision = n }) pair e))
-decides_last n (Undo p batch) pair e = ap (λ (x : CommitPair). x.decision) (sym (same_some (record { number = n; decision = n }) pair e))
-decides_last n (Commit p) pair e = ap (λ (x : CommitPair). x.decision) (sym (same_some (record { number = p; decision = n }) pair e))
-decides_last n (Close p) pair e = ap (λ (x : CommitPair). x.decision) (sym (same_some (record { number = p; decision = n }) pair e))
+decides_last n (Write batch) pair e = ap (λ (x : CommitPair). x.decision) (sym (same_some (commit_pair n n) pair e))
+decides_last n (Undo p batch) pair e = ap (λ (x : CommitPair). x.decision) (sym (same_some (commit_pair n n) pair e))
+decides_last n (Commit p) pair e = ap (λ (x : CommitPair). x.decision) (sym (same_some (commit_pair p n) pair e))
+decides_last n (Close p) pair e = ap (λ (x : CommitPair). x.decision) (sym (same_some (commit_pair p n) pair e))
 decides_last n (Prepare name batch) pair e = let no : None ≡ Some pair = e in absurd (cc)
 
 pub pending_decides : (history pending : List Entry) (pair : CommitPair) → pending_pair history pending ≡ Some pair → pair.decision ≡ suc (length history)
@@ -65,8 +65,8 @@ uncached a d k pair is there = by_pair (pair_at k.words (cache_place (length k.w
 found_of : (p delta : ℕ) (found : CommitPair) → pair_with p delta ≡ Some found → found.decision ≡ p + delta - 1
 found_of p delta found e = by_test (is_pair p delta) e
   where
-    by_test : (b : Bool) → cond b (Some (record { number = p; decision = p + delta - 1 })) None ≡ Some found → found.decision ≡ p + delta - 1
-    by_test true h = ap (λ (x : CommitPair). x.decision) (sym (same_some (record { number = p; decision = p + delta - 1 }) found h))
+    by_test : (b : Bool) → cond b (Some (commit_pair p (p + delta - 1))) None ≡ Some found → found.decision ≡ p + delta - 1
+    by_test true h = ap (λ (x : CommitPair). x.decision) (sym (same_some (commit_pair p (p + delta - 1)) found h))
     by_test false h = let no : None ≡ Some found = h in absurd (cc)
 
 -- what a pair's word has is decided no later

@@ -17,8 +17,8 @@ use Rattle.wp_core.specs.Tables.{WriteState, writes}
 use Rattle.wp_core.specs.Views.{Fact, words_stay, none_waits, log_failed}
 use Rattle.wp_core.specs.World.{Transaction, Actor, Participant, World}
 use Rattle.wp_rule.specs.Knows.{KnowsHeld, Noted}
-use Rattle.wp_shared.specs.Cut.{Cut, IsCut}
-use Rattle.wp_shared.specs.Log.{LogState}
+use Rattle.wp_cuts.specs.Cut.{Cut, IsCut}
+use Rattle.wp_parts.specs.Log.{LogState}
 use Rattle.wp_shared.specs.Notes.{is_about}
 use Rattle.wp_shared.specs.Seats.{SharedState, SeatState, Stands}
 use Rattle.wp_commits.specs.declared.way.Way.{Way}

@@ -15,8 +15,8 @@ use Rattle.wp_core.specs.Tables.{WriteState, writes}
 use Rattle.wp_core.specs.Views.{Fact, versions_in_memory, versions_nowhere, number_in_heap, number_not_in_heap, pair_delayed, pair_not_delayed, none_waits, words_stay, log_failed}
 use Rattle.wp_core.specs.World.{Actor}
 use Rattle.wp_rule.specs.Knows.{Noted}
-use Rattle.wp_shared.specs.Log.{LogState}
-use Rattle.wp_shared.specs.Parts.{log_first}
+use Rattle.wp_parts.specs.Log.{LogState}
+use Rattle.wp_parts.specs.Parts.{log_first}
 use Rattle.wp_shared.specs.Seats.{SharedState, SeatState}
 use Rattle.wp_shared.specs.Turns.{HoldsTurn}
 use Rattle.wp_shared.specs.Notes.{is_about, is_flag, GoesOn, KnowsWords}

@@ -5,8 +5,8 @@ use Rattle.wp_core.specs.Lists.{IsIn}
 use Rattle.wp_core.specs.Tables.{writes}
 use Rattle.wp_core.specs.World.{Actor, Participant, World}
 use Rattle.wp_rule.specs.Words.{IsAt}
-use Rattle.wp_shared.specs.Log.{LogState}
-use Rattle.wp_shared.specs.Parts.{log_first}
+use Rattle.wp_parts.specs.Log.{LogState}
+use Rattle.wp_parts.specs.Parts.{log_first}
 use Rattle.wp_shared.specs.Notes.{KnowsWords}
 use Rattle.wp_shared.specs.Seats.{SharedState, SeatState, place_at}
 use Rattle.wp_shared.specs.Turns.{HoldsTurn}

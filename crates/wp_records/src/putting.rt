@@ -2,10 +2,12 @@
 ghost use Rattle.std.specs.Prelude.{◌≡◌, ◌≢◌, ◌+◌, ◌≤◌, suc, false, List, [], ◌∷◌, ◌++◌, length, OnOk, OnErr};
 ghost use Rattle.wp_model.specs.declared.entry.Entry.{Entry};
 ghost use Rattle.wp_entry.specs.Record.{last_number};
-ghost use Rattle.wp_core.specs.Entries.{IsOneRecord};
+ghost use Rattle.wp_model.specs.Record.{IsOneRecord};
 ghost use Rattle.wp_core.specs.Views.{versions_in_memory, versions_nowhere, number_not_in_heap, pair_not_delayed, none_waits};
 ghost use Rattle.wp_rule.specs.Knows.{Noted};
 ghost use Rattle.wp_shared.specs.Notes.{GoesOn};
+ghost use Rattle.wp_shared.specs.Seats.{held_by};
+ghost use Rattle.wp_shared.specs.Turns.{history_in};
 ghost use Rattle.wp_commits.specs.declared.way.Way.{Way};
 ghost use Rattle.wp_commits.specs.Ways.{ways_of, AnyClears, RisesFor, AreApart};
 ghost use Rattle.wp_records.specs.Writing.{HoldsWrite};
@@ -37,12 +39,12 @@ fn ready<D: Disk + Drop, R: Wait>(
     requires undelayed { Noted seat.old.knows pair_not_delayed }
     ensures holds { HoldsPending store.now seat.new log.now }
     ensures undelayed { Noted seat.new.knows pair_not_delayed }
-    ensures seat { GoesOn is_guarded seat.old.knows.held seat.old.turns seat.old seat.new }
+    ensures seat { GoesOn is_guarded (held_by seat.old) seat.old.turns seat.old seat.new }
     ensures ok { OnOk result (IsReadied seat.new.knows store.now.cells log.now.table) }
-    ensures waits { OnOk result (AnyClears (ways_of store.now.cells (suc (length log.now.table.history)) log.now.table.pending) → Noted seat.new.knows none_waits) }
-    ensures bound { OnOk result (RisesFor store.now.cells (length log.now.table.history) seat.old.knows seat.new.knows (ways_of store.now.cells (suc (length log.now.table.history)) log.now.table.pending)) }
-    ensures refused { OnErr result ((cleared : List Way) × (others : List Way) × (ways_of store.now.cells (suc (length log.now.table.history)) log.now.table.pending ≡ cleared ++ others)
-        × RisesFor store.now.cells (length log.now.table.history) seat.old.knows seat.new.knows cleared) }
+    ensures waits { OnOk result (AnyClears (ways_of store.now.cells (suc (length (history_in log.now))) log.now.table.pending) → Noted seat.new.knows none_waits) }
+    ensures bound { OnOk result (RisesFor store.now.cells (length (history_in log.now)) seat.old.knows seat.new.knows (ways_of store.now.cells (suc (length (history_in log.now))) log.now.table.pending)) }
+    ensures refused { OnErr result ((cleared : List Way) × (others : List Way) × (ways_of store.now.cells (suc (length (history_in log.now))) log.now.table.pending ≡ cleared ++ others)
+        × RisesFor store.now.cells (length (history_in log.now)) seat.old.knows seat.new.knows cleared) }
 {
     clear_all(store, rt, seat, log)?;
     put_versions(store, rt, seat, log)?;
@@ -127,8 +129,8 @@ fn put_pending<D: Disk + Drop, R: Wait>(
     requires holds { HoldsPending store.now seat.old log.old }
     requires unlogged { IsUnlogged log.old.table }
     requires one { IsOneRecord log.old.table.pending }
-    requires may { MayPut seat.old.knows log.old.table.history log.old.table.pending }
-    requires apart { AreApart store.now.cells (ways_of store.now.cells (suc (length log.old.table.history)) log.old.table.pending) }
+    requires may { MayPut seat.old.knows (history_in log.old) log.old.table.pending }
+    requires apart { AreApart store.now.cells (ways_of store.now.cells (suc (length (history_in log.old))) log.old.table.pending) }
     requires nowhere { Noted seat.old.knows versions_nowhere }
     requires below { Noted seat.old.knows number_not_in_heap }
     requires undelayed { Noted seat.old.knows pair_not_delayed }
@@ -155,9 +157,9 @@ pub fn put<D: Disk + Drop, R: Wait>(
 ) -> Result<(), WriteError>
     requires holds { HoldsWrite store.now seat.old log.old }
     requires running { log.old.table.closed ≡ false }
-    requires may { MayPut seat.old.knows log.old.table.history entries }
-    requires within { length log.old.table.history + length entries ≤ last_number log.old.wal.format }
-    requires apart { AreApart store.now.cells (ways_of store.now.cells (suc (length log.old.table.history)) entries) }
+    requires may { MayPut seat.old.knows (history_in log.old) entries }
+    requires within { length (history_in log.old) + length entries ≤ last_number log.old.wal.format }
+    requires apart { AreApart store.now.cells (ways_of store.now.cells (suc (length (history_in log.old))) entries) }
     ensures { Puts store.now seat.old log.old entries result seat.new log.new }
 {
     make_pending(store, seat, log, entries)?;

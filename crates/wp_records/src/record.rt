@@ -1,11 +1,11 @@
 //! A record is its list of entries.
 ghost use Rattle.std.specs.Prelude.{◌≡◌, [], ◌∷◌, length, IfOk};
 ghost use Rattle.wp_model.specs.declared.entry.Entry.TheVariants.{Write, Prepare, Commit, Undo, Close};
-ghost use Rattle.wp_core.specs.Entries.{IsOneRecord};
+ghost use Rattle.wp_model.specs.Record.{IsOneRecord};
 
 use std::alloc::{AllocError, Global};
 use std::marker::Model;
-use wp_model::{Batch, Entry, Name, Seq};
+use wp_model::{Batch, Change, Entry, Name, Seq};
 
 /// The entries that one call of the log appends, with the memory that they take. Clauses see them as a list.
 #[derive(Drop)]
@@ -16,7 +16,7 @@ pub struct Record {
 impl Model for Record {
     ghost use Rattle.std.specs.Prelude.{List};
     ghost use Rattle.wp_model.specs.declared.entry.Entry.{Entry};
-    ghost use Rattle.wp_core.specs.Entries.{IsOneRecord};
+    ghost use Rattle.wp_model.specs.Record.{IsOneRecord};
 
     ghost Value = { List Entry };
 
@@ -40,6 +40,13 @@ impl Record {
         ensures { IfOk result (λ made. made ≡ Write batch.now ∷ []) }
     {
         Record::of(alloc, Entry::Write(batch.copy(alloc)?))
+    }
+
+    /// A Write entry with this change alone.
+    pub fn write_one(alloc: Global, change: Change) -> Result<Record, AllocError>
+        ensures { IfOk result (λ made. made ≡ Write (change ∷ []) ∷ []) }
+    {
+        Record::of(alloc, Entry::Write(Batch::of(alloc, change)?))
     }
 
     /// A Prepare entry of this name with these changes.

@@ -5,14 +5,17 @@ ghost use Rattle.wp_model.specs.declared.entry.Entry.{Entry};
 ghost use Rattle.wp_model.specs.History.{is_prepare};
 ghost use Rattle.wp_model.specs.Legal.{IsLegal, changes_in};
 ghost use Rattle.wp_entry.specs.Record.{last_number};
-ghost use Rattle.wp_core.specs.Entries.{next_of, IsOneRecord};
+ghost use Rattle.wp_model.specs.Record.{IsOneRecord};
+ghost use Rattle.wp_core.specs.Entries.{next_of};
 ghost use Rattle.wp_core.specs.Sound.Views.{IsNowhere};
 ghost use Rattle.wp_core.specs.Tables.{writes, prepared};
 ghost use Rattle.wp_core.specs.Tables as table;
 ghost use Rattle.wp_core.specs.Views.{versions_in_memory, versions_nowhere, number_in_heap, number_not_in_heap, pair_not_delayed};
 ghost use Rattle.wp_rule.specs.Knows.{HasNoVersions, Noted};
-ghost use Rattle.wp_shared.specs.Stock.{store_state};
+ghost use Rattle.wp_parts.specs.Stock.{store_state};
 ghost use Rattle.wp_shared.specs.Notes.{GoesOn, DelayedFlagTells};
+ghost use Rattle.wp_shared.specs.Seats.{held_by};
+ghost use Rattle.wp_shared.specs.Turns.{history_in};
 ghost use Rattle.wp_records.specs.Stages.{is_of_versions, is_of_number, is_of_stage, HoldsPending, HasPrepare, IsBegun};
 ghost use Rattle.wp_records.specs.Writing.{HoldsWrite};
 
@@ -37,8 +40,8 @@ pub(crate) fn make_pending<D: Disk + Drop>(
 ) -> Result<(), AllocError>
     requires holds { HoldsWrite store.now seat.old log.old }
     requires running { log.old.table.closed ≡ false }
-    requires legal { IsLegal (log.old.table.history ++ entries) }
-    requires within { length log.old.table.history + length entries ≤ last_number log.old.wal.format }
+    requires legal { IsLegal ((history_in log.old) ++ entries) }
+    requires within { length (history_in log.old) + length entries ≤ last_number log.old.wal.format }
     ensures ok { OnOk result (IsBegun store.now seat.old log.old entries seat.new log.new) }
     ensures one { OnOk result (IsOneRecord log.new.table.pending) }
     ensures err { OnErr result ((seat.new ≡ seat.old) × (log.new ≡ log.old)) }
@@ -72,7 +75,7 @@ fn insert_versions<D: Disk + Drop>(
     batch: &Batch,
 ) -> Result<(), AllocError>
     requires seat { seat.old.table ≡ store.now.table }
-    requires held { seat.old.knows.held ≡ table.store (store_state stock.old) ∷ writes log.now.table ∷ [] }
+    requires held { held_by seat.old ≡ table.store (store_state stock.old) ∷ writes log.now.table ∷ [] }
     requires entry { (entry : Entry) × (next_of log.now.table.pending ≡ Some entry) × (changes_in entry ≡ batch.now) }
     requires nowhere { IsNowhere log.now.table (store_state stock.old) }
     ensures seat { GoesOn is_of_versions (table.store (store_state stock.new) ∷ writes log.now.table ∷ []) seat.old.turns seat.old seat.new }
@@ -93,7 +96,7 @@ pub(crate) fn put_versions<D: Disk + Drop, R: Wait>(
     requires holds { HoldsPending store.now seat.old log.now }
     requires nowhere { Noted seat.old.knows versions_nowhere }
     ensures holds { HoldsPending store.now seat.new log.now }
-    ensures seat { GoesOn is_of_versions seat.old.knows.held seat.old.turns seat.old seat.new }
+    ensures seat { GoesOn is_of_versions (held_by seat.old) seat.old.turns seat.old seat.new }
     ensures ok { OnOk result (Noted seat.new.knows versions_in_memory) }
 {
     let Some(batch) = next_batch(log) else {
@@ -115,7 +118,7 @@ fn remove_versions<D: Disk + Drop>(
     stock: &mut Stock,
 )
     requires seat { seat.old.table ≡ store.now.table }
-    requires held { seat.old.knows.held ≡ table.store (store_state stock.old) ∷ writes log.now.table ∷ [] }
+    requires held { held_by seat.old ≡ table.store (store_state stock.old) ∷ writes log.now.table ∷ [] }
     ensures seat { GoesOn is_of_versions (table.store (store_state stock.new) ∷ writes log.now.table ∷ []) seat.old.turns seat.old seat.new }
     ensures nowhere { Noted seat.new.knows versions_nowhere }
 {
@@ -133,7 +136,7 @@ fn leave_memory<D: Disk + Drop, R: Wait>(
 )
     requires holds { HoldsPending store.now seat.old log.now }
     ensures holds { HoldsPending store.now seat.new log.now }
-    ensures seat { GoesOn is_of_versions seat.old.knows.held seat.old.turns seat.old seat.new }
+    ensures seat { GoesOn is_of_versions (held_by seat.old) seat.old.turns seat.old seat.new }
     ensures nowhere { Noted seat.new.knows versions_nowhere }
 {
     let mut stock = store.take_turn::<Stock, R>(rt, seat);
@@ -163,7 +166,7 @@ fn insert_number<D: Disk + Drop>(
     tables: &mut Prepared,
 ) -> Result<(), AllocError>
     requires seat { seat.old.table ≡ store.now.table }
-    requires held { seat.old.knows.held ≡ prepared tables.old ∷ writes log.now.table ∷ [] }
+    requires held { held_by seat.old ≡ prepared tables.old ∷ writes log.now.table ∷ [] }
     requires prepare { HasPrepare log.now.table }
     requires below { Noted seat.old.knows number_not_in_heap }
     requires flag { DelayedFlagTells seat.old.knows tables.old }
@@ -187,7 +190,7 @@ pub(crate) fn put_number<D: Disk + Drop, R: Wait>(
     requires holds { HoldsPending store.now seat.old log.now }
     requires below { Noted seat.old.knows number_not_in_heap }
     ensures holds { HoldsPending store.now seat.new log.now }
-    ensures seat { GoesOn is_of_number seat.old.knows.held seat.old.turns seat.old seat.new }
+    ensures seat { GoesOn is_of_number (held_by seat.old) seat.old.turns seat.old seat.new }
     ensures ok { OnOk result (is_prepare (next_of log.now.table.pending) ≡ true → Noted seat.new.knows number_in_heap) }
 {
     if !prepares(log) {
@@ -208,7 +211,7 @@ fn remove_number<D: Disk + Drop>(
     tables: &mut Prepared,
 )
     requires seat { seat.old.table ≡ store.now.table }
-    requires held { seat.old.knows.held ≡ prepared tables.old ∷ writes log.now.table ∷ [] }
+    requires held { held_by seat.old ≡ prepared tables.old ∷ writes log.now.table ∷ [] }
     requires prepare { HasPrepare log.now.table }
     requires flag { DelayedFlagTells seat.old.knows tables.old }
     ensures seat { GoesOn is_of_number (prepared tables.new ∷ writes log.now.table ∷ []) seat.old.turns seat.old seat.new }
@@ -224,7 +227,7 @@ fn remove_number<D: Disk + Drop>(
 fn leave_heap<D: Disk + Drop, R: Wait>(store: &Shared<D>, rt: &R, seat: &mut Seat<D>, log: &Log<D>)
     requires holds { HoldsPending store.now seat.old log.now }
     ensures holds { HoldsPending store.now seat.new log.now }
-    ensures seat { GoesOn is_of_number seat.old.knows.held seat.old.turns seat.old seat.new }
+    ensures seat { GoesOn is_of_number (held_by seat.old) seat.old.turns seat.old seat.new }
     ensures below { Noted seat.new.knows number_not_in_heap }
 {
     if !prepares(log) {

@@ -7,6 +7,7 @@ ghost use Rattle.wp_core.specs.Tables.{WriteState, writes};
 ghost use Rattle.wp_core.specs.Views.{versions_in_memory, number_not_in_heap};
 ghost use Rattle.wp_rule.specs.Knows.{HasNoVersions};
 ghost use Rattle.wp_shared.specs.Notes.{noting};
+ghost use Rattle.wp_shared.specs.Seats.{held_by};
 ghost use Rattle.wp_records.specs.Stages.{holding, as_failed, IsUnlogged};
 
 use std::marker::Brand;
@@ -18,7 +19,7 @@ use wp_shared::{Log, Seat, Shared};
 /// The pending record was appended to the log.
 pub(crate) fn log_pending<D: Disk + Drop>(store: &Shared<D>, seat: &mut Seat<D>, log: &Log<D>)
     requires seat { seat.old.table ≡ store.now.table }
-    requires held { (t : WriteState) × (seat.old.knows.held ≡ writes t ∷ []) × IsUnlogged t × (log.now.table ≡ record t { logged = true; log = t.log ++ t.pending }) }
+    requires held { (t : WriteState) × (held_by seat.old ≡ writes t ∷ []) × IsUnlogged t × (log.now.table ≡ record t { logged = true; log = t.log ++ t.pending }) }
     ensures { seat.new ≡ holding log.now.table seat.old }
 {
     store.make::<Brand>(seat);
@@ -27,7 +28,7 @@ pub(crate) fn log_pending<D: Disk + Drop>(store: &Shared<D>, seat: &mut Seat<D>,
 /// The append of the pending record failed, and the log is closed.
 pub(crate) fn close_log<D: Disk + Drop>(store: &Shared<D>, seat: &mut Seat<D>, log: &Log<D>)
     requires seat { seat.old.table ≡ store.now.table }
-    requires held { (t : WriteState) × (seat.old.knows.held ≡ writes t ∷ []) × IsUnlogged t × (log.now.table ≡ record t { closed = true; failed = t.pending }) }
+    requires held { (t : WriteState) × (held_by seat.old ≡ writes t ∷ []) × IsUnlogged t × (log.now.table ≡ record t { closed = true; failed = t.pending }) }
     ensures { seat.new ≡ holding log.now.table (as_failed log.now.table.failed seat.old) }
 {
     store.make::<Brand>(seat);
@@ -38,7 +39,7 @@ pub(crate) fn close_log<D: Disk + Drop>(store: &Shared<D>, seat: &mut Seat<D>, l
 /// Notes that all versions of the pending entry are in memory, since it has none.
 pub(crate) fn note_no_versions<D: Disk + Drop>(store: &Shared<D>, seat: &mut Seat<D>, log: &Log<D>)
     requires seat { (seat.old.table ≡ store.now.table) × (seat.old.knows.live ≡ true) }
-    requires held { IsIn (writes log.now.table) seat.old.knows.held }
+    requires held { IsIn (writes log.now.table) (held_by seat.old) }
     requires none { HasNoVersions (next_of log.now.table.pending) }
     ensures { seat.new ≡ noting versions_in_memory seat.old }
 {
@@ -50,7 +51,7 @@ pub(crate) fn note_no_versions<D: Disk + Drop>(store: &Shared<D>, seat: &mut Sea
 /// Notes that the number of the pending entry is not in the prepared heap, since that is no Prepare.
 pub(crate) fn note_no_number<D: Disk + Drop>(store: &Shared<D>, seat: &mut Seat<D>, log: &Log<D>)
     requires seat { (seat.old.table ≡ store.now.table) × (seat.old.knows.live ≡ true) }
-    requires held { IsIn (writes log.now.table) seat.old.knows.held }
+    requires held { IsIn (writes log.now.table) (held_by seat.old) }
     requires none { is_prepare (next_of log.now.table.pending) ≡ false }
     ensures { seat.new ≡ noting number_not_in_heap seat.old }
 {

@@ -1,5 +1,5 @@
 use Rattle.std.proofs.Common.{◌≡◌, ℕ, true, List, [], ◌∷◌, refl, sym, ap, subst, ◌∙◌, Some}
-use Rattle.wp_judge.specs.Words.{fits}
+use Rattle.wp_judge.specs.Words.{commit_pair, fits}
 use Rattle.wp_model.specs.declared.entry.Entry.{Entry}
 use Rattle.wp_model.specs.Decision.{decision_of}
 use Rattle.wp_core.specs.Tables.{prepared}
@@ -20,7 +20,7 @@ pub forget_prepared-requires : goal.forget_prepared-requires
 forget_prepared-requires g c = let z = c.args.store.now in let s = c.args.seat.now in let t = c.take_turn-tables in let taken = t.ensures.taken in record {
   seat = (taken.holds.same_table, taken.holds.live);
   held = held_taken z s t.new.seat s (prepared t.result.value) (prepared t.result.value) [] c.requires.free.held taken ∙ ap (λ x. prepared x ∷ []) (sym c.deref_mut.ensures.value);
-  decided = subst (λ (h : List Entry). (d : ℕ) × (decision_of h c.args.p ≡ Some d) × (fits z.cells (record { number = c.args.p; decision = d }) ≡ true)) (sym (ap (λ (x : SeatState). x.knows.participant.seen) taken.seat)) c.requires.decided;
+  decided = subst (λ (h : List Entry). (d : ℕ) × (decision_of h c.args.p ≡ Some d) × (fits z.cells (commit_pair c.args.p d) ≡ true)) (sym (ap (λ (x : SeatState). x.knows.participant.seen) taken.seat)) c.requires.decided;
   flag = subst (DelayedFlagTells t.new.seat.knows) (sym c.deref_mut.ensures.value) taken.knows;
 }
 

@@ -1,5 +1,5 @@
 use Rattle.std.proofs.Common.{◌⊎◌, ⊎_elim, ℕ, [], ◌∷◌, length, refl, sym, subst, ap, ◌∙◌}
-use Rattle.wp_judge.specs.Words.{CommitPair}
+use Rattle.wp_judge.specs.Words.{CommitPair, commit_pair}
 use Rattle.wp_core.specs.Cache.{pair_at}
 use Rattle.wp_core.specs.Tables.{writes}
 use Rattle.wp_core.specs.Views.{words_stay, none_waits}
@@ -35,7 +35,7 @@ returns-in-Undecided-clause-waits g c = ⊎_elim (λ (one : Clears c.args.way). 
 
 pub clear_place-requires : goal.clear_place-requires
 clear_place-requires g c =
-    let n = c.requires.wanted in let p = c.in-InWord.p in let d = c.in-InWord.field-1 in let pair : CommitPair = record { number = p; decision = d } in
+    let n = c.requires.wanted in let p = c.in-InWord.p in let d = c.in-InWord.field-1 in let pair : CommitPair = commit_pair p d in
     let k = pair_of_way c.args.store.now.cells n.0 p d (sym n.1 ∙ c.in-InWord.is) in
     record { seat = c.requires.seat; held = c.requires.held; wanted = (pair, n.2 pair k.0, c.place_of-place.ensures.place, k.1); words = c.requires.words; unentered = c.requires.unentered; within = c.place_of-place.ensures.within }
 
@@ -77,7 +77,7 @@ returns-in_ok-clear_place-in-InWord g c = let z = c.args.store.now in let s = c.
 pub reach-requires : goal.reach-requires
 reach-requires g c =
     let n = c.requires.wanted in let p = c.in-Delayed.p in let d = c.in-Delayed.c in let k = pair_of_delayed c.args.store.now.cells n.0 p d (sym n.1 ∙ c.in-Delayed.is) in
-    record { seat = c.requires.seat; held = c.requires.held; wanted = n.2 (record { number = p; decision = d }) k.0; wide = k.1; words = c.requires.words }
+    record { seat = c.requires.seat; held = c.requires.held; wanted = n.2 (commit_pair p d) k.0; wide = k.1; words = c.requires.words }
 
 pub pass-requires-in-Delayed : goal.pass-requires-in-Delayed
 pass-requires-in-Delayed g c = let k = c.reach.ensures.seat in let w = c.requires.words in record {

@@ -1,4 +1,5 @@
 use Rattle.std.proofs.Common.{◌≡◌, ⊎_elim, inl, inr, ℕ, ◌≤◌, [], ◌∷◌, length, refl, sym, subst, ap, ◌∙◌}
+use Rattle.wp_judge.specs.Words.{commit_pair}
 use Rattle.wp_core.specs.Lists.{IsIn}
 use Rattle.wp_core.specs.Tables.{writes}
 use Rattle.wp_core.specs.Views.{words_stay}
@@ -35,9 +36,9 @@ note_own-requires g c = let k = c.requires.there in let d = c.args.log.now.table
 
 pub returns : goal.returns
 returns g c = let s = c.args.seat.now in let d = c.args.log.now.table in let t = c.let_pass.new.seat in let u = c.note_own.new.seat in record {
-  seat = then_own s t u is_of_words c.args.place (record { number = c.args.c; decision = c.args.c }) (writes d ∷ []) s.turns c.let_pass.ensures.seat c.note_own.ensures;
+  seat = then_own s t u is_of_words c.args.place (commit_pair c.args.c c.args.c) (writes d ∷ []) s.turns c.let_pass.ensures.seat c.note_own.ensures;
   bound = λ bound words there.
       let fact = words_stay (raised c.args.store.now.cells (length d.history) bound c.args.c) words in
       subst (λ (x : SeatState). Noted x.knows fact) (sym c.note_own.ensures) (inr (inr (inr (c.let_pass.ensures.bound bound words there))));
-  cleared = subst (λ (x : SeatState). IsCleared x.knows c.args.place) (sym c.note_own.ensures) (inr (record { number = c.args.c; decision = c.args.c }, (inr (inr (inl refl)), inr (inl refl), inl refl)));
+  cleared = subst (λ (x : SeatState). IsCleared x.knows c.args.place) (sym c.note_own.ensures) (inr (commit_pair c.args.c c.args.c, (inr (inr (inl refl)), inr (inl refl), inl refl)));
 }

@@ -1,5 +1,6 @@
 use Rattle.std.proofs.Common.{List, [], ◌∷◌, inl, inr, length, refl, sym, subst, ap, ◌∙◌}
 use Rattle.wp_model.specs.PreparedSets.{NoneDelayed}
+use Rattle.wp_judge.specs.Words.{commit_pair}
 use Rattle.wp_core.specs.Lists.{IsIn}
 use Rattle.wp_core.specs.Tables.{Content, prepared, writes}
 use Rattle.wp_core.specs.Turns.{prepared_turn}
@@ -41,7 +42,7 @@ pub delay-requires : goal.delay-requires
 delay-requires g c =
     let k = c.requires.there in let d = c.args.log.now.table in let taken = c.take_turn-tables.ensures.taken in let raise = c.raise_past.ensures in let u = c.raise_past.new.seat in let w = c.note.new.seat in let new = c.note.ensures in
     let b = raised c.args.store.now.cells (length d.history) k.bound c.args.c in
-    let one = passed c.args.place (record { number = c.args.p; decision = c.args.c }) in let back = sym c.deref_mut-2.ensures.value in record {
+    let one = passed c.args.place (commit_pair c.args.p c.args.c) in let back = sym c.deref_mut-2.ensures.value in record {
       seat = ap (λ (x : SeatState). x.table) new ∙ (ap (λ (x : SeatState). x.table) raise.seat.same ∙ taken.holds.same_table);
       held = ap (λ (x : SeatState). x.knows.held) new ∙ (ap (λ (x : SeatState). x.knows.held) raise.seat.same ∙ ap (λ x. prepared x ∷ writes d ∷ []) back);
       decided = k.decided;
@@ -60,7 +61,7 @@ note-requires-2 g c =
       );
       known = knows_apart v.knows d c.args.place c.args.p c.args.c c.delay.new.tables (ap (λ (x : SeatState). x.knows.held) delay.seat.same)
           (still_there s.knows v.knows d.history c.args.place c.args.p c.args.c k b
-          (delay.seat.noted (words_stay b k.words) refl (still_noted u w (passed c.args.place (record { number = c.args.p; decision = c.args.c })) (words_stay b k.words) new (raise.bound k.bound k.words (taken.goes.noted (words_stay k.bound k.words) refl k.noted)))))
+          (delay.seat.noted (words_stay b k.words) refl (still_noted u w (passed c.args.place (commit_pair c.args.p c.args.c)) (words_stay b k.words) new (raise.bound k.bound k.words (taken.goes.noted (words_stay k.bound k.words) refl k.noted)))))
           delay.apart;
     }
 
@@ -68,21 +69,21 @@ pub give_turn-requires-clause-holds : goal.give_turn-requires-clause-holds
 give_turn-requires-clause-holds g c =
     let z = c.args.store.now in let s = c.args.seat.now in let d = c.args.log.now.table in let t = c.take_turn-tables in let u = c.raise_past.new.seat in let w = c.note.new.seat in let v = c.delay.new.seat in let x = c.note-2.new.seat in let now = c.delay.new.tables in
     let middle : List Content = prepared c.raise_past.new.tables ∷ writes d ∷ [] in let held : List Content = prepared now ∷ writes d ∷ [] in
-    let under : GoesOn is_of_words held t.new.seat.turns t.new.seat x = then_noted t.new.seat v x x is_of_words (apart c.args.place (record { number = c.args.p; decision = c.args.c })) held t.new.seat.turns
-    (then_flags t.new.seat w v v middle held t.new.seat.turns (then_noted t.new.seat u w v is_of_words (passed c.args.place (record { number = c.args.p; decision = c.args.c })) middle t.new.seat.turns c.raise_past.ensures.seat c.note.ensures) c.delay.ensures.seat)
+    let under : GoesOn is_of_words held t.new.seat.turns t.new.seat x = then_noted t.new.seat v x x is_of_words (apart c.args.place (commit_pair c.args.p c.args.c)) held t.new.seat.turns
+    (then_flags t.new.seat w v v middle held t.new.seat.turns (then_noted t.new.seat u w v is_of_words (passed c.args.place (commit_pair c.args.p c.args.c)) middle t.new.seat.turns c.raise_past.ensures.seat c.note.ensures) c.delay.ensures.seat)
     c.note-2.ensures in
     (writes d ∷ [], s.turns, holds_still z s t.new.seat x (prepared t.result.value) (prepared now) (writes d ∷ []) c.requires.held t.ensures.taken is_of_words (writes d ∷ []) under refl)
 
 pub give_turn-requires-clause-knows : goal.give_turn-requires-clause-knows
 give_turn-requires-clause-knows g c = let v = c.delay.new.seat in let x = c.note-2.new.seat in let now = c.delay.new.tables in
     knows_to_give x.knows (prepared now)
-    (tells_still v.knows x.knows delayed_flag_stays (NoneDelayed now) (λ value there. still_noted v x (apart c.args.place (record { number = c.args.p; decision = c.args.c })) (delayed_flag_stays value) c.note-2.ensures there) c.delay.ensures.flag)
+    (tells_still v.knows x.knows delayed_flag_stays (NoneDelayed now) (λ value there. still_noted v x (apart c.args.place (commit_pair c.args.p c.args.c)) (delayed_flag_stays value) c.note-2.ensures there) c.delay.ensures.flag)
 
 pub returns : goal.returns
 returns g c =
     let z = c.args.store.now in let s = c.args.seat.now in let d = c.args.log.now.table in let t = c.take_turn-tables in let taken = t.ensures.taken in let u = c.raise_past.new.seat in let w = c.note.new.seat in let v = c.delay.new.seat in let x = c.note-2.new.seat in let y = c.give_turn.new.seat in let now = c.delay.new.tables in
     let delay = c.delay.ensures in
-    let one = passed c.args.place (record { number = c.args.p; decision = c.args.c }) in let two = apart c.args.place (record { number = c.args.p; decision = c.args.c }) in
+    let one = passed c.args.place (commit_pair c.args.p c.args.c) in let two = apart c.args.place (commit_pair c.args.p c.args.c) in
     let middle : List Content = prepared c.raise_past.new.tables ∷ writes d ∷ [] in let held : List Content = prepared now ∷ writes d ∷ [] in
     let under : GoesOn is_of_words held t.new.seat.turns t.new.seat x = then_noted t.new.seat v x x is_of_words two held t.new.seat.turns
     (then_flags t.new.seat w v v middle held t.new.seat.turns (then_noted t.new.seat u w v is_of_words one middle t.new.seat.turns c.raise_past.ensures.seat c.note.ensures) delay.seat) c.note-2.ensures in

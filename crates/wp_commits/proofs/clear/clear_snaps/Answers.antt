@@ -1,4 +1,5 @@
 use Rattle.std.proofs.Common.{[], ◌∷◌, refl, sym, subst, ap, ◌∙◌}
+use Rattle.wp_judge.specs.Words.{commit_pair}
 use Rattle.wp_core.specs.Tables.{snapshots, writes}
 use Rattle.wp_core.specs.Turns.{snapshots_turn}
 use Rattle.wp_core.specs.Views.{in_old_commits, words_stay}
@@ -30,7 +31,7 @@ pub returns : goal.returns
 returns g c = let z = c.args.store.now in let s = c.args.seat.now in let d = c.args.log.now.table in let t = c.take_turn-snaps in let u = c.ready_snaps-result in let v = c.give_turn.new.seat in
     let holds = holds_still z s t.new.seat u.new.seat (snapshots t.result.value) (snapshots u.new.snaps) (writes d ∷ []) c.requires.held t.ensures.taken is_flag _ u.ensures.seat refl in
     let gave = (c.give_turn.ensures (writes d ∷ []) s.turns holds).goes in
-    let one = in_old_commits c.args.place (record { number = c.args.p; decision = c.args.c }) in
+    let one = in_old_commits c.args.place (commit_pair c.args.p c.args.c) in
     record {
       seat = goes_through z s t.new.seat u.new.seat (snapshots t.result.value) (snapshots u.new.snaps) (writes d ∷ []) c.requires.held t.ensures.taken is_flag _ u.ensures.seat refl snapshots_turn v flag_under_snapshots gave;
       ready = on_ok u.result (Noted u.new.seat.knows one) (Noted v.knows one) (gave.noted one refl) u.ensures.ready;

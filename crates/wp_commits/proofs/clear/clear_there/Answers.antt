@@ -1,6 +1,6 @@
 use Rattle.std.proofs.Common.{[], ◌∷◌, inr, length, refl, ap, ◌∙◌}
 use Rattle.wp_core.specs.Tables.{writes}
-use Rattle.wp_judge.specs.Words.{CommitPair}
+use Rattle.wp_judge.specs.Words.{CommitPair, commit_pair}
 use Rattle.wp_core.specs.Views.{passed, in_old_commits, apart, words_stay}
 use Rattle.wp_rule.specs.Knows.{Noted}
 use Rattle.wp_shared.specs.Seats.{SeatState}
@@ -27,7 +27,7 @@ clear_snaps-requires g c = let k = c.requires.there in let d = c.args.log.now.ta
 
 pub returns : goal.returns
 returns g c = let s = c.args.seat.now in let d = c.args.log.now.table in let t = c.clear_prepared.new.seat in let u = c.clear_snaps.new.seat in let kept = c.clear_snaps.ensures.seat.noted in let ready = c.clear_prepared.ensures.ready in
-    let pair : CommitPair = record { number = c.args.p; decision = c.args.c } in
+    let pair : CommitPair = commit_pair c.args.p c.args.c in
     record {
       seat = then_flags s t u u (writes d ∷ []) (writes d ∷ []) s.turns c.clear_prepared.ensures.seat c.clear_snaps.ensures.seat;
       bound = λ bound words there. kept (words_stay (raised c.args.store.now.cells (length d.history) bound c.args.c) words) refl (c.clear_prepared.ensures.bound bound words there);

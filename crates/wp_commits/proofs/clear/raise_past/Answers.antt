@@ -2,7 +2,7 @@ use Rattle.std.proofs.Common.{◌≡◌, inl, ℕ, ◌<◌, ◌≤◌, [], ◌�
 use Rattle.wp_core.specs.Tables.{prepared, writes}
 use Rattle.wp_core.specs.Views.{words_stay}
 use Rattle.wp_model.specs.Legal.{log_end}
-use Rattle.wp_judge.specs.Words.{seq_end}
+use Rattle.wp_judge.specs.Words.{commit_pair, seq_end}
 use Rattle.wp_rule.specs.Knows.{Noted, KnowsPair}
 use Rattle.wp_shared.specs.Notes.{DelayedFlagTells}
 use Rattle.wp_shared.specs.Seats.{SeatState}
@@ -41,8 +41,8 @@ raise-requires g c =
         pair = w.0;
         pending = w.1;
         narrow = w.3;
-        gone = record { number = c.args.p; decision = c.args.c };
-        there = subst (λ (x : SeatState × ℕ). KnowsPair x.0.knows (length d.history) x.1 (record { number = c.args.p; decision = c.args.c }) (λ bound. bound < c.args.c)) (λ i. (sym same i, w.2 i)) (k.bound, k.words, k.noted, k.within, k.there, k.published, high);
+        gone = commit_pair c.args.p c.args.c;
+        there = subst (λ (x : SeatState × ℕ). KnowsPair x.0.knows (length d.history) x.1 (commit_pair c.args.p c.args.c) (λ bound. bound < c.args.c)) (λ i. (sym same i, w.2 i)) (k.bound, k.words, k.noted, k.within, k.there, k.published, high);
         past = c.bound_past-m.ensures ∙ (λ i. bound_past (c.cells.ensures.0 i) (c.published.ensures.value i) c.args.c);
       });
       flag = subst (λ (x : SeatState). DelayedFlagTells x.knows c.args.tables.now) (sym same) c.requires.flag;

@@ -1,4 +1,5 @@
 use Rattle.std.proofs.Common.{◌≡◌, inr, ℕ, ◌<◌, ◌≤◌, [], ◌∷◌, refl, sym, subst, ap, ◌∙◌}
+use Rattle.wp_judge.specs.Words.{commit_pair}
 use Rattle.wp_core.specs.Tables.{prepared, writes}
 use Rattle.wp_core.specs.Turns.{prepared_turn}
 use Rattle.wp_core.specs.Views.{words_stay}
@@ -38,7 +39,7 @@ raise-requires-clause-rises g c =
     let is : c.max-bound.result ≡ k.0 = bound_is c.args.store.now c.args.seat.now c.max-bound.new.seat c.max-bound.result c.max-bound.ensures.same c.max-bound.ensures.found k.0 k.1 k.2 in
     let high : k.0 < c.args.p = subst (λ (n : ℕ). n < c.args.p) is c.if-p-bound.false in
     inr (record {
-      pair = record { number = c.args.p; decision = c.args.c };
+      pair = commit_pair c.args.p c.args.c;
       pending = c.requires.wanted;
       wide = c.requires.wide;
       above = (k.0, k.1, t.ensures.taken.goes.noted (words_stay k.0 k.1) refl (subst (λ (x : SeatState). Noted x.knows (words_stay k.0 k.1)) (sym c.max-bound.ensures.same) k.2), high);

@@ -1,4 +1,5 @@
 use Rattle.std.proofs.Common.{[], ◌∷◌, inl, refl, ap, ◌∙◌}
+use Rattle.wp_judge.specs.Words.{commit_pair}
 use Rattle.wp_core.specs.Tables.{writes}
 use Rattle.wp_core.specs.Views.{in_old_commits, words_stay}
 use Rattle.wp_shared.specs.Notes.{is_flag}
@@ -30,4 +31,4 @@ note-requires-clause-known g c = let k = c.requires.there in let kept = c.keep.e
 
 pub returns-clause-seat : goal.returns-clause-seat
 returns-clause-seat g c = let k = c.keep.ensures.seat (writes c.args.log.now.table ∷ []) c.requires.held in
-    then_noted c.args.seat.now c.keep.new.seat c.note.new.seat c.note.new.seat is_flag (in_old_commits c.args.place (record { number = c.args.p; decision = c.args.c })) _ _ k c.note.ensures
+    then_noted c.args.seat.now c.keep.new.seat c.note.new.seat c.note.new.seat is_flag (in_old_commits c.args.place (commit_pair c.args.p c.args.c)) _ _ k c.note.ensures

@@ -1,10 +1,10 @@
 use Rattle.std.proofs.Common.{◌≡◌, ⊎_elim, inl, inr, ℕ, List, [], ◌∷◌, length, refl, sym, subst, ap, ◌∙◌, Option, None}
-use Rattle.wp_judge.specs.Words.{CommitPair}
+use Rattle.wp_judge.specs.Words.{CommitPair, commit_pair}
 use Rattle.wp_core.specs.Cache.{pair_at}
 use Rattle.wp_core.specs.Lists.{IsIn}
 use Rattle.wp_core.specs.Tables.{writes}
 use Rattle.wp_core.specs.Views.{words_stay}
-use Rattle.wp_core.proofs.Tests.{same_some}
+use Rattle.wp_model.proofs.Tests.{same_some}
 use Rattle.wp_rule.specs.Knows.{Noted}
 use Rattle.wp_shared.specs.Seats.{SeatState}
 use Rattle.wp_commits.specs.Bound.{bound_after}
@@ -37,7 +37,7 @@ clear_own-requires g c = let d = c.args.log.now.table in let same = c.pair.ensur
       (λ (k : IsCleared c.args.seat.now.knows c.args.place). inl (subst (λ (x : SeatState). IsCleared x.knows c.args.place) (sym same) k))
       (λ (k : DecidesItself c.args.seat.now.knows (length d.history) c.args.place).
       let that = that_pair (pair_at k.1 c.args.place) c.in-Some.p c.in-Some.c (sym c.in-Some.is ∙ c.pair.ensures.pair k.0 k.1 k.3) in
-      let own = same_some (record { number = c.in-Some.p; decision = c.in-Some.c }) (record { number = k.2; decision = k.2 }) (sym that ∙ k.5) in
+      let own = same_some (commit_pair c.in-Some.p c.in-Some.c) (commit_pair k.2 k.2) (sym that ∙ k.5) in
       inr (ap (λ (x : CommitPair). x.number) own ∙ sym (ap (λ (x : CommitPair). x.decision) own)))
       c.requires.ready;
 }

@@ -1,4 +1,5 @@
 use Rattle.std.proofs.Common.{◌≡◌, ℕ, length, Some, refl, sym, subst, ◌∙◌, arith}
+use Rattle.wp_judge.specs.Words.{commit_pair}
 use Rattle.wp_core.specs.Cache.{cache_place, pair_at, with_pair}
 use Rattle.wp_core.specs.Views.{words_stay}
 use Rattle.wp_rule.specs.Knows.{Noted}
@@ -15,8 +16,8 @@ clear_again-requires-clause-ready g c =
 
 pub clear_again-requires-clause-wanted : goal.clear_again-requires-clause-wanted
 clear_again-requires-clause-wanted g c = (
-  record { number = c.args.p; decision = c.args.c },
-  next_in c.args.log.now.table.history c.args.log.now.table.pending (record { number = c.args.p; decision = c.args.c }) c.requires.pending,
+  commit_pair c.args.p c.args.c,
+  next_in c.args.log.now.table.history c.args.log.now.table.pending (commit_pair c.args.p c.args.c) c.requires.pending,
   c.place_of-place.ensures.place,
   c.requires.narrow,
 )
@@ -28,12 +29,12 @@ returns-clause-seat g c =
 pub returns-clause-words : goal.returns-clause-words
 returns-clause-words g c bound words there =
     let cells = c.args.store.now.cells in let published = length c.args.log.now.table.history in
-    subst (λ (i : ℕ). Noted c.put_word.new.seat.knows (words_stay (bound_after cells published bound (pair_at words i)) (with_pair words (record { number = c.args.p; decision = c.args.c })))) c.place_of-place.ensures.place
+    subst (λ (i : ℕ). Noted c.put_word.new.seat.knows (words_stay (bound_after cells published bound (pair_at words i)) (with_pair words (commit_pair c.args.p c.args.c)))) c.place_of-place.ensures.place
     (c.put_word.ensures.words (bound_after cells published bound (pair_at words c.place_of-place.result)) words (c.clear_again.ensures.bound bound words there))
 
 pub returns-clause-there : goal.returns-clause-there
 returns-clause-there g c bound words there =
-    subst (λ (i : ℕ). pair_at words i ≡ Some (record { number = c.args.p; decision = c.args.c })) c.place_of-place.ensures.place (c.put_word.ensures.there bound words there)
+    subst (λ (i : ℕ). pair_at words i ≡ Some (commit_pair c.args.p c.args.c)) c.place_of-place.ensures.place (c.put_word.ensures.there bound words there)
 
 pub returns-clause-elsewhere : goal.returns-clause-elsewhere
 returns-clause-elsewhere g c place ne ready =

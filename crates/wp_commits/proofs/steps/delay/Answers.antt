@@ -1,5 +1,6 @@
 use Rattle.std.proofs.Common.{◌≡◌, List, [], ◌∷◌, inl, refl, sym, subst, ap, ◌∙◌}
 use Rattle.wp_model.specs.PreparedSets.{PreparedSets, NoneDelayed}
+use Rattle.wp_judge.specs.Words.{commit_pair}
 use Rattle.wp_core.specs.Lists.{IsIn}
 use Rattle.wp_core.specs.Tables.{Content, writes, prepared}
 use Rattle.wp_core.specs.Views.{delayed_flag_stays}
@@ -39,7 +40,7 @@ make_about-requires-clause-may g c = let r = c.shows_world.new.seat in let u = c
     c.note_evicted.ensures c.requires.decided c.fit_delayed_flag.ensures.flag
 
 pub make_about-requires-clause-client : goal.make_about-requires-clause-client
-make_about-requires-clause-client g c = delaying_keeps (record { number = c.args.p; decision = c.args.c })
+make_about-requires-clause-client g c = delaying_keeps (commit_pair c.args.p c.args.c)
 
 pub returns : goal.returns
 returns g c = let s = c.args.seat.now in let d = c.args.log.now.table in let r = c.shows_world.new.seat in let same = c.shows_world.ensures.same in let t = c.note_evicted.new.self in let fit = c.fit_delayed_flag.ensures in let u = c.fit_delayed_flag.new.seat in let v = c.make_about.new.seat in
@@ -50,5 +51,5 @@ returns g c = let s = c.args.seat.now in let d = c.args.log.now.table in let r =
     record {
       seat = subst (λ (x : SeatState). GoesOn is_flag held x.turns x v) same (then_still is_flag r u v r.knows.held held r.turns fit.seat (holds is_flag u v v held made));
       flag = tells_still u.knows v.knows delayed_flag_stays (NoneDelayed t) (λ value there. subst (λ (x : SeatState). Noted x.knows (delayed_flag_stays value)) (sym made) there) fit.flag;
-      apart = subst (λ (x : PreparedSets). IsApart x (record { number = c.args.p; decision = c.args.c })) (sym c.note_evicted.ensures) (apart_now c.args.tables.now c.args.p c.args.c);
+      apart = subst (λ (x : PreparedSets). IsApart x (commit_pair c.args.p c.args.c)) (sym c.note_evicted.ensures) (apart_now c.args.tables.now c.args.p c.args.c);
     }

@@ -1,3 +1,4 @@
+use Rattle.wp_judge.specs.Words.{commit_pair}
 use Rattle.wp_shared.specs.Seats.{place_at}
 use Rattle.wp_commits.proofs.Going.{may_note_own, noted_own}
 use Rattle.wp_commits.proofs.steps.note_own.Goals as goal
@@ -11,4 +12,4 @@ make_about-requires-clause-client g c w = (tt, (tt, (tt, tt)))
 
 pub returns : goal.returns
 returns g c =
-    noted_own (place_at c.args.store.now c.args.seat.now.by) _ c.args.place (record { number = c.args.n; decision = c.args.n }) c.args.seat.now c.make_about.new.seat c.make_about.ensures.same c.make_about.ensures.moved
+    noted_own (place_at c.args.store.now c.args.seat.now.by) _ c.args.place (commit_pair c.args.n c.args.n) c.args.seat.now c.make_about.new.seat c.make_about.ensures.same c.make_about.ensures.moved

@@ -1,6 +1,7 @@
+use Rattle.wp_judge.specs.Words.{commit_pair}
 use Rattle.wp_shared.specs.Seats.{place_at}
 use Rattle.wp_commits.specs.Making.{noting_all}
 use Rattle.wp_commits.proofs.steps.note_own.Given as goal
 
 abbrev pub ghosts-make_about : goal.ghosts-make_about
-ghosts-make_about g a = record { place = place_at a.self.now a.seat.now.by; steps = λ w. noting_all a.about.now.0 (record { number = a.about.now.1; decision = a.about.now.1 }) }
+ghosts-make_about g a = record { place = place_at a.self.now a.seat.now.by; steps = λ w. noting_all a.about.now.0 (commit_pair a.about.now.1 a.about.now.1) }

@@ -1,17 +1,17 @@
 use Rattle.std.proofs.Common.{ℕ, sym, subst, ap, ◌∙◌}
-use Rattle.wp_judge.specs.Words.{CommitPair, MayBePacked, word_of, pair_of}
+use Rattle.wp_judge.specs.Words.{CommitPair, commit_pair, MayBePacked, word_of, pair_of}
 use Rattle.wp_shared.specs.Seats.{place_at}
 use Rattle.wp_commits.proofs.Puts.{next_packs, word_there, may_put, put, words_put, put_there, put_elsewhere}
 use Rattle.wp_commits.proofs.steps.put_word.Goals as goal
 
 pub pack-requires-clause-pair : goal.pack-requires-clause-pair
 pack-requires-clause-pair g c =
-    let pair : CommitPair = record { number = c.args.p; decision = c.args.c } in
+    let pair : CommitPair = commit_pair c.args.p c.args.c in
     subst (λ (n : ℕ). MayBePacked n pair) c.bits-bits.ensures.1 (next_packs c.args.store.now.cells c.args.log.now.table.history c.args.log.now.table.pending pair c.devices_agree.ensures.log.legal c.requires.pending c.requires.narrow)
 
 pub store_word-requires-clause-pair : goal.store_word-requires-clause-pair
 store_word-requires-clause-pair g c =
-    let pair : CommitPair = record { number = c.args.p; decision = c.args.c } in (
+    let pair : CommitPair = commit_pair c.args.p c.args.c in (
       pair,
       c.pack.ensures.word ∙ ap (λ (n : ℕ). word_of n pair) (sym c.bits-bits.ensures.1),
       word_there c.args.store.now.cells c.bits-bits.result c.args.place c.pack.result pair c.bits-bits.ensures.1 c.requires.place.0 c.pack.ensures.unpacks,
@@ -23,7 +23,7 @@ store_word-requires-clause-pair g c =
 pub returns : goal.returns
 returns g c =
     let z = c.args.store.now in let s = c.args.seat.now in let t = c.store_word.new.seat in let p = place_at z s.by in
-    let pair : CommitPair = record { number = c.args.p; decision = c.args.c } in
+    let pair : CommitPair = commit_pair c.args.p c.args.c in
     let there = word_there z.cells c.bits-bits.result c.args.place c.pack.result pair c.bits-bits.ensures.1 c.requires.place.0 c.pack.ensures.unpacks in
     let word = c.pack.ensures.word ∙ ap (λ (n : ℕ). word_of n pair) (sym c.bits-bits.ensures.1) in
     let moved = c.store_word.ensures.moved pair there in

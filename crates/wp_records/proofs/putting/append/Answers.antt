@@ -4,7 +4,7 @@ use Rattle.wp_core.specs.Tables.{WriteState}
 use Rattle.wp_core.specs.Views.{pair_not_delayed}
 use Rattle.wp_rule.specs.Knows.{Noted}
 use Rattle.wp_shared.specs.Seats.{SeatState}
-use Rattle.wp_shared.specs.Log.{LogState}
+use Rattle.wp_parts.specs.Log.{LogState}
 use Rattle.wp_records.specs.Records.{IsNotPut, failing}
 use Rattle.wp_records.proofs.Holding.{holds_as}
 use Rattle.wp_records.proofs.Puts.{failed_put, fails}

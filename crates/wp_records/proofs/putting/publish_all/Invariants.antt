@@ -1,5 +1,5 @@
 use Rattle.std.proofs.Common.{◌≡◌, false, [], length}
-use Rattle.wp_shared.specs.Log.{LogState}
+use Rattle.wp_parts.specs.Log.{LogState}
 use Rattle.wp_shared.specs.Seats.{SeatState}
 use Rattle.wp_records.specs.Records.{IsPutWith}
 use Rattle.wp_records.specs.Stages.{HoldsPending, AreBehind, MayJoin}

@@ -3,7 +3,7 @@ use Rattle.wp_model.specs.declared.entry.Entry.{Entry}
 use Rattle.wp_core.specs.Entries.{pending_pair}
 use Rattle.wp_core.specs.Lists.{IsIn}
 use Rattle.wp_core.specs.Tables.{writes}
-use Rattle.wp_shared.specs.Log.{LogState}
+use Rattle.wp_parts.specs.Log.{LogState}
 use Rattle.wp_shared.specs.Seats.{SeatState, place_at}
 use Rattle.wp_commits.specs.Ways.{way_of}
 use Rattle.wp_commits.proofs.Ways.{enters_reached}

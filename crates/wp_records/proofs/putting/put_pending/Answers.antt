@@ -6,7 +6,7 @@ use Rattle.wp_wal.specs.Wal.{WalState}
 use Rattle.wp_core.specs.Tables.{WriteState}
 use Rattle.wp_core.specs.Views.{pair_not_delayed}
 use Rattle.wp_rule.specs.Knows.{Noted}
-use Rattle.wp_shared.specs.Log.{LogState}
+use Rattle.wp_parts.specs.Log.{LogState}
 use Rattle.wp_shared.specs.Notes.{GoesOn}
 use Rattle.wp_shared.specs.Seats.{SeatState}
 use Rattle.wp_commits.specs.Ways.{ways_of, RisesFor}

@@ -1,6 +1,6 @@
 use Rattle.std.proofs.Common.{◌≡◌, suc, ◌+◌, length, arith}
 use Rattle.wp_shared.specs.Seats.{place_at}
-use Rattle.wp_shared.specs.Stock.{store_state}
+use Rattle.wp_parts.specs.Stock.{store_state}
 use Rattle.wp_records.proofs.Made.{may_add, added}
 use Rattle.wp_records.proofs.Stock.{not_inserted, inserted}
 use Rattle.wp_records.proofs.stages.insert_versions.Goals as goal

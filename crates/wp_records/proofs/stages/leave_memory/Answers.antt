@@ -3,7 +3,7 @@ use Rattle.wp_core.specs.Tables.{Content, writes, store}
 use Rattle.wp_core.specs.Turns.{store_turn}
 use Rattle.wp_core.specs.Views.{versions_nowhere}
 use Rattle.wp_shared.specs.Notes.{GoesOn}
-use Rattle.wp_shared.specs.Stock.{store_state}
+use Rattle.wp_parts.specs.Stock.{store_state}
 use Rattle.wp_commits.proofs.Through.{held_taken, holds_still, goes_through}
 use Rattle.wp_records.specs.Stages.{is_of_versions}
 use Rattle.wp_records.proofs.Facts.{versions_under_store}

@@ -6,7 +6,7 @@ use Rattle.wp_core.specs.Sound.Views.{IsNowhere}
 use Rattle.wp_core.specs.Views.{versions_in_memory}
 use Rattle.wp_shared.specs.Notes.{GoesOn}
 use Rattle.wp_rule.specs.Knows.{Noted}
-use Rattle.wp_shared.specs.Stock.{store_state}
+use Rattle.wp_parts.specs.Stock.{store_state}
 use Rattle.wp_commits.proofs.Clears.{on_ok}
 use Rattle.wp_commits.proofs.Through.{held_taken, holds_still, goes_through}
 use Rattle.wp_records.specs.Stages.{is_of_versions}

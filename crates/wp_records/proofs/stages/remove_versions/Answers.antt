@@ -1,6 +1,6 @@
 use Rattle.std.proofs.Common.{◌≡◌, suc, ◌+◌, length, arith}
 use Rattle.wp_shared.specs.Seats.{place_at}
-use Rattle.wp_shared.specs.Stock.{store_state}
+use Rattle.wp_parts.specs.Stock.{store_state}
 use Rattle.wp_records.proofs.Made.{may_take, taken}
 use Rattle.wp_records.proofs.Stock.{removed, went_on}
 use Rattle.wp_records.proofs.stages.remove_versions.Goals as goal

@@ -1,7 +1,7 @@
 use Rattle.std.specs.Prelude.{[], ◌∷◌}
 use Rattle.wp_core.specs.Steps.{take_versions, note}
 use Rattle.wp_core.specs.Views.{versions_nowhere}
-use Rattle.wp_shared.specs.Stock.{store_state}
+use Rattle.wp_parts.specs.Stock.{store_state}
 use Rattle.wp_shared.specs.Seats.{place_at}
 use Rattle.wp_records.proofs.stages.remove_versions.Given as goal
 

@@ -1,7 +1,7 @@
 use Rattle.std.proofs.Common.{◌≡◌, [], ◌∷◌, refl, ap}
 use Rattle.wp_core.specs.Tables.{writes}
 use Rattle.wp_core.specs.Views.{number_not_in_heap, pair_not_delayed}
-use Rattle.wp_shared.specs.Log.{LogState}
+use Rattle.wp_parts.specs.Log.{LogState}
 use Rattle.wp_shared.specs.Seats.{place_at}
 use Rattle.wp_records.specs.Stages.{is_of_number, is_of_versions, is_of_pending, is_of_stage}
 use Rattle.wp_records.proofs.Begun.{words_before, dropped_holds}
