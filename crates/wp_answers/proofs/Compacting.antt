@@ -21,11 +21,11 @@ use Rattle.wp_core.specs.Views.{Event, installed}
 use Rattle.wp_core.specs.World.{Participant}
 use Rattle.wp_core.proofs.KeepsSeen.{shorter}
 use Rattle.wp_core.proofs.Registered.{registered_live}
-use Rattle.wp_core.proofs.Tests.{same_some}
+use Rattle.wp_model.proofs.Tests.{same_some}
 use Rattle.wp_rule.proofs.Knows.{at_sound, one_was_first}
-use Rattle.wp_shared.specs.Parts.{content}
+use Rattle.wp_parts.specs.Parts.{content}
 use Rattle.wp_shared.specs.Seats.{SharedState, SeatState, place_at}
-use Rattle.wp_client.specs.Registers as pins
+use Rattle.wp_read.specs.Registers as pins
 use Rattle.wp_maint.specs.declared.done.Done.{Done}
 use Rattle.wp_maint.specs.declared.error.MaintError.{MaintError}
 use Rattle.wp_maint.specs.declared.error.MaintError.TheVariants.{Memory, Nothing, TableFault, TablesStopped}
@@ -152,7 +152,7 @@ module _ {D : Type 0} (z : SharedState D) (old new : SeatState) where
           at = next.floor;
           fresh = (omega (arith, low, from), omega (arith, to, high));
           two = subst (λ (x : InstalledEdit). 2 ≤ x.tables) (sym last) several;
-          snapshots = next.live;
+          live = next.live;
           own = own_live next.floor next.live next.pinned;
           from_base = λ n there. let least = next.from_base n (any_in next.live n there) in omega (arith, least, base);
           edit = subst (λ (o : Option InstalledEdit). IfSome o (λ edit. edit ≡ after_compaction (take next.floor e.history) (listed next.live e.base e.installed) e.installed)) (sym failed)

@@ -15,12 +15,12 @@ use Rattle.wp_text.specs.declared.reply.Reply.TheVariants as reply
 use Rattle.wp_core.specs.Sound.Actors.{StartsWith}
 use Rattle.wp_core.specs.World.{Participant}
 use Rattle.wp_core.proofs.KeepsSeen.{shorter}
-use Rattle.wp_txn.specs.Records.{numbers_behind}
+use Rattle.wp_records.specs.Records.{numbers_behind}
 use Rattle.wp_shared.specs.Seats.{SharedState, SeatState}
 use Rattle.wp_open_txns.specs.declared.error.TxnError.{TxnError}
 use Rattle.wp_open_txns.specs.declared.error.TxnError.TheVariants.{Silent}
-use Rattle.wp_txn.specs.Calls.{without_transaction, GivesUp}
-use Rattle.wp_txn.specs.Txn.{OpenState, PreparedState, HasPrepared}
+use Rattle.wp_open_txns.specs.Calls.{without_transaction, GivesUp}
+use Rattle.wp_open_txns.specs.Txn.{OpenState, PreparedState, HasPrepared}
 use Rattle.wp_txn.specs.Writes.{Prepares, Ends, CommitsNow, Commits, RollsBack, RefusesOpen, RefusesPrepared, AsksCommit, AsksRollback}
 use Rattle.wp_replies.specs.declared.client.LabelledSnapshot.{LabelledSnapshot}
 use Rattle.wp_replies.specs.declared.client.Txn.{Txn}
@@ -33,7 +33,7 @@ use Rattle.wp_replies.specs.Plan.{next}
 use Rattle.wp_answers.proofs.Alone.Decisions.{prepared_alone, committed_now_alone, open_stopped_alone, open_full_alone, open_fault_alone, prepare_asks, commit_now_asks, committed_alone, rolled_back_alone, commit_stopped_alone, commit_full_alone, commit_fault_alone, rollback_stopped_alone, rollback_full_alone, rollback_fault_alone, dropped_alone, left_alone}
 use Rattle.wp_client.specs.declared.holdings.HeldTxn.TheVariants as held
 use Rattle.wp_client.specs.Answers.{Answers, BreaksOff, IsDue, IsAnswered}
-use Rattle.wp_client.specs.Holdings.{HoldsTxn, HoldsFrom}
+use Rattle.wp_client.specs.Holdings.{staged_of, HoldsTxn, HoldsFrom}
 use Rattle.wp_client.specs.Replies.{refusal}
 use Rattle.wp_answers.proofs.Putting.{one_answers, last_entry, last_within}
 use Rattle.wp_client.proofs.Fitting.{Fits, else_answers}
@@ -49,9 +49,9 @@ module _ {D : Type 0} (z : SharedState D) (old new : SeatState) (snapshots : Lis
   abbrev it : Participant
   it = old.knows.participant
 
-  pub prepared_answers : (txn : OpenState) (prepared : PreparedState) (n : ℕ) → Prepares z old txn prepared n new → IsAnswered z old new (having (Open txn.name txn.batch) snapshots) (having (Prepared prepared.number) snapshots) command.Prepare (reply.Prepared n)
+  pub prepared_answers : (txn : OpenState) (prepared : PreparedState) (n : ℕ) → Prepares z old txn prepared n new → IsAnswered z old new (having (Open (staged_of txn)) snapshots) (having (Prepared prepared.number) snapshots) command.Prepare (reply.Prepared n)
   prepared_answers txn prepared n k = (
-    one_answers z old new _ it it k.3.0 (entry.Prepare txn.name txn.batch) [] (having (Open txn.name txn.batch) snapshots) (having (Prepared prepared.number) snapshots) command.Prepare (reply.Prepared n) n k.3.1 k.0 refl refl (sym (append-nil it.past))
+    one_answers z old new _ it it k.3.0 (entry.Prepare txn.name txn.batch) [] (having (Open (staged_of txn)) snapshots) (having (Prepared prepared.number) snapshots) command.Prepare (reply.Prepared n) n k.3.1 k.0 refl refl (sym (append-nil it.past))
         (record { acknowledges = refl; tables = λ before. refl; labels = λ before. refl; log_failed = refl; log_stopped = refl; tables_failed = refl; once = omega arith; remembered = tt; explained = λ event there. absurd there })
         (ap (λ (x : PreparedState). having (Prepared x.number) snapshots) k.1) (λ before. refl) (λ before e logged. logged),
     λ world stands only first is_first store so. prepared_alone z first old new only store so (world, stands) snapshots txn prepared n k,
@@ -66,9 +66,9 @@ module _ {D : Type 0} (z : SharedState D) (old new : SeatState) (snapshots : Lis
         (record { acknowledges = refl; tables = λ before. refl; labels = λ before. refl; log_failed = refl; log_stopped = refl; tables_failed = refl; once = omega arith; remembered = tt; explained = λ event there. absurd there })
         refl (λ before. refl) condition
 
-  pub committed_now_answers : (txn : OpenState) (n : ℕ) → CommitsNow z old txn n new → IsAnswered z old new (having (Open txn.name txn.batch) snapshots) (having Idle snapshots) command.Commit (reply.Committed n)
+  pub committed_now_answers : (txn : OpenState) (n : ℕ) → CommitsNow z old txn n new → IsAnswered z old new (having (Open (staged_of txn)) snapshots) (having Idle snapshots) command.Commit (reply.Committed n)
   committed_now_answers txn n k = (
-    ended_answers txn.name n (Open txn.name txn.batch) (entry.Write txn.batch) k refl (λ before e logged. logged),
+    ended_answers txn.name n (Open (staged_of txn)) (entry.Write txn.batch) k refl (λ before e logged. logged),
     λ world stands only first is_first store so. committed_now_alone z first old new only store so (world, stands) snapshots txn n k,
   )
 
@@ -86,9 +86,9 @@ module _ {D : Type 0} (z : SharedState D) (old new : SeatState) (snapshots : Lis
       else_answers z old new _ (without_transaction name it) [] (having t snapshots) (having Idle snapshots) c r 0 goes refl refl (sym (append-nil it.past)) fits is
       (λ before low. let same = last before in omega (arith, same, low)) (λ first is_first before p e agrees. condition e before)
 
-  pub dropped_answers : (txn : OpenState) → GivesUp z old new txn.name → IsAnswered z old new (having (Open txn.name txn.batch) snapshots) (having Idle snapshots) command.Rollback reply.Dropped
+  pub dropped_answers : (txn : OpenState) → GivesUp z old new txn.name → IsAnswered z old new (having (Open (staged_of txn)) snapshots) (having Idle snapshots) command.Rollback reply.Dropped
   dropped_answers txn goes = (
-    given_up_answers txn.name (Open txn.name txn.batch) command.Rollback reply.Dropped goes
+    given_up_answers txn.name (Open (staged_of txn)) command.Rollback reply.Dropped goes
         (record { acknowledges = refl; tables = λ before. refl; labels = λ before. refl; log_failed = refl; log_stopped = refl; tables_failed = refl; once = omega arith; remembered = tt; explained = λ event there. absurd there })
         refl (λ before. refl) (λ e before. tt),
     λ world stands only first is_first store so. dropped_alone z first old new only store so (world, stands) snapshots txn goes,
@@ -160,7 +160,7 @@ module _ {D : Type 0} (z : SharedState D) (old new : SeatState) (txn : PreparedS
         allowed = λ first is_first before p e agrees. let low = later_two before p.last in ((low.0, close_there e.history agrees.seen), (prior history txn.batch, (low.1, undo_there e.history agrees.seen)));
       }
 
-  pub rolled_back_answers : HasPrepared old txn.name txn.number txn.batch → IsAnswered z old new (having (Prepared txn.number) snapshots) (having Idle snapshots) command.Rollback (reply.RolledBack n)
+  pub rolled_back_answers : HasPrepared old txn → IsAnswered z old new (having (Prepared txn.number) snapshots) (having Idle snapshots) command.Rollback (reply.RolledBack n)
   rolled_back_answers has = (rolled_back_beside, λ world stands only first is_first store so. rolled_back_alone z first old new only store so (world, stands) snapshots txn has n k)
 
 -- ---- what the client has then
@@ -178,22 +178,22 @@ module _ {D : Type 0} (z : SharedState D) (old new : SeatState) where
   pub prepared_holds : (txn : OpenState) (prepared : PreparedState) (n : ℕ) → HoldsTxn z old (held.Open txn) → Prepares z old txn prepared n new → HoldsFrom z old new (held.Open txn) (held.Prepared prepared)
   prepared_holds txn prepared n has k = let goes = k.3.1.goes_on in let is : PreparedState = record { name = txn.name; number = n; batch = txn.batch } in
       subst (λ (x : PreparedState). HoldsFrom z old new (held.Open txn) (held.Prepared x)) (sym k.1)
-      (holds_now _ z old new _ goes (held.Open txn) (held.Prepared is) refl (has_now _ z old new _ goes (held.Open txn) (held.Prepared is) refl has k.2 has.only))
+      (holds_now _ z old new _ goes (held.Open txn) (held.Prepared is) refl (has_now _ z old new _ goes (held.Open txn) (held.Prepared is) refl has (subst (HasPrepared new) k.1 k.2) has.only))
 
 -- ---- refusals
 
 module _ {D : Type 0} (z : SharedState D) (old new : SeatState) (why : TxnError) where
-  module _ (c : Command) (txn left : OpenState) (made : Entry) (snapshots : List LabelledSnapshot) (logged : IsLogged (having (Open txn.name txn.batch) snapshots) c 1 (λ (entries : List Entry). entries ≡ made ∷ [])) (k : RefusesOpen z old txn made left why new) where
-    pub open_refused_answers : (r : Reply) → refusal why ≡ Some r → Answers z old new (having (Open txn.name txn.batch) snapshots) (having (Open left.name left.batch) snapshots) c r
+  module _ (c : Command) (txn left : OpenState) (made : Entry) (snapshots : List LabelledSnapshot) (logged : IsLogged (having (Open (staged_of txn)) snapshots) c 1 (λ (entries : List Entry). entries ≡ made ∷ [])) (k : RefusesOpen z old txn made left why new) where
+    pub open_refused_answers : (r : Reply) → refusal why ≡ Some r → Answers z old new (having (Open (staged_of txn)) snapshots) (having (Open (staged_of left)) snapshots) c r
     open_refused_answers r is =
-        subst (λ (x : OpenState). Answers z old new (having (Open txn.name txn.batch) snapshots) (having (Open x.name x.batch) snapshots) c r) (sym k.0)
-        (refused_answers z old new (having (Open txn.name txn.batch) snapshots) c 1 (λ (entries : List Entry). entries ≡ made ∷ []) logged old.knows.participant old.knows.participant [] (λ event there. there) refl refl (sym (append-nil old.knows.participant.past)) (none_before (having (Open txn.name txn.batch) snapshots) c old.knows.participant.client) why r is k.2)
+        subst (λ (x : OpenState). Answers z old new (having (Open (staged_of txn)) snapshots) (having (Open (staged_of x)) snapshots) c r) (sym k.0)
+        (refused_answers z old new (having (Open (staged_of txn)) snapshots) c 1 (λ (entries : List Entry). entries ≡ made ∷ []) logged old.knows.participant old.knows.participant [] (λ event there. there) refl refl (sym (append-nil old.knows.participant.past)) (none_before (having (Open (staged_of txn)) snapshots) c old.knows.participant.client) why r is k.2)
 
     pub open_refused_named : why ≢ Silent
     open_refused_named is = (subst (λ (w : TxnError). RefusesOpen z old txn made left w new) is k).2
 
-    pub open_refused_breaks : refusal why ≡ None → BreaksOff old new (having (Open txn.name txn.batch) snapshots) c
-    open_refused_breaks none = broke_off_after _ z old new old.knows.participant (refused_memory z old new 1 (λ (entries : List Entry). entries ≡ made ∷ []) old.knows.participant old.knows.participant why none k.2) [] (having (Open txn.name txn.batch) snapshots) c refl refl (sym (append-nil old.knows.participant.past)) (λ event there. absurd there) refl refl refl
+    pub open_refused_breaks : refusal why ≡ None → BreaksOff old new (having (Open (staged_of txn)) snapshots) c
+    open_refused_breaks none = broke_off_after _ z old new old.knows.participant (refused_memory z old new 1 (λ (entries : List Entry). entries ≡ made ∷ []) old.knows.participant old.knows.participant why none k.2) [] (having (Open (staged_of txn)) snapshots) c refl refl (sym (append-nil old.knows.participant.past)) (λ event there. absurd there) refl refl refl
 
   pub open_refused_holds : (txn left : OpenState) (made : Entry) → RefusesOpen z old txn made left why new → HoldsFrom z old new (held.Open txn) (held.Open left)
   open_refused_holds txn left made k = subst (λ (x : OpenState). HoldsFrom z old new (held.Open txn) (held.Open x)) (sym k.0)
@@ -221,17 +221,17 @@ module _ {D : Type 0} (z : SharedState D) (old new : SeatState) (why : TxnError)
   finder = old.knows.participant
 
   module _ (txn left : OpenState) where
-    pub prepare_refused_due : RefusesOpen z old txn (entry.Prepare txn.name txn.batch) left why new → IsDue z old new (having (Open txn.name txn.batch) snapshots) (having (Open left.name left.batch) snapshots) command.Prepare r
+    pub prepare_refused_due : RefusesOpen z old txn (entry.Prepare txn.name txn.batch) left why new → IsDue z old new (having (Open (staged_of txn)) snapshots) (having (Open (staged_of left)) snapshots) command.Prepare r
     prepare_refused_due k =
-        by_refusal z old new 1 (λ (entries : List Entry). entries ≡ entry.Prepare txn.name txn.batch ∷ []) finder finder (IsDue z old new (having (Open txn.name txn.batch) snapshots) (having (Open left.name left.batch) snapshots) command.Prepare)
+        by_refusal z old new 1 (λ (entries : List Entry). entries ≡ entry.Prepare txn.name txn.batch ∷ []) finder finder (IsDue z old new (having (Open (staged_of txn)) snapshots) (having (Open (staged_of left)) snapshots) command.Prepare)
         (λ published limit f. λ world stands only first is_first store so. open_full_alone z first old new only store so (world, stands) snapshots txn left command.Prepare (reply.Prepared (next store.history)) (entry.Prepare txn.name txn.batch) (prepare_asks z first old new only store so (world, stands) snapshots txn) published limit (k.0, k.1, f))
         (λ n f. λ world stands only first is_first store so. open_stopped_alone z first old new only store so (world, stands) snapshots txn left command.Prepare (reply.Prepared (next store.history)) (entry.Prepare txn.name txn.batch) (prepare_asks z first old new only store so (world, stands) snapshots txn) n (k.0, k.1, f))
         (λ f. λ world stands only first is_first store so. open_fault_alone z first old new only store so (world, stands) snapshots txn left command.Prepare (reply.Prepared (next store.history)) (entry.Prepare txn.name txn.batch) (prepare_asks z first old new only store so (world, stands) snapshots txn) (k.0, k.1, f))
         why r is k.2
 
-    pub commit_now_refused_due : RefusesOpen z old txn (entry.Write txn.batch) left why new → IsDue z old new (having (Open txn.name txn.batch) snapshots) (having (Open left.name left.batch) snapshots) command.Commit r
+    pub commit_now_refused_due : RefusesOpen z old txn (entry.Write txn.batch) left why new → IsDue z old new (having (Open (staged_of txn)) snapshots) (having (Open (staged_of left)) snapshots) command.Commit r
     commit_now_refused_due k =
-        by_refusal z old new 1 (λ (entries : List Entry). entries ≡ entry.Write txn.batch ∷ []) finder finder (IsDue z old new (having (Open txn.name txn.batch) snapshots) (having (Open left.name left.batch) snapshots) command.Commit)
+        by_refusal z old new 1 (λ (entries : List Entry). entries ≡ entry.Write txn.batch ∷ []) finder finder (IsDue z old new (having (Open (staged_of txn)) snapshots) (having (Open (staged_of left)) snapshots) command.Commit)
         (λ published limit f. λ world stands only first is_first store so. open_full_alone z first old new only store so (world, stands) snapshots txn left command.Commit (reply.Committed (next store.history)) (entry.Write txn.batch) (commit_now_asks z first old new only store so (world, stands) snapshots txn) published limit (k.0, k.1, f))
         (λ n f. λ world stands only first is_first store so. open_stopped_alone z first old new only store so (world, stands) snapshots txn left command.Commit (reply.Committed (next store.history)) (entry.Write txn.batch) (commit_now_asks z first old new only store so (world, stands) snapshots txn) n (k.0, k.1, f))
         (λ f. λ world stands only first is_first store so. open_fault_alone z first old new only store so (world, stands) snapshots txn left command.Commit (reply.Committed (next store.history)) (entry.Write txn.batch) (commit_now_asks z first old new only store so (world, stands) snapshots txn) (k.0, k.1, f))
@@ -246,7 +246,7 @@ module _ {D : Type 0} (z : SharedState D) (old new : SeatState) (why : TxnError)
         (λ f. λ world stands only first is_first store so. commit_fault_alone z first old new only store so (world, stands) snapshots txn left (k.0, k.1, f))
         why r is k.2
 
-    pub rollback_refused_due : HasPrepared old txn.name txn.number txn.batch → RefusesPrepared z old txn 2 AsksRollback left why new → IsDue z old new (having (Prepared txn.number) snapshots) (having (Prepared left.number) snapshots) command.Rollback r
+    pub rollback_refused_due : HasPrepared old txn → RefusesPrepared z old txn 2 AsksRollback left why new → IsDue z old new (having (Prepared txn.number) snapshots) (having (Prepared left.number) snapshots) command.Rollback r
     rollback_refused_due has k =
         by_refusal z old new 2 (AsksRollback new.knows.participant.seen txn) finder finder (IsDue z old new (having (Prepared txn.number) snapshots) (having (Prepared left.number) snapshots) command.Rollback)
         (λ published limit f. λ world stands only first is_first store so. rollback_full_alone z first old new only store so (world, stands) snapshots txn left has published limit (k.0, k.1, f))
@@ -256,10 +256,10 @@ module _ {D : Type 0} (z : SharedState D) (old new : SeatState) (why : TxnError)
 
 -- what each command asks the log for
 module _ (snapshots : List LabelledSnapshot) where
-  pub prepare_logged : (txn : OpenState) → IsLogged (having (Open txn.name txn.batch) snapshots) command.Prepare 1 (λ (entries : List Entry). entries ≡ entry.Prepare txn.name txn.batch ∷ [])
+  pub prepare_logged : (txn : OpenState) → IsLogged (having (Open (staged_of txn)) snapshots) command.Prepare 1 (λ (entries : List Entry). entries ≡ entry.Prepare txn.name txn.batch ∷ [])
   prepare_logged txn = record { free = refl; some = omega arith; needs_is = refl; asks = λ entries k. k; fresh = λ r. refl; labels = λ before r. refl }
 
-  pub commit_now_logged : (txn : OpenState) → IsLogged (having (Open txn.name txn.batch) snapshots) command.Commit 1 (λ (entries : List Entry). entries ≡ entry.Write txn.batch ∷ [])
+  pub commit_now_logged : (txn : OpenState) → IsLogged (having (Open (staged_of txn)) snapshots) command.Commit 1 (λ (entries : List Entry). entries ≡ entry.Write txn.batch ∷ [])
   commit_now_logged txn = record { free = refl; some = omega arith; needs_is = refl; asks = λ entries k. k; fresh = λ r. refl; labels = λ before r. refl }
 
   pub commit_logged : (history : List Entry) (txn : PreparedState) → IsLogged (having (Prepared txn.number) snapshots) command.Commit 1 (AsksCommit history txn)

@@ -9,5 +9,3 @@ pub mod Refusals
 pub mod Maintaining
 pub mod Compacting
 pub mod Renewing
-pub use Rattle.wp_client.proofs.Growing
-pub use Rattle.wp_client.proofs.Released

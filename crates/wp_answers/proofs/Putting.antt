@@ -13,7 +13,7 @@ use Rattle.wp_core.specs.World.{Participant}
 use Rattle.wp_core.proofs.KeepsSeen.{shorter}
 use Rattle.wp_shared.proofs.Limits.{limit_within}
 use Rattle.wp_shared.specs.Seats.{SharedState, SeatState}
-use Rattle.wp_txn.specs.Records.{numbers_behind}
+use Rattle.wp_records.specs.Records.{numbers_behind}
 use Rattle.wp_txn.specs.Writes.{HasPut}
 use Rattle.wp_replies.specs.Client.{Client}
 use Rattle.wp_replies.specs.After.{after_reply}

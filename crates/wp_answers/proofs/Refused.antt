@@ -14,11 +14,11 @@ use Rattle.wp_core.specs.Views.{Event, log_failed, stopped}
 use Rattle.wp_core.specs.World.{Participant}
 use Rattle.wp_core.proofs.KeepsSeen.{shorter}
 use Rattle.wp_core.proofs.PastsGrow.{in_last, in_either, total_more}
-use Rattle.wp_core.proofs.Tests.{same_some}
+use Rattle.wp_model.proofs.Tests.{same_some}
 use Rattle.wp_rule.proofs.Knows.{one_was_first}
 use Rattle.wp_rule.specs.Shows.{WasLast}
 use Rattle.wp_shared.specs.Calls.{Continues, with_events}
-use Rattle.wp_shared.specs.Parts.{content}
+use Rattle.wp_parts.specs.Parts.{content}
 use Rattle.wp_shared.proofs.Limits.{limit_either, limit_renewed}
 use Rattle.wp_shared.specs.Seats.{SharedState, SeatState, place_at}
 use Rattle.wp_open_txns.specs.declared.error.TxnError.{TxnError}
@@ -28,6 +28,7 @@ use Rattle.wp_replies.specs.Client.{Client}
 use Rattle.wp_replies.specs.Kind.{number_in, fresh_in, last_after}
 use Rattle.wp_replies.specs.Progress.{Progress, heard_after}
 use Rattle.wp_replies.specs.Replies.{Limits, IsLimit, Evidence, refusal_of, needed, AsksFor, IsFresh, Condition, UnlessRefused, Allows}
+use Rattle.wp_replies.proofs.Scenes.{needs_no_renewal}
 use Rattle.wp_client.specs.Agrees.{Agrees}
 use Rattle.wp_client.specs.Alone.{log_faults, device_faults, tables_faults}
 use Rattle.wp_client.specs.Answers.{IsProgress, IsExplained, is_finding, findings, Answers}
@@ -189,8 +190,10 @@ module _ {D : Type 0} (z : SharedState D) (old new : SeatState) (client : Client
               (λ (same : log_failed entries ≡ event). subst (IsExplained it.client client.txn c (Some reply.FaultLog)) same tt) (in_either event (log_failed entries) front there);
         })
         refl (same_last reply.FaultLog refl)
-        (λ first is_first before p e agrees. by_condition e before reply.FaultLog
-        (subst (AsksFor client.txn c) (sym (agrees.past (log_failed entries) (subst (IsIn (log_failed entries)) (sym (ap (λ (q : Participant). q.past) goes.participant)) (in_last (log_failed entries) after.past)))) (logged.asks entries f.2.1)))
+        (λ first is_first before p e agrees. by_condition e before reply.FaultLog (
+          subst (AsksFor client.txn c) (sym (agrees.past (log_failed entries) (subst (IsIn (log_failed entries)) (sym (ap (λ (q : Participant). q.past) goes.participant)) (in_last (log_failed entries) after.past)))) (logged.asks entries f.2.1),
+          needs_no_renewal e before client.txn c (let n = logged.needs_is in let some = logged.some in omega (arith, n, some)),
+        ))
 
     -- each refusal of the log, with its reply
     pub refused_answers : (why : TxnError) (r : Reply) → refusal why ≡ Some r → Refuses z old new needs Asks found after why → Answers z old new client client c r

@@ -13,13 +13,13 @@ use Rattle.wp_core.specs.Views.{Event, log_failed, log_stopped, tables_failed, s
 use Rattle.wp_core.specs.Views as event
 use Rattle.wp_core.specs.World.{Participant}
 use Rattle.wp_core.proofs.KeepsSeen.{shorter}
-use Rattle.wp_core.proofs.Tests.{same_some}
+use Rattle.wp_model.proofs.Tests.{same_some}
 use Rattle.wp_rule.proofs.Knows.{held_is, one_was_first}
 use Rattle.wp_rule.specs.Shows.{WasLast}
 use Rattle.wp_shared.specs.Calls.{Continues}
-use Rattle.wp_shared.specs.Parts.{content}
+use Rattle.wp_parts.specs.Parts.{content}
 use Rattle.wp_shared.specs.Seats.{SharedState, SeatState, place_at}
-use Rattle.wp_maint.specs.Calls.{found_by}
+use Rattle.wp_maint.specs.Calls.{Finds, found_by}
 use Rattle.wp_maint.specs.declared.renewed.Renewed.{Renewed}
 use Rattle.wp_maint.specs.declared.renewed.RenewError.{RenewError}
 use Rattle.wp_maint.specs.declared.renewed.RenewError.TheVariants.{Memory, Nothing, TableFault, LogFault, Stopped, TablesStopped}
@@ -53,21 +53,20 @@ module _ {D : Type 0} (z : SharedState D) (old new : SeatState) where
     fresh_end : (n : ℕ) → n ≡ length seen → (before : Progress) → before.last ≤ length seen → (e : Evidence) → Agrees e z new.knows.participant → IsFresh e.history before.last n
     fresh_end n is before low e agrees = let high = shorter e.history seen agrees.seen in (omega (arith, is, low), omega (arith, is, high))
 
-    -- the base is above the one that the client knows of
-    base_below : (t : Installed) (done : Renewed) (k : HasRenewed (Continues z old new) z old new t done) (first : InstalledEdit) → WasLast content z.first first → (before : Progress) → IsProgress first it before → before.base < done.at
-    base_below t done k first is_first before p =
-        let f = k.found in
+    -- the base is no lower than the one that the client knows of
+    base_risen : (t : Installed) (f : Finds z old new t) (first : InstalledEdit) → WasLast content z.first first → (before : Progress) → IsProgress first it before → before.base ≤ t.last.segment.base
+    base_risen t f first is_first before p =
         let known = base_between first f.world f.there.reached old.by f.actor f.there.there (one_was_first content z.first f.world.first_edit first f.there.first_edit is_first) before.base
         (subst (λ (past : List Event). (before.base ≡ first.segment.base) ⊎ HasBase past before.base) (sym f.past_is) p.base) in
         let held : installed f.world.installed ≡ installed t = (held_is (place_at z old.by) f.actor f.world (installed t) f.there f.held).1 in
         let table : f.world.installed ≡ t = cc in
         let same : f.world.installed.last.segment.base ≡ t.last.segment.base = ap (λ (x : Installed). x.last.segment.base) table in
-        let below = k.busy.below in let at = k.at in omega (arith, known.1, same, below, at)
+        omega (arith, known.1, same)
 
     renewed_condition : (t : Installed) (done : Renewed) (k : HasRenewed (Continues z old new) z old new t done) (first : InstalledEdit) → WasLast content z.first first → (before : Progress) → IsProgress first it before → (e : Evidence) → Agrees e z new.knows.participant → Condition e before client 0 command.Renew (reply.Renewed done.at done.carried)
     renewed_condition t done k first is_first before p e agrees = (
       fresh_end done.at k.at before (last_still first it new.knows.participant before k.goes_on.seen p) e agrees,
-      base_below t done k first is_first before p,
+      (let risen = base_risen t k.found first is_first before p in let below = k.busy.below in let at = k.at in omega (arith, risen, below, at)),
       k.carried ∙ ap (λ (h : List Entry). length (undecided h)) (sym (ap (λ (m : ℕ). take m e.history) k.at ∙ seen_taken e.history seen agrees.seen)),
     )
 
@@ -168,7 +167,17 @@ module _ {D : Type 0} (z : SharedState D) (old new : SeatState) where
           explained = of_two (IsExplained it.client client.txn command.Renew (Some reply.FaultLog)) found fault tt tt;
         })
         refl (λ before low. low)
-        (λ first is_first before p e agrees. asks_none client.txn e.failed.entries (known_of z old new events k.goes_on e agrees fault (inr (inl refl))))
+        (λ first is_first before p e agrees. (
+          asks_none client.txn e.failed.entries (known_of z old new events k.goes_on e agrees fault (inr (inl refl))),
+          record {
+            at = length seen;
+            fresh = fresh_end (length seen) refl before (last_still first it new.knows.participant before k.goes_on.seen p) e agrees;
+            base = t.last.segment.base;
+            based = (known_of z old new events k.goes_on e agrees found (inl refl)).1;
+            risen = base_risen t k.found first is_first before p;
+            behind = k.busy.below;
+          },
+        ))
 
     pub renewed_answers : (done : Renewed) → Renews z old (Ok done) new → IsAnswered z old new client client command.Renew (reply.Renewed done.at done.carried)
     renewed_answers done k = (renewed_beside done k, λ world stands only first is_first store so. renewed_alone z first old new only store so (world, stands) is_first client done k)

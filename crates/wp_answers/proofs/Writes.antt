@@ -15,14 +15,14 @@ use Rattle.wp_core.specs.Lists.{IsIn}
 use Rattle.wp_core.specs.Views.{Account, Event, locked, found}
 use Rattle.wp_core.specs.World.{Participant}
 use Rattle.wp_core.proofs.PastsGrow.{in_front, in_last}
-use Rattle.wp_core.proofs.Tests.{same_some}
+use Rattle.wp_model.proofs.Tests.{same_some}
 use Rattle.wp_rule.specs.Accounts.{account_of}
 use Rattle.wp_shared.specs.Calls.{Continues, with_events}
 use Rattle.wp_shared.specs.Seats.{SharedState, SeatState}
 use Rattle.wp_open_txns.specs.declared.error.TxnError.{TxnError}
 use Rattle.wp_open_txns.specs.declared.error.TxnError.TheVariants.{Memory, Taken, Busy, TooMany, Silent, Unknown, InUse, NumbersFull, LogFault, Stopped}
-use Rattle.wp_txn.specs.Calls.{Keeps, Finds}
-use Rattle.wp_txn.specs.Writes.{Refuses, wrote_direct, writing_direct, WritesDirect}
+use Rattle.wp_open_txns.specs.Calls.{Keeps, Finds}
+use Rattle.wp_txn.specs.Writes.{Refuses, wrote_direct, writing_direct, KeyIsFree, WritesDirect}
 use Rattle.wp_replies.specs.declared.client.LabelledSnapshot.{LabelledSnapshot}
 use Rattle.wp_replies.specs.declared.client.Txn.TheVariants.{Idle}
 use Rattle.wp_replies.specs.Client.{Client}
@@ -30,12 +30,11 @@ use Rattle.wp_replies.specs.After.{after_reply}
 use Rattle.wp_replies.specs.Kind.{last_after}
 use Rattle.wp_replies.specs.Progress.{Progress}
 use Rattle.wp_replies.specs.Replies.{Evidence, IsLoggedAt, IsBusy, Allows}
-use Rattle.wp_client.proofs.Alone.Changing.{asking, acknowledging}
 use Rattle.wp_answers.proofs.Alone.Writes.{written_alone, busy_alone, stopped_alone, full_alone, fault_alone}
 use Rattle.wp_client.specs.declared.holdings.HeldTxn.TheVariants as held
 use Rattle.wp_client.specs.Answers.{IsExplained, Answers, BreaksOff, IsDue, IsAnswered}
 use Rattle.wp_client.specs.Holdings.{HoldingsState, HoldsTxn, Holds}
-use Rattle.wp_client.specs.Replies.{refusal}
+use Rattle.wp_client.specs.Replies.{asking, acknowledging, refusal}
 use Rattle.wp_answers.proofs.Putting.{one_answers}
 use Rattle.wp_client.proofs.Fitting.{Fits, else_answers}
 use Rattle.wp_client.proofs.Clients.{having}
@@ -151,7 +150,7 @@ module _ {D : Type 0} (z : SharedState D) (old new : SeatState) (c : Change) (sn
       (of_one (IsExplained it.client Idle (asking c) None) (locked (key_of c) (holder.Client it.client)) (locked_alone c it.client)) refl refl refl
 
   pub not_written_breaks : (why : TxnError) → refusal why ≡ None → WritesDirect z old c (Err why) new → BreaksOff old new me (asking c)
-  not_written_breaks Memory none f = ⊎_elim (λ (k : Keeps z old new). broke_off z old new me (asking c) k) memory_breaks f
+  not_written_breaks Memory none f = ⊎_elim (λ (k : Keeps z old new). broke_off z old new me (asking c) k) (λ (k : Continues z old new (wrote_direct (key_of c) it) × KeyIsFree z old new (key_of c)). memory_breaks k.0) f
   not_written_breaks (Busy by) none f = absurd cc
   not_written_breaks (NumbersFull published limit) none f = absurd cc
   not_written_breaks (Stopped n) none f = absurd cc
@@ -170,7 +169,7 @@ module _ {D : Type 0} (z : SharedState D) (old new : SeatState) (c : Change) (h 
   pub written_holds : (answer : Result ℕ TxnError) → WritesDirect z old c answer new → Holds z new h
   written_holds (Ok n) w = holds_still z old new _ refl refl refl w.1.1.goes_on h has
   written_holds (Err (Busy by)) f = holds_still z old new _ refl refl refl f.goes_on h has
-  written_holds (Err Memory) f = ⊎_elim (λ (k : Keeps z old new). keeps_holds z old new k h has) (λ (k : Continues z old new (wrote_direct (key_of c) old.knows.participant)). holds_still z old new _ refl refl refl k h has) f
+  written_holds (Err Memory) f = ⊎_elim (λ (k : Keeps z old new). keeps_holds z old new k h has) (λ (k : Continues z old new (wrote_direct (key_of c) old.knows.participant) × KeyIsFree z old new (key_of c)). holds_still z old new _ refl refl refl k.0 h has) f
   written_holds (Err (NumbersFull published limit)) f = log_leaves (NumbersFull published limit) f.0
   written_holds (Err (Stopped n)) f = log_leaves (Stopped n) f.0
   written_holds (Err LogFault) f = log_leaves LogFault f.0

@@ -1,4 +1,4 @@
--- What the calls on tables come to as replies, and which commands change the transaction that a client has.
+-- What the calls on tables come to as replies, which commands change a key, and which the transaction that a client has.
 use Rattle.std.specs.Prelude.{Bool, true, false, Option, Some, None}
 use Rattle.wp_text.specs.declared.script.Command.{Command}
 use Rattle.wp_text.specs.declared.script.Command.TheVariants as command
@@ -24,6 +24,12 @@ renewal_refusal (renewal.Stopped n) = Some (reply.Stopped n)
 renewal_refusal renewal.Nothing = Some reply.Nothing
 renewal_refusal renewal.TableFault = Some reply.FaultTables
 renewal_refusal renewal.LogFault = Some reply.FaultLog
+
+-- the command puts or deletes a key
+abbrev pub is_change : Command → Bool
+is_change (command.Put key value) = true
+is_change (command.Del key) = true
+is_change other = false
 
 -- the command may change which transaction the client has, where it does not change a key
 abbrev pub is_of_txn : Command → Bool

@@ -1,17 +1,12 @@
 //! One command of a client.
 ghost use Rattle.std.specs.Prelude.{◌≡◌, true, IfOk, OnErr};
 ghost use Rattle.wp_client.specs.declared.holdings.HeldTxn.TheVariants as held;
-ghost use Rattle.wp_model.specs.Flushed.{InstalledEdit};
-ghost use Rattle.wp_rule.specs.Shows.{WasLast};
-ghost use Rattle.wp_shared.specs.Parts.{content};
-ghost use Rattle.wp_replies.specs.Due.{Store};
-ghost use Rattle.wp_client.specs.Alone.{IsOnly, IsStoreOf, AnswersAlone};
-ghost use Rattle.wp_client.specs.Answers.{Answers, IsAnswered, AnswersFrom, BreaksOff, BreaksOffFrom};
+ghost use Rattle.wp_client.specs.Answers.{Answers, IsAnswered, IsDueAlone, AnswersFrom, BreaksOff, BreaksOffFrom};
 ghost use Rattle.wp_answers.specs.Fresh.{NamesPublished};
 ghost use Rattle.wp_client.specs.Holdings.{client_of, HoldsTxn, Holds, HoldsFrom};
 ghost use Rattle.wp_answers.specs.Replies.{is_of_txn};
 
-use crate::changes::{del, put};
+use crate::changes::change;
 use crate::decisions::{commit, leave, prepare, rollback};
 use crate::maintenance::{compact, flush, renew};
 use std::alloc::{AllocError, Global};
@@ -102,14 +97,15 @@ fn obey<D: Disk + Drop, R: Wait>(
 ) -> Result<Reply, AllocError>
     requires { Holds store.now seat.old held.old }
     ensures holds { Holds store.now seat.new held.new }
-    ensures answered { IfOk result (λ answer. IsAnswered store.now seat.old seat.new (client_of held.old) (client_of held.new) command.now answer) }
+    ensures answered { IfOk result (IsAnswered store.now seat.old seat.new (client_of held.old) (client_of held.new) command.now) }
     ensures published { IfOk result (NamesPublished store.now seat.old seat.new command.now) }
     ensures err { OnErr result (BreaksOff seat.old seat.new (client_of held.old) command.now) }
     ensures kept { OnErr result (held.new ≡ held.old) }
 {
     match command {
-        Command::Put(key, value) => put(store, rt, alloc, seat, &mut held.txn, key, value),
-        Command::Del(key) => del(store, rt, alloc, seat, &mut held.txn, key),
+        Command::Put(_, _) | Command::Del(_) => {
+            change(store, rt, alloc, seat, &mut held.txn, command)
+        }
         Command::Get(key) => get(store, rt, alloc, seat, &held.txn, key),
         Command::GetAt(key, label) => get_at(store, rt, alloc, seat, held, key, label),
         Command::Snap(label) => snap(store, rt, alloc, seat, held, label),
@@ -139,9 +135,8 @@ pub fn answer<D: Disk + Drop, R: Wait>(
 ) -> Result<Reply, AllocError>
     requires { Holds store.now seat.old held.old }
     ensures holds { Holds store.now seat.new held.new }
-    ensures answered { IfOk result (λ answer. Answers store.now seat.old seat.new (client_of held.old) (client_of held.new) command.now answer) }
-    ensures alone { IfOk result (λ answer. IsOnly seat.old → (first : InstalledEdit) → WasLast content store.now.first first → (s : Store) → IsStoreOf store.now first seat.old.knows.participant s
-        → AnswersAlone store.now first seat.old seat.new (client_of held.old) (client_of held.new) command.now answer s) }
+    ensures answered { IfOk result (Answers store.now seat.old seat.new (client_of held.old) (client_of held.new) command.now) }
+    ensures alone { IfOk result (IsDueAlone store.now seat.old seat.new (client_of held.old) (client_of held.new) command.now) }
     ensures published { IfOk result (NamesPublished store.now seat.old seat.new command.now) }
     ensures err { OnErr result (BreaksOff seat.old seat.new (client_of held.old) command.now) }
     ensures kept { OnErr result (held.new ≡ held.old) }

@@ -17,7 +17,7 @@ use Rattle.wp_core.specs.Views.{Account, another, Event, claimed, took, found}
 use Rattle.wp_core.specs.World.{Transaction, Participant}
 use Rattle.wp_core.proofs.KeepsSeen.{shorter}
 use Rattle.wp_core.proofs.PastsGrow.{in_last}
-use Rattle.wp_core.proofs.Tests.{same_some}
+use Rattle.wp_model.proofs.Tests.{same_some}
 use Rattle.wp_rule.specs.Accounts.{account_of, account_by}
 use Rattle.wp_shared.specs.Calls.{Continues, with_events}
 use Rattle.wp_shared.specs.Seats.{SharedState, SeatState}
@@ -25,7 +25,7 @@ use Rattle.wp_open_txns.specs.declared.error.TxnError.{TxnError}
 use Rattle.wp_open_txns.specs.declared.error.TxnError.TheVariants.{Memory, Taken, Busy, TooMany, Silent, Unknown, InUse, NumbersFull, LogFault, Stopped}
 use Rattle.wp_open_txns.specs.Actors.{no_changes}
 use Rattle.wp_open_txns.specs.Calls.{Finds, with_transaction, Begins, Takes, TakesPrepared}
-use Rattle.wp_open_txns.specs.Txn.{OpenState, PreparedState, HasPrepared}
+use Rattle.wp_open_txns.specs.Txn.{OpenState, PreparedState, HasOpen}
 use Rattle.wp_replies.specs.declared.client.LabelledSnapshot.{LabelledSnapshot}
 use Rattle.wp_replies.specs.declared.client.Txn.TheVariants.{Idle, Open, Prepared}
 use Rattle.wp_replies.specs.Client.{Client}
@@ -35,7 +35,7 @@ use Rattle.wp_client.proofs.Alone.Names.{begun_alone, took_alone, taken_alone, u
 use Rattle.wp_client.specs.declared.holdings.HeldTxn.TheVariants as held
 use Rattle.wp_client.specs.Agrees.{Agrees, KnowsHolder}
 use Rattle.wp_client.specs.Answers.{IsProgress, IsExplained, Answers, BreaksOff, IsAnswered}
-use Rattle.wp_client.specs.Holdings.{HoldsTxn, HoldsFrom}
+use Rattle.wp_client.specs.Holdings.{staged_of, HoldsTxn, HoldsFrom}
 use Rattle.wp_client.specs.Replies.{refusal}
 use Rattle.wp_client.proofs.Fitting.{else_answers}
 use Rattle.wp_client.proofs.Clients.{having, holds_from}
@@ -58,11 +58,11 @@ module _ {D : Type 0} (z : SharedState D) (old new : SeatState) (name : List ℕ
 
   -- ---- a name is claimed
 
-  pub begun_answers : (txn : OpenState) → Begins z old name (Ok txn) new → IsAnswered z old new me (having (Open txn.name txn.batch) snapshots) (command.Begin name) reply.Begun
+  pub begun_answers : (txn : OpenState) → Begins z old name (Ok txn) new → IsAnswered z old new me (having (Open (staged_of txn)) snapshots) (command.Begin name) reply.Begun
   begun_answers txn k = (
-    else_answers z old new _ (with_events (claimed name ∷ []) (with_transaction name no_changes it)) (claimed name ∷ []) me (having (Open txn.name txn.batch) snapshots) (command.Begin name) reply.Begun 0 k.2 refl refl refl
+    else_answers z old new _ (with_events (claimed name ∷ []) (with_transaction name no_changes it)) (claimed name ∷ []) me (having (Open (staged_of txn)) snapshots) (command.Begin name) reply.Begun 0 k.2 refl refl refl
         (record { acknowledges = refl; tables = λ before. refl; labels = λ before. refl; log_failed = refl; log_stopped = refl; tables_failed = refl; once = omega arith; remembered = tt; explained = of_one (IsExplained it.client Idle (command.Begin name) (Some reply.Begun)) (claimed name) (itself name) })
-        (ap (λ (x : OpenState). having (Open x.name x.batch) snapshots) k.0) (λ before low. low) (λ first is_first before p e agrees. tt),
+        (ap (λ (x : OpenState). having (Open (staged_of x)) snapshots) k.0) (λ before low. low) (λ first is_first before p e agrees. tt),
     λ world stands only first is_first store so. begun_alone z first old new only store so (world, stands) snapshots name txn k,
   )
 
@@ -181,7 +181,7 @@ module _ {D : Type 0} (z : SharedState D) (old new : SeatState) (name : List ℕ
   pub begun_holds : (txn : OpenState) → Begins z old name (Ok txn) new → HoldsFrom z old new held.Idle (held.Open txn)
   begun_holds txn k = let is : OpenState = record { name = name; batch = [] } in
       subst (λ (x : OpenState). HoldsFrom z old new held.Idle (held.Open x)) (sym k.0)
-      (holds_now _ z old new _ k.2 held.Idle (held.Open is) refl (has_now _ z old new _ k.2 held.Idle (held.Open is) refl has k.1 (only_this old.knows.participant.transactions name (none_else name) no_changes)))
+      (holds_now _ z old new _ k.2 held.Idle (held.Open is) refl (has_now _ z old new _ k.2 held.Idle (held.Open is) refl has (subst (HasOpen new) k.0 k.1) (only_this old.knows.participant.transactions name (none_else name) no_changes)))
 
   pub not_begun_holds : (why : TxnError) → Begins z old name (Err why) new → HoldsFrom z old new held.Idle held.Idle
   not_begun_holds (Taken other) k = holds_from z old new held.Idle (holds_still z old new _ refl refl refl k.1.goes_on)
@@ -198,7 +198,7 @@ module _ {D : Type 0} (z : SharedState D) (old new : SeatState) (name : List ℕ
   pub took_holds : (txn : PreparedState) → Takes z old name txn new → HoldsFrom z old new held.Idle (held.Prepared txn)
   took_holds txn k =
       holds_now _ z old new _ k.goes_on held.Idle (held.Prepared txn) refl (has_now _ z old new _ k.goes_on held.Idle (held.Prepared txn) refl has
-      (subst (λ (own : List ℕ). HasPrepared new own txn.number txn.batch) (sym k.name_is) k.has)
+      k.has
       (subst (λ (own : List ℕ). (other : List ℕ) → bytes_eq own other ≡ false → finite.get (finite.insert old.knows.participant.transactions name k.has.transaction) other ≡ None) (sym k.name_is)
       (only_this old.knows.participant.transactions name (none_else name) k.has.transaction)))
 

@@ -10,7 +10,7 @@ use Rattle.wp_core.specs.Sound.Pasts.{due_after}
 use Rattle.wp_core.specs.Views.{Event, Fact}
 use Rattle.wp_core.specs.World.{Participant}
 use Rattle.wp_rule.specs.Shows.{WasLast}
-use Rattle.wp_shared.specs.Parts.{content}
+use Rattle.wp_parts.specs.Parts.{content}
 use Rattle.wp_shared.specs.Calls.{ContinuesWith}
 use Rattle.wp_shared.specs.Seats.{SharedState, SeatState}
 use Rattle.wp_replies.specs.declared.client.Txn.{Txn}

@@ -13,7 +13,7 @@ use Rattle.wp_core.specs.Sound.Views.{guarded_by}
 use Rattle.wp_core.proofs.KeepsSeen.{shorter}
 use Rattle.wp_shared.specs.Calls.{Continues}
 use Rattle.wp_shared.specs.Seats.{SharedState, SeatState}
-use Rattle.wp_open_txns.specs.Txn.{HasOpen, HasPrepared}
+use Rattle.wp_open_txns.specs.Txn.{OpenState, PreparedState, HasOpen, HasPrepared}
 
 -- the seat has the transactions that it had, and knows of them what it knew
 pub record HasStill (old new : SeatState) : Type 0 where
@@ -25,23 +25,23 @@ pub record HasStill (old new : SeatState) : Type 0 where
 pub still : {D : Type 0} (z : SharedState D) (old new : SeatState) (p : Participant) → p.transactions ≡ old.knows.participant.transactions → p.direct ≡ old.knows.participant.direct → Continues z old new p → HasStill old new
 still z old new p same direct goes = record { transactions = ap (λ (x : Participant). x.transactions) goes.participant ∙ same; direct = ap (λ (x : Participant). x.direct) goes.participant ∙ direct; seen = goes.seen; notes = goes.notes }
 
-module _ (old new : SeatState) (k : HasStill old new) (name : List ℕ) where
-  pub open_still : (batch : List Change) → HasOpen old name batch → HasOpen new name batch
-  open_still batch h = record {
+module _ (old new : SeatState) (k : HasStill old new) where
+  pub open_still : (t : OpenState) → HasOpen old t → HasOpen new t
+  open_still t h = record {
     transaction = h.transaction;
-    has = ap (λ (ts : Transactions). finite.get ts name) k.transactions ∙ h.has;
+    has = ap (λ (ts : Transactions). finite.get ts t.name) k.transactions ∙ h.has;
     batch_is = h.batch_is;
     keys = h.keys;
-    noted = k.notes (unprepared name) refl h.noted;
+    noted = k.notes (unprepared t.name) refl h.noted;
   }
 
-  pub prepared_still : (number : ℕ) (batch : List Change) → HasPrepared old name number batch → HasPrepared new name number batch
-  prepared_still number batch h = let low = shorter new.knows.participant.seen old.knows.participant.seen k.seen in record {
+  pub prepared_still : (t : PreparedState) → HasPrepared old t → HasPrepared new t
+  prepared_still t h = let low = shorter new.knows.participant.seen old.knows.participant.seen k.seen in record {
     transaction = h.transaction;
-    has = ap (λ (ts : Transactions). finite.get ts name) k.transactions ∙ h.has;
+    has = ap (λ (ts : Transactions). finite.get ts t.name) k.transactions ∙ h.has;
     batch_is = h.batch_is;
     keys = h.keys;
-    noted = k.notes (undecided_at name number) refl h.noted;
+    noted = k.notes (undecided_at t.name t.number) refl h.noted;
     seen = (let s = h.seen in omega (arith, low, s));
-    stands = ap (λ (es : List Entry). entry_at es number) k.seen.1 ∙ entry_at_old old.knows.participant.seen k.seen.0 number h.seen ∙ h.stands;
+    stands = ap (λ (es : List Entry). entry_at es t.number) k.seen.1 ∙ entry_at_old old.knows.participant.seen k.seen.0 t.number h.seen ∙ h.stands;
   }

@@ -14,9 +14,9 @@ use Rattle.wp_text.specs.declared.reply.Reply.TheVariants as reply
 use Rattle.wp_core.specs.Lists.{one_if}
 use Rattle.wp_core.specs.Sound.Actors.{StartsWith}
 use Rattle.wp_core.proofs.KeepsSeen.{whole, shorter}
-use Rattle.wp_core.proofs.Tests.{same_some}
+use Rattle.wp_model.proofs.Tests.{same_some}
 use Rattle.wp_rule.specs.Shows.{WasLast}
-use Rattle.wp_shared.specs.Parts.{content}
+use Rattle.wp_parts.specs.Parts.{content}
 use Rattle.wp_shared.specs.Seats.{SharedState, SeatState, IsFree}
 use Rattle.wp_shared.proofs.Onward.{starts_on}
 use Rattle.wp_open_txns.specs.Calls.{Keeps}
@@ -105,7 +105,7 @@ module _ {D : Type 0} (z : SharedState D) (old new : SeatState) (t : HeldTxn) (k
   batch_is : (first : InstalledEdit) (only : IsOnly old) (store : Store) (so : IsStoreOf z first old.knows.participant store) (u : HeldTxn) → HasTxn old u → own_batch store.history (txn_of u) ≡ batch_in u
   batch_is first only store so held.Idle had = refl
   batch_is first only store so (held.Open u) had = refl
-  batch_is first only store so (held.Prepared u) had = prepared_changes z first old new only store so u.name u.number u.batch had
+  batch_is first only store so (held.Prepared u) had = prepared_changes z first old new only store so u had
 
   own_due_by : (said : Option (Option (List ℕ))) (r : Reply) → change_to (batch_in t) key ≡ said → own_reply said ≡ Some r → new ≡ old → IsDue z old new me me (command.Get key) r
   own_due_by None r at is same = absurd cc

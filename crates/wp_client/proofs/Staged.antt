@@ -20,7 +20,7 @@ use Rattle.wp_core.specs.Lists.{IsIn}
 use Rattle.wp_core.specs.Views.{Account, Event, locked, found}
 use Rattle.wp_core.specs.World.{Participant}
 use Rattle.wp_core.proofs.PastsGrow.{in_last}
-use Rattle.wp_core.proofs.Tests.{same_some}
+use Rattle.wp_model.proofs.Tests.{same_some}
 use Rattle.wp_rule.specs.Accounts.{account_of}
 use Rattle.wp_shared.specs.Calls.{with_events}
 use Rattle.wp_shared.specs.Seats.{SharedState, SeatState}
@@ -28,8 +28,9 @@ use Rattle.wp_open_txns.specs.declared.error.TxnError.{TxnError}
 use Rattle.wp_open_txns.specs.declared.error.TxnError.TheVariants.{Memory, Taken, Busy, TooMany, Silent, Unknown, InUse, NumbersFull, LogFault, Stopped}
 use Rattle.wp_open_txns.specs.Actors.{transaction_in, with_key_locked}
 use Rattle.wp_open_txns.specs.Calls.{with_transaction, IsFull, locking, changing, Changes}
-use Rattle.wp_open_txns.specs.Txn.{OpenState}
+use Rattle.wp_open_txns.specs.Txn.{OpenState, HasOpen}
 use Rattle.wp_replies.specs.declared.client.LabelledSnapshot.{LabelledSnapshot}
+use Rattle.wp_replies.specs.declared.client.Staged.{Staged}
 use Rattle.wp_replies.specs.declared.client.Txn.TheVariants.{Open}
 use Rattle.wp_replies.specs.Client.{Client, has_no_room}
 use Rattle.wp_replies.specs.After.{after_reply}
@@ -38,15 +39,14 @@ use Rattle.wp_replies.specs.Progress.{Progress, heard_after}
 use Rattle.wp_replies.specs.Replies.{Evidence, IsBusy, Allows, Condition, UnlessRefused}
 use Rattle.wp_client.specs.declared.holdings.HeldTxn.TheVariants as held
 use Rattle.wp_client.specs.Answers.{IsExplained, Answers, BreaksOff, IsAnswered}
-use Rattle.wp_client.specs.Holdings.{HoldingsState, HoldsTxn, Holds, HoldsFrom}
-use Rattle.wp_client.specs.Replies.{refusal}
+use Rattle.wp_client.specs.Holdings.{HoldingsState, staged_of, HoldsTxn, Holds, HoldsFrom}
+use Rattle.wp_client.specs.Replies.{asking, refusal}
 use Rattle.wp_client.proofs.Fitting.{Fits, else_answers}
 use Rattle.wp_client.proofs.Clients.{having, holds_from}
 use Rattle.wp_client.proofs.Growing.{of_one}
 use Rattle.wp_client.proofs.Holders.{found_busy}
 use Rattle.wp_client.proofs.Labels.{itself}
 use Rattle.wp_client.proofs.Staying.{holds_still, keeps_holds, broke_off, only_this, has_now, holds_now}
-use Rattle.wp_client.proofs.Alone.Changing.{asking}
 use Rattle.wp_client.proofs.Alone.Staged.{held_alone, too_many_alone, busy_alone}
 
 -- ---- by the change
@@ -105,11 +105,11 @@ changing_is false name batch c p = record { client = refl; own = refl; past = re
 
 -- ---- rows
 
-module _ (name : List ℕ) (batch : List Change) (snapshots : List LabelledSnapshot) where
+module _ (own : Staged) (snapshots : List LabelledSnapshot) where
   abbrev me : Client
-  me = having (Open name batch) snapshots
+  me = having (Open own) snapshots
 
-  with_room : (c : Change) (e : Evidence) (before : Progress) (r : Reply) → has_no_room batch (key_of c) ≡ false → Condition e before me 0 (asking c) r → Allows e before me 0 (asking c) r
+  with_room : (c : Change) (e : Evidence) (before : Progress) (r : Reply) → has_no_room own.batch (key_of c) ≡ false → Condition e before me 0 (asking c) r → Allows e before me 0 (asking c) r
   with_room (change.Put key value) e before r room condition = subst (λ (b : Bool). UnlessRefused (if b then Some reply.TooMany else None) r (Condition e before me 0 (asking (change.Put key value)) r)) (sym room) condition
   with_room (change.Del key) e before r room condition = subst (λ (b : Bool). UnlessRefused (if b then Some reply.TooMany else None) r (Condition e before me 0 (asking (change.Del key)) r)) (sym room) condition
 
@@ -121,21 +121,21 @@ module _ (name : List ℕ) (batch : List Change) (snapshots : List LabelledSnaps
   busy_condition (change.Put key value) e before by k = k
   busy_condition (change.Del key) e before by k = k
 
-  full_condition : (c : Change) (e : Evidence) (before : Progress) → has_no_room batch (key_of c) ≡ true → Allows e before me 0 (asking c) reply.TooMany
+  full_condition : (c : Change) (e : Evidence) (before : Progress) → has_no_room own.batch (key_of c) ≡ true → Allows e before me 0 (asking c) reply.TooMany
   full_condition (change.Put key value) e before full = subst (λ (b : Bool). UnlessRefused (if b then Some reply.TooMany else None) reply.TooMany (Condition e before me 0 (asking (change.Put key value)) reply.TooMany)) (sym full) refl
   full_condition (change.Del key) e before full = subst (λ (b : Bool). UnlessRefused (if b then Some reply.TooMany else None) reply.TooMany (Condition e before me 0 (asking (change.Del key)) reply.TooMany)) (sym full) refl
 
-  held_client : (c : Change) → having (Open name (with_change batch c)) snapshots ≡ after_reply 0 me (asking c) reply.Held
+  held_client : (c : Change) → having (Open (record own { batch = with_change own.batch c })) snapshots ≡ after_reply 0 me (asking c) reply.Held
   held_client (change.Put key value) = refl
   held_client (change.Del key) = refl
 
-  held_explained : (c : Change) (client : List ℕ) → IsExplained client (Open name batch) (asking c) (Some reply.Held) (locked (key_of c) (holder.Txn name))
-  held_explained (change.Put key value) client = rw (itself name, itself key) refl
-  held_explained (change.Del key) client = rw (itself name, itself key) refl
+  held_explained : (c : Change) (client : List ℕ) → IsExplained client (Open own) (asking c) (Some reply.Held) (locked (key_of c) (holder.Txn own.name))
+  held_explained (change.Put key value) client = rw (itself own.name, itself key) refl
+  held_explained (change.Del key) client = rw (itself own.name, itself key) refl
 
-  held_fits : (b : Bool) (c : Change) (client : List ℕ) → Fits (asking c) reply.Held [] (locked_of b name (key_of c)) client (Open name batch)
+  held_fits : (b : Bool) (c : Change) (client : List ℕ) → Fits (asking c) reply.Held [] (locked_of b own.name (key_of c)) client (Open own)
   held_fits true c client = record { acknowledges = refl; tables = λ before. refl; labels = λ before. labels_same c before reply.Held; log_failed = refl; log_stopped = refl; tables_failed = refl; once = omega arith; remembered = tt; explained = λ event there. absurd there }
-  held_fits false c client = record { acknowledges = refl; tables = λ before. refl; labels = λ before. labels_same c before reply.Held; log_failed = refl; log_stopped = refl; tables_failed = refl; once = omega arith; remembered = tt; explained = of_one (IsExplained client (Open name batch) (asking c) (Some reply.Held)) (locked (key_of c) (holder.Txn name)) (held_explained c client) }
+  held_fits false c client = record { acknowledges = refl; tables = λ before. refl; labels = λ before. labels_same c before reply.Held; log_failed = refl; log_stopped = refl; tables_failed = refl; once = omega arith; remembered = tt; explained = of_one (IsExplained client (Open own) (asking c) (Some reply.Held)) (locked (key_of c) (holder.Txn own.name)) (held_explained c client) }
 
 -- the holder is no transaction of its own
 not_own : (own : List ℕ) (by : Holder) → (by ≡ holder.Txn own → ⊥) → (name : List ℕ) → by ≡ holder.Txn name → bytes_eq own name ≡ false
@@ -151,10 +151,10 @@ module _ {D : Type 0} (z : SharedState D) (old new : SeatState) (txn left : Open
   it = old.knows.participant
 
   abbrev before_it : Client
-  before_it = having (Open txn.name txn.batch) snapshots
+  before_it = having (Open (staged_of txn)) snapshots
 
   abbrev after_it : Client
-  after_it = having (Open left.name left.batch) snapshots
+  after_it = having (Open (staged_of left)) snapshots
 
   abbrev after_held : Participant
   after_held = changing txn.name txn.batch c it
@@ -166,30 +166,30 @@ module _ {D : Type 0} (z : SharedState D) (old new : SeatState) (txn left : Open
   held_answers done k = (
     let is = held_is in
         else_answers z old new _ after_held (locked_of (is_changed txn.batch (key_of c)) txn.name (key_of c)) before_it after_it (asking c) reply.Held 0 k.3 is.client is.own is.past
-        (held_fits txn.name txn.batch snapshots (is_changed txn.batch (key_of c)) c it.client)
-        (ap (λ (x : OpenState). having (Open x.name x.batch) snapshots) k.1 ∙ held_client txn.name txn.batch snapshots c)
+        (held_fits (staged_of txn) snapshots (is_changed txn.batch (key_of c)) c it.client)
+        (ap (λ (x : OpenState). having (Open (staged_of x)) snapshots) k.1 ∙ held_client (staged_of txn) snapshots c)
         (last_same c reply.Held (length new.knows.participant.seen) refl)
-        (λ first is_first before p e agrees. with_room txn.name txn.batch snapshots c e before reply.Held (not_full txn.batch (key_of c) small k.0) (held_condition txn.name txn.batch snapshots c e before)),
+        (λ first is_first before p e agrees. with_room (staged_of txn) snapshots c e before reply.Held (not_full txn.batch (key_of c) small k.0) (held_condition (staged_of txn) snapshots c e before)),
     λ world stands only first is_first store so. held_alone z first old new only store so (world, stands) snapshots c txn left small k,
   )
 
   same_left : left ≡ txn → after_it ≡ before_it
-  same_left is = ap (λ (x : OpenState). having (Open x.name x.batch) snapshots) is
+  same_left is = ap (λ (x : OpenState). having (Open (staged_of x)) snapshots) is
 
   full_answers : Changes z old txn c (Err TooMany) new left → Answers z old new before_it after_it (asking c) reply.TooMany
   full_answers k =
       else_answers z old new _ it [] before_it after_it (asking c) reply.TooMany 0 k.3 refl refl (sym (append-nil it.past))
       (record { acknowledges = refl; tables = λ before. refl; labels = λ before. labels_same c before reply.TooMany; log_failed = refl; log_stopped = refl; tables_failed = refl; once = omega arith; remembered = tt; explained = λ event there. absurd there })
       (same_left k.1) (last_same c reply.TooMany (length new.knows.participant.seen) refl)
-      (λ first is_first before p e agrees. full_condition txn.name txn.batch snapshots c e before (is_full txn.batch (key_of c) k.0))
+      (λ first is_first before p e agrees. full_condition (staged_of txn) snapshots c e before (is_full txn.batch (key_of c) k.0))
 
   busy_answers : HoldsTxn z old (held.Open txn) → (by : Holder) → Changes z old txn c (Err (Busy by)) new left → Answers z old new before_it after_it (asking c) (reply.Busy by)
   busy_answers has by k = let f = k.5 in
       let account : Account = account_of it f.world.locks f.published (Some (key_of c)) by in let event : Event = found (Some (key_of c)) by (length it.seen) account in
       else_answers z old new _ (with_events (event ∷ []) it) (event ∷ []) before_it after_it (asking c) (reply.Busy by) 0 f.goes_on refl refl refl
-      (record { acknowledges = refl; tables = λ before. refl; labels = λ before. labels_same c before (reply.Busy by); log_failed = refl; log_stopped = refl; tables_failed = refl; once = omega arith; remembered = tt; explained = of_one (IsExplained it.client (Open txn.name txn.batch) (asking c) (Some (reply.Busy by))) event tt })
+      (record { acknowledges = refl; tables = λ before. refl; labels = λ before. labels_same c before (reply.Busy by); log_failed = refl; log_stopped = refl; tables_failed = refl; once = omega arith; remembered = tt; explained = of_one (IsExplained it.client (Open (staged_of txn)) (asking c) (Some (reply.Busy by))) event tt })
       (same_left k.1) (last_same c (reply.Busy by) (length new.knows.participant.seen) refl)
-      (λ first is_first before p e agrees. with_room txn.name txn.batch snapshots c e before (reply.Busy by) (not_full txn.batch (key_of c) small k.0) (busy_condition txn.name txn.batch snapshots c e before by
+      (λ first is_first before p e agrees. with_room (staged_of txn) snapshots c e before (reply.Busy by) (not_full txn.batch (key_of c) small k.0) (busy_condition (staged_of txn) snapshots c e before by
       (found_busy e before.last (key_of c) by it f.world.locks f.published p.last has.direct (λ name same. has.only name (not_own txn.name by k.4 name same))
       (agrees.past event (subst (IsIn event) (sym (ap (λ (q : Participant). q.past) f.goes_on.participant)) (in_last event it.past))))))
 
@@ -241,7 +241,7 @@ module _ {D : Type 0} (z : SharedState D) (old new : SeatState) (txn left : Open
   held_holds done k = let is = changing_is (is_changed txn.batch (key_of c)) txn.name txn.batch c old.knows.participant in let next : OpenState = record txn { batch = with_change txn.batch c } in
       subst (λ (x : OpenState). HoldsFrom z old new (held.Open txn) (held.Open x)) (sym k.1)
       (holds_now _ z old new (changing txn.name txn.batch c old.knows.participant) k.3 (held.Open txn) (held.Open next) is.registered
-      (has_now _ z old new (changing txn.name txn.batch c old.knows.participant) k.3 (held.Open txn) (held.Open next) is.direct has k.2 (is.others has.only)))
+      (has_now _ z old new (changing txn.name txn.batch c old.knows.participant) k.3 (held.Open txn) (held.Open next) is.direct has (subst (HasOpen new) k.1 k.2) (is.others has.only)))
 
   same_holds : left ≡ txn → ((h : HoldingsState) → Holds z old h → Holds z new h) → HoldsFrom z old new (held.Open txn) (held.Open left)
   same_holds is each = subst (λ (x : OpenState). HoldsFrom z old new (held.Open txn) (held.Open x)) (sym is) (holds_from z old new (held.Open txn) each)

@@ -7,7 +7,7 @@ use Rattle.std.specs.FinMap as finite
 use mathlib.Core.List.{append-nil}
 use Rattle.wp_core.specs.Lists.{IsIn}
 use Rattle.wp_core.specs.World.{Transaction, Participant, Transactions}
-use Rattle.wp_core.proofs.Keyed.{else_inserted, at_removed, else_removed}
+use Rattle.wp_model.proofs.Keyed.{else_inserted, at_removed, else_removed}
 use Rattle.wp_core.proofs.KeepsSeen.{shorter}
 use Rattle.wp_shared.specs.Calls.{ContinuesWith, Continues}
 use Rattle.wp_shared.specs.Seats.{SharedState, SeatState, IsFree}
@@ -36,8 +36,8 @@ in_place Kept z old new after goes same = record {
 
 txn_still : (old new : SeatState) → HasStill old new → (t : HeldTxn) → HasTxn old t → HasTxn new t
 txn_still old new k held.Idle h = tt
-txn_still old new k (held.Open t) h = open_still old new k t.name t.batch h
-txn_still old new k (held.Prepared t) h = prepared_still old new k t.name t.number t.batch h
+txn_still old new k (held.Open t) h = open_still old new k t h
+txn_still old new k (held.Prepared t) h = prepared_still old new k t h
 
 -- The seat goes on with the transactions that it had.
 pub holds_txn_still : {D : Type 0} (z : SharedState D) (old new : SeatState) → IsFree z.table new → HasStill old new → (t : HeldTxn) → HoldsTxn z old t → HoldsTxn z new t

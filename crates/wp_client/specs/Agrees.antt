@@ -10,7 +10,7 @@ use Rattle.wp_core.specs.World.{Participant}
 use Rattle.wp_model.specs.Flushed.{InstalledEdit}
 use Rattle.wp_rule.specs.Shows.{WasLast}
 use Rattle.wp_shared.specs.Limits.{WasOpenedAt}
-use Rattle.wp_shared.specs.Parts.{content}
+use Rattle.wp_parts.specs.Parts.{content}
 use Rattle.wp_shared.specs.Seats.{SharedState}
 use Rattle.wp_client.specs.Alone.{limits_of}
 use Rattle.wp_replies.specs.Replies.{HasName, HasTaken, HasKey, WritesKey, WasTold, LogStopped, WasFlushed, WasBase, OtherCompacted, Evidence, IsKnown, WasUndecided, HadKey, IsHaltedAt}

@@ -12,7 +12,7 @@ use Rattle.wp_core.specs.Sound.Pasts as pasts
 use Rattle.wp_core.specs.Views.{Event, told, log_failed, log_stopped, tables_failed}
 use Rattle.wp_core.specs.World.{Participant, World}
 use Rattle.wp_rule.specs.Shows.{WasLast}
-use Rattle.wp_shared.specs.Parts.{content}
+use Rattle.wp_parts.specs.Parts.{content}
 use Rattle.wp_shared.specs.Limits.{WasOpenedAt, limit_at, opened_limit, renewed_limit}
 use Rattle.wp_shared.specs.Seats.{SharedState, SeatState}
 use Rattle.wp_replies.specs.Asked.{AsksLog, AsksTables}

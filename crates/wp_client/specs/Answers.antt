@@ -12,7 +12,7 @@ use Rattle.wp_core.specs.Sound.Pasts.{tables_due}
 use Rattle.wp_core.specs.Views.{Event, claimed, took, locked, told, heard, installed, renewed, log_stopped, stopped, found_edit, found}
 use Rattle.wp_core.specs.World.{Participant, World}
 use Rattle.wp_rule.specs.Shows.{WasLast}
-use Rattle.wp_shared.specs.Parts.{content}
+use Rattle.wp_parts.specs.Parts.{content}
 use Rattle.wp_shared.specs.Seats.{SharedState, SeatState, Stands}
 use Rattle.wp_replies.specs.declared.client.Txn.{Txn}
 use Rattle.wp_replies.specs.Client.{Client}
@@ -129,11 +129,15 @@ pub record BreaksOff (old new : SeatState) (was : Client) (command : Command) : 
   pub tables_failed : tables_faults events ≡ 0
   pub none_found : findings events ≡ 0
 
--- Where the seat is the only one, and stands in a world of the store now, the reply is the one that is due from the store as it
--- was, or a fault, and the store is as it is to be then.
+-- Where the seat is the only one, the reply is the one that is due from the store as it was, or a fault, and the store is as it is to
+-- be then.
+abbrev pub IsDueAlone : {D : Type 0} → SharedState D → SeatState → SeatState → Client → Client → Command → Reply → Type 0
+IsDueAlone z old new was now command answer =
+    IsOnly old → (first : InstalledEdit) → WasLast content z.first first → (store : Store) → IsStoreOf z first old.knows.participant store → AnswersAlone z first old new was now command answer store
+
+-- ... where the seat stands in a world of the store now
 abbrev pub IsDue : {D : Type 0} → SharedState D → SeatState → SeatState → Client → Client → Command → Reply → Type 0
-IsDue z old new was now command answer =
-    (world : World) → Stands z new world → IsOnly old → (first : InstalledEdit) → WasLast content z.first first → (store : Store) → IsStoreOf z first old.knows.participant store → AnswersAlone z first old new was now command answer store
+IsDue z old new was now command answer = (world : World) → Stands z new world → IsDueAlone z old new was now command answer
 
 -- the client is answered so, be it beside others or alone
 abbrev pub IsAnswered : {D : Type 0} → SharedState D → SeatState → SeatState → Client → Client → Command → Reply → Type 0

@@ -6,8 +6,9 @@ use Rattle.wp_core.specs.Changes.{is_same_registration}
 use Rattle.wp_core.specs.Lists.{one_if, total}
 use Rattle.wp_core.specs.Reading.{Registration}
 use Rattle.wp_shared.specs.Seats.{SharedState, SeatState, IsFree}
-use Rattle.wp_open_txns.specs.Txn.{HasOpen, HasPrepared}
+use Rattle.wp_open_txns.specs.Txn.{OpenState, HasOpen, HasPrepared}
 use Rattle.wp_replies.specs.declared.client.LabelledSnapshot.{LabelledSnapshot}
+use Rattle.wp_replies.specs.declared.client.Staged.{Staged}
 use Rattle.wp_replies.specs.declared.client.Txn.{Txn}
 use Rattle.wp_replies.specs.declared.client.Txn.TheVariants.{Idle, Open, Prepared}
 use Rattle.wp_replies.specs.Client.{Client, number_of, AreWithin}
@@ -25,9 +26,12 @@ no_holdings = record { txn = held.Idle; snapshots = [] }
 
 -- ---- as the table of replies sees it
 
+abbrev pub staged_of : OpenState → Staged
+staged_of t = record { name = t.name; batch = t.batch }
+
 abbrev pub txn_of : HeldTxn → Txn
 txn_of held.Idle = Idle
-txn_of (held.Open t) = Open t.name t.batch
+txn_of (held.Open t) = Open (staged_of t)
 txn_of (held.Prepared t) = Prepared t.number
 
 abbrev pub labelled : HeldSnapshot → LabelledSnapshot
@@ -40,8 +44,8 @@ client_of h = record { txn = txn_of h.txn; snapshots = map labelled h.snapshots 
 
 abbrev pub HasTxn : SeatState → HeldTxn → Type 0
 HasTxn s held.Idle = Unit {0}
-HasTxn s (held.Open t) = HasOpen s t.name t.batch
-HasTxn s (held.Prepared t) = HasPrepared s t.name t.number t.batch
+HasTxn s (held.Open t) = HasOpen s t
+HasTxn s (held.Prepared t) = HasPrepared s t
 
 -- the transaction has this name
 abbrev pub is_named : HeldTxn → List ℕ → Bool

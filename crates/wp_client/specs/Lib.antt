@@ -5,4 +5,3 @@ pub mod Replies
 pub mod Agrees
 pub mod Answers
 pub mod Ends
-pub use Rattle.wp_read.specs.Registers

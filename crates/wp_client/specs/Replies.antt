@@ -1,7 +1,10 @@
 -- What the calls of the crates below come to as replies.
 use Rattle.std.specs.Prelude.{◌≡◌, ℕ, ◌≤◌, List, [], ◌∷◌, ◌++◌, length, map, Option, Some, None}
 use Rattle.wp_model.specs.declared.change.Change.{Change}
+use Rattle.wp_model.specs.declared.change.Change.TheVariants as change
 use Rattle.wp_model.specs.History.{value_at}
+use Rattle.wp_text.specs.declared.script.Command.{Command}
+use Rattle.wp_text.specs.declared.script.Command.TheVariants as command
 use Rattle.wp_text.specs.declared.reply.Reply.{Reply}
 use Rattle.wp_text.specs.declared.reply.Reply.TheVariants as reply
 use Rattle.wp_shared.specs.Seats.{SharedState, SeatState}
@@ -27,6 +30,17 @@ refusal (why.InUse name) = Some (reply.InUse name)
 refusal (why.NumbersFull published limit) = Some (reply.Full published limit)
 refusal why.LogFault = Some reply.FaultLog
 refusal (why.Stopped n) = Some (reply.Stopped n)
+
+-- ---- changes
+
+-- the command that asks for the change, and the reply that acknowledges it
+abbrev pub asking : Change → Command
+asking (change.Put key value) = command.Put key value
+asking (change.Del key) = command.Del key
+
+abbrev pub acknowledging : Change → ℕ → Reply
+acknowledging (change.Put key value) n = reply.Put n
+acknowledging (change.Del key) n = reply.Del n
 
 -- ---- reads
 

@@ -2,7 +2,7 @@
 //! clauses of the calls.
 ghost use Rattle.std.specs.Prelude.{◌≡◌, List, ℕ};
 ghost use Rattle.wp_core.specs.World.{World, new_participant};
-ghost use Rattle.wp_shared.specs.Parts.{content};
+ghost use Rattle.wp_parts.specs.Parts.{content};
 ghost use Rattle.wp_model.specs.Flushed.{InstalledEdit};
 ghost use Rattle.wp_rule.specs.Shows.{WasLast};
 ghost use Rattle.wp_replies.specs.Current.{opened_store};

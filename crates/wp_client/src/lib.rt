@@ -36,4 +36,4 @@ pub use naming::{begin, take};
 pub use reads::{get, get_at};
 pub use refusals::refusal;
 pub use snapshots::{free, snap};
-pub use staging::{del_open, put_open};
+pub use staging::stage;

@@ -108,7 +108,7 @@ pub fn get_at<D: Disk + Drop, R: Wait>(
 ) -> Result<Reply, AllocError>
     requires { Holds store.now seat.old held.now }
     ensures goes_on { Keeps store.now seat.old seat.new }
-    ensures answered { IfOk result (λ answer. IsAnswered store.now seat.old seat.new (client_of held.now) (client_of held.now) (GetAt key.now label.now) answer) }
+    ensures answered { IfOk result (IsAnswered store.now seat.old seat.new (client_of held.now) (client_of held.now) (GetAt key.now label.now)) }
 {
     let Some(i) = held.place_of(label) else {
         return Ok(Reply::UnknownSnapshot(label.copy(alloc)?));

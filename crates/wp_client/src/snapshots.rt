@@ -39,7 +39,7 @@ pub fn snap<D: Disk + Drop, R: Wait>(
 ) -> Result<Reply, AllocError>
     requires { Holds store.now seat.old held.old }
     ensures holds { Holds store.now seat.new held.new }
-    ensures answered { IfOk result (λ answer. IsAnswered store.now seat.old seat.new (client_of held.old) (client_of held.new) (Snap label.now) answer) }
+    ensures answered { IfOk result (IsAnswered store.now seat.old seat.new (client_of held.old) (client_of held.new) (Snap label.now)) }
     ensures published { IfOk result (NamesSeen store.now seat.old seat.new (Snap label.now)) }
     ensures err { OnErr result (BreaksOff seat.old seat.new (client_of held.old) (Snap label.now)) }
     ensures kept { OnErr result (held.new ≡ held.old) }
@@ -67,7 +67,7 @@ pub fn free<D: Disk + Drop, R: Wait>(
 ) -> Result<Reply, AllocError>
     requires { Holds store.now seat.old held.old }
     ensures holds { Holds store.now seat.new held.new }
-    ensures answered { IfOk result (λ answer. IsAnswered store.now seat.old seat.new (client_of held.old) (client_of held.new) (Free label.now) answer) }
+    ensures answered { IfOk result (IsAnswered store.now seat.old seat.new (client_of held.old) (client_of held.new) (Free label.now)) }
     ensures err { OnErr result (BreaksOff seat.old seat.new (client_of held.old) (Free label.now)) }
     ensures kept { OnErr result (held.new ≡ held.old) }
 {

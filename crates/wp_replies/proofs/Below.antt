@@ -31,7 +31,7 @@ use Rattle.wp_replies.specs.declared.client.Txn.TheVariants.{Idle, Open, Prepare
 use Rattle.wp_replies.specs.Alike.{HasEach, IsLike, TxnIsFrom, AreFrom, IsFrom}
 use Rattle.wp_replies.specs.Client.{Client, number_of}
 use Rattle.wp_replies.specs.Progress.{Progress}
-use Rattle.wp_replies.specs.Replies.{Evidence, IsFresh, IsLoggedAt, WasUndecided, HadKey, IsBusy, IsNameTaken, OwnSays, PreparesAt, CommitsAt, RollsBackAt, IsFlushCount, IsCompactionCount, HasNothingToFlush, FailsFlush, FailsCompaction, FailsRenewal, Condition}
+use Rattle.wp_replies.specs.Replies.{Evidence, IsFresh, IsLoggedAt, WasUndecided, HadKey, IsBusy, IsNameTaken, OwnSays, PreparesAt, CommitsAt, RollsBackAt, IsFlushCount, IsCompactionCount, RenewsSomething, HasNothingToFlush, FailsFlush, FailsCompaction, FailsRenewal, Condition}
 use Rattle.wp_replies.specs.Tables.{unflushed, after_flush, listed, retained, after_compaction, with_table, after_renewal}
 
 -- ---- snapshots
@@ -119,19 +119,19 @@ module _ (e : Evidence) (other : List Entry) (k : IsLike e other) where
 
   own_other : (txn : Txn) (key : List ℕ) (said : Option (Option (List ℕ))) → TxnIsFrom e.base e.history txn → OwnSays e.history txn key said → OwnSays other txn key said
   own_other Idle key said from s = s
-  own_other (Open name batch) key said from s = s
+  own_other (Open own) key said from s = s
   own_other (Prepared p) key said from s = (within_other p s.0, ap (λ (x : Option Entry). change_to (prepared_batch x) key) (sym (own_entry p from)) ∙ s.1)
 
   value_other : (key : List ℕ) (n : ℕ) (value : Option (List ℕ)) → e.base ≤ n → n ≤ length e.history → value_at e.history key n ≡ value → value_at other key n ≡ value
   value_other key n value low high is = sym (a.whole.values key n low high) ∙ is
 
   prepares_other : (last : ℕ) (txn : Txn) (n : ℕ) → e.base ≤ last → PreparesAt e.history last txn n → PreparesAt other last txn n
-  prepares_other last (Open name batch) n low l = logged_other last n _ low l
+  prepares_other last (Open own) n low l = logged_other last n _ low l
   prepares_other last _ n low l = absurd l
 
   commits_other : (last : ℕ) (txn : Txn) (n : ℕ) → e.base ≤ last → CommitsAt e.history last txn n → CommitsAt other last txn n
   commits_other last Idle n low l = absurd l
-  commits_other last (Open name batch) n low l = logged_other last n _ low l
+  commits_other last (Open own) n low l = logged_other last n _ low l
   commits_other last (Prepared p) n low l = logged_other last n _ low l
 
   rolls_other : (last : ℕ) (txn : Txn) (n : ℕ) → e.base ≤ last → RollsBackAt e.history last txn n → RollsBackAt other last txn n
@@ -209,14 +209,14 @@ module _ (e : Evidence) (other : List Entry) (k : IsLike e other) where
   compaction_fails_other : (last : ℕ) (client : Client) → e.base ≤ last → FailsCompaction e last client → FailsCompaction with_other last client
   compaction_fails_other last client low f =
       let from : e.base ≤ f.at = omega (arith, low, f.fresh.0) in
-      let all = joined_from e.base f.snapshots (e.base ∷ e.installed.segment.base ∷ []) (each_from e.base f.snapshots f.from_base) (omega arith, (k.based, tt)) in record {
+      let all = joined_from e.base f.live (e.base ∷ e.installed.segment.base ∷ []) (each_from e.base f.live f.from_base) (omega arith, (k.based, tt)) in record {
         at = f.at;
         fresh = fresh_other last f.at f.fresh;
         two = f.two;
-        snapshots = f.snapshots;
+        live = f.live;
         own = f.own;
         from_base = f.from_base;
-        edit = subst (λ (x : InstalledEdit). IfSome e.failed.edit (λ edit. edit ≡ x)) (compacted_other f.at from f.fresh.1 (listed f.snapshots e.base e.installed) all) f.edit;
+        edit = subst (λ (x : InstalledEdit). IfSome e.failed.edit (λ edit. edit ≡ x)) (compacted_other f.at from f.fresh.1 (listed f.live e.base e.installed) all) f.edit;
       }
 
   renewal_fails_other : (last : ℕ) → e.base ≤ last → FailsRenewal e last → FailsRenewal with_other last
@@ -229,6 +229,10 @@ module _ (e : Evidence) (other : List Entry) (k : IsLike e other) where
         edit = subst (λ (x : InstalledEdit). IfSome e.failed.edit (λ edit. edit ≡ x)) (renewed_other f.at from f.fresh.1 f.place) f.edit;
       }
 
+  renews_other : (progress : Progress) (c : Command) → RenewsSomething e progress c → RenewsSomething with_other progress c
+  renews_other progress command.Renew r = record { at = r.at; fresh = fresh_other progress.last r.at r.fresh; base = r.base; based = r.based; risen = r.risen; behind = r.behind }
+  renews_other progress other_command r = tt
+
   -- ---- the rows
 
   snapshot_from : (client : Client) (label : List ℕ) (n : ℕ) → AreFrom e.base client.snapshots → number_of client.snapshots label ≡ Some n → e.base ≤ n
@@ -236,7 +240,7 @@ module _ (e : Evidence) (other : List Entry) (k : IsLike e other) where
 
   pub condition_other : (progress : Progress) (client : Client) (p : ℕ) (c : Command) (r : Reply) → IsFrom e.base e.history progress.last client → Condition e progress client p c r → Condition with_other progress client p c r
   condition_other progress client p c (reply.Full published most) f k = (k.0, fresh_other progress.last published k.1, k.2, k.3)
-  condition_other progress client p c reply.FaultLog f k = k
+  condition_other progress client p c reply.FaultLog f k = (k.0, renews_other progress c k.1)
   condition_other progress client p c (reply.Stopped n) f k = (k.0, fresh_other progress.last n k.1, k.2)
   condition_other progress client p (command.Put key value) (reply.Put n) f k = (k.0, logged_other progress.last n _ f.last k.1)
   condition_other progress client p (command.Put key value) reply.Held f k = k

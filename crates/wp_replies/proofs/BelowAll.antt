@@ -38,7 +38,7 @@ from_filter base keeps (s ∷ snapshots) f =
 
 staged_from : (base : ℕ) (history : List Entry) (txn : Txn) (change : Change) → TxnIsFrom base history txn → TxnIsFrom base history (with_staged txn change)
 staged_from base history Idle change from = from
-staged_from base history (Open name batch) change from = from
+staged_from base history (Open own) change from = from
 staged_from base history (Prepared p) change from = from
 
 -- the last number only rises
@@ -49,7 +49,7 @@ last_from base last history None low fresh = low
 module _ (e : Evidence) (progress : Progress) (client : Client) (p : ℕ) where
   -- a prepare that was acknowledged is later than all that the client had seen
   prepares_late : (txn : Txn) (n : ℕ) → PreparesAt e.history progress.last txn n → progress.last < n
-  prepares_late (Open name batch) n l = l.0
+  prepares_late (Open own) n l = l.0
   prepares_late _ n l = absurd l
 
   condition_late : (c : Command) (n : ℕ) → Condition e progress client p c (reply.Prepared n) → progress.last < n

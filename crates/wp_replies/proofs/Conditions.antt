@@ -20,7 +20,7 @@ use Rattle.wp_replies.specs.declared.client.Txn.TheVariants.{Idle, Open, Prepare
 use Rattle.wp_replies.specs.Client.{Client}
 use Rattle.wp_replies.specs.After.{labels_after, after_reply}
 use Rattle.wp_replies.specs.Progress.{Progress, progress_after}
-use Rattle.wp_replies.specs.Replies.{Claim, Evidence, IsKnown, HasName, HasTaken, HasKey, WritesKey, WasTold, LogStopped, WasFlushed, WasBase, TablesFailed, OtherCompacted, refusal_of, IsFresh, IsLoggedAt, WasUndecided, HadKey, IsBusy, IsNameTaken, OwnSays, PreparesAt, CommitsAt, RollsBackAt, IsFlushCount, IsCompactionCount, HasNothingToRenew, HasNothingToFlush, HasNothingToMerge, FailsFlush, FailsCompaction, FailsRenewal, IsHaltedAt, Condition, UnlessRefused}
+use Rattle.wp_replies.specs.Replies.{Claim, Evidence, IsKnown, HasName, HasTaken, HasKey, WritesKey, WasTold, LogStopped, WasFlushed, WasBase, TablesFailed, OtherCompacted, refusal_of, IsFresh, IsLoggedAt, WasUndecided, HadKey, IsBusy, IsNameTaken, OwnSays, PreparesAt, CommitsAt, RollsBackAt, IsFlushCount, IsCompactionCount, RenewsSomething, HasNothingToRenew, HasNothingToFlush, HasNothingToMerge, FailsFlush, FailsCompaction, FailsRenewal, IsHaltedAt, Condition, UnlessRefused}
 use Rattle.wp_replies.specs.Session.{IsSession}
 use Rattle.wp_replies.specs.Tables.{unflushed, after_flush, listed, after_compaction, after_renewal}
 
@@ -81,19 +81,19 @@ taken_more e more later f last name (inr claim) = inr (f (HasName name) claim)
 
 own_more : (h more : List Entry) (txn : Txn) (key : List ℕ) (said : Option (Option (List ℕ))) → OwnSays h txn key said → OwnSays (h ++ more) txn key said
 own_more h more Idle key said s = s
-own_more h more (Open name batch) key said s = s
+own_more h more (Open own) key said s = s
 own_more h more (Prepared p) key said s = (longer h more p s.0, ap (λ b. change_to b key) (batch_at_old h more p s.0) ∙ s.1)
 
 value_more : (h more : List Entry) (key : List ℕ) (n : ℕ) (value : Option (List ℕ)) → n ≤ length h → newest (take n h) key ≡ value → newest (take n (h ++ more)) key ≡ value
 value_more h more key n value le is = front_more (λ f. newest f key ≡ value) h more n le is
 
 prepares_more : (h more : List Entry) (last : ℕ) (txn : Txn) (n : ℕ) → PreparesAt h last txn n → PreparesAt (h ++ more) last txn n
-prepares_more h more last (Open name batch) n l = logged_more h more last n _ l
+prepares_more h more last (Open own) n l = logged_more h more last n _ l
 prepares_more h more last _ n l = absurd l
 
 commits_more : (h more : List Entry) (last : ℕ) (txn : Txn) (n : ℕ) → CommitsAt h last txn n → CommitsAt (h ++ more) last txn n
 commits_more h more last Idle n l = absurd l
-commits_more h more last (Open name batch) n l = logged_more h more last n _ l
+commits_more h more last (Open own) n l = logged_more h more last n _ l
 commits_more h more last (Prepared p) n l = logged_more h more last n _ l
 
 rolls_more : (h more : List Entry) (last : ℕ) (txn : Txn) (n : ℕ) → RollsBackAt h last txn n → RollsBackAt (h ++ more) last txn n
@@ -128,10 +128,10 @@ compaction_fails_more e more later last client f = record {
   at = f.at;
   fresh = fresh_more e.history more last f.at f.fresh;
   two = f.two;
-  snapshots = f.snapshots;
+  live = f.live;
   own = f.own;
   from_base = f.from_base;
-  edit = front_more (λ h. IfSome e.failed.edit (λ edit. edit ≡ after_compaction h (listed f.snapshots e.base e.installed) e.installed)) e.history more f.at f.fresh.1 f.edit;
+  edit = front_more (λ h. IfSome e.failed.edit (λ edit. edit ≡ after_compaction h (listed f.live e.base e.installed) e.installed)) e.history more f.at f.fresh.1 f.edit;
 }
 
 renewal_fails_more : (e : Evidence) (more : List Entry) (later : Claim → Bool) (last : ℕ) → FailsRenewal e last → FailsRenewal (grown e more later) last
@@ -155,6 +155,10 @@ compaction_count_more h more base n versions low le count = λ keys has.
 nothing_to_renew_more : (e : Evidence) (more : List Entry) (later : Claim → Bool) → KnowsMore e later → (last : ℕ) → HasNothingToRenew e last → HasNothingToRenew (grown e more later) last
 nothing_to_renew_more e more later f last (base, was, low) = (base, f (WasBase base) was, low)
 
+renews_more : (e : Evidence) (more : List Entry) (later : Claim → Bool) → KnowsMore e later → (progress : Progress) (c : Command) → RenewsSomething e progress c → RenewsSomething (grown e more later) progress c
+renews_more e more later f progress command.Renew k = record { at = k.at; fresh = fresh_more e.history more progress.last k.at k.fresh; base = k.base; based = f (WasBase k.base) k.based; risen = k.risen; behind = k.behind }
+renews_more e more later f progress other k = tt
+
 -- ---- the client
 
 -- the snapshots change as the labels do
@@ -172,7 +176,7 @@ snapshots_after p client c r = refl
 
 condition_more : (e : Evidence) (more : List Entry) (later : Claim → Bool) → e.base ≤ length e.history → KnowsMore e later → (progress : Progress) (client : Client) (p : ℕ) (c : Command) (r : Reply) → Condition e progress client p c r → Condition (grown e more later) progress client p c r
 condition_more e more later within f progress client p c (reply.Full published most) k = (k.0, fresh_more e.history more progress.last published k.1, k.2, k.3)
-condition_more e more later within f progress client p c reply.FaultLog k = k
+condition_more e more later within f progress client p c reply.FaultLog k = (k.0, renews_more e more later f progress c k.1)
 condition_more e more later within f progress client p c (reply.Stopped n) k = (k.0, fresh_more e.history more progress.last n k.1, f (LogStopped n) k.2)
 condition_more e more later within f progress client p (command.Put key value) (reply.Put n) k = (k.0, logged_more e.history more progress.last n _ k.1)
 condition_more e more later within f progress client p (command.Put key value) reply.Held k = k

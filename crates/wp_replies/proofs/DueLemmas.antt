@@ -72,10 +72,10 @@ change_allowed {client = client} {c = c} s change made plan_is refusal_is needs 
         let asked : plan (front s) client c ≡ change_plan (front s) Idle change made = plan_is ∙ ap (λ (t : Txn). change_plan (front s) t change made) is in
         let free : refusal_of client c ≡ None = refusal_is ∙ ap (λ (t : Txn). refuses_change t (key_of change)) is in
         on_holder (Log (entry.Write (change ∷ [])) made) asked free (λ log. one_allowed s (entry.Write (change ∷ [])) made log logs free (needs is) (asks is) (condition is))
-    by (Open name batch) is =
-        let asked : plan (front s) client c ≡ change_plan (front s) (Open name batch) change made = plan_is ∙ ap (λ (t : Txn). change_plan (front s) t change made) is in
-        let refuses : refusal_of client c ≡ refuses_change (Open name batch) (key_of change) = refusal_is ∙ ap (λ (t : Txn). refuses_change t (key_of change)) is in
-        elim (cases_Bool (has_no_room batch (key_of change))) [
+    by (Open own) is =
+        let asked : plan (front s) client c ≡ change_plan (front s) (Open own) change made = plan_is ∙ ap (λ (t : Txn). change_plan (front s) t change made) is in
+        let refuses : refusal_of client c ≡ refuses_change (Open own) (key_of change) = refusal_is ∙ ap (λ (t : Txn). refuses_change t (key_of change)) is in
+        elim (cases_Bool (has_no_room own.batch (key_of change))) [
           | inl full ↦ say_refused s reply.TooMany (rw full at asked) refl (rw full at refuses)
           | inr room ↦
               let free : refusal_of client c ≡ None = rw room at refuses in
@@ -91,7 +91,7 @@ own_in {client = client} s key = by client.txn s.txn
   where
     by : (txn : Txn) → TxnIsWithin s.from txn → OwnSays s.evidence.history txn key (change_to (own_batch (front s) txn) key)
     by Idle within = (tt, refl)
-    by (Open name batch) within = (tt, refl)
+    by (Open own) within = (tt, refl)
     by (Prepared p) within =
         let published : p ≤ length (front s) = omega (arith, front_size s, within, s.given.earlier) in
         let same : batch_at s.evidence.history p ≡ batch_at (front s) p = subst (λ (xs : List Entry). batch_at xs p ≡ batch_at (front s) p) (take-append-drop s.given.before s.evidence.history) (batch_at_old (front s) (drop s.given.before s.evidence.history) p published) in
@@ -165,7 +165,7 @@ begin_allowed {client = client} name s = by client.txn refl
 
     by : (txn : Txn) → client.txn ≡ txn → IsAllowed s
     by Idle is = by_holder (named (front s) name) refl is
-    by (Open other batch) is = say_refused s reply.State (ap (λ (t : Txn). begin_plan (front s) t name) is) refl (ap unless_idle is)
+    by (Open own) is = say_refused s reply.State (ap (λ (t : Txn). begin_plan (front s) t name) is) refl (ap unless_idle is)
     by (Prepared p) is = say_refused s reply.State (ap (λ (t : Txn). begin_plan (front s) t name) is) refl (ap unless_idle is)
 
 prepare_allowed : {client : Client} {answer : Reply} (s : Scene client command.Prepare answer) → IsAllowed s
@@ -173,7 +173,7 @@ prepare_allowed {client = client} s = by client.txn refl
   where
     by : (txn : Txn) → client.txn ≡ txn → IsAllowed s
     by Idle is = say_refused s reply.State (ap (prepare_plan (front s)) is) refl (ap unless_open is)
-    by (Open name batch) is = one_allowed s (entry.Prepare name batch) (reply.Prepared (next (front s))) (ap (prepare_plan (front s)) is) refl (ap unless_open is) (ap (λ (t : Txn). needed t command.Prepare) is) (subst (λ (t : Txn). AsksFor t command.Prepare (entry.Prepare name batch ∷ [])) (sym is) refl) (λ here. subst (λ (t : Txn). PreparesAt s.evidence.history s.progress.last t (next (front s))) (sym is) here)
+    by (Open own) is = one_allowed s (entry.Prepare own.name own.batch) (reply.Prepared (next (front s))) (ap (prepare_plan (front s)) is) refl (ap unless_open is) (ap (λ (t : Txn). needed t command.Prepare) is) (subst (λ (t : Txn). AsksFor t command.Prepare (entry.Prepare own.name own.batch ∷ [])) (sym is) refl) (λ here. subst (λ (t : Txn). PreparesAt s.evidence.history s.progress.last t (next (front s))) (sym is) here)
     by (Prepared p) is = say_refused s reply.State (ap (prepare_plan (front s)) is) refl (ap unless_open is)
 
 commit_allowed : {client : Client} {answer : Reply} (s : Scene client command.Commit answer) → IsAllowed s
@@ -181,7 +181,7 @@ commit_allowed {client = client} s = by client.txn refl
   where
     by : (txn : Txn) → client.txn ≡ txn → IsAllowed s
     by Idle is = say_refused s reply.State (ap (commit_plan (front s)) is) refl (ap if_idle is)
-    by (Open name batch) is = one_allowed s (entry.Write batch) (reply.Committed (next (front s))) (ap (commit_plan (front s)) is) refl (ap if_idle is) (ap (λ (t : Txn). needed t command.Commit) is) (subst (λ (t : Txn). AsksFor t command.Commit (entry.Write batch ∷ [])) (sym is) refl) (λ here. subst (λ (t : Txn). CommitsAt s.evidence.history s.progress.last t (next (front s))) (sym is) here)
+    by (Open own) is = one_allowed s (entry.Write own.batch) (reply.Committed (next (front s))) (ap (commit_plan (front s)) is) refl (ap if_idle is) (ap (λ (t : Txn). needed t command.Commit) is) (subst (λ (t : Txn). AsksFor t command.Commit (entry.Write own.batch ∷ [])) (sym is) refl) (λ here. subst (λ (t : Txn). CommitsAt s.evidence.history s.progress.last t (next (front s))) (sym is) here)
     by (Prepared p) is = one_allowed s (entry.Commit p) (reply.Committed (next (front s))) (ap (commit_plan (front s)) is) refl (ap if_idle is) (ap (λ (t : Txn). needed t command.Commit) is) (subst (λ (t : Txn). AsksFor t command.Commit (entry.Commit p ∷ [])) (sym is) refl) (λ here. subst (λ (t : Txn). CommitsAt s.evidence.history s.progress.last t (next (front s))) (sym is) here)
 
 rollback_allowed : {client : Client} {answer : Reply} (s : Scene client command.Rollback answer) → IsAllowed s
@@ -199,7 +199,7 @@ rollback_allowed {client = client} {answer = answer} s = by client.txn refl
 
     by : (txn : Txn) → client.txn ≡ txn → IsAllowed s
     by Idle is = say_refused s reply.State (ap (rollback_plan (front s)) is) refl (ap if_idle is)
-    by (Open name batch) is = say_allowed s reply.Dropped (ap (rollback_plan (front s)) is) refl (ap if_idle is) (subst TxnIsOpen (sym is) tt)
+    by (Open own) is = say_allowed s reply.Dropped (ap (rollback_plan (front s)) is) refl (ap if_idle is) (subst TxnIsOpen (sym is) tt)
     by (Prepared p) is = log_allowed s 2 (reply.RolledBack (next (front s) + 1)) (ap if_idle is) (ap (λ (t : Txn). needed t command.Rollback) is) (omega arith) (subst (λ (t : Txn). AsksFor t command.Rollback (asked_of (rollback_plan (front s) t))) (sym is) (prior (front s) (batch_at (front s) p), refl)) (ap (λ (t : Txn). reply_to (store_in s) client (rollback_plan (front s) t)) is) refl (λ answered. subst (λ (t : Txn). RollsBackAt s.evidence.history s.progress.last t (next (front s) + 1)) (sym is) (rolled p is answered))
 
 leave_allowed : {client : Client} {answer : Reply} (s : Scene client command.Leave answer) → IsAllowed s
@@ -207,7 +207,7 @@ leave_allowed {client = client} s = by client.txn refl
   where
     by : (txn : Txn) → client.txn ≡ txn → IsAllowed s
     by Idle is = say_refused s reply.State (ap leave_plan is) refl (ap unless_prepared is)
-    by (Open name batch) is = say_refused s reply.State (ap leave_plan is) refl (ap unless_prepared is)
+    by (Open own) is = say_refused s reply.State (ap leave_plan is) refl (ap unless_prepared is)
     by (Prepared p) is = say_allowed s reply.Left (ap leave_plan is) refl (ap unless_prepared is) tt
 
 take_allowed : {client : Client} {answer : Reply} (name : List ℕ) (s : Scene client (command.Take name) answer) → IsAllowed s
@@ -223,7 +223,7 @@ take_allowed {client = client} name s = by client.txn refl
 
     by : (txn : Txn) → client.txn ≡ txn → IsAllowed s
     by Idle is = by_holder (named (front s) name) refl is
-    by (Open other batch) is = say_refused s reply.State (ap (λ (t : Txn). take_plan (front s) t name) is) refl (ap unless_idle is)
+    by (Open own) is = say_refused s reply.State (ap (λ (t : Txn). take_plan (front s) t name) is) refl (ap unless_idle is)
     by (Prepared p) is = say_refused s reply.State (ap (λ (t : Txn). take_plan (front s) t name) is) refl (ap unless_idle is)
 
 -- ---- the board
@@ -266,12 +266,12 @@ due_allowed client (command.Hear label) answer s = hear_allowed label s
 
 staged_within : (n : ℕ) (txn : Txn) (change : Change) → TxnIsWithin n txn → TxnIsWithin n (with_staged txn change)
 staged_within n Idle change within = within
-staged_within n (Open name batch) change within = within
+staged_within n (Open own) change within = within
 staged_within n (Prepared p) change within = within
 
 txn_more : (n m : ℕ) (txn : Txn) → n ≤ m → TxnIsWithin n txn → TxnIsWithin m txn
 txn_more n m Idle le within = tt
-txn_more n m (Open name batch) le within = tt
+txn_more n m (Open own) le within = tt
 txn_more n m (Prepared p) le within = omega (arith, le, within)
 
 taken_within : (h : List Entry) (c : Command) → taken h c ≤ length h

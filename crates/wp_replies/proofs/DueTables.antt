@@ -1,5 +1,5 @@
 -- A reply to a flush, a compaction or a renewal that is due at a moment of a history is one that the table allows.
-use Rattle.std.proofs.Common.{◌≡◌, ℕ, zero, suc, ◌≤◌, ◌<◌, ◌⊎◌, true, false, true≢false, ◌==◌, eq-eqb, List, [], ◌∷◌, ◌++◌, length, take, drop, None, refl, sym, ap, ◌∙◌, subst, arith, inl, inr}
+use Rattle.std.proofs.Common.{◌≡◌, ℕ, zero, suc, ◌≤◌, ◌<◌, ◌⊎◌, Bool, true, false, true≢false, ◌==◌, eq-eqb, List, [], ◌∷◌, ◌++◌, length, take, drop, None, refl, sym, ap, ◌∙◌, subst, arith, inl, inr}
 use Rattle.std.specs.List.{AllByRecursion}
 use Rattle.std.specs.Prelude.{nat_lt}
 use Rattle.std.proofs.lemmas.Bool.{cases_Bool, cases_lt, or_cases, or_left, or_right, eqb-true, ltb-true, ltb-false}
@@ -21,9 +21,9 @@ use Rattle.wp_replies.specs.declared.client.LabelledSnapshot.{LabelledSnapshot}
 use Rattle.wp_replies.specs.declared.client.Txn.{Txn}
 use Rattle.wp_replies.specs.declared.client.Txn.TheVariants.{Idle, Open, Prepared}
 use Rattle.wp_replies.specs.Alike.{AreFrom}
-use Rattle.wp_replies.specs.Client.{Client, numbers_of}
+use Rattle.wp_replies.specs.Client.{Client, numbers_of, live_of}
 use Rattle.wp_replies.specs.Kind.{calls_log, is_fault, is_installed, is_tables_fault}
-use Rattle.wp_replies.specs.Replies.{LogStopped, OtherCompacted, IsKnown, refusal_of, AsksFor, FailsFlush, FailsCompaction, FailsRenewal, IsCompactionCount, HasNothingToMerge, IsHaltedAt}
+use Rattle.wp_replies.specs.Replies.{LogStopped, OtherCompacted, IsKnown, refusal_of, AsksFor, FailsFlush, FailsCompaction, FailsRenewal, HasMoreThanBase, IsCompactionCount, HasNothingToMerge, IsHaltedAt}
 use Rattle.wp_replies.specs.Due.{unless_halted, flushed, due, IsReply}
 use Rattle.wp_replies.specs.Tables.{unflushed, listed, retained}
 use Rattle.wp_replies.proofs.Below.{joined_from}
@@ -111,9 +111,9 @@ compaction_fails {client = client} s enough f =
       at = length (front s);
       fresh = front_fresh s;
       two = rw (← asked.1) (ltb-false _ _ enough);
-      snapshots = numbers_of client.snapshots;
+      live = live_of client;
       own = λ n is. is;
-      from_base = among_from s.evidence.base (numbers_of client.snapshots) (numbers_from s.evidence.base client.snapshots s.labels);
+      from_base = among_from s.evidence.base (live_of client) (numbers_from s.evidence.base client.snapshots s.labels);
       edit = rw (at_front s, ← asked.1) asked.0;
     }
 
@@ -143,7 +143,7 @@ compact_allowed {client = client} s =
     ]
   where
     numbers : List ℕ
-    numbers = listed (numbers_of client.snapshots) s.evidence.base s.given.devices.installed
+    numbers = listed (live_of client) s.evidence.base s.given.devices.installed
 
     kept : List Version
     kept = retained (front s) numbers s.given.devices.installed
@@ -158,11 +158,11 @@ compact_allowed {client = client} s =
         let stored = s.given.known.stored in
         let low : base ≤ s.given.before = omega (arith, s.based, s.low, s.given.earlier) in
         let there : HasKeysAt (front s) base keys = λ key value is. has key value (sym (value_in_front s.evidence.history key base s.given.before low) ∙ is) in
-        let all = joined_from base (numbers_of client.snapshots) (base ∷ s.given.devices.installed.segment.base ∷ []) (numbers_from base client.snapshots s.labels) (omega arith, (stored.from_base, tt)) in
+        let all = joined_from base (live_of client) (base ∷ s.given.devices.installed.segment.base ∷ []) (numbers_from base client.snapshots s.labels) (omega arith, (stored.from_base, tt)) in
         let bound = own_few (front s) (cut_at (front s) base) s.given.devices.installed.versions numbers keys stored.legal (record { within = stored.within; whole = stored.whole; is = refl }) stored.order
         (record {
           above = stored.within;
-          listed = among_back (numbers_of client.snapshots) (base ∷ s.given.devices.installed.segment.base ∷ []) base (or_left (base == base) (is_among (s.given.devices.installed.segment.base ∷ []) base) (eq-eqb base base refl));
+          listed = among_back (live_of client) (base ∷ s.given.devices.installed.segment.base ∷ []) base (or_left (base == base) (is_among (s.given.devices.installed.segment.base ∷ []) base) (eq-eqb base base refl));
           from_base = among_from base numbers all;
           part = λ key p value there. (stored.part key p value there).0;
           within = λ key p value there. (stored.part key p value there).1;
@@ -178,7 +178,7 @@ compact_allowed {client = client} s =
 -- it asks the log for no entry
 pub asks_none : (txn : Txn) (entries : List Entry) → entries ≡ [] → AsksFor txn command.Renew entries
 asks_none Idle entries none = none
-asks_none (Open name batch) entries none = none
+asks_none (Open own) entries none = none
 asks_none (Prepared p) entries none = none
 
 -- the base goes up
@@ -224,14 +224,25 @@ renew_allowed {client = client} {answer = answer} s = by_condition s refl (by s.
       ]
     ]
 
-    -- what installs an edit found another base
-    differs : is_installed (due (store_in s) client command.Renew) ≡ true → (s.given.devices.installed.segment.base == length (front s)) ≡ false
-    differs installs = elim (cases_Bool s.given.devices.halted) [
-      | inl failed ↦ let none : is_installed (reply.Halted s.given.devices.installed.flushed) ≡ true = rw failed at installs in absurd cc
+    more : (s.given.devices.installed.segment.base == length (front s)) ≡ false → HasMoreThanBase s.evidence s.progress
+    more other = record {
+      at = length (front s);
+      fresh = front_fresh s;
+      base = s.given.devices.installed.segment.base;
+      based = s.given.known.based;
+      risen = s.given.known.risen.0;
+      behind = base_below s other;
+    }
+
+    -- what installs an edit, or calls the log, found another base
+    differs : (is_such : Reply → Bool) → is_such (reply.Halted s.given.devices.installed.flushed) ≡ false → is_such (reply.Stopped (length (front s))) ≡ false → is_such reply.Nothing ≡ false
+        → is_such (due (store_in s) client command.Renew) ≡ true → (s.given.devices.installed.segment.base == length (front s)) ≡ false
+    differs is_such halted stopped nothing is = elim (cases_Bool s.given.devices.halted) [
+      | inl failed ↦ let such : is_such (reply.Halted s.given.devices.installed.flushed) ≡ true = rw failed at is in absurd (true≢false (sym such ∙ halted))
       | inr runs ↦ elim (cases_Bool s.given.devices.stopped) [
-        | inl closed ↦ let none : is_installed (reply.Stopped (length (front s))) ≡ true = rw (runs, closed) at installs in absurd cc
+        | inl closed ↦ let such : is_such (reply.Stopped (length (front s))) ≡ true = rw (runs, closed) at is in absurd (true≢false (sym such ∙ stopped))
         | inr open_ ↦ elim (cases_Bool (s.given.devices.installed.segment.base == length (front s))) [
-          | inl same ↦ let none : is_installed reply.Nothing ≡ true = rw (runs, open_, same) at installs in absurd cc
+          | inl same ↦ let such : is_such reply.Nothing ≡ true = rw (runs, open_, same) at is in absurd (true≢false (sym such ∙ nothing))
           | inr other ↦ other
         ]
       ]
@@ -239,5 +250,5 @@ renew_allowed {client = client} {answer = answer} s = by_condition s refl (by s.
 
     by : IsReply (store_in s) client command.Renew answer → ConditionOf s answer
     by (inl is) = by_due answer is
-    by (inr (inl failed)) = subst (ConditionOf s) (sym failed.0) (asks_none client.txn s.evidence.failed.entries (s.given.asked (ap is_fault failed.0)))
-    by (inr (inr failed)) = subst (ConditionOf s) (sym failed.0) (renewal_fails s (differs failed.1) (ap is_tables_fault failed.0))
+    by (inr (inl failed)) = subst (ConditionOf s) (sym failed.0) (asks_none client.txn s.evidence.failed.entries (s.given.asked (ap is_fault failed.0)), more (differs calls_log refl refl refl failed.1))
+    by (inr (inr failed)) = subst (ConditionOf s) (sym failed.0) (renewal_fails s (differs is_installed refl refl refl failed.1) (ap is_tables_fault failed.0))

@@ -6,15 +6,18 @@ use Rattle.std.proofs.lemmas.List.{take-append-drop}
 use Rattle.wp_model.specs.declared.entry.Entry.{Entry}
 use Rattle.wp_model.specs.History.{entry_at, newest, value_at}
 use Rattle.wp_text.specs.declared.script.Command.{Command}
+use Rattle.wp_text.specs.declared.script.Command.TheVariants as command
 use Rattle.wp_text.specs.declared.reply.Reply.{Reply}
 use Rattle.wp_text.specs.declared.reply.Reply.TheVariants as reply
+use Rattle.wp_replies.specs.declared.client.Txn.{Txn}
+use Rattle.wp_replies.specs.declared.client.Txn.TheVariants.{Idle, Open, Prepared}
 use Rattle.wp_replies.specs.declared.plan.Plan.{Plan}
 use Rattle.wp_replies.specs.declared.plan.Plan.TheVariants.{Say, Log}
 use Rattle.wp_replies.specs.Alike.{AreFrom}
 use Rattle.wp_replies.specs.Client.{Client, AreWithin}
-use Rattle.wp_replies.specs.Kind.{Kind, Logged, RolledBack, kind, is_logged, says_logged, is_fault, is_installed, says_installed, calls_log}
+use Rattle.wp_replies.specs.Kind.{Kind, Logged, kind, is_logged, says_logged, is_fault, is_installed, says_installed, calls_log}
 use Rattle.wp_replies.specs.Progress.{Progress}
-use Rattle.wp_replies.specs.Replies.{LogStopped, Evidence, IsKnown, refusal_of, IsFresh, IsLoggedAt, TxnIsWithin, needed, AsksFor, Condition, UnlessRefused, Allows}
+use Rattle.wp_replies.specs.Replies.{LogStopped, Evidence, IsKnown, refusal_of, IsFresh, IsLoggedAt, TxnIsWithin, needed, AsksFor, RenewsSomething, Condition, UnlessRefused, Allows}
 use Rattle.wp_replies.specs.Plan.{plan, asked_of, next}
 use Rattle.wp_replies.specs.Due.{Store, logged, reply_to, due, IsReply, logged_entries, taken}
 use Rattle.wp_replies.specs.Moments.{store_at, IsDueFrom}
@@ -126,8 +129,7 @@ board_allowed s made is plain free condition = by_condition s free (subst (Condi
 
 -- a reply that acknowledges entries tells of no edit
 logged_or_installed : (k : Kind) → says_logged k ≡ true → says_installed k ≡ true → ⊥
-logged_or_installed (Logged n) logs installs = absurd cc
-logged_or_installed (RolledBack n) logs installs = absurd cc
+logged_or_installed (Logged last count) logs installs = absurd cc
 logged_or_installed other logs installs = absurd cc
 
 logged_uninstalled : (store : Store) (count : ℕ) (made : Reply) → is_logged made ≡ true → is_installed (logged store count made) ≡ true → ⊥
@@ -139,6 +141,13 @@ logged_uninstalled store count made logs installs =
         | inr room ↦ logged_or_installed (kind made) logs (rw (runs, room) at installs)
       ]
     ]
+
+-- a command that needs an entry is no renewal
+pub needs_no_renewal : (e : Evidence) (progress : Progress) (txn : Txn) (c : Command) → 1 ≤ needed txn c → RenewsSomething e progress c
+needs_no_renewal e progress Idle command.Renew some = absurd (omega (arith, some))
+needs_no_renewal e progress (Open own) command.Renew some = absurd (omega (arith, some))
+needs_no_renewal e progress (Prepared p) command.Renew some = absurd (omega (arith, some))
+needs_no_renewal e progress txn other some = tt
 
 -- the log takes so many entries, and the reply is this one; or it refuses them
 pub log_allowed : {client : Client} {c : Command} {answer : Reply} (s : Scene client c answer) (count : ℕ) (made : Reply) → refusal_of client c ≡ None → needed client.txn c ≡ count → 1 ≤ count → AsksFor client.txn c (asked_of (plan (front s) client c))
@@ -167,7 +176,7 @@ log_allowed {client = client} {c = c} {answer = answer} s count made free needs 
 
     by : IsReply (store_in s) client c answer → ConditionOf s answer
     by (inl is) = on_log (is ∙ due_is)
-    by (inr (inl fault)) = subst (ConditionOf s) (sym fault.0) (subst (AsksFor client.txn c) (sym (s.given.asked (ap is_fault fault.0))) asks)
+    by (inr (inl fault)) = subst (ConditionOf s) (sym fault.0) (subst (AsksFor client.txn c) (sym (s.given.asked (ap is_fault fault.0))) asks, needs_no_renewal s.evidence s.progress client.txn c needs_some)
     by (inr (inr fault)) = let installs : is_installed (logged (store_in s) count made) ≡ true = subst (λ (r : Reply). is_installed r ≡ true) due_is fault.1 in absurd (logged_uninstalled (store_in s) count made logs installs)
 
 -- the entries of a reply that acknowledges them

@@ -31,7 +31,7 @@ IsPlainIfSome refusal = IfSome refusal (λ r. kind r ≡ Plain)
 
 change_plain : (txn : Txn) (key : List ℕ) → IsPlainIfSome (refuses_change txn key)
 change_plain Idle key = tt
-change_plain (Open name batch) key = elim (cases_Bool (has_no_room batch key)) [ inl full ↦ rw full refl | inr room ↦ rw room tt ]
+change_plain (Open own) key = elim (cases_Bool (has_no_room own.batch key)) [ inl full ↦ rw full refl | inr room ↦ rw room tt ]
 change_plain (Prepared p) key = refl
 
 labelled_plain : (number : Option ℕ) (label : List ℕ) → IsPlainIfSome (unless_labelled number label)
@@ -47,7 +47,7 @@ label_plain snapshots label =
 
 idle_plain : (txn : Txn) → IsPlainIfSome (unless_idle txn) × IsPlainIfSome (unless_open txn) × IsPlainIfSome (unless_prepared txn) × IsPlainIfSome (if_idle txn)
 idle_plain Idle = (tt, refl, refl, refl)
-idle_plain (Open name batch) = (refl, tt, refl, tt)
+idle_plain (Open own) = (refl, tt, refl, tt)
 idle_plain (Prepared p) = (refl, refl, tt, tt)
 
 pub refusal_plain : (client : Client) (c : Command) → IsPlainIfSome (refusal_of client c)
@@ -102,12 +102,12 @@ logged_fresh : (h : List Entry) (last n : ℕ) (e : Entry) → IsLoggedAt h last
 logged_fresh h last n e l = (omega (arith, l.0), entry_within h n e l.1)
 
 prepares_fresh : (h : List Entry) (last : ℕ) (txn : Txn) (n : ℕ) → PreparesAt h last txn n → IsFresh h last n
-prepares_fresh h last (Open name batch) n l = logged_fresh h last n _ l
+prepares_fresh h last (Open own) n l = logged_fresh h last n _ l
 prepares_fresh h last _ n l = absurd l
 
 commits_fresh : (h : List Entry) (last : ℕ) (txn : Txn) (n : ℕ) → CommitsAt h last txn n → IsFresh h last n
 commits_fresh h last Idle n l = absurd l
-commits_fresh h last (Open name batch) n l = logged_fresh h last n _ l
+commits_fresh h last (Open own) n l = logged_fresh h last n _ l
 commits_fresh h last (Prepared p) n l = logged_fresh h last n _ l
 
 rolls_fresh : (h : List Entry) (last : ℕ) (txn : Txn) (n : ℕ) → RollsBackAt h last txn n → IsFresh h last n
@@ -166,12 +166,12 @@ session_numbers e progress client (c ∷ cs) (r ∷ rs) (p, allowed, rest) = (
 -- ---- entries
 
 prepares_asked : (h : List Entry) (last : ℕ) (txn : Txn) (n : ℕ) → PreparesAt h last txn n → AreAsked h last txn command.Prepare (n ∷ [])
-prepares_asked h last (Open name batch) n l = ((_, l, refl), tt)
+prepares_asked h last (Open own) n l = ((_, l, refl), tt)
 prepares_asked h last _ n l = absurd l
 
 commits_asked : (h : List Entry) (last : ℕ) (txn : Txn) (n : ℕ) → CommitsAt h last txn n → AreAsked h last txn command.Commit (n ∷ [])
 commits_asked h last Idle n l = absurd l
-commits_asked h last (Open name batch) n l = ((_, l, refl), tt)
+commits_asked h last (Open own) n l = ((_, l, refl), tt)
 commits_asked h last (Prepared p) n l = ((_, l, refl), tt)
 
 rolls_asked : (h : List Entry) (last : ℕ) (txn : Txn) (n : ℕ) → RollsBackAt h last txn n → AreAsked h last txn command.Rollback (acknowledged (reply.RolledBack n))
@@ -197,7 +197,7 @@ asked_none h last txn c r plain = subst (AreAsked h last txn c) (sym (ap numbers
 -- only an idle client is answered `took`
 pub took_by_condition : (txn : Txn) (condition : Type 0) → UnlessRefused (unless_idle txn) reply.Took condition → condition
 took_by_condition Idle condition a = a
-took_by_condition (Open name batch) condition a = absurd cc
+took_by_condition (Open own) condition a = absurd cc
 took_by_condition (Prepared p) condition a = absurd cc
 
 allowed_takes : (e : Evidence) (progress : Progress) (client : Client) (p : ℕ) (c : Command) (r : Reply) → Allows e progress client p c r → Takes e.history progress.last p c r

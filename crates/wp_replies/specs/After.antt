@@ -14,7 +14,7 @@ use Rattle.wp_replies.specs.Client.{Client, without_label}
 
 -- an open transaction with one change more
 abbrev pub with_staged : Txn → Change → Txn
-with_staged (Open name batch) change = Open name (with_change batch change)
+with_staged (Open own) change = Open (record own { batch = with_change own.batch change })
 with_staged other change = other
 
 abbrev pub after_staged : Client → Command → Client
@@ -23,7 +23,7 @@ after_staged client (command.Del key) = record client { txn = with_staged client
 after_staged client other = client
 
 abbrev pub after_begun : Client → Command → Client
-after_begun client (command.Begin name) = record client { txn = Open name [] }
+after_begun client (command.Begin name) = record client { txn = Open (record { name = name; batch = [] }) }
 after_begun client other = client
 
 abbrev pub after_took : ℕ → Client → Command → Client

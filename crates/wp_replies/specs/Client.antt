@@ -27,6 +27,10 @@ number_of snapshots label = option_map (λ s. s.number) (find (λ s. bytes_eq s.
 abbrev pub numbers_of : List LabelledSnapshot → List ℕ
 numbers_of snapshots = map (λ s. s.number) snapshots
 
+-- the numbers at which the client may read: a compaction keeps what is shown there
+abbrev pub live_of : Client → List ℕ
+live_of client = numbers_of client.snapshots
+
 -- the snapshots but the one with that label
 abbrev pub without_label : List LabelledSnapshot → List ℕ → List LabelledSnapshot
 without_label snapshots label = filter (λ s. not (bytes_eq s.label label)) snapshots
@@ -34,7 +38,7 @@ without_label snapshots label = filter (λ s. not (bytes_eq s.label label)) snap
 -- what the client's own transaction has changed so far
 abbrev pub own_batch : List Entry → Txn → List Change
 own_batch history Idle = []
-own_batch history (Open name batch) = batch
+own_batch history (Open own) = own.batch
 own_batch history (Prepared p) = batch_at history p
 
 -- as many keys as a transaction may change are changed, and this is none of them

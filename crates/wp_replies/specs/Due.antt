@@ -12,7 +12,7 @@ use Rattle.wp_text.specs.declared.reply.Reply.{Reply}
 use Rattle.wp_text.specs.declared.reply.Reply.TheVariants as reply
 use Rattle.wp_replies.specs.declared.plan.Plan.{Plan}
 use Rattle.wp_replies.specs.declared.plan.Plan.TheVariants.{Say, Log, RollBack, Flush, Compact, Renew, Tell, Hear}
-use Rattle.wp_replies.specs.Client.{Client, numbers_of}
+use Rattle.wp_replies.specs.Client.{Client, live_of}
 use Rattle.wp_replies.specs.After.{after_reply}
 use Rattle.wp_replies.specs.Kind.{is_logged, is_installed, is_renewed, is_tables_fault, calls_log, stops_log}
 use Rattle.wp_replies.specs.Plan.{plan, asked_of}
@@ -46,15 +46,15 @@ abbrev pub flushed : ℕ → List Version → Reply
 flushed published [] = reply.Nothing
 flushed published (first ∷ others) = reply.Flushed published (length (first ∷ others))
 
--- the numbers that a compaction lists, where snapshots with these are live
+-- the numbers that a compaction lists, where these are live
 abbrev pub listed_in : Store → List ℕ → List ℕ
-listed_in store snapshots = listed snapshots store.base store.installed
+listed_in store live = listed live store.base store.installed
 
--- a compaction, where snapshots with these numbers are live; it takes two tables at least
+-- a compaction, where these numbers are live; it takes two tables at least
 abbrev pub compacted : Store → List ℕ → Reply
-compacted store snapshots =
+compacted store live =
     if nat_lt store.installed.tables 2 then reply.Nothing
-    else reply.Compacted (length store.history) (length (retained store.history (listed_in store snapshots) store.installed))
+    else reply.Compacted (length store.history) (length (retained store.history (listed_in store live) store.installed))
 
 -- a renewal, where the log does not begin behind the number published
 abbrev pub renewed : Store → Reply
@@ -72,7 +72,7 @@ reply_to store client (Say answer) = answer
 reply_to store client (Log entry answer) = logged store (length (asked_of (Log entry answer))) answer
 reply_to store client (RollBack p batch answer) = logged store (length (asked_of (RollBack p batch answer))) answer
 reply_to store client Flush = unless_halted store (flushed (length store.history) (unflushed store.history store.installed))
-reply_to store client Compact = unless_halted store (compacted store (numbers_of client.snapshots))
+reply_to store client Compact = unless_halted store (compacted store (live_of client))
 reply_to store client Renew = unless_halted store (renewed store)
 reply_to store client (Tell label) = reply.Told (length store.history)
 reply_to store client (Hear label) = heard (length store.history) (map.get store.board label) label
@@ -98,7 +98,7 @@ logged_entries store client command answer = if is_logged answer then asked_of (
 -- The edit that a plan has the tables take. A renewal puts the log's segment at a place that the history does not tell.
 abbrev pub edit_of : (place : ℕ) → Store → Client → Plan → InstalledEdit
 edit_of place store client Flush = after_flush store.history store.installed
-edit_of place store client Compact = after_compaction store.history (listed_in store (numbers_of client.snapshots)) store.installed
+edit_of place store client Compact = after_compaction store.history (listed_in store (live_of client)) store.installed
 edit_of place store client Renew = after_renewal store.history place store.installed
 edit_of place store client other = store.installed
 

@@ -1,13 +1,12 @@
 -- What a reply says of the history: the one list of all replies that say something.
-use Rattle.std.specs.Prelude.{ℕ, suc, ◌-◌, ◌==◌, ◌||◌, Bool, true, false, List, [], ◌∷◌, Option, Some, None, min, unwrap_or}
+use Rattle.std.specs.Prelude.{ℕ, zero, suc, ◌-◌, ◌==◌, ◌||◌, Bool, true, false, List, [], ◌∷◌, ◌++◌, Option, Some, None, min, unwrap_or}
 use Rattle.wp_text.specs.declared.script.Command.{Command}
 use Rattle.wp_text.specs.declared.script.Command.TheVariants as command
 use Rattle.wp_text.specs.declared.reply.Reply.{Reply}
 use Rattle.wp_text.specs.declared.reply.Reply.TheVariants as reply
 
 pub data Kind : Type 0 where
-  Logged : ℕ → Kind  -- it acknowledges the entry with this number
-  RolledBack : ℕ → Kind  -- it acknowledges an Undo, and its Close, which has this number
+  Logged : (last count : ℕ) → Kind  -- it acknowledges so many entries of one record, and the last one has this number
   Published : ℕ → Kind  -- it was given over so many entries
   LogFault : Kind  -- the log's device failed
   Stopped : Kind  -- the log was stopped before
@@ -19,11 +18,11 @@ pub data Kind : Type 0 where
   Plain : Kind  -- it speaks of no entry
 
 abbrev pub kind : Reply → Kind
-kind (reply.Put n) = Logged n
-kind (reply.Del n) = Logged n
-kind (reply.Prepared n) = Logged n
-kind (reply.Committed n) = Logged n
-kind (reply.RolledBack n) = RolledBack n
+kind (reply.Put n) = Logged n 1
+kind (reply.Del n) = Logged n 1
+kind (reply.Prepared n) = Logged n 1
+kind (reply.Committed n) = Logged n 1
+kind (reply.RolledBack n) = Logged n 2
 kind (reply.Got value n) = Published n
 kind (reply.Missing n) = Published n
 kind (reply.Snapped n) = Published n
@@ -39,9 +38,13 @@ kind reply.FaultTables = TablesFault
 kind (reply.Halted flushed) = Halted
 kind other = Plain
 
+-- so many numbers in a row, of which this is the last one
+abbrev pub numbers_to : (last count : ℕ) → List ℕ
+numbers_to last zero = []
+numbers_to last (suc count) = numbers_to (last - 1) count ++ last ∷ []
+
 abbrev pub numbers_logged : Kind → List ℕ
-numbers_logged (Logged n) = n ∷ []
-numbers_logged (RolledBack n) = (n - 1) ∷ n ∷ []
+numbers_logged (Logged last count) = numbers_to last count
 numbers_logged other = []
 
 -- the numbers of the entries that a reply acknowledges
@@ -49,8 +52,7 @@ abbrev pub acknowledged : Reply → List ℕ
 acknowledged answer = numbers_logged (kind answer)
 
 abbrev pub says_logged : Kind → Bool
-says_logged (Logged n) = true
-says_logged (RolledBack n) = true
+says_logged (Logged last count) = true
 says_logged other = false
 
 -- it acknowledges entries
@@ -150,8 +152,7 @@ abbrev pub is_halted : Reply → Bool
 is_halted answer = says_halted (kind answer)
 
 abbrev pub number_of_kind : Kind → Option ℕ
-number_of_kind (Logged n) = Some n
-number_of_kind (RolledBack n) = Some n
+number_of_kind (Logged last count) = Some last
 number_of_kind (Published n) = Some n
 number_of_kind (Flushed n) = Some n
 number_of_kind (Compacted n versions) = Some n

@@ -80,7 +80,7 @@ changes_key key command = false
 
 -- it was answered `held` for the key, in the open transaction of that name
 abbrev pub stages_key : (name key : List ℕ) → Txn → Command → Option Reply → Bool
-stages_key name key (Open own batch) command (Some reply.Held) = bytes_eq own name && changes_key key command
+stages_key name key (Open own) command (Some reply.Held) = bytes_eq own.name name && changes_key key command
 stages_key name key txn command answer = false
 
 -- it writes the key at once, and is not answered that somebody else holds it

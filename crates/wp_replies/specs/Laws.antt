@@ -92,8 +92,8 @@ FreshNumbersNeverFall = (evidence : Evidence) (progress : Progress) (client : Cl
 abbrev pub AsksLog : Txn → Command → Entry → Type 0
 AsksLog Idle (command.Put key value) e = e ≡ entry.Write (change.Put key value ∷ [])
 AsksLog Idle (command.Del key) e = e ≡ entry.Write (change.Del key ∷ [])
-AsksLog (Open name batch) command.Prepare e = e ≡ entry.Prepare name batch
-AsksLog (Open name batch) command.Commit e = e ≡ entry.Write batch
+AsksLog (Open own) command.Prepare e = e ≡ entry.Prepare own.name own.batch
+AsksLog (Open own) command.Commit e = e ≡ entry.Write own.batch
 AsksLog (Prepared p) command.Commit e = e ≡ entry.Commit p
 AsksLog (Prepared p) command.Rollback e = (e ≡ entry.Close p) ⊎ ((batch : List Change) × (e ≡ entry.Undo p batch))
 AsksLog txn command e = ⊥

@@ -88,18 +88,18 @@ abbrev pub begin_plan : List Entry → Txn → List ℕ → Plan
 begin_plan history txn name = refused_or (unless_idle txn) (Say (begin_reply (named history name) name))
 
 abbrev pub prepare_plan : List Entry → Txn → Plan
-prepare_plan history (Open name batch) = Log (entry.Prepare name batch) (reply.Prepared (next history))
+prepare_plan history (Open own) = Log (entry.Prepare own.name own.batch) (reply.Prepared (next history))
 prepare_plan history other = Say reply.State
 
 abbrev pub commit_plan : List Entry → Txn → Plan
 commit_plan history Idle = Say reply.State
-commit_plan history (Open name batch) = Log (entry.Write batch) (reply.Committed (next history))
+commit_plan history (Open own) = Log (entry.Write own.batch) (reply.Committed (next history))
 commit_plan history (Prepared p) = Log (entry.Commit p) (reply.Committed (next history))
 
 -- a rollback of a prepared transaction is answered with the number of its Close
 abbrev pub rollback_plan : List Entry → Txn → Plan
 rollback_plan history Idle = Say reply.State
-rollback_plan history (Open name batch) = Say reply.Dropped
+rollback_plan history (Open own) = Say reply.Dropped
 rollback_plan history (Prepared p) = RollBack p (prior history (batch_at history p)) (reply.RolledBack (next history + 1))
 
 abbrev pub leave_plan : Txn → Plan

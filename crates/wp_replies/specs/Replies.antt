@@ -21,7 +21,7 @@ use Rattle.wp_replies.specs.declared.client.TheConstants.{MOST_SNAPSHOTS}
 use Rattle.wp_replies.specs.declared.client.LabelledSnapshot.{LabelledSnapshot}
 use Rattle.wp_replies.specs.declared.client.Txn.{Txn}
 use Rattle.wp_replies.specs.declared.client.Txn.TheVariants.{Idle, Open, Prepared}
-use Rattle.wp_replies.specs.Client.{Client, number_of, numbers_of, own_batch, has_no_room}
+use Rattle.wp_replies.specs.Client.{Client, number_of, live_of, own_batch, has_no_room}
 use Rattle.wp_replies.specs.Kind.{is_renewal}
 use Rattle.wp_replies.specs.Progress.{Progress, knows_label}
 use Rattle.wp_replies.specs.Tables.{unflushed, after_flush, listed, after_compaction, after_renewal}
@@ -68,7 +68,7 @@ IsKnown evidence claim = evidence.known claim ≡ true
 
 abbrev pub refuses_change : Txn → List ℕ → Option Reply
 refuses_change Idle key = None
-refuses_change (Open name batch) key = if has_no_room batch key then Some reply.TooMany else None
+refuses_change (Open own) key = if has_no_room own.batch key then Some reply.TooMany else None
 refuses_change (Prepared p) key = Some reply.State
 
 abbrev pub unless_idle : Txn → Option Reply
@@ -76,7 +76,7 @@ unless_idle Idle = None
 unless_idle other = Some reply.State
 
 abbrev pub unless_open : Txn → Option Reply
-unless_open (Open name batch) = None
+unless_open (Open own) = None
 unless_open other = Some reply.State
 
 abbrev pub unless_prepared : Txn → Option Reply
@@ -153,7 +153,7 @@ IsNameTaken evidence last name = ((p : ℕ) × WasUndecided evidence.history las
 -- ---- what a row says of the client
 
 abbrev pub TxnIsOpen : Txn → Type 0
-TxnIsOpen (Open name batch) = Unit {0}
+TxnIsOpen (Open own) = Unit {0}
 TxnIsOpen other = ⊥
 
 -- the number of a prepared transaction is at most n
@@ -173,8 +173,8 @@ IsSnapshot history client label n = (number_of client.snapshots label ≡ Some n
 abbrev pub needed : Txn → Command → ℕ
 needed Idle (command.Put key value) = 1
 needed Idle (command.Del key) = 1
-needed (Open name batch) command.Prepare = 1
-needed (Open name batch) command.Commit = 1
+needed (Open own) command.Prepare = 1
+needed (Open own) command.Commit = 1
 needed (Prepared p) command.Commit = 1
 needed (Prepared p) command.Rollback = 2
 needed txn other = 0
@@ -187,8 +187,8 @@ IsOfLog txn command = (1 ≤ needed txn command) ⊎ (is_renewal command ≡ tru
 abbrev pub AsksFor : Txn → Command → List Entry → Type 0
 AsksFor Idle (command.Put key value) entries = entries ≡ entry.Write (change.Put key value ∷ []) ∷ []
 AsksFor Idle (command.Del key) entries = entries ≡ entry.Write (change.Del key ∷ []) ∷ []
-AsksFor (Open name batch) command.Prepare entries = entries ≡ entry.Prepare name batch ∷ []
-AsksFor (Open name batch) command.Commit entries = entries ≡ entry.Write batch ∷ []
+AsksFor (Open own) command.Prepare entries = entries ≡ entry.Prepare own.name own.batch ∷ []
+AsksFor (Open own) command.Commit entries = entries ≡ entry.Write own.batch ∷ []
 AsksFor (Prepared p) command.Commit entries = entries ≡ entry.Commit p ∷ []
 AsksFor (Prepared p) command.Rollback entries = (batch : List Change) × (entries ≡ entry.Undo p batch ∷ entry.Close p ∷ [])
 AsksFor txn command.Renew entries = entries ≡ []
@@ -200,6 +200,21 @@ AsksFor txn other entries = ⊥
 abbrev pub IsLimit : Evidence → (base : ℕ) → ℕ → Type 0
 IsLimit evidence base most = ((most ≡ evidence.limits.opened) × (base ≡ evidence.base)) ⊎ (most ≡ evidence.limits.renewed)
 
+-- There was something to renew when so many entries were published, and the client had seen nothing later: the base was below that
+-- number, and no lower than the client knows of.
+pub record HasMoreThanBase (evidence : Evidence) (progress : Progress) : Type 0 where
+  pub at : ℕ
+  pub fresh : IsFresh evidence.history progress.last at
+  pub base : ℕ
+  pub based : IsKnown evidence (WasBase base)
+  pub risen : progress.base ≤ base
+  pub behind : base < at
+
+-- ... where the command is a renewal; of others nothing is asked
+abbrev pub RenewsSomething : Evidence → Progress → Command → Type 0
+RenewsSomething evidence progress command.Renew = HasMoreThanBase evidence progress
+RenewsSomething evidence progress other = Unit {0}
+
 -- Nothing was to be renewed: what the client had seen goes no further than a number that was the base.
 abbrev pub HasNothingToRenew : Evidence → ℕ → Type 0
 HasNothingToRenew evidence last = (base : ℕ) × IsKnown evidence (WasBase base) × (last ≤ base)
@@ -207,13 +222,13 @@ HasNothingToRenew evidence last = (base : ℕ) × IsKnown evidence (WasBase base
 -- ---- transactions in the log
 
 abbrev pub PreparesAt : List Entry → ℕ → Txn → ℕ → Type 0
-PreparesAt history last (Open name batch) n = IsLoggedAt history last n (entry.Prepare name batch)
+PreparesAt history last (Open own) n = IsLoggedAt history last n (entry.Prepare own.name own.batch)
 PreparesAt history last other n = ⊥
 
 -- from an open transaction all of its changes are one Write
 abbrev pub CommitsAt : List Entry → ℕ → Txn → ℕ → Type 0
 CommitsAt history last Idle n = ⊥
-CommitsAt history last (Open name batch) n = IsLoggedAt history last n (entry.Write batch)
+CommitsAt history last (Open own) n = IsLoggedAt history last n (entry.Write own.batch)
 CommitsAt history last (Prepared p) n = IsLoggedAt history last n (entry.Commit p)
 
 -- n is the number of the Close, right after its Undo
@@ -250,15 +265,15 @@ pub record FailsFlush (evidence : Evidence) (last : ℕ) : Type 0 where
   pub some : 1 ≤ length (unflushed (take at evidence.history) evidence.installed)
   pub edit : IfSome evidence.failed.edit (λ edit. edit ≡ after_flush (take at evidence.history) evidence.installed)
 
--- It is a compaction's: of what readers needed then, with the client's snapshots or more of them, none of which is from below the base.
+-- It is a compaction's: of what readers needed then, at the client's live numbers and perhaps at more, none of which is below the base.
 pub record FailsCompaction (evidence : Evidence) (last : ℕ) (client : Client) : Type 0 where
   pub at : ℕ
   pub fresh : IsFresh evidence.history last at
   pub two : 2 ≤ evidence.installed.tables
-  pub snapshots : List ℕ
-  pub own : (n : ℕ) → list_any (λ m. m == n) (numbers_of client.snapshots) ≡ true → list_any (λ m. m == n) snapshots ≡ true
-  pub from_base : (n : ℕ) → list_any (λ m. m == n) snapshots ≡ true → evidence.base ≤ n
-  pub edit : IfSome evidence.failed.edit (λ edit. edit ≡ after_compaction (take at evidence.history) (listed snapshots evidence.base evidence.installed) evidence.installed)
+  pub live : List ℕ
+  pub own : (n : ℕ) → list_any (λ m. m == n) (live_of client) ≡ true → list_any (λ m. m == n) live ≡ true
+  pub from_base : (n : ℕ) → list_any (λ m. m == n) live ≡ true → evidence.base ≤ n
+  pub edit : IfSome evidence.failed.edit (λ edit. edit ≡ after_compaction (take at evidence.history) (listed live evidence.base evidence.installed) evidence.installed)
 
 -- It is a renewal's, where the number published then was above the log's base.
 pub record FailsRenewal (evidence : Evidence) (last : ℕ) : Type 0 where
@@ -278,7 +293,7 @@ IsHaltedAt evidence flushed = (flushed ≡ evidence.installed.flushed) × IsKnow
 -- `freed`, `begun`, `dropped` and `left` the client's state alone decides.
 abbrev pub Condition : Evidence → Progress → Client → ℕ → Command → Reply → Type 0
 Condition evidence progress client p command (reply.Full published most) = (1 ≤ needed client.txn command) × IsFresh evidence.history progress.last published × IsLimit evidence progress.base most × (most < published + needed client.txn command)
-Condition evidence progress client p command reply.FaultLog = AsksFor client.txn command evidence.failed.entries
+Condition evidence progress client p command reply.FaultLog = AsksFor client.txn command evidence.failed.entries × RenewsSomething evidence progress command
 Condition evidence progress client p command (reply.Stopped n) = IsOfLog client.txn command × IsFresh evidence.history progress.last n × IsKnown evidence (LogStopped n)
 Condition evidence progress client p (command.Put key value) (reply.Put n) = (client.txn ≡ Idle) × IsLoggedAt evidence.history progress.last n (entry.Write (change.Put key value ∷ []))
 Condition evidence progress client p (command.Put key value) reply.Held = TxnIsOpen client.txn

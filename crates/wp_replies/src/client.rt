@@ -3,12 +3,17 @@ use wp_model::{Batch, Name, Seq};
 /// How many snapshots a client may have at once.
 pub const MOST_SNAPSHOTS: usize = 64;
 
+/// An open transaction: the name that it is begun under, and what it has changed so far.
+pub struct Staged {
+    pub name: Name,
+    pub batch: Batch,
+}
+
 /// A client's transaction.
 pub enum Txn {
     /// None is begun.
     Idle,
-    /// One is begun under this name, and has changed so much.
-    Open(Name, Batch),
+    Open(Staged),
     /// One is prepared, by the entry with this number.
     Prepared(Seq),
 }

@@ -5,12 +5,12 @@
 //! it, and `specs/Due.antt` what the reply leaves. The laws tie the exact replies to the table, and say what follows from the
 //! table for reads and for acknowledged entries.
 //!
-//! It has definitions and laws alone: `Txn`, `LabelledSnapshot` and `Plan` stand in clauses, and nothing makes one.
+//! It has definitions and laws alone: `Txn`, `Staged`, `LabelledSnapshot` and `Plan` stand in clauses, and nothing makes one.
 #![tactic(auto)]
 
 mod client;
 pub mod laws;
 mod plan;
 
-pub use client::{LabelledSnapshot, MOST_SNAPSHOTS, Txn};
+pub use client::{LabelledSnapshot, MOST_SNAPSHOTS, Staged, Txn};
 pub use plan::Plan;

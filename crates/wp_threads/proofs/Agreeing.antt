@@ -27,23 +27,22 @@ use Rattle.wp_core.specs.Views.{Account, own, another, prepare_at, Event, claime
 use Rattle.wp_core.specs.World.{Participant}
 use Rattle.wp_rule.proofs.Knows.{one_was_first}
 use Rattle.wp_shared.specs.Limits.{WasOpenedAt}
-use Rattle.wp_shared.specs.Parts.{content}
-use Rattle.wp_shared.specs.Devices.{DevicesLeft}
+use Rattle.wp_parts.specs.Parts.{content}
+use Rattle.wp_parts.specs.Devices.{DevicesLeft}
 use Rattle.wp_shared.specs.Ended.{IsEnded, of_seats}
-use Rattle.wp_shared.specs.Ending.{participant_of}
-use Rattle.wp_shared.specs.Seats.{SharedState, SeatState}
+use Rattle.wp_shared.specs.Seats.{participant_of, SharedState, SeatState}
 use Rattle.wp_replies.specs.declared.client.Txn as session_txn
 use Rattle.wp_replies.specs.Client.{new_client}
 use Rattle.wp_replies.specs.Explains.{dialogues, judged_by}
 use Rattle.wp_replies.specs.Kind.{is_flushed, is_based, is_compacted}
 use Rattle.wp_replies.specs.Known.{Dialogue, has_stop, answers_in, comes_to, gets_name, takes_name, stages_key, writes_key, tells}
 use Rattle.wp_replies.specs.Replies.{WasTold, WasFlushed, WasBase, TablesFailed, OtherCompacted, Evidence, IsKnown}
-use Rattle.wp_answers.specs.Alone.{limits_of}
-use Rattle.wp_answers.specs.Agrees.{IsAnother, IsPrepares, KnowsHolder, Knows, Agrees}
+use Rattle.wp_client.specs.Alone.{limits_of}
+use Rattle.wp_client.specs.Agrees.{IsAnother, IsPrepares, KnowsHolder, Knows, Agrees}
 use Rattle.wp_threads.specs.Explained.{found_in, left_in, failed_in}
 use Rattle.wp_threads.specs.Over.{Answered, AreOver, replies_of}
 use Rattle.wp_threads.specs.SoFar.{IsFound}
-use Rattle.wp_core.proofs.Tests.{same_some}
+use Rattle.wp_model.proofs.Tests.{same_some}
 use Rattle.wp_threads.proofs.Coming.{comes_wider, comes_answered, renewal_answered, answers_any}
 use Rattle.wp_threads.proofs.Doings.{Did, did, took_name, wrote_key}
 use Rattle.wp_threads.proofs.Lists.{or_left, or_right, both_so, at_map, any_at, any_other, any_filter}

@@ -13,21 +13,21 @@ use Rattle.wp_replies.specs.declared.client.Txn.TheVariants.{Idle, Open, Prepare
 use Rattle.wp_replies.specs.After.{with_staged, after_reply}
 use Rattle.wp_replies.specs.Client.{Client}
 use Rattle.wp_replies.specs.Known.{gets_name, takes_name, tells}
-use Rattle.wp_answers.specs.Answers.{IsExplained}
+use Rattle.wp_client.specs.Answers.{IsExplained}
 use Rattle.wp_threads.specs.SoFar.{IsAlike}
 
 alike_same : (t : Txn) → IsAlike t t
 alike_same Idle = refl
-alike_same (Open name batch) = refl
+alike_same (Open own) = refl
 alike_same (Prepared p) = tt
 
 -- what is so of the same, and of prepared ones, is so of those that are alike
 alike_by : (Q : Txn → Txn → Type 0) → ((t : Txn) → Q t t) → ((p q : ℕ) → Q (Prepared p) (Prepared q)) → (t u : Txn) → IsAlike t u → Q t u
 alike_by Q same both Idle u alike = subst (Q Idle) alike (same Idle)
-alike_by Q same both (Open name batch) u alike = subst (Q (Open name batch)) alike (same (Open name batch))
+alike_by Q same both (Open own) u alike = subst (Q (Open own)) alike (same (Open own))
 alike_by Q same both (Prepared p) (Prepared q) alike = both p q
 alike_by Q same both (Prepared p) Idle alike = subst (Q (Prepared p)) alike (same (Prepared p))
-alike_by Q same both (Prepared p) (Open name batch) alike = subst (Q (Prepared p)) alike (same (Prepared p))
+alike_by Q same both (Prepared p) (Open own) alike = subst (Q (Prepared p)) alike (same (Prepared p))
 
 staged_alike : (change : _) (t u : Txn) → IsAlike t u → IsAlike (with_staged t change) (with_staged u change)
 staged_alike change t u alike = alike_by (λ x y. IsAlike (with_staged x change) (with_staged y change)) (λ x. alike_same (with_staged x change)) (λ p q. tt) t u alike

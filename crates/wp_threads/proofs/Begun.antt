@@ -13,8 +13,8 @@ use Rattle.wp_shared.specs.Seats.{SharedState, SeatState}
 use Rattle.wp_replies.specs.Client.{new_client}
 use Rattle.wp_replies.specs.Current.{opened_store}
 use Rattle.wp_replies.specs.Known.{StoredState, known_at_first}
-use Rattle.wp_answers.specs.Alone.{log_faults, device_faults, tables_faults, limits_of, IsStoreOf}
-use Rattle.wp_answers.specs.Holdings.{times_registered, no_holdings, Holds}
+use Rattle.wp_client.specs.Alone.{log_faults, device_faults, tables_faults, limits_of, IsStoreOf}
+use Rattle.wp_client.specs.Holdings.{times_registered, no_holdings, Holds}
 use Rattle.wp_seats.specs.New.{IsNew}
 use Rattle.wp_threads.specs.SoFar.{IsFound, IsSessionTo, IsExplainedTo, RanAlone, IsSessionSoFar}
 

@@ -7,13 +7,13 @@ use Rattle.std.proofs.lemmas.List.Concat.{flat_map-cons}
 use Rattle.std.proofs.lemmas.List.Folds.{list_any-append}
 use Rattle.wp_text.specs.declared.script.Command.{Command}
 use Rattle.wp_text.specs.declared.reply.Reply.{Reply}
-use Rattle.wp_core.proofs.Tests.{both}
+use Rattle.wp_model.proofs.Tests.{both}
 use Rattle.wp_replies.specs.declared.client.Txn.{Txn}
 use Rattle.wp_replies.specs.Client.{Client}
 use Rattle.wp_replies.specs.After.{after_reply}
 use Rattle.wp_replies.specs.Kind.{is_based, is_flushed}
-use Rattle.wp_replies.specs.Known.{Dialogue, answers_in, comes_to, exchanges}
-use Rattle.wp_answers.specs.Answers.{is_answer}
+use Rattle.wp_replies.specs.Known.{Dialogue, answers_in, comes_to}
+use Rattle.wp_client.specs.Answers.{is_answer}
 use Rattle.wp_threads.proofs.Lists.{or_left, or_right, any_wider}
 
 -- in such a state, to such a command, with such a reply or none
@@ -44,15 +44,6 @@ comes_answered p client (c ∷ commands) [] is = absurd (true≢false (sym is))
 comes_answered p client (c ∷ commands) (a ∷ answers) is = elim (or_cases (p a) (comes_to (λ t d r. is_answer p r) (after_reply 0 client c a) commands answers) is) [
   | inl here ↦ or_left (p a) (list_any p answers) here
   | inr later ↦ or_right (p a) (list_any p answers) (comes_answered p (after_reply 0 client c a) commands answers later)
-]
-
--- likewise a command that was answered so
-pub comes_exchanged : (p : Command → Reply → Bool) (client : Client) (commands : List Command) (answers : List Reply) → comes_to (λ t c a. is_answer (p c) a) client commands answers ≡ true → list_any (λ (x : Command × Reply). p x.0 x.1) (exchanges commands answers) ≡ true
-comes_exchanged p client [] answers is = absurd (true≢false (sym is))
-comes_exchanged p client (c ∷ commands) [] is = absurd (true≢false (sym is))
-comes_exchanged p client (c ∷ commands) (a ∷ answers) is = elim (or_cases (p c a) (comes_to (λ t d r. is_answer (p d) r) (after_reply 0 client c a) commands answers) is) [
-  | inl here ↦ or_left (p c a) (list_any (λ (x : Command × Reply). p x.0 x.1) (exchanges commands answers)) here
-  | inr later ↦ or_right (p c a) (list_any (λ (x : Command × Reply). p x.0 x.1) (exchanges commands answers)) (comes_exchanged p (after_reply 0 client c a) commands answers later)
 ]
 
 -- a renewal is among the replies, which tells its base and the flushed number from then on

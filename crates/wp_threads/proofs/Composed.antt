@@ -14,17 +14,18 @@ use Rattle.wp_core.specs.Lists.{IsIn, one_if, total}
 use Rattle.wp_core.specs.Sound.Pasts.{IsPast, closes_log, is_log_fault, is_tables_fault, times_past, past_of}
 use Rattle.wp_core.specs.Views.{Event, log_failed, log_stopped, stopped, found_edit}
 use Rattle.wp_core.specs.World.{Participant}
-use Rattle.wp_shared.specs.Devices.{DevicesLeft}
+use Rattle.wp_parts.specs.Devices.{DevicesLeft}
 use Rattle.wp_shared.specs.Ended.{IsEnded, of_seats}
-use Rattle.wp_shared.specs.Ending.{AreAll, participant_of}
-use Rattle.wp_shared.specs.Seats.{SharedState, SeatState}
+use Rattle.wp_shared.specs.Ending.{AreAll}
+use Rattle.wp_shared.specs.Seats.{SharedState, SeatState, participant_of}
 use Rattle.wp_replies.specs.Exact.{IsExact}
 use Rattle.wp_replies.specs.Explains.{Faults, dialogue, dialogues, all_replies, all_exchanges, AreFirstParts, AreSessions, Explains}
 use Rattle.wp_replies.specs.Kind.{is_fault, is_stopped, is_halted}
 use Rattle.wp_replies.specs.Kind as kinds
 use Rattle.wp_replies.specs.Known.{StoredState, Dialogue, answers_in, is_stop, has_stop}
-use Rattle.wp_answers.specs.Alone.{limits_of}
-use Rattle.wp_answers.specs.Answers.{IsRemembered}
+use Rattle.wp_client.specs.Alone.{limits_of}
+use Rattle.wp_client.specs.Answers.{IsRemembered}
+use Rattle.wp_client.specs.Holdings.{no_holdings, Holds}
 use Rattle.wp_threads.specs.Explained.{is_log_stop, found_in, left_in, failed_in, faults_in, AreWholeParts, HaveRun}
 use Rattle.wp_threads.specs.Over.{Answered, AreOver, replies_of}
 use Rattle.wp_threads.proofs.Agreeing.{agrees}
@@ -33,6 +34,14 @@ use Rattle.wp_threads.proofs.Exact.{exact}
 use Rattle.wp_threads.proofs.LastEdit.{last_edit}
 use Rattle.wp_threads.proofs.Lists.{count_any, counted_in}
 use Rattle.wp_threads.proofs.Stops.{firsts, stops_weighed, stop_said}
+
+-- ---- what the seats hold
+
+hold_nothing : {D : Type 0} (z : SharedState D) (found : StoredState) (parts : List Part) (answered : List Answered) (seats : List SeatState) → AreOver z found parts answered seats → (s : SeatState) → IsIn s seats → Holds z s no_holdings
+hold_nothing z found [] [] [] over s there = absurd there
+hold_nothing z found (p ∷ parts) (a ∷ answered) (t ∷ seats) over s (inl same) = subst (λ (x : SeatState). Holds z x no_holdings) same over.0.holds
+hold_nothing z found (p ∷ parts) (a ∷ answered) (t ∷ seats) over s (inr there) = hold_nothing z found parts answered seats over.1 s there
+hold_nothing z found _ _ _ over s there = absurd over
 
 -- ---- the commands that ran
 
@@ -210,6 +219,7 @@ module _ {D : Type 0} {z : SharedState D} {seats : List SeatState} {history : Li
   have_run all = record {
     seats = seats;
     ended = ended;
+    empty = hold_nothing z (found_in ended) parts answered seats over;
     run = firsts z (found_in ended) parts answered seats over;
     first = are_first z (found_in ended) parts answered seats over;
     whole = all_ran z (found_in ended) parts answered seats over;

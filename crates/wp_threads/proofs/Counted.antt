@@ -15,12 +15,11 @@ use Rattle.wp_core.specs.Lists.{one_if, total}
 use Rattle.wp_core.specs.Sound.Actors.{times, once, own_of}
 use Rattle.wp_core.specs.Sound.Pasts.{past_of}
 use Rattle.wp_core.specs.Views.{Event}
-use Rattle.wp_shared.specs.Seats.{SharedState, SeatState}
-use Rattle.wp_shared.specs.Ending.{participant_of}
+use Rattle.wp_shared.specs.Seats.{SharedState, SeatState, participant_of}
 use Rattle.wp_replies.specs.Explains.{dialogue, dialogues, all_replies}
 use Rattle.wp_replies.specs.Kind.{acknowledged}
 use Rattle.wp_replies.specs.Known.{StoredState, Dialogue, answers_in}
-use Rattle.wp_answers.specs.Answers.{IsRemembered}
+use Rattle.wp_client.specs.Answers.{IsRemembered}
 use Rattle.wp_threads.specs.Over.{Answered, IsOver, AreOver, replies_of}
 use Rattle.wp_threads.proofs.Lists.{count_append, count_times, any_in, counted_in}
 

@@ -14,14 +14,13 @@ use Rattle.wp_text.specs.declared.reply.Reply.TheVariants as reply
 use Rattle.wp_core.specs.Lists.{IsIn}
 use Rattle.wp_core.specs.Sound.Pasts.{HasDone, past_of}
 use Rattle.wp_core.specs.Views.{Event, took, locked}
-use Rattle.wp_shared.specs.Seats.{SharedState, SeatState}
-use Rattle.wp_shared.specs.Ending.{participant_of}
+use Rattle.wp_shared.specs.Seats.{SharedState, SeatState, participant_of}
 use Rattle.wp_shared.specs.Ended.{of_seats}
 use Rattle.wp_replies.specs.declared.client.Txn as session_txn
 use Rattle.wp_replies.specs.Client.{new_client}
 use Rattle.wp_replies.specs.Explains.{dialogue, dialogues}
 use Rattle.wp_replies.specs.Known.{StoredState, Dialogue, comes_to, gets_name, takes_name, writes_key}
-use Rattle.wp_answers.specs.Answers.{explaining}
+use Rattle.wp_client.specs.Answers.{explaining}
 use Rattle.wp_threads.specs.Over.{Answered, AreOver, replies_of}
 use Rattle.wp_threads.proofs.Coming.{comes_wider, comes_both}
 

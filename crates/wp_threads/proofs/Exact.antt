@@ -14,7 +14,7 @@ use Rattle.wp_core.specs.Sound.Actors.{StartsWith, times}
 use Rattle.wp_core.specs.Sound.Pasts.{HasDone, IsPast, OtherInstalls, closes_log, is_tables_fault, past_of}
 use Rattle.wp_core.specs.Views.{Event, log_failed, log_stopped, tables_failed}
 use Rattle.wp_core.proofs.KeepsSeen.{shorter}
-use Rattle.wp_shared.specs.Devices.{DevicesLeft}
+use Rattle.wp_parts.specs.Devices.{DevicesLeft}
 use Rattle.wp_shared.specs.Ended.{IsEnded, of_seats}
 use Rattle.wp_shared.specs.Ending.{AreAll}
 use Rattle.wp_shared.specs.Seats.{SharedState, SeatState}
@@ -25,7 +25,7 @@ use Rattle.wp_replies.specs.Current.{opened_store}
 use Rattle.wp_replies.specs.Exact.{IsExact}
 use Rattle.wp_replies.specs.Kind.{stops_log}
 use Rattle.wp_replies.specs.Kind as kinds
-use Rattle.wp_answers.specs.Alone.{limits_of, IsOnly}
+use Rattle.wp_client.specs.Alone.{limits_of, IsOnly}
 use Rattle.wp_threads.specs.Explained.{found_in, left_in, failed_in}
 use Rattle.wp_threads.specs.Over.{Answered, EndsAlone, IsOver}
 use Rattle.wp_threads.proofs.Alone.{runs_grow, asks_any}

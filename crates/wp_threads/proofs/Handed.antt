@@ -2,7 +2,7 @@
 use Rattle.std.proofs.Common.{◌≡◌, List, [], ◌∷◌, length, refl, sym, ◌∙◌, arith}
 use Rattle.wp_model.specs.declared.entry.Entry.{Entry}
 use Rattle.wp_text.specs.declared.script.Part.{Part}
-use Rattle.wp_shared.specs.Devices.{DevicesLeft}
+use Rattle.wp_parts.specs.Devices.{DevicesLeft}
 use Rattle.wp_shared.specs.Ended.{IsEnded}
 use Rattle.wp_shared.specs.Ending.{AllFree, AreAll}
 use Rattle.wp_shared.specs.Seats.{SharedState, SeatState}

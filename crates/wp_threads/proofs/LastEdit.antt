@@ -12,18 +12,17 @@ use Rattle.wp_text.specs.declared.reply.Reply.TheVariants as reply
 use Rattle.wp_core.specs.Lists.{IsIn}
 use Rattle.wp_core.specs.Sound.Pasts.{HasDone, is_install, raised_to, WasInstalled, WasPlaced, last_installed, past_of}
 use Rattle.wp_core.specs.Views.{Event, installed, renewed}
-use Rattle.wp_core.proofs.Tests.{same_some}
+use Rattle.wp_model.proofs.Tests.{same_some}
 use Rattle.wp_rule.proofs.Knows.{one_was_first}
-use Rattle.wp_shared.specs.Devices.{DevicesLeft}
+use Rattle.wp_parts.specs.Devices.{DevicesLeft}
 use Rattle.wp_shared.specs.Ended.{IsEnded, of_seats}
-use Rattle.wp_shared.specs.Ending.{participant_of}
-use Rattle.wp_shared.specs.Parts.{content}
-use Rattle.wp_shared.specs.Seats.{SharedState, SeatState}
+use Rattle.wp_parts.specs.Parts.{content}
+use Rattle.wp_shared.specs.Seats.{SharedState, SeatState, participant_of}
 use Rattle.wp_replies.specs.Client.{new_client}
 use Rattle.wp_replies.specs.Explains.{dialogues, all_replies, IsLastEdit}
 use Rattle.wp_replies.specs.Kind.{is_flushed, is_based, is_renewed, is_installed, is_compacted}
 use Rattle.wp_replies.specs.Known.{Dialogue}
-use Rattle.wp_answers.specs.Answers.{IsRemembered}
+use Rattle.wp_client.specs.Answers.{IsRemembered}
 use Rattle.wp_threads.specs.Explained.{found_in}
 use Rattle.wp_threads.specs.Over.{Answered, AreOver, replies_of}
 use Rattle.wp_threads.proofs.Coming.{comes_answered, renewal_answered, answers_any}

@@ -17,12 +17,12 @@ use Rattle.wp_replies.specs.declared.client.Txn.{Txn}
 use Rattle.wp_replies.specs.Client.{Client, new_client}
 use Rattle.wp_replies.specs.Known.{StoredState, known_at_first, comes_to}
 use Rattle.wp_replies.specs.Session.{IsSession}
-use Rattle.wp_answers.specs.Answers.{explaining, IsExplained, BreaksOff}
-use Rattle.wp_answers.specs.Holdings.{HoldingsState, no_holdings, client_of, Holds}
-use Rattle.wp_answers.proofs.Growing.{agrees_before}
-use Rattle.wp_answers.proofs.Released.{stays_through}
+use Rattle.wp_client.specs.Answers.{explaining, IsExplained, BreaksOff}
+use Rattle.wp_client.specs.Holdings.{HoldingsState, no_holdings, client_of, Holds}
+use Rattle.wp_client.proofs.Growing.{agrees_before}
+use Rattle.wp_client.proofs.Released.{stays_through}
 use Rattle.wp_threads.specs.SoFar.{IsSessionSoFar, RanAlone}
-use Rattle.wp_answers.specs.Ends.{LetsGo}
+use Rattle.wp_client.specs.Ends.{LetsGo}
 use Rattle.wp_threads.specs.Came.{HasComeTo}
 use Rattle.wp_threads.specs.Over.{Answered, BreaksOffBefore, EndsAlone, IsOver}
 use Rattle.wp_threads.proofs.Alike.{explained_alike, if_some_map}

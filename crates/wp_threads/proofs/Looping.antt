@@ -7,8 +7,8 @@ use Rattle.wp_text.specs.declared.reply.Reply.{Reply}
 use Rattle.wp_text.specs.Answered.{Answered}
 use Rattle.wp_shared.specs.Seats.{SharedState, SeatState}
 use Rattle.wp_replies.specs.Known.{StoredState}
-use Rattle.wp_answers.specs.Answers.{Stays}
-use Rattle.wp_answers.specs.Holdings.{HoldingsState, client_of, Holds}
+use Rattle.wp_client.specs.Answers.{Stays}
+use Rattle.wp_client.specs.Holdings.{HoldingsState, client_of, Holds}
 use Rattle.wp_threads.specs.Came.{TakesNext, HasComeTo}
 use Rattle.wp_threads.specs.SoFar.{IsFound, IsSessionSoFar}
 use Rattle.wp_threads.proofs.Leaving.{ends_here}

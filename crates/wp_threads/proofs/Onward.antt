@@ -24,10 +24,10 @@ use Rattle.wp_replies.specs.Kind as kinds
 use Rattle.wp_replies.specs.Known.{StoredState, known_at_first, comes_to, exchanges, is_stop}
 use Rattle.wp_replies.specs.Progress.{progress_after}
 use Rattle.wp_replies.specs.Session.{IsSession}
-use Rattle.wp_answers.specs.Alone.{limits_of, IsOnly, IsStoreOf, AnswersAlone}
-use Rattle.wp_answers.specs.Answers.{explaining, IsExplained, IsRemembered, Stays, Answers}
-use Rattle.wp_answers.specs.Holdings.{HoldingsState, client_of, Holds}
-use Rattle.wp_answers.proofs.Growing.{agrees_before, in_back}
+use Rattle.wp_client.specs.Alone.{limits_of, IsOnly, IsStoreOf, AnswersAlone}
+use Rattle.wp_client.specs.Answers.{explaining, IsExplained, IsRemembered, Stays, Answers}
+use Rattle.wp_client.specs.Holdings.{HoldingsState, client_of, Holds}
+use Rattle.wp_client.proofs.Growing.{agrees_before, in_back}
 use Rattle.wp_threads.specs.SoFar.{IsFound, IsAlike, IsSessionTo, IsExplainedTo, RanAlone, IsSessionSoFar}
 use Rattle.wp_threads.proofs.Alike.{after_alike, explained_alike, if_some_map}
 use Rattle.wp_threads.proofs.Alone.{runs_more, asks_front, asks_last}

@@ -4,7 +4,7 @@ use Rattle.std.specs.Prelude.{slice_index_or}
 use Rattle.wp_text.specs.declared.script.Part.{Part}
 use Rattle.wp_shared.specs.Seats.{SharedState, IsFree}
 use Rattle.wp_replies.specs.Known.{StoredState}
-use Rattle.wp_answers.specs.Answers.{Stays}
+use Rattle.wp_client.specs.Answers.{Stays}
 use Rattle.wp_seats.specs.declared.session.Session.{Session}
 use Rattle.wp_threads.specs.Each.{IsPartAt, IsNewAt, HasRunAt, AllStay}
 use Rattle.wp_threads.specs.SoFar.{IsFound}

@@ -10,8 +10,7 @@ use Rattle.wp_text.specs.declared.reply.Reply.{Reply}
 use Rattle.wp_core.specs.Lists.{one_if, total}
 use Rattle.wp_core.specs.Sound.Pasts.{closes_log, past_of}
 use Rattle.wp_core.specs.Views.{Event}
-use Rattle.wp_shared.specs.Ending.{participant_of}
-use Rattle.wp_shared.specs.Seats.{SharedState, SeatState}
+use Rattle.wp_shared.specs.Seats.{participant_of, SharedState, SeatState}
 use Rattle.wp_replies.specs.Explains.{dialogue, dialogues, all_exchanges}
 use Rattle.wp_replies.specs.Known.{StoredState, exchanges, is_stop, has_stop}
 use Rattle.wp_threads.specs.Over.{Answered, AreOver, replies_of}

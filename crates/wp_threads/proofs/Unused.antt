@@ -9,14 +9,16 @@ use Rattle.wp_core.specs.Lists.{IsIn, one_if}
 use Rattle.wp_core.specs.Sound.Actors.{once}
 use Rattle.wp_core.specs.Sound.Pasts.{HasDone}
 use Rattle.wp_core.specs.Views.{Event}
-use Rattle.wp_shared.specs.Devices.{DevicesLeft}
+use Rattle.wp_parts.specs.Devices.{DevicesLeft}
 use Rattle.wp_shared.specs.Ended.{IsEnded}
 use Rattle.wp_shared.specs.Seats.{SharedState, SeatState}
 use Rattle.wp_replies.specs.Explains.{Explains}
-use Rattle.wp_answers.specs.Alone.{limits_of}
+use Rattle.wp_client.specs.Alone.{limits_of}
+use Rattle.wp_client.specs.Holdings.{no_holdings, Holds}
 use Rattle.wp_threads.specs.Explained.{found_in, left_in, failed_in, faults_in, HaveRun}
 use Rattle.wp_seats.specs.New.{first_seat}
 use Rattle.wp_threads.specs.Over.{Answered}
+use Rattle.wp_threads.proofs.Begun.{holds_new}
 use Rattle.wp_threads.proofs.Counted.{once_after}
 
 abbrev one_past : List (List (List Event))
@@ -67,10 +69,15 @@ module _ {D : Type 0} {z : SharedState D} (client : List ℕ) {history : List En
     };
   }
 
+  holds_none : (s : SeatState) → IsIn s (first_seat z client ∷ []) → Holds z s no_holdings
+  holds_none s (inl same) = subst (λ (x : SeatState). Holds z x no_holdings) same (holds_new z client (first_seat z client) (record { table = refl; turns = refl; made = 0; knows = refl }))
+  holds_none s (inr none) = absurd none
+
   none_ran : HaveRun z [] [] history left
   none_ran = record {
     seats = first_seat z client ∷ [];
     ended = ended;
+    empty = holds_none;
     run = [];
     first = tt;
     whole = tt;

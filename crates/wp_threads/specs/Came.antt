@@ -2,23 +2,19 @@
 use Rattle.std.specs.Prelude.{◌≡◌, ℕ, Bool, true, false, List, [], ◌∷◌, ◌++◌}
 use Rattle.wp_text.specs.declared.script.Command.{Command}
 use Rattle.wp_text.specs.declared.reply.Reply.{Reply}
-use Rattle.wp_model.specs.Flushed.{InstalledEdit}
-use Rattle.wp_rule.specs.Shows.{WasLast}
-use Rattle.wp_shared.specs.Parts.{content}
 use Rattle.wp_shared.specs.Seats.{SharedState, SeatState}
-use Rattle.wp_replies.specs.Due.{Store}
 use Rattle.wp_replies.specs.Known.{StoredState}
-use Rattle.wp_answers.specs.Alone.{IsOnly, IsStoreOf, AnswersAlone}
-use Rattle.wp_answers.specs.Answers.{Answers}
-use Rattle.wp_answers.specs.Holdings.{HoldingsState, client_of, Holds}
+use Rattle.wp_client.specs.Answers.{Answers, IsDueAlone}
+use Rattle.wp_client.specs.Holdings.{HoldingsState, client_of, Holds}
+use Rattle.wp_answers.specs.Fresh.{NamesPublished}
 use Rattle.wp_threads.specs.SoFar.{IsSessionSoFar}
 use Rattle.wp_threads.specs.Over.{Answered, BreaksOffBefore}
 
--- The command was answered, with one reply more; or memory was wanting for it.
+-- The command was answered, with one reply more, whose number was published meanwhile; or memory was wanting for it.
 abbrev pub TakesNext : {D : Type 0} → SharedState D → SeatState → SeatState → HoldingsState → HoldingsState → Command → List Reply → List Reply → Bool → Type 0
 TakesNext z old new was now command before after true =
     (reply : Reply) × (after ≡ before ++ reply ∷ []) × Answers z old new (client_of was) (client_of now) command reply
-    × (IsOnly old → (first : InstalledEdit) → WasLast content z.first first → (s : Store) → IsStoreOf z first old.knows.participant s → AnswersAlone z first old new (client_of was) (client_of now) command reply s)
+    × IsDueAlone z old new (client_of was) (client_of now) command reply × NamesPublished z old new command reply
 TakesNext z old new was now command before after false = (after ≡ before) × ((others : List Command) → BreaksOffBefore old new (client_of was).txn (command ∷ others))
 
 -- All commands were answered, or the first of them. There the session went on, or memory was wanting for the next one.

@@ -3,7 +3,7 @@ use Rattle.std.specs.Prelude.{◌≡◌, ℕ, ◌<◌, List, [], ◌∷◌, leng
 use Rattle.wp_text.specs.declared.script.Part.{Part}
 use Rattle.wp_shared.specs.Seats.{SharedState, SeatState, IsFree}
 use Rattle.wp_replies.specs.Known.{StoredState}
-use Rattle.wp_answers.specs.Answers.{Stays}
+use Rattle.wp_client.specs.Answers.{Stays}
 use Rattle.wp_threads.specs.SoFar.{IsFound}
 use Rattle.wp_seats.specs.New.{IsNew}
 use Rattle.wp_threads.specs.Over.{Answered, IsOver}

@@ -2,17 +2,18 @@
 use Rattle.std.specs.Prelude.{◌≡◌, ℕ, ◌+◌, ◌<◌, ◌≤◌, Bool, true, false, List, [], ◌∷◌, length}
 use Rattle.wp_model.specs.declared.entry.Entry.{Entry}
 use Rattle.wp_text.specs.declared.script.Part.{Part}
-use Rattle.wp_core.specs.Lists.{one_if}
+use Rattle.wp_core.specs.Lists.{IsIn, one_if}
 use Rattle.wp_core.specs.Sound.Pasts.{is_log_fault, times_past, past_of}
 use Rattle.wp_core.specs.Views.{Event, log_stopped}
-use Rattle.wp_shared.specs.Devices.{DevicesLeft}
+use Rattle.wp_parts.specs.Devices.{DevicesLeft}
 use Rattle.wp_shared.specs.Ended.{IsEnded, of_seats}
 use Rattle.wp_shared.specs.Seats.{SharedState, SeatState}
 use Rattle.wp_replies.specs.Exact.{IsExact}
 use Rattle.wp_replies.specs.Explains.{Faults, AreFirstParts, Explains}
 use Rattle.wp_replies.specs.Known.{StoredState}
 use Rattle.wp_replies.specs.Replies.{Untaken}
-use Rattle.wp_answers.specs.Alone.{limits_of}
+use Rattle.wp_client.specs.Alone.{limits_of}
+use Rattle.wp_client.specs.Holdings.{no_holdings, Holds}
 use Rattle.wp_threads.specs.Over.{Answered, replies_of}
 
 -- the log was stopped by it, in a renewal
@@ -41,12 +42,13 @@ AreWholeParts [] [] [] = Unit {0}
 AreWholeParts (part ∷ parts) (first ∷ firsts) (a ∷ answered) = (a.whole ≡ true → first ≡ part) × AreWholeParts parts firsts answered
 AreWholeParts parts firsts answered = ⊥
 
--- The store ended, with all its seats handed in. The clients were answered so, each to the first of its commands, which are all
+-- The store ended, with all its seats handed in, which hold nothing: no transaction and no snapshot. The clients were answered so, each to the first of its commands, which are all
 -- where its answers are whole; and the history and the devices that are left explain the replies. With one client they are just
 -- what is due. No entry since the opening has a number above the limit.
 pub record HaveRun {D : Type 0} (z : SharedState D) (script : List Part) (answered : List Answered) (history : List Entry) (left : DevicesLeft) : Type 0 where
   pub seats : List SeatState
   pub ended : IsEnded z seats history left
+  pub empty : (s : SeatState) → IsIn s seats → Holds z s no_holdings
   pub run : List Part
   pub first : AreFirstParts script run
   pub whole : AreWholeParts script run answered

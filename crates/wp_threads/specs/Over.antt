@@ -22,10 +22,10 @@ use Rattle.wp_replies.specs.Kind.{acknowledged, is_fault, is_tables_fault, stops
 use Rattle.wp_replies.specs.Known.{StoredState, known_at_first, comes_to, exchanges, is_stop}
 use Rattle.wp_replies.specs.Replies.{Evidence}
 use Rattle.wp_replies.specs.Session.{IsSession}
-use Rattle.wp_answers.specs.Agrees.{Agrees}
-use Rattle.wp_answers.specs.Alone.{log_faults, device_faults, tables_faults, limits_of, IsOnly}
-use Rattle.wp_answers.specs.Answers.{explaining, IsRemembered, IsExplained, Stays}
-use Rattle.wp_answers.specs.Holdings.{no_holdings, Holds}
+use Rattle.wp_client.specs.Agrees.{Agrees}
+use Rattle.wp_client.specs.Alone.{log_faults, device_faults, tables_faults, limits_of, IsOnly}
+use Rattle.wp_client.specs.Answers.{explaining, IsRemembered, IsExplained, Stays}
+use Rattle.wp_client.specs.Holdings.{no_holdings, Holds}
 
 -- The session breaks off at the first of the commands that are left, if at any: what the seat's past has more, that one explains.
 pub record BreaksOffBefore (old new : SeatState) (txn : Txn) (rest : List Command) : Type 0 where

@@ -10,7 +10,7 @@ use Rattle.wp_core.specs.Views.{Event, log_failed, log_stopped, tables_failed}
 use Rattle.wp_core.specs.World.{Participant}
 use Rattle.wp_rule.specs.Shows.{WasLast}
 use Rattle.wp_shared.specs.Limits.{WasOpenedAt}
-use Rattle.wp_shared.specs.Parts.{content}
+use Rattle.wp_parts.specs.Parts.{content}
 use Rattle.wp_shared.specs.Seats.{SharedState, SeatState}
 use Rattle.wp_replies.specs.declared.client.Txn.{Txn}
 use Rattle.wp_replies.specs.declared.client.Txn.TheVariants.{Prepared}
@@ -23,10 +23,10 @@ use Rattle.wp_replies.specs.Known.{StoredState, known_at_first, comes_to, exchan
 use Rattle.wp_replies.specs.Progress.{Progress}
 use Rattle.wp_replies.specs.Replies.{Evidence}
 use Rattle.wp_replies.specs.Session.{IsSession}
-use Rattle.wp_answers.specs.Agrees.{Agrees}
-use Rattle.wp_answers.specs.Alone.{log_faults, device_faults, tables_faults, limits_of, IsOnly, IsStoreOf}
-use Rattle.wp_answers.specs.Answers.{IsProgress, explaining, IsRemembered}
-use Rattle.wp_answers.specs.Holdings.{HoldingsState, client_of, Holds}
+use Rattle.wp_client.specs.Agrees.{Agrees}
+use Rattle.wp_client.specs.Alone.{log_faults, device_faults, tables_faults, limits_of, IsOnly, IsStoreOf}
+use Rattle.wp_client.specs.Answers.{IsProgress, explaining, IsRemembered}
+use Rattle.wp_client.specs.Holdings.{HoldingsState, client_of, Holds}
 
 -- what the store was opened to: its history, and the last edit of its tables, which names the base of its log
 pub record IsFound {D : Type 0} (z : SharedState D) (found : StoredState) : Type 0 where

@@ -2,8 +2,8 @@
 ghost use Rattle.std.specs.Prelude.{◌≡◌};
 ghost use Rattle.wp_model.specs.Flushed.{InstalledEdit};
 ghost use Rattle.wp_rule.specs.Shows.{WasLast};
-ghost use Rattle.wp_shared.specs.Parts.{content};
-ghost use Rattle.wp_shared.specs.Devices.{devices_of};
+ghost use Rattle.wp_parts.specs.Parts.{content};
+ghost use Rattle.wp_parts.specs.Devices.{devices_of};
 ghost use Rattle.wp_seats.specs.New.{IsFirst, others_of};
 ghost use Rattle.wp_threads.specs.Explained.{HaveRun};
 

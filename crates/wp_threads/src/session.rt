@@ -2,8 +2,8 @@
 ghost use Rattle.std.specs.Prelude.{ℕ, List, []};
 ghost use Rattle.wp_shared.specs.Seats.{IsFree};
 ghost use Rattle.wp_replies.specs.Known.{StoredState};
-ghost use Rattle.wp_answers.specs.Answers.{Stays};
-ghost use Rattle.wp_answers.specs.Holdings.{Holds};
+ghost use Rattle.wp_client.specs.Answers.{Stays};
+ghost use Rattle.wp_client.specs.Holdings.{Holds};
 ghost use Rattle.wp_seats.specs.New.{IsNew};
 ghost use Rattle.wp_threads.specs.SoFar.{IsFound, IsSessionSoFar};
 ghost use Rattle.wp_threads.specs.Came.{TakesNext, HasComeTo};

@@ -12,12 +12,12 @@ use Rattle.wp_text.specs.declared.reply.Reply.{Reply}
 use Rattle.wp_text.specs.declared.reply.Reply.TheVariants as reply
 use Rattle.wp_core.specs.Sound.Views.{guarded_by}
 use Rattle.wp_core.specs.World.{Participant, World}
-use Rattle.wp_txn.specs.Writing.{FoundLog}
+use Rattle.wp_records.specs.Writing.{FoundLog}
 use Rattle.wp_shared.specs.Seats.{SharedState, SeatState, Stands}
 use Rattle.wp_open_txns.specs.declared.error.TxnError.TheVariants.{NumbersFull, LogFault, Stopped}
-use Rattle.wp_txn.specs.Calls.{GivesUp, without_transaction}
-use Rattle.wp_txn.specs.Turns.{IsApartFrom}
-use Rattle.wp_txn.specs.Txn.{OpenState, PreparedState, HasPrepared}
+use Rattle.wp_open_txns.specs.Calls.{GivesUp, without_transaction}
+use Rattle.wp_open_txns.specs.Turns.{IsApartFrom}
+use Rattle.wp_open_txns.specs.Txn.{OpenState, PreparedState, HasPrepared}
 use Rattle.wp_txn.specs.Writes.{Prepares, CommitsNow, Commits, RollsBack, RefusesOpen, RefusesPrepared, AsksCommit, AsksRollback}
 use Rattle.wp_replies.specs.declared.client.LabelledSnapshot.{LabelledSnapshot}
 use Rattle.wp_replies.specs.declared.client.Txn.TheVariants.{Idle, Open, Prepared}
@@ -25,6 +25,7 @@ use Rattle.wp_replies.specs.Client.{Client}
 use Rattle.wp_replies.specs.Due.{Store, logged, client_after}
 use Rattle.wp_replies.specs.Plan.{next}
 use Rattle.wp_client.specs.Alone.{IsOnly, IsStoreOf, AnswersAlone}
+use Rattle.wp_client.specs.Holdings.{staged_of}
 use Rattle.wp_client.proofs.Alone.Seated.{none_quiet, follows_on}
 use Rattle.wp_client.proofs.Alone.Quiet.{quiet_answers}
 use Rattle.wp_answers.proofs.Alone.Logged.{AsksFor, put_answers, stopped_answers, full_answers, fault_answers}
@@ -43,7 +44,7 @@ module _ {D : Type 0} (z : SharedState D) (first : InstalledEdit) (old new : Sea
   idle = record { txn = Idle; snapshots = snapshots }
 
   abbrev opened : OpenState → Client
-  opened t = record { txn = Open t.name t.batch; snapshots = snapshots }
+  opened t = record { txn = Open (staged_of t); snapshots = snapshots }
 
   abbrev prepared : PreparedState → Client
   prepared t = record { txn = Prepared t.number; snapshots = snapshots }
@@ -103,7 +104,7 @@ module _ {D : Type 0} (z : SharedState D) (first : InstalledEdit) (old new : Sea
   asks_commit : (t : PreparedState) (n : ℕ) → n ≡ next store.history → AsksFor store (prepared t) command.Commit 1 (reply.Committed n) (entry.Commit t.number ∷ [])
   asks_commit t n number = record { due_is = ap (λ (m : ℕ). logged store 1 (reply.Committed m)) (sym number); asked = refl; logged = refl; fault = refl; installed = refl; tables = refl; board = λ b r. refl }
 
-  asks_rollback : (t : PreparedState) → HasPrepared old t.name t.number t.batch → (history : List Entry) → history ≡ store.history → (n : ℕ) → n ≡ next store.history + 1
+  asks_rollback : (t : PreparedState) → HasPrepared old t → (history : List Entry) → history ≡ store.history → (n : ℕ) → n ≡ next store.history + 1
       → AsksFor store (prepared t) command.Rollback 2 (reply.RolledBack n) (entry.Undo t.number (prior history t.batch) ∷ entry.Close t.number ∷ [])
   asks_rollback t has history behind n number =
       let batch : batch_at store.history t.number ≡ t.batch = ap (λ (h : List Entry). batch_at h t.number) is.history ∙ ap prepared_batch has.stands in record {
@@ -122,7 +123,7 @@ module _ {D : Type 0} (z : SharedState D) (first : InstalledEdit) (old new : Sea
       put_answers z first old new only store is stood (IsApartFrom t.name) it (without_transaction t.name it) [] past_same refl past_same none_quiet history entries put (prepared t) idle command.Commit (reply.Committed n)
       (λ behind legal. asks_commit t n (last_number history store.history new.knows.participant.seen entries n k.0.0 put.seen behind)) refl
 
-  pub rolled_back_alone : (t : PreparedState) → HasPrepared old t.name t.number t.batch → (n : ℕ) → RollsBack z old t n new → AnswersAlone z first old new (prepared t) idle command.Rollback (reply.RolledBack n) store
+  pub rolled_back_alone : (t : PreparedState) → HasPrepared old t → (n : ℕ) → RollsBack z old t n new → AnswersAlone z first old new (prepared t) idle command.Rollback (reply.RolledBack n) store
   rolled_back_alone t has n k =
       let history = k.1.0 in let put = k.1.1 in let entries : List Entry = entry.Undo t.number (prior history t.batch) ∷ entry.Close t.number ∷ [] in
       put_answers z first old new only store is stood (IsApartFrom t.name) it (without_transaction t.name it) [] past_same refl past_same none_quiet history entries put (prepared t) idle command.Rollback (reply.RolledBack n)
@@ -150,7 +151,7 @@ module _ {D : Type 0} (z : SharedState D) (first : InstalledEdit) (old new : Sea
         back_prepared t left command.Commit reply.FaultLog k.0
         (fault_answers z first old new only store is stood (λ fact. guarded_by fact ≡ None) it it [] past_same refl past_same none_quiet 1 (AsksCommit new.knows.participant.seen t) (prepared t) command.Commit (reply.Committed (next store.history)) (entry.Commit t.number ∷ []) commit_refused (λ es seen same. same) k.2 refl)
 
-    module _ (has : HasPrepared old t.name t.number t.batch) where
+    module _ (has : HasPrepared old t) where
       abbrev undone : List Entry
       undone = entry.Undo t.number (prior store.history t.batch) ∷ entry.Close t.number ∷ []
 

@@ -15,11 +15,11 @@ use Rattle.wp_core.specs.World.{Participant, World}
 use Rattle.wp_core.specs.Sound.Pasts.{closes_log, is_tables_fault, last_installed}
 use Rattle.wp_core.specs.Views.{Event, Fact, log_failed, log_stopped, tables_failed, stopped}
 use Rattle.wp_core.proofs.EachStep.{reached_is_sound}
-use Rattle.wp_txn.specs.Writing.{FoundLog}
-use Rattle.wp_txn.specs.Records.{numbers_behind}
+use Rattle.wp_records.specs.Writing.{FoundLog}
+use Rattle.wp_records.specs.Records.{numbers_behind}
 use Rattle.wp_rule.proofs.Knows.{one_was_first}
 use Rattle.wp_shared.specs.Limits.{limit_at}
-use Rattle.wp_shared.specs.Parts.{content}
+use Rattle.wp_parts.specs.Parts.{content}
 use Rattle.wp_shared.specs.Seats.{SharedState, SeatState, Stands}
 use Rattle.wp_open_txns.specs.declared.error.TxnError.TheVariants.{NumbersFull, LogFault, Stopped}
 use Rattle.wp_txn.specs.Writes.{HasPut, Refuses}

@@ -9,7 +9,7 @@ use Rattle.wp_core.specs.Views.{Event}
 use Rattle.wp_core.specs.World.{World}
 use Rattle.wp_core.proofs.KeepsSeen.{shorter}
 use Rattle.wp_shared.specs.Seats.{SharedState, SeatState, Stands}
-use Rattle.wp_txn.specs.Records.{numbers_behind}
+use Rattle.wp_records.specs.Records.{numbers_behind}
 use Rattle.wp_replies.specs.Due.{Store}
 use Rattle.wp_client.specs.Alone.{IsOnly, IsStoreOf}
 use Rattle.wp_client.proofs.Alone.Published.{in_both, is_own}

@@ -14,7 +14,7 @@ use Rattle.wp_core.specs.Views as event
 use Rattle.wp_core.specs.Tables.{WriteState, Installed, writes}
 use Rattle.wp_core.specs.World.{World}
 use Rattle.wp_rule.specs.Shows.{WasLast}
-use Rattle.wp_shared.specs.Parts.{content}
+use Rattle.wp_parts.specs.Parts.{content}
 use Rattle.wp_rule.proofs.Knows.{held_is}
 use Rattle.wp_shared.proofs.Limits.{limit_renewed}
 use Rattle.wp_shared.specs.Seats.{SharedState, SeatState, Stands, place_at}

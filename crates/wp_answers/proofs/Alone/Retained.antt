@@ -9,7 +9,7 @@ use Rattle.wp_model.specs.Flushed.{InstalledEdit}
 use Rattle.wp_core.specs.Changes.{is_same_registration}
 use Rattle.wp_core.specs.Lists.{IsIn, one_if, total}
 use Rattle.wp_core.specs.Reading.{Registration}
-use Rattle.wp_core.proofs.Tests.{both, either, or_true}
+use Rattle.wp_model.proofs.Tests.{both, either, or_true}
 use Rattle.wp_keep.specs.Keep.{has_newer, stays, remaining}
 use Rattle.wp_replies.specs.Tables.{retained, after_compaction}
 

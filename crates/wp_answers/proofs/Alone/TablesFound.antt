@@ -16,13 +16,13 @@ use Rattle.wp_core.specs.Views as event
 use Rattle.wp_core.specs.World.{World}
 use Rattle.wp_rule.specs.Shows.{WasLast}
 use Rattle.wp_rule.proofs.Knows.{held_is, one_was_first}
-use Rattle.wp_shared.specs.Parts.{content}
+use Rattle.wp_parts.specs.Parts.{content}
 use Rattle.wp_shared.specs.Calls.{Continues, with_events}
 use Rattle.wp_shared.specs.Limits.{limit_at}
 use Rattle.wp_shared.specs.Seats.{SharedState, SeatState, Stands, place_at}
 use Rattle.wp_maint.specs.Calls.{Finds, found_by}
 use Rattle.wp_replies.specs.Client.{Client}
-use Rattle.wp_replies.specs.Due.{Store, due, unless_halted, edit_of, board_after, store_after}
+use Rattle.wp_replies.specs.Due.{Store, due, unless_halted, edit_of, board_after, store_after, client_after}
 use Rattle.wp_replies.specs.Kind.{is_logged, is_fault, is_installed, is_renewed, is_renewal}
 use Rattle.wp_replies.specs.Kind as kind
 use Rattle.wp_replies.specs.Plan.{plan, asked_of}
@@ -31,7 +31,6 @@ use Rattle.wp_client.proofs.Alone.Published.{none_if, if_one, not_counted}
 use Rattle.wp_client.proofs.Alone.Worlds.{only_of}
 use Rattle.wp_client.proofs.Alone.Seated.{last_over, AreQuiet, one_quiet, Follows, follows_on, alone_at, begins_opened, few_now, log_still, edit_still, tables_now, board_still, seen_still}
 use Rattle.wp_client.proofs.Alone.Quiet.{never_stops, quiet_answers}
-use Rattle.wp_replies.specs.Due.{client_after}
 
 -- where the tables are not halted, the command is answered so, and has the tables take this edit; a renewal puts the log's segment at
 -- the place

@@ -16,7 +16,7 @@ use Rattle.wp_text.specs.declared.reply.Reply.TheVariants as reply
 use Rattle.wp_core.specs.Views.{Event, locked, found}
 use Rattle.wp_core.specs.World.{Participant, World}
 use Rattle.wp_core.specs.Sound.Views.{guarded_by}
-use Rattle.wp_txn.specs.Writing.{FoundLog}
+use Rattle.wp_records.specs.Writing.{FoundLog}
 use Rattle.wp_rule.specs.Accounts.{account_of}
 use Rattle.wp_shared.specs.Seats.{SharedState, SeatState, Stands}
 use Rattle.wp_open_txns.specs.declared.error.TxnError.TheVariants.{Busy, NumbersFull, LogFault, Stopped}
@@ -28,11 +28,12 @@ use Rattle.wp_replies.specs.Due.{Store, logged, reply_to}
 use Rattle.wp_replies.specs.Kind.{is_logged, is_fault, is_installed, is_tables_fault}
 use Rattle.wp_replies.specs.Plan.{next, asked_of}
 use Rattle.wp_client.specs.Alone.{IsOnly, IsStoreOf, AnswersAlone}
+use Rattle.wp_client.specs.Replies.{asking, acknowledging}
 use Rattle.wp_client.proofs.Alone.Worlds.{direct_is_free, held_by_prepare}
 use Rattle.wp_client.proofs.Alone.Seated.{AreQuiet, one_quiet, follows_on, alone_with_locks, history_with_locks}
 use Rattle.wp_client.proofs.Alone.Quiet.{quiet_answers}
 use Rattle.wp_answers.proofs.Alone.Logged.{AsksFor, put_answers, stopped_answers, full_answers, fault_answers}
-use Rattle.wp_client.proofs.Alone.Changing.{asking, acknowledging, board_same, writes_at_once, is_busy_at_once, still_idle}
+use Rattle.wp_client.proofs.Alone.Changing.{board_same, writes_at_once, is_busy_at_once, still_idle}
 
 -- the reply that acknowledges a change says of an entry, and of nothing else
 says : (c : Change) (n : ℕ) → (is_logged (acknowledging c n) ≡ true) × (is_fault (acknowledging c n) ≡ false) × (is_installed (acknowledging c n) ≡ false) × (is_tables_fault (acknowledging c n) ≡ false)

@@ -10,9 +10,9 @@ use Rattle.wp_core.specs.Lists.{IsIn}
 use Rattle.wp_core.specs.Sound.Pasts.{closes_log, is_tables_fault}
 use Rattle.wp_core.specs.Views.{Event, told, heard, log_failed, log_stopped, tables_failed}
 use Rattle.wp_core.specs.World.{Participant, World}
-use Rattle.wp_core.proofs.Keyed.{is_word_same, at_inserted, else_inserted, some_inserted}
+use Rattle.wp_model.proofs.Keyed.{is_word_same, at_inserted, else_inserted, some_inserted}
 use Rattle.wp_core.proofs.PastsGrow.{in_front, in_last}
-use Rattle.wp_core.proofs.Tests.{some_there}
+use Rattle.wp_model.proofs.Tests.{some_there}
 use Rattle.wp_shared.specs.Seats.{SharedState, SeatState, Stands}
 use Rattle.wp_open_txns.specs.declared.error.TxnError.TheVariants.{Silent}
 use Rattle.wp_open_txns.specs.Calls.{Tells, Hears}

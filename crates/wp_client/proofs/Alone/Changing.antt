@@ -1,4 +1,4 @@
--- The command for a change, what it comes to, and what a batch has once it has the change.
+-- What a change comes to, and what a batch has once it has the change.
 use Rattle.std.proofs.Common.{◌≡◌, ℕ, ◌&&◌, Bool, true, false, not, cond, nat_le, List, [], ◌∷◌, length, refl, ap, ◌∙◌, Option, Some, None, is_some, arith}
 use Rattle.std.specs.Str.{bytes_eq}
 use Rattle.std.specs.declared.cmp.Ordering.{Ordering}
@@ -14,27 +14,18 @@ use Rattle.wp_model.specs.declared.holder.Holder.TheVariants as holder
 use Rattle.wp_model.specs.Batch.{key_cmp, key_of, value_of, change_to, by_order, with_change, are_ascending, is_batch}
 use Rattle.wp_model.specs.History.{name_at, holder_of, is_changed}
 use Rattle.wp_model.specs.LockState.{Labels}
-use Rattle.wp_text.specs.declared.script.Command.{Command}
-use Rattle.wp_text.specs.declared.script.Command.TheVariants as command
 use Rattle.wp_text.specs.declared.reply.Reply.{Reply}
 use Rattle.wp_text.specs.declared.reply.Reply.TheVariants as reply
-use Rattle.wp_core.proofs.Tests.{both}
+use Rattle.wp_model.proofs.Tests.{both}
 use Rattle.wp_replies.specs.declared.plan.Plan.TheVariants.{Say, Log}
 use Rattle.wp_replies.specs.declared.client.LabelledSnapshot.{LabelledSnapshot}
+use Rattle.wp_replies.specs.declared.client.Staged.{Staged}
 use Rattle.wp_replies.specs.declared.client.Txn.TheVariants.{Idle, Open}
 use Rattle.wp_replies.specs.Client.{Client, has_no_room}
 use Rattle.wp_replies.specs.Due.{board_after, client_after}
 use Rattle.wp_replies.specs.Plan.{plan, next, busy_or, refused_or, unless_busy}
 use Rattle.wp_open_txns.specs.Calls.{IsFull}
-
--- the command that asks for the change, and the reply that acknowledges it
-abbrev pub asking : Change → Command
-asking (change.Put key value) = command.Put key value
-asking (change.Del key) = command.Del key
-
-abbrev pub acknowledging : Change → ℕ → Reply
-acknowledging (change.Put key value) n = reply.Put n
-acknowledging (change.Del key) n = reply.Del n
+use Rattle.wp_client.specs.Replies.{asking, acknowledging}
 
 -- no reply to it changes the board
 pub board_same : (c : Change) (b : Labels) (r : Reply) → board_after b (asking c) r ≡ b
@@ -45,8 +36,8 @@ module _ (snapshots : List LabelledSnapshot) where
   abbrev idle : Client
   idle = record { txn = Idle; snapshots = snapshots }
 
-  abbrev open_ : List ℕ → List Change → Client
-  open_ name batch = record { txn = Open name batch; snapshots = snapshots }
+  abbrev open_ : Staged → Client
+  open_ own = record { txn = Open own; snapshots = snapshots }
 
   -- ---- at once
 
@@ -67,26 +58,26 @@ module _ (snapshots : List LabelledSnapshot) where
   abbrev refused : Bool → Option Reply
   refused no_room = cond no_room (Some reply.TooMany) None
 
-  pub holds_change : (history : List Entry) (name : List ℕ) (batch : List Change) (c : Change) → has_no_room batch (key_of c) ≡ false → holder_of history (key_of c) ≡ None → plan history (open_ name batch) (asking c) ≡ Say reply.Held
-  holds_change history name batch (change.Put key value) room free =
+  pub holds_change : (history : List Entry) (own : Staged) (c : Change) → has_no_room own.batch (key_of c) ≡ false → holder_of history (key_of c) ≡ None → plan history (open_ own) (asking c) ≡ Say reply.Held
+  holds_change history own (change.Put key value) room free =
       ap (λ (b : Bool). refused_or (refused b) (unless_busy history key (Say reply.Held))) room ∙ ap (λ (o : Option ℕ). busy_or history o (Say reply.Held)) free
-  holds_change history name batch (change.Del key) room free =
+  holds_change history own (change.Del key) room free =
       ap (λ (b : Bool). refused_or (refused b) (unless_busy history key (Say reply.Held))) room ∙ ap (λ (o : Option ℕ). busy_or history o (Say reply.Held)) free
 
-  pub is_busy_open : (history : List Entry) (name : List ℕ) (batch : List Change) (c : Change) (p : ℕ) → has_no_room batch (key_of c) ≡ false → holder_of history (key_of c) ≡ Some p
-      → plan history (open_ name batch) (asking c) ≡ Say (reply.Busy (holder.Txn (name_at history p)))
-  is_busy_open history name batch (change.Put key value) p room held =
+  pub is_busy_open : (history : List Entry) (own : Staged) (c : Change) (p : ℕ) → has_no_room own.batch (key_of c) ≡ false → holder_of history (key_of c) ≡ Some p
+      → plan history (open_ own) (asking c) ≡ Say (reply.Busy (holder.Txn (name_at history p)))
+  is_busy_open history own (change.Put key value) p room held =
       ap (λ (b : Bool). refused_or (refused b) (unless_busy history key (Say reply.Held))) room ∙ ap (λ (o : Option ℕ). busy_or history o (Say reply.Held)) held
-  is_busy_open history name batch (change.Del key) p room held =
+  is_busy_open history own (change.Del key) p room held =
       ap (λ (b : Bool). refused_or (refused b) (unless_busy history key (Say reply.Held))) room ∙ ap (λ (o : Option ℕ). busy_or history o (Say reply.Held)) held
 
-  pub has_too_many : (history : List Entry) (name : List ℕ) (batch : List Change) (c : Change) → has_no_room batch (key_of c) ≡ true → plan history (open_ name batch) (asking c) ≡ Say reply.TooMany
-  has_too_many history name batch (change.Put key value) full = ap (λ (b : Bool). refused_or (refused b) (unless_busy history key (Say reply.Held))) full
-  has_too_many history name batch (change.Del key) full = ap (λ (b : Bool). refused_or (refused b) (unless_busy history key (Say reply.Held))) full
+  pub has_too_many : (history : List Entry) (own : Staged) (c : Change) → has_no_room own.batch (key_of c) ≡ true → plan history (open_ own) (asking c) ≡ Say reply.TooMany
+  has_too_many history own (change.Put key value) full = ap (λ (b : Bool). refused_or (refused b) (unless_busy history key (Say reply.Held))) full
+  has_too_many history own (change.Del key) full = ap (λ (b : Bool). refused_or (refused b) (unless_busy history key (Say reply.Held))) full
 
-  pub has_change : (history : List Entry) (name : List ℕ) (batch : List Change) (c : Change) → open_ name (with_change batch c) ≡ client_after history (open_ name batch) (asking c) reply.Held
-  has_change history name batch (change.Put key value) = refl
-  has_change history name batch (change.Del key) = refl
+  pub has_change : (history : List Entry) (own : Staged) (c : Change) → open_ (record own { batch = with_change own.batch c }) ≡ client_after history (open_ own) (asking c) reply.Held
+  has_change history own (change.Put key value) = refl
+  has_change history own (change.Del key) = refl
 
 -- ---- the batch
 

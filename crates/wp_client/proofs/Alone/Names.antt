@@ -10,18 +10,19 @@ use Rattle.wp_text.specs.declared.script.Command.TheVariants as command
 use Rattle.wp_text.specs.declared.reply.Reply.TheVariants as reply
 use Rattle.wp_core.specs.Views.{Event, claimed, took, found}
 use Rattle.wp_core.specs.World.{Actor, Participant, World}
-use Rattle.wp_core.proofs.Tests.{none_some}
+use Rattle.wp_model.proofs.Tests.{none_some}
 use Rattle.wp_rule.specs.Accounts.{account_of}
 use Rattle.wp_shared.specs.Seats.{SharedState, SeatState, Stands}
 use Rattle.wp_open_txns.specs.declared.error.TxnError.TheVariants.{Taken, Unknown, InUse}
 use Rattle.wp_open_txns.specs.Calls.{Begins, TakesPrepared}
-use Rattle.wp_open_txns.specs.Txn.{OpenState, PreparedState}
+use Rattle.wp_open_txns.specs.Txn.{OpenState, HasOpen, PreparedState}
 use Rattle.wp_replies.specs.declared.client.LabelledSnapshot.{LabelledSnapshot}
 use Rattle.wp_replies.specs.declared.client.Txn.TheVariants.{Idle, Open, Prepared}
 use Rattle.wp_replies.specs.Client.{Client}
 use Rattle.wp_replies.specs.Due.{Store}
 use Rattle.wp_replies.specs.Plan.{begin_reply, take_reply}
 use Rattle.wp_client.specs.Alone.{IsOnly, IsStoreOf, AnswersAlone}
+use Rattle.wp_client.specs.Holdings.{staged_of}
 use Rattle.wp_client.proofs.Alone.Worlds.{only_of, left_name, open_is_free}
 use Rattle.wp_client.proofs.Alone.Seated.{one_quiet, none_quiet, follows_on, alone_with_locks, history_with_locks, alone_at, is_alone, history_still, seen_still}
 use Rattle.wp_client.proofs.Alone.Quiet.{quiet_answers}
@@ -30,17 +31,17 @@ module _ {D : Type 0} (z : SharedState D) (first : InstalledEdit) (old new : Sea
   abbrev idle : Client
   idle = record { txn = Idle; snapshots = snapshots }
 
-  pub begun_alone : (name : List ℕ) (txn : OpenState) → Begins z old name (Ok txn) new → AnswersAlone z first old new idle (record { txn = Open txn.name txn.batch; snapshots = snapshots }) (command.Begin name) reply.Begun store
+  pub begun_alone : (name : List ℕ) (txn : OpenState) → Begins z old name (Ok txn) new → AnswersAlone z first old new idle (record { txn = Open (staged_of txn); snapshots = snapshots }) (command.Begin name) reply.Begun store
   begun_alone name txn k =
       let events : List Event = claimed name ∷ [] in
       let f = follows_on _ z old new _ k.2 events refl refl in
       let alone = is_alone z first old new only store is stood [] events f in
       let free : named store.history name ≡ None =
-      ap (λ (h : List Entry). named h name) (sym (history_still z first old new only store is stood events f)) ∙ (open_is_free stood.0 stood.1.reached new.knows alone name k.1.noted).0 in
-      quiet_answers z first old new only store is stood events f (one_quiet (claimed name) refl refl (λ edit. refl) (λ label n e. absurd cc)) idle (record { txn = Open txn.name txn.batch; snapshots = snapshots }) (command.Begin name) reply.Begun
+      ap (λ (h : List Entry). named h name) (sym (history_still z first old new only store is stood events f)) ∙ (open_is_free stood.0 stood.1.reached new.knows alone name (subst (HasOpen new) k.0 k.1).noted).0 in
+      quiet_answers z first old new only store is stood events f (one_quiet (claimed name) refl refl (λ edit. refl) (λ label n e. absurd cc)) idle (record { txn = Open (staged_of txn); snapshots = snapshots }) (command.Begin name) reply.Begun
       (record { logged = refl; fault = refl; installed = refl; tables = refl; board = λ b. refl })
       (inl (sym (ap (λ (o : Option ℕ). begin_reply o name) free)))
-      (ap (λ (x : OpenState). record { txn = Open x.name x.batch; snapshots = snapshots }) k.0)
+      (ap (λ (x : OpenState). record { txn = Open (staged_of x); snapshots = snapshots }) k.0)
 
   -- ---- where it has no transaction
 

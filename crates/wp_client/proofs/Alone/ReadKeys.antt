@@ -12,7 +12,7 @@ use Rattle.wp_text.specs.declared.reply.Reply.TheVariants as reply
 use Rattle.wp_core.specs.World.{World}
 use Rattle.wp_shared.specs.Seats.{SharedState, SeatState, Stands}
 use Rattle.wp_open_txns.specs.Calls.{Keeps}
-use Rattle.wp_open_txns.specs.Txn.{HasPrepared}
+use Rattle.wp_open_txns.specs.Txn.{PreparedState, HasPrepared}
 use Rattle.wp_replies.specs.declared.client.LabelledSnapshot.{LabelledSnapshot}
 use Rattle.wp_replies.specs.declared.client.Txn.{Txn}
 use Rattle.wp_replies.specs.Client.{Client, number_of, own_batch}
@@ -62,8 +62,8 @@ module _ {D : Type 0} (z : SharedState D) (first : InstalledEdit) (old new : Sea
       at_once z first old new only store is same was was c reply.State (record { logged = refl; fault = refl; installed = refl; tables = refl; board = λ b. state_board c b }) (inl (sym is_due)) refl
 
   -- the changes of a prepared transaction are those of its prepare
-  pub prepared_changes : (name : List ℕ) (number : ℕ) (batch : List Change) → HasPrepared old name number batch → batch_at store.history number ≡ batch
-  prepared_changes name number batch has = ap (λ (h : List Entry). batch_at h number) is.history ∙ ap prepared_batch has.stands
+  pub prepared_changes : (t : PreparedState) → HasPrepared old t → batch_at store.history t.number ≡ t.batch
+  prepared_changes t has = ap (λ (h : List Entry). batch_at h t.number) is.history ∙ ap prepared_batch has.stands
 
   module _ (txn : Txn) (snapshots : List LabelledSnapshot) where
     abbrev client : Client

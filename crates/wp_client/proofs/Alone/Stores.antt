@@ -7,7 +7,7 @@ use Rattle.wp_core.specs.Sound.Pasts.{last_installed}
 use Rattle.wp_core.specs.World.{World, new_participant}
 use Rattle.wp_rule.specs.Shows.{WasLast}
 use Rattle.wp_rule.proofs.Knows.{one_was_first}
-use Rattle.wp_shared.specs.Parts.{content}
+use Rattle.wp_parts.specs.Parts.{content}
 use Rattle.wp_shared.specs.Limits.{WasOpenedAt}
 use Rattle.wp_shared.proofs.Limits.{limit_opened}
 use Rattle.wp_shared.specs.Seats.{SharedState, SeatState, Stands}

@@ -26,7 +26,7 @@ use Rattle.wp_core.proofs.Frames.{at_map}
 use Rattle.wp_core.proofs.OneActor.{tells}
 use Rattle.wp_core.proofs.OneHolder.{holder_is}
 use Rattle.wp_core.proofs.Registered.{total_at}
-use Rattle.wp_core.proofs.Tests.{some_there, none_some}
+use Rattle.wp_model.proofs.Tests.{some_there, none_some}
 use Rattle.wp_client.proofs.Alone.Published.{whole_seen}
 
 -- ---- in any reached world

@@ -5,43 +5,29 @@ use Rattle.wp_client.proofs.WholeClients.{whole_answers, whole_breaks, any_answe
 use Rattle.wp_client.proofs.Staying.{keeps_holds}
 use Rattle.wp_answers.proofs.answering.obey.Goals as goal
 
-pub put-requires : goal.put-requires
-put-requires g c = (subst (Holds c.args.store.now c.args.seat.now) (sym c.held.view_is) c.requires).txn
+pub change-requires-clause-has : goal.change-requires-clause-has
+change-requires-clause-has g c = (subst (Holds c.args.store.now c.args.seat.now) (sym c.held-in-Put.view_is) c.requires).txn
 
 pub returns-in-Put-clause-holds : goal.returns-in-Put-clause-holds
-returns-in-Put-clause-holds g c = whole_holds c.args.store.now c.args.seat.now c.put.new.seat c.held.inside.txn c.put.new.txn c.held.inside.snapshots.items c.put.ensures.holds (subst (Holds c.args.store.now c.args.seat.now) (sym c.held.view_is) c.requires)
+returns-in-Put-clause-holds g c = whole_holds c.args.store.now c.args.seat.now c.change.new.seat c.held-in-Put.inside.txn c.change.new.txn c.held-in-Put.inside.snapshots.items c.change.ensures.holds (subst (Holds c.args.store.now c.args.seat.now) (sym c.held-in-Put.view_is) c.requires)
 
 pub returns-in-Put-clause-answered : goal.returns-in-Put-clause-answered
-returns-in-Put-clause-answered g c = rw (c.in-Put.is, ← c.held.view_is)
-    (whole_answers c.args.store.now c.args.seat.now c.put.new.seat (command.Put c.in-Put.key c.in-Put.value) c.put.result c.held.inside.txn c.put.new.txn c.held.inside.snapshots.items c.put.ensures.answered)
+returns-in-Put-clause-answered g c = rw (← c.held-in-Put.view_is)
+    (whole_answers c.args.store.now c.args.seat.now c.change.new.seat c.args.command.now c.change.result c.held-in-Put.inside.txn c.change.new.txn c.held-in-Put.inside.snapshots.items c.change.ensures.answered)
 
 pub returns-in-Put-clause-err : goal.returns-in-Put-clause-err
-returns-in-Put-clause-err g c = rw (c.in-Put.is, ← c.held.view_is)
-    (whole_breaks c.args.store.now c.args.seat.now c.put.new.seat (command.Put c.in-Put.key c.in-Put.value) c.put.result c.held.inside.txn c.put.new.txn c.held.inside.snapshots.items c.put.ensures.err)
-
-pub del-requires : goal.del-requires
-del-requires g c = (subst (Holds c.args.store.now c.args.seat.now) (sym c.held-in-Del.view_is) c.requires).txn
-
-pub returns-in-Del-clause-holds : goal.returns-in-Del-clause-holds
-returns-in-Del-clause-holds g c = whole_holds c.args.store.now c.args.seat.now c.del.new.seat c.held-in-Del.inside.txn c.del.new.txn c.held-in-Del.inside.snapshots.items c.del.ensures.holds (subst (Holds c.args.store.now c.args.seat.now) (sym c.held-in-Del.view_is) c.requires)
-
-pub returns-in-Del-clause-answered : goal.returns-in-Del-clause-answered
-returns-in-Del-clause-answered g c = rw (c.in-Del.is, ← c.held-in-Del.view_is)
-    (whole_answers c.args.store.now c.args.seat.now c.del.new.seat (command.Del c.in-Del.key) c.del.result c.held-in-Del.inside.txn c.del.new.txn c.held-in-Del.inside.snapshots.items c.del.ensures.answered)
-
-pub returns-in-Del-clause-err : goal.returns-in-Del-clause-err
-returns-in-Del-clause-err g c = rw (c.in-Del.is, ← c.held-in-Del.view_is)
-    (whole_breaks c.args.store.now c.args.seat.now c.del.new.seat (command.Del c.in-Del.key) c.del.result c.held-in-Del.inside.txn c.del.new.txn c.held-in-Del.inside.snapshots.items c.del.ensures.err)
+returns-in-Put-clause-err g c = rw (← c.held-in-Put.view_is)
+    (whole_breaks c.args.store.now c.args.seat.now c.change.new.seat c.args.command.now c.change.result c.held-in-Put.inside.txn c.change.new.txn c.held-in-Put.inside.snapshots.items c.change.ensures.err)
 
 pub get-requires : goal.get-requires
-get-requires g c = (subst (Holds c.args.store.now c.args.seat.now) (sym c.held-in-Get.view_is) c.requires).txn
+get-requires g c = (subst (Holds c.args.store.now c.args.seat.now) (sym c.held.view_is) c.requires).txn
 
 pub returns-in-Get-clause-holds : goal.returns-in-Get-clause-holds
-returns-in-Get-clause-holds g c = rw (← c.held-in-Get.view_is) (keeps_holds c.args.store.now c.args.seat.now c.get.new.seat c.get.ensures.goes_on (record { txn = c.held-in-Get.inside.txn; snapshots = c.held-in-Get.inside.snapshots.items }) (subst (Holds c.args.store.now c.args.seat.now) (sym c.held-in-Get.view_is) c.requires))
+returns-in-Get-clause-holds g c = rw (← c.held.view_is) (keeps_holds c.args.store.now c.args.seat.now c.get.new.seat c.get.ensures.goes_on (record { txn = c.held.inside.txn; snapshots = c.held.inside.snapshots.items }) (subst (Holds c.args.store.now c.args.seat.now) (sym c.held.view_is) c.requires))
 
 pub returns-in-Get-clause-answered : goal.returns-in-Get-clause-answered
-returns-in-Get-clause-answered g c = rw (c.in-Get.is, ← c.held-in-Get.view_is)
-    (whole_answers c.args.store.now c.args.seat.now c.get.new.seat (command.Get c.in-Get.key) c.get.result c.held-in-Get.inside.txn c.held-in-Get.inside.txn c.held-in-Get.inside.snapshots.items c.get.ensures.answered)
+returns-in-Get-clause-answered g c = rw (c.in-Get.is, ← c.held.view_is)
+    (whole_answers c.args.store.now c.args.seat.now c.get.new.seat (command.Get c.in-Get.key) c.get.result c.held.inside.txn c.held.inside.txn c.held.inside.snapshots.items c.get.ensures.answered)
 
 pub returns-in-Get-clause-err : goal.returns-in-Get-clause-err
 returns-in-Get-clause-err g c = kept_breaks c.args.store.now c.args.seat.now c.get.new.seat c.args.command.now c.get.result (client_of c.args.held.now) c.get.ensures.goes_on

@@ -10,12 +10,12 @@ pub returns-clause-new : goal.returns-clause-new
 returns-clause-new g c =
     let z = c.args.store.now in let client = c.args.first.knows.participant.client in let names = c.args.names.items in
     let count : c.args.names.len ≡ length names = search rules in
-    subst (λ (ss : List (Session g.condition.D.Denot)). AreNew z (client ∷ names) (map seat_of ss)) (sym c.put_first.ensures.items)
+    subst (λ (ss : List (Session g.row.D.Denot)). AreNew z (client ∷ names) (map seat_of ss)) (sym c.put_first.ensures.items)
     (all_new z client names c.seat_others-first.result.0 (map seat_of c.seat_others-first.result.1.items) (c.seat_others-first.ensures.first ∙ ap (having_made z client) count) c.seat_others-first.ensures.others)
 
 pub returns-clause-all : goal.returns-clause-all
 returns-clause-all g c =
     let z = c.args.store.now in let client = c.args.first.knows.participant.client in let names = c.args.names.items in
     let count : c.args.names.len ≡ length names = search rules in
-    subst (λ (ss : List (Session g.condition.D.Denot)). AreAll (map seat_of ss)) (sym c.put_first.ensures.items)
+    subst (λ (ss : List (Session g.row.D.Denot)). AreAll (map seat_of ss)) (sym c.put_first.ensures.items)
     (all_made z client names c.seat_others-first.result.0 (map seat_of c.seat_others-first.result.1.items) (c.seat_others-first.ensures.first ∙ ap (having_made z client) count) c.seat_others-first.ensures.others)

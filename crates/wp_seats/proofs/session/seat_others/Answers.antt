@@ -12,7 +12,7 @@ pub loop-name-preserved : goal.loop-name-preserved
 loop-name-preserved g c =
     let z = c.args.store.now in let i = c.loop-name.invariant in let old = c.loop-name.sessions.items in let name = c.in-Some.name in let client = c.args.first.knows.participant.client in
     let longer = length_push c.loop-name.yielded name in
-    let session : Session g.condition.D.Denot = record { seat = c.seat.result; answers = c.none.result } in
+    let session : Session g.row.D.Denot = record { seat = c.seat.result; answers = c.none.result } in
     let seats : map seat_of c.push_reserved.new.self.items ≡ map seat_of old ++ c.seat.result ∷ [] = ap (map seat_of) c.push_reserved.ensures.items ∙ map_push seat_of old session in
     record {
       first = c.seat.ensures.same ∙ (ap (λ (s : SeatState). record s { knows = made_one s.knows }) i.first ∙ ap (having_made z client) (sym longer));

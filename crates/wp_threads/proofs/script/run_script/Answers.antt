@@ -20,4 +20,4 @@ seat_all-sessions-requires-clause-first g c = own_first c.args.store c.args.part
 pub run_to_end-requires-clause-new : goal.run_to_end-requires-clause-new
 run_to_end-requires-clause-new g c =
     let some : 0 < length c.args.parts.now = grind (arith, nat_tests, c.is_empty.ensures, c.if-is_empty.false) in
-    let new = parts_new c.args.store c.args.parts.now c.args.first c.into_lists-names.result.0.items (map (seat_of {D = g.condition.D.Denot}) c.seat_all-sessions.result.items) c.requires.first some (c.into_lists-names.ensures.names ∙ c.requires.room) c.seat_all-sessions.ensures.new in search rules
+    let new = parts_new c.args.store c.args.parts.now c.args.first c.into_lists-names.result.0.items (map (seat_of {D = g.row.D.Denot}) c.seat_all-sessions.result.items) c.requires.first some (c.into_lists-names.ensures.names ∙ c.requires.room) c.seat_all-sessions.ensures.new in search rules

@@ -1,5 +1,5 @@
 use Rattle.std.proofs.Common.{arith}
-use Rattle.wp_answers.proofs.Released.{stays_through}
+use Rattle.wp_client.proofs.Released.{stays_through}
 use Rattle.wp_threads.proofs.Looping.{stays_next, goes_next, count_next, came_broken, came_whole}
 use Rattle.wp_threads.proofs.session.answer_all.Goals as goal
 

@@ -1,6 +1,6 @@
 use Rattle.std.proofs.Common.{◌≡◌, length, take}
-use Rattle.wp_answers.specs.Answers.{Stays}
-use Rattle.wp_answers.specs.Holdings.{Holds}
+use Rattle.wp_client.specs.Answers.{Stays}
+use Rattle.wp_client.specs.Holdings.{Holds}
 use Rattle.wp_threads.proofs.Looping.{GoesOn}
 use Rattle.wp_threads.proofs.session.answer_all.Given as goal
 

@@ -1,6 +1,6 @@
 use Rattle.std.proofs.Common.{List, [], sym, subst}
 use Rattle.wp_text.specs.declared.script.Command.{Command}
-use Rattle.wp_answers.specs.Holdings.{HoldingsState, Holds}
+use Rattle.wp_client.specs.Holdings.{HoldingsState, Holds}
 use Rattle.wp_threads.specs.Came.{HasComeTo}
 use Rattle.wp_threads.specs.SoFar.{IsSessionSoFar}
 use Rattle.wp_threads.proofs.Begun.{holds_new, goes_new}

@@ -1,0 +1,8 @@
+use Rattle.wp_answers.proofs.AtOnce.{prepared_refuses}
+use Rattle.wp_answers.proofs.changes.change.Goals as goal
+
+pub returns-in-Idle-clause-err : goal.returns-in-Idle-clause-err
+returns-in-Idle-clause-err g c = rw c.in-Idle.is c.write_now.ensures.err
+
+pub returns-in-Prepared-clause-answered : goal.returns-in-Prepared-clause-answered
+returns-in-Prepared-clause-answered g c = prepared_refuses c.args.store.now c.args.seat.now c.args.txn.now _ c.in-Prepared.is c.args.command.now c.requires.of_change c.requires.has
