@@ -32,10 +32,10 @@ one_entered : (entered : Option (Text × List Row)) (one other : Choice) → IsE
 one_entered None one other a b = absurd a
 one_entered (Some entered) one other a b =
     let action = one_action entered.1 one.action other.action (sym a.action ∙ b.action) a.numbers b.numbers in
-    let bits = same_number (omega arith) a.bits b.bits in
-    let limit = same_number (omega arith) a.limit b.limit in
-    let id = same_number (omega arith) a.id b.id in
-    λ i. record { action = action i; bits = bits i; limit = limit i; id = id i }
+    let bits = same_number (omega arith) a.options.bits b.options.bits in
+    let limit = same_number (omega arith) a.options.limit b.options.limit in
+    let id = same_number (omega arith) a.options.id b.options.id in
+    λ i. record { action = action i; store = record { bits = bits i; limit = limit i; id = id i } }
 
 pub one_choice : (words : List Text) (one other : Choice) → IsChoice words one → IsChoice words other → one ≡ other
 one_choice words one other a b = one_entered (subcommand_of command_set words) one other a.entered b.entered

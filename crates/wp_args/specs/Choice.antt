@@ -5,6 +5,8 @@ use Rattle.wp_args.specs.CommandSet.{command_set}
 use Rattle.wp_args.specs.declared.choice.Action.{Action}
 use Rattle.wp_args.specs.declared.choice.Action.TheVariants.{Run, Show, Make}
 use Rattle.wp_args.specs.declared.choice.Choice.{Choice}
+use Rattle.wp_args.specs.declared.choice.StoreOptions.{StoreOptions}
+use Rattle.wp_args.specs.declared.limits.TheConstants.{MOST_BITS, MOST_LIMIT, MOST_ID, MOST_SEED, MOST_CLIENTS, MOST_LINES}
 
 -- the word that names the command
 abbrev pub command_name : Action → Text
@@ -21,22 +23,26 @@ pub record HasNumber (entries : List Row) (argument : Text) (least most number :
 
 -- the numbers of the script that is made
 pub record HasMaking (entries : List Row) (seed clients lines : ℕ) : Type 0 where
-  pub seed_is : HasNumber entries (codes "SEED") 0 4294967295 seed
-  pub clients_are : HasNumber entries (codes "CLIENTS") 1 16 clients
-  pub lines_are : HasNumber entries (codes "LINES") 1 1000 lines
+  pub seed_is : HasNumber entries (codes "SEED") 0 MOST_SEED seed
+  pub clients_are : HasNumber entries (codes "CLIENTS") 1 MOST_CLIENTS clients
+  pub lines_are : HasNumber entries (codes "LINES") 1 MOST_LINES lines
 
 -- the numbers of a command that has some
 abbrev pub HasNumbers : List Row → Action → Type 0
 HasNumbers entries (Make seed clients lines) = HasMaking entries seed clients lines
 HasNumbers entries other = Unit {0}
 
+-- the numbers of the options of a command on a store
+pub record HasOptions (entries : List Row) (options : StoreOptions) : Type 0 where
+  pub bits : HasNumber entries (codes "bits") 0 MOST_BITS options.bits
+  pub limit : HasNumber entries (codes "limit") 1 MOST_LIMIT options.limit
+  pub id : HasNumber entries (codes "id") 1 MOST_ID options.id
+
 -- the command's name and the entries of its matches are the choice's
 pub record HasEntries (name : Text) (entries : List Row) (choice : Choice) : Type 0 where
   pub action : name ≡ command_name choice.action
   pub numbers : HasNumbers entries choice.action
-  pub bits : HasNumber entries (codes "bits") 0 16 choice.bits
-  pub limit : HasNumber entries (codes "limit") 1 70368744177663 choice.limit
-  pub id : HasNumber entries (codes "id") 1 4294967295 choice.id
+  pub options : HasOptions entries choice.store
 
 -- a command is named, and it is the choice's
 abbrev pub IsEntered : Option (Text × List Row) → Choice → Type 0

@@ -2,9 +2,10 @@
 
 ghost use Rattle.std.specs.Prelude.{◌≡◌, ℕ, IfNone, IfOk, IfSome, codes, map, string_bytes};
 ghost use Rattle.clap.specs.Words.{found_of, rows_of, subcommand_rows_of};
-ghost use Rattle.wp_args.specs.Choice.{HasMaking, HasNumber, HasNumbers, IsChoice, IsEntered, IsTaken, command_name};
+ghost use Rattle.wp_args.specs.Choice.{HasMaking, HasNumber, HasNumbers, HasOptions, IsChoice, IsEntered, IsTaken, command_name};
 
 use crate::command_set::command_set;
+use crate::limits::{MOST_BITS, MOST_CLIENTS, MOST_ID, MOST_LIMIT, MOST_LINES, MOST_SEED};
 use crate::number::number_of;
 use clap::ArgMatches;
 use clap::error::ErrorKind;
@@ -28,16 +29,22 @@ pub enum Action {
     },
 }
 
-/// A command with the numbers of its options, given or default.
+/// The numbers of a command on a store, given or default.
 #[derive(Clone, Copy, Drop)]
-pub struct Choice {
-    pub action: Action,
+pub struct StoreOptions {
     /// The commit cache has two to this power places; 0 to 16.
     pub bits: u32,
     /// The greatest number that an entry may have, where the log's version has it; 1 to 70368744177663.
     pub limit: u64,
     /// The number of the store, which its log and its manifest bear; 1 to 4294967295.
     pub id: u32,
+}
+
+/// A command, and the options of the store that it is about.
+#[derive(Clone, Copy, Drop)]
+pub struct Choice {
+    pub action: Action,
+    pub store: StoreOptions,
 }
 
 /// What the words choose, or `None` where they are refused. The first word is the program's name and is not
@@ -61,9 +68,19 @@ fn choice_in(matches: &ArgMatches<'_>) -> Option<Choice>
     let (name, entries) = matches.subcommand()?;
     Some(Choice {
         action: action_of(name, entries)?,
-        bits: number_in(entries, "bits", 0, 16)? as u32,
-        limit: number_in(entries, "limit", 1, 70_368_744_177_663)?,
-        id: number_in(entries, "id", 1, 4_294_967_295)? as u32,
+        store: options_in(entries)?,
+    })
+}
+
+/// The numbers of the options of a command on a store.
+fn options_in(entries: &ArgMatches<'_>) -> Option<StoreOptions>
+    ensures numbers { IfSome result (HasOptions (rows_of (found_of entries.now))) }
+    ensures none { IfNone result ((options : _) → ¬ HasOptions (rows_of (found_of entries.now)) options) }
+{
+    Some(StoreOptions {
+        bits: number_in(entries, "bits", 0, MOST_BITS)? as u32,
+        limit: number_in(entries, "limit", 1, MOST_LIMIT)?,
+        id: number_in(entries, "id", 1, MOST_ID)? as u32,
     })
 }
 
@@ -88,9 +105,9 @@ fn making_in(entries: &ArgMatches<'_>) -> Option<Action>
     ensures none { IfNone result ((seed clients lines : ℕ) → ¬ HasMaking (rows_of (found_of entries.now)) seed clients lines) }
 {
     Some(Action::Make {
-        seed: number_in(entries, "SEED", 0, 4_294_967_295)? as u32,
-        clients: number_in(entries, "CLIENTS", 1, 16)? as u32,
-        lines: number_in(entries, "LINES", 1, 1000)? as u32,
+        seed: number_in(entries, "SEED", 0, MOST_SEED)? as u32,
+        clients: number_in(entries, "CLIENTS", 1, MOST_CLIENTS)? as u32,
+        lines: number_in(entries, "LINES", 1, MOST_LINES)? as u32,
     })
 }
 

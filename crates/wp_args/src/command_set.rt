@@ -3,12 +3,13 @@
 ghost use Rattle.std.specs.Prelude.{◌≡◌, IfOk, false};
 ghost use Rattle.clap.specs.Words.{app_of, rule_of, with_rule, with_subcommand};
 ghost use Rattle.clap.specs.declared.builder.command.Command.TheViews.{out-Command as fields_of};
-ghost use Rattle.wp_args.specs.CommandSet.{command, command_set, make_command, number_option, number_word, plain_commands};
+ghost use Rattle.wp_args.specs.CommandSet.{command_set, make_command, number_option, number_word, plain_commands, program, store_command};
 
+use crate::limits::{BITS, ID, LIMIT};
 use clap::{Arg, Command};
 use std::alloc::{AllocError, Global};
 
-/// The program with its commands. It has no help, so the words that ask for it are unknown words.
+/// The program with the commands that `run` of `wp_run` does.
 pub(crate) fn command_set<'a>(alloc: Global) -> Result<Command<'a>, AllocError>
     ensures set { IfOk result (λ set. app_of set ≡ command_set) }
 {
@@ -19,32 +20,38 @@ pub(crate) fn command_set<'a>(alloc: Global) -> Result<Command<'a>, AllocError>
 fn plain_commands<'a>(alloc: Global) -> Result<Command<'a>, AllocError>
     ensures set { IfOk result (λ made. app_of made ≡ plain_commands) }
 {
-    let program = Command::new(alloc, "wp")
-        .disable_help_flag(true)
-        .disable_help_subcommand(true);
-    let program = with_command(alloc, program, "run")?;
+    let program = with_command(alloc, program(alloc), "run")?;
     with_command(alloc, program, "show")
 }
 
-/// The program with one more command, which has the options alone.
+/// The program without its commands: it has no help, so the words that ask for it are unknown words.
+fn program<'a>(alloc: Global) -> Command<'a>
+    ensures { app_of result ≡ program }
+{
+    Command::new(alloc, "wp")
+        .disable_help_flag(true)
+        .disable_help_subcommand(true)
+}
+
+/// The program with one more command on a store, which has the options alone.
 fn with_command<'a>(
     alloc: Global,
     program: Command<'a>,
     name: &'a str,
 ) -> Result<Command<'a>, AllocError>
-    ensures set { IfOk result (λ made. app_of made ≡ with_subcommand (app_of program.entry) (command name.entry.now).top) }
+    ensures set { IfOk result (λ made. app_of made ≡ with_subcommand (app_of program.entry) (store_command name.entry.now).top) }
 {
-    program.subcommand(command(alloc, name)?)
+    program.subcommand(store_command(alloc, name)?)
 }
 
-/// A command with the options that each command takes.
-fn command<'a>(alloc: Global, name: &'a str) -> Result<Command<'a>, AllocError>
-    ensures rules { IfOk result (λ made. app_of made ≡ command name.entry.now) }
+/// A command on a store, with the options that each of these takes.
+fn store_command<'a>(alloc: Global, name: &'a str) -> Result<Command<'a>, AllocError>
+    ensures rules { IfOk result (λ made. app_of made ≡ store_command name.entry.now) }
     ensures local { IfOk result (λ made. (fields_of made).has_globals ≡ false) }
 {
-    let command = with_option(alloc, Command::new(alloc, name), "bits", "10")?;
-    let command = with_option(alloc, command, "limit", "70368744177663")?;
-    with_option(alloc, command, "id", "1")
+    let command = with_option(alloc, Command::new(alloc, name), "bits", BITS)?;
+    let command = with_option(alloc, command, "limit", LIMIT)?;
+    with_option(alloc, command, "id", ID)
 }
 
 /// The command that makes its script, with its numbers.
@@ -52,7 +59,7 @@ fn make_command<'a>(alloc: Global) -> Result<Command<'a>, AllocError>
     ensures rules { IfOk result (λ made. app_of made ≡ make_command) }
     ensures local { IfOk result (λ made. (fields_of made).has_globals ≡ false) }
 {
-    let command = with_word(alloc, command(alloc, "make")?, "SEED")?;
+    let command = with_word(alloc, store_command(alloc, "make")?, "SEED")?;
     let command = with_word(alloc, command, "CLIENTS")?;
     with_word(alloc, command, "LINES")
 }

@@ -4,22 +4,22 @@ ghost use Rattle.std.specs.Prelude.{◌≡◌, List, [], ◌∷◌, codes};
 ghost use Rattle.clap.specs.Words.{Text};
 ghost use Rattle.wp_args.specs.Choice.{IsChoice, IsTaken};
 
-use crate::Action;
+use crate::{Action, MOST_LIMIT};
 
 /// A command alone is taken, and each option has its default.
 pub fn commands_alone_are_taken()
     ensures run { IsChoice (codes "wp" ∷ codes "run" ∷ [])
-        (record { action = Action.Run; bits = 10; limit = 70368744177663; id = 1 }) }
+        (record { action = Action.Run; store = record { bits = 10; limit = MOST_LIMIT; id = 1 } }) }
     ensures show { IsChoice (codes "wp" ∷ codes "show" ∷ [])
-        (record { action = Action.Show; bits = 10; limit = 70368744177663; id = 1 }) }
+        (record { action = Action.Show; store = record { bits = 10; limit = MOST_LIMIT; id = 1 } }) }
 {}
 
 /// A script is made of the numbers that are given, which may stand beside options.
 pub fn numbers_make_a_script()
     ensures alone { IsChoice (codes "wp" ∷ codes "make" ∷ codes "7" ∷ codes "8" ∷ codes "1000" ∷ [])
-        (record { action = Action.Make 7 8 1000; bits = 10; limit = 70368744177663; id = 1 }) }
+        (record { action = Action.Make 7 8 1000; store = record { bits = 10; limit = MOST_LIMIT; id = 1 } }) }
     ensures beside { IsChoice (codes "wp" ∷ codes "make" ∷ codes "7" ∷ codes "--bits" ∷ codes "0" ∷ codes "8" ∷ codes "1000" ∷ [])
-        (record { action = Action.Make 7 8 1000; bits = 0; limit = 70368744177663; id = 1 }) }
+        (record { action = Action.Make 7 8 1000; store = record { bits = 0; limit = MOST_LIMIT; id = 1 } }) }
 {}
 
 /// Words without a command, a request for help and a number out of its range or missing are refused.

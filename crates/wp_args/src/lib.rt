@@ -9,9 +9,11 @@
 mod choice;
 mod command_set;
 mod laws;
+mod limits;
 mod number;
 
-pub use choice::{Action, Choice, choice_of};
+pub use choice::{Action, Choice, StoreOptions, choice_of};
 pub use laws::{
     commands_alone_are_taken, numbers_make_a_script, other_words_are_refused, words_choose_once,
 };
+pub use limits::{MOST_BITS, MOST_CLIENTS, MOST_ID, MOST_LIMIT, MOST_LINES, MOST_SEED};

@@ -7,7 +7,7 @@ use wp_text::Reply;
 
 /// What a reply that is counted tells.
 #[derive(Clone, Copy)]
-pub enum Kind {
+pub(crate) enum Kind {
     /// A put or a deletion that was written at once.
     Puts,
     Commits,
@@ -32,7 +32,7 @@ fn is_of(kind: Kind, reply: &Reply) -> bool
 }
 
 /// How many of the clients' replies are of the kind.
-pub fn count_of(kind: Kind, sessions: &[&[Reply]]) -> Result<u64, AllocError>
+pub(crate) fn count_of(kind: Kind, sessions: &[&[Reply]]) -> Result<u64, AllocError>
     ensures { IfOk result (λ n. n ≡ count_of kind (map (λ replies. replies.now) sessions.now)) }
 {
     let mut total = 0u64;

@@ -12,7 +12,7 @@ use wp_text::{Command, Commands};
 
 /// What a client's generator has come to.
 #[derive(Drop)]
-pub struct Maker {
+pub(crate) struct Maker {
     client: u32,
     state: u64,
     /// Whether a transaction is begun.

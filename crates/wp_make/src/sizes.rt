@@ -13,7 +13,7 @@ use wp_model::{Carried, Change, Entry, Key, Value};
 
 /// How many keys have a value, and how many bytes they and their values have together.
 #[derive(Clone, Copy)]
-pub struct Sizes {
+pub(crate) struct Sizes {
     pub keys: u64,
     pub bytes: u64,
 }
@@ -132,7 +132,7 @@ fn bytes_of(history: &History, keys: &[Key]) -> Result<u64, AllocError>
 }
 
 /// How much the history leaves, where the store is what there was at its base.
-pub fn store_of(
+pub(crate) fn store_of(
     alloc: Global,
     history: &History,
     store: &BTreeMap<Key, Value>,

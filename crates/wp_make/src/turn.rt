@@ -3,7 +3,7 @@ ghost use Rattle.wp_make.specs.Generator.{turn_of};
 
 /// What a client does in one turn.
 #[derive(Clone, Copy)]
-pub enum Turn {
+pub(crate) enum Turn {
     Put,
     Del,
     Get,
@@ -17,7 +17,7 @@ pub enum Turn {
 }
 
 /// The turn by the number below 8 that was drawn for it, where a transaction is begun or none is.
-pub fn turn_of(begun: bool, drawn: u64) -> Turn
+pub(crate) fn turn_of(begun: bool, drawn: u64) -> Turn
     ensures { result ≡ turn_of begun drawn }
 {
     if begun {

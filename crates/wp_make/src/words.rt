@@ -18,28 +18,28 @@ fn word<const MOST: usize>(alloc: Global, bytes: &[u8]) -> Result<Word<MOST>, Al
     }
 }
 
-pub fn client_name(alloc: Global, client: u32) -> Result<Name, AllocError>
+pub(crate) fn client_name(alloc: Global, client: u32) -> Result<Name, AllocError>
     ensures { IfOk result (λ name. name ≡ client_word client) }
 {
     let text = format!(in alloc; "c{client}")?;
     word(alloc, text.as_bytes())
 }
 
-pub fn txn_name(alloc: Global, client: u32, begins: u32) -> Result<Name, AllocError>
+pub(crate) fn txn_name(alloc: Global, client: u32, begins: u32) -> Result<Name, AllocError>
     ensures { IfOk result (λ name. name ≡ txn_word client begins) }
 {
     let text = format!(in alloc; "c{client}t{begins}")?;
     word(alloc, text.as_bytes())
 }
 
-pub fn client_key(alloc: Global, client: u32, key: u64) -> Result<Key, AllocError>
+pub(crate) fn client_key(alloc: Global, client: u32, key: u64) -> Result<Key, AllocError>
     ensures { IfOk result (λ word. word ≡ key_word client key) }
 {
     let text = format!(in alloc; "c{client}k{key}")?;
     word(alloc, text.as_bytes())
 }
 
-pub fn numbered_value(alloc: Global, value: u64) -> Result<Value, AllocError>
+pub(crate) fn numbered_value(alloc: Global, value: u64) -> Result<Value, AllocError>
     ensures { IfOk result (λ word. word ≡ value_word value) }
 {
     let text = format!(in alloc; "v{value}")?;

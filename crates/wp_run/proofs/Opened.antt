@@ -6,9 +6,10 @@ use Rattle.wp_gatelog.specs.Moments.{Leaves}
 use Rattle.wp_refused.specs.declared.bad.Bad.TheVariants as bad
 use Rattle.wp_refused.specs.declared.error.OpenError.{OpenError}
 use Rattle.wp_refused.specs.declared.error.OpenError.TheVariants as open_error
-use Rattle.wp_shared.specs.Devices.{DevicesLeft}
-use Rattle.wp_refused.specs.Refused.{IsLeft, at_manifest, at_log, at_new_manifest, at_place, at_ids, at_edit, at_tables}
-use Rattle.wp_refused.specs.Tables.{IsAtMostSynced, LeavesSynced}
+use Rattle.wp_contents.specs.Devices.{DevicesLeft}
+use Rattle.wp_refused.specs.Refused.{IsLeft, at_manifest, at_log, at_new_manifest, at_place, at_ids, at_repair, at_edit, at_tables}
+use Rattle.wp_gatelog.specs.Left.{IsAtMostSynced}
+use Rattle.wp_refused.specs.Tables.{LeavesSynced}
 use Rattle.wp_tableset.specs.Device.{BeginsWith, KeepsFronts}
 use Rattle.wp_run.proofs.Keeping.{fronts_same}
 
@@ -38,10 +39,11 @@ refused_fronts asked same_log same_tables old new why is itself left =
     let unchanged : same_tables → KeepsFronts old.tables new.tables = λ s. subst (λ (ms : List Moment). KeepsFronts old.tables ms) (sym (is s)) (fronts_same old.tables) in
     elim left [
       | at_manifest refusal reason edits survives log_same tables_same ↦ unchanged tables_same
-      | at_log its edits refusal manifest_left reason records kept tables_same ↦ unchanged tables_same
+      | at_log its edits refusal manifest reason left tables_same ↦ unchanged tables_same
       | at_new_manifest id c refusal unmade log_left reason edits survives tables_same ↦ unchanged tables_same
-      | at_place id its c edits are elsewhere named tables_same ↦ unchanged tables_same
-      | at_ids id found c edits are other named tables_same ↦ unchanged tables_same
+      | at_place id its c edits are elsewhere tables_same ↦ unchanged tables_same
+      | at_ids id found c edits log manifest other named tables_same ↦ unchanged tables_same
+      | at_repair id c edits log manifest named tables_same ↦ unchanged tables_same
       | at_edit id c edits are apart tables_same ↦ unchanged tables_same
       | at_tables id c edits are within reason synced ↦ fronts_left same_tables old.tables new.tables why unchanged itself synced
     ]

@@ -13,7 +13,7 @@ use Rattle.wp_wal.specs.Wal.{WalState, LeavesCutOrNext, LosesNothingAt}
 use Rattle.wp_tableset.specs.Device.{KeepsFronts}
 use Rattle.wp_tableset.specs.Set.{TableSetState}
 use Rattle.wp_gatelog.specs.Durability.{LosesNoRecord}
-use Rattle.wp_shared.specs.Opens.{AllKnown, OpensTo, installed_of}
+use Rattle.wp_contents.specs.Opens.{AllKnown, OpensTo, installed_of}
 use Rattle.wp_core.specs.Lists.{one_if}
 use Rattle.wp_opened.specs.Filled.{running_set}
 use Rattle.wp_shared.specs.Ended.{IsEnded}
@@ -24,7 +24,7 @@ use Rattle.wp_threads.specs.Explained.{found_in, left_in, failed_in, faults_in}
 use Rattle.wp_run.specs.Crash.{CrashOpens}
 use Rattle.wp_run.specs.Headline.{Serving}
 use Rattle.wp_run.specs.Met.{named_cut, IsStored}
-use Rattle.wp_run.specs.Use.{before, after, IsDurable, DisksUse}
+use Rattle.wp_status.specs.Use.{before, after, IsDurable, DisksUse}
 use Rattle.wp_threads.proofs.Counted.{none_or_some}
 use Rattle.wp_run.proofs.Crashed.{crash_opens}
 use Rattle.wp_run.proofs.Keeping.{records_trans, fronts_trans, rose_since}
@@ -71,10 +71,10 @@ module _ {D : Type 0} {z : SharedState D} (asked : ℕ) (disks : DisksUse) {seat
       }
 
 -- what is stored then
-module _ {D : Type 0} {z : SharedState D} (s : Serving) {seats : List SeatState} {history : List Entry} (opened : IsOpenedFrom s.id (before s.disks) z) (ended : IsEnded z seats history (after s.disks))
+module _ {D : Type 0} {z : SharedState D} (s : Serving) {seats : List SeatState} {history : List Entry} (opened : IsOpenedFrom s.choice.store.id (before s.disks) z) (ended : IsEnded z seats history (after s.disks))
     (same_edit : ended.first_edit ≡ installed_of opened.wal.segment.base opened.edits.edit opened.versions.tables) where
   wal_is : ended.opened.wal ≡ opened.wal
-  wal_is = same_wal s.id s.disks opened ended
+  wal_is = same_wal s.choice.store.id s.disks opened ended
 
   pub was_opened : AllKnown s.disks.log.before s.disks.manifest.before s.disks.tables.before (OpensTo ended.opened.wal.id z.opened ended.first_edit)
   was_opened = subst (λ (x : WalState × InstalledEdit). AllKnown s.disks.log.before s.disks.manifest.before s.disks.tables.before (OpensTo x.0.id z.opened x.1)) (λ i. (sym wal_is i, sym same_edit i)) opened.found.opens
@@ -100,13 +100,13 @@ module _ {D : Type 0} {z : SharedState D} (s : Serving) {seats : List SeatState}
     left_cut : ended.cut ≡ named_cut (left_in ended)
     left_cut = ended.is_cut.is ∙ ap (cut_at history) (ended.based ∙ ap (λ (g : Segment). g.base) (sym ended.in_place))
 
-    pub is_stored : IsStored s.disks s.id ended.opened.wal.id (found_in ended) (left_in ended) (failed_in ended) faults
+    pub is_stored : IsStored s.disks s.choice.store.id ended.opened.wal.id (found_in ended) (left_in ended) (failed_in ended) faults
     is_stored =
-        let since = ended.since in let old = s.disks in let set = same_set s.id s.disks opened ended in
+        let since = ended.since in let old = s.disks in let set = same_set s.choice.store.id s.disks opened ended in
         let edits_faults = ap (λ (t : TableSetState). t.manifest.log.faults) set in let tables_faults = ap (λ (t : TableSetState). t.faults) set in
         let wal_faults = ap (λ (w : WalState). w.faults) wal_is in
         let opens = opened.parts.opened in record {
-          made = subst (λ (x : WalState × InstalledEdit). IfKnown old.log.before (λ m. IsUnmadeAt x.1.segment.place m.reads → x.0.id ≡ s.id)) (λ i. (sym wal_is i, sym same_edit i)) opens.made;
+          made = subst (λ (x : WalState × InstalledEdit). IfKnown old.log.before (λ m. IsUnmadeAt x.1.segment.place m.reads → x.0.id ≡ s.choice.store.id)) (λ i. (sym wal_is i, sym same_edit i)) opens.made;
           spelled = subst (λ (x : WalState × InstalledEdit). IfKnown old.log.before (λ m. IsLogAt x.0.id x.1.segment.place (cut_at z.opened x.1.segment.base) m.reads)) (λ i. (sym wal_is i, sym same_edit i)) opens.found;
           stored = subst (λ (x : ℕ × Cut). IfKnown old.log.after (LeavesCutOrNext ended.opened.wal.id x.0 x.1 ended.writes.failed)) (λ i. (ap (λ (g : Segment). g.place) (sym ended.in_place) i, left_cut i)) ended.stored;
           durable = λ same.

@@ -10,7 +10,7 @@ use Rattle.wp_model.specs.declared.entry.Entry.{Entry}
 use Rattle.wp_model.specs.Flushed.{InstalledEdit}
 use Rattle.wp_refused.specs.declared.error.OpenError.{OpenError}
 use Rattle.wp_refused.specs.declared.error.OpenError.TheVariants as open_error
-use Rattle.wp_shared.specs.Opens.{installed_of}
+use Rattle.wp_contents.specs.Opens.{installed_of}
 use Rattle.wp_text.specs.declared.script.Part.{Part}
 use Rattle.wp_text.specs.declared.reply.Reply.{Reply}
 use Rattle.wp_core.specs.Lists.{one_if}
@@ -18,7 +18,7 @@ use Rattle.wp_core.specs.World.{Actor}
 use Rattle.wp_rule.specs.Words.{SawAll}
 use Rattle.wp_rule.proofs.Knows.{one_was_first}
 use Rattle.wp_shared.specs.Limits.{least_opened, opened_limit, renewed_limit}
-use Rattle.wp_shared.specs.Parts.{content}
+use Rattle.wp_parts.specs.Parts.{content}
 use Rattle.wp_wal.specs.Spelling.{IsInVersion}
 use Rattle.wp_replies.specs.Exact.{IsExact}
 use Rattle.wp_replies.specs.Explains.{Faults, Explains}
@@ -27,38 +27,39 @@ use Rattle.wp_replies.specs.Kind.{is_fault, is_tables_fault}
 use Rattle.wp_opened.specs.OpenedFrom.{IsOpenedFrom}
 use Rattle.wp_shared.specs.Seats.{SharedState, SeatState, place_at}
 use Rattle.wp_threads.specs.Explained.{found_in, left_in, failed_in, faults_in, HaveRun}
-use Rattle.wp_threads.specs.New.{first_seat, IsFirst}
+use Rattle.wp_seats.specs.New.{first_seat, IsFirst}
 use Rattle.wp_threads.specs.Over.{Answered, replies_of}
 use Rattle.wp_args.specs.Choice.{IsEntered, IsChoice, HasNumbers}
 use Rattle.wp_args.specs.declared.choice.Action.{Action}
 use Rattle.wp_args.specs.declared.choice.Action.TheVariants as action
 use Rattle.wp_args.specs.declared.choice.Choice.{Choice}
+use Rattle.wp_args.specs.declared.limits.TheConstants.{MOST_BITS}
 use Rattle.wp_status.specs.declared.status.Status.{Status}
 use Rattle.wp_status.specs.declared.status.Status.TheVariants as status
-use Rattle.wp_run.specs.Run.{Call, CanMake, IsChoiceOf, IsChosen, IsUnread, IsReadAs, IsServed, Ends}
-use Rattle.wp_threads.specs.Seating.{IsFirstClient}
+use Rattle.wp_run.specs.Run.{Call, CanMake, IsChoiceOf, IsChosen, IsUnread, IsReadAs, IsServed, Ends, IsOutcome}
+use Rattle.wp_seats.specs.Seating.{IsFirstClient}
 use Rattle.wp_run.specs.Headline.{Serving, Headline}
 use Rattle.wp_run.specs.Met.{SharesWords}
 use Rattle.wp_run.specs.Base.{AreLimits, IsBaseStore}
 use Rattle.wp_run.specs.Serving.{nothing_more, exactly, AnswersScript, LacksMemory, faults_of, Serves, ServesExactly, HasEnded}
-use Rattle.wp_run.specs.Unopened.{IsUnopened}
+use Rattle.wp_status.specs.Unopened.{IsUnopened}
 use Rattle.wp_status.specs.Status.{IsStatusOf}
 use Rattle.wp_transcript.specs.Transcript.{text_of}
 use Rattle.wp_transcript.specs.Answers.{are_whole, one_fails}
 use Rattle.wp_status.specs.Written.{IsWritten}
-use Rattle.wp_run.specs.Use.{SinkUse, AreUncalled, before, after}
+use Rattle.wp_status.specs.Use.{SinkUse, AreUncalled, IsDurable, before, after}
 use Rattle.wp_threads.proofs.Counted.{none_or_some}
 use Rattle.wp_run.proofs.Stored.{at_most_one, was_opened, crash_leaves, is_stored}
 use Rattle.wp_run.proofs.Whole.{all_ran, fails_counted}
 
 -- ---- how a script was served
 
-module _ {D : Type 0} (z : SharedState D) (s : Serving) (answered : List Answered) (history : List Entry) (base : ℕ) (store : List (List ℕ × List ℕ)) (cells : z.cells ≡ 2 ^ s.bits) (limit : z.limit ≡ s.limit) (low : s.limit ≤ last_number Two) (first : Actor) (stands : SawAll (place_at z 0) first (length z.opened)) (seen : first.participant.seen ≡ z.opened) (opened : IsOpenedFrom s.id (before s.disks) z) (run : HaveRun z s.script answered history (after s.disks)) (based : base ≡ run.ended.first_edit.segment.base) (store_is : IsBaseStore history base store) where
+module _ {D : Type 0} (z : SharedState D) (s : Serving) (answered : List Answered) (history : List Entry) (base : ℕ) (store : List (List ℕ × List ℕ)) (cells : z.cells ≡ 2 ^ s.choice.store.bits) (limit : z.limit ≡ s.choice.store.limit) (low : s.choice.store.limit ≤ last_number Two) (first : Actor) (stands : SawAll (place_at z 0) first (length z.opened)) (seen : first.participant.seen ≡ z.opened) (opened : IsOpenedFrom s.choice.store.id (before s.disks) z) (run : HaveRun z s.script answered history (after s.disks)) (based : base ≡ run.ended.first_edit.segment.base) (store_is : IsBaseStore history base store) where
   -- the store was opened to one last edit
   same_edit : run.ended.first_edit ≡ installed_of opened.wal.segment.base opened.edits.edit opened.versions.tables
   same_edit = one_was_first content z.first run.ended.first_edit (installed_of opened.wal.segment.base opened.edits.edit opened.versions.tables) run.ended.first_is opened.last_is
 
-  shares_words : SharesWords (2 ^ s.bits) (found_in run.ended)
+  shares_words : SharesWords (2 ^ s.choice.store.bits) (found_in run.ended)
   shares_words =
       let there = stands.there in record {
         world = stands.world;
@@ -72,12 +73,12 @@ module _ {D : Type 0} (z : SharedState D) (s : Serving) (answered : List Answere
   abbrev limits : Limits
   limits = record { opened = opened_limit z; renewed = renewed_limit z }
 
-  are_limits : AreLimits s.limit (found_in run.ended).edit.segment.place s.disks.log.before limits
+  are_limits : AreLimits s.choice.store.limit (found_in run.ended).edit.segment.place s.disks.log.before limits
   are_limits = record {
     format = opened.wal.format;
     found = subst (λ (e : InstalledEdit). IfKnown s.disks.log.before (λ m. IsInVersion opened.wal.format e.segment.place m.reads)) (sym same_edit) opened.parts.opened.version;
     opened = ap (least_opened z.limit) opened.log_is ∙ ap (λ (n : ℕ). min n (last_number opened.wal.format)) limit;
-    renewed = (let same : min z.limit (last_number Two) ≡ s.limit = omega (arith, limit, low) in same);
+    renewed = (let same : min z.limit (last_number Two) ≡ s.choice.store.limit = omega (arith, limit, low) in same);
   }
 
   abbrev replies : List (List Reply)
@@ -119,12 +120,12 @@ module _ {D : Type 0} (z : SharedState D) (s : Serving) (answered : List Answere
   lacks = let h = headline run.run refl in record { faults = faults_in run.ended; run = run.run; first = run.first; headline = h.0; also = h.1 }
 
   abbrev text : List ℕ
-  text = text_of s.action s.script replies base store history
+  text = text_of s.choice.action s.script replies base store history
 
   answers : are_whole answered ≡ true → AnswersScript s (exactly s) (faults_in run.ended) text
   answers whole =
       let h = headline s.script (all_ran s.script run.run answered run.whole whole) in
-      record { headline = h.0; text_is = λ i. text_of s.action s.script (sym h.2 i) (sym h.5 i) (sym h.4 i) (sym h.3 i); also = h.1 }
+      record { headline = h.0; text_is = λ i. text_of s.choice.action s.script (sym h.2 i) (sym h.5 i) (sym h.4 i) (sym h.3 i); also = h.1 }
 
   abbrev faults : Faults
   faults = faults_in run.ended
@@ -149,7 +150,7 @@ module _ {D : Type 0} (z : SharedState D) (s : Serving) (answered : List Answere
   answers_as : (log tables renewals : ℕ) → faults.log ≡ log → faults.tables ≡ tables → faults.renewals ≡ renewals → are_whole answered ≡ true → AnswersScript s (exactly s) (faults_of log tables renewals) text
   answers_as log tables renewals a b c whole = subst (λ (x : ℕ × ℕ × ℕ). AnswersScript s (exactly s) (faults_of x.0 x.1 x.2) text) (λ i. (a i, b i, c i)) (answers whole)
 
-  pub serves_run : (end : Status) → HasEnded s.action s.script answered base store history s.sink end → ServesExactly s end
+  pub serves_run : (end : Status) → HasEnded s.choice.action s.script answered base store history s.sink end → ServesExactly s end
   serves_run status.Memory h = inr lacks
   serves_run status.Ok h =
       let log : faults.log ≡ 0 = sym log_as_told ∙ ap one_if h.1.0 in let tables : faults.tables ≡ 0 = sym tables_as_told ∙ ap one_if h.1.1 in (text, answers_as 0 0 0 log tables (no_stops tables) h.0, h.1.2)
@@ -164,14 +165,14 @@ module _ {D : Type 0} (z : SharedState D) (s : Serving) (answered : List Answere
   serves_run (status.Contents damage) h = absurd h.1
   serves_run (status.OpenFault d) h = absurd h.1
 
-pub serves_refused : (why : OpenError) (end : Status) (s : Serving) → IsStatusOf why end → IsUnopened s why → ServesExactly s end
+pub serves_refused : (why : OpenError) (end : Status) (s : Serving) → IsStatusOf why end → IsUnopened s.choice.store.id s.disks why → ServesExactly s end
 serves_refused open_error.Memory end s is refused = rw is (inl refused)
 serves_refused (open_error.OpenFault device) end s is refused = rw is refused
 serves_refused (open_error.Contents damage) end s is refused = rw is refused
 
 -- ... with nothing more
 answers_only : (s : Serving) (faults : Faults) (text : List ℕ) → AnswersScript s (exactly s) faults text → AnswersScript s (nothing_more s) faults text
-answers_only s faults text a = record { headline = a.headline; text_is = a.text_is; also = tt }
+answers_only s _ _ a = record { headline = a.headline; text_is = a.text_is; also = tt }
 
 pub serves_only : (s : Serving) (end : Status) → ServesExactly s end → Serves s end
 serves_only s status.Ok h = (h.0, answers_only s _ h.0 h.1, h.2)
@@ -219,7 +220,7 @@ served_ends call (status.OpenFault device) h = h
 served_only : (call : Call) (end : Status) → IsServed ServesExactly call end → IsServed Serves call end
 served_only call end h = record { choice = h.choice; chosen = h.chosen; script = h.script; read = h.read; served = serves_only _ end h.served }
 
-pub ends_only : (call : Call) (end : Status) → Ends ServesExactly call end → Ends Serves call end
+ends_only : (call : Call) (end : Status) → Ends ServesExactly call end → Ends Serves call end
 ends_only call status.Words h = h
 ends_only call status.SourceFault h = h
 ends_only call (status.Script fault) h = h
@@ -232,13 +233,16 @@ ends_only call status.TableFault h = served_only call status.TableFault h
 ends_only call (status.Contents damage) h = served_only call (status.Contents damage) h
 ends_only call (status.OpenFault device) h = served_only call (status.OpenFault device) h
 
+pub outcome : (call : Call) (end : Status) → Ends ServesExactly call end → IsDurable call.disks → IsOutcome call end
+outcome call end ends durable = record { ends = ends_only call end ends; alone = ends; durable = durable }
+
 -- the numbers of a choice are in their ranges
-pub in_ranges : (words : List (List ℕ)) (choice : Choice) → IsChoice words choice → (choice.bits ≤ 16) × (1 ≤ choice.limit) × (choice.limit ≤ last_number Two)
+pub in_ranges : (words : List (List ℕ)) (choice : Choice) → IsChoice words choice → (choice.store.bits ≤ MOST_BITS) × (1 ≤ choice.store.limit) × (choice.store.limit ≤ last_number Two)
 in_ranges words choice is = by _ is.entered
   where
-    by : (entered : Option (List ℕ × List _)) → IsEntered entered choice → (choice.bits ≤ 16) × (1 ≤ choice.limit) × (choice.limit ≤ last_number Two)
+    by : (entered : Option (List ℕ × List _)) → IsEntered entered choice → (choice.store.bits ≤ MOST_BITS) × (1 ≤ choice.store.limit) × (choice.store.limit ≤ last_number Two)
     by None none = absurd none
-    by (Some x) has = let high = has.limit.high in (has.bits.high, has.limit.low, omega (arith, high))
+    by (Some x) has = let high = has.options.limit.high in (has.options.bits.high, has.options.limit.low, omega (arith, high))
 
 -- so are those of the script that it makes
 pub can_make : (words : List (List ℕ)) (choice : Choice) → IsChoice words choice → CanMake choice.action

@@ -6,7 +6,7 @@ use Rattle.wp_args.specs.declared.choice.Action.{Action}
 use Rattle.wp_args.specs.declared.choice.Action.TheVariants as action
 use Rattle.wp_args.specs.declared.choice.Choice.{Choice}
 use Rattle.wp_run.specs.Run.{IsChosen, IsReadAs}
-use Rattle.wp_run.specs.Use.{SourceUse}
+use Rattle.wp_status.specs.Use.{SourceUse}
 
 show_uncalled : (source : SourceUse) (read : _) → IsReadAs action.Show source read → source.uncalled
 show_uncalled source (Ok script) has = has.0

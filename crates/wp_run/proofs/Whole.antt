@@ -9,7 +9,7 @@ use Rattle.std.proofs.lemmas.List.Sums.{sum_by-cons}
 use Rattle.wp_text.specs.declared.script.Part.{Part}
 use Rattle.wp_text.specs.declared.reply.Reply.{Reply}
 use Rattle.wp_core.specs.Lists.{one_if}
-use Rattle.wp_core.proofs.Tests.{both}
+use Rattle.wp_model.proofs.Tests.{both}
 use Rattle.wp_replies.specs.Explains.{all_replies}
 use Rattle.wp_threads.specs.Explained.{AreWholeParts}
 use Rattle.wp_threads.specs.Over.{Answered, replies_of}

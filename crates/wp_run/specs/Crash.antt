@@ -3,7 +3,7 @@ use Rattle.std.specs.Prelude.{◌≡◌, ◌⊎◌, ℕ, zero, suc, List, ◌++�
 use Rattle.wp_model.specs.declared.entry.Entry.{Entry}
 use Rattle.wp_model.specs.Flushed.{InstalledEdit}
 use Rattle.wp_outside.specs.Disk.{Moment, images}
-use Rattle.wp_shared.specs.Opens.{OpensTo}
+use Rattle.wp_contents.specs.Opens.{OpensTo}
 use Rattle.wp_shared.specs.Ended.{IsFrom}
 use Rattle.wp_replies.specs.Explains.{Faults}
 use Rattle.wp_replies.specs.Known.{StoredState}

@@ -3,10 +3,10 @@ use Rattle.std.specs.Prelude.{◌≡◌, ℕ, ◌<◌, ◌≤◌, ◌==◌, ◌^
 use Rattle.std.specs.List.{flat_map}
 use Rattle.wp_model.specs.declared.entry.Entry.{Entry}
 use Rattle.wp_model.specs.Legal.{IsLegal}
-use Rattle.wp_args.specs.declared.choice.Action.{Action}
+use Rattle.wp_args.specs.declared.choice.Choice.{Choice}
 use Rattle.wp_text.specs.declared.script.Part.{Part}
 use Rattle.wp_text.specs.declared.reply.Reply.{Reply}
-use Rattle.wp_shared.specs.Opens.{AllKnown, OpensTo}
+use Rattle.wp_contents.specs.Opens.{AllKnown, OpensTo}
 use Rattle.wp_replies.specs.Explains.{Faults, AreSessions, all_replies}
 use Rattle.wp_replies.specs.Kind.{acknowledged}
 use Rattle.wp_replies.specs.Known.{StoredState}
@@ -14,14 +14,11 @@ use Rattle.wp_replies.specs.Replies.{Untaken, Limits}
 use Rattle.wp_run.specs.Crash.{CrashOpens}
 use Rattle.wp_run.specs.Base.{AreLimits, IsBaseStore}
 use Rattle.wp_run.specs.Met.{SharesWords, IsStored, AreMet}
-use Rattle.wp_run.specs.Use.{DisksUse, SinkUse}
+use Rattle.wp_status.specs.Use.{DisksUse, SinkUse}
 
--- a command with its script, the limits and the devices that it was served with
+-- a choice with its script, and the devices that it was served with
 pub record Serving : Type 1 where
-  pub action : Action  -- which says what text it prints
-  pub bits : ℕ  -- the commit cache has two to this power words
-  pub limit : ℕ  -- the greatest number of an entry
-  pub id : ℕ  -- that a new store gets
+  pub choice : Choice
   pub script : List Part
   pub disks : DisksUse
   pub sink : SinkUse
@@ -35,7 +32,7 @@ pub record Headline (s : Serving) (faults : Faults) (run : List Part) : Type 0 w
   pub found : StoredState
   pub opened : AllKnown s.disks.log.before s.disks.manifest.before s.disks.tables.before (OpensTo id found.history found.edit)
   -- With these, and as many words in the commit cache as were asked for, there is a world of the machine: the opened store's.
-  pub words : SharesWords (2 ^ s.bits) found
+  pub words : SharesWords (2 ^ s.choice.store.bits) found
   -- The history that is left is legal, and begins with that one.
   pub left : StoredState
   pub legal : IsLegal left.history
@@ -48,15 +45,15 @@ pub record Headline (s : Serving) (faults : Faults) (run : List Part) : Type 0 w
   pub failed : Untaken  -- the record, or the edit, that a device failed to take
   pub replies : List (List Reply)
   pub limits : Limits
-  pub limits_are : AreLimits s.limit found.edit.segment.place s.disks.log.before limits
+  pub limits_are : AreLimits s.choice.store.limit found.edit.segment.place s.disks.log.before limits
   pub sessions : AreSessions left limits failed found [] s.script run replies
   -- Each new entry is acknowledged by exactly one reply, an Undo together with its Close. No number of one is above the limit.
   pub once : (n : ℕ) → length found.history < n → n ≤ length left.history → count_by (λ m. m == n) (flat_map acknowledged (all_replies replies)) ≡ 1
-  pub within : (n : ℕ) → length found.history < n → n ≤ length left.history → n ≤ s.limit
+  pub within : (n : ℕ) → length found.history < n → n ≤ length left.history → n ≤ s.choice.store.limit
   -- Whatever a crash leaves of the three devices then opens to the history that is left and to its last edit. Where the log failed,
   -- it may be the history with the one record behind it; where a device of the tables failed, the edit may be the failed one.
   pub crash : CrashOpens faults id left failed s.disks.log.after s.disks.manifest.after s.disks.tables.after
   -- Of the log: the id that a new one got, and that the history is acknowledged there. For each fault a device's count rose.
-  pub stored : IsStored s.disks s.id id found left failed faults
+  pub stored : IsStored s.disks s.choice.store.id id found left failed faults
   -- The replies tell of just these faults, and of the last edit.
   pub met : AreMet found.edit left.edit faults run replies

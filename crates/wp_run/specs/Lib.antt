@@ -1,9 +1,7 @@
-pub mod Use
 pub mod Limits
 pub mod Base
 pub mod Crash
 pub mod Met
 pub mod Headline
-pub mod Unopened
 pub mod Serving
 pub mod Run

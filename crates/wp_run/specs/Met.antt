@@ -18,7 +18,7 @@ use Rattle.wp_replies.specs.Known.{StoredState, is_stop}
 use Rattle.wp_replies.specs.Replies.{Untaken}
 use Rattle.wp_wal.specs.Spelling.{NEWEST, IsLogAt}
 use Rattle.wp_wal.specs.Wal.{LeavesCutOrNext, LosesNothingAt}
-use Rattle.wp_run.specs.Use.{DisksUse}
+use Rattle.wp_status.specs.Use.{DisksUse}
 
 -- The machine reaches a world that was opened with just the history and the last edit that were found, and that has so many words
 -- in its commit cache. The proof of a run takes it from the store that was opened. No reply depends on that number.

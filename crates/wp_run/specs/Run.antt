@@ -9,13 +9,15 @@ use Rattle.wp_text.specs.Faults.{IsFault}
 use Rattle.wp_args.specs.declared.choice.Action.{Action}
 use Rattle.wp_args.specs.declared.choice.Action.TheVariants as action
 use Rattle.wp_args.specs.declared.choice.Choice.{Choice}
+use Rattle.wp_args.specs.declared.limits.TheConstants.{MOST_CLIENTS, MOST_LINES}
 use Rattle.wp_args.specs.Choice.{IsChoice, IsTaken}
 use Rattle.wp_outside.specs.Whole.{AreBytesRead}
 use Rattle.wp_status.specs.declared.status.Status.{Status}
 use Rattle.wp_status.specs.declared.status.Status.TheVariants as status
 use Rattle.wp_text.specs.declared.read.TheConstants.{MOST_BYTES}
 use Rattle.wp_run.specs.Headline.{Serving}
-use Rattle.wp_run.specs.Use.{DisksUse, SourceUse, SinkUse, AreUncalled}
+use Rattle.wp_run.specs.Serving.{Serves, ServesExactly}
+use Rattle.wp_status.specs.Use.{DisksUse, SourceUse, SinkUse, AreUncalled, IsDurable}
 
 -- the words choose to do this
 abbrev pub IsChosen : List (List ℕ) → Action → Type 0
@@ -45,7 +47,7 @@ IsScriptOf (action.Make seed clients lines) source script = source.uncalled × (
 
 -- the numbers of a script that is to be made are in their ranges
 abbrev pub CanMake : Action → Type 0
-CanMake (action.Make seed clients lines) = ((1 ≤ clients) × (clients ≤ 16)) × ((1 ≤ lines) × (lines ≤ 1000))
+CanMake (action.Make seed clients lines) = ((1 ≤ clients) × (clients ≤ MOST_CLIENTS)) × ((1 ≤ lines) × (lines ≤ MOST_LINES))
 CanMake other = Unit {0}
 
 -- the bytes read are no script, and this is their first fault
@@ -81,7 +83,7 @@ pub record IsServed (Serves : Serving → Status → Type 0) (call : Call) (end 
   pub chosen : IsChoice call.words choice
   pub script : List Part
   pub read : IsScriptOf choice.action call.source script
-  pub served : Serves (record { action = choice.action; bits = choice.bits; limit = choice.limit; id = choice.id; script = script; disks = call.disks; sink = call.sink }) end
+  pub served : Serves (record { choice = choice; script = script; disks = call.disks; sink = call.sink }) end
 
 -- How a call ended, and why, where a script is served so. Want of memory came before a device was called, or as the script of a
 -- choice was served.
@@ -91,3 +93,13 @@ Ends Serves call status.SourceFault = IsChosen call.words action.Run × Rose cal
 Ends Serves call (status.Script fault) = IsChosen call.words action.Run × IsOutsideGrammar call.source fault
 Ends Serves call status.Memory = AreUncalled call.disks ⊎ IsServed Serves call status.Memory
 Ends Serves call end = IsServed Serves call end
+
+-- what a call came to
+pub record IsOutcome (call : Call) (end : Status) : Type 0 where
+  -- How it ended and why, what was written and what the devices store, by the status.
+  pub ends : Ends Serves call end
+  -- The same, where each reply of a client that is alone is the one that is due.
+  pub alone : Ends ServesExactly call end
+  -- However it ended, no crash takes what each crash would have left before: acknowledged edits, and the bytes of tables. Of
+  -- acknowledged entries `ends` says it, by the place where the log begins.
+  pub durable : IsDurable call.disks

@@ -17,8 +17,8 @@ use Rattle.wp_transcript.specs.Transcript.{text_of}
 use Rattle.wp_transcript.specs.Answers.{are_whole, one_fails}
 use Rattle.wp_status.specs.Written.{IsWritten}
 use Rattle.wp_run.specs.Headline.{Serving, Headline}
-use Rattle.wp_run.specs.Unopened.{IsUnopened}
-use Rattle.wp_run.specs.Use.{SinkUse}
+use Rattle.wp_status.specs.Unopened.{IsUnopened}
+use Rattle.wp_status.specs.Use.{SinkUse}
 
 -- ---- what is said of a store that ran
 
@@ -38,7 +38,7 @@ exactly s faults run headline = IsExact headline.limits headline.found headline.
 -- All commands of the script ran, and the text is of just these replies and this history: the transcript, or the summary of a
 -- made script.
 abbrev pub IsText : (s : Serving) → (faults : Faults) → Headline s faults s.script → List ℕ → Type 0
-IsText s faults headline text = text ≡ text_of s.action s.script headline.replies headline.found.edit.segment.base headline.store headline.left.history
+IsText s faults headline text = text ≡ text_of s.choice.action s.script headline.replies headline.found.edit.segment.base headline.store headline.left.history
 
 -- The text answers the script, with these faults.
 pub record AnswersScript (s : Serving) (more : More s) (faults : Faults) (text : List ℕ) : Type 0 where
@@ -64,9 +64,9 @@ ServesWith s more status.Ok = (text : List ℕ) × AnswersScript s more (faults_
 ServesWith s more status.LogFault = (tables : ℕ) × (text : List ℕ) × AnswersScript s more (faults_of 1 tables 0) text × Appends s.sink.before s.sink.after text
 ServesWith s more status.TableFault = (renewals : ℕ) × (text : List ℕ) × AnswersScript s more (faults_of 0 1 renewals) text × Appends s.sink.before s.sink.after text
 ServesWith s more status.SinkFault = Rose s.sink.faults_before s.sink.faults_after × (faults : Faults) × (text : List ℕ) × AnswersScript s more faults text × AppendsPrefix s.sink.before s.sink.after text
-ServesWith s more status.Memory = IsUnopened s open_error.Memory ⊎ LacksMemory s more
-ServesWith s more (status.Contents damage) = IsUnopened s (open_error.Contents damage)
-ServesWith s more (status.OpenFault device) = IsUnopened s (open_error.OpenFault device)
+ServesWith s more status.Memory = IsUnopened s.choice.store.id s.disks open_error.Memory ⊎ LacksMemory s more
+ServesWith s more (status.Contents damage) = IsUnopened s.choice.store.id s.disks (open_error.Contents damage)
+ServesWith s more (status.OpenFault device) = IsUnopened s.choice.store.id s.disks (open_error.OpenFault device)
 ServesWith s more other = ⊥
 
 abbrev pub Serves : Serving → Status → Type 0

@@ -8,6 +8,6 @@
 mod serve;
 mod top_call;
 
-pub use top_call::{Ended, run};
+pub use top_call::run;
 pub use wp_refused::Bad;
-pub use wp_status::Status;
+pub use wp_status::{Ended, Status};

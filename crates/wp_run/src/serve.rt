@@ -4,28 +4,22 @@ ghost use Rattle.wp_fields.specs.declared.format.Format.TheVariants.{Two};
 ghost use Rattle.wp_entry.specs.Record.{last_number};
 ghost use Rattle.wp_outside.specs.Disk.{ReadsItself};
 ghost use Rattle.wp_run.specs.Base.{IsBaseStore};
-ghost use Rattle.wp_threads.specs.Seating.{IsSeating};
+ghost use Rattle.wp_seats.specs.Seating.{IsSeating};
 ghost use Rattle.wp_run.specs.Serving.{ServesExactly, HasEnded};
-ghost use Rattle.wp_status.specs.Status.{IsStatusOf, IsBeforeSink, stage_of};
-ghost use Rattle.wp_run.specs.Use.{IsDurable, disks_use, sink_use};
+ghost use Rattle.wp_status.specs.Status.{IsBeforeSink, stage_of};
+ghost use Rattle.wp_status.specs.Use.{IsDurable, disks_use, sink_use};
 
 use std::alloc::Global;
 use std::sync::Wait;
 use std::thread::Threads;
-use wp_args::{Action, Choice};
+use wp_args::{Action, Choice, MOST_BITS, StoreOptions};
 use wp_opened::open_shared;
 use wp_outside::{Disk, Disks, Gate, Sink};
-use wp_refused::{OpenError, OpenRefused};
-use wp_status::{Status, write_text};
+use wp_refused::OpenRefused;
+use wp_status::{Ended, Status, write_text};
 use wp_text::Part;
 use wp_threads::{ScriptRun, Seating, run_script};
 use wp_transcript::{log_failed, tables_failed, text_of};
-
-/// How a script was served, and the store's devices.
-pub(crate) struct Served<D> {
-    pub(crate) status: Status,
-    pub(crate) disks: Disks<D>,
-}
 
 /// Writes what the clients were answered, and the history, as the command tells them. The text is built whole before its
 /// first byte is written.
@@ -35,7 +29,7 @@ fn finish<D: Drop, K: Sink>(
     parts: &[Part],
     run: ScriptRun<D>,
     sink: &mut K,
-) -> Served<D>
+) -> Ended<D>
     requires parts { length parts.now ≡ length run.answers.items }
     ensures disks { result.disks ≡ run.disks }
     ensures ended { (store : List (List ℕ × List ℕ)) × IsBaseStore run.history.entries run.history.base store
@@ -52,17 +46,7 @@ fn finish<D: Drop, K: Sink>(
     let stopped = log_failed(&answers);
     let halted = tables_failed(&answers);
     let status = write_text(sink, text, stopped, halted);
-    Served { status, disks }
-}
-
-fn status_of(why: OpenError) -> Status
-    ensures { IsStatusOf why result }
-{
-    match why {
-        OpenError::Memory => Status::Memory,
-        OpenError::OpenFault(device) => Status::OpenFault(device),
-        OpenError::Contents(bad) => Status::Contents(bad),
-    }
+    Ended { status, disks }
 }
 
 /// For the proof alone: the tables' device as it reads is one of its images.
@@ -82,14 +66,11 @@ pub(crate) fn serve<R: Threads + Wait + Sync, D: Disk + Drop + Send, K: Sink, G:
     disks: Disks<D>,
     sink: &mut K,
     gate: &G,
-) -> Served<D>
-    requires ranges { (choice.bits ≤ 16) × (1 ≤ choice.limit) × (choice.limit ≤ last_number Two) }
+) -> Ended<D>
+    requires ranges { (choice.store.bits ≤ MOST_BITS) × (1 ≤ choice.store.limit) × (choice.store.limit ≤ last_number Two) }
     requires seating { IsSeating parts.now seating.client seating.room }
     ensures serves { ServesExactly (record {
-      action = choice.action;
-      bits = choice.bits;
-      limit = choice.limit;
-      id = choice.id;
+      choice = choice;
       script = parts.now;
       disks = disks_use D.moments D.faults disks result.disks;
       sink = sink_use K.contents K.faults sink.old sink.new;
@@ -100,14 +81,15 @@ pub(crate) fn serve<R: Threads + Wait + Sync, D: Disk + Drop + Send, K: Sink, G:
 {
     shows_reading(&disks);
     let Seating { client, room } = seating;
-    match open_shared(alloc, client, disks, choice.bits, choice.limit, choice.id) {
+    let StoreOptions { bits, limit, id } = choice.store;
+    match open_shared(alloc, client, disks, bits, limit, id) {
         Ok((store, first)) => {
             let run = run_script(rt, alloc, store, first, gate, parts, room);
             finish(alloc, choice.action, parts, run, sink)
         }
         Err(OpenRefused { disks, why }) => {
-            let status = status_of(why);
-            Served { status, disks }
+            let status = Status::from(why);
+            Ended { status, disks }
         }
     }
 }

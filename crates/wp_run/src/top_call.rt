@@ -1,28 +1,20 @@
 ghost use Rattle.std.specs.Prelude.{◌≡◌, ◌≤◌, ℕ, map};
 ghost use Rattle.std.specs.String.{string_bytes};
 ghost use Rattle.wp_run.specs.Limits.{LimitsAre};
-ghost use Rattle.wp_run.specs.Run.{call_of, CanMake, Ends, IsChoiceOf, IsChosen, IsReadAs};
-ghost use Rattle.wp_run.specs.Serving.{Serves, ServesExactly};
-ghost use Rattle.wp_run.specs.Use.{IsDurable, disks_use, source_use, sink_use};
+ghost use Rattle.wp_run.specs.Run.{call_of, CanMake, IsChoiceOf, IsChosen, IsOutcome, IsReadAs};
+ghost use Rattle.wp_status.specs.Use.{disks_use, source_use, sink_use};
 ghost use Rattle.wp_status.specs.Status.{LeavesUncalled, stage_of};
 
-use crate::serve::{Served, serve};
+use crate::serve::serve;
 use std::alloc::{AllocError, Global};
 use std::sync::Wait;
 use std::thread::Threads;
 use wp_args::{Action, Choice, choice_of, words_choose_once};
 use wp_make::make_script;
 use wp_outside::{Disk, Disks, Gate, ReadError, Sink, Source, read_all};
-use wp_status::Status;
+use wp_status::{Ended, Status};
 use wp_text::{MOST_BYTES, Script, ScriptError, read_script};
 use wp_threads::Seating;
-
-/// How a call ended, and the devices that it was handed.
-#[derive(Drop)]
-pub struct Ended<D> {
-    pub status: Status,
-    pub disks: Disks<D>,
-}
 
 /// What the words choose.
 fn choice_in(alloc: Global, words: &[String]) -> Result<Choice, Status>
@@ -79,13 +71,7 @@ pub fn run<R: Threads + Wait + Sync, D: Disk + Drop + Send, S: Source, K: Sink, 
     sink: &mut K,
     gate: &G,
 ) -> Ended<D>
-    // How the call ended and why, what was written and what the devices store, by the status.
-    ensures ends { Ends Serves (call_of (map string_bytes words.now) (source_use S.left S.faults source.old source.new) (disks_use D.moments D.faults disks result.disks) (sink_use K.contents K.faults sink.old sink.new)) result.status }
-    // The same, where each reply of a client that is alone is the one that is due.
-    ensures alone { Ends ServesExactly (call_of (map string_bytes words.now) (source_use S.left S.faults source.old source.new) (disks_use D.moments D.faults disks result.disks) (sink_use K.contents K.faults sink.old sink.new)) result.status }
-    // However it ended, no crash takes what each crash would have left before: acknowledged edits, and the bytes of tables. Of
-    // acknowledged entries `ends` says it, by the place where the log begins.
-    ensures durable { IsDurable (disks_use D.moments D.faults disks result.disks) }
+    ensures outcome { IsOutcome (call_of (map string_bytes words.now) (source_use S.left S.faults source.old source.new) (disks_use D.moments D.faults disks result.disks) (sink_use K.contents K.faults sink.old sink.new)) result.status }
     ensures uncalled { LeavesUncalled (stage_of result.status) (source.new ≡ source.old) (result.disks ≡ disks) (sink.new ≡ sink.old) }
     ensures shown { IsChosen (map string_bytes words.now) Action.Show → source.new ≡ source.old }
     ensures made { (seed clients lines : ℕ) → IsChosen (map string_bytes words.now) (Action.Make seed clients lines) → source.new ≡ source.old }
@@ -110,6 +96,5 @@ pub fn run<R: Threads + Wait + Sync, D: Disk + Drop + Send, S: Source, K: Sink, 
             return Ended { status, disks };
         }
     };
-    let Served { status, disks } = serve(rt, alloc, choice, parts, seating, disks, sink, gate);
-    Ended { status, disks }
+    serve(rt, alloc, choice, parts, seating, disks, sink, gate)
 }

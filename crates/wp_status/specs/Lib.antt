@@ -1,2 +1,4 @@
 pub mod Status
+pub mod Use
+pub mod Unopened
 pub mod Written

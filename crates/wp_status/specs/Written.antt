@@ -1,20 +1,11 @@
 -- How the text of a command was written.
-use Rattle.std.specs.Prelude.{◌≡◌, ℕ, Bool, true, false, List, Option}
+use Rattle.std.specs.Prelude.{◌≡◌, ℕ, Bool, true, false, List}
 use Rattle.std.specs.Io.KnownBytes.{Appends}
 use Rattle.wp_outside.specs.Faults.{Rose}
 use Rattle.wp_outside.specs.Sink.{AppendsPrefix}
 use Rattle.wp_status.specs.declared.status.Status.{Status}
 use Rattle.wp_status.specs.declared.status.Status.TheVariants as status
-
--- what a call did to the sink
-pub record SinkUse : Type 0 where
-  pub before : Option (List ℕ)  -- the bytes in it, where they are known
-  pub after : Option (List ℕ)
-  pub faults_before : ℕ
-  pub faults_after : ℕ
-
-abbrev pub sink_use : {K : Type 0} → (K → Option (List ℕ)) → (K → ℕ) → (old new : K) → SinkUse
-sink_use contents faults old new = record { before = contents old; after = contents new; faults_before = faults old; faults_after = faults new }
+use Rattle.wp_status.specs.Use.{SinkUse}
 
 -- how a text was written: whole, with the log failed, the tables alone, or neither; or in part
 abbrev pub IsWritten : (stopped halted : Bool) → SinkUse → List ℕ → Status → Type 0

@@ -1,14 +1,14 @@
 ghost use mathlib.Core.List.{IsPrefix};
 ghost use Rattle.std.specs.Prelude.{◌≡◌, IfOk};
-ghost use Rattle.wp_status.specs.Status.{code_of, own_text, IsLine};
+ghost use Rattle.wp_status.specs.Status.{code_of, own_text, IsLine, IsStatusOf};
 
 use std::alloc::{AllocError, Global};
 use std::fmt::Display;
-use wp_outside::Device;
-use wp_refused::Bad;
+use wp_outside::{Device, Disks};
+use wp_refused::{Bad, OpenError};
 use wp_text::Fault;
 
-/// How a call of `run` ended.
+/// How a call of the program ended.
 #[derive(Drop)]
 pub enum Status {
     /// The whole text was written.
@@ -33,6 +33,25 @@ pub enum Status {
     Contents(Bad),
     /// The device failed while the store was opened. Nothing was written, and no entry was added.
     OpenFault(Device),
+}
+
+/// How a call ended, and the store's devices that it was handed.
+#[derive(Drop)]
+pub struct Ended<D> {
+    pub status: Status,
+    pub disks: Disks<D>,
+}
+
+impl From<OpenError> for Status {
+    ghost from_gives = { IsStatusOf };
+
+    fn from(why: OpenError) -> Status {
+        match why {
+            OpenError::Memory => Status::Memory,
+            OpenError::OpenFault(device) => Status::OpenFault(device),
+            OpenError::Contents(bad) => Status::Contents(bad),
+        }
+    }
 }
 
 /// The bytes of the text.

@@ -1,7 +1,8 @@
 //! The writing of a text.
 ghost use Rattle.std.specs.Prelude.{◌≡◌, ◌≤◌, IfOk, OnErr};
 ghost use Rattle.wp_status.specs.Status.{IsBeforeSink, stage_of};
-ghost use Rattle.wp_status.specs.Written.{sink_use, IsWritten};
+ghost use Rattle.wp_status.specs.Use.{sink_use};
+ghost use Rattle.wp_status.specs.Written.{IsWritten};
 
 use crate::status::Status;
 use std::alloc::AllocError;

@@ -56,7 +56,7 @@ pub enum ScriptError {
 
 /// Why a line could not be read.
 #[derive(Clone, Copy)]
-pub enum LineError {
+pub(crate) enum LineError {
     Memory,
     Wrong(Why),
 }

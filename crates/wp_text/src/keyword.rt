@@ -3,7 +3,7 @@ ghost use Rattle.wp_text.specs.Reading.{bare_text, keyword_named, keyword_text, 
 
 /// The first word of a statement that takes a name.
 #[derive(Clone, Copy)]
-pub enum Named {
+pub(crate) enum Named {
     Client,
     Snap,
     Free,
@@ -15,7 +15,7 @@ pub enum Named {
 
 /// The first word of a command that takes no word.
 #[derive(Clone, Copy)]
-pub enum Bare {
+pub(crate) enum Bare {
     Prepare,
     Commit,
     Rollback,
@@ -27,7 +27,7 @@ pub enum Bare {
 
 /// The first word of a statement.
 #[derive(Clone, Copy)]
-pub enum Keyword {
+pub(crate) enum Keyword {
     Named(Named),
     Bare(Bare),
     Put,

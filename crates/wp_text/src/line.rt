@@ -16,7 +16,7 @@ pub const MOST_LINE_BYTES: usize = 400;
 
 /// What a line says.
 #[derive(Drop)]
-pub enum Statement {
+pub(crate) enum Statement {
     /// A client's part begins.
     Client(Name),
     /// A command of the client whose part it is in.
@@ -158,7 +158,7 @@ fn statement_of(alloc: Global, words: &[&[u8]]) -> Result<Option<Statement>, Lin
 
 /// What the line says, or `None` where it is passed over.
 #[tactic(auto, unfolding(crate::specs::Reading::line_of))]
-pub fn read_line(alloc: Global, line: &[u8]) -> Result<Option<Statement>, LineError>
+pub(crate) fn read_line(alloc: Global, line: &[u8]) -> Result<Option<Statement>, LineError>
     ensures { Gives line_fault (λ s. s) result (line_of line.now) }
 {
     if line.len() > MOST_LINE_BYTES {

@@ -1,6 +1,6 @@
 use Rattle.std.proofs.Common.{sym, subst, ap}
 use Rattle.wp_outside.specs.declared.disk.Disks.{Disks}
-use Rattle.wp_shared.specs.Devices.{devices_of}
+use Rattle.wp_contents.specs.Devices.{devices_of}
 use Rattle.wp_shared.specs.Seats.{SeatState}
 use Rattle.wp_threads.specs.Explained.{HaveRun}
 use Rattle.wp_run.proofs.Opened.{refused_fronts}
@@ -18,7 +18,7 @@ finish-requires g c = record { parts = as_many c.args.parts.now c.run_script-run
 pub returns-in-Ok-clause-serves : goal.returns-in-Ok-clause-serves
 returns-in-Ok-clause-serves g c =
     let left = c.run_script-run.result in
-    let ran = subst (λ (ds : Disks g.condition.D.Denot). HaveRun c.in-Ok.store c.args.parts.now left.answers.items left.history.entries (devices_of g.D.Peek.moments g.D.Peek.faults ds)) (sym c.finish.ensures.disks) c.run_script-run.ensures.run in
+    let ran = subst (λ (ds : Disks g.row.D.Denot). HaveRun c.in-Ok.store c.args.parts.now left.answers.items left.history.entries (devices_of g.D.Peek.moments g.D.Peek.faults ds)) (sym c.finish.ensures.disks) c.run_script-run.ensures.run in
     let ended = c.finish.ensures.ended in
     serves_run c.in-Ok.store _ left.answers.items left.history.entries left.history.base ended.0 c.in-Ok.ensures.store.0 c.in-Ok.ensures.store.1 c.requires.ranges.2
     c.in-Ok.first.knows c.in-Ok.ensures.stands (ap (λ (seat : SeatState). seat.knows.participant.seen) c.in-Ok.ensures.seat) c.in-Ok.ensures.opened ran
@@ -27,11 +27,11 @@ returns-in-Ok-clause-serves g c =
 pub returns-in-Ok-clause-durable : goal.returns-in-Ok-clause-durable
 returns-in-Ok-clause-durable g c =
     let left = c.run_script-run.result in
-    let ran = subst (λ (ds : Disks g.condition.D.Denot). HaveRun c.in-Ok.store c.args.parts.now left.answers.items left.history.entries (devices_of g.D.Peek.moments g.D.Peek.faults ds)) (sym c.finish.ensures.disks) c.run_script-run.ensures.run in
-    is_durable c.args.choice.id _ c.in-Ok.ensures.opened ran.ended c.shows_reading.ensures
+    let ran = subst (λ (ds : Disks g.row.D.Denot). HaveRun c.in-Ok.store c.args.parts.now left.answers.items left.history.entries (devices_of g.D.Peek.moments g.D.Peek.faults ds)) (sym c.finish.ensures.disks) c.run_script-run.ensures.run in
+    is_durable c.args.choice.store.id _ c.in-Ok.ensures.opened ran.ended c.shows_reading.ensures
 
 pub returns-in-Err-clause-serves : goal.returns-in-Err-clause-serves
-returns-in-Err-clause-serves g c = serves_refused c.in-Err.field-0.why c.status_of-status.result _ c.status_of-status.ensures c.in-Err.ensures.refused
+returns-in-Err-clause-serves g c = serves_refused c.in-Err.field-0.why c.from-status.result _ c.from-status.ensures c.in-Err.ensures.refused
 
 pub returns-in-Err-clause-durable : goal.returns-in-Err-clause-durable
 returns-in-Err-clause-durable g c =

@@ -5,8 +5,7 @@ use Rattle.wp_outside.specs.declared.disk.Disks.{Disks}
 use Rattle.wp_gatelog.specs.Durability.{LosesNoRecord}
 use Rattle.wp_manifest.specs.Spelling as edits
 use Rattle.wp_tableset.specs.Device.{KeepsFronts}
-use Rattle.wp_shared.specs.Devices.{DevicesLeft}
-pub use Rattle.wp_status.specs.Written.{SinkUse, sink_use}
+use Rattle.wp_contents.specs.Devices.{DevicesLeft}
 
 pub record DiskUse : Type 1 where
   pub before : List Moment
@@ -71,3 +70,12 @@ pub record SourceUse : Type 1 where
 
 abbrev pub source_use : {S : Type 0} → (S → Option (List ℕ)) → (S → ℕ) → (old new : S) → SourceUse
 source_use left faults old new = record { before = left old; after = left new; faults_before = faults old; faults_after = faults new; uncalled = new ≡ old }
+
+pub record SinkUse : Type 0 where
+  pub before : Option (List ℕ)  -- the bytes in it, where they are known
+  pub after : Option (List ℕ)
+  pub faults_before : ℕ
+  pub faults_after : ℕ
+
+abbrev pub sink_use : {K : Type 0} → (K → Option (List ℕ)) → (K → ℕ) → (old new : K) → SinkUse
+sink_use contents faults old new = record { before = contents old; after = contents new; faults_before = faults old; faults_after = faults new }
