@@ -1,13 +1,13 @@
 //! The real outside: files and the standard streams, over std.
 //!
-//! Each form meets its trait whatever the system answers: it makes std's calls again until all is done, hands on
-//! every failure as the one refusal and counts it. None shows what it holds, since nothing is known of what a
-//! system keeps or gives.
+//! Each form meets its trait whatever the system answers: it hands on every failure as the one refusal and counts it. None
+//! shows what it holds, since nothing is known of what a system keeps or gives.
 #![tactic(auto)]
 
 mod counted;
 mod file;
 mod file_disk;
+mod named_file;
 mod read;
 mod stdin_source;
 mod stdout_sink;

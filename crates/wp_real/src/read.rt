@@ -1,6 +1,6 @@
-ghost use Rattle.std.specs.Prelude.{◌≡◌, ◌≢◌, ◌<◌, ◌≤◌, ◌↔◌, length, take, IsTrue, IsErrAnd, IfOk, IfErr};
+ghost use Rattle.std.specs.Prelude.{◌≡◌, ◌≢◌, ◌≤◌, ◌↔◌, length, IsTrue, IsErrAnd, IfOk, IfErr};
 ghost use Rattle.std.specs.IoError.{error_kind};
-ghost use Rattle.std.specs.Io.KnownBytes.{Consumes, IsAtEnd, ReadConsumes};
+ghost use Rattle.std.specs.Io.KnownBytes.{ReadConsumes};
 
 use std::io::{self, ErrorKind, Read};
 
@@ -27,21 +27,4 @@ pub(crate) fn read_some<R: Read>(reader: &mut R, buf: &mut [u8]) -> io::Result<u
         }
     }
     Err(ErrorKind::TimedOut.into())
-}
-
-/// Reads to the front of `buf` until it is full or the end has come, and says how many bytes.
-pub(crate) fn read_full<R: Read>(reader: &mut R, buf: &mut [u8]) -> io::Result<usize>
-    ensures bound { IfOk result (λ n. n ≤ length buf.new) }
-    ensures bytes { IfOk result (λ n. Consumes (R.remaining reader.old) (R.remaining reader.new) (take n buf.new)) }
-    ensures end { IfOk result (λ n. n < length buf.new → IsAtEnd (R.remaining reader.new)) }
-{
-    let mut filled = 0;
-    while filled < buf.len() {
-        let count = read_some(reader, &mut buf[filled..])?;
-        if count == 0 {
-            return Ok(filled);
-        }
-        filled += count;
-    }
-    Ok(filled)
 }
