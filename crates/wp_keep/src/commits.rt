@@ -11,7 +11,7 @@ use wp_model::Seq;
 
 /// By which number each number is committed.
 #[derive(Drop)]
-pub struct Commits {
+pub(crate) struct Commits {
     by_number: BTreeMap<Seq, Seq>,
 }
 

@@ -8,7 +8,7 @@ use wp_model::{Key, Seq};
 
 /// A key, and the least number by which one of its versions that were passed is committed.
 #[derive(Drop)]
-pub struct Newer<'a> {
+pub(crate) struct Newer<'a> {
     key: &'a Key,
     commit: Seq,
 }
@@ -22,7 +22,7 @@ impl<'a> Model for Newer<'a> {
 }
 
 /// The least number by which a version of the key that was passed is committed.
-pub fn commit_above(newer: &Option<Newer<'_>>, key: &Key) -> Option<Seq>
+pub(crate) fn commit_above(newer: &Option<Newer<'_>>, key: &Key) -> Option<Seq>
     ensures { (n : ℕ) → is_by result n ≡ is_above newer.now key.now n }
 {
     match newer {
@@ -32,7 +32,7 @@ pub fn commit_above(newer: &Option<Newer<'_>>, key: &Key) -> Option<Seq>
 }
 
 /// The lesser of the two numbers, where there is one.
-pub fn least(found: Option<Seq>, commit: Seq) -> Seq
+pub(crate) fn least(found: Option<Seq>, commit: Seq) -> Seq
     ensures { (n : ℕ) → is_by (Some result) n ≡ (is_by found n || is_by (Some commit) n) }
 {
     match found {
@@ -42,7 +42,11 @@ pub fn least(found: Option<Seq>, commit: Seq) -> Seq
 }
 
 /// What is noted after a version that is committed by the number, or is not.
-pub fn note<'a>(newer: Option<Newer<'a>>, key: &'a Key, commit: Option<Seq>) -> Option<Newer<'a>>
+pub(crate) fn note<'a>(
+    newer: Option<Newer<'a>>,
+    key: &'a Key,
+    commit: Option<Seq>,
+) -> Option<Newer<'a>>
     ensures uncommitted { commit ≡ None → result ≡ newer.entry }
     ensures committed { (c : ℕ) → commit ≡ Some c → (other : List ℕ) (n : ℕ) → is_above result other n ≡ (bytes_eq key.now other && (is_above newer.entry key.now n || is_by commit n)) }
 {

@@ -52,7 +52,7 @@ fn push_lasting(
 
 /// Of the versions that stay leaves out the deletions that are committed at the floor and have nothing else of their key after them.
 /// Each version is moved.
-pub fn remaining(
+pub(crate) fn remaining(
     alloc: Global,
     mut versions: Vec<Version>,
     stay: &[bool],

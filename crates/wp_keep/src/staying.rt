@@ -45,7 +45,7 @@ fn is_needed(commit: Option<Seq>, newer: Option<Seq>, snapshots: &[Seq], floor: 
 }
 
 /// Which of the versions are not committed at the floor, or are the newest of their key there or at a snapshot.
-pub fn staying(
+pub(crate) fn staying(
     alloc: Global,
     versions: &[Version],
     commits: &Commits,

@@ -13,7 +13,7 @@ use wp_model::{Seq, Value};
 
 /// The versions of one key, the newest first. Most keys have one, which takes no memory beside its key's.
 #[derive(Drop)]
-pub struct KeyVersions {
+pub(crate) struct KeyVersions {
     kept: Kept,
 }
 

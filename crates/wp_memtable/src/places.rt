@@ -12,7 +12,10 @@ use std::collections::BTreeMap;
 use wp_model::{Change, Key, Seq, Value, copy_value};
 
 /// The values that the changes leave, or none for deletions.
-pub fn copy_values(alloc: Global, changes: &[Change]) -> Result<Vec<Option<Value>>, AllocError>
+pub(crate) fn copy_values(
+    alloc: Global,
+    changes: &[Change],
+) -> Result<Vec<Option<Value>>, AllocError>
     ensures { IfOk result (λ values. values.items ≡ map value_of changes.now) }
 {
     let mut values = Vec::with_capacity(alloc, changes.len())?;
@@ -42,7 +45,7 @@ fn reserve(
 }
 
 /// Takes the memory for one version more of each key that is changed.
-pub fn reserve_all(
+pub(crate) fn reserve_all(
     alloc: Global,
     places: &mut BTreeMap<Key, KeyVersions>,
     changes: &[Change],
@@ -73,7 +76,7 @@ fn put(places: &mut BTreeMap<Key, KeyVersions>, key: &Key, n: Seq, value: Option
 
 /// Puts each change under `n`, in memory that was taken before, with the values that the changes leave. Returns
 /// how many versions more there are.
-pub fn put_all(
+pub(crate) fn put_all(
     places: &mut BTreeMap<Key, KeyVersions>,
     n: Seq,
     changes: &[Change],

@@ -12,7 +12,7 @@ use wp_model::{Seq, Value};
 
 /// The versions of a key that has had more than one, the newest first.
 #[derive(Drop)]
-pub struct Several {
+pub(crate) struct Several {
     newest_first: VecDeque<(Seq, Option<Value>)>,
 }
 

@@ -71,7 +71,7 @@ fn take_next<'a>(
 
 /// The versions of the list and of the table, which is read where it is: what stays of it is copied. More of them than a
 /// length can be are answered as want of memory, since no memory holds so many.
-pub fn merge_table(
+pub(crate) fn merge_table(
     alloc: Global,
     mut list: VecDeque<Version>,
     table: &Table,

@@ -37,7 +37,7 @@ fn take_next(first: &mut VecDeque<Version>, second: &mut VecDeque<Version>) -> O
 }
 
 /// The versions of both lists. Where one has none the other stays in the memory that it has.
-pub fn merge_two(
+pub(crate) fn merge_two(
     alloc: Global,
     mut first: VecDeque<Version>,
     mut second: VecDeque<Version>,

@@ -13,7 +13,7 @@ use wp_model::Seq;
 
 /// A delayed number, and the number that decides it where that is a delayed commit.
 #[derive(Clone, Copy)]
-pub struct Delayed {
+pub(crate) struct Delayed {
     number: Seq,
     commit: Option<Seq>,
 }
@@ -22,7 +22,7 @@ pub struct Delayed {
 /// before they move in. So a commit takes no memory when it comes. No commit is below `least`: where that is above a bound, none has
 /// to be looked for.
 #[derive(Drop)]
-pub struct DelayedSet {
+pub(crate) struct DelayedSet {
     entries: Vec<Delayed>,
     least: Seq,
 }

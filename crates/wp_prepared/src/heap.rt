@@ -11,7 +11,7 @@ use wp_model::Seq;
 
 /// A number of the queue. An erased one is not in the heap any more.
 #[derive(Drop)]
-pub struct Queued {
+pub(crate) struct Queued {
     number: Seq,
     erased: bool,
 }
@@ -23,7 +23,7 @@ pub struct Queued {
 /// numbers in a heap of their own; here each has its mark beside it, which is at hand from both ends and takes no
 /// memory when it is set.
 #[derive(Drop)]
-pub struct PreparedHeap {
+pub(crate) struct PreparedHeap {
     queue: VecDeque<Queued>,
 }
 

@@ -19,7 +19,7 @@ fn next_live(live: &BTreeMap<Seq, Snapshot>, from: Seq, end: Seq) -> Option<Seq>
 }
 
 /// Takes the memory for one number more under each live number from `start` on and below `end`.
-pub fn reserve_each(
+pub(crate) fn reserve_each(
     live: &mut BTreeMap<Seq, Snapshot>,
     start: Seq,
     end: Seq,
@@ -37,7 +37,7 @@ pub fn reserve_each(
 
 /// Puts `p` under each live number from `p` on and below `c`, in memory that was taken before. Returns how many of
 /// them had nothing under them.
-pub fn keep_each(live: &mut BTreeMap<Seq, Snapshot>, p: Seq, c: Seq) -> usize
+pub(crate) fn keep_each(live: &mut BTreeMap<Seq, Snapshot>, p: Seq, c: Seq) -> usize
     requires { HasRoom live.old p c }
     ensures kept { ChangesWhere (overlaps p c) (after_keep p) (snapshots_of live.old) (snapshots_of live.new) }
     ensures more { set.len (kept_numbers (snapshots_of live.new)) ≡ set.len (kept_numbers (snapshots_of live.old)) + result }

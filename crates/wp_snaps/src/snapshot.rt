@@ -11,7 +11,7 @@ use wp_model::Seq;
 /// These are asked for one by one and never listed, so a hash set serves. Unlike an ordered set it can take the
 /// memory for a number before the number goes in.
 #[derive(Drop)]
-pub struct Snapshot {
+pub(crate) struct Snapshot {
     registrations: u64,
     old_commits: HashSet<Seq>,
 }

@@ -7,7 +7,7 @@ ghost use Rattle.wp_table.specs.Table.{block_count};
 pub const MAGIC: [u8; 4] = *b"WPTB";
 
 /// How many bytes the head has, behind which the first block begins.
-pub const HEAD: u64 = 25;
+pub(crate) const HEAD: u64 = 25;
 
 /// How many versions each block has. The last one may have fewer.
 pub const BLOCK: u64 = 16;

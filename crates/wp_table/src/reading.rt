@@ -249,7 +249,7 @@ fn table(
 
 /// Judges the bytes of a table in one pass, for the first fault from the left: the version of its format, how many versions
 /// it has, and the places where its blocks begin.
-pub fn judge(
+pub(crate) fn judge(
     alloc: Global,
     bytes: &[u8],
     id: u32,
