@@ -1,0 +1,109 @@
+//! The bank's store, from its opening to its end.
+ghost use Rattle.std.specs.Prelude.{◌≡◌};
+ghost use Rattle.embedded.specs.Alone.{IsAlone};
+
+use crate::error::BankError;
+use crate::transfer::{Balances, decide, look, prepare_transfer};
+use basilcorbel::{
+    Change, Disk, Disks, Key, Name, OpenRefused, Seat, Seq, Shared, Value, open_shared, write,
+};
+use std::alloc::Global;
+use std::fmt;
+use std::sync::Wait;
+
+/// The commit cache has two to this power places.
+const BITS: u32 = 10;
+
+/// No entry has a greater number.
+const LIMIT: Seq = (1 << 46) - 1;
+
+/// The number of the store, where it is made.
+const ID: u32 = 1;
+
+/// What came of the transfer.
+#[derive(Drop)]
+pub(crate) struct Told {
+    prepared: Seq,
+    decided: Seq,
+    balances: Balances,
+}
+
+/// The two accounts.
+#[derive(Drop)]
+struct Accounts {
+    payer: Key,
+    payee: Key,
+}
+
+/// What an account has, as text.
+fn shown(balance: &Option<Value>) -> &str {
+    match balance {
+        Some(value) => str::from_utf8(value.bytes()).unwrap_or("?"),
+        None => "nothing",
+    }
+}
+
+impl fmt::Display for Told {
+    fn fmt<W: fmt::Write>(&self, f: &mut fmt::Formatter<W>) -> fmt::Result {
+        let Balances { at, payer, payee } = &self.balances;
+        writeln!(f, "prepared @{}", self.prepared)?;
+        writeln!(f, "decided @{}", self.decided)?;
+        write!(f, "anna {} ben {} @{at}", shown(payer), shown(payee))
+    }
+}
+
+/// The account has this much from now on.
+fn put(alloc: Global, account: &Key, balance: &[u8]) -> Result<Change, BankError> {
+    Ok(Change::Put(account.copy(alloc)?, Value::read(alloc, balance)?))
+}
+
+/// The payer gets 100, and transfers 30 of it to the payee.
+fn serve<D: Disk + Drop, R: Wait>(
+    store: &Shared<D>,
+    rt: &R,
+    alloc: Global,
+    seat: &mut Seat<D>,
+    accounts: &Accounts,
+) -> Result<Told, BankError>
+    requires alone { IsAlone store.now seat.old }
+    requires idle { seat.old.knows.participant.direct ≡ None }
+    ensures { IsAlone store.now seat.new }
+{
+    let Accounts { payer, payee } = accounts;
+    write(store, rt, alloc, seat, put(alloc, payer, b"100")?)?;
+    let name = Name::read(alloc, b"transfer")?;
+    let debit = put(alloc, payer, b"70")?;
+    let credit = put(alloc, payee, b"30")?;
+    let prepared = prepare_transfer(store, rt, alloc, seat, name, debit, credit)?;
+    let number = prepared.number();
+    let decided = decide(store, rt, alloc, seat, prepared)?;
+    let balances = look(store, rt, seat, payer, payee)?;
+    Ok(Told {
+        prepared: number,
+        decided,
+        balances,
+    })
+}
+
+/// Keeps a store on these devices for one transfer.
+pub(crate) fn keep<D: Disk + Drop, R: Wait>(
+    rt: &R,
+    alloc: Global,
+    disks: Disks<D>,
+) -> Result<Told, BankError> {
+    let accounts = Accounts {
+        payer: Key::read(alloc, b"anna")?,
+        payee: Key::read(alloc, b"ben")?,
+    };
+    let teller = Name::read(alloc, b"teller")?;
+    let mut seats = Vec::with_capacity(alloc, 1)?;
+    match open_shared(alloc, teller, disks, BITS, LIMIT, ID) {
+        Ok((store, mut seat)) => {
+            let told = serve(&store, rt, alloc, &mut seat, &accounts);
+            seats.push_reserved(seat);
+            store.finish(seats);
+            told
+        }
+        Err(OpenRefused { why, .. }) => Err(BankError::Opening(why)),
+    }
+}
