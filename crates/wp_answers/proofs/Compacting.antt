@@ -129,9 +129,7 @@ module _ {D : Type 0} (z : SharedState D) (old new : SeatState) where
 
     pub not_compacted_breaks : (why : MaintError) → tables_refusal why ≡ None → Compacts z old (Err why) new → BreaksOff old new client command.Compact
     not_compacted_breaks Memory none (t, goes) = broke_off z old new client command.Compact goes
-    not_compacted_breaks Nothing none f = absurd cc
-    not_compacted_breaks TableFault none f = absurd cc
-    not_compacted_breaks (TablesStopped flushed) none f = absurd cc
+    not_compacted_breaks _ none f = absurd cc
 
   module _ (h : HoldingsState) (has : Holds z old h) where
     -- what the client has registered was live, and so it is among what was pinned
@@ -192,8 +190,5 @@ module _ {D : Type 0} (z : SharedState D) (old new : SeatState) where
 
   -- what the client has then: what it had
   pub compaction_holds : (answer : Result Done MaintError) → Compacts z old answer new → (h : HoldingsState) → Holds z old h → Holds z new h
-  compaction_holds (Ok done) (t, k) = holds_still z old new _ refl refl refl k.goes_on
   compaction_holds (Err Memory) (t, goes) = keeps_holds z old new goes
-  compaction_holds (Err Nothing) (t, k) = holds_still z old new _ refl refl refl k.goes_on
-  compaction_holds (Err TableFault) (t, k) = holds_still z old new _ refl refl refl k.goes_on
-  compaction_holds (Err (TablesStopped flushed)) (t, k) = holds_still z old new _ refl refl refl k.goes_on
+  compaction_holds _ (t, k) = holds_still z old new _ refl refl refl k.goes_on

@@ -183,9 +183,7 @@ module _ {D : Type 0} (z : SharedState D) (old new : SeatState) where
 
     pub not_flushed_breaks : (why : MaintError) → tables_refusal why ≡ None → Flushes z old (Err why) new → BreaksOff old new client command.Flush
     not_flushed_breaks Memory none (t, goes) = broke_off z old new client command.Flush goes
-    not_flushed_breaks Nothing none f = absurd cc
-    not_flushed_breaks TableFault none f = absurd cc
-    not_flushed_breaks (TablesStopped flushed) none f = absurd cc
+    not_flushed_breaks _ none f = absurd cc
 
   -- what the client has then: what it had
   pub flush_holds : (answer : Result Done MaintError) → Flushes z old answer new → (h : HoldingsState) → Holds z old h → Holds z new h

@@ -22,7 +22,7 @@ use Rattle.wp_parts.specs.Parts.{content}
 use Rattle.wp_shared.proofs.Limits.{limit_either, limit_renewed}
 use Rattle.wp_shared.specs.Seats.{SharedState, SeatState, place_at}
 use Rattle.wp_open_txns.specs.declared.error.TxnError.{TxnError}
-use Rattle.wp_open_txns.specs.declared.error.TxnError.TheVariants.{Memory, Taken, Busy, TooMany, Silent, Unknown, InUse, NumbersFull, LogFault, Stopped}
+use Rattle.wp_open_txns.specs.declared.error.TxnError.TheVariants.{Memory, NumbersFull, LogFault, Stopped}
 use Rattle.wp_txn.specs.Writes.{Refuses}
 use Rattle.wp_replies.specs.Client.{Client}
 use Rattle.wp_replies.specs.Kind.{number_in, fresh_in, last_after}
@@ -79,12 +79,7 @@ module _ {D : Type 0} (z : SharedState D) (old new : SeatState) (needs : ℕ) (A
   by_refusal (Stopped n) r is f = subst P (same_some (reply.Stopped n) r is) (halted n f)
   by_refusal LogFault r is f = subst P (same_some reply.FaultLog r is) (failed f)
   by_refusal Memory r is f = absurd cc
-  by_refusal (Taken name) r is f = absurd f
-  by_refusal (Busy holder) r is f = absurd f
-  by_refusal TooMany r is f = absurd f
-  by_refusal Silent r is f = absurd f
-  by_refusal (Unknown name at) r is f = absurd f
-  by_refusal (InUse name) r is f = absurd f
+  by_refusal _ r is f = absurd f
 
 -- ---- one event more
 
@@ -209,12 +204,7 @@ module _ {D : Type 0} (z : SharedState D) (old new : SeatState) (needs : ℕ) (A
   refused_holds ts direct registered (Stopped n) f h has = holds_still z old new (with_events (stopped n ∷ []) after) ts direct registered f.2 h has
   refused_holds ts direct registered (NumbersFull published limit) f h has = holds_still z old new after ts direct registered f.4 h has
   refused_holds ts direct registered LogFault f h has = holds_still z old new (with_events (log_failed f.2.0 ∷ []) after) ts direct registered f.2.2 h has
-  refused_holds ts direct registered (Taken name) f h has = absurd f
-  refused_holds ts direct registered (Busy holder) f h has = absurd f
-  refused_holds ts direct registered TooMany f h has = absurd f
-  refused_holds ts direct registered Silent f h has = absurd f
-  refused_holds ts direct registered (Unknown name at) f h has = absurd f
-  refused_holds ts direct registered (InUse name) f h has = absurd f
+  refused_holds ts direct registered _ f h has = absurd f
 
   -- where no reply is due, memory was wanting
   pub refused_memory : (why : TxnError) → refusal why ≡ None → Refuses z old new needs Asks found after why → Continues z old new after
@@ -222,9 +212,4 @@ module _ {D : Type 0} (z : SharedState D) (old new : SeatState) (needs : ℕ) (A
   refused_memory (Stopped n) none f = absurd cc
   refused_memory (NumbersFull published limit) none f = absurd cc
   refused_memory LogFault none f = absurd cc
-  refused_memory (Taken name) none f = absurd f
-  refused_memory (Busy holder) none f = absurd f
-  refused_memory TooMany none f = absurd f
-  refused_memory Silent none f = absurd f
-  refused_memory (Unknown name at) none f = absurd f
-  refused_memory (InUse name) none f = absurd f
+  refused_memory _ none f = absurd f

@@ -203,18 +203,9 @@ module _ {D : Type 0} (z : SharedState D) (old new : SeatState) where
 
     pub not_renewed_breaks : (why : RenewError) → renewal_refusal why ≡ None → Renews z old (Err why) new → BreaksOff old new client command.Renew
     not_renewed_breaks Memory none (t, k) = broke_off z old new client command.Renew k.goes_on
-    not_renewed_breaks Nothing none f = absurd cc
-    not_renewed_breaks TableFault none f = absurd cc
-    not_renewed_breaks LogFault none f = absurd cc
-    not_renewed_breaks (Stopped n) none f = absurd cc
-    not_renewed_breaks (TablesStopped flushed) none f = absurd cc
+    not_renewed_breaks _ none f = absurd cc
 
   -- what the client has then: what it had
   pub renewal_holds : (answer : Result Renewed RenewError) → Renews z old answer new → (h : HoldingsState) → Holds z old h → Holds z new h
-  renewal_holds (Ok done) (t, k) = holds_still z old new _ refl refl refl k.goes_on
   renewal_holds (Err Memory) (t, k) = keeps_holds z old new k.goes_on
-  renewal_holds (Err Nothing) (t, k) = holds_still z old new _ refl refl refl k.goes_on
-  renewal_holds (Err TableFault) (t, k) = holds_still z old new _ refl refl refl k.goes_on
-  renewal_holds (Err LogFault) (t, k) = holds_still z old new _ refl refl refl k.goes_on
-  renewal_holds (Err (Stopped n)) (t, k) = holds_still z old new _ refl refl refl k.goes_on
-  renewal_holds (Err (TablesStopped flushed)) (t, k) = holds_still z old new _ refl refl refl k.goes_on
+  renewal_holds _ (t, k) = holds_still z old new _ refl refl refl k.goes_on

@@ -20,7 +20,7 @@ use Rattle.wp_rule.specs.Accounts.{account_of}
 use Rattle.wp_shared.specs.Calls.{Continues, with_events}
 use Rattle.wp_shared.specs.Seats.{SharedState, SeatState}
 use Rattle.wp_open_txns.specs.declared.error.TxnError.{TxnError}
-use Rattle.wp_open_txns.specs.declared.error.TxnError.TheVariants.{Memory, Taken, Busy, TooMany, Silent, Unknown, InUse, NumbersFull, LogFault, Stopped}
+use Rattle.wp_open_txns.specs.declared.error.TxnError.TheVariants.{Memory, Busy, NumbersFull, LogFault, Stopped}
 use Rattle.wp_open_txns.specs.Calls.{Keeps, Finds}
 use Rattle.wp_txn.specs.Writes.{Refuses, wrote_direct, writing_direct, KeyIsFree, WritesDirect}
 use Rattle.wp_replies.specs.declared.client.LabelledSnapshot.{LabelledSnapshot}
@@ -139,11 +139,7 @@ module _ {D : Type 0} (z : SharedState D) (old new : SeatState) (c : Change) (sn
   not_written_answers has (NumbersFull published limit) r is f = (log_refused (NumbersFull published limit) r is f.0, subst (IsDue z old new me me (asking c)) (same_some (reply.Full published limit) r is) (λ world stands only first is_first store so. full_alone z first old new only store so (world, stands) snapshots c published limit f))
   not_written_answers has (Stopped n) r is f = (log_refused (Stopped n) r is f.0, subst (IsDue z old new me me (asking c)) (same_some (reply.Stopped n) r is) (λ world stands only first is_first store so. stopped_alone z first old new only store so (world, stands) snapshots c n f))
   not_written_answers has LogFault r is f = (log_refused LogFault r is f.0, subst (IsDue z old new me me (asking c)) (same_some reply.FaultLog r is) (λ world stands only first is_first store so. fault_alone z first old new only store so (world, stands) snapshots c f))
-  not_written_answers has (Taken name) r is f = absurd f.0
-  not_written_answers has TooMany r is f = absurd f.0
-  not_written_answers has Silent r is f = absurd f.0
-  not_written_answers has (Unknown name at) r is f = absurd f.0
-  not_written_answers has (InUse name) r is f = absurd f.0
+  not_written_answers has _ r is f = absurd f.0
 
   memory_breaks : Continues z old new (wrote_direct (key_of c) it) → BreaksOff old new me (asking c)
   memory_breaks goes = broke_off_after _ z old new (wrote_direct (key_of c) it) goes (locked (key_of c) (holder.Client it.client) ∷ []) me (asking c) refl refl refl
@@ -155,11 +151,7 @@ module _ {D : Type 0} (z : SharedState D) (old new : SeatState) (c : Change) (sn
   not_written_breaks (NumbersFull published limit) none f = absurd cc
   not_written_breaks (Stopped n) none f = absurd cc
   not_written_breaks LogFault none f = absurd cc
-  not_written_breaks (Taken name) none f = absurd f.0
-  not_written_breaks TooMany none f = absurd f.0
-  not_written_breaks Silent none f = absurd f.0
-  not_written_breaks (Unknown name at) none f = absurd f.0
-  not_written_breaks (InUse name) none f = absurd f.0
+  not_written_breaks _ none f = absurd f.0
 
 -- what the client has then: what it had
 module _ {D : Type 0} (z : SharedState D) (old new : SeatState) (c : Change) (h : HoldingsState) (has : Holds z old h) where
@@ -173,8 +165,4 @@ module _ {D : Type 0} (z : SharedState D) (old new : SeatState) (c : Change) (h 
   written_holds (Err (NumbersFull published limit)) f = log_leaves (NumbersFull published limit) f.0
   written_holds (Err (Stopped n)) f = log_leaves (Stopped n) f.0
   written_holds (Err LogFault) f = log_leaves LogFault f.0
-  written_holds (Err (Taken name)) f = absurd f.0
-  written_holds (Err TooMany) f = absurd f.0
-  written_holds (Err Silent) f = absurd f.0
-  written_holds (Err (Unknown name at)) f = absurd f.0
-  written_holds (Err (InUse name)) f = absurd f.0
+  written_holds _ f = absurd f.0

@@ -83,12 +83,7 @@ module _ {D : Type 0} (z : SharedState D) (old new : SeatState) (direct : old.kn
   refused_as needed Asks found after (Stopped n) t d c = kept _ c.2 t d
   refused_as needed Asks found after (NumbersFull published limit) t d c = kept _ c.4 t d
   refused_as needed Asks found after LogFault t d c = kept _ c.2.2 t d
-  refused_as needed Asks found after (Taken other) t d c = absurd c
-  refused_as needed Asks found after (Busy holder) t d c = absurd c
-  refused_as needed Asks found after TooMany t d c = absurd c
-  refused_as needed Asks found after Silent t d c = absurd c
-  refused_as needed Asks found after (Unknown other at) t d c = absurd c
-  refused_as needed Asks found after (InUse other) t d c = absurd c
+  refused_as needed Asks found after other t d c = absurd c
 
   -- ---- an open transaction
 
@@ -101,13 +96,7 @@ module _ {D : Type 0} (z : SharedState D) (old new : SeatState) (direct : old.kn
   changed txn change (Err TooMany) left c = wrote IsLoose _ c.3 (Some left) None direct c.2 tt
   changed txn change (Err (Busy holder)) left c = wrote IsLoose _ c.5.goes_on (Some left) None direct c.2 tt
   changed txn change (Err Memory) left c = wrote IsLoose _ c.2 (Some left) None direct c.1 tt
-  changed txn change (Err (Taken other)) left c = absurd c
-  changed txn change (Err Silent) left c = absurd c
-  changed txn change (Err (Unknown other at)) left c = absurd c
-  changed txn change (Err (InUse other)) left c = absurd c
-  changed txn change (Err (NumbersFull published limit)) left c = absurd c
-  changed txn change (Err LogFault) left c = absurd c
-  changed txn change (Err (Stopped n)) left c = absurd c
+  changed txn change (Err other) left c = absurd c
 
   -- ---- a direct write
 
@@ -126,11 +115,7 @@ module _ {D : Type 0} (z : SharedState D) (old new : SeatState) (direct : old.kn
   not_written change (Stopped n) p has c = refused_as 1 (asks_write change) _ _ (Stopped n) refl refl c.0 p has
   not_written change (NumbersFull published limit) p has c = refused_as 1 (asks_write change) _ _ (NumbersFull published limit) refl refl c.0 p has
   not_written change LogFault p has c = refused_as 1 (asks_write change) _ _ LogFault refl refl c.0 p has
-  not_written change (Taken other) p has c = absurd c.0
-  not_written change TooMany p has c = absurd c.0
-  not_written change Silent p has c = absurd c.0
-  not_written change (Unknown other at) p has c = absurd c.0
-  not_written change (InUse other) p has c = absurd c.0
+  not_written change other p has c = absurd c.0
 
 -- ---- the client that reads
 

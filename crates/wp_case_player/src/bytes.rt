@@ -44,30 +44,20 @@ fn replace(report: &mut Report, bytes: &mut [u8], place: &str, digits: &str) {
     }
 }
 
-/// Does to the bytes what the words say, one after the other: `..20` keeps the first 20, and `9=07` puts 07 in the place 9; behind
+/// The bytes that the words say, one after the other: `..20` keeps the first 20, and `9=07` puts 07 in the place 9; behind
 /// them a name puts what it names, and digits what they say.
-pub(crate) fn push_words(
-    report: &mut Report,
-    names: &[Named<'_>],
-    bytes: &mut Vec<u8>,
-    words: &str,
-) {
+pub(crate) fn bytes_of(report: &mut Report, names: &[Named<'_>], words: &str) -> Vec<u8> {
+    let mut bytes = Vec::new(report.alloc);
     for word in words.split_whitespace() {
         if let Some(name) = word.strip_prefix("$") {
-            push_named(report, names, bytes, name);
+            push_named(report, names, &mut bytes, name);
         } else if let Some(len) = word.strip_prefix("..") {
             bytes.truncate(report.number(len));
         } else if let Some((place, digits)) = word.split_once('=') {
-            replace(report, bytes, place, digits);
+            replace(report, &mut bytes, place, digits);
         } else {
-            push_digits(report, bytes, word);
+            push_digits(report, &mut bytes, word);
         }
     }
-}
-
-/// The bytes that the words say.
-pub(crate) fn bytes_of(report: &mut Report, names: &[Named<'_>], words: &str) -> Vec<u8> {
-    let mut bytes = Vec::new(report.alloc);
-    push_words(report, names, &mut bytes, words);
     bytes
 }

@@ -1,64 +1,32 @@
 //! The runs of a file's cases, one after the other.
 
 use crate::bytes::{Named, bytes_of};
-use crate::device::Devices;
 use crate::judge::{check_end, check_opened};
-use crate::play::{Outcome, Player, Stored, gate_of};
-use crate::report::Report;
-use crate::run::{Line, Run, begins_run};
+use crate::play::{Outcome, Stored, play};
+use crate::report::{Report, text_of};
+use crate::run::Run;
 use crate::sweep::make_sweep;
 use std::alloc::Global;
 use std::sync::Wait;
 use std::thread::Threads;
-
-/// The devices as the runs of a case so far left them, and the history then.
-#[derive(Drop)]
-struct Store {
-    log: Vec<u8>,
-    manifest: Vec<u8>,
-    tables: Vec<u8>,
-    history: Vec<u8>,
-}
-
-impl Store {
-    fn new(alloc: Global) -> Store {
-        Store {
-            log: Vec::new(alloc),
-            manifest: Vec::new(alloc),
-            tables: Vec::new(alloc),
-            history: Vec::new(alloc),
-        }
-    }
-
-    /// A case begins on new devices.
-    fn clear(&mut self) {
-        self.log.clear();
-        self.manifest.clear();
-        self.tables.clear();
-        self.history.clear();
-    }
-
-    fn stored(&self) -> Stored<'_> {
-        [&self.log, &self.manifest, &self.tables]
-    }
-
-    fn take(&mut self, report: &mut Report, left: &Stored<'_>, history: &[u8]) {
-        self.clear();
-        report.push(&mut self.log, left[0]);
-        report.push(&mut self.manifest, left[1]);
-        report.push(&mut self.tables, left[2]);
-        report.push(&mut self.history, history);
-    }
-}
 
 /// How far the cases of a file are played.
 #[derive(Drop)]
 pub(crate) struct Cases<'a> {
     pub(crate) report: Report,
     names: Vec<Named<'a>>,
-    store: Store,
-    /// Whether the case's first run is still to come.
-    is_front: bool,
+    /// The devices as the runs of the case so far left them, and the history then.
+    log: Vec<u8>,
+    manifest: Vec<u8>,
+    tables: Vec<u8>,
+    history: Vec<u8>,
+    /// The run whose lines are read; none before the case's first one.
+    run: Option<Run<'a>>,
+    /// Whether it was told that the case is wrong.
+    is_told: bool,
+    /// How many cases there were, and how many did not come out as they say.
+    pub(crate) played: usize,
+    pub(crate) failed: usize,
 }
 
 /// Gives bytes a name.
@@ -79,21 +47,67 @@ fn name_bytes<'a>(
     report.keep(names, named);
 }
 
+/// Keeps what is left of a device, and names it where the case does.
+fn keep<'a>(
+    report: &mut Report,
+    names: &mut Vec<Named<'a>>,
+    (name, device): (&'a str, &'static str),
+    kept: &mut Vec<u8>,
+    left: &[u8],
+) {
+    kept.clear();
+    report.push(kept, left);
+    if !name.is_empty() {
+        name_bytes(report, names, name, device, left);
+    }
+}
+
+/// Makes a run on devices that begin with these bytes that time, and judges it.
+fn play_on<R: Threads + Wait + Sync>(
+    rt: &R,
+    report: &mut Report,
+    run: &Run<'_>,
+    begun: &Stored<'_>,
+    time: usize,
+) -> Option<Outcome> {
+    let outcome = play(rt, report, &run.call(), begun, &run.faults(time))?;
+    check_end(report, run, begun, &outcome);
+    check_opened(rt, report, run, &outcome);
+    make_sweep(rt, report, run, begun, &outcome);
+    Some(outcome)
+}
+
 impl<'a> Cases<'a> {
     pub(crate) fn new(alloc: Global) -> Cases<'a> {
         Cases {
-            report: Report::new(alloc),
+            report: Report {
+                alloc,
+                line: 0,
+                why: "",
+                text: Vec::new(alloc),
+            },
             names: Vec::new(alloc),
-            store: Store::new(alloc),
-            is_front: true,
+            log: Vec::new(alloc),
+            manifest: Vec::new(alloc),
+            tables: Vec::new(alloc),
+            history: Vec::new(alloc),
+            run: None,
+            is_told: false,
+            played: 0,
+            failed: 0,
         }
     }
 
     /// A case begins, on new devices.
     fn begin(&mut self) {
-        self.report.clear();
-        self.store.clear();
-        self.is_front = true;
+        self.report.why = "";
+        self.report.text.clear();
+        self.log.clear();
+        self.manifest.clear();
+        self.tables.clear();
+        self.history.clear();
+        self.is_told = false;
+        self.played = self.played.saturating_add(1);
     }
 
     /// Reads a line that stands before the first run of a case, or before the first case: `bytes NAME BYTES`.
@@ -107,109 +121,111 @@ impl<'a> Cases<'a> {
         name_bytes(&mut self.report, &mut self.names, name, "", &bytes);
     }
 
-    /// Keeps what a run left, and names it where the case does.
-    fn keep(&mut self, run: &Run<'a>, outcome: &Outcome<'_>) {
-        let left = outcome.stored();
-        let Cases {
-            report,
-            names,
-            store,
-            ..
-        } = self;
-        store.take(report, &left, &run.history);
-        if !run.kept.is_empty() {
-            name_bytes(report, names, run.kept, "log", left[0]);
-            name_bytes(report, names, run.kept, "manifest", left[1]);
-            name_bytes(report, names, run.kept, "tables", left[2]);
-        }
-    }
-
-    /// Makes a run on these devices, and keeps what it leaves the last time.
-    fn play_on<R: Threads + Wait + Sync>(
-        &mut self,
-        player: &Player<'_, R>,
-        run: &Run<'a>,
-        devices: &Devices,
-        time: usize,
-    ) {
-        let report = &mut self.report;
-        let gate = gate_of(report.alloc, &run.holds);
-        let Some(gate) = report.made(gate) else {
-            return;
+    /// Makes a run with what it has that time, and keeps what it leaves. Answers whether it is to be made once more.
+    fn play_once<R: Threads + Wait + Sync>(&mut self, rt: &R, run: &Run<'a>, time: usize) -> bool {
+        let begun_log = run.log.begun(&mut self.report, &self.log, time);
+        let begun_manifest = run.manifest.begun(&mut self.report, &self.manifest, time);
+        let begun_tables = run.tables.begun(&mut self.report, &self.tables, time);
+        let begun: Stored<'_> = [&begun_log, &begun_manifest, &begun_tables];
+        let Some(outcome) = play_on(rt, &mut self.report, run, &begun, time) else {
+            return false;
         };
-        let begun = devices.stored();
-        let call = run.call();
-        let Some(outcome) = player.play(report, &gate, &call, &begun, &devices.faults()) else {
-            return;
-        };
-        if !gate.is_whole() {
-            report.tell("a hold ended otherwise", b"");
+        if !run.is_last(time) {
+            return true;
         }
-        check_end(report, run, &outcome);
-        let left = outcome.stored();
-        devices.check(report, run.stays, &left);
-        check_opened(player, report, run, &left);
-        make_sweep(player, report, run, &begun, &outcome);
-        if devices.is_last(time) {
-            self.keep(run, &outcome);
-        }
+        keep(
+            &mut self.report,
+            &mut self.names,
+            (run.kept, "log"),
+            &mut self.log,
+            &outcome.log.bytes,
+        );
+        keep(
+            &mut self.report,
+            &mut self.names,
+            (run.kept, "manifest"),
+            &mut self.manifest,
+            &outcome.manifest.bytes,
+        );
+        keep(
+            &mut self.report,
+            &mut self.names,
+            (run.kept, "tables"),
+            &mut self.tables,
+            &outcome.tables.bytes,
+        );
+        self.history.clear();
+        self.report.push(&mut self.history, &run.history);
+        false
     }
 
-    /// Makes a run with what it has that time. Answers whether it is to be made once more.
-    fn play_once<R: Threads + Wait + Sync>(
-        &mut self,
-        player: &Player<'_, R>,
-        run: &Run<'a>,
-        time: usize,
-    ) -> bool {
-        let Cases {
-            report,
-            names,
-            store,
-            ..
-        } = self;
-        let devices = Devices::of(report, names, run, &store.stored(), time);
-        self.play_on(player, run, &devices, time);
-        !devices.is_last(time)
-    }
-
-    /// Makes a run with this command line, as often as its devices differ. The lines are those behind it.
-    fn play_run<R: Threads + Wait + Sync>(
-        &mut self,
-        player: &Player<'_, R>,
-        line: &Line<'a>,
-        lines: &[Line<'a>],
-    ) {
-        self.is_front = false;
-        let Cases {
-            report,
-            names,
-            store,
-            ..
-        } = self;
-        let run = Run::of(report, names, &store.history, line.text, lines);
-        report.come_to(line.number);
+    /// Makes the run as often as its devices differ.
+    fn play_run<R: Threads + Wait + Sync>(&mut self, rt: &R, run: &Run<'a>) {
+        if self.report.is_good() {
+            self.report.line = run.line;
+        }
         for time in 0..usize::MAX {
-            if !self.report.is_good() || !self.play_once(player, &run, time) {
+            if !self.report.is_good() || !self.play_once(rt, run, time) {
                 break;
             }
         }
     }
 
-    /// Does what the line says; `lines` are those behind it. What is left of a case in which something is wrong is passed over.
-    pub(crate) fn step<R: Threads + Wait + Sync>(
+    /// Reads a line that begins a run, or stands in one or before the first.
+    fn read(&mut self, number: usize, line: &'a str, is_run: bool) {
+        self.report.line = number;
+        if is_run {
+            self.run = Some(Run::new(&self.report, number, line));
+        } else if let Some(run) = &mut self.run {
+            run.read(&mut self.report, &self.names, &self.history, line);
+        } else {
+            self.read_front(line);
+        }
+    }
+
+    /// Tells of the case once something is wrong with it.
+    fn tell<R: Eprint>(&mut self, rt: &R, file: &str) {
+        let Report {
+            line,
+            why,
+            text,
+            ..
+        } = &self.report;
+        if !why.is_empty() && !self.is_told {
+            // Where it can't be told, the number of these cases still is.
+            let _ = eprintln!(rt; "{file}, line {line}: {why}{}", text_of(text));
+            self.is_told = true;
+            self.failed = self.failed.saturating_add(1);
+        }
+    }
+
+    /// Makes the run whose lines were read, if there is one.
+    pub(crate) fn end_run<R: Threads + Wait + Sync + Eprint>(&mut self, rt: &R, file: &str) {
+        if let Some(run) = self.run.take() {
+            self.play_run(rt, &run);
+            drop(run);
+        }
+        self.tell(rt, file);
+    }
+
+    /// Does what the line says. What is left of a case in which something is wrong is passed over.
+    pub(crate) fn step<R: Threads + Wait + Sync + Eprint>(
         &mut self,
-        player: &Player<'_, R>,
-        line: &Line<'a>,
-        lines: &[Line<'a>],
+        rt: &R,
+        file: &str,
+        number: usize,
+        line: &'a str,
     ) {
-        if line.text.starts_with("case ") {
+        let is_run = line == "wp" || line.starts_with("wp ");
+        let is_case = line.starts_with("case ");
+        if is_run || is_case {
+            self.end_run(rt, file);
+        }
+        if is_case {
             self.begin();
-        } else if self.report.is_good() && begins_run(line.text) {
-            self.play_run(player, line, lines);
-        } else if self.report.is_good() && self.is_front {
-            self.report.come_to(line.number);
-            self.read_front(line.text);
+        } else if self.report.is_good() {
+            self.read(number, line, is_run);
+            self.tell(rt, file);
         }
     }
 }

@@ -22,18 +22,13 @@ fn same(old: &[u8], new: &[u8]) -> usize {
     same
 }
 
-/// The bytes before that place, and those from it on.
-fn parts(bytes: &[u8], place: usize) -> (&[u8], &[u8]) {
-    bytes.split_at(place.min(bytes.len()))
-}
-
-/// Puts other bytes from that place on; what was not written stays.
-fn push_other(report: &mut Report, image: &mut Vec<u8>, old: &[u8], new: &[u8], torn: usize) {
-    for place in torn..old.len().max(new.len()) {
-        match (old.get(place), new.get(place)) {
-            (Some(was), Some(is)) if was == is => report.keep(image, *is),
-            _ => report.keep(image, 0xA5),
-        }
+/// The byte that stands in a torn place, where it was one and was written as the other; what was not written stays.
+fn torn_byte(was: Option<u8>, is: Option<u8>, rest: Rest) -> Option<u8> {
+    match rest {
+        Rest::Old => was,
+        Rest::Nothing => is.and(was),
+        Rest::Other if was == is => was,
+        Rest::Other => Some(0xA5),
     }
 }
 
@@ -47,12 +42,16 @@ fn push_image(
     rest: Rest,
 ) {
     let mut image = Vec::new(report.alloc);
-    report.push(&mut image, parts(new, torn).0);
-    report.push(&mut image, parts(parts(old, torn).0, new.len()).1);
-    match rest {
-        Rest::Old => report.push(&mut image, parts(old, torn).1),
-        Rest::Nothing => report.push(&mut image, parts(parts(old, new.len()).0, torn).1),
-        Rest::Other => push_other(report, &mut image, old, new, torn),
+    for place in 0..old.len().max(new.len()) {
+        let (was, is) = (old.get(place).copied(), new.get(place).copied());
+        let byte = if place < torn {
+            is.or(was)
+        } else {
+            torn_byte(was, is, rest)
+        };
+        if let Some(byte) = byte {
+            report.keep(&mut image, byte);
+        }
     }
     if !images.contains(&image) {
         report.keep(images, image);
@@ -61,17 +60,20 @@ fn push_image(
 
 /// What a crash may leave of a device that was synced with the bytes `old` and reads `new`: these, and torn at each place, or at
 /// each that is so many bytes behind another, from the first one on where they differ.
-pub(crate) fn images(report: &mut Report, old: &[u8], new: &[u8], apart: usize) -> Vec<Vec<u8>> {
-    let mut images = Vec::new(report.alloc);
+pub(crate) fn push_images(
+    report: &mut Report,
+    images: &mut Vec<Vec<u8>>,
+    (old, new): (&[u8], &[u8]),
+    apart: usize,
+) {
     let mut next = same(old, new);
-    push_image(report, &mut images, (new, new), 0, Rest::Old);
+    push_image(report, images, (new, new), 0, Rest::Old);
     for torn in next..old.len().max(new.len()) {
         if torn == next {
-            push_image(report, &mut images, (old, new), torn, Rest::Old);
-            push_image(report, &mut images, (old, new), torn, Rest::Other);
-            push_image(report, &mut images, (old, new), torn, Rest::Nothing);
+            push_image(report, images, (old, new), torn, Rest::Old);
+            push_image(report, images, (old, new), torn, Rest::Other);
+            push_image(report, images, (old, new), torn, Rest::Nothing);
             next = next.saturating_add(apart);
         }
     }
-    images
 }

@@ -1,20 +1,10 @@
 //! Whether a run ended as its case says.
 
-use crate::play::{Outcome, Player, Stored};
-use crate::report::{Report, text_of};
+use crate::play::{Outcome, Stored, show};
+use crate::report::Report;
 use crate::run::Run;
 use std::sync::Wait;
 use std::thread::Threads;
-use wp_run::Status;
-
-/// The number of the status and its line, as cases write them.
-pub(crate) fn end_of(report: &mut Report, status: &Status) -> Vec<u8> {
-    let alloc = report.alloc;
-    let code = status.code();
-    let line = status.line(alloc).unwrap_or(Vec::new(alloc));
-    let why = text_of(&line).strip_prefix("wp: ").unwrap_or("");
-    report.spelled(format!(in alloc; "{code} {why}"))
-}
 
 /// The text that is due: none where the run is refused, and else the replies and the history, as far as there is room.
 fn text_due(report: &mut Report, run: &Run<'_>) -> Vec<u8> {
@@ -24,7 +14,7 @@ fn text_due(report: &mut Report, run: &Run<'_>) -> Vec<u8> {
         report.push(&mut text, &run.replies);
         report.push_line(&mut text, "history");
         report.push(&mut text, &run.history);
-        text.truncate(run.call().room);
+        text.truncate(run.room);
     }
     text
 }
@@ -37,32 +27,40 @@ fn is_one_of(texts: &[Vec<u8>], text: &[u8]) -> bool {
     is_one
 }
 
-/// The status, and the text.
-pub(crate) fn check_end(report: &mut Report, run: &Run<'_>, outcome: &Outcome<'_>) {
-    let end = end_of(report, &outcome.ended.status);
-    if end.as_slice() != run.status.as_bytes() {
-        report.tell("the status is ", &end);
+/// The holds, the status, the text, and the bytes of the devices, which began with these.
+pub(crate) fn check_end(report: &mut Report, run: &Run<'_>, begun: &Stored<'_>, outcome: &Outcome) {
+    if !outcome.is_held {
+        report.tell("a hold ended otherwise", b"");
+    }
+    if outcome.end.as_slice() != run.status.as_bytes() {
+        report.tell("the status is ", &outcome.end);
     }
     let due = text_due(report, run);
-    if due.as_slice() != outcome.text() && !is_one_of(&run.others, outcome.text()) {
-        report.tell("the text is\n", outcome.text());
+    if due != outcome.text && !is_one_of(&run.others, &outcome.text) {
+        report.tell("the text is\n", &outcome.text);
     }
+    run.log
+        .check(report, run.stays, begun[0], &outcome.log.bytes);
+    run.manifest
+        .check(report, run.stays, begun[1], &outcome.manifest.bytes);
+    run.tables
+        .check(report, run.stays, begun[2], &outcome.tables.bytes);
 }
 
-/// The text that shows what these devices open to.
+/// The text that shows what the devices open to.
 pub(crate) fn check_opened<R: Threads + Wait + Sync>(
-    player: &Player<'_, R>,
+    rt: &R,
     report: &mut Report,
     run: &Run<'_>,
-    left: &Stored<'_>,
+    outcome: &Outcome,
 ) {
     if run.opens.is_empty() {
         return;
     }
-    let Some(shown) = player.show(report, left) else {
+    let Some(shown) = show(rt, report, &outcome.stored()) else {
         return;
     };
-    if !is_one_of(&run.opens, shown.text()) {
-        report.tell("opened again, the text is\n", shown.text());
+    if !is_one_of(&run.opens, &shown.text) {
+        report.tell("opened again, the text is\n", &shown.text);
     }
 }

@@ -20,60 +20,39 @@ mod stage;
 mod sweep;
 
 use crate::case::Cases;
-use crate::play::{Player, gate_of};
-use crate::run::Line;
-use std::alloc::{AllocError, AllocGlobal, Global};
+use std::alloc::AllocGlobal;
 use std::env::{self, Env};
 use std::rt::Files;
 use std::sync::Wait;
 use std::thread::Threads;
 use std::{fs, io};
 
-/// The lines of a text. Those that are empty or begin with `#` are passed over.
-fn lines_of(alloc: Global, text: &str) -> Result<Vec<Line<'_>>, AllocError> {
-    let mut lines = Vec::new(alloc);
-    let mut number = 0usize;
-    for text in text.lines() {
-        number = number.saturating_add(1);
-        if !text.is_empty() && !text.starts_with('#') {
-            lines.push(Line { number, text })?;
-        }
-    }
-    Ok(lines)
-}
-
-/// Plays the cases of these lines, and tells of each that does not come out as it says. Answers how many there were, and how many did
+/// Plays the cases of a file's text, and tells of each that does not come out as it says. Answers how many there were, and how many did
 /// not.
-fn play_lines<'a, R: Threads + Wait + Sync + Eprint>(
-    player: &Player<'_, R>,
+fn play_text<R: Threads + Wait + Sync + AllocGlobal + Eprint>(
+    rt: &R,
     file: &str,
-    lines: &[Line<'a>],
-    cases: &mut Cases<'a>,
-) -> io::Result<(usize, usize)> {
-    let (mut played, mut failed) = (0usize, 0usize);
-    for place in 0..lines.len() {
-        let line = &lines[place];
-        let was_good = cases.report.is_good();
-        cases.step(player, line, &lines[place + 1..]);
-        played = played.saturating_add(usize::from(line.text.starts_with("case ")));
-        if was_good && !cases.report.is_good() {
-            failed = failed.saturating_add(1);
-            cases.report.print(player.rt, file)?;
+    text: &str,
+) -> (usize, usize) {
+    let mut cases = Cases::new(rt.alloc());
+    let mut number = 0usize;
+    for line in text.lines() {
+        number = number.saturating_add(1);
+        if !line.is_empty() && !line.starts_with('#') {
+            cases.step(rt, file, number, line);
         }
     }
-    Ok((played, failed))
+    cases.end_run(rt, file);
+    (cases.played, cases.failed)
 }
 
-/// Plays the cases of a file. Answers how many there were, and how many did not come out as they say.
+/// Plays the cases of a file.
 fn play_file<R: Threads + Wait + Sync + AllocGlobal + Files + Eprint>(
-    player: &Player<'_, R>,
+    rt: &R,
     file: &str,
 ) -> io::Result<(usize, usize)> {
-    let alloc = player.rt.alloc();
-    let text = fs::read_to_string(player.rt, file)?;
-    let lines = lines_of(alloc, &text)?;
-    let mut cases = Cases::new(alloc);
-    play_lines(player, file, &lines, &mut cases)
+    let text = fs::read_to_string(rt, file)?;
+    Ok(play_text(rt, file, &text))
 }
 
 /// Plays the cases of all files that are named on the command line, tells of each on standard error that does not come out as it
@@ -81,11 +60,9 @@ fn play_file<R: Threads + Wait + Sync + AllocGlobal + Files + Eprint>(
 pub fn play_files<R: Threads + Wait + Sync + AllocGlobal + Env + Files + Print + Eprint>(
     rt: &R,
 ) -> io::Result<bool> {
-    let free = gate_of(rt.alloc(), &[])?;
-    let player = Player { rt, free: &free };
     let (mut played, mut failed) = (0usize, 0usize);
     for file in env::args(rt)?.skip(1) {
-        let (more, wrong) = play_file(&player, &file)?;
+        let (more, wrong) = play_file(rt, &file)?;
         played = played.saturating_add(more);
         failed = failed.saturating_add(wrong);
     }

@@ -1,13 +1,13 @@
 //! One run of the program.
 
-use crate::report::Report;
+use crate::report::{Report, text_of};
 use std::alloc::{AllocError, Global};
 use std::sync::Wait;
 use std::sync::atomic::AtomicU64;
 use std::thread::Threads;
 use wp_memory::{GateDisk, Hold, HoldGate, MemDisk, MemSink, MemSource};
 use wp_outside::Disks;
-use wp_run::{Ended, run};
+use wp_run::{Ended, Status, run};
 
 /// Room for what a device has, and for all that is written to it. Clients side by side compact at moments of their own, and so write
 /// more or less: 200 compactions of 5,000 versions have room.
@@ -43,9 +43,7 @@ pub(crate) const SOUND: Faults = Faults {
 /// The bytes of the devices.
 pub(crate) type Stored<'a> = [&'a [u8]; 3];
 
-pub(crate) type CaseDisk<'a> = GateDisk<'a, HoldGate>;
-
-/// What the program is called with, beside its devices and its gate.
+/// What the program is called with, beside its devices.
 #[derive(Clone, Copy)]
 pub(crate) struct Call<'a> {
     /// The command line.
@@ -55,87 +53,53 @@ pub(crate) struct Call<'a> {
     pub(crate) source_fails: u64,
     /// How many bytes the sink takes.
     pub(crate) room: usize,
+    /// Which lines are held back.
+    pub(crate) holds: &'a [Hold],
 }
 
-impl<'a> Call<'a> {
-    pub(crate) fn new(words: &'a str, script: &'a [u8]) -> Call<'a> {
-        Call {
-            words,
-            script,
-            source_fails: 0,
-            room: AMPLE_ROOM,
-        }
-    }
+/// What a run leaves of a device.
+#[derive(Drop)]
+pub(crate) struct Left {
+    pub(crate) bytes: Vec<u8>,
+    /// What it read when it was last synced.
+    pub(crate) synced: Vec<u8>,
+    /// When it was called.
+    pub(crate) calls: Vec<u64>,
 }
 
-/// How a run ended, and what it wrote.
-pub(crate) struct Outcome<'a> {
-    pub(crate) ended: Ended<CaseDisk<'a>>,
-    sink: MemSink,
+/// How a run ended, and what it left.
+pub(crate) struct Outcome {
+    /// The number of the status and its line.
+    pub(crate) end: Vec<u8>,
+    pub(crate) text: Vec<u8>,
+    pub(crate) log: Left,
+    pub(crate) manifest: Left,
+    pub(crate) tables: Left,
+    /// Whether each hold ended because what it waited for came, and each line that a hold names came and was answered.
+    pub(crate) is_held: bool,
 }
 
-// Written out, and by a call: else each function that lets an outcome go proves anew how all that its devices hold is let go.
-impl Drop for Outcome<'_> {
-    fn drop(self) {
-        let Self { ended, sink: _sink } = self;
-        drop(ended);
-    }
-}
-
-impl<'a> Outcome<'a> {
-    pub(crate) fn text(&self) -> &[u8] {
-        self.sink.bytes()
-    }
-
-    /// When each device was called.
-    pub(crate) fn calls(&self) -> [&[u64]; 3] {
-        let Disks {
-            log,
-            manifest,
-            tables,
-        } = &self.ended.disks;
-        [log.calls(), manifest.calls(), tables.calls()]
-    }
-
-    pub(crate) fn stored(&self) -> Stored<'_> {
-        let Disks {
-            log,
-            manifest,
-            tables,
-        } = &self.ended.disks;
-        [log.bytes(), manifest.bytes(), tables.bytes()]
-    }
-}
-
-/// What holds lines back in a run, and counts the calls of its devices.
-pub(crate) struct Gate {
-    holds: HoldGate,
-    clock: AtomicU64,
-}
-
-// Written out, as that of an outcome.
-impl Drop for Gate {
+// Written out: else each function that lets an outcome go proves anew how all that it holds is let go.
+impl Drop for Outcome {
     fn drop(self) {
         let Self {
-            holds: _holds,
-            clock: _clock,
+            end: _end,
+            text: _text,
+            log: _log,
+            manifest: _manifest,
+            tables: _tables,
+            is_held: _is_held,
         } = self;
     }
 }
 
-/// A gate with these holds.
-pub(crate) fn gate_of(alloc: Global, holds: &[Hold]) -> Result<Gate, AllocError> {
-    let holds = HoldGate::new(alloc, holds.to_vec(alloc)?, AMPLE_TURNS)?;
-    let clock = AtomicU64::new(0);
-    Ok(Gate { holds, clock })
-}
-
-impl Gate {
-    /// Whether each hold ended because what it waited for came, and each line that a hold names came and was answered.
-    pub(crate) fn is_whole(&self) -> bool {
-        !self.holds.late() && self.holds.whole()
+impl Outcome {
+    pub(crate) fn stored(&self) -> Stored<'_> {
+        [&self.log.bytes, &self.manifest.bytes, &self.tables.bytes]
     }
 }
+
+type CaseDisk<'a> = GateDisk<'a, HoldGate>;
 
 /// The words of a command line, the program's name first.
 fn words_of(report: &mut Report, line: &str) -> Vec<String> {
@@ -149,39 +113,33 @@ fn words_of(report: &mut Report, line: &str) -> Vec<String> {
     words
 }
 
-fn source_of(report: &mut Report, call: &Call<'_>) -> MemSource {
-    let mut script = Vec::new(report.alloc);
-    report.push(&mut script, call.script);
-    let mut fails = Vec::new(report.alloc);
-    report.keep(&mut fails, call.source_fails);
-    MemSource::new(script, fails)
-}
-
 /// A device with these bytes, which goes wrong so.
 fn disk_of<'a>(
     alloc: Global,
     bytes: &[u8],
     faults: &Faults,
-    gate: &'a Gate,
+    gate: &'a HoldGate,
+    clock: &'a AtomicU64,
 ) -> Result<CaseDisk<'a>, AllocError> {
     let fails = vec![in alloc; faults.fails]?;
     let disk = MemDisk::new(alloc, bytes.to_vec(alloc)?, ROOM, faults.answered, fails)?;
-    GateDisk::new(disk, faults.comes, &gate.holds, &gate.clock, alloc)
+    GateDisk::new(disk, faults.comes, gate, clock, alloc)
 }
 
-// Without memory the devices are let go by calls, as those of an outcome.
+// Without memory the devices are let go by calls: else all that they hold is proved anew here.
 fn disks_of<'a>(
     alloc: Global,
     stored: &Stored<'_>,
     faults: &[Faults; 3],
-    gate: &'a Gate,
+    gate: &'a HoldGate,
+    clock: &'a AtomicU64,
 ) -> Result<Disks<CaseDisk<'a>>, AllocError> {
-    let log = disk_of(alloc, stored[0], &faults[0], gate)?;
-    let Ok(manifest) = disk_of(alloc, stored[1], &faults[1], gate) else {
+    let log = disk_of(alloc, stored[0], &faults[0], gate, clock)?;
+    let Ok(manifest) = disk_of(alloc, stored[1], &faults[1], gate, clock) else {
         drop(log);
         return Err(AllocError);
     };
-    let Ok(tables) = disk_of(alloc, stored[2], &faults[2], gate) else {
+    let Ok(tables) = disk_of(alloc, stored[2], &faults[2], gate, clock) else {
         drop(manifest);
         drop(log);
         return Err(AllocError);
@@ -193,46 +151,119 @@ fn disks_of<'a>(
     })
 }
 
-/// What runs are made with, and a gate that holds nobody back.
-#[derive(Drop)]
-pub(crate) struct Player<'a, R> {
-    pub(crate) rt: &'a R,
-    pub(crate) free: &'a Gate,
+/// The number of the status and its line, as cases write them.
+fn end_of(report: &mut Report, status: &Status) -> Vec<u8> {
+    let alloc = report.alloc;
+    let line = status.line(alloc).unwrap_or(Vec::new(alloc));
+    let why = text_of(&line).strip_prefix("wp: ").unwrap_or("");
+    report.spelled(format!(in alloc; "{} {why}", status.code()))
 }
 
-impl<'a, R: Threads + Wait + Sync> Player<'a, R> {
-    /// Runs the program on devices with these bytes, which go wrong so; nothing where memory is wanting.
-    pub(crate) fn play<'g>(
-        &self,
-        report: &mut Report,
-        gate: &'g Gate,
-        call: &Call<'_>,
-        stored: &Stored<'_>,
-        faults: &[Faults; 3],
-    ) -> Option<Outcome<'g>> {
-        let alloc = report.alloc;
-        let mut sink = report.made(MemSink::new(alloc, call.room as u64, Vec::new(alloc)))?;
-        let disks = report.made(disks_of(alloc, stored, faults, gate))?;
-        let words = words_of(report, call.words);
-        let mut source = source_of(report, call);
-        let ended = run(
-            self.rt,
-            alloc,
-            &words,
-            disks,
-            &mut source,
-            &mut sink,
-            &gate.holds,
-        );
-        Some(Outcome { ended, sink })
+fn left_of(report: &mut Report, disk: &CaseDisk<'_>) -> Left {
+    let alloc = report.alloc;
+    let (mut bytes, mut synced, mut calls) = (Vec::new(alloc), Vec::new(alloc), Vec::new(alloc));
+    report.push(&mut bytes, disk.bytes());
+    report.push(&mut synced, disk.synced());
+    for call in disk.calls() {
+        report.keep(&mut calls, *call);
     }
+    Left {
+        bytes,
+        synced,
+        calls,
+    }
+}
 
-    /// Shows the store of these devices. The source fails, so that it is not called.
-    pub(crate) fn show(&self, report: &mut Report, stored: &Stored<'_>) -> Option<Outcome<'a>> {
-        let call = Call {
-            source_fails: 1,
-            ..Call::new("wp show --bits 0", b"")
-        };
-        self.play(report, self.free, &call, stored, &[SOUND; 3])
+fn outcome_of(
+    report: &mut Report,
+    ended: &Ended<CaseDisk<'_>>,
+    sink: &MemSink,
+    gate: &HoldGate,
+) -> Outcome {
+    let mut text = Vec::new(report.alloc);
+    report.push(&mut text, sink.bytes());
+    Outcome {
+        end: end_of(report, &ended.status),
+        text,
+        log: left_of(report, &ended.disks.log),
+        manifest: left_of(report, &ended.disks.manifest),
+        tables: left_of(report, &ended.disks.tables),
+        is_held: !gate.late() && gate.whole(),
     }
+}
+
+/// Runs the program on these devices and with this gate.
+fn play_on<R: Threads + Wait + Sync>(
+    rt: &R,
+    report: &mut Report,
+    call: &Call<'_>,
+    disks: Disks<CaseDisk<'_>>,
+    gate: &HoldGate,
+    sink: &mut MemSink,
+) -> Outcome {
+    let alloc = report.alloc;
+    let words = words_of(report, call.words);
+    let (mut script, mut fails) = (Vec::new(alloc), Vec::new(alloc));
+    report.push(&mut script, call.script);
+    report.keep(&mut fails, call.source_fails);
+    let mut source = MemSource::new(script, fails);
+    let ended = run(rt, alloc, &words, disks, &mut source, sink, gate);
+    let outcome = outcome_of(report, &ended, sink, gate);
+    drop(ended);
+    outcome
+}
+
+/// Runs the program behind this gate.
+fn play_behind<R: Threads + Wait + Sync>(
+    rt: &R,
+    report: &mut Report,
+    call: &Call<'_>,
+    stored: &Stored<'_>,
+    faults: &[Faults; 3],
+    gate: &HoldGate,
+) -> Option<Outcome> {
+    let alloc = report.alloc;
+    let clock = AtomicU64::new(0);
+    let disks = report.made(disks_of(alloc, stored, faults, gate, &clock))?;
+    let sink = MemSink::new(alloc, call.room as u64, Vec::new(alloc));
+    let Some(mut sink) = report.made(sink) else {
+        drop(disks);
+        return None;
+    };
+    let outcome = play_on(rt, report, call, disks, gate, &mut sink);
+    drop(sink);
+    Some(outcome)
+}
+
+/// Runs the program on devices with these bytes, which go wrong so; nothing where memory is wanting.
+pub(crate) fn play<R: Threads + Wait + Sync>(
+    rt: &R,
+    report: &mut Report,
+    call: &Call<'_>,
+    stored: &Stored<'_>,
+    faults: &[Faults; 3],
+) -> Option<Outcome> {
+    let alloc = report.alloc;
+    let holds = report.made(call.holds.to_vec(alloc))?;
+    let gate = report.made(HoldGate::new(alloc, holds, AMPLE_TURNS))?;
+    let outcome = play_behind(rt, report, call, stored, faults, &gate);
+    drop(gate);
+    outcome
+}
+
+/// Shows the store of these devices.
+pub(crate) fn show<R: Threads + Wait + Sync>(
+    rt: &R,
+    report: &mut Report,
+    stored: &Stored<'_>,
+) -> Option<Outcome> {
+    // The source fails, so that it is not called.
+    let call = Call {
+        words: "wp show --bits 0",
+        script: b"",
+        source_fails: 1,
+        room: AMPLE_ROOM,
+        holds: &[],
+    };
+    play(rt, report, &call, stored, &[SOUND; 3])
 }

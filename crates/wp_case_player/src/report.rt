@@ -1,18 +1,18 @@
 //! What is told of a case.
 
 use std::alloc::{AllocError, Global};
-use std::{io, str};
+use std::str;
 
 /// The first thing that is wrong with a case, or that kept it from being played. What finds it notes it here and goes on.
 #[derive(Drop)]
 pub(crate) struct Report {
     pub(crate) alloc: Global,
     /// The line of its file that the case is at.
-    line: usize,
+    pub(crate) line: usize,
     /// What is wrong; empty as long as nothing is.
-    why: &'static str,
+    pub(crate) why: &'static str,
     /// What came out in its place.
-    text: Vec<u8>,
+    pub(crate) text: Vec<u8>,
 }
 
 /// Bytes as text; what the program writes is never anything else.
@@ -21,50 +21,16 @@ pub(crate) fn text_of(bytes: &[u8]) -> &str {
 }
 
 impl Report {
-    pub(crate) fn new(alloc: Global) -> Report {
-        Report {
-            alloc,
-            line: 0,
-            why: "",
-            text: Vec::new(alloc),
-        }
-    }
-
-    pub(crate) fn clear(&mut self) {
-        self.why = "";
-        self.text.clear();
-    }
-
     pub(crate) fn is_good(&self) -> bool {
         self.why.is_empty()
     }
 
-    pub(crate) fn come_to(&mut self, line: usize) {
-        if self.is_good() {
-            self.line = line;
-        }
-    }
-
-    pub(crate) fn print<R: Eprint>(&self, rt: &R, file: &str) -> io::Result<()> {
-        let (line, why, text) = (self.line, self.why, text_of(&self.text));
-        eprintln!(rt; "{file}, line {line}: {why}{text}")
-    }
-
-    /// Notes what is wrong, and what came out in its place.
+    /// Notes what is wrong, and what came out in its place; without memory that is left out.
     pub(crate) fn tell(&mut self, why: &'static str, text: &[u8]) {
         if self.is_good() {
             self.why = why;
-            self.add(text);
+            let _ = self.text.extend_from_slice(text);
         }
-    }
-
-    /// Adds to what came out; without memory it is left out.
-    pub(crate) fn add(&mut self, text: &[u8]) {
-        let _ = self.text.extend_from_slice(text);
-    }
-
-    pub(crate) fn lacks_memory(&mut self) {
-        self.tell("out of memory", b"");
     }
 
     pub(crate) fn understands_not(&mut self) {
@@ -76,7 +42,7 @@ impl Report {
         match made {
             Ok(made) => Some(made),
             Err(AllocError) => {
-                self.lacks_memory();
+                self.tell("out of memory", b"");
                 None
             }
         }
@@ -92,13 +58,13 @@ impl Report {
 
     pub(crate) fn keep<T: Drop>(&mut self, list: &mut Vec<T>, item: T) {
         if list.push(item).is_err() {
-            self.lacks_memory();
+            self.tell("out of memory", b"");
         }
     }
 
     pub(crate) fn push(&mut self, bytes: &mut Vec<u8>, more: &[u8]) {
         if bytes.extend_from_slice(more).is_err() {
-            self.lacks_memory();
+            self.tell("out of memory", b"");
         }
     }
 

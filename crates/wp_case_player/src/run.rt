@@ -1,19 +1,12 @@
 //! What a case says of one run, line by line.
 
-use crate::bytes::{Named, push_words};
+use crate::bytes::{Named, bytes_of};
+use crate::device::Device;
 use crate::holds::{push_hold, push_order};
-use crate::play::{AMPLE_ROOM, Call};
+use crate::play::{AMPLE_ROOM, Call, Faults};
 use crate::report::{Report, text_of};
 use crate::stage::{Cut, Stage};
-use std::alloc::Global;
 use wp_memory::Hold;
-
-/// A line of a file, with its place there, from 1 on.
-#[derive(Clone, Copy, Drop)]
-pub(crate) struct Line<'a> {
-    pub(crate) number: usize,
-    pub(crate) text: &'a str,
-}
 
 /// The clause that the lines set in by two spaces belong to.
 #[derive(Clone, Copy)]
@@ -30,15 +23,18 @@ enum Block {
 /// What a case says of one run.
 #[derive(Drop)]
 pub(crate) struct Run<'a> {
+    /// The line that begins it.
+    pub(crate) line: usize,
     /// What the program is called with.
     words: &'a str,
     script: Vec<u8>,
     source_fails: u64,
-    room: usize,
+    pub(crate) room: usize,
     /// Which lines are held back.
     pub(crate) holds: Vec<Hold>,
-    /// The clauses that say something of a device.
-    pub(crate) devices: Vec<&'a str>,
+    pub(crate) log: Device,
+    pub(crate) manifest: Device,
+    pub(crate) tables: Device,
     /// Whether the devices have to end with the bytes that they began with.
     pub(crate) stays: bool,
     /// The status, and its line on standard error.
@@ -55,9 +51,9 @@ pub(crate) struct Run<'a> {
     pub(crate) kept: &'a str,
     /// Behind how many entries the log may be cut, and what is shown of them then.
     pub(crate) cuts: Vec<Cut>,
-    /// The command whose answer tells how far a swept script came, and what the store is before its first record and after each;
-    /// without these there is no sweep.
-    pub(crate) probe: &'a str,
+    /// The script of a run that works on once the devices opened, and that shows how far the swept one came.
+    pub(crate) work: Vec<u8>,
+    /// What the store is before the swept script's first record and after each; without these there is no sweep.
     pub(crate) stages: Vec<Stage>,
     /// The clause that was read last.
     block: Block,
@@ -68,19 +64,6 @@ pub(crate) fn entries_of(history: &[u8]) -> &[u8] {
     match text_of(history).rsplit_once("end ") {
         Some((entries, _)) => entries.as_bytes(),
         None => history,
-    }
-}
-
-/// The entries that devices open to, beside those that the lines under the clause name.
-fn opened_to<'a>(report: &mut Report, history: &'a [u8], words: &str) -> &'a [u8] {
-    match words {
-        "to" => &[],
-        "to it" => history,
-        "to more" => entries_of(history),
-        _ => {
-            report.understands_not();
-            &[]
-        }
     }
 }
 
@@ -104,14 +87,18 @@ fn push_to_last(report: &mut Report, texts: &mut [Vec<u8>], line: &str) {
 
 impl<'a> Run<'a> {
     /// A run of which only its command line is known.
-    fn new(alloc: Global, words: &'a str) -> Run<'a> {
+    pub(crate) fn new(report: &Report, line: usize, words: &'a str) -> Run<'a> {
+        let alloc = report.alloc;
         Run {
+            line,
             words,
             script: Vec::new(alloc),
             source_fails: 0,
             room: AMPLE_ROOM,
             holds: Vec::new(alloc),
-            devices: Vec::new(alloc),
+            log: Device::new(report, "log"),
+            manifest: Device::new(report, "manifest"),
+            tables: Device::new(report, "tables"),
             stays: false,
             status: "0 ok",
             replies: Vec::new(alloc),
@@ -120,7 +107,7 @@ impl<'a> Run<'a> {
             opens: Vec::new(alloc),
             kept: "",
             cuts: Vec::new(alloc),
-            probe: "",
+            work: Vec::new(alloc),
             stages: Vec::new(alloc),
             block: Block::None,
         }
@@ -128,17 +115,25 @@ impl<'a> Run<'a> {
 
     pub(crate) fn call(&self) -> Call<'_> {
         Call {
+            words: self.words,
+            script: &self.script,
             source_fails: self.source_fails,
             room: self.room,
-            ..Call::new(self.words, &self.script)
+            holds: &self.holds,
         }
     }
 
-    /// Adds a line to what is shown of the entries behind which the log may be cut.
-    fn push_cut_line(&mut self, report: &mut Report, line: &str) {
-        if let Some(cut) = self.cuts.last_mut() {
-            report.push_line(&mut cut.lines, line);
-        }
+    pub(crate) fn faults(&self, time: usize) -> [Faults; 3] {
+        [
+            self.log.faults(time),
+            self.manifest.faults(time),
+            self.tables.faults(time),
+        ]
+    }
+
+    /// Whether it is not to be made once more.
+    pub(crate) fn is_last(&self, time: usize) -> bool {
+        self.log.is_last(time) && self.manifest.is_last(time) && self.tables.is_last(time)
     }
 
     /// Reads a line that is set in.
@@ -148,7 +143,11 @@ impl<'a> Run<'a> {
             Block::History => report.push_line(&mut self.history, line),
             Block::Other => push_to_last(report, &mut self.others, line),
             Block::Opens => push_to_last(report, &mut self.opens, line),
-            Block::Cut => self.push_cut_line(report, line),
+            Block::Cut => {
+                if let Some(cut) = self.cuts.last_mut() {
+                    report.push_line(&mut cut.lines, line);
+                }
+            }
             Block::Sweep => {
                 let stage = Stage::read(report, &self.history, &self.cuts, line);
                 report.keep(&mut self.stages, stage);
@@ -157,12 +156,16 @@ impl<'a> Run<'a> {
         }
     }
 
-    /// Reads a history that the devices may open to.
+    /// Reads a history that the devices may open to: its entries beside those that the lines under the clause name.
     fn read_opens(&mut self, report: &mut Report, words: &str) {
-        let entries = opened_to(report, &self.history, words);
         let mut text = Vec::new(report.alloc);
         report.push_line(&mut text, "history");
-        report.push(&mut text, entries);
+        match words {
+            "to" => {}
+            "to it" => report.push(&mut text, &self.history),
+            "to more" => report.push(&mut text, entries_of(&self.history)),
+            _ => report.understands_not(),
+        }
         report.keep(&mut self.opens, text);
         self.block = Block::Opens;
     }
@@ -182,7 +185,7 @@ impl<'a> Run<'a> {
                 self.block = Block::Cut;
             }
             _ => {
-                self.probe = words;
+                self.work = report.joined(&["client c\nput z 9\nflush\nget z\n", words, "\n"]);
                 self.block = Block::Sweep;
             }
         }
@@ -218,41 +221,29 @@ impl<'a> Run<'a> {
         self.block = Block::None;
         let (verb, words) = clause.split_once(' ').unwrap_or((clause, ""));
         match verb {
-            "log" | "manifest" | "tables" => report.keep(&mut self.devices, clause),
+            "log" => self.log.read(report, names, words),
+            "manifest" => self.manifest.read(report, names, words),
+            "tables" => self.tables.read(report, names, words),
             "opens" => self.read_opens(report, words),
             "room" | "hold" | "order" | "status" | "keep" | "cut" | "sweep" => self.read_words(
                 report, verb, words,
             ),
-            "script" if !words.is_empty() => push_words(report, names, &mut self.script, words),
+            "script" if !words.is_empty() => self.script = bytes_of(report, names, words),
             _ => self.read_whole(report, before, clause),
         }
     }
 
-    /// Reads what the lines up to the next run or case say of a run with this command line. `before` has the history of the run
-    /// before.
-    pub(crate) fn of(
+    /// Reads a line of the case, with the bytes that the file named so far. `before` has the history of the run before.
+    pub(crate) fn read(
+        &mut self,
         report: &mut Report,
         names: &[Named<'_>],
         before: &[u8],
-        words: &'a str,
-        lines: &[Line<'a>],
-    ) -> Run<'a> {
-        let mut run = Run::new(report.alloc, words);
-        for line in lines {
-            if begins_run(line.text) {
-                break;
-            }
-            report.come_to(line.number);
-            match line.text.strip_prefix("  ") {
-                Some(under) => run.read_under(report, under),
-                None => run.read_clause(report, names, before, line.text),
-            }
+        line: &'a str,
+    ) {
+        match line.strip_prefix("  ") {
+            Some(under) => self.read_under(report, under),
+            None => self.read_clause(report, names, before, line),
         }
-        run
     }
-}
-
-/// Whether a run begins with the line, or a case.
-pub(crate) fn begins_run(line: &str) -> bool {
-    line == "wp" || line.starts_with("wp ") || line.starts_with("case ")
 }

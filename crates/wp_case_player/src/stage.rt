@@ -28,76 +28,144 @@ pub(crate) struct Stage {
     worked: Vec<Worked>,
 }
 
-/// The cut with which a history begins: how many entries it has in front, and what is shown of them.
-fn begun<'a>(history: &[u8], cuts: &'a [Cut]) -> (usize, &'a [u8]) {
-    for cut in cuts {
-        if history.starts_with(&cut.lines) {
-            return (cut.count, &cut.lines);
+/// The entries of a history, which may begin in place of the first ones with what an opening shows of them.
+#[derive(Drop)]
+struct Entries<'a> {
+    /// How many these are, and what is shown of them.
+    before: usize,
+    front: &'a [u8],
+    /// The lines of those behind.
+    lines: &'a str,
+}
+
+impl<'a> Entries<'a> {
+    fn of(history: &'a [u8], cuts: &'a [Cut]) -> Entries<'a> {
+        let entries = entries_of(history);
+        for cut in cuts {
+            if let Some(lines) = entries.strip_prefix(cut.lines.as_slice()) {
+                return Entries {
+                    before: cut.count,
+                    front: &cut.lines,
+                    lines: text_of(lines),
+                };
+            }
+        }
+        Entries {
+            before: 0,
+            front: b"",
+            lines: text_of(entries),
         }
     }
-    (0, b"")
-}
 
-/// Shows so many entries of a history, where the log is cut behind the first ones. The lines are those behind so many entries.
-fn shown_from(
-    report: &mut Report,
-    (before, lines): (usize, &str),
-    (cut, front): (usize, &[u8]),
-    count: usize,
-) -> Vec<u8> {
-    let mut shown = Vec::new(report.alloc);
-    report.push_line(&mut shown, "history");
-    report.push(&mut shown, front);
-    let mut number = before;
-    for line in lines.lines() {
-        if cut <= number && number < count {
-            report.push_line(&mut shown, line);
+    /// Shows so many of them, where the log is cut behind the first ones.
+    fn shown(&self, report: &mut Report, (cut, front): (usize, &[u8]), count: usize) -> Vec<u8> {
+        let mut shown = Vec::new(report.alloc);
+        report.push_line(&mut shown, "history");
+        report.push(&mut shown, front);
+        let mut number = self.before;
+        for line in self.lines.lines() {
+            if cut <= number && number < count {
+                report.push_line(&mut shown, line);
+            }
+            number = number.saturating_add(1);
         }
-        number = number.saturating_add(1);
-    }
-    shown
-}
-
-impl Worked {
-    /// The store that these entries show, once the nth one is there too.
-    fn new(report: &mut Report, entries: &[u8], n: &str, undecided: &str, reply: &str) -> Worked {
-        let entries = text_of(entries);
-        let shown = report.joined(&[entries, n, " write put z 9\nend ", n, " ", undecided, "\n"]);
-        let end = report.joined(&["\nget 9 @", n, "\n", reply, " @", n, "\n", text_of(&shown)]);
-        Worked { end, shown }
+        shown
     }
 }
 
-impl Stage {
-    /// Reads `end 2 1 get 1`: how many of the entries are there, how many are undecided then, and what the sweep's command is
-    /// answered, without the number. The log may be cut so, where as many entries are there.
-    pub(crate) fn read(report: &mut Report, history: &[u8], cuts: &[Cut], line: &str) -> Stage {
+/// What a line under a sweep says, `end 2 1 get 1`: how many of the entries are there, how many are undecided then, and what the
+/// sweep's command is answered, without the number.
+#[derive(Drop)]
+struct Said<'a> {
+    count: &'a str,
+    undecided: &'a str,
+    reply: &'a str,
+}
+
+impl<'a> Said<'a> {
+    fn of(line: &'a str) -> Said<'a> {
         let words = line.strip_prefix("end ").unwrap_or("");
         let (count, words) = words.split_once(' ').unwrap_or(("", ""));
         let (undecided, reply) = words.split_once(' ').unwrap_or(("", ""));
-        let number = report.number(count);
+        Said {
+            count,
+            undecided,
+            reply,
+        }
+    }
+}
+
+/// The store that these entries show, once the nth one is there too.
+fn push_worked(
+    report: &mut Report,
+    worked: &mut Vec<Worked>,
+    entries: &[u8],
+    n: &str,
+    said: &Said<'_>,
+) {
+    let entries = text_of(entries);
+    let shown = report.joined(&[
+        entries,
+        n,
+        " write put z 9\nend ",
+        n,
+        " ",
+        said.undecided,
+        "\n",
+    ]);
+    let end = report.joined(&[
+        "\nget 9 @",
+        n,
+        "\n",
+        said.reply,
+        " @",
+        n,
+        "\n",
+        text_of(&shown),
+    ]);
+    report.keep(worked, Worked { end, shown });
+}
+
+impl Stage {
+    /// The texts of a stage with so many of the entries, of which these are shown. The log may be cut so, where as many are there.
+    fn new(
+        report: &mut Report,
+        entries: &Entries<'_>,
+        cuts: &[Cut],
+        number: usize,
+        said: &Said<'_>,
+    ) -> Stage {
         let alloc = report.alloc;
         let n = report.spelled(format!(in alloc; "{}", number.saturating_add(1)));
         let n = text_of(&n);
-        let (before, front) = begun(history, cuts);
-        let entries = text_of(entries_of(history));
-        let lines = entries.strip_prefix(text_of(front)).unwrap_or("");
-        let found = shown_from(report, (before, lines), (before, front), number);
+        let found = entries.shown(report, (entries.before, entries.front), number);
         let mut worked = Vec::new(alloc);
-        let whole = Worked::new(report, &found, n, undecided, reply);
-        report.keep(&mut worked, whole);
+        push_worked(report, &mut worked, &found, n, said);
         for cut in cuts {
-            if before < cut.count && cut.count <= number {
-                let left = shown_from(report, (before, lines), (cut.count, &cut.lines), number);
-                let anew = Worked::new(report, &left, n, undecided, reply);
-                report.keep(&mut worked, anew);
+            if entries.before < cut.count && cut.count <= number {
+                let left = entries.shown(report, (cut.count, &cut.lines), number);
+                push_worked(report, &mut worked, &left, n, said);
             }
         }
         Stage {
-            shown: report.joined(&[text_of(&found), "end ", count, " ", undecided, "\n"]),
+            shown: report.joined(&[
+                text_of(&found),
+                "end ",
+                said.count,
+                " ",
+                said.undecided,
+                "\n",
+            ]),
             front: report.joined(&["client c\nput @", n, "\nflushed @", n, " "]),
             worked,
         }
+    }
+
+    /// Reads a line under a sweep.
+    pub(crate) fn read(report: &mut Report, history: &[u8], cuts: &[Cut], line: &str) -> Stage {
+        let said = Said::of(line);
+        let number = report.number(said.count);
+        Stage::new(report, &Entries::of(history, cuts), cuts, number, &said)
     }
 
     /// Whether a run that works on, and then shows its store, wrote these texts.

@@ -1,43 +1,37 @@
 //! A run made again and again, each time with devices that go wrong at other calls. What is left, as it is and as a crash may leave
 //! it, opens to what was acknowledged, and works on.
 
-ghost use Rattle.std.specs.Prelude.{◌<◌};
-
-use crate::crash::images;
-use crate::judge::end_of;
-use crate::play::{Call, CaseDisk, Faults, Outcome, Player, SOUND, Stored, gate_of};
+use crate::crash::push_images;
+use crate::play::{AMPLE_ROOM, Call, Faults, Left, Outcome, SOUND, Stored, play, show};
 use crate::report::Report;
 use crate::run::Run;
 use crate::stage::{Stage, is_any_shown, is_whole, stages_after};
 use std::sync::Wait;
 use std::thread::Threads;
-use wp_memory::Hold;
-use wp_outside::Disks;
 
 /// How many bytes are between the places at which a crash tears what was not synced.
 const APART: usize = 9;
 
-/// The status where the device is the first to go wrong, as it is opened or later, and its line.
-const ENDS: [[&str; 2]; 3] = [
-    ["10 opening failed: log", "7 log fault"],
-    ["10 opening failed: manifest", "8 table fault"],
-    ["10 opening failed: tables", "8 table fault"],
-];
+/// The status where the log is the first to go wrong once it is opened, and its line; and where another device is.
+const LOG_FAULT: &str = "7 log fault";
 
-/// A run that is made again and again on devices with these bytes.
-#[derive(Drop)]
-struct Sweep<'p, 'r, 's, 'c, R> {
-    player: Player<'p, R>,
-    call: Call<'r>,
-    holds: &'r [Hold],
-    stages: &'r [Stage],
-    /// Whether the run may renew its log. A renewal behind a fault of the tables stops the log, which is not called any more.
-    renews: bool,
-    stored: Stored<'s>,
-    /// When each device is called where none goes wrong.
-    calls: [&'c [u64]; 3],
-    /// The script of a run that works on once the devices opened, and that shows how far the swept one came.
-    work: Vec<u8>,
+const TABLE_FAULT: &str = "8 table fault";
+
+/// How the devices go wrong, and how the run has to end then.
+#[derive(Clone, Copy)]
+struct Trial {
+    faults: [Faults; 3],
+    due: &'static str,
+}
+
+/// A device, when it is called where none goes wrong, and how the run has to end where it is the first to go wrong: in so many calls
+/// of it, which open it, or later.
+#[derive(Clone, Copy)]
+struct Swept<'a> {
+    place: usize,
+    calls: &'a [u64],
+    opening: usize,
+    ends: [&'static str; 2],
 }
 
 fn stops_at(call: usize) -> Faults {
@@ -56,194 +50,214 @@ fn stops_from(calls: &[u64], moment: u64) -> Faults {
     Faults { answered, ..SOUND }
 }
 
-fn images_of(report: &mut Report, disk: &CaseDisk<'_>) -> Vec<Vec<u8>> {
-    images(report, disk.synced(), disk.bytes(), APART)
-}
-
-/// How often the opening of a store with these bytes calls each device.
-fn count_opening<R: Threads + Wait + Sync>(
-    player: &Player<'_, R>,
-    report: &mut Report,
-    stored: &Stored<'_>,
-) -> [usize; 3] {
-    match player.show(report, stored) {
-        Some(shown) => {
-            let [log, manifest, tables] = shown.calls();
-            [log.len(), manifest.len(), tables.len()]
-        }
-        None => [0; 3],
+/// The device at that place goes wrong so, and no other.
+fn alone(place: usize, faults: Faults) -> [Faults; 3] {
+    match place {
+        0 => [faults, SOUND, SOUND],
+        1 => [SOUND, faults, SOUND],
+        _ => [SOUND, SOUND, faults],
     }
 }
 
-impl<R: Threads + Wait + Sync> Sweep<'_, '_, '_, '_, R> {
-    /// What a run left that works on has to open to what one of the stages then has.
-    fn opens_again(&self, report: &mut Report, stages: &[Stage], next: &Outcome<'_>) {
-        let Some(again) = self.player.show(report, &next.stored()) else {
-            return;
+/// The device goes wrong at each of its calls: it fails there; or it is the first that is not answered while the other devices go
+/// on; or no device answers from there on. Where the log has calls left then, it fails too.
+fn push_alone(report: &mut Report, trials: &mut Vec<Trial>, swept: &Swept<'_>, whole: &Outcome) {
+    for (call, moment) in swept.calls.iter().enumerate() {
+        let is_open = call >= swept.opening;
+        let due = if is_open {
+            swept.ends[1]
+        } else {
+            swept.ends[0]
         };
-        if !is_any_shown(stages, next.text(), again.text()) {
-            report.tell("what a crash may leave opens to no such store", b"");
+        let call = call.saturating_add(1);
+        let fails = call as u64;
+        let faults = alone(swept.place, Faults { fails, ..SOUND });
+        report.keep(trials, Trial { faults, due });
+        let faults = alone(swept.place, stops_at(call));
+        report.keep(trials, Trial { faults, due });
+        let faults = [
+            stops_from(&whole.log.calls, *moment),
+            stops_from(&whole.manifest.calls, *moment),
+            stops_from(&whole.tables.calls, *moment),
+        ];
+        let log_goes_on = faults[0].answered < whole.log.calls.len() as u64;
+        let due = if is_open && log_goes_on {
+            LOG_FAULT
+        } else {
+            due
+        };
+        report.keep(trials, Trial { faults, due });
+    }
+}
+
+/// After the opening the log stops at each of its calls, and the other device at each of its own.
+fn push_pairs(report: &mut Report, trials: &mut Vec<Trial>, log: &Swept<'_>, other: &Swept<'_>) {
+    for call in log.opening..log.calls.len() {
+        for also in other.opening..other.calls.len() {
+            let mut faults = alone(other.place, stops_at(also.saturating_add(1)));
+            faults[0] = stops_at(call.saturating_add(1));
+            let due = LOG_FAULT;
+            report.keep(trials, Trial { faults, due });
         }
     }
+}
 
-    /// Devices with these bytes have to open to one of the stages, work on, and open to what they then have.
-    fn opens(&self, report: &mut Report, stages: &[Stage], stored: &Stored<'_>) {
-        let work = Call::new("wp run --bits 0", &self.work);
-        let free = self.player.free;
-        if let Some(next) = self.player.play(report, free, &work, stored, &[SOUND; 3]) {
-            self.opens_again(report, stages, &next);
-        }
+/// All trials of a run that left this where no device went wrong. The opening of its store left the other, when it was shown.
+fn trials_of(report: &mut Report, whole: &Outcome, shown: &Outcome) -> Vec<Trial> {
+    let log = Swept {
+        place: 0,
+        calls: &whole.log.calls,
+        opening: shown.log.calls.len(),
+        ends: ["10 opening failed: log", LOG_FAULT],
+    };
+    let manifest = Swept {
+        place: 1,
+        calls: &whole.manifest.calls,
+        opening: shown.manifest.calls.len(),
+        ends: ["10 opening failed: manifest", TABLE_FAULT],
+    };
+    let tables = Swept {
+        place: 2,
+        calls: &whole.tables.calls,
+        opening: shown.tables.calls.len(),
+        ends: ["10 opening failed: tables", TABLE_FAULT],
+    };
+    let mut trials = Vec::new(report.alloc);
+    push_alone(report, &mut trials, &log, whole);
+    push_alone(report, &mut trials, &manifest, whole);
+    push_alone(report, &mut trials, &tables, whole);
+    push_pairs(report, &mut trials, &log, &manifest);
+    push_pairs(report, &mut trials, &log, &tables);
+    trials
+}
+
+/// How the run has to end. Where a renewal found the tables' devices failed it stopped the log, which is called at all calls that it
+/// has where no device fails.
+fn due(run: &Run<'_>, trial: &Trial, outcome: &Outcome) -> &'static str {
+    let log = trial.faults[0];
+    let made = outcome.log.calls.len() as u64;
+    let failed = log.answered < made || (0 < log.fails && log.fails <= made);
+    if !run.cuts.is_empty() && trial.due == LOG_FAULT && !failed {
+        TABLE_FAULT
+    } else {
+        trial.due
     }
+}
 
-    /// So has whatever a crash may leave of the devices.
-    fn images_open(&self, report: &mut Report, stages: &[Stage], left: &Disks<CaseDisk<'_>>) {
-        let logs = images_of(report, &left.log);
-        let manifests = images_of(report, &left.manifest);
-        let all_tables = images_of(report, &left.tables);
-        for log in &logs {
-            for manifest in &manifests {
-                for tables in &all_tables {
-                    if report.is_good() {
-                        self.opens(report, stages, &[log, manifest, tables]);
-                    }
+/// Devices with these bytes have to open to one of the stages, work on, and open to what they then have.
+fn opens<R: Threads + Wait + Sync>(
+    rt: &R,
+    report: &mut Report,
+    work: &[u8],
+    stages: &[Stage],
+    stored: &Stored<'_>,
+) {
+    let call = Call {
+        words: "wp run --bits 0",
+        script: work,
+        source_fails: 0,
+        room: AMPLE_ROOM,
+        holds: &[],
+    };
+    let Some(next) = play(rt, report, &call, stored, &[SOUND; 3]) else {
+        return;
+    };
+    let Some(again) = show(rt, report, &next.stored()) else {
+        return;
+    };
+    if !is_any_shown(stages, &next.text, &again.text) {
+        report.tell("what a crash may leave opens to no such store", b"");
+    }
+}
+
+/// What a crash may leave of the device.
+fn images_of(report: &mut Report, left: &Left) -> Vec<Vec<u8>> {
+    let mut images = Vec::new(report.alloc);
+    push_images(report, &mut images, (&left.synced, &left.bytes), APART);
+    images
+}
+
+/// So has whatever a crash may leave of the devices.
+fn images_open<R: Threads + Wait + Sync>(
+    rt: &R,
+    report: &mut Report,
+    work: &[u8],
+    stages: &[Stage],
+    outcome: &Outcome,
+) {
+    let logs = images_of(report, &outcome.log);
+    let manifests = images_of(report, &outcome.manifest);
+    let all_tables = images_of(report, &outcome.tables);
+    for log in &logs {
+        for manifest in &manifests {
+            for tables in &all_tables {
+                if report.is_good() {
+                    opens(rt, report, work, stages, &[log, manifest, tables]);
                 }
             }
         }
     }
+}
 
-    /// How the run has to end that ends so where the log is called at all calls that it has where no device fails.
-    fn due<'d>(&self, outcome: &Outcome<'_>, log: &Faults, due: &'d str) -> &'d str {
-        let [calls, _, _] = outcome.calls();
-        let made = calls.len() as u64;
-        let failed = log.answered < made || (0 < log.fails && log.fails <= made);
-        if self.renews && due == ENDS[0][1] && !failed {
-            ENDS[1][1]
-        } else {
-            due
-        }
+/// Tells of a run that did not end so, with its whole text, or none where the opening failed.
+fn check(report: &mut Report, stages: &[Stage], outcome: &Outcome, due: &str) {
+    if outcome.end.as_slice() != due.as_bytes() {
+        report.tell("the status is ", &outcome.end);
     }
-
-    /// The run has to end so, with its whole text, or none where the opening failed; and what it leaves opens.
-    fn check(&self, report: &mut Report, outcome: &Outcome<'_>, due: &str) {
-        let end = end_of(report, &outcome.ended.status);
-        if end.as_slice() != due.as_bytes() {
-            report.tell("the status is ", &end);
-        }
-        let stages = stages_after(self.stages, outcome.text(), due.starts_with("7 "));
-        if !is_whole(stages, outcome.text(), due.starts_with("10 ")) {
-            report.tell("the text is\n", outcome.text());
-        }
-        self.images_open(report, stages, &outcome.ended.disks);
+    if !is_whole(stages, &outcome.text, due.starts_with("10 ")) {
+        report.tell("the text is\n", &outcome.text);
     }
+}
 
-    /// Makes the run with these faults, which has to end so.
-    fn judge(&self, report: &mut Report, faults: &[Faults; 3], due: &str) {
-        let gate = gate_of(report.alloc, self.holds);
-        let Some(gate) = report.made(gate) else {
-            return;
-        };
-        let stored = &self.stored;
-        if let Some(outcome) = self.player.play(report, &gate, &self.call, stored, faults) {
-            let due = self.due(&outcome, &faults[0], due);
-            self.check(report, &outcome, due);
-        }
+/// Adds to what is told how the devices went wrong.
+fn add_faults(report: &mut Report, faults: &[Faults; 3]) {
+    let [log, manifest, tables] = faults;
+    let alloc = report.alloc;
+    let calls = report.spelled(format!(in alloc;
+        "; calls that fail: {}, {}, {}; that are answered: {}, {}, {}",
+        log.fails, manifest.fails, tables.fails, log.answered, manifest.answered, tables.answered
+    ));
+    let _ = report.text.extend_from_slice(&calls);
+}
+
+/// Makes the run with these faults. It has to end so, and what it leaves opens.
+fn make_trial<R: Threads + Wait + Sync>(
+    rt: &R,
+    report: &mut Report,
+    run: &Run<'_>,
+    stored: &Stored<'_>,
+    trial: &Trial,
+) {
+    if !report.is_good() {
+        return;
     }
-
-    fn trial(&self, report: &mut Report, faults: &[Faults; 3], due: &str) {
-        if !report.is_good() {
-            return;
-        }
-        self.judge(report, faults, due);
-        if !report.is_good() {
-            let [log, manifest, tables] = faults;
-            let alloc = report.alloc;
-            let calls = report.spelled(format!(in alloc;
-                "; calls that fail: {}, {}, {}; that are answered: {}, {}, {}",
-                log.fails,
-                manifest.fails,
-                tables.fails,
-                log.answered,
-                manifest.answered,
-                tables.answered
-            ));
-            report.add(&calls);
-        }
+    if let Some(outcome) = play(rt, report, &run.call(), stored, &trial.faults) {
+        let due = due(run, trial, &outcome);
+        let stages = stages_after(&run.stages, &outcome.text, due.starts_with("7 "));
+        check(report, stages, &outcome, due);
+        images_open(rt, report, &run.work, stages, &outcome);
     }
-
-    /// The call of the device fails; or it is the first that is not answered while the other devices go on; or no device answers
-    /// from there on. Where the log has calls left then, it fails too.
-    fn try_call(&self, report: &mut Report, device: usize, call: usize, moment: u64, due: &str)
-        requires { device < 3 }
-    {
-        let mut faults = [SOUND; 3];
-        faults[device].fails = call as u64;
-        self.trial(report, &faults, due);
-        faults[device] = stops_at(call);
-        self.trial(report, &faults, due);
-        let [log, manifest, tables] = self.calls;
-        let faults = [
-            stops_from(log, moment),
-            stops_from(manifest, moment),
-            stops_from(tables, moment),
-        ];
-        let log_goes_on = faults[0].answered < log.len() as u64;
-        let is_logs = log_goes_on && !due.starts_with("10 ");
-        self.trial(report, &faults, if is_logs { ENDS[0][1] } else { due });
-    }
-
-    /// The device goes wrong at each of these calls of it, of which so many open it.
-    fn try_calls(&self, report: &mut Report, device: usize, calls: &[u64], opening: usize)
-        requires { device < 3 }
-    {
-        for (call, moment) in calls.iter().enumerate() {
-            let due = ENDS[device][usize::from(call >= opening)];
-            self.try_call(report, device, call.saturating_add(1), *moment, due);
-        }
-    }
-
-    /// After the opening the log stops at each of its calls, and the other device at each of its own.
-    fn try_pairs(&self, report: &mut Report, opening: &[usize; 3], other: usize)
-        requires { other < 3 }
-    {
-        for call in opening[0]..self.calls[0].len() {
-            for also in opening[other]..self.calls[other].len() {
-                let mut faults = [stops_at(call.saturating_add(1)), SOUND, SOUND];
-                faults[other] = stops_at(also.saturating_add(1));
-                self.trial(report, &faults, ENDS[0][1]);
-            }
-        }
+    if !report.is_good() {
+        add_faults(report, &trial.faults);
     }
 }
 
 /// Lets devices go wrong at each call that the run makes of them, where it is a run to be swept. `whole` is what it leaves where
 /// none does.
 pub(crate) fn make_sweep<R: Threads + Wait + Sync>(
-    player: &Player<'_, R>,
+    rt: &R,
     report: &mut Report,
     run: &Run<'_>,
     stored: &Stored<'_>,
-    whole: &Outcome<'_>,
+    whole: &Outcome,
 ) {
     if run.stages.is_empty() || !report.is_good() {
         return;
     }
-    let opening = count_opening(player, report, stored);
-    let sweep = Sweep {
-        player: Player {
-            rt: player.rt,
-            free: player.free,
-        },
-        call: run.call(),
-        holds: &run.holds,
-        stages: &run.stages,
-        renews: !run.cuts.is_empty(),
-        stored: *stored,
-        calls: whole.calls(),
-        work: report.joined(&["client c\nput z 9\nflush\nget z\n", run.probe, "\n"]),
+    let Some(shown) = show(rt, report, stored) else {
+        return;
     };
-    for device in 0..3 {
-        sweep.try_calls(report, device, sweep.calls[device], opening[device]);
+    for trial in &trials_of(report, whole, &shown) {
+        make_trial(rt, report, run, stored, trial);
     }
-    sweep.try_pairs(report, &opening, 1);
-    sweep.try_pairs(report, &opening, 2);
 }

@@ -22,7 +22,7 @@ use Rattle.wp_rule.specs.Accounts.{account_of, account_by}
 use Rattle.wp_shared.specs.Calls.{Continues, with_events}
 use Rattle.wp_shared.specs.Seats.{SharedState, SeatState}
 use Rattle.wp_open_txns.specs.declared.error.TxnError.{TxnError}
-use Rattle.wp_open_txns.specs.declared.error.TxnError.TheVariants.{Memory, Taken, Busy, TooMany, Silent, Unknown, InUse, NumbersFull, LogFault, Stopped}
+use Rattle.wp_open_txns.specs.declared.error.TxnError.TheVariants.{Memory, Taken, Silent, Unknown, InUse}
 use Rattle.wp_open_txns.specs.Actors.{no_changes}
 use Rattle.wp_open_txns.specs.Calls.{Finds, with_transaction, Begins, Takes, TakesPrepared}
 use Rattle.wp_open_txns.specs.Txn.{OpenState, PreparedState, HasOpen}
@@ -79,14 +79,7 @@ module _ {D : Type 0} (z : SharedState D) (old new : SeatState) (name : List ℕ
   not_begun_answers has (Taken other) r is k = subst (IsAnswered z old new me me (command.Begin name)) (same_some (reply.Taken other) r is)
       (taken_answers has other k.0 k.1, λ world stands only first is_first store so. taken_alone z first old new only store so (world, stands) snapshots (λ own. has.only own refl) name other k)
   not_begun_answers has Memory r is k = absurd cc
-  not_begun_answers has (Busy by) r is k = absurd k
-  not_begun_answers has TooMany r is k = absurd k
-  not_begun_answers has (NumbersFull published limit) r is k = absurd k
-  not_begun_answers has (Stopped n) r is k = absurd k
-  not_begun_answers has LogFault r is k = absurd k
-  not_begun_answers has Silent r is k = absurd k
-  not_begun_answers has (Unknown other at) r is k = absurd k
-  not_begun_answers has (InUse other) r is k = absurd k
+  not_begun_answers has _ r is k = absurd k
 
   pub not_begun_named : (why : TxnError) → Begins z old name (Err why) new → why ≢ Silent
   not_begun_named why k is = subst (λ (w : TxnError). Begins z old name (Err w) new) is k
@@ -94,14 +87,7 @@ module _ {D : Type 0} (z : SharedState D) (old new : SeatState) (name : List ℕ
   pub not_begun_breaks : (why : TxnError) → refusal why ≡ None → Begins z old name (Err why) new → BreaksOff old new me (command.Begin name)
   not_begun_breaks Memory none k = broke_off z old new me (command.Begin name) k
   not_begun_breaks (Taken other) none k = absurd cc
-  not_begun_breaks (Busy by) none k = absurd k
-  not_begun_breaks TooMany none k = absurd k
-  not_begun_breaks (NumbersFull published limit) none k = absurd k
-  not_begun_breaks (Stopped n) none k = absurd k
-  not_begun_breaks LogFault none k = absurd k
-  not_begun_breaks Silent none k = absurd k
-  not_begun_breaks (Unknown other at) none k = absurd k
-  not_begun_breaks (InUse other) none k = absurd k
+  not_begun_breaks _ none k = absurd k
 
   -- ---- a prepared transaction is taken
 
@@ -148,13 +134,7 @@ module _ {D : Type 0} (z : SharedState D) (old new : SeatState) (name : List ℕ
   not_taken_answers has (InUse other) r is k = subst (IsAnswered z old new me me (command.Take name)) (same_some (reply.InUse other) r is)
       (in_use_answers has other k, λ world stands only first is_first store so. absurd (never_in_use z first old new only store so (world, stands) snapshots (λ own. has.only own refl) name other k))
   not_taken_answers has Memory r is k = absurd cc
-  not_taken_answers has (Taken other) r is k = absurd k
-  not_taken_answers has (Busy by) r is k = absurd k
-  not_taken_answers has TooMany r is k = absurd k
-  not_taken_answers has (NumbersFull published limit) r is k = absurd k
-  not_taken_answers has (Stopped n) r is k = absurd k
-  not_taken_answers has LogFault r is k = absurd k
-  not_taken_answers has Silent r is k = absurd k
+  not_taken_answers has _ r is k = absurd k
 
   pub not_taken_named : (why : TxnError) → TakesPrepared z old name (Err why) new → why ≢ Silent
   not_taken_named why k is = subst (λ (w : TxnError). TakesPrepared z old name (Err w) new) is k
@@ -163,13 +143,7 @@ module _ {D : Type 0} (z : SharedState D) (old new : SeatState) (name : List ℕ
   not_taken_breaks Memory none k = broke_off z old new me (command.Take name) k
   not_taken_breaks (Unknown other at) none k = absurd cc
   not_taken_breaks (InUse other) none k = absurd cc
-  not_taken_breaks (Taken other) none k = absurd k
-  not_taken_breaks (Busy by) none k = absurd k
-  not_taken_breaks TooMany none k = absurd k
-  not_taken_breaks (NumbersFull published limit) none k = absurd k
-  not_taken_breaks (Stopped n) none k = absurd k
-  not_taken_breaks LogFault none k = absurd k
-  not_taken_breaks Silent none k = absurd k
+  not_taken_breaks _ none k = absurd k
 
 -- ---- what the client has then
 
@@ -186,14 +160,7 @@ module _ {D : Type 0} (z : SharedState D) (old new : SeatState) (name : List ℕ
   pub not_begun_holds : (why : TxnError) → Begins z old name (Err why) new → HoldsFrom z old new held.Idle held.Idle
   not_begun_holds (Taken other) k = holds_from z old new held.Idle (holds_still z old new _ refl refl refl k.1.goes_on)
   not_begun_holds Memory k = holds_from z old new held.Idle (keeps_holds z old new k)
-  not_begun_holds (Busy by) k = absurd k
-  not_begun_holds TooMany k = absurd k
-  not_begun_holds (NumbersFull published limit) k = absurd k
-  not_begun_holds (Stopped n) k = absurd k
-  not_begun_holds LogFault k = absurd k
-  not_begun_holds Silent k = absurd k
-  not_begun_holds (Unknown other at) k = absurd k
-  not_begun_holds (InUse other) k = absurd k
+  not_begun_holds _ k = absurd k
 
   pub took_holds : (txn : PreparedState) → Takes z old name txn new → HoldsFrom z old new held.Idle (held.Prepared txn)
   took_holds txn k =
@@ -206,10 +173,4 @@ module _ {D : Type 0} (z : SharedState D) (old new : SeatState) (name : List ℕ
   not_taken_holds (Unknown other at) k = holds_from z old new held.Idle (keeps_holds z old new k.3)
   not_taken_holds (InUse other) k = holds_from z old new held.Idle (holds_still z old new _ refl refl refl k.1.goes_on)
   not_taken_holds Memory k = holds_from z old new held.Idle (keeps_holds z old new k)
-  not_taken_holds (Taken other) k = absurd k
-  not_taken_holds (Busy by) k = absurd k
-  not_taken_holds TooMany k = absurd k
-  not_taken_holds (NumbersFull published limit) k = absurd k
-  not_taken_holds (Stopped n) k = absurd k
-  not_taken_holds LogFault k = absurd k
-  not_taken_holds Silent k = absurd k
+  not_taken_holds _ k = absurd k

@@ -17,7 +17,7 @@ use Rattle.wp_core.proofs.PastsGrow.{in_last}
 use Rattle.wp_shared.specs.Calls.{Continues, with_events}
 use Rattle.wp_shared.specs.Seats.{SharedState, SeatState}
 use Rattle.wp_open_txns.specs.declared.error.TxnError.{TxnError}
-use Rattle.wp_open_txns.specs.declared.error.TxnError.TheVariants.{Memory, Taken, Busy, TooMany, Silent, Unknown, InUse, NumbersFull, LogFault, Stopped}
+use Rattle.wp_open_txns.specs.declared.error.TxnError.TheVariants.{Memory, Silent}
 use Rattle.wp_open_txns.specs.Calls.{Keeps, IsSilent, Tells, Hears}
 use Rattle.wp_replies.specs.Client.{Client}
 use Rattle.wp_replies.specs.Progress.{knows_label}
@@ -128,28 +128,12 @@ module _ {D : Type 0} (z : SharedState D) (old new : SeatState) (label : List �
 
   pub not_heard_answers : (why : TxnError) → Hears z old label (Err why) new → IsAnswered z old new client client (command.Hear label) (reply.Silent label)
   not_heard_answers Silent k = (silent_answers k.0 k.1, λ world stands only first is_first store so. silent_alone z first old new only store so (world, stands) client label k)
-  not_heard_answers Memory c = absurd c
-  not_heard_answers (Taken other) c = absurd c
-  not_heard_answers (Busy holder) c = absurd c
-  not_heard_answers TooMany c = absurd c
-  not_heard_answers (Unknown other at) c = absurd c
-  not_heard_answers (InUse other) c = absurd c
-  not_heard_answers (NumbersFull published limit) c = absurd c
-  not_heard_answers LogFault c = absurd c
-  not_heard_answers (Stopped n) c = absurd c
+  not_heard_answers _ c = absurd c
 
   -- nothing but want of memory refuses to tell
   told_else : (why : TxnError) → Tells z old label (Err why) new → why ≡ Memory
   told_else Memory goes = refl
-  told_else (Taken other) c = absurd c
-  told_else (Busy holder) c = absurd c
-  told_else TooMany c = absurd c
-  told_else Silent c = absurd c
-  told_else (Unknown other at) c = absurd c
-  told_else (InUse other) c = absurd c
-  told_else (NumbersFull published limit) c = absurd c
-  told_else LogFault c = absurd c
-  told_else (Stopped n) c = absurd c
+  told_else _ c = absurd c
 
   module _ (why : TxnError) (k : Tells z old label (Err why) new) where
     pub not_told_named : why ≢ Silent
@@ -169,25 +153,9 @@ module _ {D : Type 0} (z : SharedState D) (old new : SeatState) (label : List �
   pub told_holds : (answer : Result ℕ TxnError) → Tells z old label answer new → Holds z new h
   told_holds (Ok n) (is, goes, were, was) = holds_still z old new _ refl refl refl goes h has
   told_holds (Err Memory) goes = keeps_holds z old new goes h has
-  told_holds (Err (Taken other)) c = absurd c
-  told_holds (Err (Busy holder)) c = absurd c
-  told_holds (Err TooMany) c = absurd c
-  told_holds (Err Silent) c = absurd c
-  told_holds (Err (Unknown other at)) c = absurd c
-  told_holds (Err (InUse other)) c = absurd c
-  told_holds (Err (NumbersFull published limit)) c = absurd c
-  told_holds (Err LogFault) c = absurd c
-  told_holds (Err (Stopped n)) c = absurd c
+  told_holds _ c = absurd c
 
   pub heard_holds : (answer : Result ℕ TxnError) → Hears z old label answer new → Holds z new h
   heard_holds (Ok n) (is, (m, low, goes, were, was)) = holds_still z old new _ refl refl refl goes h has
   heard_holds (Err Silent) (silent, goes) = keeps_holds z old new goes h has
-  heard_holds (Err Memory) c = absurd c
-  heard_holds (Err (Taken other)) c = absurd c
-  heard_holds (Err (Busy holder)) c = absurd c
-  heard_holds (Err TooMany) c = absurd c
-  heard_holds (Err (Unknown other at)) c = absurd c
-  heard_holds (Err (InUse other)) c = absurd c
-  heard_holds (Err (NumbersFull published limit)) c = absurd c
-  heard_holds (Err LogFault) c = absurd c
-  heard_holds (Err (Stopped n)) c = absurd c
+  heard_holds _ c = absurd c

@@ -1,5 +1,4 @@
 pub mod Alone
-pub mod Going
 pub mod Staying
 pub mod Growing
 pub mod Clients

@@ -35,7 +35,7 @@ use Rattle.wp_client.proofs.Labels.{itself}
 use Rattle.wp_client.proofs.Labelled.{number_is, without_it, distinct_more, distinct_less, none_behind, within_one, within_next, within_less, mapped_more, mapped_between, mapped_both, between, is_registered, times_there}
 use Rattle.wp_client.proofs.Reading.{keeps_answers}
 use Rattle.wp_client.proofs.Staying.{holds_txn_still}
-use Rattle.wp_client.proofs.Going.{still}
+use Rattle.wp_open_txns.proofs.Still.{still}
 
 -- ---- the place of a label
 

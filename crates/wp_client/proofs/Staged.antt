@@ -1,18 +1,16 @@
 -- What a client is answered whose open transaction takes a change in.
-use Rattle.std.proofs.Common.{◌≡◌, inl, inr, ℕ, Bool, true, false, true≢false, List, [], ◌∷◌, ◌++◌, length, Option, Some, None, refl, sym, subst, ap, ◌∙◌, arith}
-use Rattle.std.specs.Prelude.{◌≢◌, ◌≤◌, Ok, Err, not, nat_le, is_some, unwrap_or, if◌then◌else◌}
+use Rattle.std.proofs.Common.{◌≡◌, inl, inr, ℕ, Bool, true, false, List, [], ◌∷◌, ◌++◌, length, Option, Some, None, refl, sym, subst, ap, ◌∙◌, arith}
+use Rattle.std.specs.Prelude.{◌≢◌, ◌≤◌, Ok, Err, not, unwrap_or, if◌then◌else◌}
 use Rattle.std.specs.Str.{bytes_eq}
 use Rattle.std.specs.FinMap as finite
-use Rattle.std.proofs.lemmas.Bool.{cases_Bool, and_parts}
-use Rattle.std.proofs.lemmas.Bool.Decides.{nat_tests}
+use Rattle.std.proofs.lemmas.Bool.{cases_Bool}
 use Rattle.std.proofs.lemmas.Slice.Eq.{bytes_eq-Decides}
 use mathlib.Core.List.{append-nil}
-use Rattle.wp_model.specs.declared.batch.TheConstants.{MOST_KEYS}
 use Rattle.wp_model.specs.declared.change.Change.{Change}
 use Rattle.wp_model.specs.declared.change.Change.TheVariants as change
 use Rattle.wp_model.specs.declared.holder.Holder.{Holder}
 use Rattle.wp_model.specs.declared.holder.Holder.TheVariants as holder
-use Rattle.wp_model.specs.Batch.{key_of, change_to, with_change, is_batch, are_ascending}
+use Rattle.wp_model.specs.Batch.{key_of, with_change, is_batch}
 use Rattle.wp_model.specs.History.{is_changed}
 use Rattle.wp_text.specs.declared.reply.Reply.{Reply}
 use Rattle.wp_text.specs.declared.reply.Reply.TheVariants as reply
@@ -25,9 +23,9 @@ use Rattle.wp_rule.specs.Accounts.{account_of}
 use Rattle.wp_shared.specs.Calls.{with_events}
 use Rattle.wp_shared.specs.Seats.{SharedState, SeatState}
 use Rattle.wp_open_txns.specs.declared.error.TxnError.{TxnError}
-use Rattle.wp_open_txns.specs.declared.error.TxnError.TheVariants.{Memory, Taken, Busy, TooMany, Silent, Unknown, InUse, NumbersFull, LogFault, Stopped}
+use Rattle.wp_open_txns.specs.declared.error.TxnError.TheVariants.{Memory, Busy, TooMany, Silent}
 use Rattle.wp_open_txns.specs.Actors.{transaction_in, with_key_locked}
-use Rattle.wp_open_txns.specs.Calls.{with_transaction, IsFull, locking, changing, Changes}
+use Rattle.wp_open_txns.specs.Calls.{with_transaction, locking, changing, Changes}
 use Rattle.wp_open_txns.specs.Txn.{OpenState, HasOpen}
 use Rattle.wp_replies.specs.declared.client.LabelledSnapshot.{LabelledSnapshot}
 use Rattle.wp_replies.specs.declared.client.Staged.{Staged}
@@ -47,6 +45,7 @@ use Rattle.wp_client.proofs.Growing.{of_one}
 use Rattle.wp_client.proofs.Holders.{found_busy}
 use Rattle.wp_client.proofs.Labels.{itself}
 use Rattle.wp_client.proofs.Staying.{holds_still, keeps_holds, broke_off, only_this, has_now, holds_now}
+use Rattle.wp_client.proofs.Alone.Changing.{full_has_none, not_full_has_room}
 use Rattle.wp_client.proofs.Alone.Staged.{held_alone, too_many_alone, busy_alone}
 
 -- ---- by the change
@@ -60,25 +59,6 @@ labels_same (change.Del key) before r = refl
 pub last_same : (c : Change) (r : Reply) (most : ℕ) → number_in r ≡ None → (before : ℕ) → before ≤ most → last_after before (asking c) r ≤ most
 last_same (change.Put key value) r most none before low = subst (λ (o : Option ℕ). unwrap_or o before ≤ most) (sym none) low
 last_same (change.Del key) r most none before low = subst (λ (o : Option ℕ). unwrap_or o before ≤ most) (sym none) low
-
--- ---- room in the batch
-
-none_there : (said : Option (Option (List ℕ))) → not (is_some said) ≡ true → said ≡ None
-none_there None is = refl
-none_there (Some value) is = absurd (true≢false (sym is))
-
--- no key more has room exactly where 64 have a change, and this one has none
-not_full : (batch : List Change) (key : List ℕ) → is_batch batch ≡ true → (IsFull batch key → ⊥) → has_no_room batch key ≡ false
-not_full batch key small room =
-    elim (cases_Bool (has_no_room batch key)) [
-      | inl full ↦
-          let many = and_parts (nat_le MOST_KEYS (length batch)) (not (is_changed batch key)) full in let few = and_parts (nat_le (length batch) MOST_KEYS) (are_ascending batch) small in
-          absurd (room ((let m = many.0 in let f = few.0 in grind (arith, nat_tests)), none_there (change_to batch key) many.1))
-      | inr not_so ↦ not_so
-    ]
-
-is_full : (batch : List Change) (key : List ℕ) → IsFull batch key → has_no_room batch key ≡ true
-is_full batch key (size, none) = let m : nat_le MOST_KEYS (length batch) ≡ true = grind (arith, nat_tests) in let n : not (is_changed batch key) ≡ true = ap (λ (o : Option (Option (List ℕ))). not (is_some o)) none in rw (m, n) refl
 
 -- ---- the seat, by whether the key had a change already
 
@@ -169,7 +149,7 @@ module _ {D : Type 0} (z : SharedState D) (old new : SeatState) (txn left : Open
         (held_fits (staged_of txn) snapshots (is_changed txn.batch (key_of c)) c it.client)
         (ap (λ (x : OpenState). having (Open (staged_of x)) snapshots) k.1 ∙ held_client (staged_of txn) snapshots c)
         (last_same c reply.Held (length new.knows.participant.seen) refl)
-        (λ first is_first before p e agrees. with_room (staged_of txn) snapshots c e before reply.Held (not_full txn.batch (key_of c) small k.0) (held_condition (staged_of txn) snapshots c e before)),
+        (λ first is_first before p e agrees. with_room (staged_of txn) snapshots c e before reply.Held (not_full_has_room txn.batch (key_of c) small k.0) (held_condition (staged_of txn) snapshots c e before)),
     λ world stands only first is_first store so. held_alone z first old new only store so (world, stands) snapshots c txn left small k,
   )
 
@@ -181,7 +161,7 @@ module _ {D : Type 0} (z : SharedState D) (old new : SeatState) (txn left : Open
       else_answers z old new _ it [] before_it after_it (asking c) reply.TooMany 0 k.3 refl refl (sym (append-nil it.past))
       (record { acknowledges = refl; tables = λ before. refl; labels = λ before. labels_same c before reply.TooMany; log_failed = refl; log_stopped = refl; tables_failed = refl; once = omega arith; remembered = tt; explained = λ event there. absurd there })
       (same_left k.1) (last_same c reply.TooMany (length new.knows.participant.seen) refl)
-      (λ first is_first before p e agrees. full_condition (staged_of txn) snapshots c e before (is_full txn.batch (key_of c) k.0))
+      (λ first is_first before p e agrees. full_condition (staged_of txn) snapshots c e before (full_has_none txn.batch (key_of c) k.0))
 
   busy_answers : HoldsTxn z old (held.Open txn) → (by : Holder) → Changes z old txn c (Err (Busy by)) new left → Answers z old new before_it after_it (asking c) (reply.Busy by)
   busy_answers has by k = let f = k.5 in
@@ -189,7 +169,7 @@ module _ {D : Type 0} (z : SharedState D) (old new : SeatState) (txn left : Open
       else_answers z old new _ (with_events (event ∷ []) it) (event ∷ []) before_it after_it (asking c) (reply.Busy by) 0 f.goes_on refl refl refl
       (record { acknowledges = refl; tables = λ before. refl; labels = λ before. labels_same c before (reply.Busy by); log_failed = refl; log_stopped = refl; tables_failed = refl; once = omega arith; remembered = tt; explained = of_one (IsExplained it.client (Open (staged_of txn)) (asking c) (Some (reply.Busy by))) event tt })
       (same_left k.1) (last_same c (reply.Busy by) (length new.knows.participant.seen) refl)
-      (λ first is_first before p e agrees. with_room (staged_of txn) snapshots c e before (reply.Busy by) (not_full txn.batch (key_of c) small k.0) (busy_condition (staged_of txn) snapshots c e before by
+      (λ first is_first before p e agrees. with_room (staged_of txn) snapshots c e before (reply.Busy by) (not_full_has_room txn.batch (key_of c) small k.0) (busy_condition (staged_of txn) snapshots c e before by
       (found_busy e before.last (key_of c) by it f.world.locks f.published p.last has.direct (λ name same. has.only name (not_own txn.name by k.4 name same))
       (agrees.past event (subst (IsIn event) (sym (ap (λ (q : Participant). q.past) f.goes_on.participant)) (in_last event it.past))))))
 
@@ -199,13 +179,7 @@ module _ {D : Type 0} (z : SharedState D) (old new : SeatState) (txn left : Open
   not_held_answers has TooMany r is k = subst (IsAnswered z old new before_it after_it (asking c)) (same_some reply.TooMany r is)
       (full_answers k, λ world stands only first is_first store so. too_many_alone z first old new only store so (world, stands) snapshots c txn left k)
   not_held_answers has Memory r is k = absurd cc
-  not_held_answers has (NumbersFull published limit) r is k = absurd k
-  not_held_answers has (Stopped n) r is k = absurd k
-  not_held_answers has LogFault r is k = absurd k
-  not_held_answers has (Taken name) r is k = absurd k
-  not_held_answers has Silent r is k = absurd k
-  not_held_answers has (Unknown name at) r is k = absurd k
-  not_held_answers has (InUse name) r is k = absurd k
+  not_held_answers has _ r is k = absurd k
 
   pub not_held_named : (why : TxnError) → Changes z old txn c (Err why) new left → why ≢ Silent
   not_held_named why k is = subst (λ (w : TxnError). Changes z old txn c (Err w) new left) is k
@@ -215,25 +189,13 @@ module _ {D : Type 0} (z : SharedState D) (old new : SeatState) (txn left : Open
   not_held_same Memory none k = k.0
   not_held_same (Busy by) none k = absurd cc
   not_held_same TooMany none k = absurd cc
-  not_held_same (NumbersFull published limit) none k = absurd k
-  not_held_same (Stopped n) none k = absurd k
-  not_held_same LogFault none k = absurd k
-  not_held_same (Taken name) none k = absurd k
-  not_held_same Silent none k = absurd k
-  not_held_same (Unknown name at) none k = absurd k
-  not_held_same (InUse name) none k = absurd k
+  not_held_same _ none k = absurd k
 
   pub not_held_breaks : (why : TxnError) → refusal why ≡ None → Changes z old txn c (Err why) new left → BreaksOff old new before_it (asking c)
   not_held_breaks Memory none k = broke_off z old new before_it (asking c) k.2
   not_held_breaks (Busy by) none k = absurd cc
   not_held_breaks TooMany none k = absurd cc
-  not_held_breaks (NumbersFull published limit) none k = absurd k
-  not_held_breaks (Stopped n) none k = absurd k
-  not_held_breaks LogFault none k = absurd k
-  not_held_breaks (Taken name) none k = absurd k
-  not_held_breaks Silent none k = absurd k
-  not_held_breaks (Unknown name at) none k = absurd k
-  not_held_breaks (InUse name) none k = absurd k
+  not_held_breaks _ none k = absurd k
 
 -- what the client has then
 module _ {D : Type 0} (z : SharedState D) (old new : SeatState) (txn left : OpenState) (c : Change) (has : HoldsTxn z old (held.Open txn)) where
@@ -250,10 +212,4 @@ module _ {D : Type 0} (z : SharedState D) (old new : SeatState) (txn left : Open
   not_held_holds (Busy by) k = same_holds k.1 (holds_still z old new _ refl refl refl k.5.goes_on)
   not_held_holds TooMany k = same_holds k.1 (keeps_holds z old new k.3)
   not_held_holds Memory k = same_holds k.0 (keeps_holds z old new k.2)
-  not_held_holds (NumbersFull published limit) k = absurd k
-  not_held_holds (Stopped n) k = absurd k
-  not_held_holds LogFault k = absurd k
-  not_held_holds (Taken name) k = absurd k
-  not_held_holds Silent k = absurd k
-  not_held_holds (Unknown name at) k = absurd k
-  not_held_holds (InUse name) k = absurd k
+  not_held_holds _ k = absurd k

@@ -13,7 +13,7 @@ use Rattle.wp_shared.specs.Calls.{ContinuesWith, Continues}
 use Rattle.wp_shared.specs.Seats.{SharedState, SeatState, IsFree}
 use Rattle.wp_core.specs.Views.{Event, Fact}
 use Rattle.wp_open_txns.specs.Calls.{Keeps}
-use Rattle.wp_client.proofs.Going.{HasStill, still, open_still, prepared_still}
+use Rattle.wp_open_txns.proofs.Still.{HasStill, still, open_still, prepared_still}
 use Rattle.wp_text.specs.declared.script.Command.{Command}
 use Rattle.wp_replies.specs.Client.{Client}
 use Rattle.wp_replies.proofs.Within.{within_more}

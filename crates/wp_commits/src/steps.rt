@@ -31,6 +31,7 @@ use wp_judge::{pack, unpack};
 use wp_model::Seq;
 use wp_outside::Disk;
 use wp_prepared::Prepared;
+use wp_rule::Word;
 use wp_shared::{Log, Seat, Shared};
 use wp_snaps::Snaps;
 
@@ -245,7 +246,7 @@ pub(crate) fn none_delayed<D: Disk + Drop>(
     requires held { IsIn (writes log.now.table) (held_by seat.old) }
     ensures { MatchBool result (seat.new ≡ noting none_waits seat.old) (seat.new ≡ seat.old) }
 {
-    store.load_delayed_flag::<Brand>(seat) == 0
+    store.load::<Brand>(seat, Word::DelayedFlag) == 0
 }
 
 /// Of the delayed commits to which the bound has come the one of the least number.

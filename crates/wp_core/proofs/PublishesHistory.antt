@@ -31,20 +31,10 @@ Follows entry others = ((others ≡ []) × (undone_by entry ≡ None)) ⊎ ((p :
 
 rest_of_record : (entry : Entry) (others : List Entry) → IsOneRecord (entry ∷ others) → Follows entry others
 rest_of_record (Write batch) [] k = inl (refl, refl)
-rest_of_record (Write batch) (x ∷ xs) k = absurd k
 rest_of_record (Prepare name batch) [] k = inl (refl, refl)
-rest_of_record (Prepare name batch) (x ∷ xs) k = absurd k
 rest_of_record (Commit p) [] k = inl (refl, refl)
-rest_of_record (Commit p) (x ∷ xs) k = absurd k
 rest_of_record (Undo p batch) (Close q ∷ []) k = inr (p, refl, ap (λ (n : ℕ). Close n ∷ []) (sym k))
-rest_of_record (Undo p batch) [] k = absurd k
-rest_of_record (Undo p batch) (Write x ∷ xs) k = absurd k
-rest_of_record (Undo p batch) (Prepare x y ∷ xs) k = absurd k
-rest_of_record (Undo p batch) (Commit x ∷ xs) k = absurd k
-rest_of_record (Undo p batch) (Undo x y ∷ xs) k = absurd k
-rest_of_record (Undo p batch) (Close q ∷ x ∷ xs) k = absurd k
-rest_of_record (Close p) [] k = absurd k
-rest_of_record (Close p) (x ∷ xs) k = absurd k
+rest_of_record entry others k = absurd k
 
 follows : (entry : Entry) (others : List Entry) → IsRest (entry ∷ others) → Follows entry others
 follows entry others (inl e) = let k : ◌≡◌ {A = ℕ} (suc (length others)) 0 = ap length e in absurd (omega arith)

@@ -1,5 +1,5 @@
 //! What stands in memory is frozen, for a flush or a renewal to write, and all memory is taken for the edit with it.
-ghost use Rattle.std.specs.Prelude.{◌≡◌, ◌≤◌, [], ◌∷◌, length, IfOk};
+ghost use Rattle.std.specs.Prelude.{◌≡◌, [], ◌∷◌, IfOk};
 ghost use Rattle.wp_core.specs.Sound.Actors.{StartsWith};
 ghost use Rattle.wp_core.specs.Tables.{installed, writes};
 ghost use Rattle.wp_core.specs.Tables as table;

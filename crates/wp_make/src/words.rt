@@ -1,5 +1,5 @@
 //! The words of a made script. Those of different clients differ.
-ghost use Rattle.std.specs.Prelude.{◌≡◌, ◌<◌, ◌≤◌, true, IfOk};
+ghost use Rattle.std.specs.Prelude.{◌≡◌, ◌<◌, true, IfOk};
 ghost use Rattle.wp_model.specs.Word.{is_word};
 ghost use Rattle.wp_make.specs.Generator.{client_word, key_word, txn_word, value_word};
 

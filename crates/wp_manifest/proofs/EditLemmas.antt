@@ -158,22 +158,3 @@ pub counted : (bytes rest : List ℕ) (edit : Edit) (front : Front) → IsSpelli
 counted bytes rest edit front spelled read =
     let same = same_front edit.place front.place edit.flushed front.flushed (length edit.tables) front.count (places_bytes edit.tables) rest spelled.is.front read.1 (sym spelled.spelling ∙ read.0) in
     record { flushed_is = same.1; count_is = same.2; rest_is = ap (λ (xs : List ℕ). length xs) (sym same.3) ∙ length-places edit.tables ∙ ap (λ (n : ℕ). n * 16) same.2 }
-
--- bytes that are shorter than the numbers at the front are none
-pub too_short : (bytes : List ℕ) → length bytes < 8 → IsNoEdit bytes
-too_short bytes short edit spelled = by edit.place (omega (arith, short, ap length spelled.spelling))
-  where
-    by : (place : Option ℕ) → length (front_bytes place edit.flushed (length edit.tables) ++ places_bytes edit.tables) < 8 → ⊥
-    by None less = omega (arith, less)
-    by (Some place) less = omega (arith, less)
-
--- and so are those that have the mark, and fewer bytes behind it
-pub marked_short : (bytes rest : List ℕ) → bytes ≡ to_be_bytes w32 0 ++ (to_be_bytes w32 MARK ++ rest) → length rest < 24 → IsNoEdit bytes
-marked_short bytes rest is short edit spelled = by edit.place spelled.is.front (sym is ∙ spelled.spelling)
-  where
-    by : (place : Option ℕ) → IsFront place edit.flushed (length edit.tables) → to_be_bytes w32 0 ++ (to_be_bytes w32 MARK ++ rest) ≡ front_bytes place edit.flushed (length edit.tables) ++ places_bytes edit.tables → ⊥
-    by None fits same =
-        let flushed = front_4 0 edit.flushed (to_be_bytes w32 MARK ++ rest) (to_be_bytes w32 (length edit.tables) ++ places_bytes edit.tables) (omega arith) fits.0 same in
-        let count = front_4 MARK (length edit.tables) rest (places_bytes edit.tables) (omega arith) fits.1 flushed.1 in
-        fits.2 (sym flushed.0) (sym count.0)
-    by (Some place) fits same = let behind = ap (λ (xs : List ℕ). length (drop 8 xs)) same in omega (arith, behind, short)

@@ -12,8 +12,8 @@ use Rattle.wp_gatelog.specs.Log.{LogState, IsAtRest, Rests, BeforeOrAfter, stamp
 use Rattle.wp_gatelog.specs.Moments.{Leaves, LeavesFrom}
 use Rattle.wp_gatelog.specs.Spelling.{Stamp, stamped}
 use Rattle.wp_manifest.specs.Edit.{Edit, IsEdit, no_edit, edit_bytes}
-use Rattle.wp_manifest.specs.Manifest.{ManifestState, StoresEdits, InstallRefused}
-use Rattle.wp_manifest.specs.Spelling.{MAGIC, head_stamp, AreEdits, IsManifestOrNext}
+use Rattle.wp_manifest.specs.Manifest.{InstallRefused, ManifestState, NamesThere, StoresEdits}
+use Rattle.wp_manifest.specs.Spelling.{MAGIC, head_stamp, AreEdits, IsManifestOf, IsManifestOrNext, last_edit}
 use Rattle.wp_manifest.proofs.EditLemmas.{AreEdits-push, last-push}
 
 -- what a log at rest leaves has its records acknowledged
@@ -109,6 +109,20 @@ install_refused e old new bytes edit DiskFault at_rest spelling is refuses appen
     (refuses.0, refuses.1, ap (λ (l : LogState). record old { log = l }) refuses.2, stores_failed e old new bytes edit at_rest spelling is refuses appends)
 install_refused e old new bytes edit (Closed n) at_rest spelling is refuses appends =
     (refuses.0, refuses.1, ap (λ (l : LogState). record old { log = l }) refuses.2)
+
+-- ---- beside another device
+
+pub names_there : (Has : Edit → List ℕ → Type 0) (old : ManifestState) (new others : List Moment) (edit : Edit) (edits : List Edit) → StoresEdits old edits no_edit → IfKnown others (Leaves (Has old.edit)) → IfKnown others (Leaves (Has edit))
+    → Passes (Leaves (IsManifestOrNext old.log.id edits edit)) old.log.moments new → Passes (NamesThere Has old.log.id others) old.log.moments new
+names_there Has old new others edit edits stores last next passed = (passed.0, passed.1, each_named passed.0 passed.2)
+  where
+    named : (image : List ℕ) → IsManifestOrNext old.log.id edits edit image → (es : List Edit) × IsManifestOf old.log.id es image × IfKnown others (Leaves (Has (last_edit es)))
+    named image (inl before) = (edits, before, subst (λ (e : Edit). IfKnown others (Leaves (Has e))) stores.last last)
+    named image (inr after) = (edits ++ edit ∷ [], after, subst (λ (e : Edit). IfKnown others (Leaves (Has e))) (sym (last-push edits edit)) next)
+
+    each_named : (ms : List Moment) → Each (Leaves (IsManifestOrNext old.log.id edits edit)) ms → Each (NamesThere Has old.log.id others) ms
+    each_named [] each = tt
+    each_named (m ∷ ms) each = (λ image at. named image (each.0 image at), each_named ms each.1)
 
 -- ---- what a refusal of the append is
 

@@ -39,6 +39,10 @@ pub record Opened (asked : ℕ) (moments : List Moment) (manifest : ManifestStat
   pub made : IfKnown moments (λ m. IsUnmade m.reads → manifest.log.id ≡ asked)
   pub running : manifest.log.closed ≡ false
 
+-- each image of the moment is a manifest; and each image that another device has then has what belongs to that one's last edit
+abbrev pub NamesThere : (Has : Edit → List ℕ → Type 0) → ℕ → List Moment → Moment → Type 0
+NamesThere Has id others = Leaves (λ image. (edits : List Edit) × IsManifestOf id edits image × IfKnown others (Leaves (Has (last_edit edits))))
+
 -- Why an edit was not installed, and what that leaves. The disk failed, and the manifest is closed from now on. Or it was closed
 -- before: nothing changes, and n is the count of its edits.
 abbrev pub InstallRefused : ManifestState → ManifestState → Edit → AppendError → Type 0

@@ -1,13 +1,15 @@
 //! An open manifest.
 
-ghost use Rattle.std.specs.Prelude.{◌≡◌, ◌↔◌, ◌≤◌, length, true, false, is_some, IfOk, IfErr, MatchResult};
-ghost use Rattle.wp_outside.specs.Disk.{IfKnown};
+ghost use Rattle.std.specs.Prelude.{◌≡◌, ◌↔◌, ◌≤◌, ℕ, List, length, true, false, is_some, IfOk, IfErr, MatchResult};
+ghost use Rattle.wp_outside.specs.Disk.{IfKnown, Passes};
 ghost use Rattle.wp_outside.specs.Faults.{HasCause};
+ghost use Rattle.wp_gatelog.specs.Moments.{Leaves};
 ghost use Rattle.wp_gatelog.specs.Opening.{KeepsLog};
 ghost use Rattle.wp_gatelog.specs.Spelling.{IsUnmade};
+ghost use Rattle.wp_manifest.specs.Edit.{Edit, no_edit};
 ghost use Rattle.wp_manifest.specs.Errors.{manifest_error_of};
 ghost use Rattle.wp_manifest.specs.Spelling.{MAGIC, head_stamp};
-ghost use Rattle.wp_manifest.specs.Manifest.{Opened, InstallsInto};
+ghost use Rattle.wp_manifest.specs.Manifest.{InstallsInto, NamesThere, Opened, StoresEdits};
 ghost use Rattle.wp_manifest.specs.Opening.{IsUnopenedManifest};
 
 use crate::edit::Edit;
@@ -129,10 +131,18 @@ impl<D: Disk> Manifest<D> {
         Ok(EditRoom { frame, edit })
     }
 
-    /// Makes the edit the last one, in memory that was taken before. The tables that it names are durable before.
-    pub fn install(&mut self, room: EditRoom) -> Result<(), AppendError>
-        ensures { InstallsInto self.old self.new room result }
+    /// Makes the edit the last one, in memory that was taken before. The tables that it names are durable before, on their device. That
+    /// is lent for the call, so nothing changes it meanwhile.
+    pub fn install(&mut self, room: EditRoom, tables: &D) -> Result<(), AppendError>
+        ensures installs { InstallsInto self.old self.new room result }
+
+        // Where the lent device has what belongs to the edit before and to this one, then whatever a crash leaves of both devices at a
+        // moment of the call, the last edit of the manifest has there what belongs to it.
+        ensures joint { (Has : Edit → List ℕ → Type 0) (edits : List Edit) → StoresEdits self.old edits no_edit → self.old.log.closed ≡ false
+            → IfKnown (D.moments tables.now) (Leaves (Has self.old.edit)) → IfKnown (D.moments tables.now) (Leaves (Has room))
+            → Passes (NamesThere Has self.old.log.id (D.moments tables.now)) self.old.log.moments self.new.log.moments }
     {
+        let _ = tables;
         acknowledged_records_come_first();
         let EditRoom { frame, edit } = room;
         self.log.append(&frame)?;

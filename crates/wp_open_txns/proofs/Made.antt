@@ -205,47 +205,12 @@ free_ends history words name (unprepared other) e = e.1
 free_ends history words name (direct_free key) e = refl
 free_ends history words name (live_listed floor listed) e = refl
 free_ends history words name (has_left p) e = refl
-free_ends history words name (passed place pair) e = let n = e.0 in absurd cc
-free_ends history words name (in_old_commits place pair) e = let n = e.0 in absurd cc
-free_ends history words name (apart place pair) e = let n = e.0 in absurd cc
-free_ends history words name (words_stay max cache) e = let n = e.0 in absurd cc
-free_ends history words name versions_in_memory e = let n = e.0 in absurd cc
-free_ends history words name versions_nowhere e = let n = e.0 in absurd cc
-free_ends history words name number_in_heap e = let n = e.0 in absurd cc
-free_ends history words name number_not_in_heap e = let n = e.0 in absurd cc
-free_ends history words name pair_delayed e = let n = e.0 in absurd cc
-free_ends history words name pair_not_delayed e = let n = e.0 in absurd cc
-free_ends history words name none_waits e = let n = e.0 in absurd cc
-free_ends history words name (tables_stay versions floor) e = let n = e.0 in absurd cc
-free_ends history words name nothing_flushed e = let n = e.0 in absurd cc
-free_ends history words name (frozen_stay n versions) e = let n = e.0 in absurd cc
-free_ends history words name (delayed_flag_stays value) e = let n = e.0 in absurd cc
-free_ends history words name (old_flag_stays value) e = let n = e.0 in absurd cc
+free_ends history words name other e = let n = e.0 in absurd cc
 
 -- leaving a name ends what freeing it does
 leave_ends : (history : List Entry) (words : ℕ) (name : List ℕ) (fact : Fact) → ends history words (leave_name name) fact ≡ ends history words (free_transaction name) fact
 leave_ends history words name (undecided_at other p) = refl
-leave_ends history words name (prior_values other p batch) = refl
-leave_ends history words name (unprepared other) = refl
-leave_ends history words name (direct_free key) = refl
-leave_ends history words name (live_listed floor listed) = refl
-leave_ends history words name (has_left p) = refl
-leave_ends history words name (passed place pair) = refl
-leave_ends history words name (in_old_commits place pair) = refl
-leave_ends history words name (apart place pair) = refl
-leave_ends history words name (words_stay max cache) = refl
-leave_ends history words name versions_in_memory = refl
-leave_ends history words name versions_nowhere = refl
-leave_ends history words name number_in_heap = refl
-leave_ends history words name number_not_in_heap = refl
-leave_ends history words name pair_delayed = refl
-leave_ends history words name pair_not_delayed = refl
-leave_ends history words name none_waits = refl
-leave_ends history words name (tables_stay versions floor) = refl
-leave_ends history words name nothing_flushed = refl
-leave_ends history words name (frozen_stay n versions) = refl
-leave_ends history words name (delayed_flag_stays value) = refl
-leave_ends history words name (old_flag_stays value) = refl
+leave_ends history words name other = refl
 
 -- who holds a key, as the tables have it, and as the test says
 held_so : (name : List ℕ) (o : Option Holder) → option_map_or (is_same (Txn name)) o false ≡ true → o ≡ Some (Txn name)

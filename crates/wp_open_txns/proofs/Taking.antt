@@ -46,11 +46,7 @@ use Rattle.wp_open_txns.proofs.Made.{locks_are, not_had}
 -- an entry that is a Prepare
 prepare_of : (o : Option Entry) → is_prepare o ≡ true → o ≡ Some (Prepare (prepared_name o) (prepared_batch o))
 prepare_of (Some (Prepare name batch)) is = refl
-prepare_of (Some (Write batch)) is = absurd (true≢false (sym is))
-prepare_of (Some (Commit p)) is = absurd (true≢false (sym is))
-prepare_of (Some (Undo p batch)) is = absurd (true≢false (sym is))
-prepare_of (Some (Close p)) is = absurd (true≢false (sym is))
-prepare_of None is = absurd (true≢false (sym is))
+prepare_of other is = absurd (true≢false (sym is))
 
 prepare_at : (history : List Entry) (p : ℕ) (name : List ℕ) (batch : List Change) → is_undecided history p ≡ true → name_at history p ≡ name → batch_at history p ≡ batch → entry_at history p ≡ Some (Prepare name batch)
 prepare_at history p name batch u named_so changes = prepare_of (entry_at history p) (undecided_prepared history p u) ∙ (λ i. Some (Prepare (named_so i) (changes i)))

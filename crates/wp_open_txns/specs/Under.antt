@@ -43,11 +43,7 @@ LocksFor old s key holder (Err other) new t = ⊥
 
 abbrev pub LocksKey : LockState → SeatState → List ℕ → List ℕ → Result (Unit {0}) TxnError → LockState → SeatState → Type 0
 LocksKey old s name key (Ok done) new t = (new ≡ with_key old key (Txn name)) × (t ≡ seat_of s (with_locked old name key s.knows)) × (finite.get old.keys key ≡ None)
-LocksKey old s name key (Err (Busy holder)) new t =
-    (finite.get old.keys key ≡ Some holder) × (is_same_txn holder (Txn name) ≡ false) × (new ≡ old)
-    × ((published : ℕ) × (length s.knows.participant.seen ≤ published) × (t ≡ seat_of s (with_found old published (Some key) holder s.knows)))
-LocksKey old s name key (Err Memory) new t = (new ≡ old) × (t ≡ s)
-LocksKey old s name key (Err other) new t = ⊥
+LocksKey old s name key (Err why) new t = LocksFor old s key (Txn name) (Err why) new t
 
 abbrev pub LocksDirect : LockState → SeatState → List ℕ → Result (Unit {0}) TxnError → LockState → SeatState → Type 0
 LocksDirect old s key (Ok done) new t = (new ≡ with_key old key (Client s.knows.participant.client)) × (t ≡ seat_of s (with_direct old key s.knows)) × (finite.get old.keys key ≡ None)

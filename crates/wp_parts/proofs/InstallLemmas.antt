@@ -202,9 +202,6 @@ module _ (set first : TableSetState) (base : ℕ) (parts : List (List Version)) 
     pub stopped_edits : IsEdits (edits_state new first base parts failed)
     stopped_edits = kept_edits stopped.manifest (stopped.stores k.edits parts stored) (λ _. inr (rose_since first.faults set.faults new.faults k.later stopped.rose))
 
-    pub stopped_table : (edits_state new first base parts failed).table ≡ with_failed (edits_state set first base parts failed).table None
-    stopped_table = kept_table stopped.manifest true stopped.halted
-
 -- ---- the edit is installed, whose table was written before
 
 -- while a table is written behind the others, their bytes stay
@@ -236,7 +233,7 @@ module _ (set first : TableSetState) (base : ℕ) (parts : List (List Version)) 
   was_open : before.set.manifest.log.closed ≡ false
   was_open = b.was.running (ap (λ (t : Installed). t.halted) (sym b.table) ∙ running)
 
-  stored_before : StoresTables before.set b.was.edits no_edit before.parts []
+  pub stored_before : StoresTables before.set b.was.edits no_edit before.parts []
   stored_before = running_stores before.set b.was.edits b.was.next before.parts b.was.next_parts was_open b.was.stores
 
   manifest_is : set.manifest ≡ before.set.manifest

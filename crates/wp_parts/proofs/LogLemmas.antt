@@ -176,9 +176,102 @@ module _ (wal first : WalState) (history pending : List Entry) (logged : Bool) (
       let was : wal.segment ≡ first.segment = sym same ∙ is in
       loses_on first.segment.place first.moments wal.moments new.moments (kept.log.durable was) (subst (λ (g : Segment). LosesNothingAt g.place wal.moments new.moments) was durable)
 
-  -- the cut that it stores is any with its base
-  pub the_cut : IsCut history kept.log.cut → (c : Cut) → IsCut history c → c.base ≡ wal.segment.base → kept.log.cut ≡ c
-  the_cut mine c cut based = one_cut history kept.log.cut c mine cut (kept.log.stores.based ∙ sym based)
+  -- what is so of the cut that it stores is so of each with its base
+  pub at_cut : (P : Cut → Type 0) → IsCut history kept.log.cut → P kept.log.cut → (c : Cut) → IsCut history c → c.base ≡ wal.segment.base → P c
+  at_cut P mine k c cut based = subst P (one_cut history kept.log.cut c mine cut (kept.log.stores.based ∙ sym based)) k
+
+  -- ---- its device was called, or it is stopped
+
+  module _ (running : ending.closed ≡ false) (new : WalState) (later : wal.faults ≤ new.faults) (durable : LosesNothingAt wal.segment.place wal.moments new.moments) where
+    -- it goes on in its segment
+    goes_on : (now : Bool) (c : Cut) → new.segment ≡ wal.segment → new.id ≡ wal.id → new.format ≡ wal.format → new.closed ≡ wal.closed → IsCut (spelled now history pending) c → StoresCut new c []
+        → (pending ≢ [] → now ≡ false → ending.closed ≡ false → IsReserved new c pending) → IsKept (log_state new first history pending now ending) base room
+    goes_on now c same id format closed is stores ready =
+        let open_ : new.closed ≡ false = closed ∙ wal_runs running in
+        record {
+          opened = kept.opened;
+          log = record {
+            cut = c;
+            is_cut = is;
+            segment = refl;
+            stores = subst (λ (xs : List Entry). StoresCut new c xs) (sym (kept.log.none_failed running)) stores;
+            legal = kept.log.legal;
+            none_failed = λ _. kept.log.none_failed running;
+            whole = inl (kept.log.none_failed running);
+            none_waits = kept.log.none_waits;
+            beside = λ segment there. absurd (no_next running segment there);
+            id = id ∙ kept.log.id;
+            form = format ∙ kept.log.form ∙ ap (λ (g : Segment). format_at first g.base) (sym same);
+            risen = subst (λ (g : Segment). first.segment.base ≤ g.base) (sym same) kept.log.risen;
+            later = omega (arith, kept.log.later, later);
+            shut = λ shut. absurd (true≢false (sym shut ∙ open_));
+            by_fault = λ shut. absurd (true≢false (sym shut ∙ running));
+            cause = λ shut. absurd (true≢false (sym shut ∙ open_));
+            durable = loses_since new same durable;
+          };
+          ready = record { reserved = ready; fits = kept.ready.fits };
+        }
+
+    -- the device failed
+    shuts : Refuses wal new DiskFault → (failed : List Entry) → StoresCut new kept.log.cut failed → (failed ≡ []) ⊎ ((new.closed ≡ true) × IsRecord new.format (length (spelled logged history pending) + 1) failed)
+        → IsKept (log_state new first history pending logged (record { closed = true; stopped = ending.stopped; failed = failed; next = ending.next })) base room
+    shuts refused failed stores whole =
+        let changed = refused.2 in
+        let same : new.segment ≡ wal.segment = ap (λ (w : WalState). w.segment) changed in
+        record {
+          opened = kept.opened;
+          log = record {
+            cut = kept.log.cut;
+            is_cut = kept.log.is_cut;
+            segment = refl;
+            stores = stores;
+            legal = kept.log.legal;
+            none_failed = λ open_. absurd cc;
+            whole = whole;
+            none_waits = inr refl;
+            beside = λ segment there. absurd (no_next running segment there);
+            id = ap (λ (w : WalState). w.id) changed ∙ kept.log.id;
+            form = ap (λ (w : WalState). w.format) changed ∙ kept.log.form ∙ ap (λ (g : Segment). format_at first g.base) (sym same);
+            risen = subst (λ (g : Segment). first.segment.base ≤ g.base) (sym same) kept.log.risen;
+            later = omega (arith, kept.log.later, later);
+            shut = λ _. refl;
+            by_fault = λ _ _. ap (λ (w : WalState). w.closed) changed;
+            cause = λ _. rose_since first.faults wal.faults new.faults kept.log.later refused.1;
+            durable = loses_since new same durable;
+          };
+          ready = record { reserved = λ _ _ open_. absurd cc; fits = kept.ready.fits };
+        }
+
+  -- it is stopped with this segment beside it, if one waits
+  halts : (next : Option Segment) → ((segment : Segment) → next ≡ Some segment → (pending ≡ []) × (segment.base ≡ length history) × (undone_last history ≡ None) × IfKnown wal.moments (LeavesCut wal.id segment.place (cut_at history segment.base))) → pending ≡ []
+      → IsKept (log_state wal first history pending logged (record { closed = true; stopped = true; failed = ending.failed; next = next })) base room
+  halts next beside nothing = record {
+    opened = kept.opened;
+    log = record {
+      cut = kept.log.cut;
+      is_cut = kept.log.is_cut;
+      segment = refl;
+      stores = kept.log.stores;
+      legal = kept.log.legal;
+      none_failed = λ open_. absurd cc;
+      whole = kept.log.whole;
+      none_waits = inr refl;
+      beside = beside;
+      id = kept.log.id;
+      form = kept.log.form;
+      risen = kept.log.risen;
+      later = kept.log.later;
+      shut = λ _. refl;
+      by_fault = λ _ unstopped. absurd cc;
+      cause = kept.log.cause;
+      durable = kept.log.durable;
+    };
+    ready = record { reserved = λ some. absurd (some nothing); fits = kept.ready.fits };
+  }
+
+  -- the log is stopped without one
+  pub stopped : pending ≡ [] → IsKept (log_state wal first history pending logged (record ending { closed = true; stopped = true })) base room
+  stopped = halts ending.next kept.log.beside
 
   -- nothing is pending
   module _ (none : pending ≡ []) where
@@ -314,31 +407,8 @@ module _ (wal first : WalState) (history pending : List Entry) (logged : Bool) (
       pub appended : IfSome wal.reserved (Appended wal new) → StoresCut new (longer kept.log.cut pending) [] → IsKept (log_state new first history pending true ending) base room
       appended ok stores =
           let changed = (is_appended ok).changed in
-          let open_ : new.closed ≡ false = ap (λ (w : WalState). w.closed) changed ∙ wal_runs running in
-          let same : new.segment ≡ wal.segment = ap (λ (w : WalState). w.segment) changed in
-          record {
-            opened = kept.opened;
-            log = record {
-              cut = longer kept.log.cut pending;
-              is_cut = cut_grows history pending kept.log.cut cut_was;
-              segment = refl;
-              stores = subst (λ (xs : List Entry). StoresCut new (longer kept.log.cut pending) xs) (sym (kept.log.none_failed running)) stores;
-              legal = kept.log.legal;
-              none_failed = λ _. kept.log.none_failed running;
-              whole = inl (kept.log.none_failed running);
-              none_waits = kept.log.none_waits;
-              beside = λ segment is. absurd (no_next running segment is);
-              id = ap (λ (w : WalState). w.id) changed ∙ kept.log.id;
-              form = ap (λ (w : WalState). w.format) changed ∙ kept.log.form ∙ ap (λ (g : Segment). format_at first g.base) (sym same);
-              risen = subst (λ (g : Segment). first.segment.base ≤ g.base) (sym same) kept.log.risen;
-              later = omega (arith, kept.log.later, later);
-              shut = λ closed. absurd (true≢false (sym closed ∙ open_));
-              by_fault = λ closed. absurd (true≢false (sym closed ∙ running));
-              cause = λ closed. absurd (true≢false (sym closed ∙ open_));
-              durable = loses_since new same durable;
-            };
-            ready = record { reserved = λ _ unlogged_ _. absurd cc; fits = kept.ready.fits };
-          }
+          goes_on running new later durable true (longer kept.log.cut pending) (ap (λ (w : WalState). w.segment) changed) (ap (λ (w : WalState). w.id) changed) (ap (λ (w : WalState). w.format) changed) (ap (λ (w : WalState). w.closed) changed)
+          (cut_grows history pending kept.log.cut cut_was) stores (λ _ unlogged_ _. absurd cc)
 
       pub appended_table : IfSome wal.reserved (Appended wal new) → (log_state new first history pending true ending).table ≡ record (log_state wal first history pending logged ending).table { logged = true; log = spelled logged history pending ++ pending }
       appended_table ok =
@@ -355,31 +425,8 @@ module _ (wal first : WalState) (history pending : List Entry) (logged : Bool) (
       pub closed_now : (record_ : List Entry) → record_ ≡ pending → Refuses wal new DiskFault → StoresCut new kept.log.cut pending
           → IsKept (log_state new first history pending logged (record { closed = true; stopped = ending.stopped; failed = record_; next = ending.next })) base room
       closed_now record_ equal refused stores =
-          let changed = refused.2 in
-          let same : new.segment ≡ wal.segment = ap (λ (w : WalState). w.segment) changed in
-          subst (λ (xs : List Entry). IsKept (log_state new first history pending logged (record { closed = true; stopped = ending.stopped; failed = xs; next = ending.next })) base room) (sym equal) record {
-            opened = kept.opened;
-            log = record {
-              cut = kept.log.cut;
-              is_cut = kept.log.is_cut;
-              segment = refl;
-              stores = stores;
-              legal = kept.log.legal;
-              none_failed = λ open_. absurd cc;
-              whole = inr (ap (λ (w : WalState). w.closed) changed, record_is);
-              none_waits = inr refl;
-              beside = λ segment is. absurd (no_next running segment is);
-              id = ap (λ (w : WalState). w.id) changed ∙ kept.log.id;
-              form = ap (λ (w : WalState). w.format) changed ∙ kept.log.form ∙ ap (λ (g : Segment). format_at first g.base) (sym same);
-              risen = subst (λ (g : Segment). first.segment.base ≤ g.base) (sym same) kept.log.risen;
-              later = omega (arith, kept.log.later, later);
-              shut = λ _. refl;
-              by_fault = λ _ _. ap (λ (w : WalState). w.closed) changed;
-              cause = λ _. rose_since first.faults wal.faults new.faults kept.log.later refused.1;
-              durable = loses_since new same durable;
-            };
-            ready = record { reserved = λ _ _ open_. absurd cc; fits = kept.ready.fits };
-          }
+          subst (λ (xs : List Entry). IsKept (log_state new first history pending logged (record { closed = true; stopped = ending.stopped; failed = xs; next = ending.next })) base room) (sym equal)
+          (shuts running new later durable refused pending stores (inr (ap (λ (w : WalState). w.closed) refused.2, record_is)))
         where
           record_is : IsRecord new.format (length (spelled logged history pending) + 1) pending
           record_is =
@@ -392,66 +439,24 @@ module _ (wal first : WalState) (history pending : List Entry) (logged : Bool) (
 
   -- a segment was written beside it, while nothing is pending
   module _ (running : ending.closed ≡ false) (nothing : pending ≡ []) where
-    pub stores_now : StoresCut wal kept.log.cut []
+    stores_now : StoresCut wal kept.log.cut []
     stores_now = subst (λ (xs : List Entry). StoresCut wal kept.log.cut xs) (kept.log.none_failed running) kept.log.stores
+
+    -- what it leaves of any cut that is stored, it leaves of this one
+    pub of_stored : {B W : Type 0} {P : Cut → Type 0} → ((c : Cut) → StoresCut wal c [] → B → W → P c) → B → W → P kept.log.cut
+    of_stored writes base whole = writes kept.log.cut stores_now base whole
 
     module _ (new : WalState) (later : wal.faults ≤ new.faults) (durable : LosesNothingAt wal.segment.place wal.moments new.moments) where
       pub written : new ≡ record wal { moments = new.moments; faults = new.faults; reserved = None } → StoresCut new kept.log.cut [] → IsKept (log_state new first history pending logged ending) base room
       written changed stores =
-          let open_ : new.closed ≡ false = ap (λ (w : WalState). w.closed) changed ∙ wal_runs running in
-          let same : new.segment ≡ wal.segment = ap (λ (w : WalState). w.segment) changed in
-          record {
-            opened = kept.opened;
-            log = record {
-              cut = kept.log.cut;
-              is_cut = kept.log.is_cut;
-              segment = refl;
-              stores = subst (λ (xs : List Entry). StoresCut new kept.log.cut xs) (sym (kept.log.none_failed running)) stores;
-              legal = kept.log.legal;
-              none_failed = λ _. kept.log.none_failed running;
-              whole = inl (kept.log.none_failed running);
-              none_waits = kept.log.none_waits;
-              beside = λ segment is. absurd (no_next running segment is);
-              id = ap (λ (w : WalState). w.id) changed ∙ kept.log.id;
-              form = ap (λ (w : WalState). w.format) changed ∙ kept.log.form ∙ ap (λ (g : Segment). format_at first g.base) (sym same);
-              risen = subst (λ (g : Segment). first.segment.base ≤ g.base) (sym same) kept.log.risen;
-              later = omega (arith, kept.log.later, later);
-              shut = λ closed. absurd (true≢false (sym closed ∙ open_));
-              by_fault = λ closed. absurd (true≢false (sym closed ∙ running));
-              cause = λ closed. absurd (true≢false (sym closed ∙ open_));
-              durable = loses_since new same durable;
-            };
-            ready = record { reserved = λ some. absurd (some nothing); fits = kept.ready.fits };
-          }
+          goes_on running new later durable logged kept.log.cut (ap (λ (w : WalState). w.segment) changed) (ap (λ (w : WalState). w.id) changed) (ap (λ (w : WalState). w.format) changed) (ap (λ (w : WalState). w.closed) changed)
+          kept.log.is_cut stores (λ some. absurd (some nothing))
 
       -- the device failed meanwhile
       pub unwritten : Refuses wal new DiskFault → StoresCut new kept.log.cut [] → IsKept (log_state new first history pending logged (record ending { closed = true })) base room
       unwritten refused stores =
-          let changed = refused.2 in
-          let same : new.segment ≡ wal.segment = ap (λ (w : WalState). w.segment) changed in
-          record {
-            opened = kept.opened;
-            log = record {
-              cut = kept.log.cut;
-              is_cut = kept.log.is_cut;
-              segment = refl;
-              stores = subst (λ (xs : List Entry). StoresCut new kept.log.cut xs) (sym (kept.log.none_failed running)) stores;
-              legal = kept.log.legal;
-              none_failed = λ open_. absurd cc;
-              whole = inl (kept.log.none_failed running);
-              none_waits = inr refl;
-              beside = λ segment is. absurd (no_next running segment is);
-              id = ap (λ (w : WalState). w.id) changed ∙ kept.log.id;
-              form = ap (λ (w : WalState). w.format) changed ∙ kept.log.form ∙ ap (λ (g : Segment). format_at first g.base) (sym same);
-              risen = subst (λ (g : Segment). first.segment.base ≤ g.base) (sym same) kept.log.risen;
-              later = omega (arith, kept.log.later, later);
-              shut = λ _. refl;
-              by_fault = λ _ _. ap (λ (w : WalState). w.closed) changed;
-              cause = λ _. rose_since first.faults wal.faults new.faults kept.log.later refused.1;
-              durable = loses_since new same durable;
-            };
-            ready = record { reserved = λ _ _ open_. absurd cc; fits = kept.ready.fits };
-          }
+          let none = kept.log.none_failed running in
+          shuts running new later durable refused ending.failed (subst (λ (xs : List Entry). StoresCut new kept.log.cut xs) (sym none) stores) (inl none)
 
     -- it waits
     module _ (w : WrittenState) (waits : IsWaiting (log_state wal first history pending logged ending) w) where
@@ -498,57 +503,10 @@ module _ (wal first : WalState) (history pending : List Entry) (logged : Bool) (
 
       -- the log is stopped with it
       pub stopped_with : (next : Option Segment) → next ≡ Some w.segment → IsKept (log_state wal first history pending logged (record { closed = true; stopped = true; failed = ending.failed; next = next })) base room
-      stopped_with next is = record {
-        opened = kept.opened;
-        log = record {
-          cut = kept.log.cut;
-          is_cut = kept.log.is_cut;
-          segment = refl;
-          stores = kept.log.stores;
-          legal = kept.log.legal;
-          none_failed = λ open_. absurd cc;
-          whole = kept.log.whole;
-          none_waits = inr refl;
-          beside = λ segment there. subst (λ (g : Segment). (pending ≡ []) × (g.base ≡ length history) × (undone_last history ≡ None) × IfKnown wal.moments (LeavesCut wal.id g.place (cut_at history g.base)))
-              (same_some w.segment segment (sym is ∙ there))
-              (nothing, waits.based, waits.whole, subst (λ (n : ℕ). IfKnown wal.moments (LeavesCut wal.id w.segment.place (cut_at history n))) (sym waits.based) waits.beside.left);
-          id = kept.log.id;
-          form = kept.log.form;
-          risen = kept.log.risen;
-          later = kept.log.later;
-          shut = λ _. refl;
-          by_fault = λ _ unstopped. absurd cc;
-          cause = kept.log.cause;
-          durable = kept.log.durable;
-        };
-        ready = record { reserved = λ some. absurd (some nothing); fits = kept.ready.fits };
-      }
-
-  -- the log is stopped without one
-  pub stopped : pending ≡ [] → IsKept (log_state wal first history pending logged (record ending { closed = true; stopped = true })) base room
-  stopped nothing = record {
-    opened = kept.opened;
-    log = record {
-      cut = kept.log.cut;
-      is_cut = kept.log.is_cut;
-      segment = refl;
-      stores = kept.log.stores;
-      legal = kept.log.legal;
-      none_failed = λ open_. absurd cc;
-      whole = kept.log.whole;
-      none_waits = inr refl;
-      beside = kept.log.beside;
-      id = kept.log.id;
-      form = kept.log.form;
-      risen = kept.log.risen;
-      later = kept.log.later;
-      shut = λ _. refl;
-      by_fault = λ _ unstopped. absurd cc;
-      cause = kept.log.cause;
-      durable = kept.log.durable;
-    };
-    ready = record { reserved = λ some. absurd (some nothing); fits = kept.ready.fits };
-  }
+      stopped_with next is = halts next (λ segment there.
+          subst (λ (g : Segment). (pending ≡ []) × (g.base ≡ length history) × (undone_last history ≡ None) × IfKnown wal.moments (LeavesCut wal.id g.place (cut_at history g.base)))
+          (same_some w.segment segment (sym is ∙ there))
+          (nothing, waits.based, waits.whole, subst (λ (n : ℕ). IfKnown wal.moments (LeavesCut wal.id w.segment.place (cut_at history n))) (sym waits.based) waits.beside.left)) nothing
 
 -- ---- the first of the pending entries
 

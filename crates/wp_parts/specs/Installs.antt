@@ -10,7 +10,7 @@ use Rattle.wp_manifest.specs.Edit.{Edit, no_edit}
 use Rattle.wp_manifest.specs.Spelling.{last_edit, IsManifestOrNext}
 use Rattle.wp_contents.specs.Opens.{installed_of}
 use Rattle.wp_tableset.specs.Changes.{Asked, new_parts}
-use Rattle.wp_tableset.specs.Install.{ReadyState, IsReadyEdit, IsWrittenEdit}
+use Rattle.wp_tableset.specs.Install.{ReadyState, IsReadyEdit, IsWrittenEdit, NamesItsTables}
 use Rattle.wp_tableset.specs.Set.{TableSetState, LeavesTables, StoresTables}
 use Rattle.wp_parts.specs.VersionSet.{VersionSetState, IsEdits, asked_for}
 
@@ -59,3 +59,11 @@ pub record SurvivesInstall (old new : VersionSetState) (edit : InstalledEdit) : 
 -- ... while its table is written, whatever segment the edit is to name
 abbrev pub SurvivesWrite : VersionSetState → VersionSetState → Asked → Type 0
 SurvivesWrite old new asked = (segment : Segment) → SurvivesInstall old new (asked_for asked segment old.table.last)
+
+-- ... while it is installed, since its table was to be written
+abbrev pub SurvivesSince : VersionSetState → VersionSetState → ReadyInstallState → InstalledEdit → Type 0
+SurvivesSince old new ready edit = (before : VersionSetState) → IsBehind before old ready → SurvivesInstall before new edit
+
+-- Whatever a crash leaves of both devices at a moment between the two, the manifest's last edit has its tables.
+abbrev pub KeepsBoth : VersionSetState → VersionSetState → ReadyInstallState → Type 0
+KeepsBoth old new ready = (before : VersionSetState) → IsBehind before old ready → Passes (NamesItsTables old.set) old.set.manifest.log.moments new.set.manifest.log.moments

@@ -15,7 +15,7 @@ ghost use Rattle.wp_tableset.specs.declared.gone.Gone.TheVariants.{Frozen};
 ghost use Rattle.wp_core.specs.Effects.{with_failed};
 ghost use Rattle.wp_core.specs.Images.{ManifestTells, TablesTell};
 ghost use Rattle.wp_parts.specs.VersionSet.{VersionSetState, IsEdits, IsNamed, HasTablesOf, asked_for, edits_state};
-ghost use Rattle.wp_parts.specs.Installs.{HadCause, IsBehind, IsReadyFor, SurvivesInstall, SurvivesWrite};
+ghost use Rattle.wp_parts.specs.Installs.{HadCause, IsBehind, IsReadyFor, KeepsBoth, SurvivesSince, SurvivesWrite};
 
 use crate::table_versions::TableVersions;
 use std::alloc::{AllocError, Global};
@@ -224,9 +224,9 @@ impl<D: Disk> VersionSet<D> {
         ensures parts { OnOk result (self.new.parts ≡ parts_after ready.edit.asked self.old.parts) }
         ensures refused { OnErr result (self.new.table ≡ with_failed self.old.table (Some (asked_for ready.edit.asked segment self.old.table.last))) }
         ensures cause { OnErr result (HadCause self.old.set self.new.set) }
-        ensures survives { (before : VersionSetState) → IsBehind before self.old ready
-            → SurvivesInstall before self.new (asked_for ready.edit.asked segment self.old.table.last) }
+        ensures survives { SurvivesSince self.old self.new ready (asked_for ready.edit.asked segment self.old.table.last) }
         ensures tables { (self.new.set.moments ≡ self.old.set.moments) × (self.new.set.faults ≡ self.old.set.faults) }
+        ensures joint { KeepsBoth self.old self.new ready }
         ensures first { self.new.first ≡ self.old.first }
     {
         let ReadyInstall { edit, tables } = ready;

@@ -1,8 +1,8 @@
 //! What lies behind the six turns of the shared store, each value a part of the machine's world.
 //!
 //! A turn guards a value: the history with its log, the prepared transactions, the snapshots, the versions, names and keys,
-//! or the tables on their devices. `BehindTurn` says of each value which turn guards it. A `Part` is any of them, in a box. It
-//! lies in the slot of its turn while that is free, and `Part::Away` stands in for it while a seat has it out. Each value
+//! or the tables on their devices. `BehindTurn` says of each value which turn guards it. A `TurnValue` is any of them, in a box. It
+//! lies in the slot of its turn while that is free, and `TurnValue::Away` stands in for it while a seat has it out. Each value
 //! stands for one table of the machine, and a call on it makes of that table what a step of the machine does: so a seat that
 //! tells the rule the step may put the value home.
 //!

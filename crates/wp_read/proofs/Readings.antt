@@ -22,7 +22,9 @@ use Rattle.wp_core.proofs.AllParticipants.{mine}
 use Rattle.wp_core.proofs.Frames.{at_map}
 use Rattle.wp_core.proofs.HistoryLaws.{decided_late, decision_stays, decision_was}
 use Rattle.wp_core.proofs.Registered.{registered_live}
-use Rattle.wp_rule.specs.Words.{Place, IsAt}
+use Rattle.wp_rule.specs.Words.{Place, IsAt, word_in}
+use Rattle.wp_rule.specs.declared.word.Word.{Word}
+use Rattle.wp_rule.specs.declared.word.Word.TheVariants as shared
 use Rattle.wp_rule.specs.Moves.{MayMake, Moved, world_after_step}
 use Rattle.wp_rule.specs.Knows.{KnowsLook}
 use Rattle.wp_rule.proofs.Forgets.{EndsNothing}
@@ -32,7 +34,7 @@ use Rattle.wp_shared.specs.Clients.{KeepClient}
 use Rattle.wp_shared.specs.Seats.{SharedState, SeatState, place_at}
 use Rattle.wp_shared.proofs.OneStep.{made, becomes}
 use Rattle.wp_shared.proofs.Tables.{held_table}
-use Rattle.wp_read.specs.Reads.{reading, Reads, Loads, IsNext}
+use Rattle.wp_read.specs.Reads.{reading, Reads, Loads, IsNext, IsOfWord, IsWordFor, with_word}
 
 -- ---- what was concluded is right of what was seen
 
@@ -88,13 +90,7 @@ module _ {D : Type 0} (z : SharedState D) (p : Place) (steps : World → List St
 -- what is loaded hangs on no actor
 same_loaded : (w : World) (actors : List Actor) (which : Load) (r : Observed) → loaded (record w { actors = actors }) which r ≡ loaded w which r
 same_loaded w actors FirstWord r = refl
-same_loaded w actors FirstMax r = refl
-same_loaded w actors DelayedFlag r = refl
-same_loaded w actors variant.InPrepared r = refl
-same_loaded w actors SecondWord r = refl
-same_loaded w actors SecondMax r = refl
-same_loaded w actors OldFlag r = refl
-same_loaded w actors IsOldCommit r = refl
+same_loaded w actors other r = refl
 
 pub may_load : {D : Type 0} (z : SharedState D) (s : SeatState) (which : Load) (r : Observed) → IsNext s r which → KnowsLook s.knows which → MayMake (place_at z s.by) s.knows (λ w. load which ∷ [])
 may_load z s which r next look = known_made (place_at z s.by) s.knows (load which) tt (r, next.0, next.1, look)
@@ -118,6 +114,31 @@ load_made z so s t which r r' next is same m =
 -- the word with this index is the version's
 pub word_is : {D : Type 0} (z : SharedState D) (by : ℕ) (a : Actor) (w : World) (version index word : ℕ) → index ≡ cache_place z.cells version → IsAt (place_at z by) a w → word ≡ slice_index w.cache index → word ≡ cached_word w.cache version
 word_is z by a w version index word is k found = found ∙ ap (slice_index w.cache) (is ∙ ap (λ n. cache_place n version) (sym k.cells))
+
+-- a load of a word is no look into a table
+pub none_to_look : (a : Actor) (which : Load) → IsOfWord which → KnowsLook a which
+none_to_look a FirstWord word = tt
+none_to_look a FirstMax word = tt
+none_to_look a DelayedFlag word = tt
+none_to_look a variant.InPrepared word = absurd (word.0 refl)
+none_to_look a SecondWord word = tt
+none_to_look a SecondMax word = tt
+none_to_look a OldFlag word = tt
+none_to_look a IsOldCommit word = absurd (word.1 refl)
+
+module _ {D : Type 0} (z : SharedState D) (by : ℕ) (a : Actor) (w : World) (k : IsAt (place_at z by) a w) where
+  of_word : (version : ℕ) (x : Word) (found : ℕ) → x ≡ shared.Cell (cache_place z.cells version) → found ≡ word_in x w → found ≡ cached_word w.cache version
+  of_word version x found is so = word_is z by a w version (cache_place z.cells version) found refl k (so ∙ ap (λ (y : Word). word_in y w) is)
+
+  -- what was loaded of a word is what the machine loads
+  pub word_loaded : (which : Load) (x : Word) (found : ℕ) (r : Observed) → IsWordFor z.cells r.version which x → found ≡ word_in x w → with_word which found r ≡ loaded w which r
+  word_loaded FirstWord x found r is so = ap (λ (n : ℕ). record r { first_word = Some n }) (of_word r.version x found is so)
+  word_loaded SecondWord x found r is so = ap (λ (n : ℕ). record r { second_word = Some n }) (of_word r.version x found is so)
+  word_loaded FirstMax x found r is so = ap (λ (n : ℕ). record r { first_max = Some n }) (so ∙ ap (λ (y : Word). word_in y w) is)
+  word_loaded SecondMax x found r is so = ap (λ (n : ℕ). record r { second_max = Some n }) (so ∙ ap (λ (y : Word). word_in y w) is)
+  word_loaded DelayedFlag x found r is so = ap (λ (n : ℕ). record r { delayed_flag = Some n }) (so ∙ ap (λ (y : Word). word_in y w) is)
+  word_loaded OldFlag x found r is so = ap (λ (n : ℕ). record r { old_flag = Some n }) (so ∙ ap (λ (y : Word). word_in y w) is)
+  word_loaded other x found r is so = absurd is
 
 -- ---- looks into tables
 

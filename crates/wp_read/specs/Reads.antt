@@ -2,9 +2,10 @@
 use Rattle.std.specs.Prelude.{◌≡◌, ◌≢◌, ℕ, ◌≤◌, ◌^◌, Bool, List, Some}
 use Rattle.wp_judge.specs.declared.observed.Observed.{Observed}
 use Rattle.wp_judge.specs.declared.observed.Load.{Load}
-use Rattle.wp_judge.specs.declared.observed.Load.TheVariants.{InPrepared, IsOldCommit}
+use Rattle.wp_judge.specs.declared.observed.Load.TheVariants.{FirstWord, FirstMax, DelayedFlag, InPrepared, SecondWord, SecondMax, OldFlag, IsOldCommit}
 use Rattle.wp_judge.specs.declared.observed.Asked.TheVariants as asked
 use Rattle.wp_judge.specs.Order.{ask, judgement}
+use Rattle.wp_core.specs.Cache.{cache_place}
 use Rattle.wp_core.specs.Changes.{loaded}
 use Rattle.wp_core.specs.Lists.{IsIn}
 use Rattle.wp_core.specs.Reading.{Registration, snapshot_of}
@@ -12,6 +13,8 @@ use Rattle.wp_core.specs.Sound.Reader.{IsRight}
 use Rattle.wp_core.specs.Views.{Fact}
 use Rattle.wp_core.specs.World.{Actor, World}
 use Rattle.wp_rule.specs.Words.{IsAt}
+use Rattle.wp_rule.specs.declared.word.Word.{Word}
+use Rattle.wp_rule.specs.declared.word.Word.TheVariants as shared
 use Rattle.wp_shared.specs.Calls.{IsLoose}
 use Rattle.wp_shared.specs.Seats.{SharedState, SeatState, place_at}
 
@@ -45,6 +48,26 @@ IsNext s r which = (s.knows.reading ≡ Some r) × (ask r ≡ asked.Load which)
 -- the load is of a word, and not a look into a table
 abbrev pub IsOfWord : Load → Type 0
 IsOfWord which = (which ≢ InPrepared) × (which ≢ IsOldCommit)
+
+-- it is the word that this load of a version is of
+abbrev pub IsWordFor : ℕ → ℕ → Load → Word → Type 0
+IsWordFor cells version FirstWord w = w ≡ shared.Cell (cache_place cells version)
+IsWordFor cells version SecondWord w = w ≡ shared.Cell (cache_place cells version)
+IsWordFor cells version FirstMax w = w ≡ shared.Max
+IsWordFor cells version SecondMax w = w ≡ shared.Max
+IsWordFor cells version DelayedFlag w = w ≡ shared.DelayedFlag
+IsWordFor cells version OldFlag w = w ≡ shared.OldFlag
+IsWordFor cells version other w = ⊥
+
+-- what was loaded, with this word more
+abbrev pub with_word : Load → ℕ → Observed → Observed
+with_word FirstWord found r = record r { first_word = Some found }
+with_word FirstMax found r = record r { first_max = Some found }
+with_word DelayedFlag found r = record r { delayed_flag = Some found }
+with_word SecondWord found r = record r { second_word = Some found }
+with_word SecondMax found r = record r { second_max = Some found }
+with_word OldFlag found r = record r { old_flag = Some found }
+with_word other found r = r
 
 -- it is what a reader of this version at this snapshot has loaded, in a cache of no more bits than there may be
 abbrev pub IsOf : ℕ → Registration → Observed → Type 0

@@ -54,7 +54,7 @@ fn withdraw(snaps: &mut Snaps, snapshot: Snapshot)
 
 /// Registers the published number with this smallest, or with the next number where none is given, under the snapshots turn. A
 /// refusal leaves no registration.
-pub fn register_in<D: Disk + Drop>(
+pub(crate) fn register_in<D: Disk + Drop>(
     store: &Shared<D>,
     seat: &mut Seat<D>,
     snaps: &mut Snaps,
@@ -141,7 +141,7 @@ fn release_in<D: Disk + Drop>(
 }
 
 /// Takes back the registration of the snapshot that was taken last, under the snapshots turn.
-pub fn release_last<D: Disk + Drop>(
+pub(crate) fn release_last<D: Disk + Drop>(
     store: &Shared<D>,
     seat: &mut Seat<D>,
     snaps: &mut Snaps,

@@ -18,7 +18,8 @@ ghost use Rattle.wp_model.specs.Snapshots.{Snapshots, NoOldCommits};
 ghost use Rattle.wp_core.specs.Tables.{Content};
 ghost use Rattle.wp_core.specs.Turns.{snapshots_turn};
 ghost use Rattle.wp_core.specs.Views.{old_flag_stays};
-ghost use Rattle.wp_read.specs.Reads.{Reads, Loads, IsNext, IsOfWord};
+ghost use Rattle.wp_rule.specs.Words.{IsWordOf};
+ghost use Rattle.wp_read.specs.Reads.{Reads, Loads, IsNext, IsOfWord, IsWordFor, with_word};
 ghost use Rattle.wp_read.specs.Registers.{MayPin, MayRegister, Registers, Unregisters, before_last, behind_last, pinned, pinning};
 
 use crate::registration::Snapshot;
@@ -27,7 +28,7 @@ use wp_judge::{InPrepared, Load, Observed};
 use wp_model::Seq;
 use wp_outside::Disk;
 use wp_prepared::Prepared;
-use wp_rule::Moves;
+use wp_rule::{Moves, Word};
 use wp_shared::{Seat, Shared};
 use wp_snaps::Snaps;
 
@@ -49,7 +50,7 @@ fn begin<D: Disk + Drop, J: Moves>(
 }
 
 /// Begins to read the version `p` at the snapshot, by words of a cache of so many bits.
-pub fn begin_reading<D: Disk + Drop>(
+pub(crate) fn begin_reading<D: Disk + Drop>(
     store: &Shared<D>,
     seat: &mut Seat<D>,
     bits: u32,
@@ -80,78 +81,62 @@ pub fn begin_reading<D: Disk + Drop>(
     }
 }
 
-fn first_word<D: Disk + Drop>(store: &Shared<D>, seat: &mut Seat<D>, seen: &mut Observed)
-    requires seat { seat.old.table ≡ store.now.table }
-    requires next { IsNext seat.old seen.old Load.FirstWord }
-    ensures { Loads store.now Load.FirstWord seat.old seat.new seen.old seen.new }
+/// The word that the load of a version is of.
+fn word_of<D: Disk + Drop>(store: &Shared<D>, version: Seq, which: Load) -> Word
+    requires { IsOfWord which }
+    ensures word { IsWordFor store.now.cells version which result }
+    ensures in_table { IsWordOf store.now.cells result }
 {
-    let place = store.place_of(seen.version);
-    let word = store.load_word::<Brand>(seat, place);
-    seen.first_word = Some(word);
+    match which {
+        Load::FirstWord | Load::SecondWord => Word::Cell(store.place_of(version)),
+        Load::FirstMax | Load::SecondMax => Word::Max,
+        Load::DelayedFlag => Word::DelayedFlag,
+        Load::OldFlag => Word::OldFlag,
+        Load::InPrepared | Load::IsOldCommit => unreachable!(),
+    }
 }
 
-fn first_max<D: Disk + Drop>(store: &Shared<D>, seat: &mut Seat<D>, seen: &mut Observed)
-    requires seat { seat.old.table ≡ store.now.table }
-    requires next { IsNext seat.old seen.old Load.FirstMax }
-    ensures { Loads store.now Load.FirstMax seat.old seat.new seen.old seen.new }
+/// Puts down what was loaded.
+fn put_down(seen: &mut Observed, which: Load, found: u64)
+    requires { IsOfWord which }
+    ensures { seen.new ≡ with_word which found seen.old }
 {
-    let max = store.load_max::<Brand>(seat);
-    seen.first_max = Some(max);
+    match which {
+        Load::FirstWord => seen.first_word = Some(found),
+        Load::FirstMax => seen.first_max = Some(found),
+        Load::DelayedFlag => seen.delayed_flag = Some(found),
+        Load::SecondWord => seen.second_word = Some(found),
+        Load::SecondMax => seen.second_max = Some(found),
+        Load::OldFlag => seen.old_flag = Some(found),
+        Load::InPrepared | Load::IsOldCommit => unreachable!(),
+    }
 }
 
-fn delayed_flag<D: Disk + Drop>(store: &Shared<D>, seat: &mut Seat<D>, seen: &mut Observed)
-    requires seat { seat.old.table ≡ store.now.table }
-    requires next { IsNext seat.old seen.old Load.DelayedFlag }
-    ensures { Loads store.now Load.DelayedFlag seat.old seat.new seen.old seen.new }
+fn load_with<D: Disk + Drop, J: Moves>(
+    store: &Shared<D>,
+    seat: &mut Seat<D>,
+    seen: &mut Observed,
+    which: Load,
+)
+    requires seat { (seat.old.table ≡ store.now.table) × (J.place ≡ place_at store.now seat.old.by) }
+    requires steps { J.steps ≡ (λ w. step.load which ∷ []) }
+    requires next { IsNext seat.old seen.old which }
+    requires word { IsOfWord which }
+    ensures { Loads store.now which seat.old seat.new seen.old seen.new }
 {
-    let flag = store.load_delayed_flag::<Brand>(seat);
-    seen.delayed_flag = Some(flag);
-}
-
-fn second_word<D: Disk + Drop>(store: &Shared<D>, seat: &mut Seat<D>, seen: &mut Observed)
-    requires seat { seat.old.table ≡ store.now.table }
-    requires next { IsNext seat.old seen.old Load.SecondWord }
-    ensures { Loads store.now Load.SecondWord seat.old seat.new seen.old seen.new }
-{
-    let place = store.place_of(seen.version);
-    let word = store.load_word::<Brand>(seat, place);
-    seen.second_word = Some(word);
-}
-
-fn second_max<D: Disk + Drop>(store: &Shared<D>, seat: &mut Seat<D>, seen: &mut Observed)
-    requires seat { seat.old.table ≡ store.now.table }
-    requires next { IsNext seat.old seen.old Load.SecondMax }
-    ensures { Loads store.now Load.SecondMax seat.old seat.new seen.old seen.new }
-{
-    let max = store.load_max::<Brand>(seat);
-    seen.second_max = Some(max);
-}
-
-fn old_flag<D: Disk + Drop>(store: &Shared<D>, seat: &mut Seat<D>, seen: &mut Observed)
-    requires seat { seat.old.table ≡ store.now.table }
-    requires next { IsNext seat.old seen.old Load.OldFlag }
-    ensures { Loads store.now Load.OldFlag seat.old seat.new seen.old seen.new }
-{
-    let flag = store.load_old_flag::<Brand>(seat);
-    seen.old_flag = Some(flag);
+    let word = word_of(store, seen.version, which);
+    let found = store.load::<J>(seat, word);
+    put_down(seen, which, found);
 }
 
 /// Makes the next load of the seat's reading, which is of a word.
-pub fn load<D: Disk + Drop>(store: &Shared<D>, seat: &mut Seat<D>, seen: &mut Observed, which: Load)
+pub(crate) fn load<D: Disk + Drop>(store: &Shared<D>, seat: &mut Seat<D>, seen: &mut Observed, which: Load)
     requires seat { seat.old.table ≡ store.now.table }
     requires next { IsNext seat.old seen.old which }
     requires word { IsOfWord which }
     ensures { Loads store.now which seat.old seat.new seen.old seen.new }
 {
-    match which {
-        Load::FirstWord => first_word(store, seat, seen),
-        Load::FirstMax => first_max(store, seat, seen),
-        Load::DelayedFlag => delayed_flag(store, seat, seen),
-        Load::SecondWord => second_word(store, seat, seen),
-        Load::SecondMax => second_max(store, seat, seen),
-        Load::OldFlag => old_flag(store, seat, seen),
-        Load::InPrepared | Load::IsOldCommit => unreachable!(),
-    }
+    load_with::<D, Brand>(store, seat, seen, which);
 }
 
 /// What the prepared tables say of the version.
@@ -166,7 +151,7 @@ fn found(tables: &Prepared, version: Seq) -> InPrepared
 }
 
 /// Looks into the prepared tables, which the seat holds.
-pub fn look_in_prepared<D: Disk + Drop>(
+pub(crate) fn look_in_prepared<D: Disk + Drop>(
     store: &Shared<D>,
     seat: &mut Seat<D>,
     seen: &mut Observed,
@@ -182,7 +167,7 @@ pub fn look_in_prepared<D: Disk + Drop>(
 }
 
 /// Looks into the old commit map, which the seat holds.
-pub fn look_in_old_commits<D: Disk + Drop>(
+pub(crate) fn look_in_old_commits<D: Disk + Drop>(
     store: &Shared<D>,
     seat: &mut Seat<D>,
     seen: &mut Observed,
@@ -214,7 +199,7 @@ fn register_with<D: Disk + Drop, J: Moves>(
 
 /// Loads the published number, and registers it with this smallest, or with the next number where none is given. The seat holds the
 /// snapshots turn, and the prepared turn too where the smallest is not 1.
-pub fn register<D: Disk + Drop>(store: &Shared<D>, seat: &mut Seat<D>, smallest: Option<Seq>) -> Seq
+pub(crate) fn register<D: Disk + Drop>(store: &Shared<D>, seat: &mut Seat<D>, smallest: Option<Seq>) -> Seq
     requires seat { seat.old.table ≡ store.now.table }
     requires snapshots { (m : Snapshots) × IsIn (table.snapshots m) (held_by seat.old) }
     requires smallest { MayRegister (held_by seat.old) smallest }
@@ -240,7 +225,7 @@ fn register_again_with<D: Disk + Drop, J: Moves>(
 }
 
 /// Registers each of the numbers once more, which with those from the floor on are all that is live, and notes that.
-pub fn register_again<D: Disk + Drop>(
+pub(crate) fn register_again<D: Disk + Drop>(
     store: &Shared<D>,
     seat: &mut Seat<D>,
     floor: Seq,
@@ -268,7 +253,7 @@ fn unregister_at<D: Disk + Drop, J: Moves>(store: &Shared<D>, seat: &mut Seat<D>
 }
 
 /// Takes back the registration that the seat made last.
-pub fn unregister_last<D: Disk + Drop>(store: &Shared<D>, seat: &mut Seat<D>)
+pub(crate) fn unregister_last<D: Disk + Drop>(store: &Shared<D>, seat: &mut Seat<D>)
     requires seat { seat.old.table ≡ store.now.table }
     requires last { (front : List Registration) × (r : Registration) × (seat.old.knows.participant.registered ≡ front ++ r ∷ []) }
     requires snapshots { (m : Snapshots) × IsIn (table.snapshots m) (held_by seat.old) }
@@ -294,7 +279,7 @@ fn unregister_with<D: Disk + Drop, J: Moves>(
 }
 
 /// Takes back a registration of the snapshot, the last of equal ones.
-pub fn unregister<D: Disk + Drop>(store: &Shared<D>, seat: &mut Seat<D>, snapshot: &Snapshot)
+pub(crate) fn unregister<D: Disk + Drop>(store: &Shared<D>, seat: &mut Seat<D>, snapshot: &Snapshot)
     requires seat { seat.old.table ≡ store.now.table }
     requires registered { IsIn snapshot.now seat.old.knows.participant.registered }
     requires snapshots { (m : Snapshots) × IsIn (table.snapshots m) (held_by seat.old) }
@@ -305,7 +290,7 @@ pub fn unregister<D: Disk + Drop>(store: &Shared<D>, seat: &mut Seat<D>, snapsho
 }
 
 /// Stores the old-map flag as 0, where the old commit map is empty.
-pub fn lower_old_flag<D: Disk + Drop>(store: &Shared<D>, seat: &mut Seat<D>)
+pub(crate) fn lower_old_flag<D: Disk + Drop>(store: &Shared<D>, seat: &mut Seat<D>)
     requires seat { seat.old.table ≡ store.now.table }
     requires none_kept { (m : Snapshots) × IsIn (table.snapshots m) (held_by seat.old) × NoOldCommits m }
     ensures seat { GoesOn (is_under snapshots_turn) (held_by seat.old) seat.old.turns seat.old seat.new }

@@ -23,13 +23,13 @@ use wp_outside::Disk;
 use wp_shared::{Seat, Shared, Stock};
 
 /// How many versions of a key are copied at first: mostly the newest is the one.
-pub const FIRST_COPIES: usize = 1;
+pub(crate) const FIRST_COPIES: usize = 1;
 
 /// How many times as many are copied next.
 const GROWTH: usize = 4;
 
 /// Copies the newest `most` versions of the key, under the store turn.
-pub fn copy_newest<D: Disk + Drop, R: Wait>(
+pub(crate) fn copy_newest<D: Disk + Drop, R: Wait>(
     store: &Shared<D>,
     rt: &R,
     seat: &mut Seat<D>,
@@ -108,7 +108,7 @@ fn first_visible<D: Disk + Drop, R: Wait>(
 }
 
 /// The value of the version with this place.
-pub fn take_value(found: Versions, i: usize) -> Option<Value>
+pub(crate) fn take_value(found: Versions, i: usize) -> Option<Value>
     requires { i < length found }
     ensures { (front back : List Version) (v : Version) → found ≡ front ++ v ∷ back → length front ≡ i → result ≡ v.value }
 {

@@ -53,7 +53,6 @@ idle_plain (Prepared p) = (refl, refl, tt, tt)
 pub refusal_plain : (client : Client) (c : Command) → IsPlainIfSome (refusal_of client c)
 refusal_plain client (command.Put key value) = change_plain client.txn key
 refusal_plain client (command.Del key) = change_plain client.txn key
-refusal_plain client (command.Get key) = tt
 refusal_plain client (command.GetAt key label) = labelled_plain (number_of client.snapshots label) label
 refusal_plain client (command.Snap label) = label_plain client.snapshots label
 refusal_plain client (command.Free label) = labelled_plain (number_of client.snapshots label) label
@@ -63,11 +62,7 @@ refusal_plain client command.Commit = (idle_plain client.txn).3
 refusal_plain client command.Rollback = (idle_plain client.txn).3
 refusal_plain client command.Leave = (idle_plain client.txn).2
 refusal_plain client (command.Take name) = (idle_plain client.txn).0
-refusal_plain client command.Flush = tt
-refusal_plain client command.Compact = tt
-refusal_plain client command.Renew = tt
-refusal_plain client (command.Tell label) = tt
-refusal_plain client (command.Hear label) = tt
+refusal_plain client _ = tt
 
 -- what is true by the row, and where the reply speaks of no entry
 pub allowed_gives : (Q : Type 0) (refusal : Option Reply) (r : Reply) (condition : Type 0) → IsPlainIfSome refusal → (condition → Q) → (kind r ≡ Plain → Q) → UnlessRefused refusal r condition → Q

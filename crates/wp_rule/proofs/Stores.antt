@@ -1,5 +1,5 @@
 -- Each store of a word is a step of the machine, and what it ends is noted again.
-use Rattle.std.proofs.Common.{◌≡◌, ℕ, suc, ◌+◌, true, List, [], ◌∷◌, ◌++◌, length, get_or, set, refl, sym, subst, ap, ◌∙◌, Option, Some, length-append, length-set, arith}
+use Rattle.std.proofs.Common.{◌≡◌, ℕ, suc, ◌+◌, ◌<◌, true, List, [], ◌∷◌, ◌++◌, length, get_or, set, refl, sym, subst, ap, ◌∙◌, Option, Some, length-append, length-set, arith}
 use Rattle.std.proofs.lemmas.Bool.{true_from_ne_false}
 use Rattle.wp_model.specs.declared.entry.Entry.{Entry}
 use Rattle.wp_judge.specs.Words.{CommitPair, word_of}
@@ -13,7 +13,9 @@ use Rattle.wp_core.specs.Steps.{Step, store_published, store_max_evicted, store_
 use Rattle.wp_core.specs.Effects.{with_entry}
 use Rattle.wp_core.specs.Needs.{Needs}
 use Rattle.wp_core.proofs.Quiet.{holder_lives}
-use Rattle.wp_rule.specs.Words.{Place, IsAt, words_of, lines_of, turn_words}
+use Rattle.wp_rule.specs.Words.{Place, IsAt, words_of, lines_of, turn_words, word_place, IsWordOf, word_in}
+use Rattle.wp_rule.specs.declared.word.Word.{Word}
+use Rattle.wp_rule.specs.declared.word.Word.TheVariants.{Max, Cell, DelayedFlag, OldFlag}
 use Rattle.wp_rule.specs.Moves.{world_after_step, actor_after_step, MayStep, LeadTo, MayStore, MayPublishAs, Leave, publishing, storing, storing_max}
 use Rattle.wp_rule.proofs.Knows.{at_sound, held_is}
 use Rattle.wp_rule.proofs.Needed.{guarded}
@@ -34,6 +36,19 @@ front_of w = length w.writes.history ∷ w.max_evicted ∷ w.delayed_flag ∷ w.
 
 pub cell_at : (w : World) (i : ℕ) → get_or (words_of w) (56 + i) 0 ≡ get_or w.cache i 0
 cell_at w i = cell_in (front_of w) w.cache i
+
+-- each word is what the world has there
+pub word_at : (w : World) (word : Word) → get_or (words_of w) (word_place word) 0 ≡ word_in word w
+word_at w Max = refl
+word_at w (Cell i) = cell_at w i
+word_at w DelayedFlag = refl
+word_at w OldFlag = refl
+
+pub word_within : (cells words : ℕ) (word : Word) → words ≡ cells + 56 → IsWordOf cells word → word_place word < words
+word_within cells words Max is low = omega (arith, is)
+word_within cells words (Cell i) is low = omega (arith, is, low)
+word_within cells words DelayedFlag is low = omega (arith, is)
+word_within cells words OldFlag is low = omega (arith, is)
 
 cell_stored : (w : World) (i x : ℕ) → set (words_of w) (56 + i) x ≡ front_of w ++ set w.cache i x
 cell_stored w i x = cell_set (front_of w) w.cache i x

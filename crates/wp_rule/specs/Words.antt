@@ -1,5 +1,5 @@
 -- The words of a world, in their order, and which world may stand behind a seat.
-use Rattle.std.specs.Prelude.{◌≡◌, ℕ, ◌+◌, ◌*◌, List, [], ◌∷◌, ◌++◌, length, Option, Some, None}
+use Rattle.std.specs.Prelude.{◌≡◌, ℕ, ◌+◌, ◌*◌, ◌<◌, slice_index, List, [], ◌∷◌, ◌++◌, length, Option, Some, None}
 use mathlib.Core.Option.{some, none}
 use mathlib.Core.Option as maybe
 use lib.ListN.{get_elem?}
@@ -12,6 +12,8 @@ use Rattle.wp_core.specs.Changes.{turn_index}
 use Rattle.wp_core.specs.World.{Actor, World}
 use Rattle.wp_core.specs.Runs.{Reaches}
 use Rattle.wp_rule.specs.declared.opening.Opening.{Opening}
+use Rattle.wp_rule.specs.declared.word.Word.{Word}
+use Rattle.wp_rule.specs.declared.word.Word.TheVariants.{Max, Cell, DelayedFlag, OldFlag}
 
 -- 1 while somebody holds the turn
 abbrev pub turn_word : Option ℕ → ℕ
@@ -35,6 +37,25 @@ words_of w = length w.writes.history ∷ w.max_evicted ∷ w.delayed_flag ∷ w.
 -- the place of a turn's word
 abbrev pub turn_place : Turn → ℕ
 turn_place turn = 8 * turn_index turn + 8
+
+-- the place of a word that is loaded beside the published number
+abbrev pub word_place : Word → ℕ
+word_place Max = 1
+word_place (Cell i) = 56 + i
+word_place DelayedFlag = 2
+word_place OldFlag = 3
+
+-- it is a word of a table in which so many are the cache's
+abbrev pub IsWordOf : ℕ → Word → Type 0
+IsWordOf cells (Cell i) = i < cells
+IsWordOf cells other = Unit {0}
+
+-- what a world has there
+abbrev pub word_in : Word → World → ℕ
+word_in Max w = w.max_evicted
+word_in (Cell i) w = slice_index w.cache i
+word_in DelayedFlag w = w.delayed_flag
+word_in OldFlag w = w.old_flag
 
 -- The shared words, as clauses see them: in which table they lie, the history that was opened, how many of them are the
 -- cache's, and the values behind the turns as they were handed in.

@@ -22,9 +22,11 @@ mod part;
 mod plays;
 mod rule;
 mod steps;
+mod word;
 mod words;
 
 pub use part::{HoldsPart, Parts};
 pub use plays::Moves;
+pub use word::Word;
 pub use words::{WordSeat, Words};
 pub use wp_core::{Actor, Turn};

@@ -1,5 +1,5 @@
 //! The table of the shared words, and the calls on it.
-ghost use Rattle.std.specs.Prelude.{◌≡◌, ◌+◌, ◌<◌, ◌≤◌, [], ◌∷◌, List, true, false, length, replicate, slice_index, Some, IfOk, IfErr, MatchBool};
+ghost use Rattle.std.specs.Prelude.{◌≡◌, ◌+◌, ◌<◌, ◌≤◌, [], ◌∷◌, List, true, false, length, replicate, Some, IfOk, IfErr, MatchBool};
 ghost use Rattle.atomic_table.specs.Table.{rest};
 ghost use Rattle.wp_model.specs.declared.entry.Entry.{Entry};
 ghost use Rattle.wp_model.specs.Legal.{IsLegal};
@@ -11,7 +11,7 @@ ghost use Rattle.wp_core.specs.Sound.Actors.{StartsWith};
 ghost use Rattle.wp_core.specs.Views.{delayed_flag_stays, old_flag_stays};
 ghost use Rattle.wp_core.specs.Turns.{turn_of};
 ghost use Rattle.wp_rule.specs.Knows.{Knows};
-ghost use Rattle.wp_rule.specs.Words.{place_of, SawAll};
+ghost use Rattle.wp_rule.specs.Words.{place_of, IsWordOf, word_in, SawAll};
 ghost use Rattle.wp_rule.specs.Moves.{MayMake, MayStep, MayPublishAs, Moved, storing_max, storing_word};
 ghost use Rattle.wp_rule.specs.Shows.{Founds, Leaves};
 ghost use Rattle.wp_rule.specs.Ends.{part_of};
@@ -26,6 +26,7 @@ use crate::part::{HoldsPart, Parts};
 use crate::plays::{LearnJoin, Moves, NoteSplit, SeatJoin, SeatSplit};
 use crate::rule::Rule;
 use crate::steps;
+use crate::word::{DELAYED_FLAG, FIRST_CELL, MAX, OLD_FLAG, Word};
 use atomic_table::{Refused, Seat, Table};
 use std::alloc::{AllocError, Global};
 use std::marker::{Brand, Model};
@@ -36,14 +37,6 @@ use wp_history::History;
 use wp_model::{Name, Seq};
 
 const PUBLISHED: usize = 0;
-
-const MAX: usize = 1;
-
-const DELAYED_FLAG: usize = 2;
-
-const OLD_FLAG: usize = 3;
-
-const FIRST_CELL: usize = 56;
 
 /// A seat of the words: an actor of the machine, with the values that it has out.
 pub type WordSeat<S> = Seat<S, Actor>;
@@ -146,47 +139,15 @@ impl<S: HoldsPart + Drop> Words<S> {
         steps::load::<S, J>(&self.table.shared, seat, PUBLISHED)
     }
 
-    /// Loads the evicted bound, and makes there the steps that the caller picks: none, or a reader's load of it.
-    pub fn load_max<J: Moves>(&self, seat: &mut WordSeat<S>) -> Seq
+    /// Loads the word, and makes there the steps that the caller picks: none, or a reader's load of it.
+    pub fn load<J: Moves>(&self, seat: &mut WordSeat<S>, word: Word) -> u64
         requires seat { (seat.old.table_id ≡ self.now.table) × (J.place ≡ place_of S.content self.now seat.old.id) }
+        requires word { IsWordOf self.now.cells word }
         requires may { MayMake J.place seat.old.me.0 J.steps }
         ensures same { (seat.new.table_id ≡ seat.old.table_id) × (seat.new.id ≡ seat.old.id) × (seat.new.me.1 ≡ seat.old.me.1) }
-        ensures moved { Moved J.place J.steps (λ w. result ≡ w.max_evicted) seat.old.me.0 seat.new.me.0 }
+        ensures moved { Moved J.place J.steps (λ w. result ≡ word_in word w) seat.old.me.0 seat.new.me.0 }
     {
-        steps::load::<S, J>(&self.table.shared, seat, MAX)
-    }
-
-    /// Loads a word of the cache, and makes there the steps that the caller picks: none, or a reader's load of it.
-    pub fn load_word<J: Moves>(&self, seat: &mut WordSeat<S>, i: usize) -> u64
-        requires seat { (seat.old.table_id ≡ self.now.table) × (J.place ≡ place_of S.content self.now seat.old.id) }
-        requires word { i < self.now.cells }
-        requires may { MayMake J.place seat.old.me.0 J.steps }
-        ensures same { (seat.new.table_id ≡ seat.old.table_id) × (seat.new.id ≡ seat.old.id) × (seat.new.me.1 ≡ seat.old.me.1) }
-        ensures moved { Moved J.place J.steps (λ w. result ≡ slice_index w.cache i) seat.old.me.0 seat.new.me.0 }
-    {
-        steps::load::<S, J>(&self.table.shared, seat, FIRST_CELL + i)
-    }
-
-    /// Loads the flag that is 0 only while nothing is delayed, and makes there the steps that the caller picks: none, or a
-    /// reader's load of it.
-    pub fn load_delayed_flag<J: Moves>(&self, seat: &mut WordSeat<S>) -> u64
-        requires seat { (seat.old.table_id ≡ self.now.table) × (J.place ≡ place_of S.content self.now seat.old.id) }
-        requires may { MayMake J.place seat.old.me.0 J.steps }
-        ensures same { (seat.new.table_id ≡ seat.old.table_id) × (seat.new.id ≡ seat.old.id) × (seat.new.me.1 ≡ seat.old.me.1) }
-        ensures moved { Moved J.place J.steps (λ w. result ≡ w.delayed_flag) seat.old.me.0 seat.new.me.0 }
-    {
-        steps::load::<S, J>(&self.table.shared, seat, DELAYED_FLAG)
-    }
-
-    /// Loads the flag that is 0 only while the old commit map is empty, and makes there the steps that the caller picks: none, or
-    /// a reader's load of it.
-    pub fn load_old_flag<J: Moves>(&self, seat: &mut WordSeat<S>) -> u64
-        requires seat { (seat.old.table_id ≡ self.now.table) × (J.place ≡ place_of S.content self.now seat.old.id) }
-        requires may { MayMake J.place seat.old.me.0 J.steps }
-        ensures same { (seat.new.table_id ≡ seat.old.table_id) × (seat.new.id ≡ seat.old.id) × (seat.new.me.1 ≡ seat.old.me.1) }
-        ensures moved { Moved J.place J.steps (λ w. result ≡ w.old_flag) seat.old.me.0 seat.new.me.0 }
-    {
-        steps::load::<S, J>(&self.table.shared, seat, OLD_FLAG)
+        steps::load::<S, J>(&self.table.shared, seat, word.place())
     }
 
     /// Publishes the first of the pending entries, which gets this number. The caller holds the write turn, and its view has the

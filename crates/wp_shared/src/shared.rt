@@ -20,7 +20,7 @@ use std::marker::{Brand, Model};
 use wp_model::{Name, Seq};
 use wp_outside::Disk;
 use wp_parts::TurnValue;
-use wp_rule::{Moves, WordSeat, Words};
+use wp_rule::{Moves, Word, WordSeat, Words};
 
 /// The store that clients share: words, and the values behind the turns.
 pub struct Shared<D: Disk + Drop> {
@@ -139,7 +139,7 @@ impl<D: Disk + Drop> Shared<D> {
         ensures same { seat.new ≡ seat.old }
         ensures found { (w : World) × Stands self.now seat.new w × (result ≡ w.max_evicted) }
     {
-        self.load_max::<Brand>(seat)
+        self.load::<Brand>(seat, Word::Max)
     }
 
     /// Loads the evicted bound, and leaves it: the seat stands in a world of the store. Only its clause is of use to the caller.
@@ -158,7 +158,7 @@ impl<D: Disk + Drop> Shared<D> {
         ensures same { seat.new ≡ seat.old }
         ensures found { (w : World) × Stands self.now seat.new w × (result ≡ slice_index w.cache i) }
     {
-        self.load_word::<Brand>(seat, i)
+        self.load::<Brand>(seat, Word::Cell(i))
     }
 
     /// Its words.

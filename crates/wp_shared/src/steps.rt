@@ -1,6 +1,6 @@
 //! The atomic steps, for the crates whose calls are made of them. A caller picks by `Brand` which steps of the machine its
 //! actor makes at a load.
-ghost use Rattle.std.specs.Prelude.{◌≡◌, ◌<◌, ◌∷◌, [], List, length, slice_index, Some};
+ghost use Rattle.std.specs.Prelude.{◌≡◌, ◌<◌, ◌∷◌, [], List, length, Some};
 ghost use Rattle.wp_model.specs.declared.entry.Entry.{Entry};
 ghost use Rattle.wp_judge.specs.Words.{CommitPair, word_of, pair_of};
 ghost use Rattle.wp_core.specs.Cache.{cache_place};
@@ -10,6 +10,7 @@ ghost use Rattle.wp_core.specs.Steps as step;
 ghost use Rattle.wp_core.specs.Steps.{store_max_evicted, note};
 ghost use Rattle.wp_core.specs.Views.{delayed_flag_stays, old_flag_stays};
 ghost use Rattle.wp_rule.specs.Knows.{Knows};
+ghost use Rattle.wp_rule.specs.Words.{IsWordOf, word_in};
 ghost use Rattle.wp_rule.specs.Moves.{MayMake, MayStep, MayPublishAs, Moved, storing_max, storing_word};
 ghost use Rattle.wp_core.specs.World.{World};
 ghost use Rattle.wp_shared.specs.Clients.{KeepClient};
@@ -19,7 +20,7 @@ use crate::seat::Seat;
 use crate::shared::Shared;
 use wp_model::Seq;
 use wp_outside::Disk;
-use wp_rule::Moves;
+use wp_rule::{Moves, Word};
 
 impl<D: Disk + Drop> Shared<D> {
     /// Loads the published number, and makes the steps there.
@@ -44,49 +45,16 @@ impl<D: Disk + Drop> Shared<D> {
         self.make::<J>(seat)
     }
 
-    /// Loads the evicted bound, and makes the steps there.
-    pub fn load_max<J: Moves>(&self, seat: &mut Seat<D>) -> Seq
+    /// Loads the word, and makes the steps there.
+    pub fn load<J: Moves>(&self, seat: &mut Seat<D>, word: Word) -> u64
         requires seat { (seat.old.table ≡ self.now.table) × (J.place ≡ place_at self.now seat.old.by) }
+        requires word { IsWordOf self.now.cells word }
         requires may { MayMake J.place seat.old.knows J.steps }
         requires client { (w : World) → KeepClient (J.steps w) }
         ensures same { (seat.new.table ≡ seat.old.table) × (seat.new.by ≡ seat.old.by) × (seat.new.turns ≡ seat.old.turns) }
-        ensures moved { Moved J.place J.steps (λ w. result ≡ w.max_evicted) seat.old.knows seat.new.knows }
+        ensures moved { Moved J.place J.steps (λ w. result ≡ word_in word w) seat.old.knows seat.new.knows }
     {
-        self.words.load_max::<J>(&mut seat.seat)
-    }
-
-    /// Loads a word of the cache, and makes the steps there.
-    pub fn load_word<J: Moves>(&self, seat: &mut Seat<D>, i: usize) -> u64
-        requires seat { (seat.old.table ≡ self.now.table) × (J.place ≡ place_at self.now seat.old.by) }
-        requires word { i < self.now.cells }
-        requires may { MayMake J.place seat.old.knows J.steps }
-        requires client { (w : World) → KeepClient (J.steps w) }
-        ensures same { (seat.new.table ≡ seat.old.table) × (seat.new.by ≡ seat.old.by) × (seat.new.turns ≡ seat.old.turns) }
-        ensures moved { Moved J.place J.steps (λ w. result ≡ slice_index w.cache i) seat.old.knows seat.new.knows }
-    {
-        self.words.load_word::<J>(&mut seat.seat, i)
-    }
-
-    /// Loads the delayed flag, and makes the steps there.
-    pub fn load_delayed_flag<J: Moves>(&self, seat: &mut Seat<D>) -> u64
-        requires seat { (seat.old.table ≡ self.now.table) × (J.place ≡ place_at self.now seat.old.by) }
-        requires may { MayMake J.place seat.old.knows J.steps }
-        requires client { (w : World) → KeepClient (J.steps w) }
-        ensures same { (seat.new.table ≡ seat.old.table) × (seat.new.by ≡ seat.old.by) × (seat.new.turns ≡ seat.old.turns) }
-        ensures moved { Moved J.place J.steps (λ w. result ≡ w.delayed_flag) seat.old.knows seat.new.knows }
-    {
-        self.words.load_delayed_flag::<J>(&mut seat.seat)
-    }
-
-    /// Loads the old-map flag, and makes the steps there.
-    pub fn load_old_flag<J: Moves>(&self, seat: &mut Seat<D>) -> u64
-        requires seat { (seat.old.table ≡ self.now.table) × (J.place ≡ place_at self.now seat.old.by) }
-        requires may { MayMake J.place seat.old.knows J.steps }
-        requires client { (w : World) → KeepClient (J.steps w) }
-        ensures same { (seat.new.table ≡ seat.old.table) × (seat.new.by ≡ seat.old.by) × (seat.new.turns ≡ seat.old.turns) }
-        ensures moved { Moved J.place J.steps (λ w. result ≡ w.old_flag) seat.old.knows seat.new.knows }
-    {
-        self.words.load_old_flag::<J>(&mut seat.seat)
+        self.words.load::<J>(&mut seat.seat, word)
     }
 
     /// Publishes the first of the pending entries, which gets this number.

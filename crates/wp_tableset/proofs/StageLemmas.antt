@@ -1,17 +1,19 @@
 -- What the stages of an edit make of a set.
-use Rattle.std.proofs.Common.{◌≡◌, ℕ, ◌≤◌, ◌<◌, true, false, List, [], ◌∷◌, ◌++◌, length, Option, Some, None, refl, ap, ◌∙◌, le_refl, arith}
+use Rattle.std.proofs.Common.{◌≡◌, ℕ, ◌≤◌, sym, subst, ◌<◌, true, false, List, [], ◌∷◌, ◌++◌, length, Option, Some, None, refl, ap, ◌∙◌, le_refl, arith}
 use Rattle.std.specs.List.{list_all}
 use Rattle.wp_model.specs.declared.version.Version.{Version}
 use Rattle.wp_outside.specs.Disk.{Moment, IfKnown, added, after_write, after_sync}
 use Rattle.wp_outside.specs.Faults.{Rose}
+use Rattle.wp_gatelog.specs.Moments.{Leaves}
 use Rattle.wp_gatelog.proofs.MomentLemmas.{known_map}
-use Rattle.wp_manifest.specs.Edit.{Edit}
+use Rattle.wp_manifest.specs.Edit.{Edit, no_edit}
+use Rattle.wp_manifest.specs.Manifest.{StoresEdits}
 use Rattle.wp_manifest.specs.Room.{with_newest_at}
 use Rattle.wp_table.specs.Table.{is_flushed, is_numbered, written_bytes}
 use Rattle.wp_table.specs.Walk.{BuiltTable}
 use Rattle.wp_tableset.specs.Changes.{Asked, NotWritten, edit_for, new_places, parts_after, staying}
 use Rattle.wp_tableset.specs.Device.{IsEnd}
-use Rattle.wp_tableset.specs.Install.{IsReady, IsReadyEdit, IsWrittenEdit, MayInstall, built_of, unplaced}
+use Rattle.wp_tableset.specs.Install.{HasSome, IsReady, IsReadyEdit, IsWrittenEdit, MayInstall, built_of, unplaced}
 use Rattle.wp_tableset.specs.Set.{TableSetState, RestsWith}
 use Rattle.wp_tableset.specs.declared.gone.Gone.{Gone}
 use Rattle.wp_tableset.specs.declared.gone.Gone.TheVariants.{Frozen, Tables}
@@ -122,3 +124,21 @@ pub written_count : (old set : TableSetState) (edit : Edit) (built : Option Buil
 written_count old set edit built asked ready written =
     let count : length old.manifest.edit.tables ≤ old.manifest.edit.flushed = rw written.changed at ready.count in
     rw written.edit (asked_count old asked.gone asked.versions asked.flushed 0 written.place count written.may)
+
+-- the tables of the edit before, and of this one, are on the device
+module _ (old set : TableSetState) (edit : Edit) (built : Option BuiltTable) (asked : Asked) (log : ℕ) (written : IsWrittenEdit old set (record { edit = edit; built = built; asked = asked })) (edits : List Edit) (parts : List (List Version)) (stores : StoresTables old edits no_edit parts []) where
+  pub edits_there : StoresEdits set.manifest edits no_edit
+  edits_there = (written.stores edits parts stores).manifest
+
+  pub last_there : IfKnown set.moments (Leaves (HasSome set set.manifest.edit))
+  last_there = known_map (LeavesTables set.manifest.log.id set.manifest.edit parts) (Leaves (HasSome set set.manifest.edit)) (λ m leaves image at. (parts, leaves image at)) set.moments (written.stores edits parts stores).left
+
+  pub next_there : IfKnown set.moments (Leaves (HasSome set (record edit { place = Some log })))
+  next_there =
+      let next : Edit = edit_for old asked log written.place in
+      let is : next ≡ record edit { place = Some log } = ap (λ (e : Edit). record e { place = Some log }) (sym written.edit) in
+      let same : old.manifest.log.id ≡ set.manifest.log.id = ap (λ (s : TableSetState). s.manifest.log.id) (sym written.changed) in
+      let left = left_of old.manifest.log.id next (parts_after asked parts) set.moments (written.there log edits parts stores) in
+      subst (λ (e : Edit). IfKnown set.moments (Leaves (HasSome set e))) is
+      (known_map (LeavesTables set.manifest.log.id next (parts_after asked parts)) (Leaves (HasSome set next)) (λ m leaves image at. (parts_after asked parts, leaves image at)) set.moments
+      (subst (λ (n : ℕ). IfKnown set.moments (LeavesTables n next (parts_after asked parts))) same left))

@@ -3,9 +3,10 @@ use Rattle.std.specs.Prelude.{◌≡◌, ◌≤◌, ◌<◌, ℕ, Bool, true, fa
 use Rattle.std.specs.List.{list_all}
 use Rattle.wp_model.specs.declared.version.Version.{Version}
 use Rattle.wp_model.specs.Versions.{AreInOrder}
-use Rattle.wp_outside.specs.Disk.{IfKnown}
+use Rattle.wp_outside.specs.Disk.{IfKnown, Moment}
 use Rattle.wp_manifest.specs.Edit.{Edit, no_edit}
-use Rattle.wp_manifest.specs.Manifest.{ManifestState}
+use Rattle.wp_manifest.specs.Manifest.{ManifestState, NamesThere}
+use Rattle.wp_table.specs.File.{HasTables}
 use Rattle.wp_table.specs.Table.{SpellsTable, is_flushed, is_numbered, written_bytes}
 use Rattle.wp_table.specs.Walk.{BuiltTable}
 use Rattle.wp_tableset.specs.Changes.{Asked, NewestIsWritten, edit_for, new_places, parts_after}
@@ -60,3 +61,11 @@ pub record IsWrittenEdit (old set : TableSetState) (r : ReadyState) : Type 0 whe
   pub wrote : NewestIsWritten old.moments set.moments (new_places old.manifest.log.id r.asked.versions place)
   pub stores : (edits : List Edit) (parts : List (List Version)) → StoresTables old edits no_edit parts [] → StoresTables set edits no_edit parts []
   pub there : (log : ℕ) (edits : List Edit) (parts : List (List Version)) → StoresTables old edits no_edit parts [] → IfKnown set.moments (RestsWith old.manifest.log.id (edit_for old r.asked log place) (parts_after r.asked parts))
+
+-- the bytes have the edit's tables, of some versions
+abbrev pub HasSome : TableSetState → Edit → List ℕ → Type 0
+HasSome set edit bytes = (parts : List (List Version)) × HasTables set.manifest.log.id edit.flushed bytes edit.tables parts
+
+-- each image that the manifest's device has at the moment, with each that the tables' device has now, is of an edit and its tables
+abbrev pub NamesItsTables : TableSetState → Moment → Type 0
+NamesItsTables set = NamesThere (HasSome set) set.manifest.log.id set.moments

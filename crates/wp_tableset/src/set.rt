@@ -4,12 +4,12 @@ ghost use Rattle.std.specs.List.{list_all};
 ghost use Rattle.std.specs.Option.{option_map};
 ghost use Rattle.wp_model.specs.declared.version.Version.{Version};
 ghost use Rattle.wp_model.specs.Versions.{AreInOrder};
-ghost use Rattle.wp_outside.specs.Disk.{IfKnown};
+ghost use Rattle.wp_outside.specs.Disk.{IfKnown, Passes};
 ghost use Rattle.wp_manifest.specs.Edit.{Edit, no_edit, place_of};
 ghost use Rattle.wp_manifest.specs.Manifest.{StoresEdits};
 ghost use Rattle.wp_table.specs.Table.{SpellsTable, is_flushed, is_numbered, written_bytes};
 ghost use Rattle.wp_tableset.specs.Changes.{InstallsEdit, LosesNoTable, NotWritten, one_part, staying};
-ghost use Rattle.wp_tableset.specs.Install.{IsReadyEdit, IsWrittenEdit, MayInstall, built_of, unplaced};
+ghost use Rattle.wp_tableset.specs.Install.{IsReadyEdit, IsWrittenEdit, MayInstall, NamesItsTables, built_of, unplaced};
 ghost use Rattle.wp_tableset.specs.Set.{RestsWith, StoresTables, TableSetState};
 
 use crate::device::write_behind;
@@ -227,10 +227,14 @@ impl<D: Disk> TableSet<D> {
         requires running { self.old.halted ≡ false }
         requires written { (old : TableSetState) × IsWrittenEdit old self.old ready }
         ensures installs { InstallsEdit self.old self.new (record ready.edit { place = Some log_place }) result }
+
+        // Whatever a crash leaves of both devices at a moment of the call, the manifest's last edit has its tables.
+        ensures joint { (old : TableSetState) (edits : List Edit) (parts : List (List Version)) → IsWrittenEdit old self.old ready → StoresTables old edits no_edit parts []
+            → Passes (NamesItsTables self.old) self.old.manifest.log.moments self.new.manifest.log.moments }
         ensures keeps { LosesNoTable self.old self.new }
     {
         ready.room.set_log_place(log_place);
-        match self.manifest.install(ready.room) {
+        match self.manifest.install(ready.room, &self.tables) {
             Ok(()) => Ok(()),
             Err(AppendError::DiskFault) => {
                 self.halted = true;

@@ -3,7 +3,7 @@ use Rattle.std.proofs.Common.{◌≡◌, ◌≢◌, ◌⊎◌, inl, inr, ℕ, �
 use Rattle.std.specs.Prelude.{◌==◌, ◌&&◌, nat_le}
 use Rattle.std.specs.List.{list_any}
 use Rattle.std.specs.Str.{bytes_eq}
-use Rattle.std.proofs.lemmas.Bool.{eq-eqb, le-leb, leb-true}
+use Rattle.std.proofs.lemmas.Bool.{eq-eqb, le-leb, leb-true, or_left, or_right}
 use Rattle.std.proofs.lemmas.Slice.Eq.{bytes_eq-Decides}
 use mathlib.Core.Option.{some}
 use lib.ListN.{get_elem?}
@@ -23,7 +23,8 @@ use Rattle.wp_core.specs.Lists.{IsIn}
 use Rattle.wp_core.specs.Sound.Actors.{seen_of}
 use Rattle.wp_core.specs.Sound.Locks.{WasPrepared}
 use Rattle.wp_core.specs.Sound.Pasts.{HasDone, IsPast, MadeHolder, IsAccounted, raised_to, WasInstalled, WasBased, past_of}
-use Rattle.wp_core.specs.Views.{Account, own, another, prepare_at, Event, claimed, took, locked, told, heard, installed, renewed, log_failed, log_stopped, tables_failed, stopped, found_edit, found}
+use Rattle.wp_core.proofs.Frames.{at_map}
+use Rattle.wp_core.specs.Views.{Account, own, another, prepare_at, Event, claimed, took, locked, told, heard, installed, renewed, log_failed, tables_failed, stopped, found_edit, found}
 use Rattle.wp_core.specs.World.{Participant}
 use Rattle.wp_rule.proofs.Knows.{one_was_first}
 use Rattle.wp_shared.specs.Limits.{WasOpenedAt}
@@ -42,10 +43,10 @@ use Rattle.wp_client.specs.Agrees.{IsAnother, IsPrepares, KnowsHolder, Knows, Ag
 use Rattle.wp_threads.specs.Explained.{found_in, left_in, failed_in}
 use Rattle.wp_threads.specs.Over.{Answered, AreOver, replies_of}
 use Rattle.wp_threads.specs.SoFar.{IsFound}
-use Rattle.wp_model.proofs.Tests.{same_some}
+use Rattle.wp_model.proofs.Tests.{same_some, both}
 use Rattle.wp_threads.proofs.Coming.{comes_wider, comes_answered, renewal_answered, answers_any}
 use Rattle.wp_threads.proofs.Doings.{Did, did, took_name, wrote_key}
-use Rattle.wp_threads.proofs.Lists.{or_left, or_right, both_so, at_map, any_at, any_other, any_filter}
+use Rattle.wp_threads.proofs.Lists.{both_so, any_at, any_other, any_filter}
 
 -- what the store was opened to
 pub ended_found : {D : Type 0} {z : SharedState D} {seats : List SeatState} {history : List Entry} {left : DevicesLeft} (ended : IsEnded z seats history left) → IsFound z (found_in ended)
@@ -58,13 +59,9 @@ ended_found {z = z} ended = let o = ended.opened in record {
 -- a number that was told is at most each greater one
 tells_more : (label : List ℕ) (n m : ℕ) → n ≤ m → (t : session_txn.Txn) (c : Command) (a : Option Reply) → tells label n t c a ≡ true → tells label m t c a ≡ true
 tells_more label n m le t (command.Tell other) (Some (reply.Told k)) is =
-    let parts = both_true (bytes_eq other label) (nat_le k n) is in
+    let parts = both (bytes_eq other label) (nat_le k n) is in
     let low : k ≤ n = leb-true k n parts.1 in
     rw (parts.0, le-leb k m (omega (arith, low, le))) refl
-  where
-    both_true : (a b : Bool) → (a && b) ≡ true → (a ≡ true) × (b ≡ true)
-    both_true true b is = (refl, is)
-    both_true false b is = absurd cc
 tells_more label n m le t c a is = absurd cc
 
 module _ {D : Type 0} {z : SharedState D} {seats : List SeatState} {history : List Entry} {left : DevicesLeft} (ended : IsEnded z seats history left) (parts : List Part) (answered : List Answered) (over : AreOver z (found_in ended) parts answered seats) (before : List Dialogue) (mine : Dialogue) (after : List Dialogue)
@@ -190,13 +187,7 @@ module _ {D : Type 0} {z : SharedState D} {seats : List SeatState} {history : Li
       (λ is. let k = ended.installed.found_halted n base tables due (past_is (found_edit n base tables due true) (subst (λ (b : Bool). IsIn (found_edit n base tables due b) p.past) is there)) in (k.1, halted_said k.0)),
       (λ lt. other_compacted n base tables due halted there lt),
     )
-    knows (claimed name) there = tt
-    knows (took name) there = tt
-    knows (locked key holder) there = tt
-    knows (told label n) there = tt
-    knows (installed edit compacts) there = tt
-    knows (renewed edit) there = tt
-    knows log_stopped there = tt
+    knows _ there = tt
 
     pub agrees : Agrees evidence z p
     agrees = record {

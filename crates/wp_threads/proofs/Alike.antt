@@ -7,7 +7,7 @@ use Rattle.wp_text.specs.declared.script.Command.{Command}
 use Rattle.wp_text.specs.declared.script.Command.TheVariants as command
 use Rattle.wp_text.specs.declared.reply.Reply.{Reply}
 use Rattle.wp_text.specs.declared.reply.Reply.TheVariants as reply
-use Rattle.wp_core.specs.Views.{Event, claimed, took, locked, told, heard, installed, log_failed, tables_failed, stopped, found_edit, found, renewed, log_stopped}
+use Rattle.wp_core.specs.Views.{Event, claimed, took, locked, told, installed, renewed, log_stopped}
 use Rattle.wp_replies.specs.declared.client.Txn.{Txn}
 use Rattle.wp_replies.specs.declared.client.Txn.TheVariants.{Idle, Open, Prepared}
 use Rattle.wp_replies.specs.After.{with_staged, after_reply}
@@ -37,8 +37,6 @@ pub after_alike : (n m : ℕ) (t u : Client) (c : Command) (r : Reply) → IsAli
 after_alike n m t u (command.Put key value) reply.Held alike = staged_alike (change.Put key value) t.txn u.txn alike
 after_alike n m t u (command.Del key) reply.Held alike = staged_alike (change.Del key) t.txn u.txn alike
 after_alike n m t u c reply.Held alike = alike
-after_alike n m t u c (reply.Snapped k) alike = alike
-after_alike n m t u c reply.Freed alike = alike
 after_alike n m t u (command.Begin name) reply.Begun alike = refl
 after_alike n m t u c reply.Begun alike = alike
 after_alike n m t u (command.Take name) reply.Took alike = tt
@@ -73,12 +71,7 @@ explained_same name c a (installed edit false) p q is = is
 explained_same name c a (installed edit true) p q is = is
 explained_same name c a (renewed edit) p q is = is
 explained_same name c a log_stopped p q is = is
-explained_same name c a (heard label n) p q is = tt
-explained_same name c a (log_failed entries) p q is = tt
-explained_same name c a (tables_failed last edit) p q is = tt
-explained_same name c a (stopped n) p q is = tt
-explained_same name c a (found_edit flushed base tables due halted) p q is = tt
-explained_same name c a (found key h seen account) p q is = tt
+explained_same name c a _ p q is = tt
 
 -- so what one of them explains, the other does
 pub explained_alike : (name : List ℕ) (c : Command) (a : Option Reply) (event : Event) (t u : Txn) → IsAlike t u → IsExplained name u c a event → IsExplained name t c a event

@@ -2,7 +2,7 @@
 use Rattle.std.proofs.Common.{◌≡◌, inl, inr, ℕ, Bool, true, true≢false, List, [], ◌∷◌, Option, Some, None, sym, ap, ◌∙◌}
 use Rattle.std.specs.Prelude.{◌||◌, ◌&&◌}
 use Rattle.std.specs.List.{list_any}
-use Rattle.std.proofs.lemmas.Bool.{or_cases}
+use Rattle.std.proofs.lemmas.Bool.{or_cases, or_left, or_right}
 use Rattle.std.proofs.lemmas.List.Concat.{flat_map-cons}
 use Rattle.std.proofs.lemmas.List.Folds.{list_any-append}
 use Rattle.wp_text.specs.declared.script.Command.{Command}
@@ -14,7 +14,7 @@ use Rattle.wp_replies.specs.After.{after_reply}
 use Rattle.wp_replies.specs.Kind.{is_based, is_flushed}
 use Rattle.wp_replies.specs.Known.{Dialogue, answers_in, comes_to}
 use Rattle.wp_client.specs.Answers.{is_answer}
-use Rattle.wp_threads.proofs.Lists.{or_left, or_right, any_wider}
+use Rattle.wp_threads.proofs.Lists.{any_wider}
 
 -- in such a state, to such a command, with such a reply or none
 abbrev pub Such : Type 0

@@ -24,12 +24,13 @@ use Rattle.wp_replies.specs.Kind.{is_fault, is_stopped, is_halted}
 use Rattle.wp_replies.specs.Kind as kinds
 use Rattle.wp_replies.specs.Known.{StoredState, Dialogue, answers_in, is_stop, has_stop}
 use Rattle.wp_client.specs.Alone.{limits_of}
+use Rattle.wp_client.proofs.Alone.Published.{since}
 use Rattle.wp_client.specs.Answers.{IsRemembered}
 use Rattle.wp_client.specs.Holdings.{no_holdings, Holds}
 use Rattle.wp_threads.specs.Explained.{is_log_stop, found_in, left_in, failed_in, faults_in, AreWholeParts, HaveRun}
 use Rattle.wp_threads.specs.Over.{Answered, AreOver, replies_of}
 use Rattle.wp_threads.proofs.Agreeing.{agrees}
-use Rattle.wp_threads.proofs.Counted.{once_after, none_or_some, same_replies, weighed, acknowledged_as_owned, published_within, remembers}
+use Rattle.wp_threads.proofs.Counted.{none_or_some, same_replies, weighed, acknowledged_as_owned, published_within, remembers}
 use Rattle.wp_threads.proofs.Exact.{exact}
 use Rattle.wp_threads.proofs.LastEdit.{last_edit}
 use Rattle.wp_threads.proofs.Lists.{count_any, counted_in}
@@ -184,7 +185,7 @@ module _ {D : Type 0} {z : SharedState D} {seats : List SeatState} {history : Li
     begins = ended.grown;
     answered = sessions [] parts answered seats over refl (λ i j p same there. subst (λ (k : ℕ). get_elem? (map participant_of seats) k ≡ some p) (let e : i ≡ j = omega (arith, same) in e) there);
     paired = λ n low high.
-        let each = acknowledged_as_owned z (found_in ended) n parts answered seats over in let owned = ended.owned n in let once = once_after z.opened history n low high in omega (arith, each, owned, once);
+        let each = acknowledged_as_owned z (found_in ended) n parts answered seats over in let owned = ended.owned n in let once = since z.opened history n low high in omega (arith, each, owned, once);
     log_failed = log_counted;
     log_stopped = stops_counted ∙ sym both_close;
     stopped = λ said.
@@ -212,7 +213,7 @@ module _ {D : Type 0} {z : SharedState D} {seats : List SeatState} {history : Li
       let there : IsPast (of_seats past_of seats) (log_failed e.0) = subst (IsPast (of_seats past_of seats)) e.1 (past_there k) in ((ended.faults.failed e.0 there).0, ended.faults.of_log e.0 there)
 
   new_within : (n : ℕ) → length z.opened < n → n ≤ length history → n ≤ z.limit
-  new_within n low high = let owned = ended.owned n in let once = once_after z.opened history n low high in published_within z (found_in ended) n parts answered seats over (omega (arith, owned, once))
+  new_within n low high = let owned = ended.owned n in let once = since z.opened history n low high in published_within z (found_in ended) n parts answered seats over (omega (arith, owned, once))
 
   -- the sessions of a script, all of whose seats were handed in
   pub have_run : AreAll seats → HaveRun z parts answered history left

@@ -1,18 +1,16 @@
 -- The replies of all clients, counted over the seats.
-use Rattle.std.proofs.Common.{◌≡◌, ◌⊎◌, inl, inr, ℕ, zero, suc, ◌+◌, ◌≤◌, ◌<◌, Bool, true, List, [], ◌∷◌, ◌++◌, length, map, refl, sym, subst, ap, ◌∙◌, arith}
+use Rattle.std.proofs.Common.{◌≡◌, ◌⊎◌, inl, inr, ℕ, zero, suc, ◌+◌, ◌≤◌, Bool, true, List, [], ◌∷◌, ◌++◌, map, refl, sym, subst, ap, ◌∙◌, arith}
 use Rattle.std.specs.Prelude.{◌==◌, ◌||◌, count_by}
 use Rattle.std.specs.List.{flat_map, list_any}
 use Rattle.std.proofs.lemmas.Bool.{or_cases, eqb-true}
-use Rattle.std.proofs.lemmas.Bool.Decides.{nat_tests}
 use Rattle.std.proofs.lemmas.List.Concat.{flat_map-cons, flat_map-append}
 use Rattle.std.proofs.lemmas.List.Folds.{list_any-append}
 use mathlib.Core.Option.{some}
 use lib.ListN.{get_elem?}
-use Rattle.wp_model.specs.declared.entry.Entry.{Entry}
 use Rattle.wp_text.specs.declared.script.Part.{Part}
 use Rattle.wp_text.specs.declared.reply.Reply.{Reply}
 use Rattle.wp_core.specs.Lists.{one_if, total}
-use Rattle.wp_core.specs.Sound.Actors.{times, once, own_of}
+use Rattle.wp_core.specs.Sound.Actors.{times, own_of}
 use Rattle.wp_core.specs.Sound.Pasts.{past_of}
 use Rattle.wp_core.specs.Views.{Event}
 use Rattle.wp_shared.specs.Seats.{SharedState, SeatState, participant_of}
@@ -22,9 +20,6 @@ use Rattle.wp_replies.specs.Known.{StoredState, Dialogue, answers_in}
 use Rattle.wp_client.specs.Answers.{IsRemembered}
 use Rattle.wp_threads.specs.Over.{Answered, IsOver, AreOver, replies_of}
 use Rattle.wp_threads.proofs.Lists.{count_append, count_times, any_in, counted_in}
-
-pub once_after : (opened history : List Entry) (n : ℕ) → length opened < n → n ≤ length history → once opened history n ≡ 1
-once_after opened history n low high = grind (arith, nat_tests)
 
 pub none_or_some : (n : ℕ) → (n ≡ 0) ⊎ (1 ≤ n)
 none_or_some zero = inl refl

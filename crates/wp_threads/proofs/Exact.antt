@@ -29,7 +29,7 @@ use Rattle.wp_client.specs.Alone.{limits_of, IsOnly}
 use Rattle.wp_threads.specs.Explained.{found_in, left_in, failed_in}
 use Rattle.wp_threads.specs.Over.{Answered, EndsAlone, IsOver}
 use Rattle.wp_threads.proofs.Alone.{runs_grow, asks_any}
-use Rattle.wp_threads.proofs.Counted.{once_after}
+use Rattle.wp_client.proofs.Alone.Published.{since}
 use Rattle.wp_threads.proofs.Lists.{any_in, count_any, counted_in}
 
 no_longer : (history front rest : List Entry) → history ≡ front ++ rest → length history ≤ length front → history ≡ front
@@ -73,7 +73,7 @@ module _ {D : Type 0} {z : SharedState D} {s : SeatState} {history : List Entry}
   no_more : length alone.store.history < length history → ⊥
   no_more lt =
       let owned = ended.owned (length history) in
-      let once = once_after z.opened history (length history) (let low = from_opened in omega (arith, low, lt)) (omega arith) in
+      let once = since z.opened history (length history) (let low = from_opened in omega (arith, low, lt)) (omega arith) in
       let low = own_low (length history) (omega (arith, owned, once)) in omega (arith, low, lt)
 
   same_history : history ≡ alone.store.history

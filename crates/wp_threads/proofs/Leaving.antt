@@ -28,7 +28,8 @@ use Rattle.wp_threads.specs.Over.{Answered, BreaksOffBefore, EndsAlone, IsOver}
 use Rattle.wp_threads.proofs.Alike.{explained_alike, if_some_map}
 use Rattle.wp_threads.proofs.Coming.{Such}
 use Rattle.wp_threads.proofs.LastEdit.{none_installed}
-use Rattle.wp_threads.proofs.Onward.{in_parts, total_append, only_before, remembered_wider}
+use Rattle.wp_client.proofs.Alone.Published.{in_both, total_both}
+use Rattle.wp_threads.proofs.Onward.{only_before, remembered_wider}
 
 -- ---- how it ends
 
@@ -87,7 +88,7 @@ last_still first (e ∷ past) events none = last_still (last_after first e) past
 module _ {D : Type 0} (z : SharedState D) (found : StoredState) (part : Part) (answered : Answered) (done rest : List Command) (s u : SeatState) (h : HoldingsState) (g : IsSessionSoFar z found part.client done answered.replies s h) (ends : BreaksOffBefore s u (client_of h).txn rest) where
   counted_still : (test : Event → Bool) → total (λ e. one_if (test e)) ends.events ≡ 0 → total (λ e. one_if (test e)) s.knows.participant.past ≡ total (λ e. one_if (test e)) u.knows.participant.past
   counted_still test none =
-      let all = total_append (λ (e : Event). one_if (test e)) s.knows.participant.past ends.events in
+      let all = total_both (λ (e : Event). one_if (test e)) s.knows.participant.past ends.events in
       let same : total (λ e. one_if (test e)) u.knows.participant.past ≡ total (λ e. one_if (test e)) (s.knows.participant.past ++ ends.events) = ap (total (λ (e : Event). one_if (test e))) ends.past in omega (arith, all, same, none)
 
   explained_rest : part.commands ≡ done ++ rest → (event : Event) → IsIn event u.knows.participant.past → IfSome (explaining part.client event) (λ is_such. comes_to is_such new_client part.commands answered.replies ≡ true)
@@ -103,7 +104,7 @@ module _ {D : Type 0} (z : SharedState D) (found : StoredState) (part : Part) (a
       (λ (is_such : Such). comes_to is_such new_client part.commands answered.replies ≡ true)
       (λ is_such is. in_all is_such (subst (λ (cs : List Command). comes_to is_such new_client (done ++ cs) (answered.replies ++ []) ≡ true) (sym e.2) (g.explained.goes_on is_such (e.0 ∷ e.1) [] is)))
       (explained_alike part.client e.0 None event g.explained.alike.txn (client_of h).txn g.explained.is_alike (subst (λ (n : List ℕ). IsExplained n (client_of h).txn e.0 None event) g.client e.3)))
-      (in_parts event s.knows.participant.past ends.events (subst (IsIn event) ends.past there))
+      (in_both event s.knows.participant.past ends.events (subst (IsIn event) ends.past there))
     where
       in_all : (is_such : Such) → comes_to is_such new_client (done ++ rest) (answered.replies ++ []) ≡ true → comes_to is_such new_client part.commands answered.replies ≡ true
       in_all is_such is = subst (λ (x : List Command × List _). comes_to is_such new_client x.0 x.1 ≡ true) (λ i. (sym commands i, append-nil answered.replies i)) is
@@ -126,11 +127,11 @@ module _ {D : Type 0} (z : SharedState D) (found : StoredState) (part : Part) (a
     installed = ran.store_is.installed ∙ (sym (last_still found.edit s.knows.participant.past ends.events installs_none) ∙ ap (last_installed found.edit) (sym ends.past));
     halted = ran.store_is.halted ∙ counted_still is_tables_fault ends.tables_failed;
     asked = λ entries there. ⊎_elim (ran.asked entries) (λ (k : IsIn (log_failed entries) ends.events). absurd (not_counted closes_log ends.events (log_failed entries) ends.log_stopped k refl))
-        (in_parts (log_failed entries) s.knows.participant.past ends.events (subst (IsIn (log_failed entries)) ends.past there));
+        (in_both (log_failed entries) s.knows.participant.past ends.events (subst (IsIn (log_failed entries)) ends.past there));
     asked_none = λ there. ⊎_elim ran.asked_none (λ (k : IsIn log_stopped ends.events). absurd (not_counted closes_log ends.events log_stopped ends.log_stopped k refl))
-        (in_parts log_stopped s.knows.participant.past ends.events (subst (IsIn log_stopped) ends.past there));
+        (in_both log_stopped s.knows.participant.past ends.events (subst (IsIn log_stopped) ends.past there));
     asked_edit = λ last edit there. ⊎_elim (ran.asked_edit last edit) (λ (k : IsIn (tables_failed last (Some edit)) ends.events). absurd (not_counted is_tables_fault ends.events (tables_failed last (Some edit)) ends.tables_failed k refl))
-        (in_parts (tables_failed last (Some edit)) s.knows.participant.past ends.events (subst (IsIn (tables_failed last (Some edit))) ends.past there));
+        (in_both (tables_failed last (Some edit)) s.knows.participant.past ends.events (subst (IsIn (tables_failed last (Some edit))) ends.past there));
   }
 
   pub over : Holds z u no_holdings → part.commands ≡ done ++ rest → (answered.whole ≡ true → rest ≡ []) → IsOver z found part answered u

@@ -1,5 +1,6 @@
 -- A session with one reply more.
 use Rattle.std.proofs.Common.{◌≡◌, ◌⊎◌, ⊎_elim, inl, inr, ℕ, ◌+◌, Bool, true, cond, List, [], ◌∷◌, ◌++◌, length, length-append, Some, refl, sym, subst, ap, ◌∙◌, append_assoc, arith}
+use Rattle.std.proofs.lemmas.Bool.{or_left, or_right}
 use Rattle.std.specs.Prelude.{count_by}
 use Rattle.std.specs.List.{flat_map}
 use Rattle.std.proofs.lemmas.List.Concat.{flat_map-cons, flat_map-append}
@@ -32,16 +33,8 @@ use Rattle.wp_threads.specs.SoFar.{IsFound, IsAlike, IsSessionTo, IsExplainedTo,
 use Rattle.wp_threads.proofs.Alike.{after_alike, explained_alike, if_some_map}
 use Rattle.wp_threads.proofs.Alone.{runs_more, asks_front, asks_last}
 use Rattle.wp_threads.proofs.Coming.{Such}
-use Rattle.wp_threads.proofs.Lists.{or_left, or_right, count_append}
-
-pub in_parts : {X : Type 0} (x : X) (xs ys : List X) → IsIn x (xs ++ ys) → IsIn x xs ⊎ IsIn x ys
-in_parts x [] ys there = inr there
-in_parts x (y ∷ xs) ys (inl same) = inl (inl same)
-in_parts x (y ∷ xs) ys (inr there) = ⊎_elim (λ (k : IsIn x xs). inl (inr k)) (λ (k : IsIn x ys). inr k) (in_parts x xs ys there)
-
-pub total_append : {X : Type 0} (f : X → ℕ) (xs ys : List X) → total f (xs ++ ys) ≡ total f xs + total f ys
-total_append f [] ys = omega arith
-total_append f (x ∷ xs) ys = let more = total_append f xs ys in omega (arith, more)
+use Rattle.wp_client.proofs.Alone.Published.{in_both, total_both}
+use Rattle.wp_threads.proofs.Lists.{count_append}
 
 -- who was alone is so still
 pub only_before : (s t : SeatState) → Stays s t → IsOnly t → IsOnly s
@@ -63,7 +56,7 @@ count_one p r = let whole : count_by p (r ∷ []) ≡ cond (p r) 1 0 + count_by 
 pub counted_more : {X : Type 0} (p : X → Bool) (test : Event → Bool) (answers : List X) (past events after : List Event) (r : X) → after ≡ past ++ events → count_by p answers ≡ total (λ e. one_if (test e)) past → total (λ e. one_if (test e)) events ≡ one_if (p r)
     → count_by p (answers ++ r ∷ []) ≡ total (λ e. one_if (test e)) after
 counted_more p test answers past events after r is before now =
-    let sum = count_append p answers (r ∷ []) in let one = count_one p r in let all = total_append (λ (e : Event). one_if (test e)) past events in
+    let sum = count_append p answers (r ∷ []) in let one = count_one p r in let all = total_both (λ (e : Event). one_if (test e)) past events in
     sum ∙ (ap (λ (n : ℕ). n + count_by p (r ∷ [])) before ∙ (ap (λ (n : ℕ). total (λ e. one_if (test e)) past + n) (one ∙ sym now) ∙ (sym all ∙ ap (total (λ (e : Event). one_if (test e))) (sym is))))
 
 -- one command more with its reply
@@ -111,7 +104,7 @@ module _ {D : Type 0} (z : SharedState D) (found : StoredState) (is_found : IsFo
         (λ (is_such : Such). (commands : List Command) (others : List Reply) → comes_to is_such new_client ((done ++ c ∷ []) ++ commands) ((answers ++ r ∷ []) ++ others) ≡ true)
         (λ is_such is commands others. on is_such commands others (or_left (is_such so.alike.txn c (Some r)) (comes_to is_such (after_reply 0 so.alike c r) commands others) is))
         (explained_alike name c (Some r) event so.alike.txn was.txn so.is_alike (subst (λ (n : List ℕ). IsExplained n was.txn c (Some r) event) client (a.explained event k))))
-        (in_parts event before.past a.events (subst (IsIn event) a.past there));
+        (in_both event before.past a.events (subst (IsIn event) a.past there));
   }
     where
       on : (is_such : Such) (commands : List Command) (others : List Reply) → comes_to is_such so.alike (c ∷ commands) (r ∷ others) ≡ true → comes_to is_such new_client ((done ++ c ∷ []) ++ commands) ((answers ++ r ∷ []) ++ others) ≡ true
@@ -127,15 +120,15 @@ module _ {D : Type 0} (z : SharedState D) (found : StoredState) (is_found : IsFo
     asked = λ entries there. ⊎_elim
         (λ (k : IsIn (log_failed entries) before.past). asks_front stops_log (AsksLog entries) ran.places (did.place ∷ []) (opened_store (limits_of z) found) new_client done (c ∷ []) answers (r ∷ []) (ran.asked entries k))
         (λ (k : IsIn (log_failed entries) did.events). let b = did.asked entries k in asks_last stops_log (AsksLog entries) did.place ran.places (opened_store (limits_of z) found) new_client done answers ran.store was c r ran.ran b.0 b.1)
-        (in_parts (log_failed entries) before.past did.events (subst (IsIn (log_failed entries)) did.past there));
+        (in_both (log_failed entries) before.past did.events (subst (IsIn (log_failed entries)) did.past there));
     asked_none = λ there. ⊎_elim
         (λ (k : IsIn log_stopped before.past). asks_front stops_log (AsksLog []) ran.places (did.place ∷ []) (opened_store (limits_of z) found) new_client done (c ∷ []) answers (r ∷ []) (ran.asked_none k))
         (λ (k : IsIn log_stopped did.events). let b = did.asked_none k in asks_last stops_log (AsksLog []) did.place ran.places (opened_store (limits_of z) found) new_client done answers ran.store was c r ran.ran b.0 b.1)
-        (in_parts log_stopped before.past did.events (subst (IsIn log_stopped) did.past there));
+        (in_both log_stopped before.past did.events (subst (IsIn log_stopped) did.past there));
     asked_edit = λ last edit there. ⊎_elim
         (λ (k : IsIn (tables_failed last (Some edit)) before.past). asks_front (λ command answer. kinds.is_tables_fault answer) (AsksTables edit) ran.places (did.place ∷ []) (opened_store (limits_of z) found) new_client done (c ∷ []) answers (r ∷ []) (ran.asked_edit last edit k))
         (λ (k : IsIn (tables_failed last (Some edit)) did.events). let b = did.asked_edit last edit k in asks_last (λ command answer. kinds.is_tables_fault answer) (AsksTables edit) did.place ran.places (opened_store (limits_of z) found) new_client done answers ran.store was c r ran.ran b.0 b.1)
-        (in_parts (tables_failed last (Some edit)) before.past did.events (subst (IsIn (tables_failed last (Some edit))) did.past there));
+        (in_both (tables_failed last (Some edit)) before.past did.events (subst (IsIn (tables_failed last (Some edit))) did.past there));
   }
 
 -- one more reply keeps what goes
@@ -147,7 +140,7 @@ goes_more z found is_found name done answers c r s t h k g a holds alone = recor
   client = a.stays.client ∙ g.client;
   each = let replies = length-append answers (r ∷ []) in let commands = length-append done (c ∷ []) in let same = g.each in omega (arith, replies, commands, same);
   own = a.own ∙ (ap (λ (ns : List ℕ). ns ++ acknowledged r) g.own ∙ sym (flat_map-append acknowledged answers (r ∷ []) ∙ ap (λ (ns : List ℕ). flat_map acknowledged answers ++ ns) (flat_map-cons acknowledged r [] ∙ append-nil (acknowledged r))));
-  within = λ n there. ⊎_elim (g.within n) (a.within n) (in_parts n s.knows.participant.own (acknowledged r) (subst (IsIn n) a.own there));
+  within = λ n there. ⊎_elim (g.within n) (a.within n) (in_both n s.knows.participant.own (acknowledged r) (subst (IsIn n) a.own there));
   session = session_more z found is_found name done answers c r s t (client_of h) (client_of k) a g.session;
   explained = explained_more z found is_found name done answers c r s t (client_of h) (client_of k) a g.client g.explained;
   log_failed = counted_more is_fault is_log_fault answers s.knows.participant.past a.events t.knows.participant.past r a.past g.log_failed a.log_failed;
@@ -156,7 +149,7 @@ goes_more z found is_found name done answers c r s t h k g a holds alone = recor
   remembered = λ answer there. ⊎_elim
       (λ (i : IsIn answer answers). remembered_wider s.knows.participant.past t.knows.participant.past answer (λ e x. subst (IsIn e) (sym a.past) (in_front e s.knows.participant.past a.events x)) (g.remembered answer i))
       (λ (i : IsIn answer (r ∷ [])). of_the_last answer i)
-      (in_parts answer answers (r ∷ []) there);
+      (in_both answer answers (r ∷ []) there);
   alone = λ only. let ran = g.alone (only_before s t a.stays only) in alone_more z found is_found name done answers c r s t (client_of h) (client_of k) a ran (alone (only_before s t a.stays only) ran.store ran.store_is);
 }
   where

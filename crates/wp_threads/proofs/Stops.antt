@@ -2,7 +2,7 @@
 use Rattle.std.proofs.Common.{◌≡◌, inl, inr, ℕ, ◌+◌, Bool, true, true≢false, List, [], ◌∷◌, ◌++◌, map, refl, sym, ap, ◌∙◌}
 use Rattle.std.specs.Prelude.{count_by}
 use Rattle.std.specs.List.{list_any}
-use Rattle.std.proofs.lemmas.Bool.{or_cases}
+use Rattle.std.proofs.lemmas.Bool.{or_cases, or_left, or_right}
 use Rattle.std.proofs.lemmas.List.Folds.{list_any-append}
 use Rattle.wp_text.specs.declared.script.Command.{Command}
 use Rattle.wp_text.specs.declared.script.Part.{Part}
@@ -14,7 +14,7 @@ use Rattle.wp_shared.specs.Seats.{participant_of, SharedState, SeatState}
 use Rattle.wp_replies.specs.Explains.{dialogue, dialogues, all_exchanges}
 use Rattle.wp_replies.specs.Known.{StoredState, exchanges, is_stop, has_stop}
 use Rattle.wp_threads.specs.Over.{Answered, AreOver, replies_of}
-use Rattle.wp_threads.proofs.Lists.{or_left, or_right, count_append}
+use Rattle.wp_threads.proofs.Lists.{count_append}
 
 abbrev pub firsts : {D : Type 0} (z : SharedState D) (found : StoredState) (parts : List Part) (answered : List Answered) (seats : List SeatState) → AreOver z found parts answered seats → List Part
 firsts z found (p ∷ parts) (a ∷ answered) (s ∷ seats) over = record { client = p.client; commands = over.0.done } ∷ firsts z found parts answered seats over.1

@@ -19,7 +19,7 @@ use Rattle.wp_threads.specs.Explained.{found_in, left_in, failed_in, faults_in, 
 use Rattle.wp_seats.specs.New.{first_seat}
 use Rattle.wp_threads.specs.Over.{Answered}
 use Rattle.wp_threads.proofs.Begun.{holds_new}
-use Rattle.wp_threads.proofs.Counted.{once_after}
+use Rattle.wp_client.proofs.Alone.Published.{since}
 
 abbrev one_past : List (List (List Event))
 one_past = ([] ∷ []) ∷ []
@@ -45,7 +45,7 @@ module _ {D : Type 0} {z : SharedState D} (client : List ℕ) {history : List En
   none_published n = ended.owned n
 
   none_new : (n : ℕ) → length z.opened < n → n ≤ length history → ⊥
-  none_new n low high = let none = none_published n in let one = once_after z.opened history n low high in omega (arith, none, one)
+  none_new n low high = let none = none_published n in let one = since z.opened history n low high in omega (arith, none, one)
 
   explains_none : Explains (limits_of z) (faults_in ended) [] [] (found_in ended) (left_in ended) (failed_in ended) []
   explains_none = record {

@@ -88,22 +88,7 @@ free_ends history words key (prior_values other p batch) e = refl
 free_ends history words key (unprepared other) e = refl
 free_ends history words key (live_listed floor listed) e = refl
 free_ends history words key (has_left p) e = refl
-free_ends history words key (passed place pair) e = let n = e.0 in absurd cc
-free_ends history words key (in_old_commits place pair) e = let n = e.0 in absurd cc
-free_ends history words key (apart place pair) e = let n = e.0 in absurd cc
-free_ends history words key (words_stay max cache) e = let n = e.0 in absurd cc
-free_ends history words key versions_in_memory e = let n = e.0 in absurd cc
-free_ends history words key versions_nowhere e = let n = e.0 in absurd cc
-free_ends history words key number_in_heap e = let n = e.0 in absurd cc
-free_ends history words key number_not_in_heap e = let n = e.0 in absurd cc
-free_ends history words key pair_delayed e = let n = e.0 in absurd cc
-free_ends history words key pair_not_delayed e = let n = e.0 in absurd cc
-free_ends history words key none_waits e = let n = e.0 in absurd cc
-free_ends history words key (tables_stay versions floor) e = let n = e.0 in absurd cc
-free_ends history words key nothing_flushed e = let n = e.0 in absurd cc
-free_ends history words key (frozen_stay n versions) e = let m = e.0 in absurd cc
-free_ends history words key (delayed_flag_stays value) e = let n = e.0 in absurd cc
-free_ends history words key (old_flag_stays value) e = let n = e.0 in absurd cc
+free_ends history words key other e = let n = e.0 in absurd cc
 
 pub direct_freed : (p : Place) (so : World → Type 0) (s new : SeatState) (same : (new.table ≡ s.table) × (new.by ≡ s.by) × (new.turns ≡ s.turns)) (t : LockState) (key : List ℕ) → IsIn (locks t) s.knows.held
     → Moved p (λ w. free_direct key ∷ []) so s.knows new.knows → IsWithoutDirect s new (without_key t key)

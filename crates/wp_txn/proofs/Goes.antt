@@ -85,25 +85,12 @@ module _ {D : Type 0} (First : Fact → Type 0) (z : SharedState D) (old mid lef
         subst (λ (n : ℕ). n + needed ≤ limit_at z c.0.world.installed.last.segment.base) same_length c.1,
         (c.2.0, wider c.2.0 c.2.1 legal, more (log_failed c.2.0 ∷ []) c.2.2, legal, c.2.4),
       )
-  refused_within Asks More wider (Taken name) c = c
-  refused_within Asks More wider (Busy holder) c = c
-  refused_within Asks More wider TooMany c = c
-  refused_within Asks More wider Silent c = c
-  refused_within Asks More wider (Unknown name at) c = c
-  refused_within Asks More wider (InUse name) c = c
+  refused_within Asks More wider other c = c
 
 -- what is refused whatever is asked for
 pub refused_for : {D : Type 0} (z : SharedState D) (old new : SeatState) (needed : ℕ) (Asks : List Entry → Type 0) (found after : Participant) (why : TxnError) → Refuses z old new needed (λ asked. ⊥) found after why → Refuses z old new needed Asks found after why
-refused_for z old new needed Asks found after Memory c = c
-refused_for z old new needed Asks found after (Stopped n) c = c
-refused_for z old new needed Asks found after (NumbersFull published limit) c = c
 refused_for z old new needed Asks found after LogFault c = absurd c.2.1
-refused_for z old new needed Asks found after (Taken name) c = c
-refused_for z old new needed Asks found after (Busy holder) c = c
-refused_for z old new needed Asks found after TooMany c = c
-refused_for z old new needed Asks found after Silent c = c
-refused_for z old new needed Asks found after (Unknown name at) c = c
-refused_for z old new needed Asks found after (InUse name) c = c
+refused_for z old new needed Asks found after other c = c
 
 -- ---- a refusal leaves transactions as they were
 
@@ -112,21 +99,11 @@ refused_still z old new needed Asks Memory c = still z old new old.knows.partici
 refused_still z old new needed Asks (Stopped n) c = still z old new (with_events (stopped n ∷ []) old.knows.participant) refl refl c.2
 refused_still z old new needed Asks (NumbersFull published limit) c = still z old new old.knows.participant refl refl c.4
 refused_still z old new needed Asks LogFault c = still z old new (failing c.2.0 old.knows.participant) refl refl c.2.2
-refused_still z old new needed Asks (Taken name) c = absurd c
-refused_still z old new needed Asks (Busy holder) c = absurd c
-refused_still z old new needed Asks TooMany c = absurd c
-refused_still z old new needed Asks Silent c = absurd c
-refused_still z old new needed Asks (Unknown name at) c = absurd c
-refused_still z old new needed Asks (InUse name) c = absurd c
+refused_still z old new needed Asks other c = absurd c
 
 pub refused_free : {D : Type 0} (z : SharedState D) (old new : SeatState) (needed : ℕ) (Asks : List Entry → Type 0) (why : TxnError) → Refuses z old new needed Asks old.knows.participant old.knows.participant why → IsFree z.table new
 refused_free z old new needed Asks Memory c = c.free
 refused_free z old new needed Asks (Stopped n) c = c.2.free
 refused_free z old new needed Asks (NumbersFull published limit) c = c.4.free
 refused_free z old new needed Asks LogFault c = c.2.2.free
-refused_free z old new needed Asks (Taken name) c = absurd c
-refused_free z old new needed Asks (Busy holder) c = absurd c
-refused_free z old new needed Asks TooMany c = absurd c
-refused_free z old new needed Asks Silent c = absurd c
-refused_free z old new needed Asks (Unknown name at) c = absurd c
-refused_free z old new needed Asks (InUse name) c = absurd c
+refused_free z old new needed Asks other c = absurd c

@@ -14,10 +14,7 @@ use Rattle.wp_history_laws.proofs.Named.{none_named}
 -- a Prepare that comes next has a name that no undecided one has
 new_name : (history : List Entry) (entry : Entry) → IsLegalNext history entry → is_prepare (Some entry) ≡ true → named history (prepared_name (Some entry)) ≡ None
 new_name history (Prepare name batch) next is = next.orderly.keys_are_free.1
-new_name history (Write batch) next is = absurd (true≢false (sym is))
-new_name history (Commit p) next is = absurd (true≢false (sym is))
-new_name history (Undo p batch) next is = absurd (true≢false (sym is))
-new_name history (Close p) next is = absurd (true≢false (sym is))
+new_name history other next is = absurd (true≢false (sym is))
 
 -- undecided prepares of the same name are one
 abbrev HaveNames : List Entry → Type 0

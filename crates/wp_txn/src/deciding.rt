@@ -32,8 +32,7 @@ pub(crate) fn end<D: Disk + Drop, R: Wait>(
     requires free { IsFree store.now.table seat.old }
     requires has { HasLocked seat.old (without_number txn) }
     requires noted { IsIn (unprepared txn.name) seat.old.knows.notes }
-    requires decided { decision_of (seen_by seat.old) txn.number ≡ Some decision }
-    requires order { (txn.number ≤ decision) × (decision < seq_end) }
+    requires decided { (decision_of (seen_by seat.old) txn.number ≡ Some decision) × (txn.number ≤ decision) × (decision < seq_end) }
     ensures frees { Frees store.now seat.old seat.new txn.name }
     ensures gone { words.fits store.now.cells (record { number = txn.number; decision = decision }) ≡ true → IsIn (has_left txn.number) seat.new.knows.notes }
 {

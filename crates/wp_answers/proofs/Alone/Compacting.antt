@@ -32,7 +32,8 @@ use Rattle.wp_replies.specs.Due.{Store, compacted}
 use Rattle.wp_replies.specs.Kind.{is_installed}
 use Rattle.wp_replies.specs.Tables.{listed, retained, after_compaction}
 use Rattle.wp_client.specs.Alone.{IsOnly, IsStoreOf, AnswersAlone}
-use Rattle.wp_client.proofs.Alone.Published.{in_both, in_behind}
+use Rattle.wp_client.proofs.Alone.Published.{in_both}
+use Rattle.wp_client.proofs.Growing.{in_back}
 use Rattle.wp_client.proofs.Alone.Worlds.{only_of}
 use Rattle.wp_client.proofs.Alone.Seated.{follows_on, alone_at, seen_still}
 use Rattle.wp_answers.proofs.Alone.TablesFound.{AsksTablesFor, makes_installed, same_base, last_is, halted_answers, nothing_answers, installs_answers, failed_answers}
@@ -104,7 +105,7 @@ module _ {D : Type 0} (z : SharedState D) (first : InstalledEdit) (old new : Sea
       of_both : (xs ys : List ℕ) (n : ℕ) → ((m : ℕ) → IsIn m xs → IsIn m ys) → IsIn n (listed xs store.base store.installed) → IsIn n (listed ys store.base store.installed)
       of_both xs ys n f there = ⊎_elim
           (λ (k : IsIn n xs). in_front n ys (store.base ∷ store.installed.segment.base ∷ []) (f n k))
-          (λ (k : IsIn n (store.base ∷ store.installed.segment.base ∷ [])). in_behind n ys (store.base ∷ store.installed.segment.base ∷ []) k)
+          (λ (k : IsIn n (store.base ∷ store.installed.segment.base ∷ [])). in_back n ys (store.base ∷ store.installed.segment.base ∷ []) k)
           (in_both n xs (store.base ∷ store.installed.segment.base ∷ []) there)
 
   -- what is kept, where it was pinned so

@@ -29,7 +29,8 @@ use Rattle.wp_replies.specs.Kind.{is_logged, is_fault, is_installed, is_renewed,
 use Rattle.wp_replies.specs.Kind as kind
 use Rattle.wp_replies.specs.Plan.{plan, asked_of}
 use Rattle.wp_client.specs.Alone.{log_faults, IsOnly, IsStoreOf, AnswersAlone}
-use Rattle.wp_client.proofs.Alone.Published.{total_both, none_if, if_one, in_both, in_behind, not_counted}
+use Rattle.wp_client.proofs.Alone.Published.{total_both, none_if, if_one, in_both, not_counted}
+use Rattle.wp_client.proofs.Growing.{in_back}
 use Rattle.wp_client.proofs.Alone.Worlds.{has_seen, no_log_fault, only_of, was_stopped}
 use Rattle.wp_client.proofs.Alone.Seated.{LeaveTables, AreQuiet, one_quiet, one_leaves, both_leave, both_quiet, Follows, alone_at, follows, follows_on, is_alone, last_over, begins_opened, log_now, log_still, past_still, seen_still, few_now}
 use Rattle.wp_answers.proofs.Alone.Putting.{few_put, put_behind}
@@ -190,7 +191,7 @@ module _ {D : Type 0} (z : SharedState D) (first : InstalledEdit) (old new : Sea
             let seen = seen_still z first old new only store is stood events f in
             let a = asks true k.1 seen in
             let alone = is_alone z first old new only store is stood [] events f in
-            let there : IsIn (stopped n) new.knows.participant.past = subst (IsIn (stopped n)) (sym f.past) (in_behind (stopped n) old.knows.participant.past events (in_behind (stopped n) pre (stopped n ∷ []) (inl refl))) in
+            let there : IsIn (stopped n) new.knows.participant.past = subst (IsIn (stopped n)) (sym f.past) (in_back (stopped n) old.knows.participant.past events (in_back (stopped n) pre (stopped n ∷ []) (inl refl))) in
             let closed = (was_stopped behind_it stood.1.reached new.knows alone n there).0 in
             let failed : store.stopped ≡ true = if_one store.stopped (log_still z first old new only store is stood [] events f all_quiet.log ∙ ((only_of behind_it stood.1.reached new.knows alone).closed ∙ ap one_if closed)) in
             quiet_answers z first old new only store is stood events f all_quiet was was c (reply.Stopped n) (leaves_for (reply.Stopped n) refl refl refl refl a)

@@ -27,7 +27,8 @@ use Rattle.wp_replies.specs.Due.{Store, due, renewed, store_after}
 use Rattle.wp_replies.specs.Kind.{is_installed, calls_log}
 use Rattle.wp_replies.specs.Tables.{after_renewal}
 use Rattle.wp_client.specs.Alone.{log_faults, IsOnly, IsStoreOf, AnswersAlone}
-use Rattle.wp_client.proofs.Alone.Published.{none_if, if_one, in_behind, not_counted}
+use Rattle.wp_client.proofs.Alone.Published.{none_if, if_one, not_counted}
+use Rattle.wp_client.proofs.Growing.{in_back}
 use Rattle.wp_client.proofs.Alone.Worlds.{no_log_fault, only_of, was_stopped}
 use Rattle.wp_client.proofs.Alone.Seated.{AreQuiet, one_quiet, both_quiet, follows_on, begins_opened, few_now, log_now, log_still, edit_still, tables_now, board_still, seen_still, is_alone}
 use Rattle.wp_client.proofs.Alone.Quiet.{quiet_answers}
@@ -122,7 +123,7 @@ module _ {D : Type 0} (z : SharedState D) (first : InstalledEdit) (old new : Sea
       let f = follows_on _ z old new _ k.goes_on events refl refl in
       let seen = seen_still z first old new only store is stood events f in
       let alone = is_alone z first old new only store is stood [] events f in
-      let there : IsIn (stopped n) new.knows.participant.past = subst (IsIn (stopped n)) (sym f.past) (in_behind (stopped n) old.knows.participant.past events (inr (inl refl))) in
+      let there : IsIn (stopped n) new.knows.participant.past = subst (IsIn (stopped n)) (sym f.past) (in_back (stopped n) old.knows.participant.past events (inr (inl refl))) in
       let closed = (was_stopped stood.0 stood.1.reached new.knows alone n there).0 in
       let failed : store.stopped ≡ true = if_one store.stopped (log_still z first old new only store is stood [] events f quiet.log ∙ ((only_of stood.0 stood.1.reached new.knows alone).closed ∙ ap one_if closed)) in
       let n_is : n ≡ length store.history = k.number ∙ ap (λ (h : List Entry). length h) seen in

@@ -68,14 +68,10 @@ in_both x [] ys there = inr there
 in_both x (y ∷ xs) ys (inl same) = inl (inl same)
 in_both x (y ∷ xs) ys (inr there) = ⊎_elim (λ (k : IsIn x xs). inl (inr k)) (λ (k : IsIn x ys). inr k) (in_both x xs ys there)
 
-pub in_behind : {X : Type 0} (x : X) (xs ys : List X) → IsIn x ys → IsIn x (xs ++ ys)
-in_behind x [] ys there = there
-in_behind x (y ∷ xs) ys there = inr (in_behind x xs ys there)
-
 -- ---- the history
 
 -- a number since the opening is there once
-since : (opened history : List Entry) (n : ℕ) → length opened < n → n ≤ length history → once opened history n ≡ 1
+pub since : (opened history : List Entry) (n : ℕ) → length opened < n → n ≤ length history → once opened history n ≡ 1
 since opened history n low high = grind (arith, nat_tests)
 
 -- one of the history's numbers since the opening is one's own

@@ -37,23 +37,8 @@ read_keeps history was c None n = refl
 
 -- a refusal by the client's own state leaves the board, whatever the command
 state_board : (c : Command) (b : Labels) → board_after b c reply.State ≡ b
-state_board (command.Put key value) b = refl
-state_board (command.Del key) b = refl
-state_board (command.Get key) b = refl
-state_board (command.GetAt key label) b = refl
-state_board (command.Snap label) b = refl
-state_board (command.Free label) b = refl
-state_board (command.Begin name) b = refl
-state_board command.Prepare b = refl
-state_board command.Commit b = refl
-state_board command.Rollback b = refl
-state_board command.Leave b = refl
-state_board (command.Take name) b = refl
-state_board command.Flush b = refl
-state_board command.Compact b = refl
-state_board command.Renew b = refl
 state_board (command.Tell label) b = refl
-state_board (command.Hear label) b = refl
+state_board _ b = refl
 
 module _ {D : Type 0} (z : SharedState D) (first : InstalledEdit) (old new : SeatState) (only : IsOnly old) (store : Store) (is : IsStoreOf z first old.knows.participant store) where
   -- the client's own state refuses the command

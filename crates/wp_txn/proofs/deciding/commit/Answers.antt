@@ -45,14 +45,7 @@ end-requires-clause-decided g c =
     let z = c.args.store.now in let s = c.args.seat.now in let mid = c.record.new.seat in let x = c.args.txn in let n = c.in-Ok-record.number in
     let r = subst (λ (y : PreparedState). Records z s (Commit y.number ∷ []) (λ m. unprepared y.name ∷ []) (Ok n) mid) c.txn.view_is
     (subst (λ (es : List Entry). Records z s es (λ m. unprepared c.txn.inside.name ∷ []) (Ok n) mid) c.in-Ok.ensures (c.in-Ok-record.ensures {u = tt})) in
-    (commit_decides z s mid x c.requires.prepared (λ m. unprepared x.name ∷ []) n r).0
-
-pub end-requires-clause-order : goal.end-requires-clause-order
-end-requires-clause-order g c =
-    let z = c.args.store.now in let s = c.args.seat.now in let mid = c.record.new.seat in let x = c.args.txn in let n = c.in-Ok-record.number in
-    let r = subst (λ (y : PreparedState). Records z s (Commit y.number ∷ []) (λ m. unprepared y.name ∷ []) (Ok n) mid) c.txn.view_is
-    (subst (λ (es : List Entry). Records z s es (λ m. unprepared c.txn.inside.name ∷ []) (Ok n) mid) c.in-Ok.ensures (c.in-Ok-record.ensures {u = tt})) in
-    let k = commit_decides z s mid x c.requires.prepared (λ m. unprepared x.name ∷ []) n r in (k.1, k.2)
+    commit_decides z s mid x c.requires.prepared (λ m. unprepared x.name ∷ []) n r
 
 pub returns-in-Ok-record-clause-ok : goal.returns-in-Ok-record-clause-ok
 returns-in-Ok-record-clause-ok g c =

@@ -13,7 +13,7 @@ pub free-requires-clause-has : goal.free-requires-clause-has
 free-requires-clause-has g c = subst (λ (txn : PreparedState). HasLocked c.args.seat.now (without_number txn)) (sym c.txn.view_is) c.requires.has
 
 pub fits-requires-clause-ordered : goal.fits-requires-clause-ordered
-fits-requires-clause-ordered g c = subst (λ (txn : PreparedState). txn.number ≤ c.args.decision) (sym c.txn.view_is) c.requires.order.0
+fits-requires-clause-ordered g c = subst (λ (txn : PreparedState). txn.number ≤ c.args.decision) (sym c.txn.view_is) c.requires.decided.1
 
 pub returns-then-not-fits-clause-frees : goal.returns-then-not-fits-clause-frees
 returns-then-not-fits-clause-frees g c = subst (λ (txn : PreparedState). Frees c.args.store.now c.args.seat.now c.free.new.seat txn.name) c.txn.view_is c.free.ensures
@@ -30,7 +30,7 @@ pub forget_prepared-requires-clause-decided : goal.forget_prepared-requires-clau
 forget_prepared-requires-clause-decided g c =
     let number = c.txn.inside.number in (
       c.args.decision,
-      ap (λ (p : Participant). decision_of p.seen number) c.free.ensures.same ∙ subst (λ (txn : PreparedState). decision_of c.args.seat.now.knows.participant.seen txn.number ≡ Some c.args.decision) (sym c.txn.view_is) c.requires.decided,
+      ap (λ (p : Participant). decision_of p.seen number) c.free.ensures.same ∙ subst (λ (txn : PreparedState). decision_of c.args.seat.now.knows.participant.seen txn.number ≡ Some c.args.decision) (sym c.txn.view_is) c.requires.decided.0,
       ap (λ n. fits n (record { number = number; decision = c.args.decision })) c.bits.ensures.1 ∙ (sym c.fits.ensures ∙ c.if-not-fits.false),
     )
 

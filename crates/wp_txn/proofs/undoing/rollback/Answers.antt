@@ -56,14 +56,7 @@ end-requires-clause-decided g c =
     let z = c.args.store.now in let s = c.args.seat.now in let t = c.prior_now.new.seat in let mid = c.record.new.seat in let x = c.args.txn in let b = c.in-Ok.prior in let n = c.in-Ok-record.number in let begins = c.prior_now.ensures.seat in
     let r = subst (λ (y : PreparedState). Records z t (Undo y.number b ∷ Close y.number ∷ []) (λ m. unprepared y.name ∷ []) (Ok n) mid) c.txn.view_is
     (subst (λ (es : List Entry). Records z t es (λ m. unprepared c.txn.inside.name ∷ []) (Ok n) mid) c.in-Ok-roll_back.ensures (c.in-Ok-record.ensures {u = tt})) in
-    (rolled_back_decides z s t mid x b begins (prepared_since z s t x begins c.requires.prepared) (λ m. unprepared x.name ∷ []) n r).0
-
-pub end-requires-clause-order : goal.end-requires-clause-order
-end-requires-clause-order g c =
-    let z = c.args.store.now in let s = c.args.seat.now in let t = c.prior_now.new.seat in let mid = c.record.new.seat in let x = c.args.txn in let b = c.in-Ok.prior in let n = c.in-Ok-record.number in let begins = c.prior_now.ensures.seat in
-    let r = subst (λ (y : PreparedState). Records z t (Undo y.number b ∷ Close y.number ∷ []) (λ m. unprepared y.name ∷ []) (Ok n) mid) c.txn.view_is
-    (subst (λ (es : List Entry). Records z t es (λ m. unprepared c.txn.inside.name ∷ []) (Ok n) mid) c.in-Ok-roll_back.ensures (c.in-Ok-record.ensures {u = tt})) in
-    let k = rolled_back_decides z s t mid x b begins (prepared_since z s t x begins c.requires.prepared) (λ m. unprepared x.name ∷ []) n r in (k.1, k.2)
+    rolled_back_decides z s t mid x b begins (prepared_since z s t x begins c.requires.prepared) (λ m. unprepared x.name ∷ []) n r
 
 pub returns-in-Ok-record-clause-ok : goal.returns-in-Ok-record-clause-ok
 returns-in-Ok-record-clause-ok g c =

@@ -3,11 +3,11 @@ use Rattle.std.proofs.lemmas.Result.{err_from_is_err_and}
 use Rattle.wp_gatelog.specs.Log.{LogState}
 use Rattle.wp_manifest.specs.Edit.{Edit}
 use Rattle.wp_manifest.specs.Manifest.{ManifestState}
-use Rattle.wp_manifest.proofs.InstallLemmas.{passes_edits, rests_found, stores_installed, install_refused, refused_id}
+use Rattle.wp_manifest.proofs.InstallLemmas.{passes_edits, rests_found, stores_installed, install_refused, names_there, refused_id}
 use Rattle.wp_manifest.proofs.manifest.Manifest.install.Goals as goal
 
-pub returns-in_err-append : goal.returns-in_err-append
-returns-in_err-append g c =
+pub returns-in_err-append-clause-installs : goal.returns-in_err-append-clause-installs
+returns-in_err-append-clause-installs g c =
     let p = err_from_is_err_and c.from_residual.result c.from_residual.ensures.1 in
     let room : Edit = c.room.inside.edit in
     let old : ManifestState = record { log = c.self.inside.log; edit = c.self.inside.edit } in
@@ -22,8 +22,8 @@ returns-in_err-append g c =
       later = c.in_err-append.ensures.later;
     }
 
-pub returns : goal.returns
-returns g c =
+pub returns-clause-installs : goal.returns-clause-installs
+returns-clause-installs g c =
     let room : Edit = c.room.inside.edit in
     let old : ManifestState = record { log = c.self.inside.log; edit = c.self.inside.edit } in
     rw (← c.self.view_is, ← c.room.view_is) record {
@@ -36,3 +36,15 @@ returns g c =
       id = ap (λ (s : LogState). s.id) c.in_ok-append.ensures.ok.changed;
       later = c.in_ok-append.ensures.later;
     }
+
+pub returns-in_err-append-clause-joint : goal.returns-in_err-append-clause-joint
+returns-in_err-append-clause-joint g c =
+    let room : Edit = c.room.inside.edit in
+    let old : ManifestState = record { log = c.self.inside.log; edit = c.self.inside.edit } in
+    rw (← c.self.view_is, ← c.room.view_is) (λ Has edits stores running last next. names_there Has old c.append.new.self.moments _ room edits stores last next (passes_edits old c.append.new.self _ room _ c.room.invariant.spelling c.room.invariant.is c.in_err-append.ensures.appends edits stores running))
+
+pub returns-clause-joint : goal.returns-clause-joint
+returns-clause-joint g c =
+    let room : Edit = c.room.inside.edit in
+    let old : ManifestState = record { log = c.self.inside.log; edit = c.self.inside.edit } in
+    rw (← c.self.view_is, ← c.room.view_is) (λ Has edits stores running last next. names_there Has old c.append.new.self.moments _ room edits stores last next (passes_edits old c.append.new.self _ room _ c.room.invariant.spelling c.room.invariant.is c.in_ok-append.ensures.appends edits stores running))

@@ -3,7 +3,7 @@ use Rattle.wp_model.specs.Flushed.{InstalledEdit}
 use Rattle.wp_merge.specs.Merge.{joined}
 use Rattle.wp_tableset.specs.Changes.{parts_after}
 use Rattle.wp_parts.specs.VersionSet.{asked_for}
-use Rattle.wp_parts.proofs.InstallLemmas.{failed_edits, failed_table, installed_edits, installed_table, joined_new, survives_install}
+use Rattle.wp_parts.proofs.InstallLemmas.{failed_edits, failed_table, installed_edits, installed_table, joined_new, stored_before, survives_install}
 use Rattle.wp_parts.proofs.edits.VersionSet.install.Goals as goal
 
 pub invariant_of-self : goal.invariant_of-self
@@ -47,3 +47,13 @@ pub returns-in-Err-clause-survives : goal.returns-in-Err-clause-survives
 returns-in-Err-clause-survives g c =
     let inside = c.self.inside in
     rw (← c.self.view_is, ← c.ready.view_is) (λ before b. survives_install inside.set inside.first.value inside.base inside.tables.items inside.failed (rw (← c.self.view_is) at c.requires.running) c.args.segment before _ b c.install.new.self _ _ refl c.in-Err.ensures.installs)
+
+pub returns-in-Ok-clause-joint : goal.returns-in-Ok-clause-joint
+returns-in-Ok-clause-joint g c =
+    let inside = c.self.inside in
+    rw (← c.self.view_is, ← c.ready.view_is) (λ before b. c.in-Ok.ensures.joint before.set b.was.edits before.parts b.written (stored_before inside.set inside.first.value inside.base inside.tables.items inside.failed (rw (← c.self.view_is) at c.requires.running) c.args.segment before _ b))
+
+pub returns-in-Err-clause-joint : goal.returns-in-Err-clause-joint
+returns-in-Err-clause-joint g c =
+    let inside = c.self.inside in
+    rw (← c.self.view_is, ← c.ready.view_is) (λ before b. c.in-Err.ensures.joint before.set b.was.edits before.parts b.written (stored_before inside.set inside.first.value inside.base inside.tables.items inside.failed (rw (← c.self.view_is) at c.requires.running) c.args.segment before _ b))

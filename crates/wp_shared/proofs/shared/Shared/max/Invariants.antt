@@ -2,5 +2,5 @@ use Rattle.std.specs.Prelude.{[]}
 use Rattle.wp_shared.specs.Seats.{place_at}
 use Rattle.wp_shared.proofs.shared.Shared.max.Given as goal
 
-abbrev pub ghosts-load_max : goal.ghosts-load_max
-ghosts-load_max g a = record { place = place_at a.self.now a.seat.now.by; steps = λ w. [] }
+abbrev pub ghosts-load : goal.ghosts-load
+ghosts-load g a = record { place = place_at a.self.now a.seat.now.by; steps = λ w. [] }
