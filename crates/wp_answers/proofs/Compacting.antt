@@ -16,7 +16,7 @@ use Rattle.wp_core.specs.Lists.{IsIn}
 use Rattle.wp_core.specs.Reading.{Registration}
 use Rattle.wp_core.specs.Sound.Actors.{StartsWith}
 use Rattle.wp_core.specs.Sound.Pasts.{tables_due}
-use Rattle.wp_core.specs.Tables.{Installed}
+use Rattle.wp_core.specs.States.{Installed}
 use Rattle.wp_core.specs.Views.{Event, installed}
 use Rattle.wp_core.specs.World.{Participant}
 use Rattle.wp_core.proofs.KeepsSeen.{shorter}

@@ -8,7 +8,7 @@ use Rattle.wp_text.specs.declared.script.Command.TheVariants as command
 use Rattle.wp_text.specs.declared.reply.Reply.{Reply}
 use Rattle.wp_text.specs.declared.reply.Reply.TheVariants as reply
 use Rattle.wp_core.specs.Sound.Actors.{StartsWith}
-use Rattle.wp_core.specs.Tables.{Installed, installed}
+use Rattle.wp_core.specs.States.{Installed, installed}
 use Rattle.wp_core.specs.Views.{Event, log_failed, log_stopped, tables_failed, stopped}
 use Rattle.wp_core.specs.Views as event
 use Rattle.wp_core.specs.World.{Participant}

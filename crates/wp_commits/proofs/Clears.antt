@@ -5,7 +5,7 @@ use Rattle.std.specs.Option.{option_map}
 use Rattle.std.proofs.lemmas.Bool.Decides.{nat_tests}
 use Rattle.wp_model.specs.declared.entry.Entry.{Entry}
 use Rattle.wp_judge.specs.Words.{CommitPair, commit_pair, numbers_of}
-use Rattle.wp_core.specs.Tables.{Content}
+use Rattle.wp_core.specs.States.{Content}
 use Rattle.wp_core.specs.Turns.{prepared_turn, snapshots_turn}
 use Rattle.wp_core.specs.Views.{Fact, passed, in_old_commits, apart, words_stay, none_waits, delayed_flag_stays, old_flag_stays}
 use Rattle.wp_core.specs.World.{Actor}

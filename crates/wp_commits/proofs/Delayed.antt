@@ -17,7 +17,7 @@ use Rattle.wp_core.specs.Changes.{held_with}
 use Rattle.wp_core.specs.Lists.{IsIn}
 use Rattle.wp_core.specs.Notes.{ends}
 use Rattle.wp_core.specs.Steps.{Step, store_max_evicted, add_delayed_commit}
-use Rattle.wp_core.specs.Tables.{WriteState, Content, writes, prepared, with_moved}
+use Rattle.wp_core.specs.States.{WriteState, Content, writes, prepared, with_moved}
 use Rattle.wp_core.specs.Views.{Fact, words_stay, none_waits, delayed_flag_stays, old_flag_stays}
 use Rattle.wp_core.specs.World.{Actor, World}
 use Rattle.wp_core.specs.Sound.Views.{IsApart}
@@ -36,7 +36,7 @@ use Rattle.wp_commits.specs.Making.{delaying}
 use Rattle.wp_shared.specs.Notes.{GoesOn, FlagTells, DelayedFlagTells}
 use Rattle.wp_commits.specs.Notes.{is_of_words}
 use Rattle.wp_shared.proofs.Goes.{goes_with}
-use Rattle.wp_shared.proofs.Tables.{held_table}
+use Rattle.wp_shared.proofs.Tables.{held_state}
 use Rattle.wp_commits.proofs.Flags.{note_ends_none}
 
 -- ---- the numbers that the bound reaches
@@ -102,10 +102,10 @@ max_ends history words m other e = refl
 module _ (p : Place) (s t : SeatState) (d : WriteState) (old tables : PreparedSets) (m : ℕ) (held : s.knows.held ≡ prepared old ∷ writes d ∷ []) (is : tables ≡ with_moved old m) where
   pub may_raise : IsRise s.knows p.cells d m → DelayedFlagTells s.knows tables → Knows p s.knows (store_max_evicted m)
   may_raise rises flag = record {
-    table = d;
+    state = d;
     held = subst (IsIn (writes d)) (sym held) (inr (inl refl));
     so_is = record {
-      table = old;
+      state = old;
       held = subst (IsIn (prepared old)) (sym held) (inl refl);
       so_is = (rises, reached (up_or_none s.knows delayed_flag_stays (NoneDelayed tables) flag));
     };
@@ -118,7 +118,7 @@ module _ (p : Place) (s t : SeatState) (d : WriteState) (old tables : PreparedSe
   module _ (so : World → Type 0) (same : (t.table ≡ s.table) × (t.by ≡ s.by) × (t.turns ≡ s.turns)) (moved : Moved p (storing_max m) so s.knows t.knows) where
     held_now : (w : World) → IsAt p s.knows w → held_with s.knows.held (prepared (with_moved w.prepared m)) ≡ prepared tables ∷ writes d ∷ []
     held_now w k =
-        let table = held_table p s.knows w (prepared old) k (subst (IsIn (prepared old)) (sym held) (inl refl)) in
+        let table = held_state p s.knows w (prepared old) k (subst (IsIn (prepared old)) (sym held) (inl refl)) in
         ap (λ (h : List Content). held_with h (prepared (with_moved w.prepared m))) held ∙ ap (λ (x : PreparedSets). prepared x ∷ writes d ∷ []) (ap (λ (x : PreparedSets). with_moved x m) table ∙ sym is)
 
     keeps : (fact : Fact) → is_of_words fact ≡ false → Noted s.knows fact → Noted t.knows fact
@@ -177,13 +177,13 @@ module _ (place : Place) (s t : SeatState) (d : WriteState) (old tables : Prepar
   steps_if b = cond b (add_delayed_commit (commit_pair p c) ∷ []) []
 
   table_is : (w : World) → IsAt place s.knows w → w.prepared ≡ old
-  table_is w k = held_table place s.knows w (prepared old) k (subst (IsIn (prepared old)) (sym held) (inl refl))
+  table_is w k = held_state place s.knows w (prepared old) k (subst (IsIn (prepared old)) (sym held) (inl refl))
 
   pub may_delay : decision_of d.history p ≡ Some c → DelayedFlagTells s.knows tables → MayMake place s.knows (delaying (commit_pair p c))
   may_delay decided flag w k = by_test (is_prepared w.prepared p) refl
     where
       history_is : w.writes ≡ d
-      history_is = held_table place s.knows w (writes d) k (subst (IsIn (writes d)) (sym held) (inr (inl refl)))
+      history_is = held_state place s.knows w (writes d) k (subst (IsIn (writes d)) (sym held) (inr (inl refl)))
 
       up : is_prepared w.prepared p ≡ true → w.delayed_flag ≡ 0 → ⊥
       up there zero_flag =

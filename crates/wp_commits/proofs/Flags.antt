@@ -4,7 +4,7 @@ use Rattle.std.specs.Prelude.{[], ◌∷◌}
 use Rattle.wp_model.specs.declared.entry.Entry.{Entry}
 use Rattle.wp_core.specs.Notes.{ends}
 use Rattle.wp_core.specs.Steps.{store_delayed_flag, store_old_flag, note}
-use Rattle.wp_core.specs.Tables.{prepared, snapshots}
+use Rattle.wp_core.specs.States.{prepared, snapshots}
 use Rattle.wp_model.specs.PreparedSets.{NoneDelayed}
 use Rattle.wp_model.specs.Snapshots.{NoOldCommits}
 use Rattle.wp_core.specs.Views.{Fact, passed, delayed_flag_stays, old_flag_stays}
@@ -83,7 +83,7 @@ tells_still a b flag none keeps f = record { value = f.value; noted = keeps f.va
 
 module _ (p : Place) (a : Actor) (none : Bool) (value : ℕ) (says : Says none value) where
   pub may_put_delayed : Holding a prepared (λ t. none ≡ true → NoneDelayed t) → MayStep p a (store_delayed_flag value)
-  may_put_delayed h w k = needed p a w k (store_delayed_flag value) (record { table = h.table; held = h.held; so_is = λ e. h.so_is (zero_says none value says e) })
+  may_put_delayed h w k = needed p a w k (store_delayed_flag value) (record { state = h.state; held = h.held; so_is = λ e. h.so_is (zero_says none value says e) })
 
   pub may_put_old : Holding a snapshots (λ m. none ≡ true → NoOldCommits m) → MayStep p a (store_old_flag value)
-  may_put_old h w k = needed p a w k (store_old_flag value) (record { table = h.table; held = h.held; so_is = λ e. h.so_is (zero_says none value says e) })
+  may_put_old h w k = needed p a w k (store_old_flag value) (record { state = h.state; held = h.held; so_is = λ e. h.so_is (zero_says none value says e) })

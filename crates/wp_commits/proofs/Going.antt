@@ -16,7 +16,7 @@ use Rattle.wp_judge.specs.Words.{CommitPair, commit_pair}
 use Rattle.wp_core.specs.Cache.{pair_at}
 use Rattle.wp_core.specs.Entries.{extended}
 use Rattle.wp_core.specs.Lists.{IsIn}
-use Rattle.wp_core.specs.Tables.{WriteState, writes, prepared, snapshots}
+use Rattle.wp_core.specs.States.{WriteState, writes, prepared, snapshots}
 use Rattle.wp_core.specs.Notes.{forgets}
 use Rattle.wp_core.specs.Steps.{note}
 use Rattle.wp_core.specs.Turns.{write_turn, Holds}
@@ -34,26 +34,26 @@ use Rattle.wp_rule.proofs.Knows.{at_sound, held_is, noted_is}
 use Rattle.wp_rule.proofs.Needed.{guarded}
 use Rattle.wp_shared.specs.Seats.{SeatState}
 use Rattle.wp_shared.proofs.OneStep.{becomes}
-use Rattle.wp_shared.proofs.Tables.{held_table}
+use Rattle.wp_shared.proofs.Tables.{held_state}
 use Rattle.wp_commits.specs.Cleared.{IsThere}
 use Rattle.wp_commits.specs.Making.{noting_all, noted_all}
 
 module _ (a : Actor) (d : WriteState) (place p c : ℕ) where
   pub knows_passed : IsIn (writes d) a.held → (k : IsThere a d.history place p c) × (c ≤ k.bound) → KnowsFact a (passed place (commit_pair p c))
-  knows_passed held k = let t = k.0 in record { table = d; held = held; so_is = (t.bound, t.words, t.noted, t.within, t.there, t.published, k.1) }
+  knows_passed held k = let t = k.0 in record { state = d; held = held; so_is = (t.bound, t.words, t.noted, t.within, t.there, t.published, k.1) }
 
   pub knows_apart : (t : PreparedSets) → a.held ≡ prepared t ∷ writes d ∷ [] → IsThere a d.history place p c → IsApart t (commit_pair p c) → KnowsFact a (apart place (commit_pair p c))
   knows_apart t held k is = record {
-    table = d;
+    state = d;
     held = subst (IsIn (writes d)) (sym held) (inr (inl refl));
-    so_is = record { table = t; held = subst (IsIn (prepared t)) (sym held) (inl refl); so_is = (k.bound, k.words, k.noted, k.within, k.there, k.published, is) };
+    so_is = record { state = t; held = subst (IsIn (prepared t)) (sym held) (inl refl); so_is = (k.bound, k.words, k.noted, k.within, k.there, k.published, is) };
   }
 
   pub knows_in_old_commits : (m : Snapshots) → a.held ≡ snapshots m ∷ writes d ∷ [] → IsThere a d.history place p c → IsInOldCommits m p c → KnowsFact a (in_old_commits place (commit_pair p c))
   knows_in_old_commits m held k is = record {
-    table = d;
+    state = d;
     held = subst (IsIn (writes d)) (sym held) (inr (inl refl));
-    so_is = record { table = m; held = subst (IsIn (snapshots m)) (sym held) (inl refl); so_is = (k.bound, k.words, k.noted, k.within, k.there, k.published, is) };
+    so_is = record { state = m; held = subst (IsIn (snapshots m)) (sym held) (inl refl); so_is = (k.bound, k.words, k.noted, k.within, k.there, k.published, is) };
   }
 
 -- ---- a version that decided itself
@@ -82,7 +82,7 @@ not_own history (suc i) is decided = by_entry (slice_get history i) refl is deci
 module _ (at : Place) (a : Actor) (d : WriteState) (place n : ℕ) (live : a.live ≡ true) (held : IsIn (writes d) a.held) (k : IsThere a d.history place n n) (low : n ≤ k.bound) where
   module _ (w : World) (there : IsAt at a w) where
     table_is : w.writes ≡ d
-    table_is = held_table at a w (writes d) there held
+    table_is = held_state at a w (writes d) there held
 
     holds : Holds w.holders write_turn at.by
     holds = (held_is at a w (writes d) there held).0

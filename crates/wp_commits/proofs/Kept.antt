@@ -9,11 +9,11 @@ use Rattle.std.specs.Cmp.{nat_cmp_total}
 use Rattle.std.specs.FinSet as set
 use Rattle.std.specs.FinMap as finite
 use Rattle.wp_model.specs.Decision.{decision_of}
-use Rattle.wp_model.specs.Snapshots.{Snapshot, Snapshots, is_old_commit, after_keep, overlaps, ChangesWhere, NoOldCommits}
+use Rattle.wp_model.specs.Snapshots.{LiveSnapshot, Snapshots, is_old_commit, after_keep, overlaps, ChangesWhere, NoOldCommits}
 use Rattle.wp_core.specs.Changes.{held_with, placed, with_old_commit}
 use Rattle.wp_core.specs.Lists.{IsIn}
 use Rattle.wp_core.specs.Steps.{add_old_commit}
-use Rattle.wp_core.specs.Tables.{WriteState, Content, writes, snapshots}
+use Rattle.wp_core.specs.States.{WriteState, Content, writes, snapshots}
 use Rattle.wp_core.specs.Turns.{Holds, snapshots_turn}
 use Rattle.wp_core.specs.Views.{old_flag_stays}
 use Rattle.wp_core.specs.World.{Actor, World}
@@ -27,17 +27,17 @@ use Rattle.wp_shared.specs.Clients.{KeepClient}
 use Rattle.wp_shared.specs.Seats.{SeatState}
 use Rattle.wp_shared.proofs.OneStep.{becomes}
 use Rattle.wp_commits.proofs.Delayed.{right_none}
-use Rattle.wp_shared.proofs.Tables.{held_table}
+use Rattle.wp_shared.proofs.Tables.{held_state}
 use Rattle.wp_commits.specs.Making.{keeping_from, keeping}
 use Rattle.wp_shared.specs.Notes.{OldFlagTells}
 
 -- ---- one number
 
-placed_here : (m : Snapshots) (s : ℕ) (o : Option Snapshot) → finite.get (placed m s o) s ≡ o
+placed_here : (m : Snapshots) (s : ℕ) (o : Option LiveSnapshot) → finite.get (placed m s o) s ≡ o
 placed_here m s None = get_removed m s
 placed_here m s (Some x) = get_inserted m s x
 
-placed_else : (m : Snapshots) (s q : ℕ) (o : Option Snapshot) → q ≢ s → finite.get (placed m s o) q ≡ finite.get m q
+placed_else : (m : Snapshots) (s q : ℕ) (o : Option LiveSnapshot) → q ≢ s → finite.get (placed m s o) q ≡ finite.get m q
 placed_else m s q None ne = get_removed_else m s q ne
 placed_else m s q (Some x) ne = get_inserted_else m s x q ne
 
@@ -49,7 +49,7 @@ kept_here : (b : Bool) (m : Snapshots) (s p : ℕ) → is_some (finite.get m s) 
 kept_here true m s p e = placed_here m s (after_keep p (finite.get m s))
 kept_here false m s p e = none_kept (finite.get m s) e
   where
-    none_kept : (o : Option Snapshot) → is_some o ≡ false → o ≡ after_keep p o
+    none_kept : (o : Option LiveSnapshot) → is_some o ≡ false → o ≡ after_keep p o
     none_kept None e = refl
     none_kept (Some x) e = absurd (true≢false e)
 
@@ -120,9 +120,9 @@ module _ (m new : Snapshots) (p c : ℕ) (changes : ChangesWhere (overlaps p c) 
   at_overlap s from below = changes s ∙ ap (λ (x : Bool). cond x (after_keep p (finite.get m s)) (finite.get m s)) (test_true p c s from below)
 
   kept_at : (s : ℕ) → p ≤ s → s < c → is_some (finite.get m s) ≡ true → is_old_commit new s p ≡ true
-  kept_at s from below live = ap (λ (o : Option Snapshot). option_map_or (λ x. set.contains x.old_commits p) o false) (at_overlap s from below) ∙ by_live (finite.get m s) live
+  kept_at s from below live = ap (λ (o : Option LiveSnapshot). option_map_or (λ x. set.contains x.old_commits p) o false) (at_overlap s from below) ∙ by_live (finite.get m s) live
     where
-      by_live : (o : Option Snapshot) → is_some o ≡ true → option_map_or (λ x. set.contains x.old_commits p) (after_keep p o) false ≡ true
+      by_live : (o : Option LiveSnapshot) → is_some o ≡ true → option_map_or (λ x. set.contains x.old_commits p) (after_keep p o) false ≡ true
       by_live None e = absurd (true≢false (sym e))
       by_live (Some x) e = in_inserted x.old_commits p
 
@@ -130,19 +130,19 @@ module _ (m new : Snapshots) (p c : ℕ) (changes : ChangesWhere (overlaps p c) 
   pub in_old_commits_now : IsInOldCommits new p c
   in_old_commits_now s live from below = kept_at s from below (by_live (finite.get m s) (sym (ap is_some (at_overlap s from below)) ∙ live))
     where
-      by_live : (o : Option Snapshot) → is_some (after_keep p o) ≡ true → is_some o ≡ true
+      by_live : (o : Option LiveSnapshot) → is_some (after_keep p o) ≡ true → is_some o ≡ true
       by_live None e = e
       by_live (Some x) e = refl
 
   pub none_before_kept : NoOldCommits new → NoOldCommits m
   none_before_kept none s q = by_test (overlaps p c s) refl
     where
-      less : (o : Option Snapshot) → option_map_or (λ x. set.contains x.old_commits q) (after_keep p o) false ≡ false → option_map_or (λ x. set.contains x.old_commits q) o false ≡ false
+      less : (o : Option LiveSnapshot) → option_map_or (λ x. set.contains x.old_commits q) (after_keep p o) false ≡ false → option_map_or (λ x. set.contains x.old_commits q) o false ≡ false
       less None e = e
       less (Some x) e = right_none (eq_by_cmp nat_cmp q p) (set.contains x.old_commits q) (sym (set.contains-insert nat_cmp_total x.old_commits p q) ∙ e)
 
-      gone : (o : Option Snapshot) → finite.get new s ≡ o → option_map_or (λ x. set.contains x.old_commits q) o false ≡ false
-      gone o e = ap (λ (x : Option Snapshot). option_map_or (λ y. set.contains y.old_commits q) x false) (sym e) ∙ none s q
+      gone : (o : Option LiveSnapshot) → finite.get new s ≡ o → option_map_or (λ x. set.contains x.old_commits q) o false ≡ false
+      gone o e = ap (λ (x : Option LiveSnapshot). option_map_or (λ y. set.contains y.old_commits q) x false) (sym e) ∙ none s q
 
       by_test : (b : Bool) → overlaps p c s ≡ b → is_old_commit m s q ≡ false
       by_test true e = less (finite.get m s) (gone (after_keep p (finite.get m s)) (changes s ∙ ap (λ (x : Bool). cond x (after_keep p (finite.get m s)) (finite.get m s)) e))
@@ -204,11 +204,11 @@ module _ (m : Snapshots) (p c by : ℕ) where
 
 module _ (place : Place) (s t : SeatState) (old new : Snapshots) (p c : ℕ) (others : List Content) (held : s.knows.held ≡ snapshots old ∷ others) (changes : ChangesWhere (overlaps p c) (after_keep p) old new) where
   table_is : (w : World) → IsAt place s.knows w → w.snapshots ≡ old
-  table_is w k = held_table place s.knows w (snapshots old) k (subst (IsIn (snapshots old)) (sym held) (inl refl))
+  table_is w k = held_state place s.knows w (snapshots old) k (subst (IsIn (snapshots old)) (sym held) (inl refl))
 
   pub may_keep : (d : WriteState) → IsIn (writes d) others → p ≤ c → decision_of d.history p ≡ Some c → OldFlagTells s.knows new → MayMake place s.knows (keeping p c)
   may_keep d has ordered decided flag w k =
-      let history_is : w.writes ≡ d = held_table place s.knows w (writes d) k (subst (IsIn (writes d)) (sym held) (inr has)) in
+      let history_is : w.writes ≡ d = held_state place s.knows w (writes d) k (subst (IsIn (writes d)) (sym held) (inr has)) in
       let holds = (held_is place s.knows w (snapshots old) k (subst (IsIn (snapshots old)) (sym held) (inl refl))).0 in
       let value_is : w.old_flag ≡ flag.value = (noted_is place s.knows w (old_flag_stays flag.value) k flag.noted).is_so in (
         keeping_quiet w.snapshots p (c - p) p,

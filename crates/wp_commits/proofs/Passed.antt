@@ -23,7 +23,7 @@ use Rattle.wp_core.specs.Entries.{extended, pending_pair}
 use Rattle.wp_core.specs.Lists.{IsIn}
 use Rattle.wp_core.specs.Notes.{ends}
 use Rattle.wp_core.specs.Steps.{Step, take_out, delay_pending, note}
-use Rattle.wp_core.specs.Tables.{WriteState, Content, writes, prepared, snapshots, without_prepared}
+use Rattle.wp_core.specs.States.{WriteState, Content, writes, prepared, snapshots, without_prepared}
 use Rattle.wp_core.specs.Turns.{write_turn}
 use Rattle.wp_core.specs.Views.{Fact, words_stay, none_waits, pair_delayed, pair_not_delayed, delayed_flag_stays, old_flag_stays}
 use Rattle.wp_core.specs.World.{Actor, World}
@@ -45,7 +45,7 @@ use Rattle.wp_shared.specs.Notes.{is_flag, noting, GoesOn, DelayedFlagTells}
 use Rattle.wp_shared.specs.Seats.{SharedState, SeatState, Stands, place_at}
 use Rattle.wp_shared.proofs.Goes.{goes_with}
 use Rattle.wp_shared.proofs.OneStep.{becomes}
-use Rattle.wp_shared.proofs.Tables.{held_table}
+use Rattle.wp_shared.proofs.Tables.{held_state}
 use Rattle.wp_commits.specs.Making.{noting_none_waits}
 use Rattle.wp_commits.specs.Notes.{is_of_delayed}
 use Rattle.wp_commits.specs.Passing.{NoneReached, IsReachedCommit}
@@ -91,10 +91,10 @@ module _ {D : Type 0} (z : SharedState D) (s t : SeatState) (tables : PreparedSe
   sound = at_sound (place_at z s.by) s.knows at.0 stands
 
   table_is : at.0.prepared ≡ tables
-  table_is = held_table (place_at z s.by) s.knows at.0 (prepared tables) stands held
+  table_is = held_state (place_at z s.by) s.knows at.0 (prepared tables) stands held
 
   writes_are : (d : WriteState) → IsIn (writes d) s.knows.held → at.0.writes ≡ d
-  writes_are d has = held_table (place_at z s.by) s.knows at.0 (writes d) stands has
+  writes_are d has = held_state (place_at z s.by) s.knows at.0 (writes d) stands has
 
   max_reached : (p : ℕ) → IsReached s.knows p → p ≤ at.0.max_evicted
   max_reached p r = let bound = (noted_is (place_at z s.by) s.knows at.0 (words_stay r.0 r.1) stands r.2).is_so.0 in let low = r.3 in omega (arith, bound, low)
@@ -137,14 +137,14 @@ passed_is (Some r) a history commits found bound words noted is decided k =
 
 -- the tables that the seat has, where the bound has come to no delayed commit
 pub knows_none_waits : (a : Actor) (d : WriteState) (t : PreparedSets) → IsIn (writes d) a.held → IsIn (prepared t) a.held → NoneReached a t.delayed_commits → KnowsFact a none_waits
-knows_none_waits a d t has there k = record { table = d; held = has; so_is = record { table = t; held = there; so_is = (k.bound, k.words, k.noted, k.above) } }
+knows_none_waits a d t has there k = record { state = d; held = has; so_is = record { state = t; held = there; so_is = (k.bound, k.words, k.noted, k.above) } }
 
 pub knows_pair_delayed : (a : Actor) (d : WriteState) (t : PreparedSets) (p c : ℕ) → IsIn (writes d) a.held → IsIn (prepared t) a.held → pending_pair d.history d.pending ≡ Some (commit_pair p c) → finite.get t.delayed_commits p ≡ Some c → KnowsFact a pair_delayed
 knows_pair_delayed a d t p c has there pending commit = record {
-  table = d;
+  state = d;
   held = has;
   so_is = record {
-    table = t;
+    state = t;
     held = there;
     so_is = λ pair is. let same : commit_pair p c ≡ pair = same_some (commit_pair p c) pair (sym pending ∙ is) in
         subst (λ (x : CommitPair). finite.get t.delayed_commits x.number ≡ Some x.decision) same commit;
@@ -224,8 +224,8 @@ module _ (place : Place) (s t : SeatState) (d : WriteState) (old tables : Prepar
 
   pub may_let_go : decision_of d.history p ≡ Some c → IsReached s.knows c → IsInOldCommits m p c → MayMake place s.knows (λ w. take_out p ∷ [])
   may_let_go decided r kept w k =
-      let history_is : w.writes ≡ d = held_table place s.knows w (writes d) k (subst (IsIn (writes d)) (sym held) (inr (inr (inl refl)))) in
-      let snaps_are : w.snapshots ≡ m = held_table place s.knows w (snapshots m) k (subst (IsIn (snapshots m)) (sym held) (inl refl)) in
+      let history_is : w.writes ≡ d = held_state place s.knows w (writes d) k (subst (IsIn (writes d)) (sym held) (inr (inr (inl refl)))) in
+      let snaps_are : w.snapshots ≡ m = held_state place s.knows w (snapshots m) k (subst (IsIn (snapshots m)) (sym held) (inl refl)) in
       let holds = (held_is place s.knows w (prepared old) k prepared_in).0 in
       let bound = (noted_is place s.knows w (words_stay r.0 r.1) k r.2).is_so.0 in let low = r.3 in
       ((tt, tt), ((holds, (c, subst (λ (x : WriteState). decision_of x.history p ≡ Some c) (sym history_is) decided, inr (omega (arith, low, bound), subst (λ (x : Snapshots). IsInOldCommits x p c) (sym snaps_are) kept))), tt))
@@ -233,7 +233,7 @@ module _ (place : Place) (s t : SeatState) (d : WriteState) (old tables : Prepar
   pub let_go_now : (so : World → Type 0) → (t.table ≡ s.table) × (t.by ≡ s.by) × (t.turns ≡ s.turns) → Moved place (λ w. take_out p ∷ []) so s.knows t.knows → t ≡ record s { knows = record s.knows { held = snapshots m ∷ prepared tables ∷ writes d ∷ [] } }
   let_go_now so same moved =
       let w = moved.world in
-      let table : w.prepared ≡ old = held_table place s.knows w (prepared old) moved.before prepared_in in
+      let table : w.prepared ≡ old = held_state place s.knows w (prepared old) moved.before prepared_in in
       becomes s t (record s.knows { held = snapshots m ∷ prepared tables ∷ writes d ∷ [] }) same
       (moved.actor
       ∙ (ap (λ (x : Actor). record x { held = held_with x.held (prepared (without_prepared w.prepared p)) }) (forgets_nothing w.writes.history (length w.cache) (take_out p) s.knows (take_ends p))
@@ -261,7 +261,7 @@ commit_there old tables p c is = ap (λ (x : PreparedSets). finite.get x.delayed
 module _ (place : Place) (s t : SeatState) (d : WriteState) (old tables : PreparedSets) (p c : ℕ) (held : s.knows.held ≡ prepared old ∷ writes d ∷ []) (is : tables ≡ record old { delayed_commits = finite.insert old.delayed_commits p c }) where
   pub may_delay_pending : pending_pair d.history d.pending ≡ Some (commit_pair p c) → DelayedFlagTells s.knows tables → MayMake place s.knows (λ w. delay_pending (commit_pair p c) ∷ [])
   may_delay_pending pending flag w k =
-      let history_is : w.writes ≡ d = held_table place s.knows w (writes d) k (subst (IsIn (writes d)) (sym held) (inr (inl refl))) in
+      let history_is : w.writes ≡ d = held_state place s.knows w (writes d) k (subst (IsIn (writes d)) (sym held) (inr (inl refl))) in
       let value_is : w.delayed_flag ≡ flag.value = (noted_is place s.knows w (delayed_flag_stays flag.value) k flag.noted).is_so in
       let up : w.delayed_flag ≢ 0 = λ zero_flag. none_some (finite.get tables.delayed_commits p) c ((flag.empty (sym value_is ∙ zero_flag)).1 p) (commit_there old tables p c is) in
       let one = (held_is place s.knows w (writes d) k (subst (IsIn (writes d)) (sym held) (inr (inl refl)))).0 in
@@ -278,7 +278,7 @@ module _ (place : Place) (s t : SeatState) (d : WriteState) (old tables : Prepar
     held_now : held_with s.knows.held (prepared (record moved.world.prepared { delayed_commits = finite.insert moved.world.prepared.delayed_commits p c })) ≡ prepared tables ∷ writes d ∷ []
     held_now =
         let w = moved.world in
-        let table : w.prepared ≡ old = held_table place s.knows w (prepared old) moved.before (subst (IsIn (prepared old)) (sym held) (inl refl)) in
+        let table : w.prepared ≡ old = held_state place s.knows w (prepared old) moved.before (subst (IsIn (prepared old)) (sym held) (inl refl)) in
         ap (λ (h : List Content). held_with h (prepared (record w.prepared { delayed_commits = finite.insert w.prepared.delayed_commits p c }))) held
         ∙ ap (λ (x : PreparedSets). prepared x ∷ writes d ∷ []) (ap (λ (x : PreparedSets). record x { delayed_commits = finite.insert x.delayed_commits p c }) table ∙ sym is)
 

@@ -10,7 +10,7 @@ use Rattle.wp_core.specs.Entries.{pending_pair, pair_by}
 use Rattle.wp_core.specs.Lists.{IsIn}
 use Rattle.wp_core.specs.Notes.{ends}
 use Rattle.wp_core.specs.Steps.{store_word}
-use Rattle.wp_core.specs.Tables.{WriteState, writes}
+use Rattle.wp_core.specs.States.{WriteState, writes}
 use Rattle.wp_core.specs.Views.{Fact, passed, in_old_commits, apart, words_stay, none_waits, delayed_flag_stays, old_flag_stays}
 use Rattle.wp_core.specs.World.{Actor, World}
 use Rattle.wp_core.proofs.StoresWord.{pending_next}
@@ -55,7 +55,7 @@ cleared_known a cells place pair is cleared = at (subst (IsCleared a) is cleared
     at (inr gone) = inr (gone.0, gone.1.0, gone.1.1, gone.1.2)
 
 pub may_put : (p : Place) (a : Actor) (d : WriteState) (place : ℕ) (pair : CommitPair) → IsIn (writes d) a.held → place ≡ cache_place p.cells pair.number → pending_pair d.history d.pending ≡ Some pair → fits p.cells pair ≡ true → IsCleared a place → MayStep p a (store_word pair)
-may_put p a d place pair held is pending narrow cleared w k = needed p a w k (store_word pair) (record { table = d; held = held; so_is = (pending, narrow, cleared_known a p.cells place pair is cleared) })
+may_put p a d place pair held is pending narrow cleared w k = needed p a w k (store_word pair) (record { state = d; held = held; so_is = (pending, narrow, cleared_known a p.cells place pair is cleared) })
 
 word_ends : (history : List Entry) (words place : ℕ) (pair : CommitPair) (fact : Fact) → place ≡ cache_place words pair.number → is_of_place place fact ≡ false → ends history words (store_word pair) fact ≡ false
 word_ends history words place pair (passed i gone) is e = ap (λ (x : ℕ). x == i) (sym is) ∙ e

@@ -7,7 +7,7 @@ use Rattle.wp_core.specs.Changes.{held_with}
 use Rattle.wp_core.specs.Lists.{IsIn}
 use Rattle.wp_core.specs.Notes.{forgets}
 use Rattle.wp_core.specs.Steps.{take_out, note}
-use Rattle.wp_core.specs.Tables.{Content, prepared, without_prepared}
+use Rattle.wp_core.specs.States.{Content, prepared, without_prepared}
 use Rattle.wp_core.specs.Views.{Fact, has_left, delayed_flag_stays, old_flag_stays}
 use Rattle.wp_core.specs.World.{Actor, World}
 use Rattle.wp_core.specs.Sound.Views.{guarded_by}
@@ -21,7 +21,7 @@ use Rattle.wp_shared.specs.Calls.{Continues}
 use Rattle.wp_shared.specs.Seats.{SharedState, SeatState, IsFree}
 use Rattle.wp_shared.proofs.Goes.{holds, notes, then, is_free}
 use Rattle.wp_shared.proofs.OneStep.{becomes}
-use Rattle.wp_shared.proofs.Tables.{held_table}
+use Rattle.wp_shared.proofs.Tables.{held_state}
 use Rattle.wp_shared.specs.Notes.{is_flag, noting, GoesOn}
 use Rattle.wp_judge.specs.Words.{commit_pair, fits}
 
@@ -30,7 +30,7 @@ take_ends p = record { guard = λ turn. refl; place = λ words place. refl; word
 
 pub may_take_out : (at : Place) (a : Actor) (t : PreparedSets) (p : ℕ) → a.live ≡ true → a.held ≡ prepared t ∷ [] → (c : ℕ) × (decision_of a.participant.seen p ≡ Some c) × (fits at.cells (commit_pair p c) ≡ true) → MayMake at a (λ w. take_out p ∷ note (has_left p) ∷ [])
 may_take_out at a t p live held decided w k =
-    let n = needed at a w k (take_out p) (record { table = t; held = subst (IsIn (prepared t)) (sym held) (inl refl); so_is = (decided.0, decided.1, inl decided.2) }) in
+    let n = needed at a w k (take_out p) (record { state = t; held = subst (IsIn (prepared t)) (sym held) (inl refl); so_is = (decided.0, decided.1, inl decided.2) }) in
     ((tt, (tt, tt)), (n, ((live, (λ turn e. absurd (none_some None turn refl e)), ((n.1.0, n.1.1), (λ i. in_removed w.prepared.heap p i || in_removed w.prepared.delayed p i))), tt)))
 
 -- the number left the tables, which is noted
@@ -38,7 +38,7 @@ pub took_out : (at : Place) (so : World → Type 0) (s t : SeatState) (old table
     → Moved at (λ w. take_out p ∷ note (has_left p) ∷ []) so s.knows t.knows → t ≡ noting (has_left p) (record s { knows = record s.knows { held = prepared tables ∷ [] } })
 took_out at so s t old tables p held is same m =
     let w = m.world in let h = w.writes.history in let c = length w.cache in
-    let table : w.prepared ≡ old = held_table at s.knows w (prepared old) m.before (subst (IsIn (prepared old)) (sym held) (inl refl)) in
+    let table : w.prepared ≡ old = held_state at s.knows w (prepared old) m.before (subst (IsIn (prepared old)) (sym held) (inl refl)) in
     let left : held_with s.knows.held (prepared (without_prepared w.prepared p)) ≡ prepared tables ∷ [] =
     ap (λ (x : List Content). held_with x (prepared (without_prepared w.prepared p))) held ∙ ap (λ (x : PreparedSets). prepared x ∷ []) (ap (λ (x : PreparedSets). without_prepared x p) table ∙ sym is) in
     let one : Actor → Actor = λ a. record a { held = held_with a.held (prepared (without_prepared w.prepared p)) } in

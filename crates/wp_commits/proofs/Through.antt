@@ -1,7 +1,7 @@
 -- What is done under a turn that is taken while the write turn is held, and given again.
 use Rattle.std.proofs.Common.{◌≡◌, Bool, false, List, ◌∷◌, refl, sym, ap, ◌∙◌}
 use Rattle.wp_core.specs.Changes.{turn_index}
-use Rattle.wp_core.specs.Tables.{Content, turn_of}
+use Rattle.wp_core.specs.States.{Content, turn_of}
 use Rattle.wp_core.specs.Turns.{Turn}
 use Rattle.wp_core.specs.Views.{Fact}
 use Rattle.wp_shared.specs.Notes.{is_under, GoesOn}

@@ -10,7 +10,7 @@ use Rattle.wp_judge.specs.Words.{CommitPair, commit_pair, fits}
 use Rattle.wp_core.specs.Cache.{cache_place, pair_at}
 use Rattle.wp_core.specs.Entries.{pair_by, pending_pair, pairs_of}
 use Rattle.wp_core.specs.Lists.{IsIn}
-use Rattle.wp_core.specs.Tables.{Content}
+use Rattle.wp_core.specs.States.{Content}
 use Rattle.wp_core.specs.Views.{Fact, passed, in_old_commits, apart, words_stay}
 use Rattle.wp_core.specs.World.{Actor}
 use Rattle.wp_model.proofs.Tests.{same_some, none_some}

@@ -9,7 +9,7 @@ use Rattle.wp_judge.specs.Words.{CommitPair, commit_pair, pair_of, numbers_of}
 use Rattle.wp_core.specs.Cache.{cache_place, pair_at}
 use Rattle.wp_core.specs.Entries.{extended, pending_pair}
 use Rattle.wp_core.specs.Lists.{IsIn}
-use Rattle.wp_core.specs.Tables.{WriteState, writes}
+use Rattle.wp_core.specs.States.{WriteState, writes}
 use Rattle.wp_core.specs.Views.{passed, words_stay}
 use Rattle.wp_core.specs.World.{World}
 use Rattle.wp_core.specs.Sound.Prepared.{IsPairAt}
@@ -20,7 +20,7 @@ use Rattle.wp_rule.specs.Knows.{Noted}
 use Rattle.wp_rule.specs.Words.{IsAt}
 use Rattle.wp_rule.proofs.Knows.{at_sound, noted_is}
 use Rattle.wp_shared.specs.Seats.{SharedState, SeatState, Stands, place_at}
-use Rattle.wp_shared.proofs.Tables.{held_table}
+use Rattle.wp_shared.proofs.Tables.{held_state}
 use Rattle.wp_commits.specs.Cleared.{IsThere, IsCleared, DecidesItself, IsReadyAt, IsUnentered}
 
 pub bound_is : {D : Type 0} (z : SharedState D) (s t : SeatState) (found : ℕ) → t ≡ s → (w : World) × Stands z t w × (found ≡ w.max_evicted) → (bound : ℕ) (words : List ℕ) → Noted s.knows (words_stay bound words) → found ≡ bound
@@ -56,7 +56,7 @@ module _ {D : Type 0} (z : SharedState D) (s t : SeatState) (d : WriteState) (pl
 
   module _ (held : IsIn (writes d) s.knows.held) (within : place < z.cells) (noted : (bound : ℕ) × (words : List ℕ) × Noted s.knows (words_stay bound words)) (ready : IsUnentered s.knows z.cells d ⊎ IsReadyAt s.knows (length d.history) place) where
     table_is : at.0.writes ≡ d
-    table_is = held_table (place_at z s.by) s.knows at.0 (writes d) stands held
+    table_is = held_state (place_at z s.by) s.knows at.0 (writes d) stands held
 
     abbrev IsFound : ℕ × ℕ → Type 0
     IsFound r = IsThere s.knows d.history place r.0 r.1

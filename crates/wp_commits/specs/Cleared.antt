@@ -6,7 +6,7 @@ use Rattle.wp_judge.specs.Words.{CommitPair, commit_pair, fits}
 use Rattle.wp_core.specs.Cache.{cache_place, pair_at}
 use Rattle.wp_core.specs.Entries.{pending_pair, pairs_of}
 use Rattle.wp_core.specs.Lists.{IsIn}
-use Rattle.wp_core.specs.Tables.{WriteState}
+use Rattle.wp_core.specs.States.{WriteState}
 use Rattle.wp_core.specs.Views.{passed, in_old_commits, apart, words_stay}
 use Rattle.wp_core.specs.World.{Actor}
 use Rattle.wp_rule.specs.Knows.{Noted}

@@ -4,7 +4,7 @@ ghost use Rattle.wp_judge.specs.Words.{CommitPair, commit_pair, fits};
 ghost use Rattle.wp_core.specs.Cache.{pair_at};
 ghost use Rattle.wp_core.specs.Entries.{pairs_of};
 ghost use Rattle.wp_core.specs.Lists.{IsIn};
-ghost use Rattle.wp_core.specs.Tables.{writes, prepared, snapshots};
+ghost use Rattle.wp_core.specs.States.{writes, prepared, snapshots};
 ghost use Rattle.wp_core.specs.Views.{passed, in_old_commits, apart, none_waits};
 ghost use Rattle.wp_rule.specs.Knows.{Noted};
 ghost use Rattle.wp_commits.specs.Bound.{NotedWords, BoundBecomes, raised, bound_after, bound_with};
@@ -41,11 +41,11 @@ fn raise_past<D: Disk + Drop>(
     c: Seq,
 )
     requires seat { seat.old.table ≡ store.now.table }
-    requires held { held_by seat.old ≡ prepared tables.old ∷ writes log.now.table ∷ [] }
-    requires wanted { IsWanted store.now.cells log.now.table place }
+    requires held { held_by seat.old ≡ prepared tables.old ∷ writes log.now.state ∷ [] }
+    requires wanted { IsWanted store.now.cells log.now.state place }
     requires there { IsThere seat.old.knows (history_in log.now) place p c }
     requires flag { DelayedFlagTells seat.old.knows tables.old }
-    ensures seat { GoesOn is_of_words (prepared tables.new ∷ writes log.now.table ∷ []) seat.old.turns seat.old seat.new }
+    ensures seat { GoesOn is_of_words (prepared tables.new ∷ writes log.now.state ∷ []) seat.old.turns seat.old seat.new }
     ensures flag { DelayedFlagTells seat.new.knows tables.new }
     ensures bound { BoundBecomes (λ bound words. raised store.now.cells (length (history_in log.now)) bound c) seat.old.knows seat.new.knows }
 {
@@ -68,10 +68,10 @@ fn ready_snaps<D: Disk + Drop>(
     c: Seq,
 ) -> Result<(), AllocError>
     requires seat { (seat.old.table ≡ store.now.table) × (seat.old.knows.live ≡ true) }
-    requires held { held_by seat.old ≡ snapshots snaps.old ∷ writes log.now.table ∷ [] }
+    requires held { held_by seat.old ≡ snapshots snaps.old ∷ writes log.now.state ∷ [] }
     requires there { IsThere seat.old.knows (history_in log.now) place p c }
     requires flag { OldFlagTells seat.old.knows snaps.old }
-    ensures seat { GoesOn is_flag (snapshots snaps.new ∷ writes log.now.table ∷ []) seat.old.turns seat.old seat.new }
+    ensures seat { GoesOn is_flag (snapshots snaps.new ∷ writes log.now.state ∷ []) seat.old.turns seat.old seat.new }
     ensures flag { OldFlagTells seat.new.knows snaps.new }
     ensures ready { OnOk result (Noted seat.new.knows (in_old_commits place (commit_pair p c))) }
 {
@@ -92,10 +92,10 @@ fn clear_prepared<D: Disk + Drop, R: Wait>(
     c: Seq,
 )
     requires seat { (seat.old.table ≡ store.now.table) × (seat.old.knows.live ≡ true) }
-    requires held { held_by seat.old ≡ writes log.now.table ∷ [] }
-    requires wanted { IsWanted store.now.cells log.now.table place }
+    requires held { held_by seat.old ≡ writes log.now.state ∷ [] }
+    requires wanted { IsWanted store.now.cells log.now.state place }
     requires there { IsThere seat.old.knows (history_in log.now) place p c }
-    ensures seat { GoesOn is_of_words (writes log.now.table ∷ []) seat.old.turns seat.old seat.new }
+    ensures seat { GoesOn is_of_words (writes log.now.state ∷ []) seat.old.turns seat.old seat.new }
     ensures bound { BoundBecomes (λ bound words. raised store.now.cells (length (history_in log.now)) bound c) seat.old.knows seat.new.knows }
     ensures ready { Noted seat.new.knows (passed place (commit_pair p c)) × Noted seat.new.knows (apart place (commit_pair p c)) }
 {
@@ -118,9 +118,9 @@ fn clear_snaps<D: Disk + Drop, R: Wait>(
     c: Seq,
 ) -> Result<(), AllocError>
     requires seat { (seat.old.table ≡ store.now.table) × (seat.old.knows.live ≡ true) }
-    requires held { held_by seat.old ≡ writes log.now.table ∷ [] }
+    requires held { held_by seat.old ≡ writes log.now.state ∷ [] }
     requires there { IsThere seat.old.knows (history_in log.now) place p c }
-    ensures seat { GoesOn is_flag (writes log.now.table ∷ []) seat.old.turns seat.old seat.new }
+    ensures seat { GoesOn is_flag (writes log.now.state ∷ []) seat.old.turns seat.old seat.new }
     ensures ready { OnOk result (Noted seat.new.knows (in_old_commits place (commit_pair p c))) }
 {
     let mut snaps = store.take_turn::<Snaps, R>(rt, seat);
@@ -140,10 +140,10 @@ fn let_pass<D: Disk + Drop, R: Wait>(
     c: Seq,
 )
     requires seat { (seat.old.table ≡ store.now.table) × (seat.old.knows.live ≡ true) }
-    requires held { held_by seat.old ≡ writes log.now.table ∷ [] }
-    requires wanted { IsWanted store.now.cells log.now.table place }
+    requires held { held_by seat.old ≡ writes log.now.state ∷ [] }
+    requires wanted { IsWanted store.now.cells log.now.state place }
     requires there { IsThere seat.old.knows (history_in log.now) place p c }
-    ensures seat { GoesOn is_of_words (writes log.now.table ∷ []) seat.old.turns seat.old seat.new }
+    ensures seat { GoesOn is_of_words (writes log.now.state ∷ []) seat.old.turns seat.old seat.new }
     ensures bound { BoundBecomes (λ bound words. raised store.now.cells (length (history_in log.now)) bound c) seat.old.knows seat.new.knows }
 {
     let bound = store.max(seat);
@@ -167,11 +167,11 @@ pub(crate) fn clear_own<D: Disk + Drop, R: Wait>(
     c: Seq,
 )
     requires seat { (seat.old.table ≡ store.now.table) × (seat.old.knows.live ≡ true) }
-    requires held { held_by seat.old ≡ writes log.now.table ∷ [] }
-    requires wanted { IsWanted store.now.cells log.now.table place }
+    requires held { held_by seat.old ≡ writes log.now.state ∷ [] }
+    requires wanted { IsWanted store.now.cells log.now.state place }
     requires there { IsThere seat.old.knows (history_in log.now) place p c }
     requires ready { IsCleared seat.old.knows place ⊎ (p ≡ c) }
-    ensures seat { GoesOn is_of_words (writes log.now.table ∷ []) seat.old.turns seat.old seat.new }
+    ensures seat { GoesOn is_of_words (writes log.now.state ∷ []) seat.old.turns seat.old seat.new }
     ensures bound { BoundBecomes (λ bound words. raised store.now.cells (length (history_in log.now)) bound c) seat.old.knows seat.new.knows }
     ensures cleared { IsCleared seat.new.knows place }
 {
@@ -193,10 +193,10 @@ fn clear_there<D: Disk + Drop, R: Wait>(
     c: Seq,
 ) -> Result<(), AllocError>
     requires seat { (seat.old.table ≡ store.now.table) × (seat.old.knows.live ≡ true) }
-    requires held { held_by seat.old ≡ writes log.now.table ∷ [] }
-    requires wanted { IsWanted store.now.cells log.now.table place }
+    requires held { held_by seat.old ≡ writes log.now.state ∷ [] }
+    requires wanted { IsWanted store.now.cells log.now.state place }
     requires there { IsThere seat.old.knows (history_in log.now) place p c }
-    ensures seat { GoesOn is_of_words (writes log.now.table ∷ []) seat.old.turns seat.old seat.new }
+    ensures seat { GoesOn is_of_words (writes log.now.state ∷ []) seat.old.turns seat.old seat.new }
     ensures bound { BoundBecomes (λ bound words. raised store.now.cells (length (history_in log.now)) bound c) seat.old.knows seat.new.knows }
     ensures cleared { OnOk result (IsCleared seat.new.knows place) }
 {
@@ -219,12 +219,12 @@ fn clear_place<D: Disk + Drop, R: Wait>(
     place: usize,
 ) -> Result<(), AllocError>
     requires seat { (seat.old.table ≡ store.now.table) × (seat.old.knows.live ≡ true) }
-    requires held { held_by seat.old ≡ writes log.now.table ∷ [] }
-    requires wanted { IsWanted store.now.cells log.now.table place }
+    requires held { held_by seat.old ≡ writes log.now.state ∷ [] }
+    requires wanted { IsWanted store.now.cells log.now.state place }
     requires words { NotedWords seat.old.knows }
-    requires unentered { IsUnentered seat.old.knows store.now.cells log.now.table }
+    requires unentered { IsUnentered seat.old.knows store.now.cells log.now.state }
     requires within { place < store.now.cells }
-    ensures seat { GoesOn is_of_words (writes log.now.table ∷ []) seat.old.turns seat.old seat.new }
+    ensures seat { GoesOn is_of_words (writes log.now.state ∷ []) seat.old.turns seat.old seat.new }
     ensures bound { BoundBecomes (λ bound words. bound_after store.now.cells (length (history_in log.now)) bound (pair_at words place)) seat.old.knows seat.new.knows }
     ensures cleared { OnOk result (IsCleared seat.new.knows place) }
 {
@@ -244,11 +244,11 @@ fn reach<D: Disk + Drop, R: Wait>(
     c: Seq,
 )
     requires seat { (seat.old.table ≡ store.now.table) × (seat.old.knows.live ≡ true) }
-    requires held { held_by seat.old ≡ writes log.now.table ∷ [] }
-    requires wanted { IsIn (commit_pair p c) (pairs_of (suc (length (history_in log.now))) log.now.table.pending) }
+    requires held { held_by seat.old ≡ writes log.now.state ∷ [] }
+    requires wanted { IsIn (commit_pair p c) (pairs_of (suc (length (history_in log.now))) log.now.state.pending) }
     requires wide { fits store.now.cells (commit_pair p c) ≡ false }
     requires words { NotedWords seat.old.knows }
-    ensures seat { GoesOn is_of_words (writes log.now.table ∷ []) seat.old.turns seat.old seat.new }
+    ensures seat { GoesOn is_of_words (writes log.now.state ∷ []) seat.old.turns seat.old seat.new }
     ensures bound { BoundBecomes (λ bound words. bound_with store.now.cells (length (history_in log.now)) bound words (Delayed p c)) seat.old.knows seat.new.knows }
 {
     let bound = store.max(seat);
@@ -269,11 +269,11 @@ fn clear<D: Disk + Drop, R: Wait>(
     way: Way,
 ) -> Result<(), AllocError>
     requires seat { (seat.old.table ≡ store.now.table) × (seat.old.knows.live ≡ true) }
-    requires held { held_by seat.old ≡ writes log.now.table ∷ [] }
-    requires wanted { (o : Option CommitPair) × (way ≡ way_of store.now.cells o) × ((pair : CommitPair) → o ≡ Some pair → IsIn pair (pairs_of (suc (length (history_in log.now))) log.now.table.pending)) }
+    requires held { held_by seat.old ≡ writes log.now.state ∷ [] }
+    requires wanted { (o : Option CommitPair) × (way ≡ way_of store.now.cells o) × ((pair : CommitPair) → o ≡ Some pair → IsIn pair (pairs_of (suc (length (history_in log.now))) log.now.state.pending)) }
     requires words { NotedWords seat.old.knows }
-    requires unentered { IsUnentered seat.old.knows store.now.cells log.now.table }
-    ensures seat { GoesOn is_of_words (writes log.now.table ∷ []) seat.old.turns seat.old seat.new }
+    requires unentered { IsUnentered seat.old.knows store.now.cells log.now.state }
+    ensures seat { GoesOn is_of_words (writes log.now.state ∷ []) seat.old.turns seat.old seat.new }
     ensures bound { BoundBecomes (λ bound words. bound_with store.now.cells (length (history_in log.now)) bound words way) seat.old.knows seat.new.knows }
     ensures cleared { OnOk result (IsClearedFor seat.new.knows store.now.cells way) }
     ensures waits { OnOk result (Clears way ⊎ Noted seat.old.knows none_waits → Noted seat.new.knows none_waits) }
@@ -303,14 +303,14 @@ pub fn clear_all<D: Disk + Drop, R: Wait>(
     log: &Log<D>,
 ) -> Result<(), AllocError>
     requires seat { (seat.old.table ≡ store.now.table) × (seat.old.knows.live ≡ true) }
-    requires held { held_by seat.old ≡ writes log.now.table ∷ [] }
+    requires held { held_by seat.old ≡ writes log.now.state ∷ [] }
     requires words { NotedWords seat.old.knows }
-    requires unentered { IsUnentered seat.old.knows store.now.cells log.now.table }
+    requires unentered { IsUnentered seat.old.knows store.now.cells log.now.state }
     ensures seat { GoesOn is_of_words (held_by seat.old) seat.old.turns seat.old seat.new }
-    ensures bound { OnOk result (RisesForAll store.now.cells log.now.table seat.old.knows seat.new.knows) }
-    ensures refused { OnErr result (RisesForSome store.now.cells log.now.table seat.old.knows seat.new.knows) }
-    ensures cleared { OnOk result (AreCleared seat.new.knows store.now.cells (ways_in store.now.cells log.now.table)) }
-    ensures waits { OnOk result (AnyClears (ways_in store.now.cells log.now.table) → Noted seat.new.knows none_waits) }
+    ensures bound { OnOk result (RisesForAll store.now.cells log.now.state seat.old.knows seat.new.knows) }
+    ensures refused { OnErr result (RisesForSome store.now.cells log.now.state seat.old.knows seat.new.knows) }
+    ensures cleared { OnOk result (AreCleared seat.new.knows store.now.cells (ways_in store.now.cells log.now.state)) }
+    ensures waits { OnOk result (AnyClears (ways_in store.now.cells log.now.state) → Noted seat.new.knows none_waits) }
 {
     log.devices_agree();
     let bits = store.bits();

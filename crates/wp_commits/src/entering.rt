@@ -3,7 +3,7 @@ ghost use Rattle.std.specs.Prelude.{◌≡◌, ◌≢◌, ◌<◌, ◌≤◌, �
 ghost use Rattle.wp_judge.specs.Words.{commit_pair, fits};
 ghost use Rattle.wp_core.specs.Cache.{cache_place, pair_at, with_pair};
 ghost use Rattle.wp_core.specs.Entries.{pending_pair};
-ghost use Rattle.wp_core.specs.Tables.{writes};
+ghost use Rattle.wp_core.specs.States.{writes};
 ghost use Rattle.wp_core.specs.Views.{words_stay, pair_delayed};
 ghost use Rattle.wp_rule.specs.Knows.{Noted};
 ghost use Rattle.wp_commits.specs.Bound.{NotedWords, BoundBecomes, bound_after};
@@ -32,12 +32,12 @@ fn clear_again<D: Disk + Drop, R: Wait>(
     place: usize,
 )
     requires seat { (seat.old.table ≡ store.now.table) × (seat.old.knows.live ≡ true) }
-    requires held { held_by seat.old ≡ writes log.now.table ∷ [] }
-    requires wanted { IsWanted store.now.cells log.now.table place }
+    requires held { held_by seat.old ≡ writes log.now.state ∷ [] }
+    requires wanted { IsWanted store.now.cells log.now.state place }
     requires words { NotedWords seat.old.knows }
     requires within { place < store.now.cells }
     requires ready { IsReadyAt seat.old.knows (length (history_in log.now)) place }
-    ensures seat { GoesOn is_of_words (writes log.now.table ∷ []) seat.old.turns seat.old seat.new }
+    ensures seat { GoesOn is_of_words (writes log.now.state ∷ []) seat.old.turns seat.old seat.new }
     ensures bound { BoundBecomes (λ bound words. bound_after store.now.cells (length (history_in log.now)) bound (pair_at words place)) seat.old.knows seat.new.knows }
     ensures cleared { IsCleared seat.new.knows place }
 {
@@ -57,9 +57,9 @@ fn enter_pair<D: Disk + Drop, R: Wait>(
     c: Seq,
 )
     requires seat { (seat.old.table ≡ store.now.table) × (seat.old.knows.live ≡ true) }
-    requires held { held_by seat.old ≡ writes log.now.table ∷ [] }
+    requires held { held_by seat.old ≡ writes log.now.state ∷ [] }
     requires words { NotedWords seat.old.knows }
-    requires pending { pending_pair (history_in log.now) log.now.table.pending ≡ Some (commit_pair p c) }
+    requires pending { pending_pair (history_in log.now) log.now.state.pending ≡ Some (commit_pair p c) }
     requires narrow { fits store.now.cells (commit_pair p c) ≡ true }
     requires ready { IsReadyAt seat.old.knows (length (history_in log.now)) (cache_place store.now.cells p) }
     ensures seat { GoesOn (is_of_place (cache_place store.now.cells p)) (held_by seat.old) seat.old.turns seat.old seat.new }
@@ -83,8 +83,8 @@ fn enter_delayed<D: Disk + Drop, R: Wait>(
     c: Seq,
 )
     requires seat { (seat.old.table ≡ store.now.table) × (seat.old.knows.live ≡ true) }
-    requires held { held_by seat.old ≡ writes log.now.table ∷ [] }
-    requires pending { pending_pair (history_in log.now) log.now.table.pending ≡ Some (commit_pair p c) }
+    requires held { held_by seat.old ≡ writes log.now.state ∷ [] }
+    requires pending { pending_pair (history_in log.now) log.now.state.pending ≡ Some (commit_pair p c) }
     requires wide { fits store.now.cells (commit_pair p c) ≡ false }
     requires reached { IsReached seat.old.knows p }
     ensures seat { GoesOn is_of_delayed (held_by seat.old) seat.old.turns seat.old seat.new }
@@ -101,13 +101,13 @@ fn enter_delayed<D: Disk + Drop, R: Wait>(
 /// no memory.
 pub fn enter<D: Disk + Drop, R: Wait>(store: &Shared<D>, rt: &R, seat: &mut Seat<D>, log: &Log<D>)
     requires seat { (seat.old.table ≡ store.now.table) × (seat.old.knows.live ≡ true) }
-    requires held { held_by seat.old ≡ writes log.now.table ∷ [] }
+    requires held { held_by seat.old ≡ writes log.now.state ∷ [] }
     requires words { NotedWords seat.old.knows }
-    requires ready { IsReadyForNext seat.old.knows store.now.cells log.now.table }
-    ensures seat { GoesOn (is_of_way store.now.cells (next_way_in store.now.cells log.now.table)) (held_by seat.old) seat.old.turns seat.old seat.new }
-    ensures words { EntersNext store.now.cells log.now.table seat.old.knows seat.new.knows }
-    ensures there { HasEntered seat.new.knows store.now.cells (next_way_in store.now.cells log.now.table) }
-    ensures elsewhere { StayReady store.now.cells (length (history_in log.now)) (next_way_in store.now.cells log.now.table) seat.old.knows seat.new.knows }
+    requires ready { IsReadyForNext seat.old.knows store.now.cells log.now.state }
+    ensures seat { GoesOn (is_of_way store.now.cells (next_way_in store.now.cells log.now.state)) (held_by seat.old) seat.old.turns seat.old seat.new }
+    ensures words { EntersNext store.now.cells log.now.state seat.old.knows seat.new.knows }
+    ensures there { HasEntered seat.new.knows store.now.cells (next_way_in store.now.cells log.now.state) }
+    ensures elsewhere { StayReady store.now.cells (length (history_in log.now)) (next_way_in store.now.cells log.now.state) seat.old.knows seat.new.knows }
 {
     match next_way(store.bits(), log) {
         Way::Undecided => {}

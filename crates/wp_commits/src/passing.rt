@@ -1,6 +1,6 @@
 //! Taking out of the prepared tables what the evicted bound has passed.
 ghost use Rattle.std.specs.Prelude.{◌≡◌, true, [], ◌∷◌, OnOk};
-ghost use Rattle.wp_core.specs.Tables.{writes, prepared, snapshots};
+ghost use Rattle.wp_core.specs.States.{writes, prepared, snapshots};
 ghost use Rattle.wp_core.specs.Views.{none_waits};
 ghost use Rattle.wp_rule.specs.Knows.{Noted};
 ghost use Rattle.wp_commits.specs.Bound.{NotedWords};
@@ -26,11 +26,11 @@ fn pass_all<D: Disk + Drop>(
     snaps: &mut Snaps,
 ) -> Result<(), AllocError>
     requires seat { (seat.old.table ≡ store.now.table) × (seat.old.knows.live ≡ true) }
-    requires held { held_by seat.old ≡ snapshots snaps.old ∷ prepared tables.old ∷ writes log.now.table ∷ [] }
+    requires held { held_by seat.old ≡ snapshots snaps.old ∷ prepared tables.old ∷ writes log.now.state ∷ [] }
     requires words { NotedWords seat.old.knows }
     requires delayed_flag { DelayedFlagTells seat.old.knows tables.old }
     requires old_flag { OldFlagTells seat.old.knows snaps.old }
-    ensures seat { GoesOn is_flag (snapshots snaps.new ∷ prepared tables.new ∷ writes log.now.table ∷ []) seat.old.turns seat.old seat.new }
+    ensures seat { GoesOn is_flag (snapshots snaps.new ∷ prepared tables.new ∷ writes log.now.state ∷ []) seat.old.turns seat.old seat.new }
     ensures delayed_flag { DelayedFlagTells seat.new.knows tables.new }
     ensures old_flag { OldFlagTells seat.new.knows snaps.new }
     ensures waits { OnOk result (Noted seat.new.knows none_waits) }
@@ -52,9 +52,9 @@ pub(crate) fn pass<D: Disk + Drop, R: Wait>(
     log: &Log<D>,
 ) -> Result<(), AllocError>
     requires seat { (seat.old.table ≡ store.now.table) × (seat.old.knows.live ≡ true) }
-    requires held { held_by seat.old ≡ writes log.now.table ∷ [] }
+    requires held { held_by seat.old ≡ writes log.now.state ∷ [] }
     requires words { NotedWords seat.old.knows }
-    ensures seat { GoesOn is_flag (writes log.now.table ∷ []) seat.old.turns seat.old seat.new }
+    ensures seat { GoesOn is_flag (writes log.now.state ∷ []) seat.old.turns seat.old seat.new }
     ensures waits { OnOk result (Noted seat.new.knows none_waits) }
 {
     if steps::none_delayed(store, seat, log) {

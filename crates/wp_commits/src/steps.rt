@@ -8,7 +8,7 @@ ghost use Rattle.wp_model.specs.Snapshots.{NoOldCommits};
 ghost use Rattle.wp_core.specs.Cache.{cache_place, pair_at, with_pair};
 ghost use Rattle.wp_core.specs.Entries.{pending_pair};
 ghost use Rattle.wp_core.specs.Lists.{IsIn};
-ghost use Rattle.wp_core.specs.Tables.{Content, writes, prepared, snapshots, without_prepared};
+ghost use Rattle.wp_core.specs.States.{Content, writes, prepared, snapshots, without_prepared};
 ghost use Rattle.wp_core.specs.Sound.Prepared.{IsInOldCommits};
 ghost use Rattle.wp_core.specs.Sound.Views.{IsApart};
 ghost use Rattle.wp_core.specs.Views.{passed, apart, words_stay, has_left, pair_delayed, none_waits, delayed_flag_stays, old_flag_stays};
@@ -45,10 +45,10 @@ pub(crate) fn pair<D: Disk + Drop>(
     place: usize,
 ) -> Option<(Seq, Seq)>
     requires seat { seat.old.table ≡ store.now.table }
-    requires held { IsIn (writes log.now.table) (held_by seat.old) }
+    requires held { IsIn (writes log.now.state) (held_by seat.old) }
     requires within { place < store.now.cells }
     requires words { NotedWords seat.old.knows }
-    requires published { IsUnentered seat.old.knows store.now.cells log.now.table ⊎ IsReadyAt seat.old.knows (length (history_in log.now)) place }
+    requires published { IsUnentered seat.old.knows store.now.cells log.now.state ⊎ IsReadyAt seat.old.knows (length (history_in log.now)) place }
     ensures same { seat.new ≡ seat.old }
     ensures pair { (bound : ℕ) (words : List ℕ) → Noted seat.old.knows (words_stay bound words) → result ≡ option_map numbers_of (pair_at words place) }
     ensures there { IfSome result (λ r. IsThere seat.old.knows (history_in log.now) place r.0 r.1) }
@@ -78,7 +78,7 @@ pub(crate) fn note_own<D: Disk + Drop>(
     n: Seq,
 )
     requires seat { (seat.old.table ≡ store.now.table) × (seat.old.knows.live ≡ true) }
-    requires held { IsIn (writes log.now.table) (held_by seat.old) }
+    requires held { IsIn (writes log.now.state) (held_by seat.old) }
     requires passed { (k : IsThere seat.old.knows (history_in log.now) place n n) × (n ≤ k.bound) }
     ensures { seat.new ≡ noted_all place (commit_pair n n) seat.old }
 {
@@ -97,9 +97,9 @@ pub(crate) fn put_word<D: Disk + Drop>(
     c: Seq,
 )
     requires seat { seat.old.table ≡ store.now.table }
-    requires held { IsIn (writes log.now.table) (held_by seat.old) }
+    requires held { IsIn (writes log.now.state) (held_by seat.old) }
     requires place { (place ≡ cache_place store.now.cells p) × (place < store.now.cells) }
-    requires pending { pending_pair (history_in log.now) log.now.table.pending ≡ Some (commit_pair p c) }
+    requires pending { pending_pair (history_in log.now) log.now.state.pending ≡ Some (commit_pair p c) }
     requires narrow { fits store.now.cells (commit_pair p c) ≡ true }
     requires cleared { IsCleared seat.old.knows place }
     ensures seat { GoesOn (is_of_place place) (held_by seat.old) seat.old.turns seat.old seat.new }
@@ -144,10 +144,10 @@ pub(crate) fn raise<D: Disk + Drop>(
     m: Seq,
 )
     requires seat { seat.old.table ≡ store.now.table }
-    requires held { held_by seat.old ≡ prepared tables.old ∷ writes log.now.table ∷ [] }
-    requires rises { IsRise seat.old.knows store.now.cells log.now.table m }
+    requires held { held_by seat.old ≡ prepared tables.old ∷ writes log.now.state ∷ [] }
+    requires rises { IsRise seat.old.knows store.now.cells log.now.state m }
     requires flag { DelayedFlagTells seat.old.knows tables.old }
-    ensures seat { GoesOn is_of_words (prepared tables.new ∷ writes log.now.table ∷ []) seat.old.turns seat.old seat.new }
+    ensures seat { GoesOn is_of_words (prepared tables.new ∷ writes log.now.state ∷ []) seat.old.turns seat.old seat.new }
     ensures flag { DelayedFlagTells seat.new.knows tables.new }
     ensures bound { BoundBecomes (λ bound words. m) seat.old.knows seat.new.knows }
 {
@@ -168,11 +168,11 @@ pub(crate) fn delay<D: Disk + Drop>(
     c: Seq,
 )
     requires seat { seat.old.table ≡ store.now.table }
-    requires held { held_by seat.old ≡ prepared tables.old ∷ writes log.now.table ∷ [] }
+    requires held { held_by seat.old ≡ prepared tables.old ∷ writes log.now.state ∷ [] }
     requires decided { decision_of (history_in log.now) p ≡ Some c }
     requires reached { IsReached seat.old.knows p }
     requires flag { DelayedFlagTells seat.old.knows tables.old }
-    ensures seat { GoesOn is_flag (prepared tables.new ∷ writes log.now.table ∷ []) seat.old.turns seat.old seat.new }
+    ensures seat { GoesOn is_flag (prepared tables.new ∷ writes log.now.state ∷ []) seat.old.turns seat.old seat.new }
     ensures flag { DelayedFlagTells seat.new.knows tables.new }
     ensures apart { IsApart tables.new (commit_pair p c) }
 {
@@ -193,12 +193,12 @@ pub(crate) fn delay_pending<D: Disk + Drop>(
     c: Seq,
 )
     requires seat { (seat.old.table ≡ store.now.table) × (seat.old.knows.live ≡ true) }
-    requires held { held_by seat.old ≡ prepared tables.old ∷ writes log.now.table ∷ [] }
-    requires pending { pending_pair (history_in log.now) log.now.table.pending ≡ Some (commit_pair p c) }
+    requires held { held_by seat.old ≡ prepared tables.old ∷ writes log.now.state ∷ [] }
+    requires pending { pending_pair (history_in log.now) log.now.state.pending ≡ Some (commit_pair p c) }
     requires wide { fits store.now.cells (commit_pair p c) ≡ false }
     requires reached { IsReached seat.old.knows p }
     requires flag { DelayedFlagTells seat.old.knows tables.old }
-    ensures seat { GoesOn is_of_delayed (prepared tables.new ∷ writes log.now.table ∷ []) seat.old.turns seat.old seat.new }
+    ensures seat { GoesOn is_of_delayed (prepared tables.new ∷ writes log.now.state ∷ []) seat.old.turns seat.old seat.new }
     ensures flag { DelayedFlagTells seat.new.knows tables.new }
     ensures there { Noted seat.new.knows pair_delayed }
     ensures low { (bound : ℕ) (words : List ℕ) → Noted seat.old.knows (words_stay bound words) → p ≤ bound }
@@ -243,7 +243,7 @@ pub(crate) fn none_delayed<D: Disk + Drop>(
     log: &Log<D>,
 ) -> bool
     requires seat { (seat.old.table ≡ store.now.table) × (seat.old.knows.live ≡ true) }
-    requires held { IsIn (writes log.now.table) (held_by seat.old) }
+    requires held { IsIn (writes log.now.state) (held_by seat.old) }
     ensures { MatchBool result (seat.new ≡ noting none_waits seat.old) (seat.new ≡ seat.old) }
 {
     store.load::<Brand>(seat, Word::DelayedFlag) == 0
@@ -257,7 +257,7 @@ pub(crate) fn passed<D: Disk + Drop>(
     tables: &Prepared,
 ) -> Option<(Seq, Seq)>
     requires seat { seat.old.table ≡ store.now.table }
-    requires held { IsIn (writes log.now.table) (held_by seat.old) × IsIn (prepared tables.now) (held_by seat.old) }
+    requires held { IsIn (writes log.now.state) (held_by seat.old) × IsIn (prepared tables.now) (held_by seat.old) }
     requires words { NotedWords seat.old.knows }
     ensures same { seat.new ≡ seat.old }
     ensures passed { MatchOption result (NoneReached seat.old.knows tables.now.delayed_commits) (IsReachedCommit seat.old.knows (history_in log.now) tables.now.delayed_commits) }
@@ -278,12 +278,12 @@ pub(crate) fn let_go<D: Disk + Drop>(
     c: Seq,
 )
     requires seat { seat.old.table ≡ store.now.table }
-    requires held { held_by seat.old ≡ snapshots snaps.now ∷ prepared tables.old ∷ writes log.now.table ∷ [] }
+    requires held { held_by seat.old ≡ snapshots snaps.now ∷ prepared tables.old ∷ writes log.now.state ∷ [] }
     requires decided { decision_of (history_in log.now) p ≡ Some c }
     requires reached { IsReached seat.old.knows c }
     requires kept { IsInOldCommits snaps.now p c }
     requires flag { DelayedFlagTells seat.old.knows tables.old }
-    ensures seat { GoesOn is_flag (snapshots snaps.now ∷ prepared tables.new ∷ writes log.now.table ∷ []) seat.old.turns seat.old seat.new }
+    ensures seat { GoesOn is_flag (snapshots snaps.now ∷ prepared tables.new ∷ writes log.now.state ∷ []) seat.old.turns seat.old seat.new }
     ensures flag { DelayedFlagTells seat.new.knows tables.new }
     ensures other { (value : ℕ) → Noted seat.old.knows (old_flag_stays value) → Noted seat.new.knows (old_flag_stays value) }
     ensures left { tables.new ≡ without_prepared tables.old p }
@@ -327,7 +327,7 @@ pub(crate) fn keep<D: Disk + Drop>(
     c: Seq,
 ) -> Result<(), AllocError>
     requires seat { seat.old.table ≡ store.now.table }
-    requires held { (others : List Content) × (held_by seat.old ≡ snapshots snaps.old ∷ others) × IsIn (writes log.now.table) others }
+    requires held { (others : List Content) × (held_by seat.old ≡ snapshots snaps.old ∷ others) × IsIn (writes log.now.state) others }
     requires ordered { p ≤ c }
     requires decided { decision_of (history_in log.now) p ≡ Some c }
     requires flag { OldFlagTells seat.old.knows snaps.old }

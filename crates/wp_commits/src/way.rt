@@ -52,7 +52,7 @@ impl Way {
 /// How the pair of the first pending entry is kept.
 pub(crate) fn next_way<D: Disk>(bits: u32, log: &Log<D>) -> Way
     requires { bits ≤ 16 }
-    ensures { result ≡ way_of (2 ^ bits) (pending_pair (history_in log.now) log.now.table.pending) }
+    ensures { result ≡ way_of (2 ^ bits) (pending_pair (history_in log.now) log.now.state.pending) }
 {
     log.devices_agree();
     match log.pending().first() {

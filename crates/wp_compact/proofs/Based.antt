@@ -12,7 +12,7 @@ use Rattle.wp_core.specs.IsSound.{IsSound}
 use Rattle.wp_core.specs.Lists.{IsIn}
 use Rattle.wp_core.specs.Reading.{Registration}
 use Rattle.wp_core.specs.Sound.Actors.{StartsWith}
-use Rattle.wp_core.specs.Tables.{Content, WriteState, writes}
+use Rattle.wp_core.specs.States.{Content, WriteState, writes}
 use Rattle.wp_core.specs.Turns.{write_turn}
 use Rattle.wp_core.specs.Views.{Event}
 use Rattle.wp_core.specs.World.{Participant}
@@ -38,13 +38,13 @@ no_greater k a b first second = ⊎_elim (λ (lt : a < b). let e : min a b ≡ a
 
 module _ {D : Type 0} {z : SharedState D} {s t : SeatState} {log : LogState} (took : TookLog z s t log) where
   -- a free seat holds this turn alone
-  pub took_alone : IsFree z.table s → HoldsTurn z t (writes log.table) [] []
-  took_alone free = subst (λ (x : List Content × List ℕ). HoldsTurn z t (writes log.table) x.0 x.1) (λ i. (free.held i, free.turns i)) took.holds
+  pub took_alone : IsFree z.table s → HoldsTurn z t (writes log.state) [] []
+  took_alone free = subst (λ (x : List Content × List ℕ). HoldsTurn z t (writes log.state) x.0 x.1) (λ i. (free.held i, free.turns i)) took.holds
 
   goes_took : GoesOnAs s t s.knows.participant
   goes_took =
-      let h = log.table.history in
-      goes_still s (seeing h s) t s.knows.participant (goes_seeing s h took.grown) (goes_same (seeing h s) t no_fact (writes log.table ∷ s.knows.held) (0 ∷ s.turns) loose_none took.goes)
+      let h = log.state.history in
+      goes_still s (seeing h s) t s.knows.participant (goes_seeing s h took.grown) (goes_same (seeing h s) t no_fact (writes log.state ∷ s.knows.held) (0 ∷ s.turns) loose_none took.goes)
 
   sound : IsSound took.world
   sound = at_sound (place_at z t.by) t.knows took.world took.stands
@@ -89,13 +89,13 @@ module _ {D : Type 0} {z : SharedState D} {s t : SeatState} {log : LogState} (to
       base_low : (r : Registration) → IsIn r (floor ∷ live) → log.first.segment.base ≤ r.number
       base_low r there = let b = sound.from_base r.number (is_live r there) in let e = base_is ∙ ap (λ (x : InstalledEdit). x.segment.base) edit_is in omega (arith, b, e)
 
-      module _ (bases : Bases) (opened_is : bases.opened ≡ log.first.segment.base) (installed_is : bases.installed ≡ min log.table.segment.base floor.number) where
+      module _ (bases : Bases) (opened_is : bases.opened ≡ log.first.segment.base) (installed_is : bases.installed ≡ min log.state.segment.base floor.number) where
         pub are_low : AreLow v.knows.participant.seen floor.number live bases
         are_low = subst (λ (p : Participant). AreLow p.seen floor.number live bases) (sym same_given) (record {
           opened =
               let risen = told.risen in let segment = ap (λ (g : Segment). g.base) told.segment in let low = base_low floor (inl refl) in
-              let k = no_greater log.first.segment.base log.table.segment.base floor.number (omega (arith, risen, segment)) low in omega (arith, k, opened_is, installed_is);
-          installed = let k = min-le_right log.table.segment.base floor.number in omega (arith, k, installed_is);
+              let k = no_greater log.first.segment.base log.state.segment.base floor.number (omega (arith, risen, segment)) low in omega (arith, k, opened_is, installed_is);
+          installed = let k = min-le_right log.state.segment.base floor.number in omega (arith, k, installed_is);
           live_from = λ r there. let k = base_low r (inr there) in omega (arith, k, opened_is);
           whole =
               let opened : z.opened ≡ took.world.opened = sym took.stands.opened in
@@ -106,8 +106,8 @@ module _ {D : Type 0} {z : SharedState D} {s t : SeatState} {log : LogState} (to
         pub are_bases : AreBases z s v floor.number bases
         are_bases = record {
           opened = (one.edit, one.last, opened_is ∙ base_is);
-          table = log.table;
-          held = subst (λ (past : List Event). HeldContent z s v past (writes log.table)) (ap (λ (p : Participant). p.past) (same_given ∙ goes_took.participant))
-              (held_then z s t v (writes log.table) (took.world, took.stands) (goes_took.same_by, goes_took.made, goes_took.joined) goes_took.seen same_given (subst (IsIn (writes log.table)) (sym took.holds.held) (inl refl)));
+          state = log.state;
+          held = subst (λ (past : List Event). HeldContent z s v past (writes log.state)) (ap (λ (p : Participant). p.past) (same_given ∙ goes_took.participant))
+              (held_then z s t v (writes log.state) (took.world, took.stands) (goes_took.same_by, goes_took.made, goes_took.joined) goes_took.seen same_given (subst (IsIn (writes log.state)) (sym took.holds.held) (inl refl)));
           installed_is = installed_is;
         }

@@ -12,7 +12,7 @@ use Rattle.wp_model.specs.Flushed.{IsEditCovered, later_versions}
 use Rattle.wp_model.specs.History.{newest, value_at}
 use Rattle.wp_model.specs.Legal.{IsLegal, undone_last}
 use Rattle.std.specs.FinMap as finite
-use Rattle.wp_model.specs.Snapshots.{Snapshot, IsLive}
+use Rattle.wp_model.specs.Snapshots.{LiveSnapshot, IsLive}
 use Rattle.wp_model.specs.Versions.{AreInOrder, version_at}
 use Rattle.wp_history_laws.proofs.Counting.{entry_version_old}
 use Rattle.wp_history_laws.proofs.Growth.{legal_before}
@@ -35,7 +35,7 @@ use Rattle.wp_core.specs.Conditions.{KeepsStore}
 use Rattle.wp_core.specs.IsSound.{IsSound}
 use Rattle.wp_core.specs.Sound.Actors.{StartsWith}
 use Rattle.wp_core.specs.Sound.Store.{NoneFlushed}
-use Rattle.wp_core.specs.Tables.{live_numbers, up_to}
+use Rattle.wp_core.specs.States.{live_numbers, up_to}
 use Rattle.wp_core.specs.World.{World}
 use Rattle.wp_core.proofs.CoveredGrows.{version_within}
 use Rattle.wp_core.proofs.HistoryLaws.{decided_late, decision_stays, decision_was}
@@ -298,7 +298,7 @@ module _ (w : World) (sound : IsSound w) (front : List Entry) (starts : StartsWi
 
   -- ---- the store
 
-  within_live : (n : ℕ) (o : Option Snapshot) → finite.get w.snapshots n ≡ o → is_some o ≡ true → n ≤ length history
+  within_live : (n : ℕ) (o : Option LiveSnapshot) → finite.get w.snapshots n ≡ o → is_some o ≡ true → n ≤ length history
   within_live n None is live = absurd cc
   within_live n (Some x) is live = (sound.registrations.live n x is).1
 

@@ -6,7 +6,7 @@ use Rattle.wp_core.specs.Changes.{held_with}
 use Rattle.wp_core.specs.Notes.{ends}
 use Rattle.wp_core.specs.Conditions.{KeepsStore}
 use Rattle.wp_core.specs.Steps.{Step, replace_versions, note}
-use Rattle.wp_core.specs.Tables.{StoreState, Installed, store, installed}
+use Rattle.wp_core.specs.States.{StoreState, Installed, store, installed}
 use Rattle.wp_core.specs.Turns.{tables_turn}
 use Rattle.wp_core.specs.Views.{Fact, tables_stay, nothing_flushed, frozen_stay}
 use Rattle.wp_core.specs.World.{Actor, World}
@@ -20,7 +20,7 @@ use Rattle.wp_rule.proofs.Stores.{holder_is_live}
 use Rattle.wp_shared.specs.Notes.{GoesOn}
 use Rattle.wp_shared.specs.Seats.{SeatState}
 use Rattle.wp_shared.proofs.Noting.{note_ends_none}
-use Rattle.wp_shared.proofs.Tables.{held_table}
+use Rattle.wp_shared.proofs.Tables.{held_state}
 use Rattle.wp_maint.specs.Holding.{is_of_tables}
 use Rattle.wp_maint.proofs.Made.{first_held, goes_from, noted_by, second_held}
 
@@ -50,7 +50,7 @@ module _ (p : Place) (so : World → Type 0) (s u : SeatState) (same : (u.table 
 
   kept_held : held_with s.knows.held (store (record x.store { tables = now.tables; floor = now.floor })) ≡ store now ∷ installed e ∷ []
   kept_held =
-      let table : x.store ≡ t = held_table p s.knows x (store t) m.before (first_held s.knows (store t) (installed e ∷ []) held) in
+      let table : x.store ≡ t = held_state p s.knows x (store t) m.before (first_held s.knows (store t) (installed e ∷ []) held) in
       (λ i. held_with (held i) (store (record (table i) { tables = now.tables; floor = now.floor }))) ∙ ap (λ (l : List Version). store (record { memory = l; tables = now.tables; floor = now.floor }) ∷ installed e ∷ []) (sym memory)
 
   pub was_replaced : GoesOn is_of_tables (store now ∷ installed e ∷ []) s.turns s u

@@ -15,7 +15,7 @@ use Rattle.wp_tableset.specs.Changes.{Asked, new_parts, one_part, parts_after}
 use Rattle.wp_core.specs.Effects.{with_failed}
 use Rattle.wp_core.specs.Lists.{IsIn}
 use Rattle.wp_core.specs.Reading.{Registration}
-use Rattle.wp_core.specs.Tables.{Installed, installed}
+use Rattle.wp_core.specs.States.{Installed, installed}
 use Rattle.wp_core.specs.Views.{tables_failed, tables_stay, live_listed, nothing_flushed}
 use Rattle.wp_core.specs.Views as event
 use Rattle.wp_core.specs.World.{Participant}
@@ -49,24 +49,24 @@ pub only_sorted : (kept : List Version) → AreInOrder kept → (parts : List (L
 only_sorted kept ordered parts part is one = ap (λ (l : List (List Version)). sorted_of (joined l)) (is ∙ ap (λ (o : Option (List Version)). with_newest o []) one) ∙ one_sorted kept ordered
 
 -- what is asked for has the table in place of all
-pub alone : (e left : VersionSetState) (kept : List Version) (asked : Asked) → asked ≡ all_in_one kept e.table.last → left.parts ≡ parts_after asked e.parts → HasAlone kept e left
+pub alone : (e left : VersionSetState) (kept : List Version) (asked : Asked) → asked ≡ all_in_one kept e.state.last → left.parts ≡ parts_after asked e.parts → HasAlone kept e left
 alone e left kept asked is parts = parts ∙ ap (λ (x : Asked). parts_after x e.parts) is ∙ append-nil (new_parts kept)
 
 -- ---- the edit was installed
 
-module _ {D : Type 0} (z : SharedState D) (s u : SeatState) (e left : VersionSetState) (floor : ℕ) (live : List Registration) (bases : Bases) (opened : IsOpenedBase z bases.opened) (may : MayMerge s.knows e.table floor live bases) (kept : List Version) (kept_is : kept ≡ retained (take floor s.knows.participant.seen) (listed (numbers_of live) bases.opened e.table.last) e.table.last) where
+module _ {D : Type 0} (z : SharedState D) (s u : SeatState) (e left : VersionSetState) (floor : ℕ) (live : List Registration) (bases : Bases) (opened : IsOpenedBase z bases.opened) (may : MayMerge s.knows e.state floor live bases) (kept : List Version) (kept_is : kept ≡ retained (take floor s.knows.participant.seen) (listed (numbers_of live) bases.opened e.state.last) e.state.last) where
   abbrev next : InstalledEdit
-  next = next_of (all_in_one kept e.table.last) e.table.last
+  next = next_of (all_in_one kept e.state.last) e.state.last
 
   abbrev numbers : List ℕ
-  numbers = listed (numbers_of live) bases.opened e.table.last
+  numbers = listed (numbers_of live) bases.opened e.state.last
 
   abbrev first : InstalledEdit
   first = opened.0
 
   -- as the first edit says it
-  numbers_are : numbers ≡ listed (numbers_of live) first.segment.base e.table.last
-  numbers_are = ap (λ (b : ℕ). listed (numbers_of live) b e.table.last) opened.2
+  numbers_are : numbers ≡ listed (numbers_of live) first.segment.base e.state.last
+  numbers_are = ap (λ (b : ℕ). listed (numbers_of live) b e.state.last) opened.2
 
   first_low : first.segment.base ≤ floor
   first_low = subst (λ (b : ℕ). b ≤ floor) opened.2 may.low.0
@@ -75,7 +75,7 @@ module _ {D : Type 0} (z : SharedState D) (s u : SeatState) (e left : VersionSet
   live_from n there = let k = number_in live n there in subst (λ (x : ℕ × ℕ). x.0 ≤ x.1) (λ i. (opened.2 i, k.is i)) (may.live_from k.r k.there)
 
   pub next_covered : IsEditCovered s.knows.participant.seen next
-  next_covered = subst (IsEditCovered s.knows.participant.seen) (sym (in_one_is (take floor s.knows.participant.seen) numbers e.table.last kept kept_is)) may.covered
+  next_covered = subst (IsEditCovered s.knows.participant.seen) (sym (in_one_is (take floor s.knows.participant.seen) numbers e.state.last kept kept_is)) may.covered
 
   module _ (k : HasInstalled z s e next true u left) where
     seen : u.knows.participant.seen ≡ s.knows.participant.seen
@@ -84,16 +84,16 @@ module _ {D : Type 0} (z : SharedState D) (s u : SeatState) (e left : VersionSet
     registered : u.knows.participant.registered ≡ s.knows.participant.registered
     registered = ap (λ (x : SeatState). x.knows.participant.registered) k.changes.goes.same
 
-    pub left_kept : left.table.last.versions ≡ kept
-    left_kept = ap (λ (x : Installed). x.last.versions) k.table
+    pub left_kept : left.state.last.versions ≡ kept
+    left_kept = ap (λ (x : Installed). x.last.versions) k.state
 
-    pub replaces_next : Noted u.knows nothing_flushed → MayPutKept z u.knows left.table floor
+    pub replaces_next : Noted u.knows nothing_flushed → MayPutKept z u.knows left.state floor
     replaces_next gone = let k_live = may.replace.live_is in record {
       live = live;
       opened = bases.opened;
       is_opened = opened;
-      low = (may.low.0, subst (λ (x : Installed). x.last.segment.base ≤ floor) (sym k.table) may.low.1);
-      versions = e.table.last.versions;
+      low = (may.low.0, subst (λ (x : Installed). x.last.segment.base ≤ floor) (sym k.state) may.low.1);
+      versions = e.state.last.versions;
       replace = record {
         live_is = record {
           within = subst (λ (h : List Entry). floor ≤ length h) (sym seen) k_live.within;
@@ -102,30 +102,30 @@ module _ {D : Type 0} (z : SharedState D) (s u : SeatState) (e left : VersionSet
         };
         gone = gone;
         store_floor = may.replace.store_floor;
-        named = k.changes.goes.noted (tables_stay e.table.last.versions may.replace.store_floor) refl may.replace.named;
+        named = k.changes.goes.noted (tables_stay e.state.last.versions may.replace.store_floor) refl may.replace.named;
         given_up = may.replace.given_up;
         in_order = may.replace.in_order;
-        low = subst (λ (x : Installed). list_all (is_flushed x.last.flushed) e.table.last.versions ≡ true) (sym k.table) may.replace.low;
+        low = subst (λ (x : Installed). list_all (is_flushed x.last.flushed) e.state.last.versions ≡ true) (sym k.state) may.replace.low;
       };
       kept =
           left_kept
           ∙ kept_is
-          ∙ (λ i. retained (take floor (sym seen i)) (listed (numbers_of live) bases.opened (sym k.table i).last) e.table.last);
+          ∙ (λ i. retained (take floor (sym seen i)) (listed (numbers_of live) bases.opened (sym k.state i).last) e.state.last);
     }
 
-    pub has_compacted : HoldsEdits z s e → HasAlone kept e left → (v : SeatState) (turns : List ℕ) → GoesOn is_of_tables (installed left.table ∷ []) turns u v → e.table.halted ≡ false → SeveralTables e.table.last → (n : ℕ) → n ≡ length kept
-        → HasCompacted (GoesOnAs s v) (IsPin floor (numbers_of live)) z s v e.table (record { at = floor; versions = n })
+    pub has_compacted : HoldsEdits z s e → HasAlone kept e left → (v : SeatState) (turns : List ℕ) → GoesOn is_of_tables (installed left.state ∷ []) turns u v → e.state.halted ≡ false → SeveralTables e.state.last → (n : ℕ) → n ≡ length kept
+        → HasCompacted (GoesOnAs s v) (IsPin floor (numbers_of live)) z s v e.state (record { at = floor; versions = n })
     has_compacted holds parts v turns put running several n counted =
         let then : v.knows.participant.seen ≡ s.knows.participant.seen = ap (λ (x : SeatState). x.knows.participant.seen) put.same ∙ seen in
         -- what the last seat has seen, and the base as the first edit says it
-        let same : (take floor s.knows.participant.seen, numbers) ≡ (take floor v.knows.participant.seen, listed (numbers_of live) first.segment.base e.table.last) = λ i. (take floor (sym then i), numbers_are i) in
-        let kept_then : kept ≡ retained (take floor v.knows.participant.seen) (listed (numbers_of live) first.segment.base e.table.last) e.table.last = kept_is ∙ ap (λ (x : List Entry × List ℕ). retained x.0 x.1 e.table.last) same in
-        let named : next ≡ after_compaction (take floor v.knows.participant.seen) (listed (numbers_of live) first.segment.base e.table.last) e.table.last = in_one_is (take floor v.knows.participant.seen) (listed (numbers_of live) first.segment.base e.table.last) e.table.last kept kept_then in
-        let found = found_later z s u v e.table (starts_equal u.knows.participant.seen v.knows.participant.seen (ap (λ (x : SeatState). x.knows.participant.seen) put.same)) k.changes.found in
-        let after : InstalledEdit → Participant = λ edit. with_events (found_by z s v e.table found ∷ event.installed edit true ∷ []) s.knows.participant in
-        let one : GoesOnAs s u (after next) = goes_remembering s u (found_by z s v e.table found ∷ event.installed next true ∷ []) is_of_flushed (installed left.table ∷ []) s.turns k.changes.goes flushed_free in
-        let second : GoesOnAs u v u.knows.participant = goes_same u v is_of_tables (installed left.table ∷ []) turns tables_free put in
-        let count : n ≡ length (retained (take floor v.knows.participant.seen) (listed (numbers_of live) first.segment.base e.table.last) e.table.last) = counted ∙ ap (λ (l : List Version). length l) kept_then in
+        let same : (take floor s.knows.participant.seen, numbers) ≡ (take floor v.knows.participant.seen, listed (numbers_of live) first.segment.base e.state.last) = λ i. (take floor (sym then i), numbers_are i) in
+        let kept_then : kept ≡ retained (take floor v.knows.participant.seen) (listed (numbers_of live) first.segment.base e.state.last) e.state.last = kept_is ∙ ap (λ (x : List Entry × List ℕ). retained x.0 x.1 e.state.last) same in
+        let named : next ≡ after_compaction (take floor v.knows.participant.seen) (listed (numbers_of live) first.segment.base e.state.last) e.state.last = in_one_is (take floor v.knows.participant.seen) (listed (numbers_of live) first.segment.base e.state.last) e.state.last kept kept_then in
+        let found = found_later z s u v e.state (starts_equal u.knows.participant.seen v.knows.participant.seen (ap (λ (x : SeatState). x.knows.participant.seen) put.same)) k.changes.found in
+        let after : InstalledEdit → Participant = λ edit. with_events (found_by z s v e.state found ∷ event.installed edit true ∷ []) s.knows.participant in
+        let one : GoesOnAs s u (after next) = goes_remembering s u (found_by z s v e.state found ∷ event.installed next true ∷ []) is_of_flushed (installed left.state ∷ []) s.turns k.changes.goes flushed_free in
+        let second : GoesOnAs u v u.knows.participant = goes_same u v is_of_tables (installed left.state ∷ []) turns tables_free put in
+        let count : n ≡ length (retained (take floor v.knows.participant.seen) (listed (numbers_of live) first.segment.base e.state.last) e.state.last) = counted ∙ ap (λ (l : List Version). length l) kept_then in
         record {
           found = found;
           running = running;
@@ -138,28 +138,28 @@ module _ {D : Type 0} (z : SharedState D) (s u : SeatState) (e left : VersionSet
           from_base = live_from;
           versions = count;
           few = subst (λ (m : ℕ). IsCompactionCount (take floor v.knows.participant.seen) first.segment.base floor m) (sym count)
-              (subst (λ (x : (List Entry × List ℕ) × ℕ). IsCompactionCount x.0.0 x.1 floor (length (retained x.0.0 x.0.1 e.table.last))) (λ i. (same i, opened.2 i)) may.few);
-          left = held_left z s u v (record e.table { last = after_compaction (take floor v.knows.participant.seen) (listed (numbers_of live) first.segment.base e.table.last) e.table.last }) k.stands (changed_seat z s u e.table left.table k.changes) seen (ap (λ (x : SeatState). x.knows.participant) put.same)
-              (subst (λ (t : Installed). IsIn (installed t) u.knows.held) (k.table ∙ ap (λ (edit : InstalledEdit). record e.table { last = edit }) named) (subst (IsIn (installed left.table)) (sym k.holds.turn.held) (inl refl)));
-          table = record {
+              (subst (λ (x : (List Entry × List ℕ) × ℕ). IsCompactionCount x.0.0 x.1 floor (length (retained x.0.0 x.0.1 e.state.last))) (λ i. (same i, opened.2 i)) may.few);
+          left = held_left z s u v (record e.state { last = after_compaction (take floor v.knows.participant.seen) (listed (numbers_of live) first.segment.base e.state.last) e.state.last }) k.stands (changed_seat z s u e.state left.state k.changes) seen (ap (λ (x : SeatState). x.knows.participant) put.same)
+              (subst (λ (t : Installed). IsIn (installed t) u.knows.held) (k.state ∙ ap (λ (edit : InstalledEdit). record e.state { last = edit }) named) (subst (IsIn (installed left.state)) (sym k.holds.turn.held) (inl refl)));
+          state = record {
             before = e;
             after = left;
             of_store = holds.of_store;
             still_of_store = k.holds.of_store;
             before_is = refl;
-            after_is = k.table ∙ ap (λ (edit : InstalledEdit). record e.table { last = edit }) named;
+            after_is = k.state ∙ ap (λ (edit : InstalledEdit). record e.state { last = edit }) named;
             edits = k.edits;
             still_edits = k.still_edits;
             so = parts ∙ ap (λ (l : List Version). new_parts l) kept_then;
           };
           survives = subst (SurvivesInstall e left) named k.survives;
-          throughout = opens_throughout s.knows.participant.seen v.knows.participant.seen e left next (after_compaction (take floor v.knows.participant.seen) (listed (numbers_of live) first.segment.base e.table.last) e.table.last) k.edits running k.survives next_covered refl then named;
+          throughout = opens_throughout s.knows.participant.seen v.knows.participant.seen e left next (after_compaction (take floor v.knows.participant.seen) (listed (numbers_of live) first.segment.base e.state.last) e.state.last) k.edits running k.survives next_covered refl then named;
           goes_on = subst (λ (edit : InstalledEdit). GoesOnAs s v (after edit)) named (goes_still s u v (after next) one second);
         }
 
   -- ---- it was refused
 
-  asked_so : (failed : Option InstalledEdit) → IfSome failed (λ edit. edit ≡ next) → (seen : u.knows.participant.seen ≡ s.knows.participant.seen) → IfSome failed (IsCompactionOf (IsPin floor (numbers_of live)) z u e.table.last)
+  asked_so : (failed : Option InstalledEdit) → IfSome failed (λ edit. edit ≡ next) → (seen : u.knows.participant.seen ≡ s.knows.participant.seen) → IfSome failed (IsCompactionOf (IsPin floor (numbers_of live)) z u e.state.last)
   asked_so None k same = tt
   asked_so (Some edit) k same = record {
     floor = floor;
@@ -168,20 +168,20 @@ module _ {D : Type 0} (z : SharedState D) (s u : SeatState) (e left : VersionSet
     first = first;
     is_first = opened.1;
     from_base = live_from;
-    edit_is = k ∙ in_one_is (take floor s.knows.participant.seen) numbers e.table.last kept kept_is ∙ (λ i. after_compaction (take floor (sym same i)) (numbers_are i) e.table.last);
+    edit_is = k ∙ in_one_is (take floor s.knows.participant.seen) numbers e.state.last kept kept_is ∙ (λ i. after_compaction (take floor (sym same i)) (numbers_are i) e.state.last);
   }
 
-  pub not_compacted : HoldsEdits z s e → HasBroken z s e next u left → e.table.halted ≡ false → SeveralTables e.table.last → CompactsFrom (GoesOnAs s u) (IsPin floor (numbers_of live)) z s e.table (Err TableFault) u
+  pub not_compacted : HoldsEdits z s e → HasBroken z s e next u left → e.state.halted ≡ false → SeveralTables e.state.last → CompactsFrom (GoesOnAs s u) (IsPin floor (numbers_of live)) z s e.state (Err TableFault) u
   not_compacted holds k running several =
       let same : u.knows.participant.seen ≡ s.knows.participant.seen = ap (λ (x : SeatState). x.knows.participant.seen) k.changes.goes.same in record {
         found = k.changes.found;
         running = running;
         busy = several;
-        asked = left.table.failed;
-        next = asked_so left.table.failed k.asked same;
-        left = held_left z s u u (with_failed e.table left.table.failed) k.stands (changed_seat z s u e.table left.table k.changes) same refl
-            (subst (λ (t : Installed). IsIn (installed t) u.knows.held) k.table (subst (IsIn (installed left.table)) (sym k.holds.turn.held) (inl refl)));
-        fault = record { before = e; after = left; of_store = holds.of_store; still_of_store = k.holds.of_store; before_is = refl; after_is = k.table; edits = k.edits; still_edits = k.still_edits; so = k.fault };
+        asked = left.state.failed;
+        next = asked_so left.state.failed k.asked same;
+        left = held_left z s u u (with_failed e.state left.state.failed) k.stands (changed_seat z s u e.state left.state k.changes) same refl
+            (subst (λ (t : Installed). IsIn (installed t) u.knows.held) k.state (subst (IsIn (installed left.state)) (sym k.holds.turn.held) (inl refl)));
+        fault = record { before = e; after = left; of_store = holds.of_store; still_of_store = k.holds.of_store; before_is = refl; after_is = k.state; edits = k.edits; still_edits = k.still_edits; so = k.fault };
         survives = (next, asked_so (Some next) refl same, k.survives, opens_throughout s.knows.participant.seen u.knows.participant.seen e left next next k.edits running k.survives next_covered refl same refl);
-        goes_on = goes_remembering s u (found_by z s u e.table k.changes.found ∷ tables_failed e.table.last left.table.failed ∷ []) no_fact (installed left.table ∷ []) s.turns k.changes.goes loose_none;
+        goes_on = goes_remembering s u (found_by z s u e.state k.changes.found ∷ tables_failed e.state.last left.state.failed ∷ []) no_fact (installed left.state ∷ []) s.turns k.changes.goes loose_none;
       }

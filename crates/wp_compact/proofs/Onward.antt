@@ -7,7 +7,7 @@ use Rattle.wp_model.specs.Flushed.{InstalledEdit}
 use Rattle.wp_replies.specs.Replies.{IsCompactionCount}
 use Rattle.wp_replies.specs.Tables.{listed, retained, after_compaction}
 use Rattle.wp_core.specs.Sound.Actors.{StartsWith}
-use Rattle.wp_core.specs.Tables.{Installed, store, writes}
+use Rattle.wp_core.specs.States.{Installed, store, writes}
 use Rattle.wp_core.specs.Views.{Event, tables_failed}
 use Rattle.wp_core.specs.Views as event
 use Rattle.wp_core.specs.World.{Participant}
@@ -42,7 +42,7 @@ module _ {D : Type 0} (z : SharedState D) (s t u v : SeatState) (same : IsSeat s
   overtaken_between floor base versions e (inr others) = inr others
 
   pub bases_between : (floor : ℕ) (bases : Bases) → AreBases z t u floor bases → AreBases z s v floor bases
-  bases_between floor bases k = record { opened = k.opened; table = k.table; held = had_between z s t u v same past starts grown (writes k.table) k.held; installed_is = k.installed_is }
+  bases_between floor bases k = record { opened = k.opened; state = k.state; held = had_between z s t u v same past starts grown (writes k.state) k.held; installed_is = k.installed_is }
 
   pub decision_between : (floor : ℕ) (bases : Bases) (versions : List Version) → HadDecision z t u floor bases versions → HadDecision z s v floor bases versions
   decision_between floor bases versions k = (versions_between versions k.0, bases_between floor bases k.1)
@@ -87,19 +87,19 @@ module _ {D : Type 0} (First Last : Participant → Type 0) (z : SharedState D) 
       versions = k.versions ∙ ap (λ (h : List Entry). length (retained h (listed k.live k.first.segment.base e.last) e.last)) p.1;
       few = subst (λ (h : List Entry). IsCompactionCount h k.first.segment.base done.at done.versions) p.1 k.few;
       left = subst (λ (h : List Entry). HeldTables z s v v.knows.participant.past (record e { last = after_compaction h (listed k.live k.first.segment.base e.last) e.last })) p.1 (holds_on (record e { last = after_compaction (take done.at u.knows.participant.seen) (listed k.live k.first.segment.base e.last) e.last }) k.left);
-      table = record {
-        before = k.table.before;
-        after = k.table.after;
-        of_store = k.table.of_store;
-        still_of_store = k.table.still_of_store;
-        before_is = k.table.before_is;
-        after_is = k.table.after_is ∙ ap (λ (h : List Entry). record e { last = after_compaction h (listed k.live k.first.segment.base e.last) e.last }) p.1;
-        edits = k.table.edits;
-        still_edits = k.table.still_edits;
-        so = k.table.so ∙ ap (λ (h : List Entry). new_parts (retained h (listed k.live k.first.segment.base e.last) e.last)) p.1;
+      state = record {
+        before = k.state.before;
+        after = k.state.after;
+        of_store = k.state.of_store;
+        still_of_store = k.state.still_of_store;
+        before_is = k.state.before_is;
+        after_is = k.state.after_is ∙ ap (λ (h : List Entry). record e { last = after_compaction h (listed k.live k.first.segment.base e.last) e.last }) p.1;
+        edits = k.state.edits;
+        still_edits = k.state.still_edits;
+        so = k.state.so ∙ ap (λ (h : List Entry). new_parts (retained h (listed k.live k.first.segment.base e.last) e.last)) p.1;
       };
-      survives = subst (λ (h : List Entry). SurvivesInstall k.table.before k.table.after (after_compaction h (listed k.live k.first.segment.base e.last) e.last)) p.1 k.survives;
-      throughout = throughout_on k.table.before k.table.after (after_compaction (take done.at u.knows.participant.seen) (listed k.live k.first.segment.base e.last) e.last) (after_compaction (take done.at v.knows.participant.seen) (listed k.live k.first.segment.base e.last) e.last) (ap (λ (h : List Entry). after_compaction h (listed k.live k.first.segment.base e.last) e.last) p.1) k.throughout;
+      survives = subst (λ (h : List Entry). SurvivesInstall k.state.before k.state.after (after_compaction h (listed k.live k.first.segment.base e.last) e.last)) p.1 k.survives;
+      throughout = throughout_on k.state.before k.state.after (after_compaction (take done.at u.knows.participant.seen) (listed k.live k.first.segment.base e.last) e.last) (after_compaction (take done.at v.knows.participant.seen) (listed k.live k.first.segment.base e.last) e.last) (ap (λ (h : List Entry). after_compaction h (listed k.live k.first.segment.base e.last) e.last) p.1) k.throughout;
       goes_on = remembers_on k.found (event.installed (after_compaction (take done.at v.knows.participant.seen) (listed k.live k.first.segment.base e.last) e.last) true ∷ [])
           (subst (λ (h : List Entry). First (with_events (found_by z t u e k.found ∷ event.installed (after_compaction h (listed k.live k.first.segment.base e.last) e.last) true ∷ []) t.knows.participant)) p.1 k.goes_on);
     }

@@ -4,7 +4,7 @@ use Rattle.std.proofs.lemmas.List.{take-append-le}
 use Rattle.std.specs.FinMap as finite
 use Rattle.std.specs.List.{Contains}
 use Rattle.wp_model.specs.declared.entry.Entry.{Entry}
-use Rattle.wp_model.specs.Snapshots.{Snapshot, Snapshots, IsLive}
+use Rattle.wp_model.specs.Snapshots.{LiveSnapshot, Snapshots, IsLive}
 use Rattle.wp_core.specs.Lists.{IsIn}
 use Rattle.wp_core.specs.Reading.{Registration}
 use Rattle.wp_core.specs.Sound.Actors.{StartsWith}
@@ -69,7 +69,7 @@ none_left (r ∷ live) none = absurd (omega (arith, none))
 
 -- ---- what is live is not above the floor
 
-low_live : (world : World) (s : ℕ) (o : Option Snapshot) → ((x : Snapshot) → finite.get world.snapshots s ≡ Some x → s ≤ length world.writes.history) → finite.get world.snapshots s ≡ o → is_some o ≡ true → s ≤ length world.writes.history
+low_live : (world : World) (s : ℕ) (o : Option LiveSnapshot) → ((x : LiveSnapshot) → finite.get world.snapshots s ≡ Some x → s ≤ length world.writes.history) → finite.get world.snapshots s ≡ o → is_some o ≡ true → s ≤ length world.writes.history
 low_live world s None low is live = absurd cc
 low_live world s (Some x) low is live = low x is
 

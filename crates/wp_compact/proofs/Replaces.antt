@@ -20,7 +20,7 @@ use Rattle.wp_core.specs.Lists.{IsIn}
 use Rattle.wp_core.specs.Reading.{Registration}
 use Rattle.wp_core.specs.Sound.Actors.{StartsWith}
 use Rattle.wp_core.specs.Sound.Store.{NoneFlushed}
-use Rattle.wp_core.specs.Tables.{StoreState, Installed, store, installed}
+use Rattle.wp_core.specs.States.{StoreState, Installed, store, installed}
 use Rattle.wp_core.specs.Views.{Fact, tables_stay, live_listed, nothing_flushed}
 use Rattle.wp_core.specs.World.{Participant, Actor, World}
 use Rattle.wp_model.proofs.Tests.{same_some}
@@ -29,7 +29,7 @@ use Rattle.wp_rule.specs.Words.{IsAt}
 use Rattle.wp_rule.proofs.Knows.{at_sound, noted_is, seen_is}
 use Rattle.wp_shared.specs.Seats.{SharedState, SeatState, Stands, place_at}
 use Rattle.wp_shared.proofs.Onward.{starts_on}
-use Rattle.wp_shared.proofs.Tables.{held_table}
+use Rattle.wp_shared.proofs.Tables.{held_state}
 use Rattle.wp_read.specs.Registers.{numbers_of}
 use Rattle.wp_compact.specs.Compaction.{IsOpenedBase, MayPutKept, MayReplace}
 use Rattle.wp_tableset.specs.Changes.{Asked}
@@ -112,7 +112,7 @@ module _ {D : Type 0} (z : SharedState D) (s : SeatState) (e : Installed) (floor
   sound = at_sound (place_at z u.by) u.knows w stands
 
   edit_here : w.installed ≡ e
-  edit_here = held_table (place_at z u.by) u.knows w (installed e) stands (subst (IsIn (installed e)) (sym held) (inr (inl refl)))
+  edit_here = held_state (place_at z u.by) u.knows w (installed e) stands (subst (IsIn (installed e)) (sym held) (inr (inl refl)))
 
   abbrev front : List Entry
   front = take floor s.knows.participant.seen

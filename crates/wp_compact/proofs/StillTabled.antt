@@ -20,7 +20,7 @@ use Rattle.wp_core.specs.Reading.{Registration}
 use Rattle.wp_core.specs.Sound.Actors.{StartsWith}
 use Rattle.wp_core.specs.Sound.Store.{NoneFlushed}
 use Rattle.wp_core.specs.Sound.Views.{guarded_by}
-use Rattle.wp_core.specs.Tables.{Content, StoreState, Installed, store, installed}
+use Rattle.wp_core.specs.States.{Content, StoreState, Installed, store, installed}
 use Rattle.wp_core.specs.Turns.{store_turn}
 use Rattle.wp_core.specs.Views.{Event, Fact, tables_stay, live_listed, nothing_flushed}
 use Rattle.wp_core.specs.World.{Participant, Actor, World}
@@ -33,7 +33,7 @@ use Rattle.wp_shared.specs.Seats.{SharedState, SeatState, place_at}
 use Rattle.wp_shared.specs.Turns.{HoldsTurn, Taken, Given}
 use Rattle.wp_shared.proofs.Goes.{then, wider, none_under_store}
 use Rattle.wp_shared.proofs.Onward.{starts_equal, starts_on}
-use Rattle.wp_shared.proofs.Tables.{held_table}
+use Rattle.wp_shared.proofs.Tables.{held_state}
 use Rattle.wp_read.specs.Registers.{numbers_of}
 use Rattle.wp_keep.specs.declared.pair.Pair.{Pair}
 use Rattle.wp_maint.specs.Calls.{HeldContent, HeldTables, Finds}
@@ -115,10 +115,10 @@ module _ {D : Type 0} {z : SharedState D} {s u : SeatState} {e : Installed} {ben
   sound = at_sound (place_at z u.by) u.knows w saw.stands
 
   edit_here : w.installed ≡ e
-  edit_here = held_table (place_at z u.by) u.knows w (installed e) saw.stands (subst (IsIn (installed e)) (sym holds_both) (inr (inl refl)))
+  edit_here = held_state (place_at z u.by) u.knows w (installed e) saw.stands (subst (IsIn (installed e)) (sym holds_both) (inr (inl refl)))
 
   store_here : w.store ≡ store_state stock
-  store_here = held_table (place_at z u.by) u.knows w (store (store_state stock)) saw.stands (subst (IsIn (store (store_state stock))) (sym holds_both) (inl refl))
+  store_here = held_state (place_at z u.by) u.knows w (store (store_state stock)) saw.stands (subst (IsIn (store (store_state stock))) (sym holds_both) (inl refl))
 
   named : (w.store.tables ≡ e.last.versions) × (w.store.floor ≡ in_step.1.0)
   named = (noted_is (place_at z u.by) u.knows w (tables_stay e.last.versions in_step.1.0) saw.stands in_step.1.1).is_so
@@ -283,7 +283,7 @@ may_merge_still s t e floor live bases same notes k = let r = k.replace in recor
 -- ---- a look at the store
 
 module _ {D : Type 0} {z : SharedState D} {s t u : SeatState} {e : VersionSetState} {before : StoreState} (holds : HoldsEdits z s e) (first : Taken z s t (store before)) (second : GoesOn no_fact t.knows.held t.turns (seeing u.knows.participant.seen t) u) where
-  pub holds_seen : HoldsTurn z u (store before) (installed e.table ∷ []) (5 ∷ [])
+  pub holds_seen : HoldsTurn z u (store before) (installed e.state ∷ []) (5 ∷ [])
   holds_seen = let h = holds_taken holds first in record {
     same_table = ap (λ (x : SeatState). x.table) second.same ∙ h.same_table;
     live = ap (λ (x : SeatState). x.knows.live) second.same ∙ h.live;
@@ -291,34 +291,34 @@ module _ {D : Type 0} {z : SharedState D} {s t u : SeatState} {e : VersionSetSta
     turns = ap (λ (x : SeatState). x.turns) second.same ∙ h.turns;
   }
 
-  module _ {v : SeatState} (third : Given z store_turn u v (installed e.table ∷ []) (5 ∷ [])) where
+  module _ {v : SeatState} (third : Given z store_turn u v (installed e.state ∷ []) (5 ∷ [])) where
     pub same_looked : v.knows.participant ≡ u.knows.participant
     same_looked = ap (λ (x : SeatState). x.knows.participant) third.goes.same
 
-    pub looked : GoesOn no_fact (installed e.table ∷ []) (5 ∷ []) (seeing v.knows.participant.seen s) v
+    pub looked : GoesOn no_fact (installed e.state ∷ []) (5 ∷ []) (seeing v.knows.participant.seen s) v
     looked =
         let h = u.knows.participant.seen in
         let one : GoesOn no_fact (store before ∷ s.knows.held) (3 ∷ s.turns) (seeing h s) (seeing h t) = record { same = ap (seeing h) first.goes.same; noted = λ fact other there. first.goes.noted fact other there } in
         let two = then no_fact (seeing h s) (seeing h t) u (store before ∷ s.knows.held) t.knows.held (3 ∷ s.turns) t.turns one second in
-        let back : GoesOn no_fact (installed e.table ∷ []) (5 ∷ []) u v = wider (is_under store_turn) u v v no_fact (installed e.table ∷ []) (5 ∷ []) (λ fact other. none_under_store fact) third.goes in
-        let three = then no_fact (seeing h s) u v t.knows.held (installed e.table ∷ []) t.turns (5 ∷ []) two back in
-        subst (λ (p : Participant). GoesOn no_fact (installed e.table ∷ []) (5 ∷ []) (seeing p.seen s) v) (sym same_looked) three
+        let back : GoesOn no_fact (installed e.state ∷ []) (5 ∷ []) u v = wider (is_under store_turn) u v v no_fact (installed e.state ∷ []) (5 ∷ []) (λ fact other. none_under_store fact) third.goes in
+        let three = then no_fact (seeing h s) u v t.knows.held (installed e.state ∷ []) t.turns (5 ∷ []) two back in
+        subst (λ (p : Participant). GoesOn no_fact (installed e.state ∷ []) (5 ∷ []) (seeing p.seen s) v) (sym same_looked) three
 
     pub grown_looked : StartsWith u.knows.participant.seen t.knows.participant.seen → StartsWith v.knows.participant.seen s.knows.participant.seen
     grown_looked grown = subst (λ (x : Participant × Participant). StartsWith x.0.seen x.1.seen) (λ i. (sym same_looked i, ap (λ (x : SeatState). x.knows.participant) first.goes.same i)) grown
 
-    pub found_looked : StartsWith u.knows.participant.seen t.knows.participant.seen → Finds z s v e.table
+    pub found_looked : StartsWith u.knows.participant.seen t.knows.participant.seen → Finds z s v e.state
     found_looked grown =
         let same = looked.same in
-        subst (λ (past : List Event). HeldTables z s v past e.table) (ap (λ (x : SeatState). x.knows.participant.past) same)
-        (held_then z s v v (installed e.table) third.stands (ap (λ (x : SeatState). x.by) same, ap (λ (x : SeatState). x.knows.made) same, ap (λ (x : SeatState). x.knows.joined) same) (grown_looked grown) refl
-        (subst (IsIn (installed e.table)) (sym (ap (λ (x : SeatState). x.knows.held) same)) (inl refl)))
+        subst (λ (past : List Event). HeldTables z s v past e.state) (ap (λ (x : SeatState). x.knows.participant.past) same)
+        (held_then z s v v (installed e.state) third.stands (ap (λ (x : SeatState). x.by) same, ap (λ (x : SeatState). x.knows.made) same, ap (λ (x : SeatState). x.knows.joined) same) (grown_looked grown) refl
+        (subst (IsIn (installed e.state)) (sym (ap (λ (x : SeatState). x.knows.held) same)) (inl refl)))
 
-    pub passed_looked : (floor base : ℕ) → IsPassedOr z t u floor base e.table → IsPassedOr z s v floor base e.table
+    pub passed_looked : (floor base : ℕ) → IsPassedOr z t u floor base e.state → IsPassedOr z s v floor base e.state
     passed_looked floor base (inl k) =
         let same = first.goes.same in
         inl (passed_between z s t u v (ap (λ (x : SeatState). x.by) same, ap (λ (x : SeatState). x.knows.made) same, ap (λ (x : SeatState). x.knows.joined) same) (ap (λ (x : SeatState). x.knows.participant.past) same)
-        (starts_equal s.knows.participant.seen t.knows.participant.seen (ap (λ (x : SeatState). x.knows.participant.seen) same)) (starts_equal u.knows.participant.seen v.knows.participant.seen (ap (λ (p : Participant). p.seen) same_looked)) floor e.table k)
+        (starts_equal s.knows.participant.seen t.knows.participant.seen (ap (λ (x : SeatState). x.knows.participant.seen) same)) (starts_equal u.knows.participant.seen v.knows.participant.seen (ap (λ (p : Participant). p.seen) same_looked)) floor e.state k)
     passed_looked floor base (inr other) = inr other
 
 -- what was decided is known still by a seat that has seen more

@@ -10,7 +10,7 @@ use Rattle.wp_core.specs.IsSound.{IsSound}
 use Rattle.wp_core.specs.Lists.{IsIn}
 use Rattle.wp_core.specs.Sound.Actors.{StartsWith}
 use Rattle.wp_core.specs.Sound.Snapshots.{has_versions}
-use Rattle.wp_core.specs.Tables.{StoreState, Content, store, turn_of}
+use Rattle.wp_core.specs.States.{StoreState, Content, store, turn_of}
 use Rattle.wp_core.specs.Turns.{Turn}
 use Rattle.wp_core.specs.Views.{Event}
 use Rattle.wp_core.specs.World.{Participant}

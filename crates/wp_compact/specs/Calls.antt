@@ -9,7 +9,7 @@ use Rattle.wp_tableset.specs.Changes.{new_parts}
 use Rattle.wp_core.specs.Lists.{IsIn}
 use Rattle.wp_core.specs.Reading.{Registration}
 use Rattle.wp_core.specs.Sound.Actors.{StartsWith}
-use Rattle.wp_core.specs.Tables.{Installed}
+use Rattle.wp_core.specs.States.{Installed}
 use Rattle.wp_core.specs.Views as event
 use Rattle.wp_core.specs.World.{Participant}
 use Rattle.wp_rule.specs.Shows.{WasLast}
@@ -69,7 +69,7 @@ pub record HasCompacted {D : Type 0} (Goes : Participant → Type 0) (Pinned : �
   pub versions : done.versions ≡ length (retained (take done.at new.knows.participant.seen) (listed live first.segment.base e.last) e.last)
   pub few : IsCompactionCount (take done.at new.knows.participant.seen) first.segment.base done.at done.versions
   pub left : HeldTables z old new new.knows.participant.past (record e { last = after_compaction (take done.at new.knows.participant.seen) (listed live first.segment.base e.last) e.last })
-  pub table : TablesBecame z e (record e { last = after_compaction (take done.at new.knows.participant.seen) (listed live first.segment.base e.last) e.last }) (HasAlone (retained (take done.at new.knows.participant.seen) (listed live first.segment.base e.last) e.last))
+  pub state : TablesBecame z e (record e { last = after_compaction (take done.at new.knows.participant.seen) (listed live first.segment.base e.last) e.last }) (HasAlone (retained (take done.at new.knows.participant.seen) (listed live first.segment.base e.last) e.last))
   pub survives : SurvivesInstall table.before table.after (after_compaction (take done.at new.knows.participant.seen) (listed live first.segment.base e.last) e.last)
   pub throughout : OpensThroughout old.knows.participant.seen new.knows.participant.seen table.before table.after (after_compaction (take done.at new.knows.participant.seen) (listed live first.segment.base e.last) e.last)
   pub goes_on : Goes (with_events (found_by z old new e found ∷ event.installed (after_compaction (take done.at new.knows.participant.seen) (listed live first.segment.base e.last) e.last) true ∷ []) old.knows.participant)

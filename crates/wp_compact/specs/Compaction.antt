@@ -14,7 +14,7 @@ use Rattle.wp_table.specs.Table.{is_numbered, is_flushed}
 use Rattle.wp_core.specs.Lists.{IsIn}
 use Rattle.wp_core.specs.Reading.{Registration}
 use Rattle.wp_core.specs.Sound.Actors.{StartsWith}
-use Rattle.wp_core.specs.Tables.{StoreState, WriteState, Installed, store, writes}
+use Rattle.wp_core.specs.States.{StoreState, WriteState, Installed, store, writes}
 use Rattle.wp_core.specs.Views.{tables_stay, live_listed, nothing_flushed}
 use Rattle.wp_core.specs.World.{Participant, Actor}
 use Rattle.wp_rule.specs.Knows.{Noted}
@@ -72,7 +72,7 @@ IsOpenedBase z base = (first : InstalledEdit) × WasLast content z.first first �
 -- one above the floor, the second is the floor.
 pub record AreBases {D : Type 0} (z : SharedState D) (old new : SeatState) (floor : ℕ) (bases : Bases) : Type 0 where
   pub opened : IsOpenedBase z bases.opened
-  pub table : WriteState
+  pub state : WriteState
   pub held : HeldContent z old new old.knows.participant.past (writes table)
   pub installed_is : bases.installed ≡ min table.segment.base floor
 
@@ -115,7 +115,7 @@ pub record MayMerge (a : Actor) (e : Installed) (floor : ℕ) (live : List Regis
 
 -- all the memory is there for an edit with what is kept in place of all tables, and for its table
 pub record HasReadyMerge (e : VersionSetState) (r : ReadyMerge) : Type 0 where
-  pub asked : r.edit.edit.asked ≡ record { gone = gone.Tables; versions = r.kept; flushed = e.table.last.flushed }
+  pub asked : r.edit.edit.asked ≡ record { gone = gone.Tables; versions = r.kept; flushed = e.state.last.flushed }
   pub ready : IsReadyFor e r.edit
   pub none : r.tables.items ≡ []
   pub room : 1 ≤ vec_capacity r.tables

@@ -32,12 +32,12 @@ fn compact_in<D: Disk + Drop, R: Wait>(
     decided: Decided,
 ) -> Option<Result<Done, MaintError>>
     requires holds { HoldsEdits store.now seat.old edits.old }
-    requires in_step { KnowsTables seat.old.knows edits.old.table.last }
+    requires in_step { KnowsTables seat.old.knows edits.old.state.last }
     requires decided { HasDecided seat.old.knows pinned.now.floor pinned.now.live.items decided.bases decided.versions decided.committed.items }
     requires opened { IsOpenedBase store.now decided.bases.opened }
     ensures holds { HoldsEdits store.now seat.new edits.new }
-    ensures in_step { KnowsTables seat.new.knows edits.new.table.last }
-    ensures says { EndsRoundFrom (GoesOnAs seat.old seat.new) (IsPin pinned.now.floor.number (numbers_of pinned.now.live.items)) (IsDecision pinned.now.floor.number decided.bases decided.versions) store.now seat.old edits.old.table result seat.new }
+    ensures in_step { KnowsTables seat.new.knows edits.new.state.last }
+    ensures says { EndsRoundFrom (GoesOnAs seat.old seat.new) (IsPin pinned.now.floor.number (numbers_of pinned.now.live.items)) (IsDecision pinned.now.floor.number decided.bases decided.versions) store.now seat.old edits.old.state result seat.new }
     ensures untouched { InRound (edits.new ≡ edits.old) result }
 {
     if edits.is_halted() {

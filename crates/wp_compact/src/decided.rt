@@ -217,7 +217,7 @@ fn decide_in<D: Disk + Drop>(
     versions: &[Version],
     bases: Bases,
 ) -> Result<(), AllocError>
-    ensures { OnOk result (Decides log.now.table.history (version_numbers versions.now) (both_bases bases) committed.old.items committed.new.items) }
+    ensures { OnOk result (Decides log.now.state.history (version_numbers versions.now) (both_bases bases) committed.old.items committed.new.items) }
 {
     let decisions = Decisions::of(alloc, log.history())?;
     decide_bases(committed, &decisions, versions, bases)

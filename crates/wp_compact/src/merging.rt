@@ -5,7 +5,7 @@ ghost use Rattle.std.specs.List.{list_all};
 ghost use Rattle.wp_merge.specs.Merge.{joined, sorted_of};
 ghost use Rattle.wp_replies.specs.Tables.{listed, retained};
 ghost use Rattle.wp_table.specs.Table.{is_numbered, is_flushed};
-ghost use Rattle.wp_core.specs.Tables.{installed};
+ghost use Rattle.wp_core.specs.States.{installed};
 ghost use Rattle.wp_keep.specs.Keep.{is_committed, retained_of};
 ghost use Rattle.wp_rule.specs.Knows.{KnowsTables};
 ghost use Rattle.wp_shared.specs.Calls.{GoesOnAs};
@@ -70,7 +70,7 @@ fn make_ready<D: Disk>(
     kept: Versions,
 ) -> Result<ReadyMerge, AllocError>
     requires numbered { list_all is_numbered kept ≡ true }
-    requires flushed { list_all (is_flushed edits.now.table.last.flushed) kept ≡ true }
+    requires flushed { list_all (is_flushed edits.now.state.last.flushed) kept ≡ true }
     ensures kept { IfOk result (λ ready. ready.kept ≡ kept) }
     ensures ready { IfOk result (HasReadyMerge edits.now) }
 {
@@ -89,10 +89,10 @@ fn put_tables<D: Disk + Drop, R: Wait>(
     floor: Seq,
 )
     requires holds { HoldsEdits store.now seat.old edits.now }
-    requires may { MayPutKept store.now seat.old.knows edits.now.table floor }
-    requires tables { sorted_of (joined (map arc_value tables.items)) ≡ edits.now.table.last.versions }
-    ensures goes { GoesOn is_of_tables (installed edits.now.table ∷ []) seat.old.turns seat.old seat.new }
-    ensures in_step { KnowsTables seat.new.knows edits.now.table.last }
+    requires may { MayPutKept store.now seat.old.knows edits.now.state floor }
+    requires tables { sorted_of (joined (map arc_value tables.items)) ≡ edits.now.state.last.versions }
+    ensures goes { GoesOn is_of_tables (installed edits.now.state ∷ []) seat.old.turns seat.old seat.new }
+    ensures in_step { KnowsTables seat.new.knows edits.now.state.last }
 {
     let mut stock = store.take_turn::<Stock, R>(rt, seat);
     stock.replace(tables, floor);
@@ -110,14 +110,14 @@ fn merge_ready<D: Disk + Drop, R: Wait>(
     ready: ReadyMerge,
 ) -> Result<Done, MaintError>
     requires holds { HoldsEdits store.now seat.old edits.old }
-    requires running { edits.old.table.halted ≡ false }
-    requires several { SeveralTables edits.old.table.last }
-    requires may { (bases : Bases) × IsOpenedBase store.now bases.opened × MayMerge seat.old.knows edits.old.table pinned.now.floor.number pinned.now.live.items bases
-        × (ready.kept ≡ retained (take pinned.now.floor.number seat.old.knows.participant.seen) (listed (numbers_of pinned.now.live.items) bases.opened edits.old.table.last) edits.old.table.last) }
+    requires running { edits.old.state.halted ≡ false }
+    requires several { SeveralTables edits.old.state.last }
+    requires may { (bases : Bases) × IsOpenedBase store.now bases.opened × MayMerge seat.old.knows edits.old.state pinned.now.floor.number pinned.now.live.items bases
+        × (ready.kept ≡ retained (take pinned.now.floor.number seat.old.knows.participant.seen) (listed (numbers_of pinned.now.live.items) bases.opened edits.old.state.last) edits.old.state.last) }
     requires ready { HasReadyMerge edits.old ready }
     ensures holds { HoldsEdits store.now seat.new edits.new }
-    ensures in_step { KnowsTables seat.new.knows edits.new.table.last }
-    ensures says { CompactsFrom (GoesOnAs seat.old seat.new) (IsPin pinned.now.floor.number (numbers_of pinned.now.live.items)) store.now seat.old edits.old.table result seat.new }
+    ensures in_step { KnowsTables seat.new.knows edits.new.state.last }
+    ensures says { CompactsFrom (GoesOnAs seat.old seat.new) (IsPin pinned.now.floor.number (numbers_of pinned.now.live.items)) store.now seat.old edits.old.state result seat.new }
     ensures untouched { IfErr result (UnlessFault (edits.new ≡ edits.old)) }
 {
     let ReadyMerge { kept, edit, tables } = ready;
@@ -145,15 +145,15 @@ pub(crate) fn merge<D: Disk + Drop, R: Wait>(
     decided: Decided,
 ) -> Result<Done, MaintError>
     requires holds { HoldsEdits store.now seat.old edits.old }
-    requires running { edits.old.table.halted ≡ false }
-    requires several { SeveralTables edits.old.table.last }
-    requires may { MayMerge seat.old.knows edits.old.table pinned.now.floor.number pinned.now.live.items decided.bases }
+    requires running { edits.old.state.halted ≡ false }
+    requires several { SeveralTables edits.old.state.last }
+    requires may { MayMerge seat.old.knows edits.old.state pinned.now.floor.number pinned.now.live.items decided.bases }
     requires decided { HasDecided seat.old.knows pinned.now.floor pinned.now.live.items decided.bases decided.versions decided.committed.items }
-    requires same { decided.versions ≡ edits.old.table.last.versions }
+    requires same { decided.versions ≡ edits.old.state.last.versions }
     requires opened { IsOpenedBase store.now decided.bases.opened }
     ensures holds { HoldsEdits store.now seat.new edits.new }
-    ensures in_step { KnowsTables seat.new.knows edits.new.table.last }
-    ensures says { CompactsFrom (GoesOnAs seat.old seat.new) (IsPin pinned.now.floor.number (numbers_of pinned.now.live.items)) store.now seat.old edits.old.table result seat.new }
+    ensures in_step { KnowsTables seat.new.knows edits.new.state.last }
+    ensures says { CompactsFrom (GoesOnAs seat.old seat.new) (IsPin pinned.now.floor.number (numbers_of pinned.now.live.items)) store.now seat.old edits.old.state result seat.new }
     ensures untouched { IfErr result (UnlessFault (edits.new ≡ edits.old)) }
 {
     let Decided {

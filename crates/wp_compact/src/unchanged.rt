@@ -3,8 +3,8 @@ ghost use Rattle.std.specs.Prelude.{◌≡◌, ◌⊎◌, ◌↔◌, true, false
 ghost use Rattle.std.specs.Arc.{arc_value};
 ghost use Rattle.wp_merge.specs.Merge.{joined, sorted_of};
 ghost use Rattle.wp_core.specs.Sound.Actors.{StartsWith};
-ghost use Rattle.wp_core.specs.Tables.{installed};
-ghost use Rattle.wp_core.specs.Tables as table;
+ghost use Rattle.wp_core.specs.States.{installed};
+ghost use Rattle.wp_core.specs.States as table;
 ghost use Rattle.wp_parts.specs.Stock.{store_state};
 ghost use Rattle.wp_rule.specs.Knows.{KnowsTables};
 ghost use Rattle.wp_shared.specs.Notes.{no_fact, seeing, GoesOn};
@@ -62,14 +62,14 @@ fn tables_in<D: Disk + Drop>(
     pinned: &Pinned,
     bases: Bases,
 ) -> Result<Option<Vec<Arc<Table>>>, AllocError>
-    requires holds { HoldsTurn store.now seat.old (table.store (store_state stock.now)) (installed edits.now.table ∷ []) (5 ∷ []) }
-    requires in_step { KnowsTables seat.old.knows edits.now.table.last }
+    requires holds { HoldsTurn store.now seat.old (table.store (store_state stock.now)) (installed edits.now.state ∷ []) (5 ∷ []) }
+    requires in_step { KnowsTables seat.old.knows edits.now.state.last }
     requires live { KnowsLive seat.old.knows pinned.now.floor.number pinned.now.live.items }
     requires bases { AreLow seat.old.knows.participant.seen pinned.now.floor.number pinned.now.live.items bases × IsOpenedBase store.now bases.opened }
     ensures goes { GoesOn no_fact seat.old.knows.held seat.old.turns (seeing seat.new.knows.participant.seen seat.old) seat.new }
     ensures grown { StartsWith seat.new.knows.participant.seen seat.old.knows.participant.seen }
-    ensures tables { IfOk result (λ found. MatchOption found (IsPassedOr store.now seat.old seat.new pinned.now.floor.number bases.installed edits.now.table) (λ tables. sorted_of (joined (map arc_value tables.items)) ≡ edits.now.table.last.versions)) }
-    ensures may { IfOk result (λ found. IfSome found (λ _. MayMerge seat.new.knows edits.now.table pinned.now.floor.number pinned.now.live.items bases)) }
+    ensures tables { IfOk result (λ found. MatchOption found (IsPassedOr store.now seat.old seat.new pinned.now.floor.number bases.installed edits.now.state) (λ tables. sorted_of (joined (map arc_value tables.items)) ≡ edits.now.state.last.versions)) }
+    ensures may { IfOk result (λ found. IfSome found (λ _. MayMerge seat.new.knows edits.now.state pinned.now.floor.number pinned.now.live.items bases)) }
 {
     let floor = pinned.floor.number();
     store.shows_history(seat);
@@ -95,14 +95,14 @@ fn find_tables<D: Disk + Drop, R: Wait>(
     bases: Bases,
 ) -> Result<Option<Vec<Arc<Table>>>, AllocError>
     requires holds { HoldsEdits store.now seat.old edits.now }
-    requires in_step { KnowsTables seat.old.knows edits.now.table.last }
+    requires in_step { KnowsTables seat.old.knows edits.now.state.last }
     requires live { KnowsLive seat.old.knows pinned.now.floor.number pinned.now.live.items }
     requires bases { AreLow seat.old.knows.participant.seen pinned.now.floor.number pinned.now.live.items bases × IsOpenedBase store.now bases.opened }
-    ensures goes { GoesOn no_fact (installed edits.now.table ∷ []) seat.old.turns (seeing seat.new.knows.participant.seen seat.old) seat.new }
+    ensures goes { GoesOn no_fact (installed edits.now.state ∷ []) seat.old.turns (seeing seat.new.knows.participant.seen seat.old) seat.new }
     ensures grown { StartsWith seat.new.knows.participant.seen seat.old.knows.participant.seen }
-    ensures found { Finds store.now seat.old seat.new edits.now.table }
-    ensures tables { IfOk result (λ found. MatchOption found (IsPassedOr store.now seat.old seat.new pinned.now.floor.number bases.installed edits.now.table) (λ tables. sorted_of (joined (map arc_value tables.items)) ≡ edits.now.table.last.versions)) }
-    ensures may { IfOk result (λ found. IfSome found (λ _. MayMerge seat.new.knows edits.now.table pinned.now.floor.number pinned.now.live.items bases)) }
+    ensures found { Finds store.now seat.old seat.new edits.now.state }
+    ensures tables { IfOk result (λ found. MatchOption found (IsPassedOr store.now seat.old seat.new pinned.now.floor.number bases.installed edits.now.state) (λ tables. sorted_of (joined (map arc_value tables.items)) ≡ edits.now.state.last.versions)) }
+    ensures may { IfOk result (λ found. IfSome found (λ _. MayMerge seat.new.knows edits.now.state pinned.now.floor.number pinned.now.live.items bases)) }
 {
     let stock = store.take_turn::<Stock, R>(rt, seat);
     let tables = tables_in(store, seat, edits, &stock, pinned, bases);
@@ -133,15 +133,15 @@ pub(crate) fn are_unchanged<D: Disk + Drop, R: Wait>(
     decided: &Decided,
 ) -> Result<bool, AllocError>
     requires holds { HoldsEdits store.now seat.old edits.now }
-    requires in_step { KnowsTables seat.old.knows edits.now.table.last }
+    requires in_step { KnowsTables seat.old.knows edits.now.state.last }
     requires decided { HasDecided seat.old.knows pinned.now.floor pinned.now.live.items decided.now.bases decided.now.versions decided.now.committed.items }
     requires opened { IsOpenedBase store.now decided.now.bases.opened }
-    ensures goes { GoesOn no_fact (installed edits.now.table ∷ []) seat.old.turns (seeing seat.new.knows.participant.seen seat.old) seat.new }
+    ensures goes { GoesOn no_fact (installed edits.now.state ∷ []) seat.old.turns (seeing seat.new.knows.participant.seen seat.old) seat.new }
     ensures grown { StartsWith seat.new.knows.participant.seen seat.old.knows.participant.seen }
-    ensures found { Finds store.now seat.old seat.new edits.now.table }
-    ensures same { IfOk result (λ same. same ≡ true → decided.now.versions ≡ edits.now.table.last.versions) }
-    ensures may { IfOk result (λ same. same ≡ true → MayMerge seat.new.knows edits.now.table pinned.now.floor.number pinned.now.live.items decided.now.bases) }
-    ensures overtaken { IfOk result (λ same. same ≡ false → IsOvertaken store.now seat.old seat.new pinned.now.floor.number decided.now.bases.installed decided.now.versions edits.now.table) }
+    ensures found { Finds store.now seat.old seat.new edits.now.state }
+    ensures same { IfOk result (λ same. same ≡ true → decided.now.versions ≡ edits.now.state.last.versions) }
+    ensures may { IfOk result (λ same. same ≡ true → MayMerge seat.new.knows edits.now.state pinned.now.floor.number pinned.now.live.items decided.now.bases) }
+    ensures overtaken { IfOk result (λ same. same ≡ false → IsOvertaken store.now seat.old seat.new pinned.now.floor.number decided.now.bases.installed decided.now.versions edits.now.state) }
 {
     match find_tables(store, rt, seat, edits, pinned, decided.bases)? {
         Some(tables) => have_versions(alloc, tables, &decided.versions),

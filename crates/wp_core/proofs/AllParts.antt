@@ -11,7 +11,7 @@ use Rattle.wp_model.specs.PreparedSets.{PreparedSets}
 use Rattle.wp_model.specs.Snapshots.{Snapshots}
 use Rattle.wp_core.specs.Lists.{EachAt, IsIn}
 use Rattle.wp_core.specs.Turns.{Turn, Holders, Holds}
-use Rattle.wp_core.specs.Tables.{Content, WriteState, StoreState, Installed, turn_of}
+use Rattle.wp_core.specs.States.{Content, WriteState, StoreState, Installed, turn_of}
 use Rattle.wp_model.specs.Flushed.{InstalledEdit}
 use Rattle.wp_core.specs.Reading.{Registration}
 use Rattle.wp_core.specs.Views.{Fact}

@@ -8,7 +8,7 @@ use lib.ListN.{get_elem?}
 use Rattle.wp_core.proofs.Frames.{set_else, map_set, here, at_map}
 use Rattle.wp_core.specs.Lists.{IsIn}
 use Rattle.wp_core.specs.Turns.{Turn, write_turn, prepared_turn, snapshots_turn, store_turn, locks_turn, tables_turn, Holders, Holds}
-use Rattle.wp_core.specs.Tables.{Content, writes, prepared, snapshots, store, locks, installed, turn_of}
+use Rattle.wp_core.specs.States.{Content, writes, prepared, snapshots, store, locks, installed, turn_of}
 use Rattle.wp_core.specs.World.{Actor, World, content_of, with_content}
 use Rattle.wp_core.specs.Changes.{turn_index, held_with}
 use Rattle.wp_core.specs.Sound.Actors.{AreHeld, HoldersHave, NoneAfter, held_of}

@@ -4,7 +4,7 @@ use mathlib.Core.Logic.{dite}
 use native.Mathlib.Decide.{ℕ_discrete}
 use Rattle.wp_core.specs.Lists.{IsIn}
 use Rattle.wp_core.specs.Turns.{Turn, write_turn, prepared_turn, snapshots_turn, store_turn, locks_turn, tables_turn, Holders, Holds, turn_holder, with_holder}
-use Rattle.wp_core.specs.Tables.{Content, turn_of}
+use Rattle.wp_core.specs.States.{Content, turn_of}
 use Rattle.wp_core.specs.Changes.{turn_index, held_without}
 use Rattle.wp_core.specs.Sound.Actors.{AreHeld, NoneAfter}
 use Rattle.wp_core.proofs.Frames.{filter_in}

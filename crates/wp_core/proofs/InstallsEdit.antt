@@ -5,7 +5,7 @@ use mathlib.Core.Option.{some}
 use lib.ListN.{get_elem?}
 use Rattle.wp_core.specs.Lists.{one_if}
 use Rattle.wp_core.specs.Turns.{tables_turn}
-use Rattle.wp_core.specs.Tables.{Installed}
+use Rattle.wp_core.specs.States.{Installed}
 use Rattle.wp_model.specs.Flushed.{InstalledEdit}
 use Rattle.wp_model.specs.declared.segment.Segment.{Segment}
 use Rattle.wp_core.specs.Views.{Event, log_failed, log_stopped, tables_failed, stopped, Fact, nothing_flushed}

@@ -26,7 +26,7 @@ use Rattle.wp_judge.specs.declared.observed.Observed.{Observed}
 use Rattle.wp_judge.specs.Words.{CommitPair, commit_pair}
 use Rattle.wp_model.specs.PreparedSets.{PreparedSets, is_prepared, NoneDelayed}
 use Rattle.wp_model.specs.Snapshots.{is_old_commit}
-use Rattle.wp_core.specs.Tables.{with_moved}
+use Rattle.wp_core.specs.States.{with_moved}
 use Rattle.wp_core.specs.Sound.History.{IsHistory}
 use Rattle.wp_core.specs.Sound.Reader.{IsPassedBy, IsReachedBy, AnswersFor, IsReader}
 use Rattle.wp_model.proofs.Tests.{both, either}

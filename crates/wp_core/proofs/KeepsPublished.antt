@@ -10,7 +10,7 @@ use Rattle.wp_core.proofs.AllParticipants.{mine}
 use Rattle.wp_core.proofs.KeepsSeen.{whole, shorter}
 use Rattle.wp_core.specs.Conditions.{MayPublish}
 use Rattle.wp_core.specs.Entries.{next_of}
-use Rattle.wp_core.specs.Tables.{Content, writes, live_numbers}
+use Rattle.wp_core.specs.States.{Content, writes, live_numbers}
 use Rattle.wp_core.specs.Turns.{write_turn}
 use Rattle.wp_core.specs.World.{Actor, World, with_content}
 use Rattle.wp_core.specs.Steps.{store_published}

@@ -11,7 +11,7 @@ use Rattle.std.specs.FinMap as finite
 use Rattle.wp_model.specs.declared.entry.Entry.{Entry}
 use Rattle.wp_model.specs.Decision.{decision_of}
 use Rattle.wp_model.specs.History.{is_undecided}
-use Rattle.wp_model.specs.Snapshots.{Snapshot, Snapshots, IsLive, after_register, NoOldCommits}
+use Rattle.wp_model.specs.Snapshots.{LiveSnapshot, Snapshots, IsLive, after_register, NoOldCommits}
 use Rattle.wp_core.proofs.PastsGrow.{in_front, in_either}
 use Rattle.wp_core.proofs.AllParticipants.{mine}
 use Rattle.wp_core.proofs.KeepsSeen.{shorter}
@@ -38,18 +38,18 @@ use Rattle.wp_model.proofs.Tests.{same_some}
 
 -- ---- one number's snapshot
 
-placed_there : (m : Snapshots) (n : ℕ) (o : Option Snapshot) → finite.get (placed m n o) n ≡ o
+placed_there : (m : Snapshots) (n : ℕ) (o : Option LiveSnapshot) → finite.get (placed m n o) n ≡ o
 placed_there m n None = get_removed m n
 placed_there m n (Some x) = get_inserted m n x
 
-placed_else : (m : Snapshots) (n : ℕ) (o : Option Snapshot) (t : ℕ) → t ≢ n → finite.get (placed m n o) t ≡ finite.get m t
+placed_else : (m : Snapshots) (n : ℕ) (o : Option LiveSnapshot) (t : ℕ) → t ≢ n → finite.get (placed m n o) t ≡ finite.get m t
 placed_else m n None t ne = get_removed_else m n t ne
 placed_else m n (Some x) t ne = get_inserted_else m n x t ne
 
-abbrev pub has_old : ℕ → Option Snapshot → Bool
+abbrev pub has_old : ℕ → Option LiveSnapshot → Bool
 has_old p o = option_map_or (λ x. finset.contains x.old_commits p) o false
 
-pub live_there : (o : Option Snapshot) → IsSome o → (x : Snapshot) × (o ≡ Some x)
+pub live_there : (o : Option LiveSnapshot) → IsSome o → (x : LiveSnapshot) × (o ≡ Some x)
 live_there None live = absurd (true≢false (sym live))
 live_there (Some x) live = (x, refl)
 
@@ -82,13 +82,13 @@ below_all history rs k i r at = k r (at_in rs i r at)
 
 -- ---- one number's snapshot changes
 
-module _ (history : List Entry) (m : Snapshots) (n : ℕ) (o : Option Snapshot) where
+module _ (history : List Entry) (m : Snapshots) (n : ℕ) (o : Option LiveSnapshot) where
   -- what is so of each number's snapshot, from what is so of this one's and of those that stay
-  at_each : (P : Option Snapshot → Option Snapshot → ℕ → Type 0) → P (finite.get m n) o n → ((t : ℕ) → t ≢ n → P (finite.get m t) (finite.get m t) t) → (t : ℕ) → P (finite.get m t) (finite.get (placed m n o) t) t
+  at_each : (P : Option LiveSnapshot → Option LiveSnapshot → ℕ → Type 0) → P (finite.get m n) o n → ((t : ℕ) → t ≢ n → P (finite.get m t) (finite.get m t) t) → (t : ℕ) → P (finite.get m t) (finite.get (placed m n o) t) t
   at_each P changed others t =
       dite (ℕ_discrete t n)
-      (λ (e : t ≡ n). subst (λ (z : ℕ). P (finite.get m z) (finite.get (placed m n o) z) z) (sym e) (subst (λ (z : Option Snapshot). P (finite.get m n) z n) (sym (placed_there m n o)) changed))
-      (λ (ne : t ≢ n). subst (λ (z : Option Snapshot). P (finite.get m t) z t) (sym (placed_else m n o t ne)) (others t ne))
+      (λ (e : t ≡ n). subst (λ (z : ℕ). P (finite.get m z) (finite.get (placed m n o) z) z) (sym e) (subst (λ (z : Option LiveSnapshot). P (finite.get m n) z n) (sym (placed_there m n o)) changed))
+      (λ (ne : t ≢ n). subst (λ (z : Option LiveSnapshot). P (finite.get m t) z t) (sym (placed_else m n o t ne)) (others t ne))
 
   pub grows_at : IsLive m n ⊎ (n ≡ length history) → ((p : ℕ) → IsSome o → has_old p (finite.get m n) ≡ true → has_old p o ≡ true)
       → ((p : ℕ) → has_old p o ≡ true → (has_old p (finite.get m n) ≡ true) ⊎ ((c : ℕ) × (decision_of history p ≡ Some c) × (p ≤ n) × (n < c))) → SnapshotsGrow history m (placed m n o)
@@ -102,7 +102,7 @@ module _ (history : List Entry) (m : Snapshots) (n : ℕ) (o : Option Snapshot) 
   none_at still none t p = at_each (λ old new u. has_old p old ≡ false → has_old p new ≡ false) (still p) (λ u ne k. k) t (none t p)
 
   pub registered_at : (xs : List Actor) (by : ℕ) (a b : Actor) → get_elem? xs by ≡ some a → b.joined ≡ a.joined → count_of o + at_number n a.participant.registered ≡ count_of (finite.get m n) + at_number n b.participant.registered
-      → ((t : ℕ) → t ≢ n → at_number t b.participant.registered ≡ at_number t a.participant.registered) → ((x : Snapshot) → o ≡ Some x → (1 ≤ x.registrations) × (n ≤ length history)) → AreBelowCommitted history b.participant.registered
+      → ((t : ℕ) → t ≢ n → at_number t b.participant.registered ≡ at_number t a.participant.registered) → ((x : LiveSnapshot) → o ≡ Some x → (1 ≤ x.registrations) × (n ≤ length history)) → AreBelowCommitted history b.participant.registered
       → AreRegistered history m (map (participants_of registered_of) xs) → AreRegistered history (placed m n o) (map (participants_of registered_of) (set xs by b))
   registered_at xs by a b at same count apart live below k = record {
     counted = λ t.
@@ -110,7 +110,7 @@ module _ (history : List Entry) (m : Snapshots) (n : ℕ) (o : Option Snapshot) 
         let was = k.counted t in
         let now = at_each (λ old new u. count_of new + at_number u a.participant.registered ≡ count_of old + at_number u b.participant.registered) count (λ u ne. ap (λ (z : ℕ). count_of (finite.get m u) + z) (sym (apart u ne))) t in
         omega (arith, sum, was, now);
-    live = at_each (λ old new u. (x : Snapshot) → new ≡ Some x → (1 ≤ x.registrations) × (u ≤ length history)) live (λ u ne. k.live u);
+    live = at_each (λ old new u. (x : LiveSnapshot) → new ≡ Some x → (1 ≤ x.registrations) × (u ≤ length history)) live (λ u ne. k.live u);
     smallest = each_person_set registered_of (AreBelowCommitted history) xs by a b at below same k.smallest;
   }
 
@@ -120,20 +120,20 @@ module _ (w : World) (by : ℕ) (a : Actor) (n least : ℕ) (at : get_elem? w.ac
   abbrev r : Registration
   r = record { number = n; smallest = least }
 
-  same_old : (p : ℕ) (o : Option Snapshot) → has_old p (after_register o) ≡ has_old p o
+  same_old : (p : ℕ) (o : Option LiveSnapshot) → has_old p (after_register o) ≡ has_old p o
   same_old p None = finset.contains-empty nat_cmp p
   same_old p (Some x) = refl
 
   grows_now : SnapshotsGrow w.writes.history w.snapshots (with_registered w.snapshots n)
   grows_now = grows_at w.writes.history w.snapshots n (after_register (finite.get w.snapshots n)) known (λ p live there. same_old p (finite.get w.snapshots n) ∙ there) (λ p there. inl (sym (same_old p (finite.get w.snapshots n)) ∙ there))
 
-  one_more : (o : Option Snapshot) → count_of (after_register o) ≡ count_of o + 1
+  one_more : (o : Option LiveSnapshot) → count_of (after_register o) ≡ count_of o + 1
   one_more None = refl
   one_more (Some x) = refl
 
-  found_more : (o : Option Snapshot) (x : Snapshot) → after_register o ≡ Some x → 1 ≤ x.registrations
-  found_more None x e = let q = same_some (record { registrations = 1; old_commits = finset.empty }) x e in subst (λ (z : Snapshot). 1 ≤ z.registrations) q (omega arith)
-  found_more (Some y) x e = let q = same_some (record y { registrations = y.registrations + 1 }) x e in subst (λ (z : Snapshot). 1 ≤ z.registrations) q (omega arith)
+  found_more : (o : Option LiveSnapshot) (x : LiveSnapshot) → after_register o ≡ Some x → 1 ≤ x.registrations
+  found_more None x e = let q = same_some (record { registrations = 1; old_commits = finset.empty }) x e in subst (λ (z : LiveSnapshot). 1 ≤ z.registrations) q (omega arith)
+  found_more (Some y) x e = let q = same_some (record y { registrations = y.registrations + 1 }) x e in subst (λ (z : LiveSnapshot). 1 ≤ z.registrations) q (omega arith)
 
   registered_now : (seen learned : List Entry) → AreRegistered w.writes.history (with_registered w.snapshots n) (map (participants_of registered_of) (set w.actors by (with_view a seen learned (a.participant.registered ++ r ∷ []) a.reading)))
   registered_now seen learned = registered_at w.writes.history w.snapshots n (after_register (finite.get w.snapshots n)) w.actors by a (with_view a seen learned (a.participant.registered ++ r ∷ []) a.reading) at refl

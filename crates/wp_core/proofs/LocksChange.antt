@@ -8,7 +8,7 @@ use Rattle.wp_model.specs.declared.holder.Holder.{Holder}
 use Rattle.wp_model.specs.Batch.{key_cmp}
 use Rattle.wp_model.specs.LockState.{LockState}
 use Rattle.wp_core.specs.Turns.{Holds, locks_turn}
-use Rattle.wp_core.specs.Tables.{Content, locks}
+use Rattle.wp_core.specs.States.{Content, locks}
 use Rattle.wp_core.specs.Views.{Fact, Event, claimed, took, locked}
 use Rattle.wp_core.specs.World.{Actor, Participant, World, content_of, with_content}
 use Rattle.wp_core.specs.World as world

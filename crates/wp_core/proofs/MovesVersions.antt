@@ -4,7 +4,7 @@ use mathlib.Core.Option.{some}
 use lib.ListN.{get_elem?}
 use Rattle.wp_model.specs.declared.version.Version.{Version}
 use Rattle.wp_model.specs.Versions.{version_at}
-use Rattle.wp_core.specs.Tables.{StoreState}
+use Rattle.wp_core.specs.States.{StoreState}
 use Rattle.wp_core.specs.Turns.{tables_turn}
 use Rattle.wp_core.specs.Views.{Fact, versions_in_memory, versions_nowhere, tables_stay, nothing_flushed, frozen_stay}
 use Rattle.wp_core.specs.World.{Participant, Actor, World}

@@ -9,7 +9,7 @@ use Rattle.std.specs.List.{list_any}
 use Rattle.std.specs.FinSet as finset
 use Rattle.std.specs.FinMap as finite
 use Rattle.wp_model.specs.Decision.{decision_of}
-use Rattle.wp_model.specs.Snapshots.{Snapshot, after_release, after_keep}
+use Rattle.wp_model.specs.Snapshots.{LiveSnapshot, after_release, after_keep}
 use Rattle.wp_judge.specs.declared.observed.Observed.{Observed}
 use Rattle.wp_core.proofs.AllParticipants.{mine}
 use Rattle.wp_core.specs.Lists.{IsIn, one_if}
@@ -34,12 +34,12 @@ use Rattle.wp_model.proofs.Tests.{same_some}
 
 -- ---- a version is noted
 
-module _ (w : World) (n p c : ℕ) (x : Snapshot) (there : finite.get w.snapshots n ≡ Some x) (decided : decision_of w.writes.history p ≡ Some c) (from : p ≤ n) (below : n < c) where
-  kept_there : (q : ℕ) → q ≡ p → (o : Option Snapshot) → IsSome (after_keep p o) → has_old q (after_keep p o) ≡ true
+module _ (w : World) (n p c : ℕ) (x : LiveSnapshot) (there : finite.get w.snapshots n ≡ Some x) (decided : decision_of w.writes.history p ≡ Some c) (from : p ≤ n) (below : n < c) where
+  kept_there : (q : ℕ) → q ≡ p → (o : Option LiveSnapshot) → IsSome (after_keep p o) → has_old q (after_keep p o) ≡ true
   kept_there q e None live = absurd (true≢false (sym live))
   kept_there q e (Some y) live = ap (finset.contains (finset.insert y.old_commits p)) e ∙ in_inserted y.old_commits p
 
-  kept_else : (q : ℕ) → q ≢ p → (o : Option Snapshot) → has_old q (after_keep p o) ≡ has_old q o
+  kept_else : (q : ℕ) → q ≢ p → (o : Option LiveSnapshot) → has_old q (after_keep p o) ≡ has_old q o
   kept_else q ne None = refl
   kept_else q ne (Some y) = in_inserted_else y.old_commits p q ne
 
@@ -50,13 +50,13 @@ module _ (w : World) (n p c : ℕ) (x : Snapshot) (there : finite.get w.snapshot
       (λ (e : q ≡ p). inr (c, ap (decision_of w.writes.history) e ∙ decided, subst (λ (z : ℕ). z ≤ n) (sym e) from, below))
       (λ (ne : q ≢ p). inl (sym (kept_else q ne (finite.get w.snapshots n)) ∙ old)))
 
-  same_count : (o : Option Snapshot) → count_of (after_keep p o) ≡ count_of o
+  same_count : (o : Option LiveSnapshot) → count_of (after_keep p o) ≡ count_of o
   same_count None = refl
   same_count (Some y) = refl
 
-  still_registered : (o : Option Snapshot) (y : Snapshot) → after_keep p o ≡ Some y → (z : Snapshot) × (o ≡ Some z) × (z.registrations ≡ y.registrations)
+  still_registered : (o : Option LiveSnapshot) (y : LiveSnapshot) → after_keep p o ≡ Some y → (z : LiveSnapshot) × (o ≡ Some z) × (z.registrations ≡ y.registrations)
   still_registered None y e = let no : None ≡ Some y = e in absurd (cc)
-  still_registered (Some z) y e = (z, refl, ap (λ (v : Snapshot). v.registrations) (same_some (record z { old_commits = finset.insert z.old_commits p }) y e))
+  still_registered (Some z) y e = (z, refl, ap (λ (v : LiveSnapshot). v.registrations) (same_some (record z { old_commits = finset.insert z.old_commits p }) y e))
 
   registered_noted : (by : ℕ) (a : Actor) → get_elem? w.actors by ≡ some a → IsSound w → AreRegistered w.writes.history (with_old_commit w.snapshots n p) (map (participants_of registered_of) (set w.actors by (with_view a a.participant.seen a.learned a.participant.registered a.reading)))
   registered_noted by a at s = registered_at w.writes.history w.snapshots n (after_keep p (finite.get w.snapshots n)) w.actors by a (with_view a a.participant.seen a.learned a.participant.registered a.reading) at refl
@@ -110,7 +110,7 @@ still_reads (Some q) left r e = by_test (list_any (is_same_registration (snapsho
     by_test true is f = (f, subst (λ (z : Observed). IsIn (snapshot_of z) left) (same_some q r f) (any_same (snapshot_of q) left is))
     by_test false is f = let no : None ≡ Some r = f in absurd (cc)
 
-module _ (w : World) (by : ℕ) (a : Actor) (front back : List Registration) (r : Registration) (x : Snapshot) (at : get_elem? w.actors by ≡ some a) (s : IsSound w) (mine : a.participant.registered ≡ front ++ r ∷ back) (there : finite.get w.snapshots r.number ≡ Some x) where
+module _ (w : World) (by : ℕ) (a : Actor) (front back : List Registration) (r : Registration) (x : LiveSnapshot) (at : get_elem? w.actors by ≡ some a) (s : IsSound w) (mine : a.participant.registered ≡ front ++ r ∷ back) (there : finite.get w.snapshots r.number ≡ Some x) where
   old_released : (q : ℕ) (b : Bool) → has_old q (cond b None (Some (record x { registrations = x.registrations - 1 }))) ≡ true → finset.contains x.old_commits q ≡ true
   old_released q true e = absurd (true≢false (sym e))
   old_released q false e = e
@@ -121,11 +121,11 @@ module _ (w : World) (by : ℕ) (a : Actor) (front back : List Registration) (r 
 
   -- what is under the number it was under, and it stays while the number is live
   was_old : (q : ℕ) → has_old q (after_release (finite.get w.snapshots r.number)) ≡ true → has_old q (finite.get w.snapshots r.number) ≡ true
-  was_old q old = ap (has_old q) there ∙ old_released q (nat_le x.registrations 1) (sym (ap (λ (z : Option Snapshot). has_old q (after_release z)) there) ∙ old)
+  was_old q old = ap (has_old q) there ∙ old_released q (nat_le x.registrations 1) (sym (ap (λ (z : Option LiveSnapshot). has_old q (after_release z)) there) ∙ old)
 
   still_old : (q : ℕ) → IsSome (after_release (finite.get w.snapshots r.number)) → has_old q (finite.get w.snapshots r.number) ≡ true → has_old q (after_release (finite.get w.snapshots r.number)) ≡ true
   still_old q live old =
-      ap (λ (z : Option Snapshot). has_old q (after_release z)) there ∙ old_stays q (nat_le x.registrations 1) (subst (λ (z : Option Snapshot). IsSome (after_release z)) there live) (sym (ap (has_old q) there) ∙ old)
+      ap (λ (z : Option LiveSnapshot). has_old q (after_release z)) there ∙ old_stays q (nat_le x.registrations 1) (subst (λ (z : Option LiveSnapshot). IsSome (after_release z)) there live) (sym (ap (has_old q) there) ∙ old)
 
   none_old : (q : ℕ) (b : Bool) → has_old q (after_release (finite.get w.snapshots r.number)) ≡ b → has_old q (finite.get w.snapshots r.number) ≡ false → b ≡ false
   none_old q true is none = absurd (true≢false (sym (was_old q is) ∙ none))
@@ -138,11 +138,11 @@ module _ (w : World) (by : ℕ) (a : Actor) (front back : List Registration) (r 
   count_less true le some_left = let n : ℕ = x.registrations in let low : n ≤ 1 = grind (arith, nat_tests) in omega arith
   count_less false le some_left = omega arith
 
-  still_some : (b : Bool) (y : Snapshot) → nat_le x.registrations 1 ≡ b → cond b None (Some (record x { registrations = x.registrations - 1 })) ≡ Some y → 1 ≤ y.registrations
+  still_some : (b : Bool) (y : LiveSnapshot) → nat_le x.registrations 1 ≡ b → cond b None (Some (record x { registrations = x.registrations - 1 })) ≡ Some y → 1 ≤ y.registrations
   still_some true y le e = let no : None ≡ Some y = e in absurd (cc)
   still_some false y le e =
       let n : ℕ = x.registrations in let high : 1 < n = grind (arith, nat_tests) in
-      subst (λ (z : Snapshot). 1 ≤ z.registrations) (same_some (record x { registrations = x.registrations - 1 }) y e) (omega arith)
+      subst (λ (z : LiveSnapshot). 1 ≤ z.registrations) (same_some (record x { registrations = x.registrations - 1 }) y e) (omega arith)
 
   registered_released : AreRegistered w.writes.history (with_released w.snapshots r.number) (map (participants_of registered_of) (set w.actors by (with_view a a.participant.seen a.learned (front ++ back) (reading_left a.reading (front ++ back)))))
   registered_released =
@@ -150,7 +150,7 @@ module _ (w : World) (by : ℕ) (a : Actor) (front back : List Registration) (r 
       registered_at w.writes.history w.snapshots r.number (after_release (finite.get w.snapshots r.number)) w.actors by a (with_view a a.participant.seen a.learned (front ++ back) (reading_left a.reading (front ++ back))) at refl
       (let left = sum_append r.number front back in
       let all = full r.number in
-      let now : count_of (after_release (finite.get w.snapshots r.number)) ≡ count_of (after_release (Some x)) = ap (λ (z : Option Snapshot). count_of (after_release z)) there in
+      let now : count_of (after_release (finite.get w.snapshots r.number)) ≡ count_of (after_release (Some x)) = ap (λ (z : Option LiveSnapshot). count_of (after_release z)) there in
       let before : count_of (finite.get w.snapshots r.number) ≡ x.registrations = ap count_of there in
       let less : count_of (after_release (Some x)) + 1 ≡ x.registrations = count_less (nat_le x.registrations 1) refl (s.registrations.live r.number x there).0 in
       let one : one_if (r.number == r.number) ≡ 1 = ap one_if (eq-eqb r.number r.number refl) in omega (arith, left, all, now, before, less, one))

@@ -6,7 +6,7 @@ use Rattle.std.specs.FinMap as finite
 use Rattle.std.proofs.lemmas.Bool.{eqb-true}
 use Rattle.std.specs.Prelude.{IsSome}
 use Rattle.wp_model.specs.Batch.{key_cmp}
-use Rattle.wp_model.specs.Snapshots.{Snapshot, IsLive}
+use Rattle.wp_model.specs.Snapshots.{LiveSnapshot, IsLive}
 use Rattle.wp_core.specs.Alone.{IsAlone, IsOnlyOf}
 use Rattle.wp_core.specs.Lists.{IsIn, one_if, total}
 use Rattle.wp_core.specs.Reading.{Registration}
@@ -72,7 +72,7 @@ one_of n (r ∷ rs) least = by_test (one_of n rs) (r.number == n) refl
     by_test others true e = (r, inl refl, eqb-true r.number n e)
     by_test others false e = let t : one_if (r.number == n) ≡ 0 = ap one_if e in let k = others (omega (arith, least, t)) in (k.0, inr k.1, k.2)
 
-there_is : (o : Option Snapshot) → IsSome o → (x : Snapshot) × (o ≡ Some x)
+there_is : (o : Option LiveSnapshot) → IsSome o → (x : LiveSnapshot) × (o ≡ Some x)
 there_is None k = absurd cc
 there_is (Some x) k = (x, refl)
 

@@ -24,7 +24,7 @@ use Rattle.wp_judge.specs.Order.{judgement}
 use Rattle.wp_judge.specs.declared.observed.Observed.{Observed}
 use Rattle.wp_judge.specs.declared.observed.Load.TheVariants.{FirstWord}
 use Rattle.wp_core.specs.Turns.{write_turn, snapshots_turn, store_turn, locks_turn, Holders, all_free}
-use Rattle.wp_core.specs.Tables.{WriteState, Content, writes, snapshots, store, locks}
+use Rattle.wp_core.specs.States.{WriteState, Content, writes, snapshots, store, locks}
 use Rattle.wp_core.specs.Reading.{Registration, reads}
 use Rattle.wp_core.specs.Views.{Event, claimed, locked}
 use Rattle.wp_core.specs.World.{Transaction, Transactions, Actor, World, new_participant, new_actor, history}

@@ -25,7 +25,7 @@ use Rattle.wp_model.proofs.Found.{found_holder}
 use Rattle.wp_core.specs.Lists.{IsIn}
 use Rattle.wp_core.specs.Turns.{Turn, write_turn, prepared_turn, snapshots_turn, store_turn, locks_turn, tables_turn, Holds, all_free}
 use Rattle.wp_core.specs.Entries.{batch_of_name}
-use Rattle.wp_core.specs.Tables.{StoreState, Installed}
+use Rattle.wp_core.specs.States.{StoreState, Installed}
 use Rattle.wp_model.specs.Flushed.{InstalledEdit}
 use Rattle.wp_core.specs.Reading.{Registration}
 use Rattle.wp_core.specs.Views.{Event, Fact, told, heard, log_failed, log_stopped, tables_failed, stopped, found_edit, found}

@@ -20,7 +20,7 @@ use Rattle.wp_history_laws.proofs.Growth.{by_growth}
 use Rattle.wp_history_laws.proofs.Listed.{zero_covered}
 use Rattle.wp_history_laws.proofs.Opened.{names_of, keys_of, tables_opened}
 use Rattle.wp_core.specs.Turns.{all_free}
-use Rattle.wp_core.specs.Tables.{StoreState, live_numbers, up_to}
+use Rattle.wp_core.specs.States.{StoreState, live_numbers, up_to}
 use Rattle.wp_model.specs.Flushed.{InstalledEdit, versions_under, later_versions, first_segment}
 use Rattle.wp_core.specs.World.{World, new_actor}
 use Rattle.wp_core.specs.Runs.{IsOpening}

@@ -10,7 +10,7 @@ use Rattle.wp_model.specs.History.{entry_at, is_prepare}
 use Rattle.wp_model.specs.Legal.{IsLegal}
 use Rattle.wp_model.specs.Record.{IsOneRecord}
 use Rattle.wp_core.specs.Entries.{next_of, extended}
-use Rattle.wp_core.specs.Tables.{WriteState, writes}
+use Rattle.wp_core.specs.States.{WriteState, writes}
 use Rattle.wp_core.specs.Turns.{Holds, write_turn}
 use Rattle.wp_core.specs.Views.{Fact, versions_in_memory, pair_delayed, pair_not_delayed}
 use Rattle.wp_core.specs.World.{Participant, Actor, World, with_content}

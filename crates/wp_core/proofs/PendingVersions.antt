@@ -13,7 +13,7 @@ use Rattle.wp_model.specs.Covered.{IsCovered, GivesStore}
 use Rattle.wp_model.specs.Decision.{version_in, entry_version}
 use Rattle.wp_model.specs.Versions.{version_at}
 use Rattle.wp_core.specs.Entries.{next_of, HasVersionsAt}
-use Rattle.wp_core.specs.Tables.{StoreState, store, up_to}
+use Rattle.wp_core.specs.States.{StoreState, store, up_to}
 use Rattle.wp_core.specs.Turns.{Holds, write_turn, store_turn}
 use Rattle.wp_core.specs.Views.{Fact, versions_in_memory, versions_nowhere, nothing_flushed, frozen_stay}
 use Rattle.wp_core.specs.World.{Participant, Actor, World, with_content}

@@ -13,7 +13,7 @@ use Rattle.wp_model.specs.declared.holder.Holder.TheVariants.{Txn, Client}
 use Rattle.wp_model.specs.LockState.{LockState}
 use Rattle.wp_model.specs.Snapshots.{Snapshots}
 use Rattle.wp_core.specs.Lists.{IsIn, one_if, total}
-use Rattle.wp_core.specs.Tables.{WriteState, Installed}
+use Rattle.wp_core.specs.States.{WriteState, Installed}
 use Rattle.wp_model.specs.Flushed.{InstalledEdit}
 use Rattle.wp_core.specs.Reading.{Registration}
 use Rattle.wp_core.specs.Views.{Account, own, another, prepare_at, Event, claimed, took, locked, installed, renewed, found_edit, found}

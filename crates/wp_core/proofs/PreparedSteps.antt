@@ -12,7 +12,7 @@ use Rattle.wp_model.specs.History.{is_undecided}
 use Rattle.wp_model.specs.PreparedSets.{PreparedSets, is_prepared}
 use Rattle.wp_judge.specs.Words.{CommitPair, commit_pair}
 use Rattle.wp_core.specs.Cache.{cached}
-use Rattle.wp_core.specs.Tables.{without_prepared}
+use Rattle.wp_core.specs.States.{without_prepared}
 use Rattle.wp_core.specs.Turns.{Holds, prepared_turn, write_turn}
 use Rattle.wp_core.specs.Views.{Fact, apart, has_left, number_in_heap, number_not_in_heap, pair_delayed, pair_not_delayed, none_waits}
 use Rattle.wp_core.specs.World.{Participant, Actor, World}

@@ -11,7 +11,7 @@ use Rattle.wp_history_laws.proofs.Growth.{length_next}
 use Rattle.wp_history_laws.proofs.Undone.{undone_next}
 use Rattle.wp_core.specs.Lists.{one_if}
 use Rattle.wp_model.specs.Record.{IsOneRecord}
-use Rattle.wp_core.specs.Tables.{WriteState}
+use Rattle.wp_core.specs.States.{WriteState}
 use Rattle.wp_core.specs.World.{Actor}
 use Rattle.wp_core.specs.Effects.{with_entry}
 use Rattle.wp_core.specs.Sound.Actors.{StartsWith, own_of, times, AreOwned, participants_of}

@@ -15,7 +15,7 @@ use Rattle.wp_model.specs.LockState.{LockState}
 use Rattle.wp_model.proofs.Found.{found_named}
 use Rattle.wp_model.proofs.Entries.{undecided_within}
 use Rattle.wp_core.specs.Entries.{transaction_of}
-use Rattle.wp_core.specs.Tables.{WriteState}
+use Rattle.wp_core.specs.States.{WriteState}
 use Rattle.wp_core.specs.Views.{Account, own, another, prepare_at, Event}
 use Rattle.wp_core.specs.Effects.{with_entry}
 use Rattle.wp_core.specs.Sound.Locks.{Owner, HasKeyAt, WasPrepared, PrepareHas, CameToKey, AreLocked}

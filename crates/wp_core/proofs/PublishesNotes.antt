@@ -20,7 +20,7 @@ use Rattle.wp_model.proofs.Found.{found_named}
 use Rattle.wp_core.specs.Conditions.{MayPublish}
 use Rattle.wp_core.specs.Entries.{transaction_of, changes_under}
 use Rattle.wp_core.specs.Turns.{write_turn}
-use Rattle.wp_core.specs.Tables.{WriteState}
+use Rattle.wp_core.specs.States.{WriteState}
 use Rattle.wp_core.specs.Views.{Fact, passed, in_old_commits, apart, has_left, versions_in_memory, versions_nowhere, number_in_heap, number_not_in_heap, pair_delayed, pair_not_delayed, none_waits, undecided_at, prior_values, unprepared, direct_free, live_listed, frozen_stay}
 use Rattle.wp_core.specs.World.{Participant, Actor, World}
 use Rattle.wp_core.specs.Steps.{store_published}

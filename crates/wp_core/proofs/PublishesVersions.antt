@@ -16,7 +16,7 @@ use Rattle.wp_history_laws.proofs.Counting.{entry_version_old}
 use Rattle.wp_history_laws.proofs.Listed.{only_listed}
 use Rattle.wp_model.proofs.Entries.{entry_at_past}
 use Rattle.wp_core.specs.Entries.{next_of}
-use Rattle.wp_core.specs.Tables.{StoreState, Installed, live_numbers, up_to, all_in}
+use Rattle.wp_core.specs.States.{StoreState, Installed, live_numbers, up_to, all_in}
 use Rattle.wp_model.specs.Flushed.{InstalledEdit, versions_under, versions_after, later_versions, IsEditCovered}
 use Rattle.wp_core.specs.Sound.Store.{IsStored}
 use Rattle.wp_core.proofs.CoveredGrows.{version_within, covered_grows}

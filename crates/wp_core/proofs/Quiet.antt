@@ -6,7 +6,7 @@ use lib.ListN.{get_elem?}
 use Rattle.wp_model.specs.PreparedSets.{PreparedSets}
 use Rattle.wp_core.specs.Lists.{IsIn}
 use Rattle.wp_core.specs.Turns.{Turn, Holds, prepared_turn}
-use Rattle.wp_core.specs.Tables.{prepared}
+use Rattle.wp_core.specs.States.{prepared}
 use Rattle.wp_core.specs.Views.{Fact}
 use Rattle.wp_core.specs.World.{Participant, Actor, World}
 use Rattle.wp_core.specs.Steps.{Step}

@@ -4,7 +4,7 @@ use mathlib.Core.Option.{some, some-injective, some-ne-none}
 use lib.ListN.{get_elem?}
 use Rattle.std.specs.FinMap as finite
 use Rattle.wp_model.specs.declared.entry.Entry.{Entry}
-use Rattle.wp_model.specs.Snapshots.{Snapshot, Snapshots, IsLive}
+use Rattle.wp_model.specs.Snapshots.{LiveSnapshot, Snapshots, IsLive}
 use Rattle.wp_core.specs.Lists.{IsIn, one_if, total}
 use Rattle.wp_core.specs.Reading.{Registration}
 use Rattle.wp_core.specs.World.{Actor}
@@ -25,13 +25,13 @@ in_total s r (x ∷ xs) is there =
     (λ (q : x ≡ r). let t : (x.number == s) ≡ true = eq-eqb x.number s (ap (λ (z : Registration). z.number) q ∙ is) in let u : one_if (x.number == s) ≡ 1 = ap one_if t in omega arith)
     (λ (k : IsIn r xs). let t = in_total s r xs is k in omega arith) there
 
-pub some_counted : (o : Option Snapshot) → 1 ≤ count_of o → (x : Snapshot) × (o ≡ Some x)
+pub some_counted : (o : Option LiveSnapshot) → 1 ≤ count_of o → (x : LiveSnapshot) × (o ≡ Some x)
 some_counted None k = absurd (omega arith)
 some_counted (Some x) k = (x, refl)
 
 -- what the snapshots have of a registered number
 pub registered_there : (history : List Entry) (snapshots : Snapshots) (actors : List Actor) (by : ℕ) (a : Actor) (r : Registration) → get_elem? actors by ≡ some a → IsIn r a.participant.registered → AreRegistered history snapshots (map (participants_of registered_of) actors)
-    → (x : Snapshot) × (finite.get snapshots r.number ≡ Some x)
+    → (x : LiveSnapshot) × (finite.get snapshots r.number ≡ Some x)
 registered_there history snapshots actors by a r at there k =
     let f : List Registration → ℕ = total (λ x. one_if (x.number == r.number)) in
     let mine : 1 ≤ f a.participant.registered = in_total r.number r a.participant.registered refl there in

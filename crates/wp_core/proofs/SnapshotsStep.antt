@@ -22,7 +22,7 @@ use Rattle.wp_core.specs.Cache.{cached}
 use Rattle.wp_core.specs.Lists.{IsIn}
 use Rattle.wp_core.specs.Reading.{Registration, snapshot_of}
 use Rattle.wp_core.specs.Turns.{Holds, snapshots_turn}
-use Rattle.wp_core.specs.Tables.{Content, snapshots, live_numbers}
+use Rattle.wp_core.specs.States.{Content, snapshots, live_numbers}
 use Rattle.wp_core.specs.Views.{Fact, in_old_commits, live_listed}
 use Rattle.wp_core.specs.World.{Participant, Actor, World, with_content}
 use Rattle.wp_core.specs.Steps.{Step}

@@ -3,7 +3,7 @@ use Rattle.std.proofs.Common.{◌≡◌, inl, inr, ℕ, List, [], ◌∷◌, ◌
 use mathlib.Core.Option.{some}
 use lib.ListN.{get_elem?}
 use Rattle.wp_core.specs.Turns.{Holds, tables_turn}
-use Rattle.wp_core.specs.Tables.{Content, Installed, installed}
+use Rattle.wp_core.specs.States.{Content, Installed, installed}
 use Rattle.wp_core.specs.Views.{Event, Fact}
 use Rattle.wp_core.specs.World.{Actor, Participant, World, content_of, with_content}
 use Rattle.wp_core.specs.World as world

@@ -6,7 +6,7 @@ use native.Mathlib.Decide.{ℕ_discrete}
 use lib.ListN.{get_elem?}
 use Rattle.wp_core.specs.Lists.{IsIn}
 use Rattle.wp_core.specs.Turns.{Turn, write_turn, prepared_turn, snapshots_turn, store_turn, locks_turn, tables_turn, Holders, Holds, turn_holder, with_holder}
-use Rattle.wp_core.specs.Tables.{Content, turn_of}
+use Rattle.wp_core.specs.States.{Content, turn_of}
 use Rattle.wp_core.specs.World.{Actor, World, content_of}
 use Rattle.wp_core.specs.Steps.{take_turn}
 use Rattle.wp_core.specs.Changes.{turn_index}

@@ -15,7 +15,7 @@ use Rattle.wp_core.specs.Turns.{Turn, write_turn, prepared_turn, snapshots_turn,
 use Rattle.wp_judge.specs.Words.{CommitPair}
 use Rattle.wp_core.specs.Cache.{cached}
 use Rattle.wp_model.specs.PreparedSets.{is_prepared, NoneDelayed}
-use Rattle.wp_core.specs.Tables.{WriteState, StoreState, Installed}
+use Rattle.wp_core.specs.States.{WriteState, StoreState, Installed}
 use Rattle.wp_model.specs.Flushed.{InstalledEdit}
 use Rattle.wp_model.specs.Snapshots.{NoOldCommits}
 use Rattle.wp_judge.specs.declared.observed.Observed.{Observed}

@@ -7,7 +7,7 @@ use Rattle.wp_model.specs.History.{batch_at}
 use Rattle.wp_model.specs.declared.holder.Holder.TheVariants.{Txn, Client}
 use Rattle.wp_core.specs.Turns.{with_holder}
 use Rattle.wp_core.specs.Cache.{with_pair}
-use Rattle.wp_core.specs.Tables.{WriteState, Installed, writes, prepared, snapshots, store, locks, installed, without_prepared, with_moved}
+use Rattle.wp_core.specs.States.{WriteState, Installed, writes, prepared, snapshots, store, locks, installed, without_prepared, with_moved}
 use Rattle.wp_model.specs.Flushed.{InstalledEdit}
 use Rattle.wp_core.specs.Reading.{reads}
 use Rattle.wp_core.specs.Views.{claimed, took, locked, told, heard, renewed, log_failed, log_stopped, tables_failed, stopped, found_edit, found}

@@ -2,7 +2,7 @@
 use Rattle.std.specs.Prelude.{◌≡◌, ◌⊎◌, ℕ, true, List, ◌++◌, Some}
 use Rattle.wp_model.specs.declared.entry.Entry.{Entry}
 use Rattle.wp_model.specs.declared.segment.Segment.{Segment}
-use Rattle.wp_core.specs.Tables.{WriteState, Installed}
+use Rattle.wp_core.specs.States.{WriteState, Installed}
 use Rattle.wp_model.specs.Flushed.{InstalledEdit}
 
 -- ---- what the tables say of it

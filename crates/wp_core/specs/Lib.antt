@@ -2,7 +2,7 @@ pub mod Lists
 pub mod Turns
 pub mod Cache
 pub mod Reading
-pub mod Tables
+pub mod States
 pub mod Views
 pub mod World
 pub mod Entries

@@ -9,7 +9,7 @@ use Rattle.wp_core.specs.Turns.{Turn, write_turn, prepared_turn, snapshots_turn,
 use Rattle.wp_model.specs.PreparedSets.{PreparedSets}
 use Rattle.wp_model.specs.Snapshots.{Snapshots}
 use Rattle.wp_model.specs.LockState.{LockState}
-use Rattle.wp_core.specs.Tables.{WriteState, StoreState, Installed, Content, writes, prepared, snapshots, store, locks, installed}
+use Rattle.wp_core.specs.States.{WriteState, StoreState, Installed, Content, writes, prepared, snapshots, store, locks, installed}
 use Rattle.wp_model.specs.Flushed.{InstalledEdit}
 use Rattle.wp_judge.specs.declared.observed.Observed.{Observed}
 use Rattle.wp_core.specs.Reading.{Registration}

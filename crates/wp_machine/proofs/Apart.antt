@@ -5,7 +5,7 @@ use Rattle.std.specs.FinMap as finite
 use Rattle.wp_model.specs.declared.entry.Entry.{Entry}
 use Rattle.wp_judge.specs.Words.{CommitPair, commit_pair}
 use Rattle.wp_core.specs.World.{World, Participant, Actor}
-use Rattle.wp_core.specs.Tables.{WriteState, StoreState}
+use Rattle.wp_core.specs.States.{WriteState, StoreState}
 use Rattle.wp_model.specs.LockState.{LockState}
 use Rattle.wp_core.specs.Reading.{Registration}
 use Rattle.wp_core.specs.Entries.{pending_pair}

@@ -5,7 +5,7 @@ use Rattle.wp_core.specs.Reading.{Registration}
 use Rattle.wp_model.specs.declared.entry.Entry.{Entry}
 use Rattle.wp_core.specs.World.{Actor, World}
 use Rattle.wp_core.specs.Changes.{with_actor, held_with, with_released, releases}
-use Rattle.wp_core.specs.Tables.{writes, snapshots}
+use Rattle.wp_core.specs.States.{writes, snapshots}
 use Rattle.wp_core.specs.Effects.{done}
 use Rattle.wp_machine.specs.Machine.{with_next}
 use Rattle.wp_core.specs.Steps.{Step}

@@ -1,7 +1,7 @@
 -- Where the table of a turn is among those that an actor holds.
 use Rattle.std.specs.Prelude.{ℕ, ◌+◌, ◌==◌, List, [], ◌∷◌, Option, Some, None, if◌then◌else◌}
 use Rattle.wp_core.specs.Turns.{Turn}
-use Rattle.wp_core.specs.Tables.{Content, turn_of}
+use Rattle.wp_core.specs.States.{Content, turn_of}
 use Rattle.wp_core.specs.Changes.{turn_index}
 
 -- the place of the first one, where the list begins at this place

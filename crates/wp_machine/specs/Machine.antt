@@ -8,7 +8,7 @@ use Rattle.wp_model.specs.declared.version.Version.{Version}
 use Rattle.wp_model.specs.LockState.{LockState}
 use Rattle.wp_model.specs.Legal.{changes_in}
 use Rattle.wp_core.specs.World.{Participant, Actor, World}
-use Rattle.wp_core.specs.Tables.{WriteState, StoreState}
+use Rattle.wp_core.specs.States.{WriteState, StoreState}
 use Rattle.wp_core.specs.Reading.{Registration}
 use Rattle.wp_core.specs.Entries.{pending_pair}
 use Rattle.wp_model.specs.Flushed.{versions_under}

@@ -3,7 +3,7 @@ use Rattle.std.specs.Prelude.{ℕ, List, [], ◌∷◌, length, not, filter, Opt
 use Rattle.wp_model.specs.declared.entry.Entry.{Entry}
 use Rattle.wp_model.specs.LockState.{LockState}
 use Rattle.wp_core.specs.World.{Participant}
-use Rattle.wp_core.specs.Tables.{WriteState, StoreState}
+use Rattle.wp_core.specs.States.{WriteState, StoreState}
 use Rattle.wp_core.specs.Steps.{Step}
 use Rattle.wp_core.specs.Views.{Fact}
 use Rattle.wp_core.specs.Notes.{ends}

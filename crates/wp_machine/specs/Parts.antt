@@ -9,8 +9,8 @@ use Rattle.wp_machine.specs.declared.views.Found.{Found}
 use Rattle.wp_machine.specs.declared.views.Found.TheVariants as found
 use Rattle.wp_machine.specs.declared.views.Noted.{Noted}
 use Rattle.wp_machine.specs.declared.views.Noted.TheVariants as noted
-use Rattle.wp_core.specs.Tables.{Content}
-use Rattle.wp_core.specs.Tables as content
+use Rattle.wp_core.specs.States.{Content}
+use Rattle.wp_core.specs.States as content
 use Rattle.wp_core.specs.Views.{Account, Event, Fact}
 use Rattle.wp_core.specs.Views as view
 

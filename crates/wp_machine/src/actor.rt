@@ -8,7 +8,7 @@ ghost use Rattle.wp_model.specs.Batch.{key_cmp};
 ghost use Rattle.wp_core.specs.Reading.{snapshot_of};
 ghost use Rattle.wp_core.specs.Changes.{reading_left, is_same_registration, sees, remembers, has_direct, held_with, held_without, registers, has_transaction, has_no_transaction, turn_index, made_one, informed, joins};
 ghost use Rattle.wp_machine.specs.Effect.{has_published, released_number, has_released};
-ghost use Rattle.wp_core.specs.Tables as tables;
+ghost use Rattle.wp_core.specs.States as tables;
 ghost use Rattle.wp_core.specs.World.{new_participant, new_actor};
 ghost use Rattle.wp_machine.specs.Client.{client_of};
 ghost use Rattle.wp_core.specs.Turns.{turn_of};

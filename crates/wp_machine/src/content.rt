@@ -1,5 +1,5 @@
 ghost use Rattle.std.specs.Prelude.{◌≡◌};
-ghost use Rattle.wp_core.specs.Tables.{turn_of};
+ghost use Rattle.wp_core.specs.States.{turn_of};
 ghost use Rattle.wp_core.specs.World.{content_of as content_in};
 ghost use Rattle.wp_core.specs.Turns as turns;
 
@@ -13,7 +13,7 @@ use std::marker::Model;
 use std::snapshot::Snapshot;
 use wp_core::Turn;
 
-/// The table of one turn. No step reads it, so it has no bytes.
+/// The state behind one turn. No step reads it, so it has no bytes.
 #[derive(Drop)]
 pub enum Guarded {
     Writes(Snapshot<WriteState>),
@@ -24,9 +24,9 @@ pub enum Guarded {
     Installed(Snapshot<Installed>),
 }
 
-/// The table of one turn, as one that holds it left it.
+/// The state behind one turn, as one that holds it left it.
 pub struct Content {
-    pub table: Guarded,
+    pub state: Guarded,
 }
 
 impl Model for Content {
@@ -34,7 +34,7 @@ impl Model for Content {
     ghost use Rattle.wp_model.specs.PreparedSets.{prepared_sets_code};
     ghost use Rattle.wp_model.specs.Snapshots.{snapshots_code};
     ghost use Rattle.wp_model.specs.LockState.{lock_state_code};
-    ghost use Rattle.wp_core.specs.Tables.{Content};
+    ghost use Rattle.wp_core.specs.States.{Content};
 
     ghost Value = { Content };
 
@@ -42,14 +42,14 @@ impl Model for Content {
 
     ghost use Rattle.wp_machine.specs.Parts.{content_of};
 
-    ghost view = { λ c. content_of c.table };
+    ghost view = { λ c. content_of c.state };
 }
 
 impl Content {
     pub fn turn(&self) -> Turn
         ensures { turns.turn_of result ≡ turn_of self.now }
     {
-        match &self.table {
+        match &self.state {
             Guarded::Writes(_) => Turn::Write,
             Guarded::Prepared(_) => Turn::Prepared,
             Guarded::Snapshots(_) => Turn::Snapshots,
@@ -59,11 +59,11 @@ impl Content {
         }
     }
 
-    /// The table of the turn, as the world has it now.
+    /// The state behind the turn, as the world has it now.
     pub fn of(world: &World, turn: Turn) -> Content
         ensures { result ≡ content_in world.now (turns.turn_of turn) }
     {
-        let table = match turn {
+        let state = match turn {
             Turn::Write => Guarded::Writes(Snapshot::of(&world.writes)),
             Turn::Prepared => Guarded::Prepared(Snapshot::of(&world.prepared)),
             Turn::Snapshots => Guarded::Snapshots(Snapshot::of(&world.snapshots)),
@@ -71,13 +71,13 @@ impl Content {
             Turn::Locks => Guarded::Locks(Snapshot::of(&world.locks)),
             Turn::Tables => Guarded::Installed(Snapshot::of(&world.installed)),
         };
-        Content { table }
+        Content { state }
     }
 }
 
 // Written out, so that no crate above proves anew how all that it holds is let go.
 impl Drop for Content {
     fn drop(self) {
-        let Self { table: _table } = self;
+        let Self { state: _state } = self;
     }
 }

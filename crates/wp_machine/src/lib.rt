@@ -11,7 +11,7 @@
 //! prepares are delayed, their names had by nobody and their keys held.
 //!
 //! Sets and maps are lists whose newest item comes first. What no step reads is there for clauses alone, has no bytes and takes no
-//! memory (`Snapshot`): a table as its holder left it, what an actor did or found, the history that the world was opened on.
+//! memory (`LiveSnapshot`): a table as its holder left it, what an actor did or found, the history that the world was opened on.
 //!
 //! Whether a step may be made is tested by `wp_machine_permits`.
 #![tactic(auto)]
@@ -47,7 +47,7 @@ pub use copies::copy_versions;
 pub use locks::LockState;
 pub use marks::Mark;
 pub use prepared::PreparedSets;
-pub use snapshots::{Snapshot, Snapshots};
+pub use snapshots::{LiveSnapshot, Snapshots};
 pub use step::{
     ActorsStep, Kind, LocksStep, OwnStep, PreparedStep, ReaderStep, SnapshotsStep, Step, StoreStep,
     TablesStep, TurnStep, WordStep, WriteStep,

@@ -1,6 +1,6 @@
 ghost use Rattle.std.specs.Prelude.{◌≡◌, not, nat_le, IfOk, OnOk};
 ghost use Rattle.std.specs.Ordering.{nat_cmp};
-ghost use Rattle.wp_core.specs.Tables.{without_prepared, with_moved};
+ghost use Rattle.wp_core.specs.States.{without_prepared, with_moved};
 ghost use Rattle.std.specs.FinSet as set;
 ghost use Rattle.std.specs.FinMap as finite;
 ghost use Rattle.wp_core.specs.Changes.{found_in};

@@ -13,27 +13,27 @@ use std::marker::Model;
 use wp_model::Seq;
 
 /// A live snapshot: how often it is registered, and the prepare numbers that the old commit map has under it.
-pub struct Snapshot {
+pub struct LiveSnapshot {
     pub registrations: u64,
     pub old_commits: Vec<Seq>,
 }
 
-impl Model for Snapshot {
+impl Model for LiveSnapshot {
     ghost use Rattle.std.specs.FinSet as set;
-    ghost use Rattle.wp_model.specs.Snapshots.{Snapshot, snapshot_code};
+    ghost use Rattle.wp_model.specs.Snapshots.{LiveSnapshot, snapshot_code};
 
-    ghost Value = { Snapshot };
+    ghost Value = { LiveSnapshot };
 
     ghost coded = { snapshot_code };
 
     ghost view = { λ s. record { registrations = s.registrations; old_commits = set.from_list s.old_commits.items } };
 }
 
-impl Snapshot {
-    fn copy(&self, alloc: Global) -> Result<Snapshot, AllocError>
+impl LiveSnapshot {
+    fn copy(&self, alloc: Global) -> Result<LiveSnapshot, AllocError>
         ensures { IfOk result (λ copy. copy ≡ self.now) }
     {
-        Ok(Snapshot {
+        Ok(LiveSnapshot {
             registrations: self.registrations,
             old_commits: Vec::from_slice(alloc, &self.old_commits)?,
         })
@@ -47,7 +47,7 @@ impl Snapshot {
     }
 
     /// Registered once more.
-    fn registered(&self, alloc: Global) -> Result<Snapshot, AllocError>
+    fn registered(&self, alloc: Global) -> Result<LiveSnapshot, AllocError>
         ensures { IfOk result (λ more. Some more ≡ after_register (Some self.now)) }
     {
         let mut more = self.copy(alloc)?;
@@ -56,7 +56,7 @@ impl Snapshot {
     }
 
     /// Registered once less.
-    fn released(&self, alloc: Global) -> Result<Snapshot, AllocError>
+    fn released(&self, alloc: Global) -> Result<LiveSnapshot, AllocError>
         requires { 1 < self.now.registrations }
         ensures { IfOk result (λ less. Some less ≡ after_release (Some self.now)) }
     {
@@ -66,7 +66,7 @@ impl Snapshot {
     }
 
     /// With `p` under it.
-    fn keeping(&self, p: Seq, alloc: Global) -> Result<Snapshot, AllocError>
+    fn keeping(&self, p: Seq, alloc: Global) -> Result<LiveSnapshot, AllocError>
         ensures { IfOk result (λ more. Some more ≡ after_keep p (Some self.now)) }
     {
         let mut more = self.copy(alloc)?;
@@ -77,7 +77,7 @@ impl Snapshot {
 
 /// The live numbers, each with its snapshot. The newest pair comes first: of two of one number the first counts.
 pub struct Snapshots {
-    pub live: Vec<(Seq, Snapshot)>,
+    pub live: Vec<(Seq, LiveSnapshot)>,
 }
 
 impl Model for Snapshots {
@@ -93,7 +93,7 @@ impl Model for Snapshots {
 
 impl Snapshots {
     #[tactic(auto, using(crate::proofs::Maps::newest_is_got))]
-    pub fn at(&self, s: Seq) -> Option<&Snapshot>
+    pub fn at(&self, s: Seq) -> Option<&LiveSnapshot>
         ensures { option_copied result ≡ finite.get self.now s }
     {
         newest_of(&self.live, s)
@@ -114,7 +114,7 @@ impl Snapshots {
     {
         let snapshot = match self.at(s) {
             Some(snapshot) => snapshot.registered(alloc)?,
-            None => Snapshot {
+            None => LiveSnapshot {
                 registrations: 1,
                 old_commits: Vec::new(alloc),
             },
@@ -173,7 +173,7 @@ impl Snapshots {
 }
 
 // Written out, so that no crate above proves anew how all that it holds is let go.
-impl Drop for Snapshot {
+impl Drop for LiveSnapshot {
     fn drop(self) {
         let Self {
             registrations: _registrations,

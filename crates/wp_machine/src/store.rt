@@ -16,7 +16,7 @@ pub struct StoreState {
 }
 
 impl Model for StoreState {
-    ghost use Rattle.wp_core.specs.Tables.{StoreState};
+    ghost use Rattle.wp_core.specs.States.{StoreState};
 
     ghost Value = { StoreState };
 
@@ -47,7 +47,7 @@ pub struct Installed {
 }
 
 impl Model for Installed {
-    ghost use Rattle.wp_core.specs.Tables.{Installed};
+    ghost use Rattle.wp_core.specs.States.{Installed};
 
     ghost Value = { Installed };
 

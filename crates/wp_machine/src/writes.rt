@@ -30,7 +30,7 @@ pub struct WriteState {
 }
 
 impl Model for WriteState {
-    ghost use Rattle.wp_core.specs.Tables.{WriteState};
+    ghost use Rattle.wp_core.specs.States.{WriteState};
 
     ghost Value = { WriteState };
 

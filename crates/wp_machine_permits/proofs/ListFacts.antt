@@ -4,7 +4,7 @@ use Rattle.std.proofs.lemmas.Bool.{eq-eqb, cases_lt, le-leb, leb-true}
 use Rattle.wp_model.specs.declared.version.Version.{Version}
 use Rattle.wp_model.specs.Versions.{version_at}
 use Rattle.wp_cover.proofs.Order.{is_here, at_here, here_itself}
-use Rattle.wp_core.specs.Tables.{up_to}
+use Rattle.wp_core.specs.States.{up_to}
 use Rattle.wp_core.specs.Sound.Store.{NoneFlushed}
 use Rattle.wp_machine_permits.specs.Each.{Each}
 use Rattle.wp_machine_permits.specs.VersionLists.{HasAll, AreSame, NoneAt, StayUpTo, SameAt}

@@ -9,7 +9,7 @@ use Rattle.std.proofs.lemmas.Bool.{eqb-true, eq-eqb}
 use Rattle.std.proofs.lemmas.Cmp.{nat_list_cmp_total}
 use Rattle.wp_model.specs.Batch.{key_cmp}
 use Rattle.wp_model.specs.Covered.{is_among}
-use Rattle.wp_model.specs.Snapshots.{Snapshot, Snapshots, IsLive}
+use Rattle.wp_model.specs.Snapshots.{LiveSnapshot, Snapshots, IsLive}
 use Rattle.wp_machine_permits.specs.Each.{Each}
 use Rattle.wp_machine.specs.Pairs.{newest_of}
 use Rattle.wp_machine.proofs.Maps.{newest_is_got}
@@ -21,12 +21,12 @@ either_some : {X : Type 0} (b : Bool) (x : X) (o : Option X) → is_some (cond b
 either_some true x o = refl
 either_some false x o = refl
 
-among_pairs : (pairs : List (ℕ × Snapshot)) (n : ℕ) → is_among (map (λ (pair : ℕ × Snapshot). pair.0) pairs) n ≡ is_some (newest_of pairs n)
+among_pairs : (pairs : List (ℕ × LiveSnapshot)) (n : ℕ) → is_among (map (λ (pair : ℕ × LiveSnapshot). pair.0) pairs) n ≡ is_some (newest_of pairs n)
 among_pairs [] n = refl
 among_pairs (pair ∷ pairs) n = ap (λ b. (pair.0 == n) || b) (among_pairs pairs n) ∙ sym (either_some (pair.0 == n) pair.1 (newest_of pairs n))
 
 -- the numbers of the pairs are those that the map has
-pub among_got : (pairs : List (ℕ × Snapshot)) (numbers : List ℕ) → numbers ≡ map (λ (pair : ℕ × Snapshot). pair.0) pairs → (n : ℕ) → is_among numbers n ≡ is_some (finite.get (finite.from_entries {R = nat_cmp} pairs) n)
+pub among_got : (pairs : List (ℕ × LiveSnapshot)) (numbers : List ℕ) → numbers ≡ map (λ (pair : ℕ × LiveSnapshot). pair.0) pairs → (n : ℕ) → is_among numbers n ≡ is_some (finite.get (finite.from_entries {R = nat_cmp} pairs) n)
 among_got pairs numbers are n = ap (λ (xs : List ℕ). is_among xs n) are ∙ among_pairs pairs n ∙ ap is_some (newest_is_got pairs n)
 
 module _ (P : ℕ → Type 0) where
@@ -49,14 +49,14 @@ module _ (P : ℕ → Type 0) where
   live_some : (m : Snapshots) (n : ℕ) → IsLive m n → is_some (finite.get m n) ≡ true
   live_some m n live = by (finite.get m n) live
     where
-      by : (o : Option Snapshot) → IsSome o → is_some o ≡ true
+      by : (o : Option LiveSnapshot) → IsSome o → is_some o ≡ true
       by (Some x) h = refl
       by None h = absurd cc
 
   some_live : (m : Snapshots) (n : ℕ) → is_some (finite.get m n) ≡ true → IsLive m n
   some_live m n is = by (finite.get m n) is
     where
-      by : (o : Option Snapshot) → is_some o ≡ true → IsSome o
+      by : (o : Option LiveSnapshot) → is_some o ≡ true → IsSome o
       by (Some x) h = refl
       by None h = absurd cc
 

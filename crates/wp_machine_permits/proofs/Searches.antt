@@ -11,7 +11,7 @@ use Rattle.std.specs.Str.{bytes_eq}
 use Rattle.std.specs.Option.{is_some}
 use Rattle.std.proofs.lemmas.Bool.{eqb-true, eq-eqb}
 use Rattle.wp_model.specs.PreparedSets.{PreparedSets, NoneDelayed}
-use Rattle.wp_model.specs.Snapshots.{Snapshot, is_old_commit, NoOldCommits}
+use Rattle.wp_model.specs.Snapshots.{LiveSnapshot, is_old_commit, NoOldCommits}
 use Rattle.wp_model.specs.Batch.{key_cmp}
 use Rattle.wp_machine_permits.specs.Each.{Each}
 
@@ -35,16 +35,16 @@ each_found {X} P (pair ∷ pairs) s each found = by (eq_by_cmp nat_cmp s pair.0)
     by true is others found = rw (same_number s pair.0 is) at each.0
     by false is others found = others found
 
-pub none_kept : (snapshots : finite.FinMap nat_cmp Snapshot) (live : List (ℕ × Snapshot)) → snapshots ≡ finite.from_entries live → Each (λ pair. (p : ℕ) → is_old_commit snapshots pair.0 p ≡ false) live → NoOldCommits snapshots
+pub none_kept : (snapshots : finite.FinMap nat_cmp LiveSnapshot) (live : List (ℕ × LiveSnapshot)) → snapshots ≡ finite.from_entries live → Each (λ pair. (p : ℕ) → is_old_commit snapshots pair.0 p ≡ false) live → NoOldCommits snapshots
 none_kept snapshots live is none s p = by (finite.get snapshots s) refl
   where
-    by : (o : Option Snapshot) → finite.get snapshots s ≡ o → is_old_commit snapshots s p ≡ false
+    by : (o : Option LiveSnapshot) → finite.get snapshots s ≡ o → is_old_commit snapshots s p ≡ false
     by None missing = rw missing refl
     by (Some x) there =
         let found : IsSome (finite.get snapshots s) = rw there refl in
         each_found (λ k. (q : ℕ) → is_old_commit snapshots k q ≡ false) live s none (rw (is, finite.get-from_entries nat_cmp_total live s) at found) p
 
-pub kept_or_none : (snapshots : finite.FinMap nat_cmp Snapshot) (live : List (ℕ × Snapshot)) → snapshots ≡ finite.from_entries live → (found : Option (ℕ × ℕ)) (b : Bool) → is_some found ≡ not b
+pub kept_or_none : (snapshots : finite.FinMap nat_cmp LiveSnapshot) (live : List (ℕ × LiveSnapshot)) → snapshots ≡ finite.from_entries live → (found : Option (ℕ × ℕ)) (b : Bool) → is_some found ≡ not b
     → MatchOption found (Each (λ pair. (p : ℕ) → is_old_commit snapshots pair.0 p ≡ false) live) (λ r. is_old_commit snapshots r.0 r.1 ≡ true) → (b ≡ true → NoOldCommits snapshots) × (NoOldCommits snapshots → b ≡ true)
 kept_or_none snapshots live is None true e none = (λ _. none_kept snapshots live is none, λ _. refl)
 kept_or_none snapshots live is None false e none = absurd cc

@@ -14,7 +14,7 @@ use Rattle.wp_model.specs.Covered.{IsCovered, is_among}
 use Rattle.wp_model.specs.Snapshots.{Snapshots}
 use Rattle.wp_merge.specs.Merge.{first_at}
 use Rattle.wp_core.specs.Entries.{next_of}
-use Rattle.wp_core.specs.Tables.{live_numbers}
+use Rattle.wp_core.specs.States.{live_numbers}
 use Rattle.wp_model.specs.Flushed.{versions_after}
 use Rattle.wp_machine_permits.specs.Each.{Each}
 use Rattle.wp_machine.specs.Machine.{versions_of_next}

@@ -21,13 +21,13 @@ use Rattle.wp_model.specs.History.{is_changed}
 use Rattle.wp_model.specs.Legal.{changes_in}
 use Rattle.wp_model.specs.LockState.{Keys}
 use Rattle.wp_model.specs.PreparedSets.{PreparedSets, is_prepared}
-use Rattle.wp_model.specs.Snapshots.{Snapshots, Snapshot, IsLive, is_old_commit, after_register, after_keep}
+use Rattle.wp_model.specs.Snapshots.{Snapshots, LiveSnapshot, IsLive, is_old_commit, after_register, after_keep}
 use Rattle.wp_model.specs.Versions.{version_at}
 use Rattle.wp_model.proofs.Numbers.{in_inserted, in_removed, get_inserted}
 use Rattle.wp_core.specs.Changes.{placed, with_registered, with_old_commit}
 use Rattle.wp_core.specs.Entries.{HasVersionsAt, transaction_of, changes_under}
 use Rattle.wp_core.specs.Sound.Prepared.{IsInOldCommits}
-use Rattle.wp_core.specs.Tables.{with_moved}
+use Rattle.wp_core.specs.States.{with_moved}
 use Rattle.wp_core.specs.World.{Transaction, Transactions}
 use Rattle.wp_model.proofs.Keyed.{at_inserted}
 use Rattle.wp_model.proofs.Tests.{same_some, or_true}
@@ -162,30 +162,30 @@ one_live = with_registered no_snapshots 1
 abbrev pub one_kept : Snapshots
 one_kept = with_old_commit one_live 1 1
 
-abbrev first_snapshot : Snapshot
+abbrev first_snapshot : LiveSnapshot
 first_snapshot = record { registrations = 1; old_commits = set.empty }
 
-abbrev kept_snapshot : Snapshot
+abbrev kept_snapshot : LiveSnapshot
 kept_snapshot = record { registrations = 1; old_commits = set.insert set.empty 1 }
 
 live_is : finite.get one_live 1 ≡ Some first_snapshot
-live_is = ap (λ (o : Option Snapshot). finite.get (placed no_snapshots 1 (after_register o)) 1) (finite.get-empty nat_cmp 1) ∙ get_inserted no_snapshots 1 first_snapshot
+live_is = ap (λ (o : Option LiveSnapshot). finite.get (placed no_snapshots 1 (after_register o)) 1) (finite.get-empty nat_cmp 1) ∙ get_inserted no_snapshots 1 first_snapshot
 
 kept_is : finite.get one_kept 1 ≡ Some kept_snapshot
-kept_is = ap (λ (o : Option Snapshot). finite.get (placed one_live 1 (after_keep 1 o)) 1) live_is ∙ get_inserted one_live 1 kept_snapshot
+kept_is = ap (λ (o : Option LiveSnapshot). finite.get (placed one_live 1 (after_keep 1 o)) 1) live_is ∙ get_inserted one_live 1 kept_snapshot
 
 pub live_1 : IsLive one_live 1
-live_1 = ap (λ (o : Option Snapshot). is_some o) live_is
+live_1 = ap (λ (o : Option LiveSnapshot). is_some o) live_is
 
 pub still_live_1 : IsLive one_kept 1
-still_live_1 = ap (λ (o : Option Snapshot). is_some o) kept_is
+still_live_1 = ap (λ (o : Option LiveSnapshot). is_some o) kept_is
 
 pub kept_1 : is_old_commit one_kept 1 1 ≡ true
-kept_1 = ap (λ (o : Option Snapshot). option_map_or (λ x. set.contains x.old_commits 1) o false) kept_is ∙ in_inserted no_numbers 1
+kept_1 = ap (λ (o : Option LiveSnapshot). option_map_or (λ x. set.contains x.old_commits 1) o false) kept_is ∙ in_inserted no_numbers 1
 
 -- the pair (1, 2) is kept under each live number that it overlaps
 pub kept_under_1 : IsInOldCommits one_kept 1 2
 kept_under_1 s live low high = let same : 1 ≡ s = omega (arith, low, high) in subst (λ (n : ℕ). is_old_commit one_kept n 1 ≡ true) same kept_1
 
 pub none_live : IsInOldCommits no_snapshots 1 2
-none_live s live low high = absurd (true≢false (sym live ∙ ap (λ (o : Option Snapshot). is_some o) (finite.get-empty nat_cmp s)))
+none_live s live low high = absurd (true≢false (sym live ∙ ap (λ (o : Option LiveSnapshot). is_some o) (finite.get-empty nat_cmp s)))

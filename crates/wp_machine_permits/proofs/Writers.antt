@@ -12,7 +12,7 @@ use Rattle.wp_model.specs.Covered.{IsCovered, is_among}
 use Rattle.wp_model.specs.Decision.{entry_version}
 use Rattle.wp_model.specs.Flushed.{IsEditCovered}
 use Rattle.wp_model.specs.History.{is_changed}
-use Rattle.wp_model.specs.Snapshots.{Snapshot, Snapshots}
+use Rattle.wp_model.specs.Snapshots.{LiveSnapshot, Snapshots}
 use Rattle.wp_history_laws.proofs.Listed.{zero_covered}
 use Rattle.wp_judge.specs.Words.{CommitPair, commit_pair, word_of}
 use Rattle.wp_core.specs.Cache.{cached}
@@ -20,7 +20,7 @@ use Rattle.wp_core.specs.Conditions.{MayBeEvicted}
 use Rattle.wp_core.specs.Reading.{Registration}
 use Rattle.wp_core.specs.Sound.Prepared.{IsInOldCommits}
 use Rattle.wp_core.specs.Sound.Store.{IsStored}
-use Rattle.wp_core.specs.Tables.{live_numbers}
+use Rattle.wp_core.specs.States.{live_numbers}
 use Rattle.wp_core.specs.World.{World}
 use Rattle.wp_core.proofs.CoveredGrows.{version_within}
 use Rattle.wp_model.proofs.Keyed.{at_inserted}
@@ -266,7 +266,7 @@ edit_covered : IsEditCovered committed edit
 edit_covered = record { base = omega arith; flushed = omega arith; covered = zero_covered memory committed [] 2 (covered [] 2 (λ n e. true≢false (sym e))) }
 
 none_among : (n : ℕ) → is_among (live_numbers no_snapshots) n ≡ true → ⊥
-none_among n e = true≢false (sym e ∙ (among_live no_snapshots n ∙ ap (λ (o : Option Snapshot). is_some o) (finite.get-empty nat_cmp n)))
+none_among n e = true≢false (sym e ∙ (among_live no_snapshots n ∙ ap (λ (o : Option LiveSnapshot). is_some o) (finite.get-empty nat_cmp n)))
 
 none_above : {P : Type 0} (key : List ℕ) (p : ℕ) (value : Option (List ℕ)) → 2 < p → entry_version committed p key ≡ Some value → P
 none_above key p value above e = let low = version_within committed p key value e in absurd (omega (arith, low, above))

@@ -5,7 +5,7 @@ use Rattle.std.proofs.lemmas.List.Elements.{filter-append}
 use Rattle.std.specs.Prelude.{Result, Ok, Err, IfErr}
 use Rattle.wp_core.specs.Lists.{IsIn}
 use Rattle.wp_core.specs.Sound.Actors.{StartsWith}
-use Rattle.wp_core.specs.Tables.{installed}
+use Rattle.wp_core.specs.States.{installed}
 use Rattle.wp_core.specs.Views.{Event, log_failed, log_stopped, stopped, tables_failed}
 use Rattle.wp_core.specs.World.{Participant, World}
 use Rattle.wp_rule.specs.Words.{IsAt}
@@ -60,9 +60,9 @@ devices_more f (Err renewal.Nothing) k = f k
 -- ---- the tables were given back with the manifest's device uncalled
 
 -- a seat took them, which had seen no more than the one before, and gave them back
-module _ {D : Type 0} (z : SharedState D) (s t v : SeatState) (before after : VersionSetState) (stands : (w : World) × Stands z t w) (seat : IsSeat s t) (same : t.knows.participant ≡ s.knows.participant) (held : IsIn (installed before.table) t.knows.held)
+module _ {D : Type 0} (z : SharedState D) (s t v : SeatState) (before after : VersionSetState) (stands : (w : World) × Stands z t w) (seat : IsSeat s t) (same : t.knows.participant ≡ s.knows.participant) (held : IsIn (installed before.state) t.knows.held)
     (of_store : set_first z.first ≡ Some before.first) (still_of_store : set_first z.first ≡ Some after.first) (edits : IsEdits before) (still_edits : IsEdits after) (grown : StartsWith v.knows.participant.seen s.knows.participant.seen) where
-  found : Finds z s v before.table
+  found : Finds z s v before.state
   found = record {
     world = stands.0;
     actor = t.knows;
@@ -75,22 +75,22 @@ module _ {D : Type 0} (z : SharedState D) (s t v : SeatState) (before after : Ve
     joined = seat.2;
   }
 
-  gives : (So : VersionSetState → VersionSetState → Type 0) → after.table ≡ before.table → So before after → GivesBack So z s v before.table
+  gives : (So : VersionSetState → VersionSetState → Type 0) → after.state ≡ before.state → So before after → GivesBack So z s v before.state
   gives So table so = (found, record { before = before; after = after; of_store = of_store; still_of_store = still_of_store; before_is = refl; after_is = table; edits = edits; still_edits = still_edits; so = so })
 
   pub left_once : AreLeft before after → LeavesOnce z s v
-  left_once k = (before.table, gives IsUncalled k.0 k.1)
+  left_once k = (before.state, gives IsUncalled k.0 k.1)
 
   -- ... as they were
-  kept : EditsStand before → after ≡ before → GivesBack AreSameTables z s v before.table
-  kept stand same = gives AreSameTables (ap (λ (e : VersionSetState). e.table) same) (same, stand)
+  kept : EditsStand before → after ≡ before → GivesBack AreSameTables z s v before.state
+  kept stand same = gives AreSameTables (ap (λ (e : VersionSetState). e.state) same) (same, stand)
 
   pub kept_once : EditsStand before → after ≡ before → KeepsOnce z s v
-  kept_once stand same = let k = kept stand same in (before.table, k.0, k.1)
+  kept_once stand same = let k = kept stand same in (before.state, k.0, k.1)
 
   pub kept_each : EditsStand before → after ≡ before → KeepsEach z s v
   kept_each stand same = (
-    before.table ∷ [],
+    before.state ∷ [],
     λ e there. elim there [
       | inl is ↦ subst (GivesBack AreSameTables z s v) is (kept stand same)
       | inr none ↦ absurd none

@@ -3,7 +3,7 @@ use Rattle.std.proofs.Common.{◌≡◌, inl, Bool, List, [], ◌∷◌, append_
 use Rattle.wp_model.specs.Flushed.{InstalledEdit}
 use Rattle.wp_core.specs.Effects.{with_failed}
 use Rattle.wp_core.specs.Lists.{IsIn}
-use Rattle.wp_core.specs.Tables.{Installed, installed}
+use Rattle.wp_core.specs.States.{Installed, installed}
 use Rattle.wp_core.specs.Views.{Event, Fact, tables_stay, nothing_flushed}
 use Rattle.wp_rule.specs.Knows.{KnowsTables, KnowsInstalled}
 use Rattle.wp_parts.specs.VersionSet.{VersionSetState}
@@ -47,7 +47,7 @@ then_changes z s u v t k left event test goes =
     }
 
 -- what was noted of the tables is so still where a device failed
-pub in_step_broken : {D : Type 0} (z : SharedState D) (s u : SeatState) (e left : VersionSetState) (next : InstalledEdit) → HasBroken z s e next u left → KnowsTables s.knows e.table.last → KnowsTables u.knows left.table.last
+pub in_step_broken : {D : Type 0} (z : SharedState D) (s u : SeatState) (e left : VersionSetState) (next : InstalledEdit) → HasBroken z s e next u left → KnowsTables s.knows e.state.last → KnowsTables u.knows left.state.last
 in_step_broken z s u e left next k there =
-    let last : left.table.last ≡ e.table.last = ap (λ (x : Installed). x.last) k.table ∙ failed_last e.table left.table.failed in
-    subst (KnowsTables u.knows) (sym last) (k.changes.goes.noted nothing_flushed refl there.0, (there.1.0, k.changes.goes.noted (tables_stay e.table.last.versions there.1.0) refl there.1.1))
+    let last : left.state.last ≡ e.state.last = ap (λ (x : Installed). x.last) k.state ∙ failed_last e.state left.state.failed in
+    subst (KnowsTables u.knows) (sym last) (k.changes.goes.noted nothing_flushed refl there.0, (there.1.0, k.changes.goes.noted (tables_stay e.state.last.versions there.1.0) refl there.1.1))

@@ -11,7 +11,7 @@ use Rattle.wp_replies.specs.Tables.{unflushed, after_flush, after_renewal}
 use Rattle.wp_core.specs.IsSound.{IsSound}
 use Rattle.wp_core.specs.Lists.{IsIn}
 use Rattle.wp_core.specs.Sound.Actors.{StartsWith}
-use Rattle.wp_core.specs.Tables.{Content, WriteState, StoreState, Installed, writes, store, installed}
+use Rattle.wp_core.specs.States.{Content, WriteState, StoreState, Installed, writes, store, installed}
 use Rattle.wp_core.specs.Turns.{write_turn, store_turn}
 use Rattle.wp_core.specs.Views.{Fact, tables_stay, nothing_flushed, frozen_stay}
 use Rattle.wp_core.specs.World.{Actor, World}
@@ -26,7 +26,7 @@ use Rattle.wp_shared.specs.Seats.{SharedState, SeatState, Stands, place_at}
 use Rattle.wp_shared.specs.Turns.{HoldsTurn, Taken, TookLog, Given}
 use Rattle.wp_shared.proofs.Goes.{then, wider, none_too, none_under_store}
 use Rattle.wp_shared.proofs.Onward.{holds_on, holds_next, holds_two}
-use Rattle.wp_shared.proofs.Tables.{held_table}
+use Rattle.wp_shared.proofs.Tables.{held_state}
 use Rattle.wp_maint.specs.declared.frozen.Frozen.{Frozen}
 use Rattle.wp_maint.specs.Flush.{versions_of, HasCopied, HasFrozen, Freezes}
 use Rattle.wp_maint.specs.Calls.{NoneInMemory, SawWhole}
@@ -43,13 +43,13 @@ module _ {D : Type 0} (z : SharedState D) (s : SeatState) (d : WriteState) (stoc
   sound = at_sound (place_at z s.by) s.knows w stands
 
   store_here : w.store ≡ t
-  store_here = held_table (place_at z s.by) s.knows w (store t) stands (subst (IsIn (store t)) (sym held) (inl refl))
+  store_here = held_state (place_at z s.by) s.knows w (store t) stands (subst (IsIn (store t)) (sym held) (inl refl))
 
   writes_here : w.writes ≡ d
-  writes_here = held_table (place_at z s.by) s.knows w (writes d) stands (subst (IsIn (writes d)) (sym held) (inr (inl refl)))
+  writes_here = held_state (place_at z s.by) s.knows w (writes d) stands (subst (IsIn (writes d)) (sym held) (inr (inl refl)))
 
   installed_here : w.installed ≡ e
-  installed_here = held_table (place_at z s.by) s.knows w (installed e) stands (subst (IsIn (installed e)) (sym held) (inr (inr (inl refl))))
+  installed_here = held_state (place_at z s.by) s.knows w (installed e) stands (subst (IsIn (installed e)) (sym held) (inr (inr (inl refl))))
 
   history_is : w.writes.history ≡ s.knows.participant.seen
   history_is = ap (λ (x : WriteState). x.history) writes_here ∙ sym seen
@@ -119,26 +119,26 @@ frozen_still a b e f same still k = record {
 -- ---- the turns are taken and given
 
 module _ {D : Type 0} {z : SharedState D} {s0 s1 s2 : SeatState} {e : VersionSetState} {log : LogState} {t : StoreState} (holds : HoldsEdits z s0 e) (first : TookLog z s0 s1 log) (second : Taken z s1 s2 (store t)) where
-  holds_log : HoldsTurn z s1 (writes log.table) (installed e.table ∷ []) (5 ∷ [])
-  holds_log = record { same_table = first.holds.same_table; live = first.holds.live; held = first.holds.held ∙ ap (λ (l : List Content). writes log.table ∷ l) holds.turn.held; turns = first.holds.turns ∙ ap (λ (l : List ℕ). 0 ∷ l) holds.turn.turns }
+  holds_log : HoldsTurn z s1 (writes log.state) (installed e.state ∷ []) (5 ∷ [])
+  holds_log = record { same_table = first.holds.same_table; live = first.holds.live; held = first.holds.held ∙ ap (λ (l : List Content). writes log.state ∷ l) holds.turn.held; turns = first.holds.turns ∙ ap (λ (l : List ℕ). 0 ∷ l) holds.turn.turns }
 
-  holds_stock : HoldsTurn z s2 (store t) (writes log.table ∷ installed e.table ∷ []) (0 ∷ 5 ∷ [])
+  holds_stock : HoldsTurn z s2 (store t) (writes log.state ∷ installed e.state ∷ []) (0 ∷ 5 ∷ [])
   holds_stock = holds_two holds_log second
 
-  seen_two : s2.knows.participant.seen ≡ log.table.history
+  seen_two : s2.knows.participant.seen ≡ log.state.history
   seen_two = ap (λ (x : SeatState). x.knows.participant.seen) second.goes.same ∙ first.seen
 
-  pub in_step_two : KnowsTables s0.knows e.table.last → KnowsTables s2.knows e.table.last
+  pub in_step_two : KnowsTables s0.knows e.state.last → KnowsTables s2.knows e.state.last
   in_step_two k =
-      in_step_on s1 s2 no_fact (store t ∷ s1.knows.held) (3 ∷ s1.turns) refl (λ versions floor. refl) second.goes e.table.last
-      (in_step_on (seeing log.table.history s0) s1 no_fact (writes log.table ∷ s0.knows.held) (0 ∷ s0.turns) refl (λ versions floor. refl) first.goes e.table.last k)
+      in_step_on s1 s2 no_fact (store t ∷ s1.knows.held) (3 ∷ s1.turns) refl (λ versions floor. refl) second.goes e.state.last
+      (in_step_on (seeing log.state.history s0) s1 no_fact (writes log.state ∷ s0.knows.held) (0 ∷ s0.turns) refl (λ versions floor. refl) first.goes e.state.last k)
 
-  pub saw_whole : SawWhole z s0 log.table.history
+  pub saw_whole : SawWhole z s0 log.state.history
   saw_whole = record {
     world = first.world;
     actor = s1.knows;
     there = subst (λ (b : ℕ). IsAt (place_at z b) s1.knows first.world) (ap (λ (x : SeatState). x.by) first.seat) first.stands;
-    held = subst (λ (d : WriteState). IsIn (writes d) s1.knows.held) (sym first.is) (subst (IsIn (writes log.table)) (sym first.holds.held) (inl refl));
+    held = subst (λ (d : WriteState). IsIn (writes d) s1.knows.held) (sym first.is) (subst (IsIn (writes log.state)) (sym first.holds.held) (inl refl));
     history_is = ap (λ (d : WriteState). d.history) first.is;
     seen_is = first.seen;
     past_is = ap (λ (x : SeatState). x.knows.participant.past) first.seat;
@@ -148,41 +148,41 @@ module _ {D : Type 0} {z : SharedState D} {s0 s1 s2 : SeatState} {e : VersionSet
 
   -- the log is shown, and the versions are lent
   module _ {log1 : LogState} (shown : log1 ≡ log) where
-    pub holds_lent : {t1 : StoreState} → t1 ≡ t → HoldsTurn z s2 (store t1) (writes log1.table ∷ installed e.table ∷ []) (0 ∷ 5 ∷ [])
-    holds_lent lent = subst (λ (x : LogState × StoreState). HoldsTurn z s2 (store x.1) (writes x.0.table ∷ installed e.table ∷ []) (0 ∷ 5 ∷ [])) (λ i. ((sym shown) i, (sym lent) i)) holds_stock
+    pub holds_lent : {t1 : StoreState} → t1 ≡ t → HoldsTurn z s2 (store t1) (writes log1.state ∷ installed e.state ∷ []) (0 ∷ 5 ∷ [])
+    holds_lent lent = subst (λ (x : LogState × StoreState). HoldsTurn z s2 (store x.1) (writes x.0.state ∷ installed e.state ∷ []) (0 ∷ 5 ∷ [])) (λ i. ((sym shown) i, (sym lent) i)) holds_stock
 
-    pub none_shown : log1.table.pending ≡ []
-    none_shown = ap (λ (x : LogState). x.table.pending) shown ∙ first.knows.0
+    pub none_shown : log1.state.pending ≡ []
+    none_shown = ap (λ (x : LogState). x.state.pending) shown ∙ first.knows.0
 
-    pub seen_shown : s2.knows.participant.seen ≡ log1.table.history
-    seen_shown = seen_two ∙ ap (λ (x : LogState). x.table.history) (sym shown)
+    pub seen_shown : s2.knows.participant.seen ≡ log1.state.history
+    seen_shown = seen_two ∙ ap (λ (x : LogState). x.state.history) (sym shown)
 
   -- the versions that are given are those that were taken
-  pub holds_given : {s3 : SeatState} → GoesOn no_fact s2.knows.held s2.turns s2 s3 → (left : StoreState) → left ≡ t → HoldsTurn z s3 (store left) (writes log.table ∷ installed e.table ∷ []) (0 ∷ 5 ∷ [])
-  holds_given {s3 = s3} third left same = subst (λ (x : StoreState). HoldsTurn z s3 (store x) (writes log.table ∷ installed e.table ∷ []) (0 ∷ 5 ∷ [])) (sym same) (holds_on holds_stock third)
+  pub holds_given : {s3 : SeatState} → GoesOn no_fact s2.knows.held s2.turns s2 s3 → (left : StoreState) → left ≡ t → HoldsTurn z s3 (store left) (writes log.state ∷ installed e.state ∷ []) (0 ∷ 5 ∷ [])
+  holds_given {s3 = s3} third left same = subst (λ (x : StoreState). HoldsTurn z s3 (store x) (writes log.state ∷ installed e.state ∷ []) (0 ∷ 5 ∷ [])) (sym same) (holds_on holds_stock third)
 
-  module _ {s3 s4 : SeatState} (third : GoesOn no_fact s2.knows.held s2.turns s2 s3) (gave : Given z store_turn s3 s4 (writes log.table ∷ installed e.table ∷ []) (0 ∷ 5 ∷ [])) where
-    pub holds_left : HoldsTurn z s4 (writes log.table) (installed e.table ∷ []) (5 ∷ [])
+  module _ {s3 s4 : SeatState} (third : GoesOn no_fact s2.knows.held s2.turns s2 s3) (gave : Given z store_turn s3 s4 (writes log.state ∷ installed e.state ∷ []) (0 ∷ 5 ∷ [])) where
+    pub holds_left : HoldsTurn z s4 (writes log.state) (installed e.state ∷ []) (5 ∷ [])
     holds_left = holds_next (holds_on holds_stock third) gave.goes
 
-    module _ {s5 : SeatState} (last : Given z write_turn s4 s5 (installed e.table ∷ []) (5 ∷ [])) where
+    module _ {s5 : SeatState} (last : Given z write_turn s4 s5 (installed e.state ∷ []) (5 ∷ [])) where
       abbrev test : Fact → Bool
       test = is_under write_turn
 
-      whole : GoesOn test (installed e.table ∷ []) (5 ∷ []) (seeing log.table.history s0) s5
+      whole : GoesOn test (installed e.state ∷ []) (5 ∷ []) (seeing log.state.history s0) s5
       whole =
-          let base = seeing log.table.history s0 in let two = writes log.table ∷ installed e.table ∷ [] in
-          let ab = then no_fact base s1 s2 (writes log.table ∷ s0.knows.held) (store t ∷ s1.knows.held) (0 ∷ s0.turns) (3 ∷ s1.turns) first.goes second.goes in
+          let base = seeing log.state.history s0 in let two = writes log.state ∷ installed e.state ∷ [] in
+          let ab = then no_fact base s1 s2 (writes log.state ∷ s0.knows.held) (store t ∷ s1.knows.held) (0 ∷ s0.turns) (3 ∷ s1.turns) first.goes second.goes in
           let abc = then no_fact base s2 s3 (store t ∷ s1.knows.held) s2.knows.held (3 ∷ s1.turns) s2.turns ab third in
           let four : GoesOn test two (0 ∷ 5 ∷ []) s3 s4 = wider (is_under store_turn) s3 s4 s4 test two (0 ∷ 5 ∷ []) (λ fact other. none_under_store fact) gave.goes in
           let abcd = then test base s3 s4 s2.knows.held two s2.turns (0 ∷ 5 ∷ []) (wider no_fact base s3 s3 test s2.knows.held s2.turns (none_too test) abc) four in
-          then test base s4 s5 two (installed e.table ∷ []) (0 ∷ 5 ∷ []) (5 ∷ []) abcd last.goes
+          then test base s4 s5 two (installed e.state ∷ []) (0 ∷ 5 ∷ []) (5 ∷ []) abcd last.goes
 
-      seen_five : s5.knows.participant.seen ≡ log.table.history
+      seen_five : s5.knows.participant.seen ≡ log.state.history
       seen_five = ap (λ (x : SeatState). x.knows.participant.seen) whole.same
 
-      pub goes_five : GoesOn test (installed e.table ∷ []) (5 ∷ []) (seeing s5.knows.participant.seen s0) s5
-      goes_five = subst (λ (h : List Entry). GoesOn test (installed e.table ∷ []) (5 ∷ []) (seeing h s0) s5) (sym seen_five) whole
+      pub goes_five : GoesOn test (installed e.state ∷ []) (5 ∷ []) (seeing s5.knows.participant.seen s0) s5
+      goes_five = subst (λ (h : List Entry). GoesOn test (installed e.state ∷ []) (5 ∷ []) (seeing h s0) s5) (sym seen_five) whole
 
       pub grown_five : StartsWith s5.knows.participant.seen s0.knows.participant.seen
       grown_five = subst (λ (h : List Entry). StartsWith h s0.knows.participant.seen) (sym seen_five) first.grown
@@ -193,10 +193,10 @@ module _ {D : Type 0} {z : SharedState D} {s0 s1 s2 : SeatState} {e : VersionSet
       seen_same : s3.knows.participant.seen ≡ s5.knows.participant.seen
       seen_same = sym (ap (λ (x : SeatState). x.knows.participant.seen) last.goes.same ∙ ap (λ (x : SeatState). x.knows.participant.seen) gave.goes.same)
 
-      freezes_still : (frozen : Option Frozen) → Freezes s3.knows e.table frozen → Freezes s5.knows e.table frozen
-      freezes_still (Some x) k = (frozen_still s3.knows s5.knows e.table x (sym seen_same) (λ noted. last.goes.noted (frozen_stay x.at (versions_of x)) refl (gave.goes.noted (frozen_stay x.at (versions_of x)) refl noted)) k.0, k.1)
-      freezes_still None k = subst (λ (h : List Entry). NoneInMemory h e.table.last) seen_same k
+      freezes_still : (frozen : Option Frozen) → Freezes s3.knows e.state frozen → Freezes s5.knows e.state frozen
+      freezes_still (Some x) k = (frozen_still s3.knows s5.knows e.state x (sym seen_same) (λ noted. last.goes.noted (frozen_stay x.at (versions_of x)) refl (gave.goes.noted (frozen_stay x.at (versions_of x)) refl noted)) k.0, k.1)
+      freezes_still None k = subst (λ (h : List Entry). NoneInMemory h e.state.last) seen_same k
 
-      pub frozen_five : {E : Type 0} (result : Result (Option Frozen) E) → IfOk result (λ frozen. Freezes s3.knows e.table frozen) → IfOk result (λ frozen. Freezes s5.knows e.table frozen)
+      pub frozen_five : {E : Type 0} (result : Result (Option Frozen) E) → IfOk result (λ frozen. Freezes s3.knows e.state frozen) → IfOk result (λ frozen. Freezes s5.knows e.state frozen)
       frozen_five (Ok frozen) k = freezes_still frozen k
       frozen_five (Err why) k = tt

@@ -15,7 +15,7 @@ use Rattle.wp_tableset.specs.Changes.{Asked, one_part}
 use Rattle.wp_tableset.specs.declared.gone.Gone.TheVariants as gone
 use Rattle.wp_core.specs.Lists.{IsIn}
 use Rattle.wp_core.specs.Sound.Store.{NoneFlushed}
-use Rattle.wp_core.specs.Tables.{Content, StoreState, Installed, store, installed}
+use Rattle.wp_core.specs.States.{Content, StoreState, Installed, store, installed}
 use Rattle.wp_core.specs.Views.{Fact, tables_stay, frozen_stay}
 use Rattle.wp_core.specs.World.{Participant, Actor, World}
 use Rattle.wp_model.proofs.Tests.{none_some}
@@ -27,7 +27,7 @@ use Rattle.wp_tableset.specs.Set.{TableSetState}
 use Rattle.wp_outside.specs.Faults.{Rose}
 use Rattle.wp_shared.specs.Notes.{with_participant, GoesOn}
 use Rattle.wp_shared.specs.Seats.{SharedState, SeatState, Stands, place_at}
-use Rattle.wp_shared.proofs.Tables.{held_table}
+use Rattle.wp_shared.proofs.Tables.{held_state}
 use Rattle.wp_maint.specs.declared.frozen.Frozen.{Frozen}
 use Rattle.wp_maint.specs.Flush.{versions_of, HasFrozen, MayPut}
 use Rattle.wp_maint.specs.Holding.{HoldsEdits}
@@ -80,7 +80,7 @@ pub fault_since : (old mid new : TableSetState) → mid.manifest.log.faults ≡ 
 fault_since old mid new same later (inl rose) = inl (subst (λ (n : ℕ). Rose n new.manifest.log.faults) same rose)
 fault_since old mid new same later (inr rose) = inr (omega (arith, rose, later))
 
-pub still_holds : {D : Type 0} (z : SharedState D) (s u : SeatState) (e left : VersionSetState) (p : Participant) (test : Fact → Bool) → HoldsEdits z s e → GoesOn test (installed left.table ∷ []) s.turns (with_participant p s) u → left.first ≡ e.first → HoldsEdits z u left
+pub still_holds : {D : Type 0} (z : SharedState D) (s u : SeatState) (e left : VersionSetState) (p : Participant) (test : Fact → Bool) → HoldsEdits z s e → GoesOn test (installed left.state ∷ []) s.turns (with_participant p s) u → left.first ≡ e.first → HoldsEdits z u left
 still_holds z s u e left p test h k first = record {
   turn = record {
     same_table = ap (λ (x : SeatState). x.table) k.same ∙ h.turn.same_table;
@@ -114,7 +114,7 @@ module _ {D : Type 0} (z : SharedState D) (s : SeatState) (e : Installed) (f : F
   tables_is = put ∙ ap sorted_of (joined_with table (versions_of f) (map arc_value f.tables.items) may.table_is)
 
   here : w.store ≡ t
-  here = held_table (place_at z u.by) u.knows w (store t) stands (subst (IsIn (store t)) (sym held) (inl refl))
+  here = held_state (place_at z u.by) u.knows w (store t) stands (subst (IsIn (store t)) (sym held) (inl refl))
 
   frozen_at : (key : List ℕ) (q : ℕ) → q ≤ f.at → version_at t.memory key q ≡ version_at (versions_of f) key q
   frozen_at key q low = ap (λ (x : StoreState). version_at x.memory key q) (sym here) ∙ (noted_is (place_at z u.by) u.knows w (frozen_stay f.at (versions_of f)) stands (notes (frozen_stay f.at (versions_of f)) may.frozen)).is_so.1 key q low

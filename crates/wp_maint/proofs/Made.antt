@@ -10,7 +10,7 @@ use Rattle.wp_core.specs.Lists.{IsIn}
 use Rattle.wp_core.specs.Notes.{ends}
 use Rattle.wp_core.specs.Sound.Store.{NoneFlushed}
 use Rattle.wp_core.specs.Steps.{Step, install, halt, find_edit, move_versions, note}
-use Rattle.wp_core.specs.Tables.{Content, StoreState, Installed, store, installed}
+use Rattle.wp_core.specs.States.{Content, StoreState, Installed, store, installed}
 use Rattle.wp_core.specs.Turns.{tables_turn}
 use Rattle.wp_core.specs.Sound.Pasts.{tables_due}
 use Rattle.wp_core.specs.Views.{Event, Fact, tables_failed, found_edit, tables_stay, nothing_flushed, frozen_stay}
@@ -32,7 +32,7 @@ use Rattle.wp_shared.proofs.OneStep.{made, becomes}
 use Rattle.wp_shared.proofs.Goes.{goes_with}
 use Rattle.wp_shared.proofs.Noting.{note_ends_none}
 use Rattle.wp_shared.proofs.Onward.{starts_same, starts_equal}
-use Rattle.wp_shared.proofs.Tables.{held_table}
+use Rattle.wp_shared.proofs.Tables.{held_state}
 use Rattle.wp_maint.specs.Finding.{Remembers}
 use Rattle.wp_maint.specs.Holding.{is_of_flushed, is_of_tables}
 use Rattle.wp_maint.proofs.Found.{failed_last}
@@ -65,14 +65,14 @@ find_ends : EndsNothing find_edit
 find_ends = record { guard = λ turn. refl; place = λ words place. refl; words = refl; delayed_flag = refl; old_flag = refl; pending = refl; adds = refl; takes = refl; prepared = refl; unprepared = refl; delays = refl; transaction = λ history name. refl; direct = refl; moves = refl; replaces = refl; installing = refl }
 
 pub may_find : (p : Place) (a : Actor) (t : Installed) → IsIn (installed t) a.held → MayMake p a (λ w. find_edit ∷ [])
-may_find p a t held = known_made p a find_edit tt (record { table = t; held = held; so_is = tt })
+may_find p a t held = known_made p a find_edit tt (record { state = t; held = held; so_is = tt })
 
 pub found : {D : Type 0} (z : SharedState D) (so : World → Type 0) (s u : SeatState) → (u.table ≡ s.table) × (u.by ≡ s.by) × (u.turns ≡ s.turns) → (t : Installed) → IsIn (installed t) s.knows.held → Moved (place_at z s.by) (λ w. find_edit ∷ []) so s.knows u.knows
     → Remembers z s t u
 found z so s u same t held m =
     let step = made (place_at z s.by) find_edit so s.knows u.knows find_ends m in
     let p : Participant = s.knows.participant in
-    let table : step.world.installed ≡ t = held_table (place_at z s.by) s.knows step.world (installed t) step.before held in
+    let table : step.world.installed ≡ t = held_state (place_at z s.by) s.knows step.world (installed t) step.before held in
     let is : u ≡ with_participant (with_events (find_of step.world.first_edit t p ∷ []) p) s = becomes s u (record s.knows { participant = with_events (find_of step.world.first_edit t p ∷ []) p }) same (step.actor ∙ ap (λ (x : Installed). record s.knows { participant = with_events (find_of step.world.first_edit x p ∷ []) p }) table) in
     record {
       found = record {
@@ -105,11 +105,11 @@ pub second_held : (a : Actor) (b c : Content) → a.held ≡ b ∷ c ∷ [] → 
 second_held a b c held = subst (IsIn c) (sym held) (inr (inl refl))
 
 pub may_install : (p : Place) (a : Actor) (t : Installed) (edit : InstalledEdit) (compacts : Bool) → a.held ≡ installed t ∷ [] → KnowsInstalled a t edit compacts → MayMake p a (λ w. install edit compacts ∷ [])
-may_install p a t edit compacts held known = known_made p a (install edit compacts) tt (record { table = t; held = first_held a (installed t) [] held; so_is = known })
+may_install p a t edit compacts held known = known_made p a (install edit compacts) tt (record { state = t; held = first_held a (installed t) [] held; so_is = known })
 
 module _ (p : Place) (so : World → Type 0) (s u : SeatState) (same : (u.table ≡ s.table) × (u.by ≡ s.by) × (u.turns ≡ s.turns)) (t e : Installed) (held : s.knows.held ≡ installed t ∷ []) where
   pub table_is : (w : World) → IsAt p s.knows w → w.installed ≡ t
-  table_is w k = held_table p s.knows w (installed t) k (first_held s.knows (installed t) [] held)
+  table_is w k = held_state p s.knows w (installed t) k (first_held s.knows (installed t) [] held)
 
   pub was_installed : (compacts : Bool) → e ≡ record t { last = e.last } → Moved p (λ w. install e.last compacts ∷ []) so s.knows u.knows
       → GoesOn is_of_flushed (installed e ∷ []) s.turns (with_participant (with_events (event.installed e.last compacts ∷ []) s.knows.participant) s) u
@@ -136,8 +136,8 @@ module _ (p : Place) (so : World → Type 0) (s u : SeatState) (same : (u.table 
       halt_ends history words edit other = refl
 
 pub may_halt : (p : Place) (a : Actor) (t : Installed) (edit : Option InstalledEdit) → a.held ≡ installed t ∷ [] → t.halted ≡ false → IfSome edit (IsEditCovered a.participant.seen) → IfSome edit (λ e. e.segment ≡ t.last.segment) → MayMake p a (λ w. halt edit ∷ [])
-may_halt p a t None held running covered same = known_made p a (halt None) tt (record { table = t; held = first_held a (installed t) [] held; so_is = running })
-may_halt p a t (Some edit) held running covered same = known_made p a (halt (Some edit)) tt (record { table = t; held = first_held a (installed t) [] held; so_is = (running, covered, inl same) })
+may_halt p a t None held running covered same = known_made p a (halt None) tt (record { state = t; held = first_held a (installed t) [] held; so_is = running })
+may_halt p a t (Some edit) held running covered same = known_made p a (halt (Some edit)) tt (record { state = t; held = first_held a (installed t) [] held; so_is = (running, covered, inl same) })
 
 -- the edit of a compaction, after which no flushed version is in memory either
 abbrev pub compacting : InstalledEdit → World → List Step
@@ -146,8 +146,8 @@ compacting edit w = install edit true ∷ note nothing_flushed ∷ []
 pub may_compact : (p : Place) (a : Actor) (t : Installed) (edit : InstalledEdit) → a.held ≡ installed t ∷ [] → KnowsInstalled a t edit true → Noted a nothing_flushed → MayMake p a (compacting edit)
 may_compact p a t edit held known gone w k =
     let there = first_held a (installed t) [] held in
-    let n = needed p a w k (install edit true) (record { table = t; held = there; so_is = known }) in
-    let same : edit.flushed ≡ w.installed.last.flushed = known.keeps refl ∙ ap (λ (x : Installed). x.last.flushed) (sym (held_table p a w (installed t) k there)) in
+    let n = needed p a w k (install edit true) (record { state = t; held = there; so_is = known }) in
+    let same : edit.flushed ≡ w.installed.last.flushed = known.keeps refl ∙ ap (λ (x : Installed). x.last.flushed) (sym (held_state p a w (installed t) k there)) in
     ((tt, (tt, tt)), (n, ((holder_is_live p a w tables_turn k n.0, guarded p a w k tables_turn n.0, subst (NoneFlushed w.store.memory) (sym same) (noted_is p a w nothing_flushed k gone).is_so), tt)))
 
 module _ (p : Place) (so : World → Type 0) (s u : SeatState) (same : (u.table ≡ s.table) × (u.by ≡ s.by) × (u.turns ≡ s.turns)) (t e : Installed) (held : s.knows.held ≡ installed t ∷ []) (m : Moved p (compacting e.last) so s.knows u.knows) where
@@ -181,11 +181,11 @@ module _ (p : Place) (a : Actor) (t now : StoreState) (e : Installed) (others : 
   tables_there = subst (IsIn (installed e)) (sym held) (inr at)
 
   both_are : (w : World) → IsAt p a w → (w.installed ≡ e) × (w.store ≡ t)
-  both_are w k = (held_table p a w (installed e) k tables_there, held_table p a w (store t) k store_there)
+  both_are w k = (held_state p a w (installed e) k tables_there, held_state p a w (store t) k store_there)
 
   pub may_move : KnowsMoved t e.last.flushed now.memory now.tables → NoneFlushed now.memory e.last.flushed → MayMake p a (moving now)
   may_move known gone w k =
-      let n = needed p a w k (move_versions now.memory now.tables) (record { table = t; held = store_there; so_is = record { table = e; held = tables_there; so_is = known } }) in
+      let n = needed p a w k (move_versions now.memory now.tables) (record { state = t; held = store_there; so_is = record { state = e; held = tables_there; so_is = known } }) in
       let are = both_are w k in
       let holds = n.1 in
       let live = holder_is_live p a w tables_turn k holds in
@@ -199,7 +199,7 @@ module _ (p : Place) (so : World → Type 0) (s u : SeatState) (same : (u.table 
 
   left_held : held_with s.knows.held (store (record v.store { memory = now.memory; tables = now.tables })) ≡ store now ∷ others
   left_held =
-      let table : v.store ≡ t = held_table p s.knows v (store t) m.before (first_held s.knows (store t) others held) in
+      let table : v.store ≡ t = held_state p s.knows v (store t) m.before (first_held s.knows (store t) others held) in
       (λ i. held_with (held i) (store (record (table i) { memory = now.memory; tables = now.tables }))) ∙ ap (λ (f : ℕ). store (record { memory = now.memory; tables = now.tables; floor = f }) ∷ others) (sym floor)
 
   pub was_moved : GoesOn is_of_tables (store now ∷ others) s.turns s u

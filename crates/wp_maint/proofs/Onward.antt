@@ -10,7 +10,7 @@ use Rattle.wp_replies.specs.Tables.{unflushed, after_flush, after_renewal}
 use Rattle.wp_core.specs.Effects.{with_failed}
 use Rattle.wp_core.specs.Lists.{IsIn}
 use Rattle.wp_core.specs.Sound.Actors.{StartsWith}
-use Rattle.wp_core.specs.Tables.{Content, Installed, installed, writes}
+use Rattle.wp_core.specs.States.{Content, Installed, installed, writes}
 use Rattle.wp_core.specs.Sound.Pasts.{tables_due}
 use Rattle.wp_core.specs.Views.{Fact, Event, tables_failed, log_failed, log_stopped, stopped, found_edit, tables_stay, nothing_flushed, frozen_stay}
 use Rattle.wp_core.specs.Views as event
@@ -85,7 +85,7 @@ module _ {D : Type 0} (z : SharedState D) (s u : SeatState) (events : List Event
   in_step_being edit k = subst (λ (x : SeatState). KnowsTables x.knows edit) (sym is) k
 
 -- a seat that goes on with the tables turn alone holds the same tables still
-pub still_edits : {D : Type 0} {z : SharedState D} {s u : SeatState} {test : Fact → Bool} {e : VersionSetState} {h : List Entry} → HoldsEdits z s e → GoesOn test (installed e.table ∷ []) s.turns (seeing h s) u → HoldsEdits z u e
+pub still_edits : {D : Type 0} {z : SharedState D} {s u : SeatState} {test : Fact → Bool} {e : VersionSetState} {h : List Entry} → HoldsEdits z s e → GoesOn test (installed e.state ∷ []) s.turns (seeing h s) u → HoldsEdits z u e
 still_edits holds k = record {
   turn = record {
     same_table = ap (λ (x : SeatState). x.table) k.same ∙ holds.turn.same_table;
@@ -194,19 +194,19 @@ module _ {D : Type 0} (First Last : Participant → Type 0) (z : SharedState D) 
     some = k.some;
     versions = k.versions ∙ ap (λ (h : List Entry). length (unflushed h e.last)) seen;
     left = subst (λ (h : List Entry). HeldTables z s v v.knows.participant.past (record e { last = after_flush h e.last })) seen (holds_so (record e { last = after_flush u.knows.participant.seen e.last }) k.left);
-    table = record {
-      before = k.table.before;
-      after = k.table.after;
-      of_store = k.table.of_store;
-      still_of_store = k.table.still_of_store;
-      before_is = k.table.before_is;
-      after_is = k.table.after_is ∙ ap (λ (h : List Entry). record e { last = after_flush h e.last }) seen;
-      edits = k.table.edits;
-      still_edits = k.table.still_edits;
-      so = k.table.so ∙ ap (λ (h : List Entry). sorted_of (unflushed h e.last) ∷ k.table.before.parts) seen;
+    state = record {
+      before = k.state.before;
+      after = k.state.after;
+      of_store = k.state.of_store;
+      still_of_store = k.state.still_of_store;
+      before_is = k.state.before_is;
+      after_is = k.state.after_is ∙ ap (λ (h : List Entry). record e { last = after_flush h e.last }) seen;
+      edits = k.state.edits;
+      still_edits = k.state.still_edits;
+      so = k.state.so ∙ ap (λ (h : List Entry). sorted_of (unflushed h e.last) ∷ k.state.before.parts) seen;
     };
-    survives = subst (λ (h : List Entry). SurvivesInstall k.table.before k.table.after (after_flush h e.last)) seen k.survives;
-    throughout = throughout_so k.table.before k.table.after (after_flush u.knows.participant.seen e.last) (after_flush v.knows.participant.seen e.last) (ap (λ (h : List Entry). after_flush h e.last) seen) k.throughout;
+    survives = subst (λ (h : List Entry). SurvivesInstall k.state.before k.state.after (after_flush h e.last)) seen k.survives;
+    throughout = throughout_so k.state.before k.state.after (after_flush u.knows.participant.seen e.last) (after_flush v.knows.participant.seen e.last) (ap (λ (h : List Entry). after_flush h e.last) seen) k.throughout;
     goes_on = remembers_so k.found (event.installed (after_flush v.knows.participant.seen e.last) false ∷ [])
         (subst (λ (h : List Entry). First (with_events (found_by z t u e k.found ∷ event.installed (after_flush h e.last) false ∷ []) t.knows.participant)) seen k.goes_on);
   }
@@ -247,20 +247,20 @@ module _ {D : Type 0} (First Last : Participant → Type 0) (z : SharedState D) 
     carried = k.carried ∙ ap (λ (h : List Entry). length (undecided h)) seen;
     place = k.place;
     left = subst (λ (h : List Entry). HeldTables z s v v.knows.participant.past (record e { last = after_renewal h k.place e.last })) seen (holds_so (record e { last = after_renewal u.knows.participant.seen k.place e.last }) k.left);
-    table = record {
-      before = k.table.before;
-      after = k.table.after;
-      of_store = k.table.of_store;
-      still_of_store = k.table.still_of_store;
-      before_is = k.table.before_is;
-      after_is = k.table.after_is ∙ ap (λ (h : List Entry). record e { last = after_renewal h k.place e.last }) seen;
-      edits = k.table.edits;
-      still_edits = k.table.still_edits;
-      so = k.table.so ∙ ap (λ (h : List Entry). new_parts (sorted_of (unflushed h e.last)) ++ k.table.before.parts) seen;
+    state = record {
+      before = k.state.before;
+      after = k.state.after;
+      of_store = k.state.of_store;
+      still_of_store = k.state.still_of_store;
+      before_is = k.state.before_is;
+      after_is = k.state.after_is ∙ ap (λ (h : List Entry). record e { last = after_renewal h k.place e.last }) seen;
+      edits = k.state.edits;
+      still_edits = k.state.still_edits;
+      so = k.state.so ∙ ap (λ (h : List Entry). new_parts (sorted_of (unflushed h e.last)) ++ k.state.before.parts) seen;
     };
-    survives = subst (λ (h : List Entry). SurvivesInstall k.table.before k.table.after (after_renewal h k.place e.last)) seen k.survives;
+    survives = subst (λ (h : List Entry). SurvivesInstall k.state.before k.state.after (after_renewal h k.place e.last)) seen k.survives;
     log = subst (λ (h : List Entry). LogBecame z k.busy.unclosed.0 (record k.busy.unclosed.0 { segment = record { place = k.place; base = length h }; next = None })
-        (λ before after. SurvivesBeside before after (Some after.table.segment) × NamesItsSegment k.table.before k.table.after before after (Some (after_renewal h k.place e.last)))) seen k.log;
+        (λ before after. SurvivesBeside before after (Some after.state.segment) × NamesItsSegment k.state.before k.state.after before after (Some (after_renewal h k.place e.last)))) seen k.log;
     goes_on = remembers_so k.found (event.renewed (after_renewal v.knows.participant.seen k.place e.last) ∷ [])
         (subst (λ (h : List Entry). First (with_events (found_by z t u e k.found ∷ event.renewed (after_renewal h k.place e.last) ∷ []) t.knows.participant)) seen k.goes_on);
   }

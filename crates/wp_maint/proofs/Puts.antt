@@ -3,7 +3,7 @@ use Rattle.std.proofs.Common.{◌≡◌, inl, inr, ℕ, Bool, false, List, [], �
 use Rattle.wp_model.specs.declared.version.Version.{Version}
 use Rattle.wp_core.specs.Changes.{held_without}
 use Rattle.wp_core.specs.Lists.{IsIn}
-use Rattle.wp_core.specs.Tables.{Content, WriteState, StoreState, Installed, writes, store, installed}
+use Rattle.wp_core.specs.States.{Content, WriteState, StoreState, Installed, writes, store, installed}
 use Rattle.wp_core.specs.Turns.{store_turn}
 use Rattle.wp_core.specs.Views.{Fact, tables_stay, nothing_flushed}
 use Rattle.wp_rule.specs.Knows.{Noted, KnowsTables}
@@ -46,15 +46,15 @@ module _ {D : Type 0} {z : SharedState D} {s t : SeatState} {e : Installed} {bef
 pub beside_held : {t u : SeatState} {test : Fact → Bool} {first : Content} {held others : List Content} {turns : List ℕ} → held ≡ others → GoesOn test (first ∷ others) turns t u → GoesOn test (first ∷ held) turns t u
 beside_held {t = t} {u = u} {test = test} {first = first} {turns = turns} is goes = subst (λ (l : List Content). GoesOn test (first ∷ l) turns t u) (sym is) goes
 
-pub holds_taken : {D : Type 0} {z : SharedState D} {s t : SeatState} {e : VersionSetState} {before : StoreState} → HoldsEdits z s e → Taken z s t (store before) → HoldsTurn z t (store before) (installed e.table ∷ []) (5 ∷ [])
+pub holds_taken : {D : Type 0} {z : SharedState D} {s t : SeatState} {e : VersionSetState} {before : StoreState} → HoldsEdits z s e → Taken z s t (store before) → HoldsTurn z t (store before) (installed e.state ∷ []) (5 ∷ [])
 holds_taken holds first = holds_two holds.turn first
 
 -- the tables turn is held alone, or beneath the write turn
-pub tables_alone : {D : Type 0} {z : SharedState D} {s : SeatState} {e : VersionSetState} → HoldsEdits z s e → HoldsTables z s e.table
+pub tables_alone : {D : Type 0} {z : SharedState D} {s : SeatState} {e : VersionSetState} → HoldsEdits z s e → HoldsTables z s e.state
 tables_alone {e = e} h = record {
   same_table = h.turn.same_table;
   live = h.turn.live;
-  tables = subst (IsIn (installed e.table)) (sym h.turn.held) (inl refl);
+  tables = subst (IsIn (installed e.state)) (sym h.turn.held) (inl refl);
   without = subst (λ (l : List Content). held_without l store_turn ≡ l) (sym h.turn.held) refl;
 }
 

@@ -17,7 +17,7 @@ use Rattle.wp_core.specs.IsSound.{IsSound}
 use Rattle.wp_core.specs.Runs.{Reaches}
 use Rattle.wp_core.specs.Sound.History.{IsHistory, logged_part}
 use Rattle.wp_core.specs.Sound.Segments.{AreCoupled}
-use Rattle.wp_core.specs.Tables.{WriteState, Installed}
+use Rattle.wp_core.specs.States.{WriteState, Installed}
 use Rattle.wp_core.specs.World.{World, Participant}
 use Rattle.wp_core.proofs.EachStep.{reached_is_sound}
 use Rattle.wp_model.proofs.Tests.{none_some, same_some}
@@ -39,22 +39,22 @@ names_this t e (inr next) (inl none) = absurd (none_some t.next e.last.segment n
 names_this t e (inr next) (inr closed) = absurd (true≢false (sym closed ∙ next.1))
 
 -- a log whose base is where the history ends has no undo there
-whole_at : (w : World) → IsSound w → (log : LogState) → IsLog log → log.table.log ≡ w.writes.log → log.table.segment.base ≡ length w.writes.history → undone_last w.writes.history ≡ None
+whole_at : (w : World) → IsSound w → (log : LogState) → IsLog log → log.state.log ≡ w.writes.log → log.state.segment.base ≡ length w.writes.history → undone_last w.writes.history ≡ None
 whole_at w sound log g same based =
-    let front : take g.cut.base log.table.log ≡ w.writes.history =
+    let front : take g.cut.base log.state.log ≡ w.writes.history =
     (λ i. take ((log_based log g ∙ based) i) ((same ∙ sound.history.log) i)) ∙ take-append_seam w.writes.history (logged_part w.writes.logged w.writes.pending) in
     ap (λ (h : List Entry). undone_last h) (sym front) ∙ g.is_cut.whole
 
 -- ---- in a world with both tables as they were
 
-module _ (old : VersionSetState) (log : LogState) (g : IsLog log) (w : World) (sound : IsSound w) (here : w.installed ≡ old.table) (there : w.writes ≡ log.table) where
+module _ (old : VersionSetState) (log : LogState) (g : IsLog log) (w : World) (sound : IsSound w) (here : w.installed ≡ old.state) (there : w.writes ≡ log.state) where
   abbrev history : List Entry
-  history = log.table.history
+  history = log.state.history
 
   abbrev last : InstalledEdit
-  last = old.table.last
+  last = old.state.last
 
-  of_history : IsHistory w.opened log.table w.max_evicted
+  of_history : IsHistory w.opened log.state w.max_evicted
   of_history = subst (λ (t : WriteState). IsHistory w.opened t w.max_evicted) there sound.history
 
   covered_last : IsEditCovered history last
@@ -63,8 +63,8 @@ module _ (old : VersionSetState) (log : LogState) (g : IsLog log) (w : World) (s
   covered_renewed : (place : ℕ) → IsEditCovered history (after_renewal history place last)
   covered_renewed = renewal_covered history of_history.legal last covered_last
 
-  names_used : last.segment ≡ log.table.segment
-  names_used = names_this log.table old.table (subst (λ (x : WriteState × Installed). AreCoupled x.0 x.1 w.holders.write) (λ i. (there i, here i)) sound.coupled).last g.none_waits
+  names_used : last.segment ≡ log.state.segment
+  names_used = names_this log.state old.state (subst (λ (x : WriteState × Installed). AreCoupled x.0 x.1 w.holders.write) (λ i. (there i, here i)) sound.coupled).last g.none_waits
 
   base_within : last.segment.base ≤ length history
   base_within = let low = covered_last.base in let fits = covered_last.flushed in omega (arith, low, fits)
@@ -72,8 +72,8 @@ module _ (old : VersionSetState) (log : LogState) (g : IsLog log) (w : World) (s
   cut_last : IsCut history (cut_at history last.segment.base)
   cut_last =
       let based : g.cut.base ≡ last.segment.base = log_based log g ∙ ap (λ (x : Segment). x.base) (sym names_used) in
-      let front : take g.cut.base log.table.log ≡ take last.segment.base history =
-      (λ i. take (based i) (of_history.log i)) ∙ take-append-le last.segment.base history (logged_part log.table.logged log.table.pending) base_within in
+      let front : take g.cut.base log.state.log ≡ take last.segment.base history =
+      (λ i. take (based i) (of_history.log i)) ∙ take-append-le last.segment.base history (logged_part log.state.logged log.state.pending) base_within in
       cut_again history last.segment.base base_within (ap (λ (h : List Entry). undone_last h) (sym front) ∙ g.is_cut.whole)
 
   abbrev Stands : InstalledEdit → Type 0
@@ -102,12 +102,12 @@ module _ (old : VersionSetState) (log : LogState) (g : IsLog log) (w : World) (s
 
 -- ---- as callers see it
 
-pub opens_amid : (old new : VersionSetState) (log moved : LogState) (asked : Option InstalledEdit) → IsLog log → IfSome asked (IsAtEnd log.table.history) → NamesItsSegment old new log moved asked
-    → old.set.manifest.log.id < 2 ^ 32 → log.wal.id ≡ old.set.manifest.log.id → (w : World) → Reaches w → w.installed ≡ old.table → w.writes ≡ log.table → OpensInRenewal old new log moved asked
+pub opens_amid : (old new : VersionSetState) (log moved : LogState) (asked : Option InstalledEdit) → IsLog log → IfSome asked (IsAtEnd log.state.history) → NamesItsSegment old new log moved asked
+    → old.set.manifest.log.id < 2 ^ 32 → log.wal.id ≡ old.set.manifest.log.id → (w : World) → Reaches w → w.installed ≡ old.state → w.writes ≡ log.state → OpensInRenewal old new log moved asked
 opens_amid old new log moved asked g at_end named fits one w reached here there l m t left = opens_renewing old log g w (reached_is_sound w reached) here there new moved asked at_end named fits one l m t left
 
 -- where a segment waits beside a log, its history ends with no undo
-whole_waiting : (log : LogState) → IsLog log → (asked : Option InstalledEdit) → log.table.next ≡ segment_of asked → IfSome asked (λ edit. undone_last log.table.history ≡ None)
+whole_waiting : (log : LogState) → IsLog log → (asked : Option InstalledEdit) → log.state.next ≡ segment_of asked → IfSome asked (λ edit. undone_last log.state.history ≡ None)
 whole_waiting log g None waits = tt
 whole_waiting log g (Some edit) waits = (g.beside edit.segment waits).2
 
@@ -123,7 +123,7 @@ module _ {D : Type 0} (z : SharedState D) (s u : SeatState) (e : Installed) (one
     here : world.installed ≡ tables.before.table
     here = busy.at_once.0 ∙ sym tables.before_is
 
-    there : world.writes ≡ log.before.table
+    there : world.writes ≡ log.before.state
     there = busy.at_once.1 ∙ sym log.before_is
 
     -- the devices have the store's id
@@ -133,33 +133,33 @@ module _ {D : Type 0} (z : SharedState D) (s u : SeatState) (e : Installed) (one
     id_of_tables : tables.before.set.manifest.log.id ≡ one.wal.id
     id_of_tables = tables.edits.id ∙ ap (λ (x : TableSetState). x.manifest.log.id) (same_some tables.before.first one.set (sym tables.of_store ∙ one.tables)) ∙ one.id
 
-    history_seen : u.knows.participant.seen ≡ log.before.table.history
+    history_seen : u.knows.participant.seen ≡ log.before.state.history
     history_seen = sym busy.history_is ∙ ap (λ (t : WriteState). t.history) (sym log.before_is)
 
     opens_in : (asked : Option InstalledEdit) → IfSome asked (λ edit. (place : ℕ) × (edit ≡ after_renewal u.knows.participant.seen place e.last)) → NamesItsSegment tables.before tables.after log.before log.after asked
-        → IfSome asked (λ edit. undone_last log.before.table.history ≡ None) → OpensInRenewal tables.before tables.after log.before log.after asked
+        → IfSome asked (λ edit. undone_last log.before.state.history ≡ None) → OpensInRenewal tables.before tables.after log.before log.after asked
     opens_in asked made named whole l m t left =
         let made_here = subst (λ (y : List Entry × Installed). IfSome asked (λ edit. (place : ℕ) × (edit ≡ after_renewal y.0 place y.1.last))) (λ i. (history_seen i, sym tables.before_is i)) made in
         opens_renewing tables.before log.before log.log world sound here there tables.after log.after asked (renewed_at_end tables.before log.before log.log world sound here there asked made_here whole) named
         (subst (λ (n : ℕ). n < 2 ^ 32) (sym id_of_tables) one.id_fits) (id_of_log ∙ sym id_of_tables) l m t left
 
     -- where the log has a base at the end of its history, that is no undo
-    whole_based : now.log ≡ busy.unclosed.0.log → now.segment.base ≡ length busy.unclosed.0.history → undone_last log.before.table.history ≡ None
+    whole_based : now.log ≡ busy.unclosed.0.log → now.segment.base ≡ length busy.unclosed.0.history → undone_last log.before.state.history ≡ None
     whole_based logs based =
         ap (λ (t : WriteState). undone_last t.history) (sym there)
         ∙ whole_at world sound log.after log.still_log (ap (λ (t : WriteState). t.log) log.after_is ∙ logs ∙ ap (λ (t : WriteState). t.log) (sym busy.at_once.1))
         (ap (λ (t : WriteState). t.segment.base) log.after_is ∙ based ∙ ap (λ (t : WriteState). length t.history) (sym busy.at_once.1))
 
   module _ (Goes : Participant → Type 0) where
-    pub opens_renewed : (done : Renewed) (k : HasRenewed Goes z s u e done) → OpensInRenewal k.table.before k.table.after k.log.before k.log.after (Some (after_renewal u.knows.participant.seen k.place e.last))
+    pub opens_renewed : (done : Renewed) (k : HasRenewed Goes z s u e done) → OpensInRenewal k.state.before k.state.after k.log.before k.log.after (Some (after_renewal u.knows.participant.seen k.place e.last))
     opens_renewed done k =
-        opens_in k.busy _ _ k.table _ _ k.log (Some (after_renewal u.knows.participant.seen k.place e.last)) (k.place, refl) k.log.so.1
-        (whole_based k.busy _ _ k.table _ _ k.log refl (ap (λ (h : List Entry). length h) (sym k.busy.history_is)))
+        opens_in k.busy _ _ k.state _ _ k.log (Some (after_renewal u.knows.participant.seen k.place e.last)) (k.place, refl) k.log.so.1
+        (whole_based k.busy _ _ k.state _ _ k.log refl (ap (λ (h : List Entry). length h) (sym k.busy.history_is)))
 
     pub opens_broken : (k : HasBrokenOff Goes z s u e) → OpensInRenewal k.fault.before k.fault.after k.log.before k.log.after k.asked
     opens_broken k =
         let x = k.log in
-        let tables : x.after.table.history ≡ x.before.table.history = ap (λ (t : WriteState). t.history) x.after_is ∙ ap (λ (t : WriteState). t.history) (sym x.before_is) in
+        let tables : x.after.state.history ≡ x.before.state.history = ap (λ (t : WriteState). t.history) x.after_is ∙ ap (λ (t : WriteState). t.history) (sym x.before_is) in
         opens_in k.busy _ _ k.fault _ _ x k.asked k.next x.so.1
         (subst (λ (h : List Entry). IfSome k.asked (λ edit. undone_last h ≡ None)) tables (whole_waiting x.after x.still_log k.asked (ap (λ (t : WriteState). t.next) x.after_is)))
 

@@ -26,7 +26,7 @@ use Rattle.wp_table.specs.File.{HasTables}
 use Rattle.wp_core.specs.Sound.Actors.{StartsWith}
 use Rattle.wp_core.specs.Images.{LogTells, ManifestTells, MayName, MaySpell}
 use Rattle.wp_core.specs.IsSound.{IsSound}
-use Rattle.wp_core.specs.Tables.{Installed}
+use Rattle.wp_core.specs.States.{Installed}
 use Rattle.wp_core.specs.World.{World, history}
 use Rattle.wp_core.proofs.CrashImages.{left_by_crash}
 use Rattle.wp_core.proofs.EachStep.{reached_is_sound}
@@ -72,7 +72,7 @@ log_amid w sound entries (inl may) = left_by_crash w sound entries may
 log_amid w sound entries (inr is) = ((w.writes.pending, is), subst IsLegal (sym is) sound.history.legal_next)
 
 -- the log is cut at the base of its segment
-pub log_based : (log : LogState) (g : IsLog log) → g.cut.base ≡ log.table.segment.base
+pub log_based : (log : LogState) (g : IsLog log) → g.cut.base ≡ log.state.segment.base
 log_based log g = g.stores.based ∙ ap (λ (x : Segment). x.base) (sym g.segment)
 
 -- what is so at the end of what passed
@@ -115,7 +115,7 @@ opens_as old fits entries legal c cut edit based covered log manifest tables spe
 
 -- ---- the tables' two devices
 
-module _ (old new : VersionSetState) (next : InstalledEdit) (k : IsEdits old) (running : old.table.halted ≡ false) (s : SurvivesInstall old new next) where
+module _ (old new : VersionSetState) (next : InstalledEdit) (k : IsEdits old) (running : old.state.halted ≡ false) (s : SurvivesInstall old new next) where
   abbrev id : ℕ
   id = old.set.manifest.log.id
 
@@ -153,7 +153,7 @@ module _ (old new : VersionSetState) (next : InstalledEdit) (k : IsEdits old) (r
   next_there : (image : List ℕ) → Next image → HasTables id (last_edit (s.edits ++ s.next ∷ [])).flushed image (last_edit (s.edits ++ s.next ∷ [])).tables s.next_parts
   next_there image there = subst (λ (e : Edit). HasTables id e.flushed image e.tables s.next_parts) last_of_more there
 
-  names_last : (m t : List ℕ) → IsManifestOf id s.edits m → Last t → NamesEdit old m t old.table.last
+  names_last : (m t : List ℕ) → IsManifestOf id s.edits m → Last t → NamesEdit old m t old.state.last
   names_last m t named there = record { edits = s.edits; parts = old.parts; spelled = named; is = s.last_is; there = there }
 
   names_next : (m t : List ℕ) → IsManifestOf id (s.edits ++ s.next ∷ []) m → Next t → NamesEdit old m t next
@@ -172,26 +172,26 @@ module _ (old new : VersionSetState) (next : InstalledEdit) (k : IsEdits old) (r
 
   -- ---- an install
 
-  module _ (seen : List Entry) (covers : IsEditCovered seen next) (same : next.segment ≡ old.table.last.segment) (fits : id < 2 ^ 32) (w : World) (sound : IsSound w) (here : w.installed ≡ old.table) (starts : StartsWith (history w) seen) (entries : List Entry) (may : MaySpellAmid w.writes entries) (log manifest tables : List ℕ) (spelled : SpellsCut id old.table.last.segment entries log) where
+  module _ (seen : List Entry) (covers : IsEditCovered seen next) (same : next.segment ≡ old.state.last.segment) (fits : id < 2 ^ 32) (w : World) (sound : IsSound w) (here : w.installed ≡ old.state) (starts : StartsWith (history w) seen) (entries : List Entry) (may : MaySpellAmid w.writes entries) (log manifest tables : List ℕ) (spelled : SpellsCut id old.state.last.segment entries log) where
     left : StartsWith entries (history w) × IsLegal entries
     left = log_amid w sound entries may
 
-    covered_last : IsEditCovered entries old.table.last
-    covered_last = edit_later entries (history w) old.table.last left.0 left.1 (subst (λ (t : Installed). IsEditCovered (history w) t.last) here sound.versions.last)
+    covered_last : IsEditCovered entries old.state.last
+    covered_last = edit_later entries (history w) old.state.last left.0 left.1 (subst (λ (t : Installed). IsEditCovered (history w) t.last) here sound.versions.last)
 
     covered_next : IsEditCovered entries next
     covered_next = edit_later entries (history w) next left.0 left.1 (edit_later (history w) seen next starts sound.history.legal covers)
 
-    abbrev opens_last : IsManifestOf id s.edits manifest → Last tables → (edit : InstalledEdit) × ((edit ≡ old.table.last) ⊎ (edit ≡ next)) × OpensFromBase id entries edit log manifest tables
-    opens_last named there = (old.table.last, inl refl, opens_as old fits entries left.1 spelled.0 spelled.2 old.table.last spelled.3 covered_last log manifest tables spelled.1 (names_last manifest tables named there))
+    abbrev opens_last : IsManifestOf id s.edits manifest → Last tables → (edit : InstalledEdit) × ((edit ≡ old.state.last) ⊎ (edit ≡ next)) × OpensFromBase id entries edit log manifest tables
+    opens_last named there = (old.state.last, inl refl, opens_as old fits entries left.1 spelled.0 spelled.2 old.state.last spelled.3 covered_last log manifest tables spelled.1 (names_last manifest tables named there))
 
-    abbrev opens_next : IsManifestOf id (s.edits ++ s.next ∷ []) manifest → Next tables → (edit : InstalledEdit) × ((edit ≡ old.table.last) ⊎ (edit ≡ next)) × OpensFromBase id entries edit log manifest tables
+    abbrev opens_next : IsManifestOf id (s.edits ++ s.next ∷ []) manifest → Next tables → (edit : InstalledEdit) × ((edit ≡ old.state.last) ⊎ (edit ≡ next)) × OpensFromBase id entries edit log manifest tables
     opens_next named there =
         let at : IsLogAt id next.segment.place spelled.0 log = subst (λ (x : Segment). IsLogAt id x.place spelled.0 log) (sym same) spelled.1 in
         let based : spelled.0.base ≡ next.segment.base = spelled.3 ∙ ap (λ (x : Segment). x.base) (sym same) in
         (next, inr refl, opens_as old fits entries left.1 spelled.0 spelled.2 next based covered_next log manifest tables at (names_next manifest tables named there))
 
-    pub opens_amid : LeftInInstall old new manifest tables → (edit : InstalledEdit) × ((edit ≡ old.table.last) ⊎ (edit ≡ next)) × OpensFromBase id entries edit log manifest tables
+    pub opens_amid : LeftInInstall old new manifest tables → (edit : InstalledEdit) × ((edit ≡ old.state.last) ⊎ (edit ≡ next)) × OpensFromBase id entries edit log manifest tables
     opens_amid (inl (at, since)) = opens_last (manifest_rests manifest at) (tables_since tables since)
     opens_amid (inr (since, at)) = elim (done_since manifest tables since at) [
       | inl last ↦ opens_last last.0 last.1
@@ -200,8 +200,8 @@ module _ (old new : VersionSetState) (next : InstalledEdit) (k : IsEdits old) (r
 
   -- ---- a renewal
 
-  module _ (log moved : LogState) (g : IsLog log) (open_ : log.table.closed ≡ false) (whole : log.table.log ≡ log.table.history) (coupled : log.table.segment ≡ old.table.last.segment) where
-    cut_now : g.cut ≡ cut_at log.table.history log.table.segment.base
+  module _ (log moved : LogState) (g : IsLog log) (open_ : log.state.closed ≡ false) (whole : log.state.log ≡ log.state.history) (coupled : log.state.segment ≡ old.state.last.segment) where
+    cut_now : g.cut ≡ cut_at log.state.history log.state.segment.base
     cut_now = g.is_cut.is ∙ (λ i. cut_at (whole i) (log_based log g i))
 
     device_open : log.wal.closed ≡ false
@@ -212,19 +212,19 @@ module _ (old new : VersionSetState) (next : InstalledEdit) (k : IsEdits old) (r
         by true is = absurd (true≢false (sym (g.shut is) ∙ open_))
 
     abbrev At : List ℕ → Type 0
-    At image = IsLogAt log.wal.id log.table.segment.place g.cut image
+    At image = IsLogAt log.wal.id log.state.segment.place g.cut image
 
     log_rests : (image : List ℕ) → images log.wal.moments image → At image
     log_rests image at =
         subst (λ (x : Segment). IsLogAt log.wal.id x.place g.cut image) (sym g.segment)
-        (known_image (λ bytes. IsLogAt log.wal.id log.wal.segment.place g.cut bytes × HasAcknowledgedCut log.wal.id log.wal.segment.place g.cut bytes) log.wal.moments image at (running_cut log.wal g.cut log.table.failed g.stores device_open)).0
+        (known_image (λ bytes. IsLogAt log.wal.id log.wal.segment.place g.cut bytes × HasAcknowledgedCut log.wal.id log.wal.segment.place g.cut bytes) log.wal.moments image at (running_cut log.wal g.cut log.state.failed g.stores device_open)).0
 
     -- at the place that the edit names the log spells the history, cut at its base
     abbrev HasItsSegment : List ℕ → InstalledEdit → Type 0
-    HasItsSegment image edit = IsLogAt log.wal.id edit.segment.place (cut_at log.table.history edit.segment.base) image
+    HasItsSegment image edit = IsLogAt log.wal.id edit.segment.place (cut_at log.state.history edit.segment.base) image
 
-    has_last : (image : List ℕ) → At image → HasItsSegment image old.table.last
-    has_last image at = subst (λ (x : Segment). IsLogAt log.wal.id x.place (cut_at log.table.history x.base) image) coupled (subst (λ (d : Cut). IsLogAt log.wal.id log.table.segment.place d image) cut_now at)
+    has_last : (image : List ℕ) → At image → HasItsSegment image old.state.last
+    has_last image at = subst (λ (x : Segment). IsLogAt log.wal.id x.place (cut_at log.state.history x.base) image) coupled (subst (λ (d : Cut). IsLogAt log.wal.id log.state.segment.place d image) cut_now at)
 
     module _ (segment : Option Segment) (b : SurvivesBeside log moved segment) where
       log_passes : Passes (Leaves At) log.wal.moments moved.wal.moments
@@ -235,28 +235,28 @@ module _ (old new : VersionSetState) (next : InstalledEdit) (k : IsEdits old) (r
 
       -- until the manifest may be called
       before_edit : (l m t : List ℕ) → LeftInRenewal old new log moved l m t
-          → (HasItsSegment l old.table.last × NamesEdit old m t old.table.last)
-          ⊎ (HasItsSegment l old.table.last × images moved.wal.moments l × LeftSince old.set.manifest.log.moments new.set.manifest.log.moments m × images new.set.moments t)
+          → (HasItsSegment l old.state.last × NamesEdit old m t old.state.last)
+          ⊎ (HasItsSegment l old.state.last × images moved.wal.moments l × LeftSince old.set.manifest.log.moments new.set.manifest.log.moments m × images new.set.moments t)
       before_edit l m t (inl (at_l, at_m, since)) = inl (has_last l (log_rests l at_l), names_last m t (manifest_rests m at_m) (tables_since t since))
       before_edit l m t (inr (inl (since, at_m, at_t))) = inl (has_last l (log_since l since), names_last m t (manifest_rests m at_m) (tables_done t at_t))
       before_edit l m t (inr (inr (at_l, since, at_t))) = inr (has_last l (log_since l (ends_since (Leaves At) log.wal.moments moved.wal.moments l log_passes at_l)), at_l, since, at_t)
 
     has_next : SurvivesBeside log moved (Some next.segment) → (image : List ℕ) → images moved.wal.moments image → HasItsSegment image next
     has_next b image at =
-        (known_image (λ bytes. IsLogAt log.wal.id next.segment.place (cut_at log.table.history next.segment.base) bytes × HasAcknowledgedCut log.wal.id next.segment.place (cut_at log.table.history next.segment.base) bytes) moved.wal.moments image at b.beside.2).0
+        (known_image (λ bytes. IsLogAt log.wal.id next.segment.place (cut_at log.state.history next.segment.base) bytes × HasAcknowledgedCut log.wal.id next.segment.place (cut_at log.state.history next.segment.base) bytes) moved.wal.moments image at b.beside.2).0
 
     uncalled_since : IsUncalled old new → (image : List ℕ) → LeftSince old.set.manifest.log.moments new.set.manifest.log.moments image → IsManifestOf id s.edits image
     uncalled_since uncalled = holds_since (IsManifestOf id s.edits) old.set.manifest.log.moments new.set.manifest.log.moments manifest_rests ([], ap (λ (x : ManifestState). x.log.moments) uncalled, tt)
 
     pub names_its_segment : (asked : Option InstalledEdit) → IfSome asked (λ edit. edit ≡ next) → (asked ≡ None → IsUncalled old new) → SurvivesBeside log moved (segment_of asked) → NamesItsSegment old new log moved asked
     names_its_segment None is uncalled b l m t left = elim (before_edit None b l m t left) [
-      | inl last ↦ (old.table.last, inl refl, last.1, last.0)
-      | inr more ↦ (old.table.last, inl refl, names_last m t (uncalled_since (uncalled refl) m more.2) (tables_done t more.3), more.0)
+      | inl last ↦ (old.state.last, inl refl, last.1, last.0)
+      | inr more ↦ (old.state.last, inl refl, names_last m t (uncalled_since (uncalled refl) m more.2) (tables_done t more.3), more.0)
     ]
     names_its_segment (Some edit) is uncalled b l m t left = elim (before_edit (Some edit.segment) b l m t left) [
-      | inl last ↦ (old.table.last, inl refl, last.1, last.0)
+      | inl last ↦ (old.state.last, inl refl, last.1, last.0)
       | inr more ↦ elim (done_since m t more.2 more.3) [
-        | inl last ↦ (old.table.last, inl refl, names_last m t last.0 last.1, more.0)
+        | inl last ↦ (old.state.last, inl refl, names_last m t last.0 last.1, more.0)
         | inr named ↦ (next, inr (ap Some is), names_next m t named.0 named.1, has_next (subst (λ (x : InstalledEdit). SurvivesBeside log moved (Some x.segment)) is b) l more.1)
       ]
     ]
@@ -264,14 +264,14 @@ module _ (old new : VersionSetState) (next : InstalledEdit) (k : IsEdits old) (r
 -- ---- no device is called in a renewal
 
 -- each image names the last edit, with its tables, and the log has the history at its place
-pub names_still : (e : VersionSetState) (log : LogState) → e.table.failed ≡ None → log.table.closed ≡ false → log.table.log ≡ log.table.history → log.table.segment ≡ e.table.last.segment
-    → ManifestTells (images e.set.manifest.log.moments) (IsNamed e) e.table → LogTells (images log.wal.moments) (spells log) log.table → NamesItsSegment e e log log None
+pub names_still : (e : VersionSetState) (log : LogState) → e.state.failed ≡ None → log.state.closed ≡ false → log.state.log ≡ log.state.history → log.state.segment ≡ e.state.last.segment
+    → ManifestTells (images e.set.manifest.log.moments) (IsNamed e) e.state → LogTells (images log.wal.moments) (spells log) log.state → NamesItsSegment e e log log None
 names_still e log none open_ whole coupled edits_tell log_tells l m t left =
     let found = edits_tell m (at_m left) in let named = found.1 in let spelled = (log_tells l (at_l left)).0 in
-    let last : found.0 ≡ e.table.last = is_last found.0 found.2 in
+    let last : found.0 ≡ e.state.last = is_last found.0 found.2 in
     let based : named.base ≡ found.0.segment.base = sym (ap (λ (x : InstalledEdit). x.segment.base) named.is) in
-    let history : spelled.0 ≡ log.table.history = is_spelled spelled.0 spelled.2 in
-    let segment : log.table.segment ≡ found.0.segment = coupled ∙ ap (λ (x : InstalledEdit). x.segment) (sym last) in (
+    let history : spelled.0 ≡ log.state.history = is_spelled spelled.0 spelled.2 in
+    let segment : log.state.segment ≡ found.0.segment = coupled ∙ ap (λ (x : InstalledEdit). x.segment) (sym last) in (
       found.0,
       inl last,
       record { edits = named.edits; parts = named.parts; spelled = named.spelled; is = named.is ∙ ap (λ (n : ℕ). installed_of n (last_edit named.edits) named.parts) based; there = named.there t (at_t left) },
@@ -296,20 +296,20 @@ names_still e log none open_ whole coupled edits_tell log_tells l m t left =
     at_t (inr (inl k)) = k.2
     at_t (inr (inr k)) = k.2
 
-    is_last : (edit : InstalledEdit) → MayName e.table edit → edit ≡ e.table.last
+    is_last : (edit : InstalledEdit) → MayName e.state edit → edit ≡ e.state.last
     is_last edit (inl is) = is
-    is_last edit (inr asked) = absurd (none_some e.table.failed edit none asked)
+    is_last edit (inr asked) = absurd (none_some e.state.failed edit none asked)
 
-    is_spelled : (entries : List Entry) → MaySpell log.table entries → entries ≡ log.table.history
+    is_spelled : (entries : List Entry) → MaySpell log.state entries → entries ≡ log.state.history
     is_spelled entries (inl is) = is ∙ whole
     is_spelled entries (inr closed) = absurd (true≢false (sym closed.0 ∙ open_))
 
 -- ---- as callers see it
 
-pub opens_from : (seen : List Entry) (old new : VersionSetState) (next : InstalledEdit) → IsEdits old → old.table.halted ≡ false → SurvivesInstall old new next → IsEditCovered seen next → next.segment ≡ old.table.last.segment → OpensFrom seen old new next
+pub opens_from : (seen : List Entry) (old new : VersionSetState) (next : InstalledEdit) → IsEdits old → old.state.halted ≡ false → SurvivesInstall old new next → IsEditCovered seen next → next.segment ≡ old.state.last.segment → OpensFrom seen old new next
 opens_from seen old new next k running s covers same fits w reached here starts entries may log manifest tables spelled left = opens_amid old new next k running s seen covers same fits w (reached_is_sound w reached) here starts entries may log manifest tables spelled left
 
-pub opens_throughout : (seen after : List Entry) (old new : VersionSetState) (next edit : InstalledEdit) → IsEdits old → old.table.halted ≡ false → SurvivesInstall old new next → IsEditCovered seen next → next.segment ≡ old.table.last.segment → after ≡ seen → next ≡ edit → OpensThroughout seen after old new edit
+pub opens_throughout : (seen after : List Entry) (old new : VersionSetState) (next edit : InstalledEdit) → IsEdits old → old.state.halted ≡ false → SurvivesInstall old new next → IsEditCovered seen next → next.segment ≡ old.state.last.segment → after ≡ seen → next ≡ edit → OpensThroughout seen after old new edit
 opens_throughout seen after old new next edit k running s covers there same is = record {
   seen = seen;
   later = starts_same seen;

@@ -10,7 +10,7 @@ use Rattle.wp_wal.specs.Wal.{WalState}
 use Rattle.wp_core.specs.Images.{MayName, MaySpell}
 use Rattle.wp_core.specs.IsSound.{IsSound}
 use Rattle.wp_core.specs.Runs.{Reaches}
-use Rattle.wp_core.specs.Tables.{WriteState, Installed, installed}
+use Rattle.wp_core.specs.States.{WriteState, Installed, installed}
 use Rattle.wp_core.specs.World.{World, Participant, history}
 use Rattle.wp_core.proofs.CrashImages.{segment_by_crash}
 use Rattle.wp_core.proofs.EachStep.{reached_is_sound}
@@ -22,7 +22,7 @@ use Rattle.wp_shared.specs.Opening.{IsOneStore}
 use Rattle.wp_contents.specs.Opens.{installed_of}
 use Rattle.wp_parts.specs.Parts.{EditsStand, LogStands, log_first, set_first}
 use Rattle.wp_shared.specs.Seats.{SharedState, SeatState, place_at}
-use Rattle.wp_shared.proofs.Tables.{held_table}
+use Rattle.wp_shared.proofs.Tables.{held_state}
 use Rattle.wp_maint.specs.Calls.{AreSameTables, KeepsOnce, TablesBecame}
 use Rattle.wp_maint.specs.Moments.{MaySpellAmid, OpensToSuch, SpellsCut, SpellsNamed}
 use Rattle.wp_maint.specs.Renewal.{IsClosed, IsRenewed, IsSameLog, LogBecame, NamesEdit, OpensUnmoved}
@@ -31,7 +31,7 @@ use Rattle.wp_maint.proofs.Throughout.{log_amid, opens_as}
 -- ---- the manifest's last edit
 
 -- it is one that the table says, with its tables
-names_some : (e : VersionSetState) → EditsStand e → (m t : List ℕ) → images e.set.manifest.log.moments m → images e.set.moments t → (edit : InstalledEdit) × MayName e.table edit × NamesEdit e m t edit
+names_some : (e : VersionSetState) → EditsStand e → (m t : List ℕ) → images e.set.manifest.log.moments m → images e.set.moments t → (edit : InstalledEdit) × MayName e.state edit × NamesEdit e m t edit
 names_some e stand m t at_m at_t =
     let found = stand.0 m at_m in let named = found.1 in (
       found.0,
@@ -45,13 +45,13 @@ covered_named w sound edit (inr failed) = sound.versions.failed edit failed
 
 -- ---- in a world with these tables
 
-module _ (e : VersionSetState) (stand : EditsStand e) (fits : e.set.manifest.log.id < 2 ^ 32) (w : World) (sound : IsSound w) (here : w.installed ≡ e.table) where
+module _ (e : VersionSetState) (stand : EditsStand e) (fits : e.set.manifest.log.id < 2 ^ 32) (w : World) (sound : IsSound w) (here : w.installed ≡ e.state) where
   abbrev id : ℕ
   id = e.set.manifest.log.id
 
   -- where the log spells such entries in the segment of each edit that may be named
   opens_named : (Spells : List Entry → Type 0) → ((entries : List Entry) → Spells entries → MaySpellAmid w.writes entries) → (l m t : List ℕ)
-      → ((edit : InstalledEdit) → MayName w.installed edit → (entries : List Entry) × Spells entries × SpellsCut id edit.segment entries l) → images e.set.manifest.log.moments m → images e.set.moments t → OpensToSuch Spells (MayName e.table) id l m t
+      → ((edit : InstalledEdit) → MayName w.installed edit → (entries : List Entry) × Spells entries × SpellsCut id edit.segment entries l) → images e.set.manifest.log.moments m → images e.set.moments t → OpensToSuch Spells (MayName e.state) id l m t
   opens_named Spells amid l m t spells at_m at_t =
       let named = names_some e stand m t at_m at_t in let edit : InstalledEdit = named.0 in
       let may : MayName w.installed edit = subst (λ (x : Installed). MayName x edit) (sym here) named.1 in
@@ -65,8 +65,8 @@ module _ (e : VersionSetState) (stand : EditsStand e) (fits : e.set.manifest.log
       )
 
   -- ... as a log between two steps does
-  module _ (log : LogState) (stands : LogStands log) (same_id : log.wal.id ≡ id) (there : w.writes ≡ log.table) where
-    spells_named : (l : List ℕ) → images log.wal.moments l → (edit : InstalledEdit) → MayName w.installed edit → (entries : List Entry) × MaySpell log.table entries × SpellsCut id edit.segment entries l
+  module _ (log : LogState) (stands : LogStands log) (same_id : log.wal.id ≡ id) (there : w.writes ≡ log.state) where
+    spells_named : (l : List ℕ) → images log.wal.moments l → (edit : InstalledEdit) → MayName w.installed edit → (entries : List Entry) × MaySpell log.state entries × SpellsCut id edit.segment entries l
     spells_named l at edit may =
         let told = stands.0 l at in
         elim (segment_by_crash w sound edit may) [
@@ -76,14 +76,14 @@ module _ (e : VersionSetState) (stand : EditsStand e) (fits : e.set.manifest.log
             subst (λ (x : ℕ × Segment). SpellsCut x.0 x.1 told.0.0 l) (λ i. (same_id i, (ap (λ (t : WriteState). t.segment) (sym there) ∙ sym same) i)) told.0.1,
           )
           | inr next ↦ (
-            log.table.history,
+            log.state.history,
             subst (λ (t : WriteState). MaySpell t t.history) there next.2,
-            subst (λ (n : ℕ). SpellsCut n edit.segment log.table.history l) same_id (told.1 edit.segment (ap (λ (t : WriteState). t.next) (sym there) ∙ next.0)),
+            subst (λ (n : ℕ). SpellsCut n edit.segment log.state.history l) same_id (told.1 edit.segment (ap (λ (t : WriteState). t.next) (sym there) ∙ next.0)),
           )
         ]
 
-    opens_both : OpensUnmoved (MaySpell log.table) (MayName e.table) e log
-    opens_both l m t at_l at_m at_t = opens_named (MaySpell log.table) (λ entries may. inl (subst (λ (x : WriteState). MaySpell x entries) (sym there) may)) l m t (spells_named l at_l) at_m at_t
+    opens_both : OpensUnmoved (MaySpell log.state) (MayName e.state) e log
+    opens_both l m t at_l at_m at_t = opens_named (MaySpell log.state) (λ entries may. inl (subst (λ (x : WriteState). MaySpell x entries) (sym there) may)) l m t (spells_named l at_l) at_m at_t
 
 -- ---- as callers see it
 
@@ -100,12 +100,12 @@ module _ {D : Type 0} (z : SharedState D) (one : IsOneStore z.opened z.first) wh
 
   -- any two values behind the turns
   pub opens_each : (e : VersionSetState) → IsEdits e → EditsStand e → set_first z.first ≡ Some e.first → (log : LogState) → IsLog log → LogStands log → log_first z.first ≡ Some log.first
-      → (w : World) → Reaches w → w.installed ≡ e.table → w.writes ≡ log.table → OpensUnmoved (MaySpell log.table) (MayName e.table) e log
+      → (w : World) → Reaches w → w.installed ≡ e.state → w.writes ≡ log.state → OpensUnmoved (MaySpell log.state) (MayName e.state) e log
   opens_each e k stand of_store log g stands log_of_store w reached here there = opens_both e stand (fits_store e k of_store) w (reached_is_sound w reached) here log stands (log_id log g log_of_store ∙ sym (tables_id e k of_store)) there
 
   -- one of them, and any log
-  pub opens_amid : (e : VersionSetState) → IsEdits e → EditsStand e → set_first z.first ≡ Some e.first → (w : World) → Reaches w → w.installed ≡ e.table
-      → (l m t : List ℕ) → SpellsNamed e.set.manifest.log.id w l → images e.set.manifest.log.moments m → images e.set.moments t → OpensToSuch (MaySpellAmid w.writes) (MayName e.table) e.set.manifest.log.id l m t
+  pub opens_amid : (e : VersionSetState) → IsEdits e → EditsStand e → set_first z.first ≡ Some e.first → (w : World) → Reaches w → w.installed ≡ e.state
+      → (l m t : List ℕ) → SpellsNamed e.set.manifest.log.id w l → images e.set.manifest.log.moments m → images e.set.moments t → OpensToSuch (MaySpellAmid w.writes) (MayName e.state) e.set.manifest.log.id l m t
   opens_amid e k stand of_store w reached here l m t spells at_m at_t = opens_named e stand (fits_store e k of_store) w (reached_is_sound w reached) here (MaySpellAmid w.writes) (λ entries may. may) l m t spells at_m at_t
 
   -- the tables and the log are as they were, in one world
@@ -138,6 +138,6 @@ module _ {D : Type 0} (z : SharedState D) (one : IsOneStore z.opened z.first) wh
       → OpensToSuch (MaySpellAmid k.1.world.writes) (MayName k.0) k.2.before.set.manifest.log.id l m t
   opens_halted s u (e, found, tables) l m t spells at_m at_t =
       let w = found.world in
-      let here : w.installed ≡ e = held_table (place_at z s.by) found.actor w (installed e) found.there found.held in
+      let here : w.installed ≡ e = held_state (place_at z s.by) found.actor w (installed e) found.there found.held in
       let k = opens_amid tables.before tables.edits tables.so.1 tables.of_store w found.there.reached (here ∙ sym tables.before_is) l m t spells at_m at_t in
       (k.0, subst (λ (x : Installed). MayName x k.0) tables.before_is k.1, k.2, k.3, k.4)

@@ -9,7 +9,7 @@ use Rattle.wp_core.specs.Effects.{with_failed}
 use Rattle.wp_core.specs.Lists.{IsIn}
 use Rattle.wp_core.specs.Sound.Actors.{StartsWith}
 use Rattle.wp_core.specs.Sound.Pasts.{tables_due}
-use Rattle.wp_core.specs.Tables.{Content, Installed, writes, installed}
+use Rattle.wp_core.specs.States.{Content, Installed, writes, installed}
 use Rattle.wp_core.specs.Views.{Event, tables_failed, found_edit}
 use Rattle.wp_core.specs.Views as event
 use Rattle.wp_core.specs.World.{Actor, Participant, World}
@@ -73,8 +73,8 @@ pub record TablesBecame {D : Type 0} (z : SharedState D) (e next : Installed) (S
   pub after : VersionSetState
   pub of_store : set_first z.first ≡ Some before.first
   pub still_of_store : set_first z.first ≡ Some after.first
-  pub before_is : before.table ≡ e
-  pub after_is : after.table ≡ next
+  pub before_is : before.state ≡ e
+  pub after_is : after.state ≡ next
   pub edits : IsEdits before
   pub still_edits : IsEdits after
   pub so : So before after
@@ -139,7 +139,7 @@ pub record HasFlushed {D : Type 0} (Goes : Participant → Type 0) (z : SharedSt
   pub some : 1 ≤ done.versions
   pub versions : done.versions ≡ length (unflushed new.knows.participant.seen e.last)
   pub left : HeldTables z old new new.knows.participant.past (record e { last = after_flush new.knows.participant.seen e.last })
-  pub table : TablesBecame z e (record e { last = after_flush new.knows.participant.seen e.last }) (HasNewest (sorted_of (unflushed new.knows.participant.seen e.last)))
+  pub state : TablesBecame z e (record e { last = after_flush new.knows.participant.seen e.last }) (HasNewest (sorted_of (unflushed new.knows.participant.seen e.last)))
   pub survives : SurvivesInstall table.before table.after (after_flush new.knows.participant.seen e.last)
   pub throughout : OpensThroughout old.knows.participant.seen new.knows.participant.seen table.before table.after (after_flush new.knows.participant.seen e.last)
   pub goes_on : Goes (with_events (found_by z old new e found ∷ event.installed (after_flush new.knows.participant.seen e.last) false ∷ []) old.knows.participant)

@@ -1,6 +1,6 @@
 -- A seat that remembers how it found the tables, and what became of them.
 use Rattle.std.specs.Prelude.{◌≡◌, [], ◌∷◌, Bool}
-use Rattle.wp_core.specs.Tables.{Installed, installed}
+use Rattle.wp_core.specs.States.{Installed, installed}
 use Rattle.wp_core.specs.Views.{Event, Fact}
 use Rattle.wp_shared.specs.Calls.{with_events}
 use Rattle.wp_shared.specs.Notes.{with_participant, GoesOn}

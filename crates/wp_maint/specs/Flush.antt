@@ -10,7 +10,7 @@ use Rattle.wp_replies.specs.Tables.{unflushed, after_flush, after_renewal}
 use Rattle.wp_table.specs.Table.{is_numbered, is_flushed}
 use Rattle.wp_tableset.specs.Changes.{one_part}
 use Rattle.wp_tableset.specs.declared.gone.Gone.TheVariants as gone
-use Rattle.wp_core.specs.Tables.{StoreState, Installed}
+use Rattle.wp_core.specs.States.{StoreState, Installed}
 use Rattle.wp_core.specs.Views.{tables_stay, frozen_stay}
 use Rattle.wp_core.specs.World.{Actor}
 use Rattle.wp_rule.specs.Knows.{Noted}
@@ -53,7 +53,7 @@ Freezes a e None = NoneInMemory a.participant.seen e.last
 
 -- all the memory is there for an edit with what is frozen, and for its table
 pub record HasReady (a : Actor) (e : VersionSetState) (r : ReadyFlush) : Type 0 where
-  pub frozen : HasFrozen a e.table r.frozen
+  pub frozen : HasFrozen a e.state r.frozen
   pub asked : r.edit.edit.asked ≡ record { gone = gone.Frozen; versions = versions_of r.frozen; flushed = r.frozen.at }
   pub ready : IsReadyFor e r.edit
   pub count : r.versions ≡ length (versions_of r.frozen)

@@ -2,7 +2,7 @@
 use Rattle.std.specs.Prelude.{◌≡◌, Bool, true, false, [], Some}
 use Rattle.wp_core.specs.Changes.{held_without}
 use Rattle.wp_core.specs.Lists.{IsIn}
-use Rattle.wp_core.specs.Tables.{Installed, installed}
+use Rattle.wp_core.specs.States.{Installed, installed}
 use Rattle.wp_core.specs.Turns.{store_turn}
 use Rattle.wp_core.specs.Views.{Fact, tables_stay, nothing_flushed, frozen_stay}
 use Rattle.wp_parts.specs.VersionSet.{VersionSetState}
@@ -30,5 +30,5 @@ pub record HoldsTables {D : Type 0} (z : SharedState D) (s : SeatState) (e : Ins
 
 -- The seat holds the tables turn alone, with these tables, which are the store's.
 pub record HoldsEdits {D : Type 0} (z : SharedState D) (s : SeatState) (e : VersionSetState) : Type 0 where
-  pub turn : HoldsTurn z s (installed e.table) [] []
+  pub turn : HoldsTurn z s (installed e.state) [] []
   pub of_store : set_first z.first ≡ Some e.first

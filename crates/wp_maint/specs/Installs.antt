@@ -5,7 +5,7 @@ use Rattle.wp_tableset.specs.Changes.{Asked}
 use Rattle.wp_tableset.specs.declared.gone.Gone.{Gone}
 use Rattle.wp_tableset.specs.declared.gone.Gone.TheVariants as gone
 use Rattle.wp_core.specs.Effects.{with_failed}
-use Rattle.wp_core.specs.Tables.{Installed}
+use Rattle.wp_core.specs.States.{Installed}
 use Rattle.wp_core.specs.Views.{nothing_flushed, tables_failed}
 use Rattle.wp_core.specs.Views as event
 use Rattle.wp_core.specs.World.{Actor, World}
@@ -38,9 +38,9 @@ pub record MayInstall (a : Actor) (e : Installed) (asked : Asked) : Type 0 where
 
 -- the edit was installed; true for a compaction
 pub record HasInstalled {D : Type 0} (z : SharedState D) (old : SeatState) (e : VersionSetState) (next : InstalledEdit) (compacts : Bool) (new : SeatState) (left : VersionSetState) : Type 0 where
-  pub table : left.table ≡ record e.table { last = next }
+  pub state : left.state ≡ record e.state { last = next }
   pub holds : HoldsEdits z new left
-  pub changes : Changes z old e.table left.table (event.installed next compacts) is_of_flushed new
+  pub changes : Changes z old e.state left.state (event.installed next compacts) is_of_flushed new
   pub survives : SurvivesInstall e left next
   pub edits : IsEdits e
   pub still_edits : IsEdits left
@@ -48,10 +48,10 @@ pub record HasInstalled {D : Type 0} (z : SharedState D) (old : SeatState) (e : 
 
 -- a device failed, before the manifest was called for this edit, or in its install
 pub record HasBroken {D : Type 0} (z : SharedState D) (old : SeatState) (e : VersionSetState) (next : InstalledEdit) (new : SeatState) (left : VersionSetState) : Type 0 where
-  pub table : left.table ≡ with_failed e.table left.table.failed
-  pub asked : IfSome left.table.failed (λ edit. edit ≡ next)
+  pub state : left.state ≡ with_failed e.state left.state.failed
+  pub asked : IfSome left.state.failed (λ edit. edit ≡ next)
   pub holds : HoldsEdits z new left
-  pub changes : Changes z old e.table left.table (tables_failed e.table.last left.table.failed) no_fact new
+  pub changes : Changes z old e.state left.state (tables_failed e.state.last left.state.failed) no_fact new
   pub fault : HasFault e left
   pub survives : SurvivesInstall e left next
   pub edits : IsEdits e
@@ -62,4 +62,4 @@ pub record HasBroken {D : Type 0} (z : SharedState D) (old : SeatState) (e : Ver
 
 -- the tables are as they were, and the manifest's device was not called
 abbrev pub AreLeft : VersionSetState → VersionSetState → Type 0
-AreLeft before after = (after.table ≡ before.table) × IsUncalled before after
+AreLeft before after = (after.state ≡ before.state) × IsUncalled before after

@@ -10,7 +10,7 @@ use Rattle.wp_contents.specs.Opens.{OpensTo}
 use Rattle.wp_core.specs.Images.{MayName, MaySpell}
 use Rattle.wp_core.specs.Runs.{Reaches}
 use Rattle.wp_core.specs.Sound.Actors.{StartsWith}
-use Rattle.wp_core.specs.Tables.{WriteState}
+use Rattle.wp_core.specs.States.{WriteState}
 use Rattle.wp_core.specs.World.{World, history}
 use Rattle.wp_parts.specs.VersionSet.{VersionSetState}
 use Rattle.wp_shared.specs.Ended.{IsFrom}
@@ -48,10 +48,10 @@ OpensFromBase id entries edit log manifest tables = (history : List Entry) × Is
 abbrev pub OpensFrom : List Entry → VersionSetState → VersionSetState → InstalledEdit → Type 0
 OpensFrom seen old new next =
     old.set.manifest.log.id < 2 ^ 32
-    → (w : World) → Reaches w → w.installed ≡ old.table → StartsWith (history w) seen
+    → (w : World) → Reaches w → w.installed ≡ old.state → StartsWith (history w) seen
     → (entries : List Entry) → MaySpellAmid w.writes entries
-    → (log manifest tables : List ℕ) → SpellsCut old.set.manifest.log.id old.table.last.segment entries log → LeftInInstall old new manifest tables
-    → (edit : InstalledEdit) × ((edit ≡ old.table.last) ⊎ (edit ≡ next)) × OpensFromBase old.set.manifest.log.id entries edit log manifest tables
+    → (log manifest tables : List ℕ) → SpellsCut old.set.manifest.log.id old.state.last.segment entries log → LeftInInstall old new manifest tables
+    → (edit : InstalledEdit) × ((edit ≡ old.state.last) ⊎ (edit ≡ next)) × OpensFromBase old.set.manifest.log.id entries edit log manifest tables
 
 -- ... of what a seat had seen as the install began, between what it had seen before the call and after it. So that is so of each world
 -- in which the seat was in the midst of the install.

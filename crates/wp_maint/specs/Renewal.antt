@@ -21,7 +21,7 @@ use Rattle.wp_wal.specs.Segment.{NewSegmentState}
 use Rattle.wp_wal.specs.Spelling.{IsLogAt}
 use Rattle.wp_wal.specs.Wal.{LeavesCut, LosesNothingAt}
 use Rattle.wp_core.specs.Effects.{with_failed}
-use Rattle.wp_core.specs.Tables.{WriteState, Installed, writes, installed}
+use Rattle.wp_core.specs.States.{WriteState, Installed, writes, installed}
 use Rattle.wp_core.specs.Views.{frozen_stay, tables_failed, log_failed, log_stopped, stopped}
 use Rattle.wp_core.specs.Views as event
 use Rattle.wp_core.specs.World.{Participant}
@@ -43,7 +43,7 @@ use Rattle.wp_maint.specs.Moments.{LeftSince, OpensFromBase, OpensToSuch}
 -- The seat holds the write turn with this table of the log, taken last, and beneath it the tables turn with these tables; both are the
 -- store's.
 pub record HoldsBoth {D : Type 0} (z : SharedState D) (s : SeatState) (e : VersionSetState) (log : LogState) (table : WriteState) : Type 0 where
-  pub turn : HoldsTurn z s (writes table) (installed e.table ∷ []) (5 ∷ [])
+  pub turn : HoldsTurn z s (writes table) (installed e.state ∷ []) (5 ∷ [])
   pub edits_of_store : set_first z.first ≡ Some e.first
   pub log_of_store : log_first z.first ≡ Some log.first
 
@@ -55,8 +55,8 @@ pub record LogBecame {D : Type 0} (z : SharedState D) (t next : WriteState) (So 
   pub after : LogState
   pub of_store : log_first z.first ≡ Some before.first
   pub still_of_store : log_first z.first ≡ Some after.first
-  pub before_is : before.table ≡ t
-  pub after_is : after.table ≡ next
+  pub before_is : before.state ≡ t
+  pub after_is : after.state ≡ next
   pub log : IsLog before
   pub still_log : IsLog after
   pub so : So before after
@@ -65,11 +65,11 @@ pub record LogBecame {D : Type 0} (z : SharedState D) (t next : WriteState) (So 
 -- was acknowledged there. Once the segment is on the device for good, the history is at its place too, cut at its base. It is the
 -- segment of this history, and stands where that one has its place.
 pub record SurvivesBeside (old new : LogState) (segment : Option Segment) : Type 0 where
-  pub still : (c : Cut) → IsCut old.table.history c → c.base ≡ old.table.segment.base
-      → Passes (Leaves (IsLogAt old.wal.id old.table.segment.place c)) old.wal.moments new.wal.moments
-  pub durable : LosesNothingAt old.table.segment.place old.wal.moments new.wal.moments
-  pub beside : IfSome segment (λ s. (s.base ≡ length old.table.history) × (s.place ≢ old.table.segment.place)
-      × IfKnown new.wal.moments (LeavesCut old.wal.id s.place (cut_at old.table.history s.base)))
+  pub still : (c : Cut) → IsCut old.state.history c → c.base ≡ old.state.segment.base
+      → Passes (Leaves (IsLogAt old.wal.id old.state.segment.place c)) old.wal.moments new.wal.moments
+  pub durable : LosesNothingAt old.state.segment.place old.wal.moments new.wal.moments
+  pub beside : IfSome segment (λ s. (s.base ≡ length old.state.history) × (s.place ≢ old.state.segment.place)
+      × IfKnown new.wal.moments (LeavesCut old.wal.id s.place (cut_at old.state.history s.base)))
   pub placed : IfSome segment (λ s. (written : NewSegmentState) × IsSegmentOf old written × IsPlaceOf old written s.place)
 
 -- First the tables' device is called, then the log's, and then the manifest's, each while the others are as they are then. That the code
@@ -96,7 +96,7 @@ pub record NamesEdit (s : VersionSetState) (manifest tables : List ℕ) (edit : 
 -- with its tables; and at the place that this edit names the log spells the history, cut at the edit's base.
 abbrev pub NamesItsSegment : VersionSetState → VersionSetState → LogState → LogState → Option InstalledEdit → Type 0
 NamesItsSegment old new log moved asked = (l m t : List ℕ) → LeftInRenewal old new log moved l m t
-    → (edit : InstalledEdit) × ((edit ≡ old.table.last) ⊎ (asked ≡ Some edit)) × NamesEdit old m t edit × IsLogAt log.wal.id edit.segment.place (cut_at log.table.history edit.segment.base) l
+    → (edit : InstalledEdit) × ((edit ≡ old.state.last) ⊎ (asked ≡ Some edit)) × NamesEdit old m t edit × IsLogAt log.wal.id edit.segment.place (cut_at log.state.history edit.segment.base) l
 
 -- the edit's base is where the history ends, which is no undo, and the history covers it
 abbrev pub IsAtEnd : List Entry → InstalledEdit → Type 0
@@ -107,7 +107,7 @@ IsAtEnd history edit = (undone_last history ≡ None) × IsEditCovered history e
 abbrev pub OpensInRenewal : VersionSetState → VersionSetState → LogState → LogState → Option InstalledEdit → Type 0
 OpensInRenewal old new log moved asked =
     (l m t : List ℕ) → LeftInRenewal old new log moved l m t
-    → (edit : InstalledEdit) × ((edit ≡ old.table.last) ⊎ (asked ≡ Some edit)) × OpensFromBase old.set.manifest.log.id log.table.history edit l m t
+    → (edit : InstalledEdit) × ((edit ≡ old.state.last) ⊎ (asked ≡ Some edit)) × OpensFromBase old.set.manifest.log.id log.state.history edit l m t
 
 -- While no device is called, whatever a crash leaves of the three opens to a list that is such entries from the base of such an edit on,
 -- and to that edit.
@@ -206,11 +206,11 @@ pub record HasRenewed {D : Type 0} (Goes : Participant → Type 0) (z : SharedSt
   pub carried : done.carried ≡ length (undecided new.knows.participant.seen)
   pub place : ℕ
   pub left : HeldTables z old new new.knows.participant.past (record e { last = after_renewal new.knows.participant.seen place e.last })
-  pub table : TablesBecame z e (record e { last = after_renewal new.knows.participant.seen place e.last })
+  pub state : TablesBecame z e (record e { last = after_renewal new.knows.participant.seen place e.last })
       (λ before after. after.parts ≡ new_parts (sorted_of (unflushed new.knows.participant.seen e.last)) ++ before.parts)
   pub survives : SurvivesInstall table.before table.after (after_renewal new.knows.participant.seen place e.last)
   pub log : LogBecame z busy.unclosed.0 (record busy.unclosed.0 { segment = record { place = place; base = length new.knows.participant.seen }; next = None })
-      (λ before after. SurvivesBeside before after (Some after.table.segment) × NamesItsSegment table.before table.after before after (Some (after_renewal new.knows.participant.seen place e.last)))
+      (λ before after. SurvivesBeside before after (Some after.state.segment) × NamesItsSegment table.before table.after before after (Some (after_renewal new.knows.participant.seen place e.last)))
   pub goes_on : Goes (with_events (found_by z old new e found ∷ event.renewed (after_renewal new.knows.participant.seen place e.last) ∷ []) old.knows.participant)
 
 -- what it answers and leaves where it finds these tables

@@ -25,13 +25,13 @@ fn flush_ready<D: Disk + Drop, R: Wait>(
     ready: ReadyFlush,
 ) -> Result<Done, MaintError>
     requires holds { HoldsEdits store.now seat.old edits.old }
-    requires in_step { KnowsTables seat.old.knows edits.old.table.last }
-    requires running { edits.old.table.halted ≡ false }
+    requires in_step { KnowsTables seat.old.knows edits.old.state.last }
+    requires running { edits.old.state.halted ≡ false }
     requires ready { HasReady seat.old.knows edits.old ready × (1 ≤ length (versions_of ready.frozen)) }
     requires whole { SawWhole store.now seat.old seat.old.knows.participant.seen }
     ensures holds { HoldsEdits store.now seat.new edits.new }
-    ensures in_step { KnowsTables seat.new.knows edits.new.table.last }
-    ensures says { FlushesFrom (GoesOnAs seat.old seat.new) store.now seat.old edits.old.table result seat.new }
+    ensures in_step { KnowsTables seat.new.knows edits.new.state.last }
+    ensures says { FlushesFrom (GoesOnAs seat.old seat.new) store.now seat.old edits.old.state result seat.new }
     ensures untouched { IfErr result (UnlessFault (edits.new ≡ edits.old)) }
 {
     let ReadyFlush {
@@ -60,11 +60,11 @@ fn flush_running<D: Disk + Drop, R: Wait>(
     edits: &mut VersionSet<D>,
 ) -> Result<Done, MaintError>
     requires holds { HoldsEdits store.now seat.old edits.old }
-    requires in_step { KnowsTables seat.old.knows edits.old.table.last }
-    requires running { edits.old.table.halted ≡ false }
+    requires in_step { KnowsTables seat.old.knows edits.old.state.last }
+    requires running { edits.old.state.halted ≡ false }
     ensures holds { HoldsEdits store.now seat.new edits.new }
-    ensures in_step { KnowsTables seat.new.knows edits.new.table.last }
-    ensures says { FlushesFrom (GoesOnAs seat.old seat.new) store.now seat.old edits.old.table result seat.new }
+    ensures in_step { KnowsTables seat.new.knows edits.new.state.last }
+    ensures says { FlushesFrom (GoesOnAs seat.old seat.new) store.now seat.old edits.old.state result seat.new }
     ensures untouched { IfErr result (UnlessFault (edits.new ≡ edits.old)) }
 {
     let Ok(found) = freeze_all(store, rt, seat, edits) else {
@@ -88,10 +88,10 @@ fn flush_in<D: Disk + Drop, R: Wait>(
     edits: &mut VersionSet<D>,
 ) -> Result<Done, MaintError>
     requires holds { HoldsEdits store.now seat.old edits.old }
-    requires in_step { KnowsTables seat.old.knows edits.old.table.last }
+    requires in_step { KnowsTables seat.old.knows edits.old.state.last }
     ensures holds { HoldsEdits store.now seat.new edits.new }
-    ensures in_step { KnowsTables seat.new.knows edits.new.table.last }
-    ensures says { FlushesFrom (GoesOnAs seat.old seat.new) store.now seat.old edits.old.table result seat.new }
+    ensures in_step { KnowsTables seat.new.knows edits.new.state.last }
+    ensures says { FlushesFrom (GoesOnAs seat.old seat.new) store.now seat.old edits.old.state result seat.new }
     ensures untouched { IfErr result (UnlessFault (edits.new ≡ edits.old)) }
 {
     if edits.is_halted() {

@@ -1,8 +1,8 @@
 //! What stands in memory is frozen, for a flush or a renewal to write, and all memory is taken for the edit with it.
 ghost use Rattle.std.specs.Prelude.{◌≡◌, [], ◌∷◌, IfOk};
 ghost use Rattle.wp_core.specs.Sound.Actors.{StartsWith};
-ghost use Rattle.wp_core.specs.Tables.{installed, writes};
-ghost use Rattle.wp_core.specs.Tables as table;
+ghost use Rattle.wp_core.specs.States.{installed, writes};
+ghost use Rattle.wp_core.specs.States as table;
 ghost use Rattle.wp_core.specs.Turns.{write_turn};
 ghost use Rattle.wp_core.specs.World.{Actor, World};
 ghost use Rattle.wp_rule.specs.Knows.{KnowsTables};
@@ -63,14 +63,14 @@ pub fn freeze_in<D: Disk + Drop>(
     log: &Log<D>,
     stock: &mut Stock,
 ) -> Result<Frozen, AllocError>
-    requires holds { HoldsTurn store.now seat.old (table.store (store_state stock.old)) (writes log.now.table ∷ installed edits.now.table ∷ []) (0 ∷ 5 ∷ []) }
-    requires pending { log.now.table.pending ≡ [] }
-    requires seen { seat.old.knows.participant.seen ≡ log.now.table.history }
-    requires in_step { KnowsTables seat.old.knows edits.now.table.last }
+    requires holds { HoldsTurn store.now seat.old (table.store (store_state stock.old)) (writes log.now.state ∷ installed edits.now.state ∷ []) (0 ∷ 5 ∷ []) }
+    requires pending { log.now.state.pending ≡ [] }
+    requires seen { seat.old.knows.participant.seen ≡ log.now.state.history }
+    requires in_step { KnowsTables seat.old.knows edits.now.state.last }
     requires stands { (w : World) × Stands store.now seat.old w }
     ensures goes { GoesOn no_fact seat.old.knows.held seat.old.turns seat.old seat.new }
     ensures same { store_state stock.new ≡ store_state stock.old }
-    ensures frozen { IfOk result (λ frozen. HasFrozen seat.new.knows edits.now.table frozen × (versions_of frozen ≡ (store_state stock.old).memory)) }
+    ensures frozen { IfOk result (λ frozen. HasFrozen seat.new.knows edits.now.state frozen × (versions_of frozen ≡ (store_state stock.old).memory)) }
 {
     let frozen = freeze(stock, log.published())?;
     note_frozen(store, seat, edits, stock, &frozen);
@@ -85,14 +85,14 @@ fn freeze_some<D: Disk + Drop>(
     log: &Log<D>,
     stock: &mut Stock,
 ) -> Result<Option<Frozen>, AllocError>
-    requires holds { HoldsTurn store.now seat.old (table.store (store_state stock.old)) (writes log.now.table ∷ installed edits.now.table ∷ []) (0 ∷ 5 ∷ []) }
-    requires pending { log.now.table.pending ≡ [] }
-    requires seen { seat.old.knows.participant.seen ≡ log.now.table.history }
-    requires in_step { KnowsTables seat.old.knows edits.now.table.last }
+    requires holds { HoldsTurn store.now seat.old (table.store (store_state stock.old)) (writes log.now.state ∷ installed edits.now.state ∷ []) (0 ∷ 5 ∷ []) }
+    requires pending { log.now.state.pending ≡ [] }
+    requires seen { seat.old.knows.participant.seen ≡ log.now.state.history }
+    requires in_step { KnowsTables seat.old.knows edits.now.state.last }
     requires stands { (w : World) × Stands store.now seat.old w }
     ensures goes { GoesOn no_fact seat.old.knows.held seat.old.turns seat.old seat.new }
     ensures same { store_state stock.new ≡ store_state stock.old }
-    ensures frozen { IfOk result (Freezes seat.new.knows edits.now.table) }
+    ensures frozen { IfOk result (Freezes seat.new.knows edits.now.state) }
 {
     if stock.is_flushed() {
         return Ok(None);
@@ -109,11 +109,11 @@ pub(crate) fn freeze_all<D: Disk + Drop, R: Wait>(
     edits: &VersionSet<D>,
 ) -> Result<Option<Frozen>, AllocError>
     requires holds { HoldsEdits store.now seat.old edits.now }
-    requires in_step { KnowsTables seat.old.knows edits.now.table.last }
-    ensures goes { GoesOn (is_under write_turn) (installed edits.now.table ∷ []) seat.old.turns (seeing seat.new.knows.participant.seen seat.old) seat.new }
+    requires in_step { KnowsTables seat.old.knows edits.now.state.last }
+    ensures goes { GoesOn (is_under write_turn) (installed edits.now.state ∷ []) seat.old.turns (seeing seat.new.knows.participant.seen seat.old) seat.new }
     ensures grown { StartsWith seat.new.knows.participant.seen seat.old.knows.participant.seen }
     ensures whole { SawWhole store.now seat.old seat.new.knows.participant.seen }
-    ensures frozen { IfOk result (Freezes seat.new.knows edits.now.table) }
+    ensures frozen { IfOk result (Freezes seat.new.knows edits.now.state) }
 {
     let log = store.take_log(rt, seat);
     let mut stock = store.take_turn::<Stock, R>(rt, seat);
@@ -125,8 +125,8 @@ pub(crate) fn freeze_all<D: Disk + Drop, R: Wait>(
 
 /// Takes all the memory of an edit with what is frozen.
 pub fn make_ready<D: Disk>(edits: &VersionSet<D>, frozen: Frozen) -> Result<ReadyFlush, AllocError>
-    requires { (a : Actor) × HasFrozen a edits.now.table frozen }
-    ensures { IfOk result (λ ready. (a : Actor) → HasFrozen a edits.now.table frozen → HasReady a edits.now ready) }
+    requires { (a : Actor) × HasFrozen a edits.now.state frozen }
+    ensures { IfOk result (λ ready. (a : Actor) → HasFrozen a edits.now.state frozen → HasReady a edits.now ready) }
 {
     let versions = frozen.parts.merged()?;
     let edit = edits.ready(Gone::Frozen, &versions, frozen.at)?;

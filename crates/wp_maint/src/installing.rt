@@ -27,15 +27,15 @@ fn write_edit<D: Disk>(
     edits: &mut VersionSet<D>,
     mut edit: ReadyInstall,
 ) -> Result<Option<Arc<Table>>, Failed>
-    requires running { edits.old.table.halted ≡ false }
+    requires running { edits.old.state.halted ≡ false }
     requires edits { IsEdits edits.old }
     requires ready { IsReadyFor edits.old edit }
     ensures table { IfOk result (λ table. option_map arc_value table ≡ one_part edit.edit.asked.versions) }
-    ensures installed { OnOk result (edits.new.table ≡ record edits.old.table { last = next_of edit.edit.asked edits.old.table.last }) }
+    ensures installed { OnOk result (edits.new.state ≡ record edits.old.state { last = next_of edit.edit.asked edits.old.state.last }) }
     ensures parts { OnOk result (edits.new.parts ≡ parts_after edit.edit.asked edits.old.parts) }
-    ensures refused { OnErr result ((edits.new.table ≡ with_failed edits.old.table edits.new.table.failed) × IfSome edits.new.table.failed (λ asked. asked ≡ next_of edit.edit.asked edits.old.table.last)) }
+    ensures refused { OnErr result ((edits.new.state ≡ with_failed edits.old.state edits.new.state.failed) × IfSome edits.new.state.failed (λ asked. asked ≡ next_of edit.edit.asked edits.old.state.last)) }
     ensures cause { OnErr result (HadCause edits.old.set edits.new.set) }
-    ensures survives { SurvivesInstall edits.old edits.new (next_of edit.edit.asked edits.old.table.last) }
+    ensures survives { SurvivesInstall edits.old edits.new (next_of edit.edit.asked edits.old.state.last) }
     ensures first { edits.new.first ≡ edits.old.first }
 {
     let segment = edits.segment();
@@ -53,12 +53,12 @@ pub fn install<D: Disk + Drop>(
 ) -> Result<Option<Arc<Table>>, Failed>
     requires holds { HoldsEdits store.now seat.old edits.old }
     requires ready { IsReadyFor edits.old edit }
-    requires may { MayInstall seat.old.knows edits.old.table edit.edit.asked }
+    requires may { MayInstall seat.old.knows edits.old.state edit.edit.asked }
     ensures table { IfOk result (λ table. option_map arc_value table ≡ one_part edit.edit.asked.versions) }
-    ensures installed { OnOk result (HasInstalled store.now seat.old edits.old (next_of edit.edit.asked edits.old.table.last) (is_compaction edit.edit.asked.gone) seat.new edits.new) }
+    ensures installed { OnOk result (HasInstalled store.now seat.old edits.old (next_of edit.edit.asked edits.old.state.last) (is_compaction edit.edit.asked.gone) seat.new edits.new) }
     ensures parts { OnOk result (edits.new.parts ≡ parts_after edit.edit.asked edits.old.parts) }
     ensures gone { OnOk result (edit.edit.asked.gone ≡ Tables → Noted seat.new.knows nothing_flushed) }
-    ensures refused { OnErr result (HasBroken store.now seat.old edits.old (next_of edit.edit.asked edits.old.table.last) seat.new edits.new) }
+    ensures refused { OnErr result (HasBroken store.now seat.old edits.old (next_of edit.edit.asked edits.old.state.last) seat.new edits.new) }
 {
     edits.devices_agree();
     let gone = edit.gone();
@@ -96,10 +96,10 @@ pub fn put_table<D: Disk + Drop, R: Wait>(
     frozen: Frozen,
     table: Option<Arc<Table>>,
 )
-    requires holds { HoldsTables store.now seat.old edits.now.table }
-    requires may { MayPut seat.old.knows edits.now.table frozen (option_map arc_value table) }
+    requires holds { HoldsTables store.now seat.old edits.now.state }
+    requires may { MayPut seat.old.knows edits.now.state frozen (option_map arc_value table) }
     ensures goes { GoesOn is_of_tables seat.old.knows.held seat.old.turns seat.old seat.new }
-    ensures in_step { KnowsTables seat.new.knows edits.now.table.last }
+    ensures in_step { KnowsTables seat.new.knows edits.now.state.last }
 {
     let Frozen {
         at,

@@ -6,7 +6,7 @@ ghost use Rattle.wp_outside.specs.Disk.{images};
 ghost use Rattle.wp_replies.specs.Tables.{after_renewal};
 ghost use Rattle.wp_core.specs.Images.{MayName, MaySpell};
 ghost use Rattle.wp_core.specs.Runs.{Reaches};
-ghost use Rattle.wp_core.specs.Tables.{Installed};
+ghost use Rattle.wp_core.specs.States.{Installed};
 ghost use Rattle.wp_core.specs.World.{World};
 ghost use Rattle.wp_shared.specs.Calls.{Continues};
 ghost use Rattle.wp_parts.specs.VersionSet.{VersionSetState, IsEdits};
@@ -24,16 +24,16 @@ ghost use Rattle.wp_parts.specs.Log.{LogState, IsLog};
 /// and to the last edit or the next one. The install is any whose edit is covered by what was seen before it and names the segment in
 /// use: a flush's, or a compaction's.
 pub fn installs_open_throughout()
-    ensures { (seen : List Entry) (old new : VersionSetState) (next : InstalledEdit) → IsEdits old → old.table.halted ≡ false → SurvivesInstall old new next → IsEditCovered seen next
-        → next.segment ≡ old.table.last.segment → OpensFrom seen old new next }
+    ensures { (seen : List Entry) (old new : VersionSetState) (next : InstalledEdit) → IsEdits old → old.state.halted ≡ false → SurvivesInstall old new next → IsEditCovered seen next
+        → next.segment ≡ old.state.last.segment → OpensFrom seen old new next }
 {}
 
 /// Whatever a crash leaves of the three devices at a moment of a renewal: the manifest spells the old edits, or those and the new one; and
 /// at the place that the last of them names the log spells the history, cut at that edit's base. The renewal is any whose edit was
 /// installed, or failed in its install, behind the write of its segment; or that broke off before, with the manifest uncalled.
 pub fn a_renewal_leaves_each_edit_its_segment()
-    ensures { (old new : VersionSetState) (log moved : LogState) (next : InstalledEdit) → IsEdits old → old.table.halted ≡ false → SurvivesInstall old new next
-        → IsLog log → log.table.closed ≡ false → log.table.log ≡ log.table.history → log.table.segment ≡ old.table.last.segment
+    ensures { (old new : VersionSetState) (log moved : LogState) (next : InstalledEdit) → IsEdits old → old.state.halted ≡ false → SurvivesInstall old new next
+        → IsLog log → log.state.closed ≡ false → log.state.log ≡ log.state.history → log.state.segment ≡ old.state.last.segment
         → (asked : Option InstalledEdit) → IfSome asked (λ edit. edit ≡ next) → (asked ≡ None → IsUncalled old new) → SurvivesBeside log moved (segment_of asked) → NamesItsSegment old new log moved asked }
 {}
 
@@ -46,11 +46,11 @@ pub fn a_renewal_leaves_each_edit_its_segment()
 /// asked for or in its install; in which the log's device failed; or that wants memory. What the call tells is enough then, and that the
 /// devices are one store's, as `Shared::shows_one_store` tells.
 pub fn renewals_open_throughout<D>()
-    ensures amid { (old new : VersionSetState) (log moved : LogState) (asked : Option InstalledEdit) → IsLog log → IfSome asked (IsAtEnd log.table.history)
+    ensures amid { (old new : VersionSetState) (log moved : LogState) (asked : Option InstalledEdit) → IsLog log → IfSome asked (IsAtEnd log.state.history)
         → NamesItsSegment old new log moved asked → old.set.manifest.log.id < 2 ^ 32 → log.wal.id ≡ old.set.manifest.log.id
-        → (w : World) → Reaches w → w.installed ≡ old.table → w.writes ≡ log.table → OpensInRenewal old new log moved asked }
+        → (w : World) → Reaches w → w.installed ≡ old.state → w.writes ≡ log.state → OpensInRenewal old new log moved asked }
     ensures renewed { (z : SharedState D) (old new : SeatState) (e : Installed) → IsOneStore z.opened z.first → (done : Renewed) (k : HasRenewed (Continues z old new) z old new e done)
-        → OpensInRenewal k.table.before k.table.after k.log.before k.log.after (Some (after_renewal new.knows.participant.seen k.place e.last)) }
+        → OpensInRenewal k.state.before k.state.after k.log.before k.log.after (Some (after_renewal new.knows.participant.seen k.place e.last)) }
     ensures broken_off { (z : SharedState D) (old new : SeatState) (e : Installed) → IsOneStore z.opened z.first → (k : HasBrokenOff (Continues z old new) z old new e)
         → OpensInRenewal k.fault.before k.fault.after k.log.before k.log.after k.asked }
     ensures log_fault { (z : SharedState D) (old new : SeatState) (e : Installed) → IsOneStore z.opened z.first → (k : HasLogFault (Continues z old new) z old new e)
@@ -71,11 +71,11 @@ pub fn renewals_open_throughout<D>()
 pub fn refused_renewals_open_throughout<D>()
     ensures each { (z : SharedState D) → IsOneStore z.opened z.first → (edits : VersionSetState) → IsEdits edits → EditsStand edits → set_first z.first ≡ Some edits.first
         → (log : LogState) → IsLog log → LogStands log → log_first z.first ≡ Some log.first
-        → (w : World) → Reaches w → w.installed ≡ edits.table → w.writes ≡ log.table → OpensUnmoved (MaySpell log.table) (MayName edits.table) edits log }
+        → (w : World) → Reaches w → w.installed ≡ edits.state → w.writes ≡ log.state → OpensUnmoved (MaySpell log.state) (MayName edits.state) edits log }
     ensures amid { (z : SharedState D) → IsOneStore z.opened z.first → (edits : VersionSetState) → IsEdits edits → EditsStand edits → set_first z.first ≡ Some edits.first
-        → (w : World) → Reaches w → w.installed ≡ edits.table
+        → (w : World) → Reaches w → w.installed ≡ edits.state
         → (l m t : List ℕ) → SpellsNamed edits.set.manifest.log.id w l → images edits.set.manifest.log.moments m → images edits.set.moments t
-        → OpensToSuch (MaySpellAmid w.writes) (MayName edits.table) edits.set.manifest.log.id l m t }
+        → OpensToSuch (MaySpellAmid w.writes) (MayName edits.state) edits.set.manifest.log.id l m t }
     ensures closed { (z : SharedState D) (old new : SeatState) (e : Installed) → IsOneStore z.opened z.first → (n : ℕ) (k : IsClosed (Continues z old new) z old new e n)
         → OpensUnmoved (MaySpell k.closed.0) (λ edit. edit ≡ e.last) k.tables.before k.log.before }
     ensures nothing { (z : SharedState D) (old new : SeatState) (e : Installed) → IsOneStore z.opened z.first → (k : IsRenewed (Continues z old new) z old new e)

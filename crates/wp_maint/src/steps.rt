@@ -5,8 +5,8 @@ ghost use Rattle.wp_model.specs.Versions.{version_at};
 ghost use Rattle.wp_core.specs.Effects.{with_failed};
 ghost use Rattle.wp_core.specs.Lists.{IsIn};
 ghost use Rattle.wp_core.specs.Sound.Store.{NoneFlushed};
-ghost use Rattle.wp_core.specs.Tables.{Content, StoreState, Installed, installed};
-ghost use Rattle.wp_core.specs.Tables as table;
+ghost use Rattle.wp_core.specs.States.{Content, StoreState, Installed, installed};
+ghost use Rattle.wp_core.specs.States as table;
 ghost use Rattle.wp_core.specs.Views.{tables_failed, tables_stay, nothing_flushed, frozen_stay};
 ghost use Rattle.wp_core.specs.Views as event;
 ghost use Rattle.wp_core.specs.World.{World};
@@ -39,8 +39,8 @@ pub fn find_edits<D: Disk + Drop>(store: &Shared<D>, seat: &mut Seat<D>)
 /// The edit of a flush was installed.
 fn remember_flush<D: Disk + Drop>(store: &Shared<D>, seat: &mut Seat<D>, edits: &VersionSet<D>)
     requires seat { seat.old.table ≡ store.now.table }
-    requires held { (t : Installed) × (seat.old.knows.held ≡ installed t ∷ []) × (edits.now.table ≡ record t { last = edits.now.table.last }) × KnowsInstalled seat.old.knows t edits.now.table.last false }
-    ensures goes { GoesOn is_of_flushed (installed edits.now.table ∷ []) seat.old.turns (with_participant (with_events (event.installed edits.now.table.last false ∷ []) seat.old.knows.participant) seat.old) seat.new }
+    requires held { (t : Installed) × (seat.old.knows.held ≡ installed t ∷ []) × (edits.now.state ≡ record t { last = edits.now.state.last }) × KnowsInstalled seat.old.knows t edits.now.state.last false }
+    ensures goes { GoesOn is_of_flushed (installed edits.now.state ∷ []) seat.old.turns (with_participant (with_events (event.installed edits.now.state.last false ∷ []) seat.old.knows.participant) seat.old) seat.new }
     ensures stands { (w : World) × Stands store.now seat.new w }
 {
     store.make_about::<Brand, VersionSet<D>>(seat, edits);
@@ -49,10 +49,10 @@ fn remember_flush<D: Disk + Drop>(store: &Shared<D>, seat: &mut Seat<D>, edits: 
 /// A device of the tables failed.
 fn remember_fault<D: Disk + Drop>(store: &Shared<D>, seat: &mut Seat<D>, edits: &VersionSet<D>)
     requires seat { seat.old.table ≡ store.now.table }
-    requires held { (t : Installed) × (seat.old.knows.held ≡ installed t ∷ []) × (edits.now.table ≡ with_failed t edits.now.table.failed) × (t.halted ≡ false) }
-    requires covered { IfSome edits.now.table.failed (IsEditCovered seat.old.knows.participant.seen) }
-    requires segment { IfSome edits.now.table.failed (λ edit. edit.segment ≡ edits.now.table.last.segment) }
-    ensures goes { GoesOn no_fact (installed edits.now.table ∷ []) seat.old.turns (with_participant (with_events (tables_failed edits.now.table.last edits.now.table.failed ∷ []) seat.old.knows.participant) seat.old) seat.new }
+    requires held { (t : Installed) × (seat.old.knows.held ≡ installed t ∷ []) × (edits.now.state ≡ with_failed t edits.now.state.failed) × (t.halted ≡ false) }
+    requires covered { IfSome edits.now.state.failed (IsEditCovered seat.old.knows.participant.seen) }
+    requires segment { IfSome edits.now.state.failed (λ edit. edit.segment ≡ edits.now.state.last.segment) }
+    ensures goes { GoesOn no_fact (installed edits.now.state ∷ []) seat.old.turns (with_participant (with_events (tables_failed edits.now.state.last edits.now.state.failed ∷ []) seat.old.knows.participant) seat.old) seat.new }
     ensures stands { (w : World) × Stands store.now seat.new w }
 {
     store.make_about::<Brand, VersionSet<D>>(seat, edits);
@@ -61,9 +61,9 @@ fn remember_fault<D: Disk + Drop>(store: &Shared<D>, seat: &mut Seat<D>, edits: 
 /// The edit of a compaction was installed. No flushed version is in memory, as before.
 fn remember_compaction<D: Disk + Drop>(store: &Shared<D>, seat: &mut Seat<D>, edits: &VersionSet<D>)
     requires seat { (seat.old.table ≡ store.now.table) × (seat.old.knows.live ≡ true) }
-    requires held { (t : Installed) × (seat.old.knows.held ≡ installed t ∷ []) × (edits.now.table ≡ record t { last = edits.now.table.last }) × KnowsInstalled seat.old.knows t edits.now.table.last true }
+    requires held { (t : Installed) × (seat.old.knows.held ≡ installed t ∷ []) × (edits.now.state ≡ record t { last = edits.now.state.last }) × KnowsInstalled seat.old.knows t edits.now.state.last true }
     requires gone { Noted seat.old.knows nothing_flushed }
-    ensures goes { GoesOn is_of_flushed (installed edits.now.table ∷ []) seat.old.turns (with_participant (with_events (event.installed edits.now.table.last true ∷ []) seat.old.knows.participant) seat.old) seat.new }
+    ensures goes { GoesOn is_of_flushed (installed edits.now.state ∷ []) seat.old.turns (with_participant (with_events (event.installed edits.now.state.last true ∷ []) seat.old.knows.participant) seat.old) seat.new }
     ensures gone { Noted seat.new.knows nothing_flushed }
     ensures stands { (w : World) × Stands store.now seat.new w }
 {
@@ -78,9 +78,9 @@ pub(crate) fn remember_install<D: Disk + Drop>(
     gone: Gone,
 )
     requires seat { (seat.old.table ≡ store.now.table) × (seat.old.knows.live ≡ true) }
-    requires held { (t : Installed) × (seat.old.knows.held ≡ installed t ∷ []) × (edits.now.table ≡ record t { last = edits.now.table.last }) × KnowsInstalled seat.old.knows t edits.now.table.last (is_compaction gone) }
+    requires held { (t : Installed) × (seat.old.knows.held ≡ installed t ∷ []) × (edits.now.state ≡ record t { last = edits.now.state.last }) × KnowsInstalled seat.old.knows t edits.now.state.last (is_compaction gone) }
     requires gone { gone ≡ Tables → Noted seat.old.knows nothing_flushed }
-    ensures changes { (t : Installed) → seat.old.knows.held ≡ installed t ∷ [] → Changes store.now seat.old t edits.now.table (event.installed edits.now.table.last (is_compaction gone)) is_of_flushed seat.new }
+    ensures changes { (t : Installed) → seat.old.knows.held ≡ installed t ∷ [] → Changes store.now seat.old t edits.now.state (event.installed edits.now.state.last (is_compaction gone)) is_of_flushed seat.new }
     ensures gone { gone ≡ Tables → Noted seat.new.knows nothing_flushed }
     ensures stands { (w : World) × Stands store.now seat.new w }
 {
@@ -94,10 +94,10 @@ pub(crate) fn remember_install<D: Disk + Drop>(
 /// A device of the tables failed, where they were found so.
 pub fn halt<D: Disk + Drop>(store: &Shared<D>, seat: &mut Seat<D>, edits: &VersionSet<D>)
     requires seat { seat.old.table ≡ store.now.table }
-    requires held { (t : Installed) × (seat.old.knows.held ≡ installed t ∷ []) × (edits.now.table ≡ with_failed t edits.now.table.failed) × (t.halted ≡ false) }
-    requires covered { IfSome edits.now.table.failed (IsEditCovered seat.old.knows.participant.seen) }
-    requires segment { IfSome edits.now.table.failed (λ edit. edit.segment ≡ edits.now.table.last.segment) }
-    ensures changes { (t : Installed) → seat.old.knows.held ≡ installed t ∷ [] → Changes store.now seat.old t edits.now.table (tables_failed edits.now.table.last edits.now.table.failed) no_fact seat.new }
+    requires held { (t : Installed) × (seat.old.knows.held ≡ installed t ∷ []) × (edits.now.state ≡ with_failed t edits.now.state.failed) × (t.halted ≡ false) }
+    requires covered { IfSome edits.now.state.failed (IsEditCovered seat.old.knows.participant.seen) }
+    requires segment { IfSome edits.now.state.failed (λ edit. edit.segment ≡ edits.now.state.last.segment) }
+    ensures changes { (t : Installed) → seat.old.knows.held ≡ installed t ∷ [] → Changes store.now seat.old t edits.now.state (tables_failed edits.now.state.last edits.now.state.failed) no_fact seat.new }
     ensures stands { (w : World) × Stands store.now seat.new w }
 {
     find_edits(store, seat);
@@ -113,7 +113,7 @@ pub fn note_frozen<D: Disk + Drop>(
     frozen: &Frozen,
 )
     requires seat { (seat.old.table ≡ store.now.table) × (seat.old.knows.live ≡ true) }
-    requires held { IsIn (installed edits.now.table) seat.old.knows.held × IsIn (table.store (store_state stock.now)) seat.old.knows.held }
+    requires held { IsIn (installed edits.now.state) seat.old.knows.held × IsIn (table.store (store_state stock.now)) seat.old.knows.held }
     requires seen { frozen.now.at ≤ length seat.old.knows.participant.seen }
     requires are { (key : List ℕ) (q : ℕ) → q ≤ frozen.now.at → version_at (store_state stock.now).memory key q ≡ version_at (versions_of frozen.now) key q }
     ensures { seat.new ≡ noting (frozen_stay frozen.now.at (versions_of frozen.now)) seat.old }
@@ -129,9 +129,9 @@ pub fn move_versions<D: Disk + Drop>(
     stock: &Stock,
 )
     requires seat { seat.old.table ≡ store.now.table }
-    requires held { (t : StoreState) × (others : List Content) × (seat.old.knows.held ≡ table.store t ∷ others) × IsIn (installed edits.now.table) others × ((store_state stock.now).floor ≡ t.floor)
-        × KnowsMoved t edits.now.table.last.flushed (store_state stock.now).memory (store_state stock.now).tables }
-    requires gone { NoneFlushed (store_state stock.now).memory edits.now.table.last.flushed }
+    requires held { (t : StoreState) × (others : List Content) × (seat.old.knows.held ≡ table.store t ∷ others) × IsIn (installed edits.now.state) others × ((store_state stock.now).floor ≡ t.floor)
+        × KnowsMoved t edits.now.state.last.flushed (store_state stock.now).memory (store_state stock.now).tables }
+    requires gone { NoneFlushed (store_state stock.now).memory edits.now.state.last.flushed }
     ensures goes { (t : StoreState) (others : List Content) → seat.old.knows.held ≡ table.store t ∷ others
         → GoesOn is_of_tables (table.store (store_state stock.now) ∷ others) seat.old.turns seat.old seat.new }
     ensures flushed { Noted seat.new.knows nothing_flushed }

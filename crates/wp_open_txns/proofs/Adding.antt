@@ -21,7 +21,7 @@ use Rattle.wp_model.specs.declared.holder.Holder.TheVariants.{Txn}
 use Rattle.wp_model.proofs.Words.{same_word}
 use Rattle.wp_core.specs.Lists.{IsIn}
 use Rattle.wp_core.specs.Views.{unprepared}
-use Rattle.wp_core.specs.Tables.{locks}
+use Rattle.wp_core.specs.States.{locks}
 use Rattle.wp_core.specs.Turns.{locks_turn}
 use Rattle.wp_core.specs.World.{Transaction, Participant}
 use Rattle.wp_model.proofs.Keyed.{at_inserted}

@@ -10,7 +10,7 @@ use Rattle.wp_model.specs.declared.holder.Holder.{Holder}
 use Rattle.wp_model.specs.declared.holder.Holder.TheVariants.{Txn}
 use Rattle.wp_locks.specs.Locks.{names_left}
 use Rattle.wp_core.specs.Lists.{IsIn}
-use Rattle.wp_core.specs.Tables.{Content, locks}
+use Rattle.wp_core.specs.States.{Content, locks}
 use Rattle.wp_core.specs.Turns.{locks_turn}
 use Rattle.wp_core.specs.Views.{Fact, claimed, found, told, unprepared}
 use Rattle.wp_core.specs.World.{Participant, Actor, World}

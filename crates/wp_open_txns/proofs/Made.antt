@@ -16,7 +16,7 @@ use Rattle.wp_model.specs.declared.holder.Holder.TheVariants.{Txn, Client}
 use Rattle.wp_locks.specs.Locks.{is_free_for}
 use Rattle.wp_model.specs.Holder.{is_same, is_same_txn}
 use Rattle.wp_core.specs.Lists.{IsIn}
-use Rattle.wp_core.specs.Tables.{locks}
+use Rattle.wp_core.specs.States.{locks}
 use Rattle.wp_core.specs.Views.{Account, Fact, passed, in_old_commits, apart, words_stay, has_left, versions_in_memory, versions_nowhere, number_in_heap, number_not_in_heap, pair_delayed, pair_not_delayed, none_waits, undecided_at, prior_values, unprepared, direct_free, tables_stay, live_listed, nothing_flushed, frozen_stay, delayed_flag_stays, old_flag_stays}
 use Rattle.wp_core.specs.World.{Transaction, Actor, World}
 use Rattle.wp_core.specs.Steps.{Step, load_published, claim_name, find_holder, lock_key, set_batch, free_transaction, leave_name, take_name, tell, hear, note}
@@ -103,7 +103,7 @@ has_its a name there = there_is (finite.get a.participant.transactions name) no_
 
 -- tables that the actor holds are the world's
 pub locks_are : (p : Place) (a : Actor) (w : World) (t : LockState) → IsAt p a w → IsIn (locks t) a.held → w.locks ≡ t
-locks_are p a w t k held = (has_locks p a w k (λ l. l ≡ t) (record { table = t; held = held; so_is = refl })).1
+locks_are p a w t k held = (has_locks p a w k (λ l. l ≡ t) (record { state = t; held = held; so_is = refl })).1
 
 -- what it has is in them
 module _ (p : Place) (a : Actor) (w : World) (k : IsAt p a w) (name : List ℕ) (x : Transaction) (has : HasTransaction a name x) where
@@ -126,7 +126,7 @@ name_claimed p so a b t name m held =
 
 pub may_find : (p : Place) (a : Actor) (t : LockState) (key : Option (List ℕ)) (holder : Holder) → IsIn (locks t) a.held → IsHolderIn t key holder
     → MayMake p a (λ w. find_holder key holder (account_of a.participant w.locks (length w.writes.history) key holder) ∷ [])
-may_find p a t key holder held is = finds_holder p a key holder (record { table = t; held = held; so_is = is })
+may_find p a t key holder held is = finds_holder p a key holder (record { state = t; held = held; so_is = is })
 
 pub holder_found : (p : Place) (so : World → Type 0) (s new : SeatState) (t : LockState) (key : Option (List ℕ)) (holder : Holder) → IsIn (locks t) s.knows.held → (new.table ≡ s.table) × (new.by ≡ s.by) × (new.turns ≡ s.turns)
     → Moved p (λ w. find_holder key holder (account_of s.knows.participant w.locks (length w.writes.history) key holder) ∷ []) so s.knows new.knows
@@ -149,7 +149,7 @@ not_free (Some holder) name free other = absurd (other (ap (λ (h : Holder). Som
 pub may_lock : (p : Place) (a : Actor) (t : LockState) (name key : List ℕ) → is_some (finite.get a.participant.transactions name) ≡ true → set.contains (transaction_in a.participant name).locked key ≡ false
     → IsIn (locks t) a.held → is_free_for (finite.get t.keys key) (Txn name) ≡ true → MayMake p a (λ w. lock_key name (transaction_in a.participant name) key ∷ [])
 may_lock p a t name key there unlocked held free w k =
-    let h = has_locks p a w k (λ l. is_free_for (finite.get l.keys key) (Txn name) ≡ true) (record { table = t; held = held; so_is = free }) in
+    let h = has_locks p a w k (λ l. is_free_for (finite.get l.keys key) (Txn name) ≡ true) (record { state = t; held = held; so_is = free }) in
     let has = has_its a name there in (
       (tt, tt),
       (
@@ -184,12 +184,12 @@ batch_set p so a b name batch m = all_made p (λ w. set_batch name (transaction_
 
 pub may_free : (p : Place) (a : Actor) (t : LockState) (name : List ℕ) → is_some (finite.get a.participant.transactions name) ≡ true → IsIn (locks t) a.held → IsIn (unprepared name) a.notes
     → MayMake p a (λ w. free_transaction name ∷ [])
-may_free p a t name there held noted = known_made p a (free_transaction name) tt (record { table = t; held = held; so_is = ((transaction_in a.participant name, has_its a name there), noted) })
+may_free p a t name there held noted = known_made p a (free_transaction name) tt (record { state = t; held = held; so_is = ((transaction_in a.participant name, has_its a name there), noted) })
 
 pub may_leave : (p : Place) (s : SeatState) (t : LockState) (x : PreparedState) → HasPrepared s x → IsIn (locks t) s.knows.held → MayMake p s.knows (λ w. leave_name x.name ∷ [])
 may_leave p s t x h held =
     known_made p s.knows (leave_name x.name) tt (record {
-      table = t;
+      state = t;
       held = held;
       so_is = (h.transaction, h.has, (x.number, h.noted, h.seen, λ key locked. ap (λ (o : Option Entry). is_changed (prepared_batch o) key) h.stands ∙ sym (h.keys key) ∙ locked));
     })
@@ -284,7 +284,7 @@ module _ (p : Place) (so : World → Type 0) (s new : SeatState) (same : (new.ta
             ap (λ (l : LockState). set.contains (keys_of_holder l (Txn name)) key) (sym are)
             ∙ both_ways (set.contains (keys_of_holder w.locks (Txn name)) key) (is_changed (batch_of_name h name) key) (λ locked. sound.keys_left key name left ((sound_later.had p.by 0 (owner_of new.knows.participant) own).keys name x key has locked))
             (λ changed. sound_later.keys_known key name (undecided_of p s.knows w k name q key (there_is (named h name) 0 there) changed) p.by 0 (owner_of new.knows.participant) own x has);
-        same = λ d holds. (has_writes p s.knows w k (λ e. e.history ≡ d.history) (record { table = d; held = holds; so_is = refl })).1;
+        same = λ d holds. (has_writes p s.knows w k (λ e. e.history ≡ d.history) (record { state = d; held = holds; so_is = refl })).1;
       }
 
   -- ---- the board
@@ -331,7 +331,7 @@ published_before z old by new t n same saw rest held seen = record {
 
 pub may_hear : (p : Place) (a : Actor) (t : LockState) (label : List ℕ) (n : ℕ) → IsIn (locks t) a.held → finite.get t.labels label ≡ Some n → MayMake p a (λ w. load_published ∷ hear label n ∷ [])
 may_hear p a t label n held there w k =
-    let h = has_locks p a w k (λ l. finite.get l.labels label ≡ Some n) (record { table = t; held = held; so_is = there }) in ((tt, (tt, tt)), (tt, ((h.0, h.1), tt)))
+    let h = has_locks p a w k (λ l. finite.get l.labels label ≡ Some n) (record { state = t; held = held; so_is = there }) in ((tt, (tt, tt)), (tt, ((h.0, h.1), tt)))
 
 pub may_tell : (p : Place) (a : Actor) (t : LockState) (label : List ℕ) → IsIn (locks t) a.held → MayMake p a (λ w. tell label ∷ [])
-may_tell p a t label held = known_made p a (tell label) tt (record { table = t; held = held; so_is = tt })
+may_tell p a t label held = known_made p a (tell label) tt (record { state = t; held = held; so_is = tt })

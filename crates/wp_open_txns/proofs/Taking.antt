@@ -14,7 +14,7 @@ use Rattle.wp_model.proofs.Found.{found_named}
 use Rattle.wp_locks.specs.Locks.{RefusesTake}
 use Rattle.wp_locks.specs.declared.error.LockError.TheVariants as lock_error
 use Rattle.wp_core.specs.Lists.{IsIn}
-use Rattle.wp_core.specs.Tables.{WriteState, writes, locks}
+use Rattle.wp_core.specs.States.{WriteState, writes, locks}
 use Rattle.wp_core.specs.Turns.{write_turn, locks_turn}
 use Rattle.wp_core.specs.Views.{Fact, found, undecided_at}
 use Rattle.wp_core.specs.World.{Transaction, Participant, Actor, World}
@@ -25,7 +25,7 @@ use Rattle.wp_model.proofs.Keyed.{at_inserted}
 use Rattle.wp_rule.specs.Accounts.{account_of}
 use Rattle.wp_rule.specs.Words.{Place, IsAt}
 use Rattle.wp_rule.proofs.Knows.{at_sound}
-use Rattle.wp_shared.proofs.Tables.{held_table}
+use Rattle.wp_shared.proofs.Tables.{held_state}
 use Rattle.wp_shared.specs.Seats.{SharedState, SeatState, place_at}
 use Rattle.wp_shared.specs.Calls.{Continues, with_events}
 use Rattle.wp_shared.specs.Notes.{no_fact, is_under, seat_of}
@@ -144,13 +144,13 @@ module _ {D : Type 0} (z : SharedState D) (old : SeatState) (d : WriteState) (s 
       locks_then = taken_are z s s2 t k2
 
       published_then : length found_then.writes.history ≡ length d.history
-      published_then = ap (λ (x : WriteState). length x.history) (held_table (place_at z s2.by) s2.knows found_then (writes d) k2.stands.1 log_held)
+      published_then = ap (λ (x : WriteState). length x.history) (held_state (place_at z s2.by) s2.knows found_then (writes d) k2.stands.1 log_held)
 
       stood_then : StoodWithBoth z old found_then
       stood_then = record {
         actor = s2.knows;
         there = subst (λ (by : ℕ). IsAt (place_at z by) s2.knows found_then) (ap (λ (x : SeatState). x.by) k2.seat ∙ ap (λ (x : SeatState). x.by) seat_then) k2.stands.1;
-        table = d;
+        state = d;
         held = ap (λ (x : SeatState). x.knows.held) k2.seat ∙ ap (λ (x : SeatState). locks t ∷ x.knows.held) seat_then ∙ ap (λ (l : LockState). locks l ∷ writes d ∷ old.knows.held) (sym locks_then);
         same = ap (λ (x : SeatState). record x.knows { held = s2.knows.held; notes = s2.knows.notes }) k2.seat ∙ ap (λ (x : SeatState). record x.knows { held = s2.knows.held; notes = s2.knows.notes }) seat_then;
       }

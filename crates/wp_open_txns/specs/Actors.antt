@@ -9,7 +9,7 @@ use Rattle.wp_model.specs.declared.holder.Holder.{Holder}
 use Rattle.wp_model.specs.declared.holder.Holder.TheVariants.{Txn, Client}
 use Rattle.wp_model.specs.History.{batch_at, named}
 use Rattle.wp_shared.specs.Notes.{with_note}
-use Rattle.wp_core.specs.Tables.{locks}
+use Rattle.wp_core.specs.States.{locks}
 use Rattle.wp_core.specs.Views.{claimed, took, locked, told, heard, found, stopped, unprepared, undecided_at, direct_free}
 use Rattle.wp_core.specs.World.{Transaction, Participant, Actor}
 use Rattle.wp_core.specs.Changes.{held_with, keys_of_holder, sees, remembers, has_transaction, has_no_transaction, has_direct, with_name, with_key, with_label}

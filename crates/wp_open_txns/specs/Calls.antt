@@ -9,7 +9,7 @@ use Rattle.wp_model.specs.declared.holder.Holder.TheVariants.{Txn}
 use Rattle.wp_model.specs.LockState.{LockState}
 use Rattle.wp_model.specs.Batch.{key_of, change_to, with_change}
 use Rattle.wp_model.specs.History.{named, is_changed}
-use Rattle.wp_core.specs.Tables.{WriteState, writes, locks}
+use Rattle.wp_core.specs.States.{WriteState, writes, locks}
 use Rattle.wp_core.specs.Views.{claimed, took, locked, told, heard, found}
 use Rattle.wp_core.specs.Lists.{IsIn}
 use Rattle.wp_core.specs.World.{Transaction, Participant, Actor, World}
@@ -118,7 +118,7 @@ Changes z old txn change (Err other) new left = ⊥
 pub record StoodWithBoth {D : Type 0} (z : SharedState D) (old : SeatState) (w : World) : Type 0 where
   pub actor : Actor
   pub there : IsAt (place_at z old.by) actor w
-  pub table : WriteState
+  pub state : WriteState
   pub held : actor.held ≡ locks w.locks ∷ writes table ∷ old.knows.held
   pub same : actor ≡ record old.knows { held = actor.held; notes = actor.notes }
 

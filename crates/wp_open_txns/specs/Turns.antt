@@ -7,7 +7,7 @@ use Rattle.wp_model.specs.History.{named, is_changed}
 use Rattle.wp_model.specs.LockState.{LockState}
 use Rattle.wp_core.specs.Entries.{batch_of_name}
 use Rattle.wp_core.specs.Lists.{IsIn}
-use Rattle.wp_core.specs.Tables.{WriteState, writes}
+use Rattle.wp_core.specs.States.{WriteState, writes}
 use Rattle.wp_core.specs.Views.{Fact, direct_free}
 use Rattle.wp_core.specs.Changes.{keys_of_holder}
 use Rattle.wp_core.specs.Sound.Actors.{StartsWith}

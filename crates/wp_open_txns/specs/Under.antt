@@ -11,7 +11,7 @@ use Rattle.wp_model.specs.Holder.{is_same_txn}
 use Rattle.wp_locks.specs.Locks.{is_free_for}
 use Rattle.wp_core.specs.Changes.{sees, with_name, with_key, with_label}
 use Rattle.wp_core.specs.Lists.{IsIn}
-use Rattle.wp_core.specs.Tables.{WriteState, writes}
+use Rattle.wp_core.specs.States.{WriteState, writes}
 use Rattle.wp_core.specs.Sound.Actors.{StartsWith}
 use Rattle.wp_shared.specs.Notes.{seat_of}
 use Rattle.wp_shared.specs.Seats.{SeatState}

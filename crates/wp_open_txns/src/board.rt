@@ -1,6 +1,6 @@
 //! The board: labels, each with the number that was told last under it.
 ghost use Rattle.std.specs.Prelude.{◌≡◌, [], length, OnOk};
-ghost use Rattle.wp_core.specs.Tables.{locks};
+ghost use Rattle.wp_core.specs.States.{locks};
 ghost use Rattle.wp_core.specs.World.{World};
 ghost use Rattle.wp_shared.specs.Seats.{IsFree, Stands, seen_by};
 ghost use Rattle.wp_shared.specs.Turns.{HoldsTurn};

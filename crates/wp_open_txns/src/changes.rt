@@ -2,7 +2,7 @@
 ghost use Rattle.std.specs.Prelude.{◌≡◌, [], true, false, is_some};
 ghost use Rattle.std.specs.FinSet as set;
 ghost use Rattle.std.specs.FinMap as finite;
-ghost use Rattle.wp_core.specs.Tables.{locks};
+ghost use Rattle.wp_core.specs.States.{locks};
 ghost use Rattle.wp_model.specs.declared.holder.Holder.TheVariants.{Txn};
 ghost use Rattle.wp_shared.specs.Seats.{IsFree, participant_of};
 ghost use Rattle.wp_shared.specs.Turns.{HoldsTurn};

@@ -1,7 +1,7 @@
 //! What locks and frees have in common, of transactions and of direct writes.
 ghost use Rattle.std.specs.Prelude.{[], OnErr};
 ghost use Rattle.wp_core.specs.Lists.{IsIn};
-ghost use Rattle.wp_core.specs.Tables.{locks};
+ghost use Rattle.wp_core.specs.States.{locks};
 ghost use Rattle.wp_core.specs.Views.{unprepared};
 ghost use Rattle.wp_shared.specs.Seats.{IsFree};
 ghost use Rattle.wp_shared.specs.Turns.{HoldsTurn};

@@ -1,6 +1,6 @@
 //! Open transactions begin with a name, and end with it.
 ghost use Rattle.std.specs.Prelude.{◌≡◌, []};
-ghost use Rattle.wp_core.specs.Tables.{locks};
+ghost use Rattle.wp_core.specs.States.{locks};
 ghost use Rattle.wp_shared.specs.Seats.{IsFree};
 ghost use Rattle.wp_shared.specs.Turns.{HoldsTurn};
 ghost use Rattle.wp_open_txns.specs.Calls.{Begins, GivesUp, LocksWere, IsFreeName};

@@ -1,7 +1,7 @@
 //! Prepared transactions that change hands.
 ghost use Rattle.std.specs.Prelude.{◌≡◌, ℕ, List, Some, None, IfOk};
 ghost use Rattle.std.specs.FinMap as finite;
-ghost use Rattle.wp_core.specs.Tables.{Content, locks};
+ghost use Rattle.wp_core.specs.States.{Content, locks};
 ghost use Rattle.wp_shared.specs.Seats.{IsFree};
 ghost use Rattle.wp_shared.specs.Turns.{HoldsTurn};
 ghost use Rattle.wp_open_txns.specs.Calls.{GivesUp, LocksWere, TakesPrepared};

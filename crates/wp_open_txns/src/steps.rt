@@ -10,7 +10,7 @@ ghost use Rattle.wp_locks.specs.Locks.{is_free_for};
 ghost use Rattle.wp_core.specs.Changes.{is_held_by, with_name, without_transaction};
 ghost use Rattle.wp_core.specs.Lists.{IsIn};
 ghost use Rattle.wp_core.specs.Sound.Actors.{StartsWith};
-ghost use Rattle.wp_core.specs.Tables.{locks};
+ghost use Rattle.wp_core.specs.States.{locks};
 ghost use Rattle.wp_core.specs.Views.{unprepared};
 ghost use Rattle.wp_core.specs.World.{World};
 ghost use Rattle.wp_shared.specs.Notes.{seat_of};

@@ -23,7 +23,7 @@ use Rattle.wp_refused.specs.Parts.{PartsOpened, ArePartsOf, LogsOpened, stored_c
 use Rattle.wp_refused.specs.Refused.{of_manifest, AreLeft, IsLeft, at_tables, IsRefusedFrom}
 use Rattle.wp_refused.specs.declared.error.OpenError.TheVariants as open_error
 use Rattle.wp_refused.proofs.BothOpen.{logs_left}
-use Rattle.wp_core.specs.Tables.{writes, installed}
+use Rattle.wp_core.specs.States.{writes, installed}
 use Rattle.wp_core.specs.Turns.{write_turn, tables_turn}
 use Rattle.wp_rule.specs.Shows.{WasLast}
 use Rattle.wp_rule.specs.Words.{first_edit_of}
@@ -31,8 +31,8 @@ use Rattle.wp_parts.specs.Log.{LogState}
 use Rattle.wp_parts.specs.VersionSet.{VersionSetState}
 use Rattle.wp_opened.specs.Filled.{AreFilled, running_set}
 use Rattle.wp_parts.specs.Parts.{content, log_first, set_first, IsGuardedBy}
-use Rattle.wp_parts.specs.declared.part.TurnValue.{TurnValue}
-use Rattle.wp_parts.specs.declared.part.TurnValue.TheVariants as part
+use Rattle.wp_parts.specs.declared.turn_value.TurnValue.{TurnValue}
+use Rattle.wp_parts.specs.declared.turn_value.TurnValue.TheVariants as part
 use Rattle.wp_parts.specs.Devices.{DevicesLeft, devices_behind}
 use Rattle.wp_shared.specs.Opening.{IsOneStore}
 
@@ -65,7 +65,7 @@ module _ {D : Type 0} (slots : List (TurnValue D)) (wal : WalState) (history : L
   set_there = ap set_first f.are ∙ ap (λ (edits : VersionSetState). Some edits.first) f.edits_are
 
   pub last_edit_is : (first : List (TurnValue D)) → first ≡ slots → WasLast content first (installed_of wal.segment.base set.manifest.edit store.tables)
-  last_edit_is first same = ap (first_edit_of content) (same ∙ f.are) ∙ ap (λ (edits : VersionSetState). Some edits.table.last) f.edits_are
+  last_edit_is first same = ap (first_edit_of content) (same ∙ f.are) ∙ ap (λ (edits : VersionSetState). Some edits.state.last) f.edits_are
 
   -- the slots came back: the last one is taken out, and then the first
   module _ (back : List (TurnValue D)) (same : back ≡ slots) where
@@ -79,10 +79,10 @@ module _ {D : Type 0} (slots : List (TurnValue D)) (wal : WalState) (history : L
     first_slot others x left at = at ∙ ap (λ (xs : List (TurnValue D)). slice_index_or xs 0 x) (left ∙ ap (λ (xs : List (TurnValue D)). remove xs 5) shown)
 
     pub last_guarded : (x : TurnValue D) → x ≡ slice_index_or back 5 x → IsGuardedBy tables_turn x
-    last_guarded x at = (installed f.edits.value.table, ap content (last_slot x at), refl)
+    last_guarded x at = (installed f.edits.value.state, ap content (last_slot x at), refl)
 
     pub first_guarded : (others : List (TurnValue D)) (x : TurnValue D) → others ≡ remove back 5 → x ≡ slice_index_or others 0 x → IsGuardedBy write_turn x
-    first_guarded others x left at = (writes f.log.value.table, ap content (first_slot others x left at), refl)
+    first_guarded others x left at = (writes f.log.value.state, ap content (first_slot others x left at), refl)
 
     pub same_edits : (x : TurnValue D) (edits : Box VersionSetState Global) → x ≡ slice_index_or back 5 x → x ≡ part.Tables edits → edits.value.set ≡ set
     same_edits x edits at is = ap (λ (y : TurnValue D). (edits_in y edits.value).set) (sym is ∙ last_slot x at) ∙ ap (λ (e : VersionSetState). e.set) f.edits_are

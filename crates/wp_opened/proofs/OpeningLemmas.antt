@@ -44,8 +44,8 @@ use Rattle.wp_core.specs.Turns.{Turn, write_turn, prepared_turn, snapshots_turn,
 use Rattle.wp_core.specs.Changes.{turn_index}
 use Rattle.wp_core.specs.Runs.{IsOpening}
 use Rattle.wp_core.specs.Sound.Store.{IsStored, NoneFlushed}
-use Rattle.wp_core.specs.Tables.{Installed, live_numbers, up_to}
-use Rattle.wp_core.specs.Tables as table
+use Rattle.wp_core.specs.States.{Installed, live_numbers, up_to}
+use Rattle.wp_core.specs.States as table
 use Rattle.wp_core.specs.World.{World, new_actor, content_of}
 use Rattle.wp_core.proofs.PendingVersions.{covers_same}
 use Rattle.wp_core.proofs.PublishesVersions.{up_to_within, up_to_past}
@@ -58,8 +58,8 @@ use Rattle.wp_parts.specs.Stock.{StockState, store_state}
 use Rattle.wp_parts.specs.VersionSet.{VersionSetState, edits_state, failed_edit}
 use Rattle.wp_opened.specs.Filled.{AreFilled, IsFlagOf, running_set}
 use Rattle.wp_parts.specs.Parts.{content, LogStands, EditsStand, tells}
-use Rattle.wp_parts.specs.declared.part.TurnValue.{TurnValue}
-use Rattle.wp_parts.specs.declared.part.TurnValue.TheVariants as part
+use Rattle.wp_parts.specs.declared.turn_value.TurnValue.{TurnValue}
+use Rattle.wp_parts.specs.declared.turn_value.TurnValue.TheVariants as part
 use Rattle.wp_parts.proofs.StockLemmas.{at_parts}
 use Rattle.wp_parts.proofs.LaterVersions.{later_none, later_each, later_past, tables_none}
 
@@ -219,7 +219,7 @@ module _ (asked : ℕ) (log manifest tables : List Moment) (wal : WalState) (his
 
   module _ {D : Type 0} (faults : ℕ) (slots : List (TurnValue D)) (f : AreFilled wal history (running_set edits now faults) store slots) (client : List ℕ) (cells flag : ℕ) (some_cells : 1 ≤ cells) (flagged : IsFlagOf history flag) where
     abbrev installed : Installed
-    installed = (edits_state (running_set edits now faults) (running_set edits now faults) wal.segment.base store.tables None).table
+    installed = (edits_state (running_set edits now faults) (running_set edits now faults) wal.segment.base store.tables None).state
 
     abbrev opened_world : World
     opened_world = record {
@@ -229,7 +229,7 @@ module _ (asked : ℕ) (log manifest tables : List Moment) (wal : WalState) (his
       old_flag = 0;
       cache = replicate cells 0;
       holders = all_free;
-      writes = (log_state wal wal history [] false open_ending).table;
+      writes = (log_state wal wal history [] false open_ending).state;
       prepared = f.prepared.value;
       snapshots = finite.empty;
       store = store_state (record { parts = store; floor = length history });
@@ -284,12 +284,12 @@ module _ (asked : ℕ) (log manifest tables : List Moment) (wal : WalState) (his
       list = part.Write f.log ∷ part.Prepared f.prepared ∷ part.Snapshots f.snaps ∷ part.Store f.stock ∷ part.Locks f.locks ∷ part.Tables f.edits ∷ []
 
       each : (turn : Turn) → (x : TurnValue D) × (get_elem? list (turn_index turn) ≡ some x) × IsPart content (tells list) x (content_of opened_world turn)
-      each write_turn = (part.Write f.log, refl, (ap (λ (l : LogState). Some (table.writes l.table)) f.log_is, (log_told, refl)))
+      each write_turn = (part.Write f.log, refl, (ap (λ (l : LogState). Some (table.writes l.state)) f.log_is, (log_told, refl)))
       each prepared_turn = (part.Prepared f.prepared, refl, (refl, (tt, tt)))
       each snapshots_turn = (part.Snapshots f.snaps, refl, (ap (λ (m : Snapshots). Some (table.snapshots m)) f.none_live, (tt, tt)))
       each store_turn = (part.Store f.stock, refl, (ap (λ (s : StockState). Some (table.store (store_state s))) f.stock_is, (tt, tt)))
       each locks_turn = (part.Locks f.locks, refl, (refl, (tt, tt)))
-      each tables_turn = (part.Tables f.edits, refl, (ap (λ (e : VersionSetState). Some (table.installed e.table)) f.edits_are, (set_told, refl)))
+      each tables_turn = (part.Tables f.edits, refl, (ap (λ (e : VersionSetState). Some (table.installed e.state)) f.edits_are, (set_told, refl)))
 
       pub founds : Founds content (tells slots) client history cells flag slots
       founds = subst (λ (xs : List (TurnValue D)). Founds content (tells xs) client history cells flag xs) (sym f.are) record {

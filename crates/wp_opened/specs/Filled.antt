@@ -19,8 +19,8 @@ use Rattle.wp_open.specs.declared.opening.Parts.{Parts}
 use Rattle.wp_parts.specs.Log.{LogState, log_state, open_ending}
 use Rattle.wp_parts.specs.VersionSet.{VersionSetState, edits_state}
 use Rattle.wp_parts.specs.Stock.{StockState}
-use Rattle.wp_parts.specs.declared.part.TurnValue.{TurnValue}
-use Rattle.wp_parts.specs.declared.part.TurnValue.TheVariants as part
+use Rattle.wp_parts.specs.declared.turn_value.TurnValue.{TurnValue}
+use Rattle.wp_parts.specs.declared.turn_value.TurnValue.TheVariants as part
 
 -- just the history's undecided prepares are delayed, and no number is in the heap
 pub record AreDelayed (history : List Entry) (t : PreparedSets) : Type 0 where

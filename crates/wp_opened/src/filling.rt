@@ -7,7 +7,7 @@ ghost use Rattle.wp_parts.specs.Devices.{devices_of, devices_behind};
 ghost use Rattle.wp_parts.specs.VersionSet.{edits_state};
 ghost use Rattle.wp_parts.specs.Log.{log_state, open_ending};
 ghost use Rattle.wp_parts.specs.Parts.{content, tells, LogStands, EditsStand};
-ghost use Rattle.wp_parts.specs.declared.part.TurnValue.TheVariants as part;
+ghost use Rattle.wp_parts.specs.declared.turn_value.TurnValue.TheVariants as part;
 ghost use Rattle.wp_opened.specs.Filled.{AreDelayed, AreFilled, IsFlagOf, WereOpened, set_in};
 
 use std::alloc::{AllocError, Global};

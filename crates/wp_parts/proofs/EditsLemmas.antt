@@ -14,22 +14,22 @@ use Rattle.wp_parts.proofs.LogLemmas.{known_image}
 
 -- ---- what a crash leaves
 
-module _ (s : VersionSetState) (k : IsEdits s) (base : ℕ) (last_is : s.table.last ≡ installed_of base s.set.manifest.edit s.parts) where
+module _ (s : VersionSetState) (k : IsEdits s) (base : ℕ) (last_is : s.state.last ≡ installed_of base s.set.manifest.edit s.parts) where
   last_there : (tables : List ℕ) → images s.set.moments tables → HasTables s.set.manifest.log.id s.set.manifest.edit.flushed tables s.set.manifest.edit.tables s.parts
   last_there tables at = known_image _ s.set.moments tables at k.stores.left
 
   next_there : (tables : List ℕ) → images s.set.moments tables → HasTables s.set.manifest.log.id k.next.flushed tables k.next.tables k.next_parts
   next_there tables at = known_image _ s.set.moments tables at k.stores.left_next
 
-  named_last : (image : List ℕ) → IsManifestOf s.set.manifest.log.id k.edits image → (edit : InstalledEdit) × IsNamed s image edit × MayName s.table edit
+  named_last : (image : List ℕ) → IsManifestOf s.set.manifest.log.id k.edits image → (edit : InstalledEdit) × IsNamed s image edit × MayName s.state edit
   named_last image spelled =
-      (s.table.last, record { edits = k.edits; spelled = spelled; base = base; parts = s.parts; is = rw (← k.stores.manifest.last) last_is; there = rw (← k.stores.manifest.last) last_there }, inl refl)
+      (s.state.last, record { edits = k.edits; spelled = spelled; base = base; parts = s.parts; is = rw (← k.stores.manifest.last) last_is; there = rw (← k.stores.manifest.last) last_there }, inl refl)
 
-  named_next : (image : List ℕ) → s.set.manifest.log.closed ≡ true → IsManifestOf s.set.manifest.log.id (k.edits ++ k.next ∷ []) image → (edit : InstalledEdit) × IsNamed s image edit × MayName s.table edit
+  named_next : (image : List ℕ) → s.set.manifest.log.closed ≡ true → IsManifestOf s.set.manifest.log.id (k.edits ++ k.next ∷ []) image → (edit : InstalledEdit) × IsNamed s image edit × MayName s.state edit
   named_next image closed spelled =
       (installed_of k.next_base k.next k.next_parts, record { edits = k.edits ++ k.next ∷ []; spelled = spelled; base = k.next_base; parts = k.next_parts; is = rw (last-push k.edits k.next) refl; there = rw (last-push k.edits k.next) next_there }, inr (k.failed closed))
 
-  pub manifest_tells : (image : List ℕ) → images s.set.manifest.log.moments image → (edit : InstalledEdit) × IsNamed s image edit × MayName s.table edit
+  pub manifest_tells : (image : List ℕ) → images s.set.manifest.log.moments image → (edit : InstalledEdit) × IsNamed s image edit × MayName s.state edit
   manifest_tells image at = elim (cases_Bool s.set.manifest.log.closed) [
     | inl closed ↦ elim (known_image _ s.set.manifest.log.moments image at (k.stores.manifest.left closed)).0 [
       | inl before ↦ named_last image before

@@ -30,7 +30,7 @@ use Rattle.wp_tableset.specs.declared.gone.Gone.TheVariants.{Frozen, Tables}
 use Rattle.wp_tableset.proofs.DeviceLemmas.{synced_grows, unmoved_grows}
 use Rattle.wp_tableset.proofs.SetLemmas.{Grows, left_of, none_left, passes_grown}
 use Rattle.wp_core.specs.Effects.{with_failed}
-use Rattle.wp_core.specs.Tables.{Installed}
+use Rattle.wp_core.specs.States.{Installed}
 use Rattle.wp_parts.specs.declared.edits.FailedInstall.{FailedInstall}
 use Rattle.wp_parts.specs.VersionSet.{VersionSetState, IsEdits, asked_for, edits_state, failed_edit}
 use Rattle.wp_parts.specs.Installs.{ReadyInstallState, IsBehind, SurvivesInstall}
@@ -163,7 +163,7 @@ module _ (set first : TableSetState) (base : ℕ) (parts : List (List Version)) 
       durable = durable;
     }
 
-    kept_table : (halted : Bool) → new.halted ≡ halted → (edits_state new first base parts failed).table ≡ record { last = last; failed = failed_edit set.manifest.log.closed failed last; halted = halted }
+    kept_table : (halted : Bool) → new.halted ≡ halted → (edits_state new first base parts failed).state ≡ record { last = last; failed = failed_edit set.manifest.log.closed failed last; halted = halted }
     kept_table halted is =
         let none = open_asked new.manifest.log.closed failed (installed_of base new.manifest.edit parts) still_open ∙ sym none_before in
         λ i. record { last = same_last i; failed = none i; halted = is i }
@@ -192,11 +192,11 @@ module _ (set first : TableSetState) (base : ℕ) (parts : List (List Version)) 
     pub written_edits : IsEdits (edits_state new first base parts failed)
     written_edits = kept_edits same_manifest (written.stores k.edits parts stored) (λ stopped. let halted = ap (λ (s : TableSetState). s.halted) written.changed in absurd cc)
 
-    pub written_table : (edits_state new first base parts failed).table ≡ (edits_state set first base parts failed).table
+    pub written_table : (edits_state new first base parts failed).state ≡ (edits_state set first base parts failed).state
     written_table = kept_table same_manifest set.halted (ap (λ (s : TableSetState). s.halted) written.changed)
 
     pub is_behind : (tables : List (List Version)) (room : ℕ) → tables ≡ new_parts r.asked.versions → length parts < room → IsBehind (edits_state set first base parts failed) (edits_state new first base parts failed) (record { edit = r; tables = tables; room = room })
-    is_behind tables room are fits = record { was = k; written = written; tables_are = are; room = fits; table = written_table; parts = refl; first = refl }
+    is_behind tables room are fits = record { was = k; written = written; tables_are = are; room = fits; state = written_table; parts = refl; first = refl }
 
   module _ (stopped : NotWritten set new) where
     pub stopped_edits : IsEdits (edits_state new first base parts failed)
@@ -231,7 +231,7 @@ module _ (set first : TableSetState) (base : ℕ) (parts : List (List Version)) 
   edit_is = is_asked before.set base set.manifest.edit asked.gone asked.versions asked.flushed segment b.written.place parts b.written.in_order
 
   was_open : before.set.manifest.log.closed ≡ false
-  was_open = b.was.running (ap (λ (t : Installed). t.halted) (sym b.table) ∙ running)
+  was_open = b.was.running (ap (λ (t : Installed). t.halted) (sym b.state) ∙ running)
 
   pub stored_before : StoresTables before.set b.was.edits no_edit before.parts []
   stored_before = running_stores before.set b.was.edits b.was.next before.parts b.was.next_parts was_open b.was.stores
@@ -256,7 +256,7 @@ module _ (set first : TableSetState) (base : ℕ) (parts : List (List Version)) 
         next = next;
         next_parts = after;
         stores = stored_before;
-        last_is = subst (λ (e : InstalledEdit). e ≡ installed_of e.segment.base (last_edit edits) before.parts) (ap (λ (t : Installed). t.last) b.table) (λ i. installed_of base (named i) (b.parts i));
+        last_is = subst (λ (e : InstalledEdit). e ≡ installed_of e.segment.base (last_edit edits) before.parts) (ap (λ (t : Installed). t.last) b.state) (λ i. installed_of base (named i) (b.parts i));
         next_is = edit_is;
         manifest = subst (λ (e : Edit). Passes (Leaves (IsManifestOrNext id edits e)) before.set.manifest.log.moments new.manifest.log.moments) is_next passed;
         tables = subst (λ (ms : List Moment). Passes (LeavesTables id (last_edit edits) before.parts) before.set.moments ms) (sym installs.moments) (subst (λ (e : Edit). Passes (LeavesTables id e before.parts) before.set.moments set.moments) last kept);
@@ -305,7 +305,7 @@ module _ (set first : TableSetState) (base : ℕ) (parts : List (List Version)) 
             durable = durable set first base parts failed k running new keeps;
           }
 
-      pub installed_table : (edits_state new first segment.base now failed).table ≡ record (edits_state set first base parts failed).table { last = edit }
+      pub installed_table : (edits_state new first segment.base now failed).state ≡ record (edits_state set first base parts failed).state { last = edit }
       installed_table =
           let named : installed_of segment.base new.manifest.edit now ≡ edit = (λ i. installed_of segment.base (last_now i) (are i)) ∙ sym edit_is in
           let none = open_asked new.manifest.log.closed failed (installed_of segment.base new.manifest.edit now) open_ ∙ sym (none_before set first base parts failed k running new keeps) in
@@ -343,7 +343,7 @@ module _ (set first : TableSetState) (base : ℕ) (parts : List (List Version)) 
             durable = durable set first base parts failed k running new keeps;
           }
 
-      pub failed_table : (edits_state new first base parts (Some f)).table ≡ with_failed (edits_state set first base parts failed).table (Some edit)
+      pub failed_table : (edits_state new first base parts (Some f)).state ≡ with_failed (edits_state set first base parts failed).state (Some edit)
       failed_table =
           let last = ap (λ (e : Edit). installed_of base e parts) stopped.last in
           λ i. record { last = last i; failed = asked_is i; halted = stopped.halted i }

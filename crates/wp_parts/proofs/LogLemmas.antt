@@ -410,14 +410,14 @@ module _ (wal first : WalState) (history pending : List Entry) (logged : Bool) (
           goes_on running new later durable true (longer kept.log.cut pending) (ap (λ (w : WalState). w.segment) changed) (ap (λ (w : WalState). w.id) changed) (ap (λ (w : WalState). w.format) changed) (ap (λ (w : WalState). w.closed) changed)
           (cut_grows history pending kept.log.cut cut_was) stores (λ _ unlogged_ _. absurd cc)
 
-      pub appended_table : IfSome wal.reserved (Appended wal new) → (log_state new first history pending true ending).table ≡ record (log_state wal first history pending logged ending).table { logged = true; log = spelled logged history pending ++ pending }
+      pub appended_table : IfSome wal.reserved (Appended wal new) → (log_state new first history pending true ending).state ≡ record (log_state wal first history pending logged ending).state { logged = true; log = spelled logged history pending ++ pending }
       appended_table ok =
           let same : new.segment ≡ wal.segment = ap (λ (w : WalState). w.segment) (is_appended ok).changed in
           let joined : history ++ pending ≡ spelled logged history pending ++ pending = sym (ap (λ (xs : List Entry). xs ++ pending) (not_yet logged history pending not_logged)) in
           λ i. record { history = history; pending = pending; logged = true; log = joined i; closed = ending.closed; stopped = ending.stopped; failed = ending.failed; segment = same i; next = ending.next }
 
       pub closed_table : (record_ : List Entry) → record_ ≡ pending → Refuses wal new DiskFault
-          → (log_state new first history pending logged (record { closed = true; stopped = ending.stopped; failed = record_; next = ending.next })).table ≡ record (log_state wal first history pending logged ending).table { closed = true; failed = pending }
+          → (log_state new first history pending logged (record { closed = true; stopped = ending.stopped; failed = record_; next = ending.next })).state ≡ record (log_state wal first history pending logged ending).state { closed = true; failed = pending }
       closed_table record_ equal refused =
           let same : new.segment ≡ wal.segment = ap (λ (w : WalState). w.segment) refused.2 in
           λ i. record { history = history; pending = pending; logged = logged; log = spelled logged history pending; closed = true; stopped = ending.stopped; failed = equal i; segment = same i; next = ending.next }
@@ -495,7 +495,7 @@ module _ (wal first : WalState) (history pending : List Entry) (logged : Bool) (
           }
 
       pub used_table : (new : WalState) → new ≡ record wal { format = Two; end = w.end; count = 1; segment = w.segment; reserved = None }
-          → (log_state new first history pending logged ending).table ≡ with_segment (log_state wal first history pending logged ending).table w.segment
+          → (log_state new first history pending logged ending).state ≡ with_segment (log_state wal first history pending logged ending).state w.segment
       used_table new changed =
           let same : new.segment ≡ w.segment = ap (λ (x : WalState). x.segment) changed in
           let none : ending.next ≡ None = no_segment running in
@@ -523,7 +523,7 @@ beside_tells history id moments segment based whole left image at = (cut_at hist
 
 module _ (wal first : WalState) (history pending : List Entry) (logged : Bool) (ending : Ending) (log : IsLog (log_state wal first history pending logged ending)) where
   in_use : (image : List ℕ) → images wal.moments image
-      → (entries : List Entry) × spells (log_state wal first history pending logged ending) wal.segment image entries × MaySpell (log_state wal first history pending logged ending).table entries
+      → (entries : List Entry) × spells (log_state wal first history pending logged ending) wal.segment image entries × MaySpell (log_state wal first history pending logged ending).state entries
   in_use image at = elim (cases_Bool wal.closed) [
     | inl closed ↦ elim (known_image _ wal.moments image at (log.stores.left closed)).0 [
       | inl before ↦ (spelled logged history pending, (log.cut, before, log.is_cut, log.stores.based), inl refl)
@@ -532,12 +532,12 @@ module _ (wal first : WalState) (history pending : List Entry) (logged : Bool) (
     | inr open_ ↦ (spelled logged history pending, (log.cut, (known_image _ wal.moments image at (running_cut wal log.cut ending.failed log.stores open_)).0, log.is_cut, log.stores.based), inl refl)
   ]
 
-  pub log_tells : LogTells (images wal.moments) (spells (log_state wal first history pending logged ending)) (log_state wal first history pending logged ending).table
+  pub log_tells : LogTells (images wal.moments) (spells (log_state wal first history pending logged ending)) (log_state wal first history pending logged ending).state
   log_tells image at = (in_use image at, λ segment is. let b = log.beside segment is in beside_tells history wal.id wal.moments segment b.1 b.2 b.3 image at)
 
   -- ... and in a segment that waits
   pub waiting_tells : (w : WrittenState) → IsWaiting (log_state wal first history pending logged ending) w
-      → LogTells (images wal.moments) (spells (log_state wal first history pending logged ending)) (with_next (log_state wal first history pending logged ending).table w.segment)
+      → LogTells (images wal.moments) (spells (log_state wal first history pending logged ending)) (with_next (log_state wal first history pending logged ending).state w.segment)
   waiting_tells w waits image at = (
     in_use image at,
     λ segment is.

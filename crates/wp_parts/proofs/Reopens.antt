@@ -22,7 +22,7 @@ use Rattle.wp_cuts.proofs.Standing.{cut_numbered}
 use Rattle.wp_cuts.proofs.UpTo.{later_above, map_within, same_with_later}
 use Rattle.wp_merge.specs.Merge.{sorted_of}
 use Rattle.wp_merge.proofs.Sorted.{at_sorted, in_order_same, in_order_sorted}
-use Rattle.wp_core.specs.Tables.{up_to}
+use Rattle.wp_core.specs.States.{up_to}
 use Rattle.wp_core.proofs.PendingVersions.{covers_same}
 use Rattle.wp_core.proofs.PublishesVersions.{up_to_past, up_to_within}
 

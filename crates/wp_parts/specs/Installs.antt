@@ -34,7 +34,7 @@ pub record IsBehind (before now : VersionSetState) (ready : ReadyInstallState) :
   pub written : IsWrittenEdit before.set now.set ready.edit
   pub tables_are : ready.tables ≡ new_parts ready.edit.asked.versions
   pub room : length now.parts < ready.room
-  pub table : now.table ≡ before.table
+  pub state : now.state ≡ before.state
   pub parts : now.parts ≡ before.parts
   pub first : now.first ≡ before.first
 
@@ -50,7 +50,7 @@ pub record SurvivesInstall (old new : VersionSetState) (edit : InstalledEdit) : 
   pub next : Edit
   pub next_parts : List (List Version)
   pub stores : StoresTables old.set edits no_edit old.parts []
-  pub last_is : old.table.last ≡ installed_of old.table.last.segment.base (last_edit edits) old.parts
+  pub last_is : old.state.last ≡ installed_of old.state.last.segment.base (last_edit edits) old.parts
   pub next_is : edit ≡ installed_of edit.segment.base next next_parts
   pub manifest : Passes (Leaves (IsManifestOrNext old.set.manifest.log.id edits next)) old.set.manifest.log.moments new.set.manifest.log.moments
   pub tables : Passes (LeavesTables old.set.manifest.log.id (last_edit edits) old.parts) old.set.moments new.set.moments
@@ -58,7 +58,7 @@ pub record SurvivesInstall (old new : VersionSetState) (edit : InstalledEdit) : 
 
 -- ... while its table is written, whatever segment the edit is to name
 abbrev pub SurvivesWrite : VersionSetState → VersionSetState → Asked → Type 0
-SurvivesWrite old new asked = (segment : Segment) → SurvivesInstall old new (asked_for asked segment old.table.last)
+SurvivesWrite old new asked = (segment : Segment) → SurvivesInstall old new (asked_for asked segment old.state.last)
 
 -- ... while it is installed, since its table was to be written
 abbrev pub SurvivesSince : VersionSetState → VersionSetState → ReadyInstallState → InstalledEdit → Type 0

@@ -17,12 +17,12 @@ use Rattle.wp_wal.specs.Segment.{NewSegmentState, WrittenState, IsBeside, base_o
 use Rattle.wp_wal.specs.Spelling.{MAGIC, IsLogAt, IsLogOrNextAt}
 use Rattle.wp_wal.specs.Wal.{WalState, LeavesCut, LosesNothingAt, StoresCut, IsReserved}
 use Rattle.wp_core.specs.Conditions.{NoneNext}
-use Rattle.wp_core.specs.Tables.{WriteState}
+use Rattle.wp_core.specs.States.{WriteState}
 
 -- The table of the machine that it is, its log now, and its log as it was opened. The log may be closed while its device may be called
 -- still, where it was stopped behind a failure of the tables' devices.
 pub record LogState : Type 0 where
-  pub table : WriteState
+  pub state : WriteState
   pub wal : WalState
   pub first : WalState
 
@@ -40,7 +40,7 @@ pub record Ending : Type 0 where
 
 abbrev pub log_state : WalState → WalState → List Entry → List Entry → Bool → Ending → LogState
 log_state wal first history pending logged ending = record {
-  table = record { history = history; pending = pending; logged = logged; log = spelled logged history pending; closed = ending.closed; stopped = ending.stopped; failed = ending.failed; segment = wal.segment; next = ending.next };
+  state = record { history = history; pending = pending; logged = logged; log = spelled logged history pending; closed = ending.closed; stopped = ending.stopped; failed = ending.failed; segment = wal.segment; next = ending.next };
   wal = wal;
   first = first;
 }
@@ -65,29 +65,29 @@ format_at first base = if base == first.segment.base then first.format else Two
 -- device failed; and what was acknowledged then is so still, as long as the log is in the segment of then.
 pub record IsLog (s : LogState) : Type 0 where
   pub cut : Cut
-  pub is_cut : IsCut s.table.log cut
-  pub segment : s.table.segment ≡ s.wal.segment
-  pub stores : StoresCut s.wal cut s.table.failed
-  pub legal : IsLegal (s.table.history ++ s.table.pending)
-  pub none_failed : s.table.closed ≡ false → s.table.failed ≡ []
-  pub whole : (s.table.failed ≡ []) ⊎ ((s.wal.closed ≡ true) × IsRecord s.wal.format (length s.table.log + 1) s.table.failed)
-  pub none_waits : NoneNext s.table
-  pub beside : (segment : Segment) → s.table.next ≡ Some segment
-      → (s.table.pending ≡ []) × (segment.base ≡ length s.table.history) × (undone_last s.table.history ≡ None) × IfKnown s.wal.moments (LeavesCut s.wal.id segment.place (cut_at s.table.history segment.base))
+  pub is_cut : IsCut s.state.log cut
+  pub segment : s.state.segment ≡ s.wal.segment
+  pub stores : StoresCut s.wal cut s.state.failed
+  pub legal : IsLegal (s.state.history ++ s.state.pending)
+  pub none_failed : s.state.closed ≡ false → s.state.failed ≡ []
+  pub whole : (s.state.failed ≡ []) ⊎ ((s.wal.closed ≡ true) × IsRecord s.wal.format (length s.state.log + 1) s.state.failed)
+  pub none_waits : NoneNext s.state
+  pub beside : (segment : Segment) → s.state.next ≡ Some segment
+      → (s.state.pending ≡ []) × (segment.base ≡ length s.state.history) × (undone_last s.state.history ≡ None) × IfKnown s.wal.moments (LeavesCut s.wal.id segment.place (cut_at s.state.history segment.base))
   pub id : s.wal.id ≡ s.first.id
   pub form : s.wal.format ≡ format_at s.first s.wal.segment.base
   pub risen : s.first.segment.base ≤ s.wal.segment.base
   pub later : s.first.faults ≤ s.wal.faults
-  pub shut : s.wal.closed ≡ true → s.table.closed ≡ true
-  pub by_fault : s.table.closed ≡ true → s.table.stopped ≡ false → s.wal.closed ≡ true
+  pub shut : s.wal.closed ≡ true → s.state.closed ≡ true
+  pub by_fault : s.state.closed ≡ true → s.state.stopped ≡ false → s.wal.closed ≡ true
   pub cause : s.wal.closed ≡ true → Rose s.first.faults s.wal.faults
   pub durable : s.wal.segment ≡ s.first.segment → LosesNothingAt s.first.segment.place s.first.moments s.wal.moments
 
 -- What is pending takes no memory any more: its record is ready for the log until it is logged, and the history has room
 -- for its entries.
 pub record IsReady (s : LogState) (cut : Cut) (room : ℕ) : Type 0 where
-  pub reserved : s.table.pending ≢ [] → s.table.logged ≡ false → s.table.closed ≡ false → IsReserved s.wal cut s.table.pending
-  pub fits : length s.table.pending ≤ room
+  pub reserved : s.state.pending ≢ [] → s.state.logged ≡ false → s.state.closed ≡ false → IsReserved s.wal cut s.state.pending
+  pub fits : length s.state.pending ≤ room
 
 -- how the value is kept: as a log that is ready, with the history from the base on at which it was opened
 pub record IsKept (s : LogState) (base room : ℕ) : Type 0 where
@@ -99,16 +99,16 @@ pub record IsKept (s : LogState) (base room : ℕ) : Type 0 where
 
 -- at each moment between the two a crash leaves the history in the segment in use
 abbrev pub LeavesHistory : LogState → LogState → Type 0
-LeavesHistory old new = (c : Cut) → IsCut old.table.history c → c.base ≡ old.table.segment.base → Passes (Leaves (IsLogAt old.wal.id old.table.segment.place c)) old.wal.moments new.wal.moments
+LeavesHistory old new = (c : Cut) → IsCut old.state.history c → c.base ≡ old.state.segment.base → Passes (Leaves (IsLogAt old.wal.id old.state.segment.place c)) old.wal.moments new.wal.moments
 
 -- ... or that and the pending record, whole
 abbrev pub LeavesHistoryOrNext : LogState → LogState → Type 0
 LeavesHistoryOrNext old new =
-    (c : Cut) → IsCut old.table.history c → c.base ≡ old.table.segment.base → Passes (Leaves (IsLogOrNextAt old.wal.id old.table.segment.place c old.table.pending)) old.wal.moments new.wal.moments
+    (c : Cut) → IsCut old.state.history c → c.base ≡ old.state.segment.base → Passes (Leaves (IsLogOrNextAt old.wal.id old.state.segment.place c old.state.pending)) old.wal.moments new.wal.moments
 
 -- what each crash at one moment would leave acknowledged there, each crash at a later moment leaves too
 abbrev pub KeepsAcknowledged : LogState → LogState → Type 0
-KeepsAcknowledged old new = LosesNothingAt old.table.segment.place old.wal.moments new.wal.moments
+KeepsAcknowledged old new = LosesNothingAt old.state.segment.place old.wal.moments new.wal.moments
 
 -- ---- a segment beside the one in use
 
@@ -118,11 +118,11 @@ MayRenew t = (t.closed ≡ false) × (t.pending ≡ []) × (t.segment.base < len
 
 -- the bytes of a segment that begins where the history ends, as they are to be written
 abbrev pub IsSegmentOf : LogState → NewSegmentState → Type 0
-IsSegmentOf s new = (new.base ≡ base_of s.table.history) × IsBase new.base × IsWholeLog MAGIC (stamped Two s.wal.id) (base_bytes new.base ∷ []) new.bytes
+IsSegmentOf s new = (new.base ≡ base_of s.state.history) × IsBase new.base × IsWholeLog MAGIC (stamped Two s.wal.id) (base_bytes new.base ∷ []) new.bytes
 
 -- where they go: to the device's beginning, if the segment in use begins at their end or behind it; else to the device's end
 abbrev pub IsPlaceOf : LogState → NewSegmentState → ℕ → Type 0
-IsPlaceOf s new place = (length new.bytes ≤ s.table.segment.place → place ≡ 0) × (s.table.segment.place < length new.bytes → IfKnown s.wal.moments (λ m. place ≡ length m.reads))
+IsPlaceOf s new place = (length new.bytes ≤ s.state.segment.place → place ≡ 0) × (s.state.segment.place < length new.bytes → IfKnown s.wal.moments (λ m. place ≡ length m.reads))
 
 -- the table once this segment waits beside the one in use
 abbrev pub with_next : WriteState → Segment → WriteState
@@ -135,7 +135,7 @@ with_segment t segment = record t { segment = segment; next = None }
 -- The segment was written beside the log: it has the history, cut at its end, which is behind the log's base and is no undo, and stands
 -- for good.
 pub record IsWaiting (s : LogState) (w : WrittenState) : Type 0 where
-  pub based : w.segment.base ≡ length s.table.history
-  pub whole : undone_last s.table.history ≡ None
-  pub below : s.table.segment.base < w.segment.base
-  pub beside : IsBeside s.wal (cut_at s.table.history (length s.table.history)) w
+  pub based : w.segment.base ≡ length s.state.history
+  pub whole : undone_last s.state.history ≡ None
+  pub below : s.state.segment.base < w.segment.base
+  pub beside : IsBeside s.wal (cut_at s.state.history (length s.state.history)) w

@@ -8,23 +8,23 @@ use Rattle.wp_tableset.specs.Set.{TableSetState}
 use Rattle.wp_wal.specs.Wal.{WalState}
 use Rattle.wp_core.specs.Conditions.{NoneNext}
 use Rattle.wp_core.specs.Images.{LogTells, ManifestTells, TablesTell}
-use Rattle.wp_core.specs.Tables.{Content, writes, prepared, snapshots, store, locks, installed, turn_of}
+use Rattle.wp_core.specs.States.{Content, writes, prepared, snapshots, store, locks, installed, turn_of}
 use Rattle.wp_core.specs.Turns.{Turn}
 use Rattle.wp_parts.specs.Log.{LogState, spells}
 use Rattle.wp_parts.specs.Stock.{store_state}
 use Rattle.wp_parts.specs.VersionSet.{VersionSetState, IsNamed, HasTablesOf}
-use Rattle.wp_parts.specs.declared.part.TurnValue.{TurnValue}
-use Rattle.wp_parts.specs.declared.part.TurnValue.TheVariants as part
+use Rattle.wp_parts.specs.declared.turn_value.TurnValue.{TurnValue}
+use Rattle.wp_parts.specs.declared.turn_value.TurnValue.TheVariants as part
 
 -- the table of the machine that it is; none where it only stands in for one
 abbrev pub content : {D : Type 0} → TurnValue D → Option Content
 content part.Away = None
-content (part.Write log) = Some (writes log.value.table)
+content (part.Write log) = Some (writes log.value.state)
 content (part.Prepared tables) = Some (prepared tables.value)
 content (part.Snapshots snaps) = Some (snapshots snaps.value)
 content (part.Store stock) = Some (store (store_state stock.value))
 content (part.Locks tables) = Some (locks tables.value)
-content (part.Tables edits) = Some (installed edits.value.table)
+content (part.Tables edits) = Some (installed edits.value.state)
 
 -- it is a table of this turn
 abbrev pub IsGuardedBy : {D : Type 0} → Turn → TurnValue D → Type 0
@@ -32,10 +32,10 @@ IsGuardedBy turn x = (c : Content) × (content x ≡ Some c) × (turn_of c ≡ t
 
 -- what a crash leaves of its devices is as its table says; of a log that is not closed no segment waits beside the one in use
 abbrev pub LogStands : LogState → Type 0
-LogStands log = LogTells (images log.wal.moments) (spells log) log.table × NoneNext log.table
+LogStands log = LogTells (images log.wal.moments) (spells log) log.state × NoneNext log.state
 
 abbrev pub EditsStand : VersionSetState → Type 0
-EditsStand edits = ManifestTells (images edits.set.manifest.log.moments) (IsNamed edits) edits.table × TablesTell (images edits.set.moments) (HasTablesOf edits) edits.table
+EditsStand edits = ManifestTells (images edits.set.manifest.log.moments) (IsNamed edits) edits.state × TablesTell (images edits.set.moments) (HasTablesOf edits) edits.state
 
 abbrev pub Tells : {D : Type 0} → TurnValue D → Type 0
 Tells (part.Write log) = LogStands log.value

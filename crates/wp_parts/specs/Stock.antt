@@ -4,7 +4,7 @@ use Rattle.wp_model.specs.declared.version.Version.{Version}
 use Rattle.wp_model.specs.Versions.{version_at}
 use Rattle.wp_merge.specs.Merge.{joined, sorted_of}
 use Rattle.wp_store.specs.Store.{StoreParts}
-use Rattle.wp_core.specs.Tables.{StoreState}
+use Rattle.wp_core.specs.States.{StoreState}
 
 -- the parts of the store, and the number from which on a reader finds all that it needs
 pub record StockState : Type 0 where

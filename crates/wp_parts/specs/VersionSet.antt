@@ -18,12 +18,12 @@ use Rattle.wp_tableset.specs.Device.{KeepsFronts}
 use Rattle.wp_tableset.specs.Set.{TableSetState, StoresTables}
 use Rattle.wp_tableset.specs.declared.gone.Gone.{Gone}
 use Rattle.wp_tableset.specs.declared.gone.Gone.TheVariants.{Frozen, Tables}
-use Rattle.wp_core.specs.Tables.{Installed}
+use Rattle.wp_core.specs.States.{Installed}
 use Rattle.wp_parts.specs.declared.edits.FailedInstall.{FailedInstall}
 
 -- the table of the machine that it is, the set of tables now with the versions of each, and the set as it was opened
 pub record VersionSetState : Type 0 where
-  pub table : Installed
+  pub state : Installed
   pub set : TableSetState
   pub parts : List (List Version)
   pub first : TableSetState
@@ -48,7 +48,7 @@ failed_edit closed other last = None
 -- the manifest does not say the base
 abbrev pub edits_state : TableSetState → TableSetState → ℕ → List (List Version) → Option FailedInstall → VersionSetState
 edits_state set first base parts failed = record {
-  table = record { last = installed_of base set.manifest.edit parts; failed = failed_edit set.manifest.log.closed failed (installed_of base set.manifest.edit parts); halted = set.halted };
+  state = record { last = installed_of base set.manifest.edit parts; failed = failed_edit set.manifest.log.closed failed (installed_of base set.manifest.edit parts); halted = set.halted };
   set = set;
   parts = parts;
   first = first;
@@ -83,13 +83,13 @@ pub record IsEdits (s : VersionSetState) : Type 0 where
   pub next_base : ℕ
   pub next_parts : List (List Version)
   pub stores : StoresTables s.set edits next s.parts next_parts
-  pub flushed : list_all (is_flushed s.table.last.flushed) s.table.last.versions ≡ true
-  pub none_failed : s.set.manifest.log.closed ≡ false → s.table.failed ≡ None
-  pub failed : s.set.manifest.log.closed ≡ true → s.table.failed ≡ Some (installed_of next_base next next_parts)
-  pub running : s.table.halted ≡ false → s.set.manifest.log.closed ≡ false
+  pub flushed : list_all (is_flushed s.state.last.flushed) s.state.last.versions ≡ true
+  pub none_failed : s.set.manifest.log.closed ≡ false → s.state.failed ≡ None
+  pub failed : s.set.manifest.log.closed ≡ true → s.state.failed ≡ Some (installed_of next_base next next_parts)
+  pub running : s.state.halted ≡ false → s.set.manifest.log.closed ≡ false
   pub id : s.set.manifest.log.id ≡ s.first.manifest.log.id
   pub later : s.first.faults ≤ s.set.faults
   pub manifest_later : s.first.manifest.log.faults ≤ s.set.manifest.log.faults
-  pub cause : s.table.halted ≡ true → Rose s.first.manifest.log.faults s.set.manifest.log.faults ⊎ Rose s.first.faults s.set.faults
+  pub cause : s.state.halted ≡ true → Rose s.first.manifest.log.faults s.set.manifest.log.faults ⊎ Rose s.first.faults s.set.faults
   pub fronts : KeepsFronts s.first.moments s.set.moments
   pub durable : LosesNoRecord MAGIC s.first.manifest.log.moments s.set.manifest.log.moments

@@ -12,7 +12,7 @@ use wp_outside::{Disk, Disks};
 /// The history and the devices of what lay behind the write turn and the tables turn.
 pub fn take_apart<D: Disk>(log: Log<D>, edits: VersionSet<D>) -> (History, Disks<D>)
     ensures base { result.0.base ≡ log.first.segment.base }
-    ensures history { result.0.entries ≡ log.table.history }
+    ensures history { result.0.entries ≡ log.state.history }
     ensures disks { devices_of D.moments D.faults result.1 ≡ devices_behind log.wal edits.set }
     ensures log { IsLog log }
     ensures edits { IsEdits edits }

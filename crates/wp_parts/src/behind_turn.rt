@@ -1,17 +1,17 @@
 //! The values behind the turns, each by the turn that guards it.
 ghost use Rattle.std.specs.Prelude.{◌≡◌, List, Some};
-ghost use Rattle.wp_core.specs.Tables.{Content, writes, prepared, snapshots, store, locks, installed};
-ghost use Rattle.wp_core.specs.Tables as tables;
+ghost use Rattle.wp_core.specs.States.{Content, writes, prepared, snapshots, store, locks, installed};
+ghost use Rattle.wp_core.specs.States as tables;
 ghost use Rattle.wp_core.specs.Turns.{Turn, write_turn, prepared_turn, snapshots_turn, store_turn, locks_turn, tables_turn, turn_of};
 ghost use Rattle.wp_parts.specs.Parts.{content, tells, log_first, set_first, IsGuardedBy};
 ghost use Rattle.wp_parts.specs.Stock.{store_state};
-ghost use Rattle.wp_parts.specs.declared.part.TurnValue.{TurnValue};
-ghost use Rattle.wp_parts.specs.declared.part.TurnValue.TheVariants as variant;
+ghost use Rattle.wp_parts.specs.declared.turn_value.TurnValue.{TurnValue};
+ghost use Rattle.wp_parts.specs.declared.turn_value.TurnValue.TheVariants as variant;
 
 use crate::edits::VersionSet;
 use crate::log::Log;
-use crate::part::TurnValue;
 use crate::stock::Stock;
+use crate::turn_value::TurnValue;
 use wp_locks::Locks;
 use wp_outside::Disk;
 use wp_prepared::Prepared;
@@ -25,13 +25,13 @@ pub trait BehindTurn<S: HoldsPart>: Sized {
     ghost turn: { Turn };
 
     /// The table of the machine that it is.
-    ghost table: { Self → Content };
+    ghost state: { Self → Content };
 
     /// Its devices were opened as those of the values behind the turns, of which the list has each as the table was made.
     ghost is_of: { List S → Self → Type 0 };
 
     /// Its table is the turn's.
-    ghost of_turn: { (x : Self) → tables.turn_of (table x) ≡ turn };
+    ghost of_turn: { (x : Self) → tables.turn_of (state x) ≡ turn };
 
     /// The turn that guards it.
     fn turn() -> rule::Turn
@@ -52,7 +52,7 @@ pub trait BehindTurn<S: HoldsPart>: Sized {
 impl<D: Disk> BehindTurn<TurnValue<D>> for Log<D> {
     ghost turn = { write_turn };
 
-    ghost table = { λ x. writes x.table };
+    ghost state = { λ x. writes x.state };
 
     ghost is_of = { λ first x. log_first first ≡ Some x.first };
 
@@ -64,7 +64,7 @@ impl<D: Disk> BehindTurn<TurnValue<D>> for Log<D> {
 
     fn out_of(part: TurnValue<D>) -> Box<Log<D>>
         requires { IsGuardedBy write_turn part }
-        ensures table { content part ≡ Some (writes result.value.table) }
+        ensures table { content part ≡ Some (writes result.value.state) }
         ensures of { (first : List (TurnValue D)) → tells first part → log_first first ≡ Some result.value.first }
         ensures exact { part ≡ variant.Write result }
     {
@@ -75,7 +75,7 @@ impl<D: Disk> BehindTurn<TurnValue<D>> for Log<D> {
     }
 
     fn into_part(value: Box<Log<D>>) -> TurnValue<D>
-        ensures table { content result ≡ Some (writes value.value.table) }
+        ensures table { content result ≡ Some (writes value.value.state) }
         ensures tells { (first : List (TurnValue D)) → log_first first ≡ Some value.value.first → tells first result }
     {
         value.devices_agree();
@@ -86,7 +86,7 @@ impl<D: Disk> BehindTurn<TurnValue<D>> for Log<D> {
 impl<D: Disk> BehindTurn<TurnValue<D>> for Prepared {
     ghost turn = { prepared_turn };
 
-    ghost table = { λ x. prepared x };
+    ghost state = { λ x. prepared x };
 
     ghost is_of = { λ first x. Unit {0} };
 
@@ -118,7 +118,7 @@ impl<D: Disk> BehindTurn<TurnValue<D>> for Prepared {
 impl<D: Disk> BehindTurn<TurnValue<D>> for Snaps {
     ghost turn = { snapshots_turn };
 
-    ghost table = { λ x. snapshots x };
+    ghost state = { λ x. snapshots x };
 
     ghost is_of = { λ first x. Unit {0} };
 
@@ -150,7 +150,7 @@ impl<D: Disk> BehindTurn<TurnValue<D>> for Snaps {
 impl<D: Disk> BehindTurn<TurnValue<D>> for Stock {
     ghost turn = { store_turn };
 
-    ghost table = { λ x. store (store_state x) };
+    ghost state = { λ x. store (store_state x) };
 
     ghost is_of = { λ first x. Unit {0} };
 
@@ -182,7 +182,7 @@ impl<D: Disk> BehindTurn<TurnValue<D>> for Stock {
 impl<D: Disk> BehindTurn<TurnValue<D>> for Locks {
     ghost turn = { locks_turn };
 
-    ghost table = { λ x. locks x };
+    ghost state = { λ x. locks x };
 
     ghost is_of = { λ first x. Unit {0} };
 
@@ -214,7 +214,7 @@ impl<D: Disk> BehindTurn<TurnValue<D>> for Locks {
 impl<D: Disk> BehindTurn<TurnValue<D>> for VersionSet<D> {
     ghost turn = { tables_turn };
 
-    ghost table = { λ x. installed x.table };
+    ghost state = { λ x. installed x.state };
 
     ghost is_of = { λ first x. set_first first ≡ Some x.first };
 
@@ -226,7 +226,7 @@ impl<D: Disk> BehindTurn<TurnValue<D>> for VersionSet<D> {
 
     fn out_of(part: TurnValue<D>) -> Box<VersionSet<D>>
         requires { IsGuardedBy tables_turn part }
-        ensures table { content part ≡ Some (installed result.value.table) }
+        ensures table { content part ≡ Some (installed result.value.state) }
         ensures of { (first : List (TurnValue D)) → tells first part → set_first first ≡ Some result.value.first }
         ensures exact { part ≡ variant.Tables result }
     {
@@ -237,7 +237,7 @@ impl<D: Disk> BehindTurn<TurnValue<D>> for VersionSet<D> {
     }
 
     fn into_part(value: Box<VersionSet<D>>) -> TurnValue<D>
-        ensures table { content result ≡ Some (installed value.value.table) }
+        ensures table { content result ≡ Some (installed value.value.state) }
         ensures tells { (first : List (TurnValue D)) → set_first first ≡ Some value.value.first → tells first result }
     {
         value.devices_agree();

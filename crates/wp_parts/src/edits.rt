@@ -146,22 +146,22 @@ impl<D: Disk> VersionSet<D> {
 
     /// Whether a device of the tables has failed.
     pub fn is_halted(&self) -> bool
-        ensures { result ≡ self.now.table.halted }
+        ensures { result ≡ self.now.state.halted }
     {
         self.set.is_halted()
     }
 
     /// The number up to which entries were flushed.
     pub fn flushed(&self) -> Seq
-        ensures number { result ≡ self.now.table.last.flushed }
-        ensures tables { list_all (is_flushed result) self.now.table.last.versions ≡ true }
+        ensures number { result ≡ self.now.state.last.flushed }
+        ensures tables { list_all (is_flushed result) self.now.state.last.versions ≡ true }
     {
         self.set.edit().flushed
     }
 
     /// The segment of the log that the last edit names.
     pub fn segment(&self) -> Segment
-        ensures { result ≡ self.now.table.last.segment }
+        ensures { result ≡ self.now.state.last.segment }
     {
         Segment {
             place: self.set.log_place(),
@@ -171,7 +171,7 @@ impl<D: Disk> VersionSet<D> {
 
     /// How many tables there are.
     pub fn table_count(&self) -> usize
-        ensures { result ≡ self.now.table.last.tables }
+        ensures { result ≡ self.now.state.last.tables }
     {
         self.tables.len()
     }
@@ -186,7 +186,7 @@ impl<D: Disk> VersionSet<D> {
     ) -> Result<ReadyInstall, AllocError>
         requires numbered { list_all is_numbered versions.now ≡ true }
         requires flushed { list_all (is_flushed flushed) versions.now ≡ true }
-        requires later { (self.now.table.last.flushed ≤ flushed) × (gone ≡ Frozen → 1 ≤ length versions.now → self.now.table.last.flushed < flushed) }
+        requires later { (self.now.state.last.flushed ≤ flushed) × (gone ≡ Frozen → 1 ≤ length versions.now → self.now.state.last.flushed < flushed) }
         ensures asked { IfOk result (λ ready. ready.edit.asked ≡ record { gone = gone; versions = versions.now; flushed = flushed }) }
         ensures ready { IfOk result (IsReadyFor self.now) }
     {
@@ -198,14 +198,14 @@ impl<D: Disk> VersionSet<D> {
     /// Writes the table of a ready edit, if it has one. The table is for readers. After a fault of the device the tables are halted.
     /// It takes no memory.
     pub fn write_table(&mut self, ready: &mut ReadyInstall) -> Result<Option<Arc<Table>>, Failed>
-        requires running { self.old.table.halted ≡ false }
+        requires running { self.old.state.halted ≡ false }
         requires ready { IsReadyFor self.old ready.old }
         ensures table { IfOk result (λ table. option_map arc_value table ≡ one_part ready.old.edit.asked.versions) }
-        ensures written { OnOk result ((self.new.table ≡ self.old.table) × IsBehind self.old self.new ready.new) }
+        ensures written { OnOk result ((self.new.state ≡ self.old.state) × IsBehind self.old self.new ready.new) }
         ensures asked { ready.new.edit.asked ≡ ready.old.edit.asked }
         ensures parts { self.new.parts ≡ self.old.parts }
         ensures uncalled { ready.old.edit.asked.versions ≡ [] → self.new ≡ self.old }
-        ensures refused { OnErr result (self.new.table ≡ with_failed self.old.table None) }
+        ensures refused { OnErr result (self.new.state ≡ with_failed self.old.state None) }
         ensures cause { OnErr result (HadCause self.old.set self.new.set) }
         ensures survives { SurvivesWrite self.old self.new ready.old.edit.asked }
         ensures manifest { self.new.set.manifest ≡ self.old.set.manifest }
@@ -218,13 +218,13 @@ impl<D: Disk> VersionSet<D> {
 
     /// Installs a ready edit, whose table was written, with this segment of the log. It takes no memory.
     pub fn install(&mut self, ready: ReadyInstall, segment: Segment) -> Result<(), Failed>
-        requires running { self.old.table.halted ≡ false }
+        requires running { self.old.state.halted ≡ false }
         requires written { (before : VersionSetState) × IsBehind before self.old ready }
-        ensures installed { OnOk result (self.new.table ≡ record self.old.table { last = asked_for ready.edit.asked segment self.old.table.last }) }
+        ensures installed { OnOk result (self.new.state ≡ record self.old.state { last = asked_for ready.edit.asked segment self.old.state.last }) }
         ensures parts { OnOk result (self.new.parts ≡ parts_after ready.edit.asked self.old.parts) }
-        ensures refused { OnErr result (self.new.table ≡ with_failed self.old.table (Some (asked_for ready.edit.asked segment self.old.table.last))) }
+        ensures refused { OnErr result (self.new.state ≡ with_failed self.old.state (Some (asked_for ready.edit.asked segment self.old.state.last))) }
         ensures cause { OnErr result (HadCause self.old.set self.new.set) }
-        ensures survives { SurvivesSince self.old self.new ready (asked_for ready.edit.asked segment self.old.table.last) }
+        ensures survives { SurvivesSince self.old self.new ready (asked_for ready.edit.asked segment self.old.state.last) }
         ensures tables { (self.new.set.moments ≡ self.old.set.moments) × (self.new.set.faults ≡ self.old.set.faults) }
         ensures joint { KeepsBoth self.old self.new ready }
         ensures first { self.new.first ≡ self.old.first }
@@ -252,8 +252,8 @@ impl<D: Disk> VersionSet<D> {
 
     /// For the proof alone: what a crash leaves of the devices is as the table says.
     pub fn devices_agree(&self)
-        ensures manifest { ManifestTells (images self.now.set.manifest.log.moments) (IsNamed self.now) self.now.table }
-        ensures tables { TablesTell (images self.now.set.moments) (HasTablesOf self.now) self.now.table }
+        ensures manifest { ManifestTells (images self.now.set.manifest.log.moments) (IsNamed self.now) self.now.state }
+        ensures tables { TablesTell (images self.now.set.moments) (HasTablesOf self.now) self.now.state }
         ensures edits { IsEdits self.now }
     {
         let _ = &self.set;

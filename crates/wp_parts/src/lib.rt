@@ -17,14 +17,14 @@ mod base;
 mod behind_turn;
 mod edits;
 mod log;
-mod part;
 mod stock;
 mod table_versions;
+mod turn_value;
 
 pub use apart::take_apart;
 pub use behind_turn::BehindTurn;
 pub use edits::{ReadyInstall, VersionSet};
 pub use log::Log;
-pub use part::TurnValue;
 pub use stock::Stock;
 pub use table_versions::TableVersions;
+pub use turn_value::TurnValue;

@@ -92,14 +92,14 @@ impl<D: Disk> Log<D> {
 
     /// The history, without what is pending.
     pub fn history(&self) -> &History
-        ensures { result.now.entries ≡ self.now.table.history }
+        ensures { result.now.entries ≡ self.now.state.history }
     {
         &self.history
     }
 
     /// The number of the last entry of the history.
     pub fn published(&self) -> Seq
-        ensures value { result ≡ length self.now.table.history }
+        ensures value { result ≡ length self.now.state.history }
         ensures few { result < log_end }
     {
         self.history.published()
@@ -114,7 +114,7 @@ impl<D: Disk> Log<D> {
 
     /// The base of the log, in the segment in use.
     pub fn base(&self) -> Seq
-        ensures { result ≡ self.now.table.segment.base }
+        ensures { result ≡ self.now.state.segment.base }
     {
         self.wal.segment_in_use().base
     }
@@ -128,14 +128,14 @@ impl<D: Disk> Log<D> {
 
     /// The entries that are pending.
     pub fn pending(&self) -> &[Entry]
-        ensures { result.now ≡ self.now.table.pending }
+        ensures { result.now ≡ self.now.state.pending }
     {
         &self.pending
     }
 
     /// Whether it takes no entry any more: its device has failed, or it was stopped.
     pub fn is_closed(&self) -> bool
-        ensures { result ≡ self.now.table.closed }
+        ensures { result ≡ self.now.state.closed }
     {
         self.closed
     }
@@ -143,12 +143,12 @@ impl<D: Disk> Log<D> {
     /// Makes the entries pending, which are one record and may come next, and takes all the memory that they need. Where it is
     /// wanting they come back. Their numbers are those of entries in the log's version.
     pub fn reserve(&mut self, entries: Vec<Entry>) -> Result<(), Vec<Entry>>
-        requires running { self.old.table.closed ≡ false }
-        requires nothing { self.old.table.pending ≡ [] }
+        requires running { self.old.state.closed ≡ false }
+        requires nothing { self.old.state.pending ≡ [] }
         requires one { IsOneRecord entries.items }
-        requires legal { IsLegal (self.old.table.history ++ entries.items) }
-        requires within { length self.old.table.history + length entries.items ≤ last_number self.old.wal.format }
-        ensures ok { OnOk result (self.new.table ≡ record self.old.table { pending = entries.items; logged = false }) }
+        requires legal { IsLegal (self.old.state.history ++ entries.items) }
+        requires within { length self.old.state.history + length entries.items ≤ last_number self.old.wal.format }
+        ensures ok { OnOk result (self.new.state ≡ record self.old.state { pending = entries.items; logged = false }) }
         ensures reserved { OnOk result (self.new.wal ≡ record self.old.wal { reserved = self.new.wal.reserved }) }
         ensures err { IfErr result (λ back. (back ≡ entries) × (self.new ≡ self.old)) }
         ensures first { self.new.first ≡ self.old.first }
@@ -167,11 +167,11 @@ impl<D: Disk> Log<D> {
     /// Appends the pending record to the log. It takes no memory. After a fault of the device the log is closed for good, and
     /// may have the record or not.
     pub fn append(&mut self) -> Result<(), Failed>
-        requires running { self.old.table.closed ≡ false }
-        requires some { self.old.table.pending ≢ [] }
-        requires unlogged { self.old.table.logged ≡ false }
-        ensures ok { OnOk result (self.new.table ≡ record self.old.table { logged = true; log = self.old.table.log ++ self.old.table.pending }) }
-        ensures err { OnErr result (self.new.table ≡ record self.old.table { closed = true; failed = self.old.table.pending }) }
+        requires running { self.old.state.closed ≡ false }
+        requires some { self.old.state.pending ≢ [] }
+        requires unlogged { self.old.state.logged ≡ false }
+        ensures ok { OnOk result (self.new.state ≡ record self.old.state { logged = true; log = self.old.state.log ++ self.old.state.pending }) }
+        ensures err { OnErr result (self.new.state ≡ record self.old.state { closed = true; failed = self.old.state.pending }) }
         ensures cause { OnErr result (Rose self.old.wal.faults self.new.wal.faults) }
         ensures later { self.old.wal.faults ≤ self.new.wal.faults }
         ensures id { self.new.wal.id ≡ self.old.wal.id }
@@ -197,10 +197,10 @@ impl<D: Disk> Log<D> {
 
     /// Puts the first of the pending entries into the history. It takes no memory.
     pub fn publish(&mut self)
-        requires some { self.old.table.pending ≢ [] }
-        requires logged { self.old.table.logged ≡ true }
-        ensures { (entry : Entry) (others : List Entry) → self.old.table.pending ≡ entry ∷ others
-            → self.new ≡ record self.old { table = with_entry self.old.table entry others } }
+        requires some { self.old.state.pending ≢ [] }
+        requires logged { self.old.state.logged ≡ true }
+        ensures { (entry : Entry) (others : List Entry) → self.old.state.pending ≡ entry ∷ others
+            → self.new ≡ record self.old { state = with_entry self.old.state entry others } }
     {
         let entry = self.pending.remove(0);
         self.history.push(entry);
@@ -208,23 +208,23 @@ impl<D: Disk> Log<D> {
 
     /// Takes back what is pending, which was not logged.
     pub fn drop_pending(&mut self) -> Vec<Entry>
-        requires { self.old.table.logged ≡ false }
-        ensures entries { result.items ≡ self.old.table.pending }
-        ensures table { self.new ≡ record self.old { table = record self.old.table { pending = [] } } }
+        requires { self.old.state.logged ≡ false }
+        ensures entries { result.items ≡ self.old.state.pending }
+        ensures table { self.new ≡ record self.old { state = record self.old.state { pending = [] } } }
     {
         mem::replace(&mut self.pending, Vec::new(self.alloc))
     }
 
     /// How many prepares are undecided.
     pub fn undecided_count(&self) -> usize
-        ensures { result ≡ length (base_of self.now.table.history).carried }
+        ensures { result ≡ length (base_of self.now.state.history).carried }
     {
         self.history.undecided().len()
     }
 
     /// Takes the memory of a segment of the log that begins where the history ends, with the prepares that are undecided there.
     pub fn segment(&self) -> Result<NewSegment, AllocError>
-        requires { undone_last self.now.table.history ≡ None }
+        requires { undone_last self.now.state.history ≡ None }
         ensures { IfOk result (IsSegmentOf self.now) }
     {
         let segment = self.wal.segment(&end_of(self.alloc, &self.history)?)?;
@@ -234,12 +234,12 @@ impl<D: Disk> Log<D> {
     /// Writes the segment beside the one in use, and puts it on the device for good. It takes no memory. Until it is used, or the log is
     /// stopped with it, nothing else is called. After a fault of the device the log is closed for good.
     pub fn write_segment(&mut self, segment: &NewSegment) -> Result<Written, Failed>
-        requires may { MayRenew self.old.table }
+        requires may { MayRenew self.old.state }
         requires segment { IsSegmentOf self.old segment.now }
-        ensures ok { OnOk result (self.new.table ≡ self.old.table) }
-        ensures waits { IfOk result (λ written. IsWaiting self.new written × (written.segment.place ≢ self.old.table.segment.place)) }
+        ensures ok { OnOk result (self.new.state ≡ self.old.state) }
+        ensures waits { IfOk result (λ written. IsWaiting self.new written × (written.segment.place ≢ self.old.state.segment.place)) }
         ensures place { IfOk result (λ written. IsPlaceOf self.old segment.now written.segment.place) }
-        ensures err { OnErr result (self.new.table ≡ record self.old.table { closed = true }) }
+        ensures err { OnErr result (self.new.state ≡ record self.old.state { closed = true }) }
         ensures cause { OnErr result (Rose self.old.wal.faults self.new.wal.faults) }
         ensures later { self.old.wal.faults ≤ self.new.wal.faults }
         ensures id { self.new.wal.id ≡ self.old.wal.id }
@@ -261,10 +261,10 @@ impl<D: Disk> Log<D> {
 
     /// The segment that was written is the one in use from now on. The device is not called.
     pub fn use_segment(&mut self, written: Written)
-        requires running { self.old.table.closed ≡ false }
-        requires nothing { self.old.table.pending ≡ [] }
+        requires running { self.old.state.closed ≡ false }
+        requires nothing { self.old.state.pending ≡ [] }
         requires waits { IsWaiting self.old written }
-        ensures table { self.new.table ≡ with_segment self.old.table written.segment }
+        ensures table { self.new.state ≡ with_segment self.old.state written.segment }
         ensures device { (self.new.wal.moments ≡ self.old.wal.moments) × (self.new.wal.faults ≡ self.old.wal.faults) × (self.new.wal.id ≡ self.old.wal.id) }
         ensures format { self.new.wal.format ≡ Two }
         ensures first { self.new.first ≡ self.old.first }
@@ -274,8 +274,8 @@ impl<D: Disk> Log<D> {
 
     /// Takes no entry any more: the devices of the tables failed before a segment was written. The device is not called.
     pub fn stop(&mut self)
-        requires nothing { self.old.table.pending ≡ [] }
-        ensures { self.new ≡ record self.old { table = record self.old.table { closed = true; stopped = true } } }
+        requires nothing { self.old.state.pending ≡ [] }
+        ensures { self.new ≡ record self.old { state = record self.old.state { closed = true; stopped = true } } }
     {
         self.closed = true;
         self.stopped = true;
@@ -283,10 +283,10 @@ impl<D: Disk> Log<D> {
 
     /// The same behind the write of a segment, which the edit may name whose install failed: what a crash leaves has it too.
     pub fn stop_with(&mut self, written: Written)
-        requires running { self.old.table.closed ≡ false }
-        requires nothing { self.old.table.pending ≡ [] }
+        requires running { self.old.state.closed ≡ false }
+        requires nothing { self.old.state.pending ≡ [] }
         requires waits { IsWaiting self.old written }
-        ensures { self.new ≡ record self.old { table = record (with_next self.old.table written.segment) { closed = true; stopped = true } } }
+        ensures { self.new ≡ record self.old { state = record (with_next self.old.state written.segment) { closed = true; stopped = true } } }
     {
         self.next = Some(self.wal.give_up(written));
         self.closed = true;
@@ -296,7 +296,7 @@ impl<D: Disk> Log<D> {
     /// For the proof alone: a segment that was written waits, and what a crash leaves of the device has it too.
     pub fn shows_waiting(&self, written: &Written)
         requires { IsWaiting self.now written.now }
-        ensures { LogTells (images self.now.wal.moments) (spells self.now) (with_next self.now.table written.now.segment) }
+        ensures { LogTells (images self.now.wal.moments) (spells self.now) (with_next self.now.state written.now.segment) }
     {
         let _ = written;
         let _ = &self.wal;
@@ -304,8 +304,8 @@ impl<D: Disk> Log<D> {
 
     /// For the proof alone: what a crash leaves of the device is as the table says, and no other segment waits.
     pub fn devices_agree(&self)
-        ensures tells { LogTells (images self.now.wal.moments) (spells self.now) self.now.table }
-        ensures next { NoneNext self.now.table }
+        ensures tells { LogTells (images self.now.wal.moments) (spells self.now) self.now.state }
+        ensures next { NoneNext self.now.state }
         ensures log { IsLog self.now }
     {
         let _ = &self.wal;
@@ -315,7 +315,7 @@ impl<D: Disk> Log<D> {
     pub fn into_parts(self) -> (Wal<D>, History)
         ensures wal { result.0 ≡ self.wal }
         ensures base { result.1.base ≡ self.first.segment.base }
-        ensures history { result.1.entries ≡ self.table.history }
+        ensures history { result.1.entries ≡ self.state.history }
         ensures log { IsLog self }
     {
         let Log {

@@ -8,7 +8,7 @@ ghost use Rattle.wp_memtable.specs.Memtable.{HasChanges};
 ghost use Rattle.wp_merge.specs.Merge.{joined, sorted_of};
 ghost use Rattle.wp_store.specs.Store.{newest_of};
 ghost use Rattle.wp_core.specs.Entries.{HasVersionsAt};
-ghost use Rattle.wp_core.specs.Tables.{all_in};
+ghost use Rattle.wp_core.specs.States.{all_in};
 ghost use Rattle.wp_parts.specs.Stock.{store_state, HasNoneAt};
 
 use std::alloc::AllocError;

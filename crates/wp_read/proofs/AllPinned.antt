@@ -13,7 +13,7 @@ use Rattle.wp_core.specs.Lists.{IsIn}
 use Rattle.wp_core.specs.Reading.{Registration}
 use Rattle.wp_core.specs.Sound.Views.{IsGuarded}
 use Rattle.wp_core.specs.Steps.{Step, register_again, note}
-use Rattle.wp_core.specs.Tables.{Content, snapshots}
+use Rattle.wp_core.specs.States.{Content, snapshots}
 use Rattle.wp_core.specs.Turns.{Holders, Holds, snapshots_turn}
 use Rattle.wp_core.specs.Views.{Fact, live_listed}
 use Rattle.wp_core.specs.World.{Participant, Actor, World}
@@ -24,7 +24,7 @@ use Rattle.wp_rule.proofs.Knows.{at_sound, held_is, seen_is}
 use Rattle.wp_shared.specs.Clients.{KeepClient}
 use Rattle.wp_shared.specs.Seats.{SharedState, SeatState, place_at}
 use Rattle.wp_shared.proofs.OneStep.{becomes}
-use Rattle.wp_shared.proofs.Tables.{held_table}
+use Rattle.wp_shared.proofs.Tables.{held_state}
 use Rattle.wp_read.specs.Registers.{ChangesSnapshots, HasLeast, IsTakenAt, IsPinned, AreCounted, AreLive, MayPin, again, numbers_of, with_each, pinning, pinned}
 use Rattle.wp_read.proofs.Counts.{live_still, live_before}
 use Rattle.wp_read.proofs.Registers.{registered_and_released}
@@ -87,7 +87,7 @@ module _ {D : Type 0} (z : SharedState D) (p : Place) (steps : World → List St
 
   pub may_pin : s.knows.live ≡ true → MayPin s.knows.participant.seen m floor numbers → MayMake p s.knows steps
   may_pin live may = subst (MayMake p s.knows) (sym is) (λ (w : World) (k : IsAt p s.knows w).
-      let known : Known w.snapshots = subst Known (sym (held_table p s.knows w (snapshots m) k there)) (may.live, may.all) in
+      let known : Known w.snapshots = subst Known (sym (held_state p s.knows w (snapshots m) k there)) (may.live, may.all) in
       let begins = seen_is p s.knows w k in
       let long : length w.writes.history ≡ length s.knows.participant.seen + length begins.0 = ap length begins.1 ∙ length-append s.knows.participant.seen begins.0 in
       let low : floor ≤ length w.writes.history = (let f = may.floor_seen in omega arith) in
@@ -100,7 +100,7 @@ module _ {D : Type 0} (z : SharedState D) (p : Place) (steps : World → List St
   pinned_so so place same moved =
       let n : Moved (place_at z s.by) (λ w. pinning floor numbers) so s.knows t.knows = subst (λ (x : Place × (World → List Step)). Moved x.0 x.1 so s.knows t.knows) (λ i. (place i, is i)) moved in
       becomes s t (pinned s floor numbers m others).knows same
-      (n.actor ∙ after floor numbers numbers n.world s.by s.knows m others (held_table (place_at z s.by) s.knows n.world (snapshots m) n.before there) held)
+      (n.actor ∙ after floor numbers numbers n.world s.by s.knows m others (held_state (place_at z s.by) s.knows n.world (snapshots m) n.before there) held)
 
 -- ---- what is known of the numbers
 

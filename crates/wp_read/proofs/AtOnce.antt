@@ -8,7 +8,7 @@ use Rattle.wp_model.specs.Snapshots.{Snapshots}
 use Rattle.wp_core.specs.Changes.{with_registered}
 use Rattle.wp_core.specs.Lists.{IsIn}
 use Rattle.wp_core.specs.Reading.{Registration}
-use Rattle.wp_core.specs.Tables.{snapshots}
+use Rattle.wp_core.specs.States.{snapshots}
 use Rattle.wp_core.specs.Turns.{store_turn}
 use Rattle.wp_core.specs.Views.{Fact}
 use Rattle.wp_core.specs.World.{Participant}

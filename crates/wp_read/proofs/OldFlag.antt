@@ -5,7 +5,7 @@ use Rattle.wp_model.specs.Snapshots.{Snapshots, NoOldCommits}
 use Rattle.wp_core.specs.Lists.{IsIn}
 use Rattle.wp_core.specs.Notes.{ends}
 use Rattle.wp_core.specs.Steps.{store_old_flag, note}
-use Rattle.wp_core.specs.Tables.{snapshots}
+use Rattle.wp_core.specs.States.{snapshots}
 use Rattle.wp_core.specs.Turns.{snapshots_turn}
 use Rattle.wp_core.specs.Views.{Fact, old_flag_stays}
 use Rattle.wp_core.specs.World.{Actor}
@@ -18,7 +18,7 @@ use Rattle.wp_shared.proofs.Noting.{note_ends_none}
 use Rattle.wp_shared.proofs.OneStep.{becomes}
 
 pub may_lower : {D : Type 0} (z : SharedState D) (s : SeatState) (m : Snapshots) → IsIn (snapshots m) s.knows.held → NoOldCommits m → MayStep (place_at z s.by) s.knows (store_old_flag 0)
-may_lower z s m held none = λ w k. needed (place_at z s.by) s.knows w k (store_old_flag 0) (record { table = m; held = held; so_is = λ zero. none })
+may_lower z s m held none = λ w k. needed (place_at z s.by) s.knows w k (store_old_flag 0) (record { state = m; held = held; so_is = λ zero. none })
 
 -- the snapshots turn does not guard it, so no store of its flag ends it
 others_stay : (history : List Entry) (words : ℕ) (fact : Fact) → is_under snapshots_turn fact ≡ false → ends history words (store_old_flag 0) fact ≡ false

@@ -16,7 +16,7 @@ use Rattle.wp_core.specs.Reading.{Registration, snapshot_of, reads}
 use Rattle.wp_core.specs.Sound.Reader.{IsRight, reader_of}
 use Rattle.wp_core.specs.Sound.Snapshots.{has_versions_at, view_of}
 use Rattle.wp_core.specs.Steps.{Step, begin_reading, load}
-use Rattle.wp_core.specs.Tables.{snapshots}
+use Rattle.wp_core.specs.States.{snapshots}
 use Rattle.wp_core.specs.World.{Actor, World}
 use Rattle.wp_core.proofs.AllParticipants.{mine}
 use Rattle.wp_core.proofs.Frames.{at_map}
@@ -33,7 +33,7 @@ use Rattle.wp_rule.proofs.MayBeMade.{known_made}
 use Rattle.wp_shared.specs.Clients.{KeepClient}
 use Rattle.wp_shared.specs.Seats.{SharedState, SeatState, place_at}
 use Rattle.wp_shared.proofs.OneStep.{made, becomes}
-use Rattle.wp_shared.proofs.Tables.{held_table}
+use Rattle.wp_shared.proofs.Tables.{held_state}
 use Rattle.wp_read.specs.Reads.{reading, Reads, Loads, IsNext, IsOfWord, IsWordFor, with_word}
 
 -- ---- what was concluded is right of what was seen
@@ -145,7 +145,7 @@ module _ {D : Type 0} (z : SharedState D) (by : ℕ) (a : Actor) (w : World) (k 
 -- what the actor registered is live in the snapshots that it holds
 pub held_live : (p : Place) (a : Actor) (w : World) (m : Snapshots) (r : Registration) → IsAt p a w → IsIn (snapshots m) a.held → IsIn r a.participant.registered → IsLive m r.number
 held_live p a w m r k there registered =
-    subst (λ (x : Snapshots). IsLive x r.number) (held_table p a w (snapshots m) k there) (registered_live w.writes.history w.snapshots w.actors p.by a r k.there registered (at_sound p a w k).registrations).0
+    subst (λ (x : Snapshots). IsLive x r.number) (held_state p a w (snapshots m) k there) (registered_live w.writes.history w.snapshots w.actors p.by a r k.there registered (at_sound p a w k).registrations).0
 
 -- it reads at a snapshot that it registered
 pub reads_registered : (p : Place) (a : Actor) (w : World) (r : Observed) → IsAt p a w → a.reading ≡ Some r → IsIn (snapshot_of r) a.participant.registered

@@ -16,7 +16,7 @@ use Rattle.wp_core.specs.Effects.{done}
 use Rattle.wp_core.specs.Lists.{IsIn}
 use Rattle.wp_core.specs.Reading.{Registration}
 use Rattle.wp_core.specs.Steps.{Step, register, release}
-use Rattle.wp_core.specs.Tables.{prepared, snapshots}
+use Rattle.wp_core.specs.States.{prepared, snapshots}
 use Rattle.wp_core.specs.World.{Actor, World}
 use Rattle.wp_core.proofs.HistoryLaws.{is_equal}
 use Rattle.wp_model.proofs.Numbers.{get_inserted, get_inserted_else, get_removed, get_removed_else}
@@ -28,7 +28,7 @@ use Rattle.wp_rule.proofs.MayBeMade.{known_made, registers_at}
 use Rattle.wp_shared.specs.Clients.{KeepClient}
 use Rattle.wp_shared.specs.Seats.{SharedState, SeatState, place_at}
 use Rattle.wp_shared.proofs.OneStep.{made, becomes}
-use Rattle.wp_shared.proofs.Tables.{held_table}
+use Rattle.wp_shared.proofs.Tables.{held_state}
 use Rattle.wp_read.specs.Registers.{all_but_last_of, all_but_last, last_of, before_last, behind_last, registration_of, MayRegister, Registers, Unregisters}
 use Rattle.wp_read.proofs.Readings.{held_live}
 
@@ -178,7 +178,7 @@ registering smallest w = register (unwrap_or smallest (suc (length w.writes.hist
 registered_at : {D : Type 0} (z : SharedState D) (s t : SeatState) (smallest : Option ℕ) (number : ℕ) (m : Snapshots) → (t.table ≡ s.table) × (t.by ≡ s.by) × (t.turns ≡ s.turns) → IsIn (snapshots m) s.knows.held
     → Moved (place_at z s.by) (λ w. registering smallest w ∷ []) (λ w. number ≡ length w.writes.history) s.knows t.knows → Registers z s t number smallest m
 registered_at z s t smallest number m same held n =
-    let w = n.world in let step : Step = registering smallest w in let held_is : w.snapshots ≡ m = held_table (place_at z s.by) s.knows w (snapshots m) n.before held in
+    let w = n.world in let step : Step = registering smallest w in let held_is : w.snapshots ≡ m = held_state (place_at z s.by) s.knows w (snapshots m) n.before held in
     let actor : ℕ → Snapshots → Actor = λ l x. record (registers (sees w.writes.history s.knows) (registration_of l smallest)) { held = held_with s.knows.held (snapshots (with_registered x l)) } in
     let knows : t.knows ≡ actor number m =
     n.actor ∙ (ap (λ (x : Actor). first_of (done (record w { actors = s.knows ∷ [] }) 0 x step).actors s.knows) (forgets_nothing w.writes.history (length w.cache) step s.knows (register_ends (unwrap_or smallest (suc (length w.writes.history))))) ∙
@@ -188,8 +188,8 @@ registered_at z s t smallest number m same held n =
 module _ {D : Type 0} (z : SharedState D) (p : Place) (steps : World → List Step) (s t : SeatState) (smallest : Option ℕ) (is : steps ≡ (λ w. register (unwrap_or smallest (suc (length w.writes.history))) ∷ [])) where
   pub may_register : (m : Snapshots) → IsIn (snapshots m) s.knows.held → MayRegister s.knows.held smallest → MayMake p s.knows steps
   may_register m held may = subst (MayMake p s.knows) (sym is) (⊎_elim
-      (λ (one : smallest ≡ Some 1). subst (λ (o : Option ℕ). MayMake p s.knows (λ w. registering o w ∷ [])) (sym one) (known_made p s.knows (register 1) tt (record { table = m; held = held; so_is = inl refl })))
-      (λ (known : (t : PreparedSets) × IsIn (prepared t) s.knows.held × MatchOption smallest (NonePrepared t) (IsSmallest t)). registers_at p s.knows smallest (record { table = m; held = held; so_is = tt }) (record { table = known.0; held = known.1; so_is = known.2 }))
+      (λ (one : smallest ≡ Some 1). subst (λ (o : Option ℕ). MayMake p s.knows (λ w. registering o w ∷ [])) (sym one) (known_made p s.knows (register 1) tt (record { state = m; held = held; so_is = inl refl })))
+      (λ (known : (t : PreparedSets) × IsIn (prepared t) s.knows.held × MatchOption smallest (NonePrepared t) (IsSmallest t)). registers_at p s.knows smallest (record { state = m; held = held; so_is = tt }) (record { state = known.0; held = known.1; so_is = known.2 }))
       may)
 
   pub register_keeps : (w : World) → KeepClient (steps w)
@@ -203,7 +203,7 @@ module _ {D : Type 0} (z : SharedState D) (p : Place) (steps : World → List St
 
 module _ {D : Type 0} (z : SharedState D) (p : Place) (steps : World → List Step) (s t : SeatState) (front back : List Registration) (r : Registration) (m : Snapshots) (is : steps ≡ (λ w. release front r back ∷ [])) (mine : s.knows.participant.registered ≡ front ++ r ∷ back) (held : IsIn (snapshots m) s.knows.held) where
   pub may_release : MayMake p s.knows steps
-  may_release = subst (MayMake p s.knows) (sym is) (known_made p s.knows (release front r back) tt (record { table = m; held = held; so_is = mine }))
+  may_release = subst (MayMake p s.knows) (sym is) (known_made p s.knows (release front r back) tt (record { state = m; held = held; so_is = mine }))
 
   pub release_keeps : (w : World) → KeepClient (steps w)
   release_keeps w = subst (λ (x : World → List Step). KeepClient (x w)) (sym is) (tt, tt)
@@ -213,7 +213,7 @@ module _ {D : Type 0} (z : SharedState D) (p : Place) (steps : World → List St
       let at = place_at z s.by in
       let n : Moved at (λ w. release front r back ∷ []) so s.knows t.knows = subst (λ (x : Place × (World → List Step)). Moved x.0 x.1 so s.knows t.knows) (λ i. (place i, is i)) moved in
       let k = made at (release front r back) so s.knows t.knows (release_ends front back r) n in
-      let held_is : k.world.snapshots ≡ m = held_table at s.knows k.world (snapshots m) k.before held in
+      let held_is : k.world.snapshots ≡ m = held_state at s.knows k.world (snapshots m) k.before held in
       let actor : Snapshots → Actor = λ x. record (releases s.knows (front ++ back)) { held = held_with s.knows.held (snapshots (with_released x r.number)) } in
       record {
         live = held_live at s.knows k.world m r k.before held (subst (IsIn r) (sym mine) (in_middle front));

@@ -13,7 +13,7 @@ use Rattle.wp_core.specs.Lists.{IsIn}
 use Rattle.wp_core.specs.Reading.{Registration}
 use Rattle.wp_core.specs.Sound.Actors.{StartsWith}
 use Rattle.wp_core.specs.Sound.Reader.{IsRight}
-use Rattle.wp_core.specs.Tables.{Content, prepared, snapshots, turn_of}
+use Rattle.wp_core.specs.States.{Content, prepared, snapshots, turn_of}
 use Rattle.wp_core.specs.Turns.{prepared_turn, snapshots_turn}
 use Rattle.wp_core.specs.Views.{Fact, delayed_flag_stays, old_flag_stays, live_listed}
 use Rattle.wp_core.specs.World.{Participant}
@@ -24,7 +24,7 @@ use Rattle.wp_shared.specs.Notes.{no_fact, is_under, noting_only, GoesOn}
 use Rattle.wp_shared.specs.Seats.{SharedState, SeatState, IsFree, place_at}
 use Rattle.wp_shared.specs.Turns.{HoldsTurn, KnowsToGive, Taken, Given}
 use Rattle.wp_shared.proofs.Goes.{then}
-use Rattle.wp_shared.proofs.Tables.{held_table, knows_to_give}
+use Rattle.wp_shared.proofs.Tables.{held_state, knows_to_give}
 use Rattle.wp_shared.proofs.Onward.{IsBlind, starts_equal, loose_none, loose_under, goes_none, goes_same, goes_fewer, goes_then, goes_still, goes_free, holds_next, holds_alone, holds_two}
 use Rattle.wp_read.specs.Reads.{reading, KeepsNotes, Loads}
 use Rattle.wp_read.specs.Registers.{again, registration_of, with_each, pinned, Registers, Unregisters, ChangesSnapshots, HasLeast, IsTakenAt, registered_by}
@@ -79,7 +79,7 @@ module _ {D : Type 0} {z : SharedState D} {s t : SeatState} {n : ℕ} {least : O
   seen_after = ap (λ (x : SeatState). x.knows.participant.seen) k.seat
 
   snapshots_are : k.world.snapshots ≡ m
-  snapshots_are = held_table (place_at z s.by) s.knows k.world (snapshots m) k.there (subst (IsIn (snapshots m)) (sym was.held) (inl refl))
+  snapshots_are = held_state (place_at z s.by) s.knows k.world (snapshots m) k.there (subst (IsIn (snapshots m)) (sym was.held) (inl refl))
 
   abbrev adding : Registration → Participant
   adding r = record s.knows.participant { registered = s.knows.participant.registered ++ r ∷ [] }
@@ -117,7 +117,7 @@ module _ {D : Type 0} {z : SharedState D} {s t : SeatState} {n : ℕ} {least : O
     }
 
     pub was_taken : (taken : IsTakenAt z s t.knows.participant.seen r m) × ((tables : PreparedSets) → IsIn (prepared tables) s.knows.held → MatchOption least (NonePrepared tables) (IsSmallest tables) → HasLeast taken.world r)
-    was_taken = (taken_at, λ tables there found. by tables least (held_table (place_at z s.by) s.knows k.world (prepared tables) k.there there) smallest_is found)
+    was_taken = (taken_at, λ tables there found. by tables least (held_state (place_at z s.by) s.knows k.world (prepared tables) k.there there) smallest_is found)
       where
         by : (tables : PreparedSets) (o : Option ℕ) → k.world.prepared ≡ tables → r.smallest ≡ unwrap_or o (suc r.number) → MatchOption o (NonePrepared tables) (IsSmallest tables) → HasLeast k.world r
         by tables None are e none = inl (subst NonePrepared (sym are) none, e)

@@ -15,7 +15,7 @@ use Rattle.wp_model.proofs.Entries.{entry_at_old}
 use Rattle.wp_core.specs.Lists.{IsIn}
 use Rattle.wp_core.specs.Reading.{Registration}
 use Rattle.wp_core.specs.Sound.Snapshots.{has_versions, has_versions_at}
-use Rattle.wp_core.specs.Tables.{StoreState, live_numbers, up_to, all_in}
+use Rattle.wp_core.specs.States.{StoreState, live_numbers, up_to, all_in}
 use Rattle.wp_core.specs.World.{World}
 use Rattle.wp_core.proofs.HistoryLaws.{decided_late, decision_stays}
 use Rattle.wp_core.proofs.Registered.{registered_live}

@@ -15,7 +15,7 @@ use Rattle.wp_model.specs.History.{value_at}
 use Rattle.wp_model.specs.Versions.{AreInOrder, version_cmp, version_at}
 use Rattle.wp_model.proofs.VersionLists.{IsBefore, in_order_parts}
 use Rattle.wp_core.specs.Lists.{IsIn}
-use Rattle.wp_core.specs.Tables.{up_to}
+use Rattle.wp_core.specs.States.{up_to}
 use Rattle.wp_core.proofs.Frames.{in_filter}
 use Rattle.wp_core.proofs.PublishesVersions.{up_to_within, up_to_past}
 use Rattle.wp_model.proofs.Tests.{same_some, none_some}

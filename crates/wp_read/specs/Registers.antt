@@ -12,7 +12,7 @@ use Rattle.wp_core.specs.Changes.{sees, registers, releases, held_with, is_same_
 use Rattle.wp_core.specs.Lists.{IsIn}
 use Rattle.wp_core.specs.Reading.{Registration}
 use Rattle.wp_core.specs.Steps.{Step, register_again, note}
-use Rattle.wp_core.specs.Tables.{Content, prepared, snapshots}
+use Rattle.wp_core.specs.States.{Content, prepared, snapshots}
 use Rattle.wp_core.specs.Views.{live_listed}
 use Rattle.wp_core.specs.World.{Participant, Actor, World, published}
 use Rattle.wp_rule.specs.Words.{IsAt}

@@ -7,7 +7,7 @@ ghost use Rattle.wp_model.specs.History.{value_at};
 ghost use Rattle.wp_model.specs.Snapshots.{Snapshots, NoOldCommits};
 ghost use Rattle.wp_core.specs.Lists.{IsIn};
 ghost use Rattle.wp_core.specs.Reading.{Registration};
-ghost use Rattle.wp_core.specs.Tables as table;
+ghost use Rattle.wp_core.specs.States as table;
 ghost use Rattle.wp_shared.specs.Calls.{Continues, GoesOnWith};
 ghost use Rattle.wp_shared.specs.Seats.{IsFree, held_by, participant_of, seen_by};
 ghost use Rattle.wp_shared.specs.Turns.{HoldsTurn};

@@ -2,7 +2,7 @@
 ghost use Rattle.std.specs.Prelude.{◌≡◌, true, List, [], ◌∷◌, ◌++◌, length, map, take, IfOk, OnOk, OnErr};
 ghost use Rattle.wp_model.specs.Snapshots.{Snapshots, NoOldCommits};
 ghost use Rattle.wp_core.specs.Lists.{IsIn};
-ghost use Rattle.wp_core.specs.Tables as table;
+ghost use Rattle.wp_core.specs.States as table;
 ghost use Rattle.wp_core.specs.Views.{live_listed};
 ghost use Rattle.wp_shared.specs.Calls.{Continues};
 ghost use Rattle.wp_shared.specs.Seats.{IsFree, participant_of, seen_by};

@@ -4,7 +4,7 @@ use Rattle.wp_model.specs.declared.entry.Entry.{Entry}
 use Rattle.wp_core.specs.Cache.{cache_place}
 use Rattle.wp_core.specs.Sound.Views.{guarded_by}
 use Rattle.wp_core.specs.Entries.{transaction_of}
-use Rattle.wp_core.specs.Tables.{Content}
+use Rattle.wp_core.specs.States.{Content}
 use Rattle.wp_core.specs.Views.{Fact, passed, in_old_commits, apart, words_stay, versions_in_memory, versions_nowhere, number_in_heap, number_not_in_heap, pair_delayed, pair_not_delayed, none_waits, delayed_flag_stays, old_flag_stays}
 use Rattle.wp_shared.specs.Seats.{SeatState}
 use Rattle.wp_commits.specs.declared.way.Way.{Way}

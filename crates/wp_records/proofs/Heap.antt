@@ -9,7 +9,7 @@ use Rattle.std.proofs.lemmas.Bool.{false_from_ne_true, cases_eq}
 use Rattle.wp_model.specs.PreparedSets.{PreparedSets, NoneDelayed}
 use Rattle.wp_prepared.specs.Least.{AreBelow}
 use Rattle.wp_core.specs.Lists.{IsIn}
-use Rattle.wp_core.specs.Tables.{WriteState, Content, writes, prepared}
+use Rattle.wp_core.specs.States.{WriteState, Content, writes, prepared}
 use Rattle.wp_core.specs.Views.{delayed_flag_stays, number_not_in_heap}
 use Rattle.wp_core.specs.World.{Actor, World}
 use Rattle.wp_core.proofs.HistoryGrows.{none_is}
@@ -27,7 +27,7 @@ use Rattle.wp_rule.proofs.Needed.{within_next}
 use Rattle.wp_shared.specs.Seats.{SharedState, SeatState, Stands, place_at}
 use Rattle.wp_shared.specs.Notes.{GoesOn, DelayedFlagTells}
 use Rattle.wp_shared.proofs.Goes.{stays}
-use Rattle.wp_shared.proofs.Tables.{held_table}
+use Rattle.wp_shared.proofs.Tables.{held_state}
 use Rattle.wp_records.specs.Stages.{is_of_heap, is_of_number, HasPrepare}
 use Rattle.wp_records.proofs.Facts.{heap_alone}
 
@@ -40,10 +40,10 @@ module _ {D : Type 0} (z : SharedState D) (s t : SeatState) (d : WriteState) (ta
   there = subst (λ (x : SeatState). IsAt (place_at z x.by) x.knows w) same at.1
 
   tables_are : w.prepared ≡ tables
-  tables_are = held_table (place_at z s.by) s.knows w (prepared tables) there (subst (IsIn (prepared tables)) (sym held) (inl refl))
+  tables_are = held_state (place_at z s.by) s.knows w (prepared tables) there (subst (IsIn (prepared tables)) (sym held) (inl refl))
 
   writes_is : w.writes ≡ d
-  writes_is = held_table (place_at z s.by) s.knows w (writes d) there (subst (IsIn (writes d)) (sym held) (inr (inl refl)))
+  writes_is = held_state (place_at z s.by) s.knows w (writes d) there (subst (IsIn (writes d)) (sym held) (inr (inl refl)))
 
   abbrev n : ℕ
   n = suc (length d.history)

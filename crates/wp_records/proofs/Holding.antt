@@ -2,7 +2,7 @@
 use Rattle.std.proofs.Common.{◌≡◌, ℕ, Bool, false, List, [], ◌∷◌, length, refl, sym, subst, ap, ◌∙◌, Some}
 use Rattle.wp_model.specs.declared.entry.Entry.{Entry}
 use Rattle.wp_core.specs.Lists.{IsIn}
-use Rattle.wp_core.specs.Tables.{Content, writes}
+use Rattle.wp_core.specs.States.{Content, writes}
 use Rattle.wp_core.specs.Views.{Fact, words_stay}
 use Rattle.wp_core.specs.World.{Participant, Actor}
 use Rattle.wp_rule.specs.Knows.{Noted}
@@ -27,7 +27,7 @@ words_of_seat s t n same words = words_still s.knows t.knows n (λ bound list th
 -- ---- the turn and the log
 
 module _ {D : Type 0} (z : SharedState D) (s t : SeatState) (log left : LogState) (h : HoldsPending z s log) where
-  pub holds_with : (test : Fact → Bool) → GoesOn test (writes left.table ∷ []) s.turns s t → left.first ≡ log.first → left.table.history ≡ log.table.history → KnowsWords t.knows (length log.table.history) → HoldsPending z t left
+  pub holds_with : (test : Fact → Bool) → GoesOn test (writes left.state ∷ []) s.turns s t → left.first ≡ log.first → left.state.history ≡ log.state.history → KnowsWords t.knows (length log.state.history) → HoldsPending z t left
   holds_with test k first history words = record {
     turn = record {
       same_table = ap (λ (x : SeatState). x.table) k.same ∙ h.turn.same_table;
@@ -41,7 +41,7 @@ module _ {D : Type 0} (z : SharedState D) (s t : SeatState) (log left : LogState
   }
 
   -- the log changed, and what is remembered of that
-  pub holds_as : (after : Participant) → after.seen ≡ s.knows.participant.seen → t ≡ holding left.table (record s { knows = record s.knows { participant = after } }) → left.first ≡ log.first → left.table.history ≡ log.table.history → HoldsPending z t left
+  pub holds_as : (after : Participant) → after.seen ≡ s.knows.participant.seen → t ≡ holding left.state (record s { knows = record s.knows { participant = after } }) → left.first ≡ log.first → left.state.history ≡ log.state.history → HoldsPending z t left
   holds_as after seen is first history = record {
     turn = record {
       same_table = ap (λ (x : SeatState). x.table) is ∙ h.turn.same_table;
@@ -51,15 +51,15 @@ module _ {D : Type 0} (z : SharedState D) (s t : SeatState) (log left : LogState
     };
     seen = ap (λ (x : SeatState). x.knows.participant.seen) is ∙ seen ∙ h.seen ∙ sym history;
     of_store = h.of_store ∙ ap Some (sym first);
-    words = subst (λ (e : List Entry). KnowsWords t.knows (length e)) (sym history) (words_of_seat s t (length log.table.history) (ap (λ (x : SeatState). x.knows.notes) is) h.words);
+    words = subst (λ (e : List Entry). KnowsWords t.knows (length e)) (sym history) (words_of_seat s t (length log.state.history) (ap (λ (x : SeatState). x.knows.notes) is) h.words);
   }
 
 -- the stage left the tables and the turns as they were
-pub still_holds : {D : Type 0} (z : SharedState D) (s t : SeatState) (log : LogState) (test : Fact → Bool) → HoldsPending z s log → GoesOn test s.knows.held s.turns s t → KnowsWords t.knows (length log.table.history) → HoldsPending z t log
+pub still_holds : {D : Type 0} (z : SharedState D) (s t : SeatState) (log : LogState) (test : Fact → Bool) → HoldsPending z s log → GoesOn test s.knows.held s.turns s t → KnowsWords t.knows (length log.state.history) → HoldsPending z t log
 still_holds z s t log test h k words = holds_with z s t log log h test (subst (λ (c : List Content). GoesOn test c s.turns s t) h.turn.held k) refl refl words
 
 pub as_pending : {D : Type 0} (z : SharedState D) (s : SeatState) (log : LogState) → HoldsWrite z s log → HoldsPending z s log
 as_pending z s log h = record { turn = h.turn; seen = h.seen; of_store = h.of_store; words = h.words }
 
-pub as_write : {D : Type 0} (z : SharedState D) (s : SeatState) (log : LogState) → HoldsPending z s log → log.table.pending ≡ [] → HoldsWrite z s log
+pub as_write : {D : Type 0} (z : SharedState D) (s : SeatState) (log : LogState) → HoldsPending z s log → log.state.pending ≡ [] → HoldsWrite z s log
 as_write z s log h none = record { turn = h.turn; pending = none; seen = h.seen; of_store = h.of_store; words = h.words }

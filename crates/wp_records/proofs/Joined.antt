@@ -10,7 +10,7 @@ use Rattle.wp_core.specs.Cache.{cache_place}
 use Rattle.wp_core.specs.Conditions.{HasTransaction, IsPrepare}
 use Rattle.wp_model.specs.Record.{IsOneRecord}
 use Rattle.wp_core.specs.Entries.{next_of, pair_by, pending_pair}
-use Rattle.wp_core.specs.Tables.{WriteState, writes}
+use Rattle.wp_core.specs.States.{WriteState, writes}
 use Rattle.wp_core.specs.Views as view
 use Rattle.wp_core.specs.Views.{Fact, passed, in_old_commits, words_stay, versions_in_memory, versions_nowhere, number_in_heap, number_not_in_heap}
 use Rattle.wp_core.specs.World.{Transaction, Participant, Actor}
@@ -84,12 +84,12 @@ first_ready a cells history (entry ∷ others) r = r.0
 
 -- ---- the first of them joins
 
-module _ {D : Type 0} (z : SharedState D) (s t u : SeatState) (log left : LogState) (entry : Entry) (others : List Entry) (h : HoldsPending z s log) (pending : log.table.pending ≡ entry ∷ others) (may : MayJoin s.knows z.cells log.table) where
+module _ {D : Type 0} (z : SharedState D) (s t u : SeatState) (log left : LogState) (entry : Entry) (others : List Entry) (h : HoldsPending z s log) (pending : log.state.pending ≡ entry ∷ others) (may : MayJoin s.knows z.cells log.state) where
   abbrev way : Way
-  way = way_of z.cells (pending_pair log.table.history log.table.pending)
+  way = way_of z.cells (pending_pair log.state.history log.state.pending)
 
-  pair_is : pending_pair log.table.history log.table.pending ≡ pair_by (suc (length log.table.history)) entry
-  pair_is = ap (pending_pair log.table.history) pending
+  pair_is : pending_pair log.state.history log.state.pending ≡ pair_by (suc (length log.state.history)) entry
+  pair_is = ap (pending_pair log.state.history) pending
 
   -- its pair was entered
   module _ (first : GoesOn (is_of_way z.cells way) s.knows.held s.turns s t) where
@@ -110,50 +110,50 @@ module _ {D : Type 0} (z : SharedState D) (s t u : SeatState) (log left : LogSta
     lets (Delayed p c) number_not_in_heap e = refl
     lets (Delayed p c) other e = absurd (true≢false (sym e))
 
-    pub next_still : Noted s.knows versions_in_memory → IsNext t.knows log.table entry others
+    pub next_still : Noted s.knows versions_in_memory → IsNext t.knows log.state entry others
     next_still versions =
         let same : t.knows.participant ≡ s.knows.participant = ap (λ (x : SeatState). x.knows.participant) first.same in
-        let owned : OwnsEntries s.knows log.table.history (entry ∷ others) = subst (OwnsEntries s.knows log.table.history) pending may.may.owned in
+        let owned : OwnsEntries s.knows log.state.history (entry ∷ others) = subst (OwnsEntries s.knows log.state.history) pending may.may.owned in
         record {
           pending = pending;
           logged = may.logged;
-          legal = first_legal log.table.history entry others (subst (λ (e : List Entry). IsLegal (log.table.history ++ e)) pending may.may.legal);
+          legal = first_legal log.state.history entry others (subst (λ (e : List Entry). IsLegal (log.state.history ++ e)) pending may.may.legal);
           versions = first.noted versions_in_memory (lets way versions_in_memory refl) versions;
-          owned = owns_still s.knows t.knows (ap (λ (x : Participant). x.direct) same) (ap (λ (x : Participant). x.transactions) same) log.table.history entry owned.0;
+          owned = owns_still s.knows t.knows (ap (λ (x : Participant). x.direct) same) (ap (λ (x : Participant). x.transactions) same) log.state.history entry owned.0;
         }
 
-    pub entered_in_place : (bound : ℕ) (words : List ℕ) → Noted t.knows (words_stay (bound_with z.cells (length log.table.history) bound words way) (with_way words way)) → IsEntered t.knows z.cells (with_way words way) way → IsInPlace t.knows z.cells log.table entry
+    pub entered_in_place : (bound : ℕ) (words : List ℕ) → Noted t.knows (words_stay (bound_with z.cells (length log.state.history) bound words way) (with_way words way)) → IsEntered t.knows z.cells (with_way words way) way → IsInPlace t.knows z.cells log.state entry
     entered_in_place bound words noted there = record {
       number = λ prepare. first.noted number_in_heap (lets way number_in_heap refl) (may.number (ap (λ (e : List Entry). is_prepare (next_of e)) pending ∙ is_a_prepare entry prepare));
       pair = λ pair e. (
-        bound_with z.cells (length log.table.history) bound words way,
+        bound_with z.cells (length log.state.history) bound words way,
         with_way words way,
         noted,
         subst (λ (o : Option CommitPair). IsEntered t.knows z.cells (with_way words way) (way_of z.cells o)) (pair_is ∙ e) there,
-        λ wide. subst (λ (w : Way). pair.number ≤ bound_with z.cells (length log.table.history) bound words w) (sym (ap (way_of z.cells) (pair_is ∙ e) ∙ ap (λ (b : Bool). cond b (InWord pair.number pair.decision) (Delayed pair.number pair.decision)) wide)) (delayed_reached pair.number bound),
+        λ wide. subst (λ (w : Way). pair.number ≤ bound_with z.cells (length log.state.history) bound words w) (sym (ap (way_of z.cells) (pair_is ∙ e) ∙ ap (λ (b : Bool). cond b (InWord pair.number pair.decision) (Delayed pair.number pair.decision)) wide)) (delayed_reached pair.number bound),
       );
     }
 
     -- and it joined the history
     module _ (k : IsPublished t log entry others u left) where
-      pub joined_goes : GoesOn (may_end log.table.history entry) (writes left.table ∷ []) s.turns (as_published log.table.history entry s) u
+      pub joined_goes : GoesOn (may_end log.state.history entry) (writes left.state ∷ []) s.turns (as_published log.state.history entry s) u
       joined_goes =
-          let same : u ≡ record (as_published log.table.history entry t) { knows = record (as_published log.table.history entry t).knows { held = writes left.table ∷ []; notes = u.knows.notes }; turns = t.turns } = k.seat.same in
+          let same : u ≡ record (as_published log.state.history entry t) { knows = record (as_published log.state.history entry t).knows { held = writes left.state ∷ []; notes = u.knows.notes }; turns = t.turns } = k.seat.same in
           record {
-            same = same ∙ ap (λ (x : SeatState). record (as_published log.table.history entry x) { knows = record (as_published log.table.history entry x).knows { held = writes left.table ∷ []; notes = u.knows.notes }; turns = x.turns }) first.same;
-            noted = λ fact other there. k.seat.noted fact (still_over log.table.history entry fact other) (first.noted fact (still_kept log.table.history entry fact other z.cells way) there);
+            same = same ∙ ap (λ (x : SeatState). record (as_published log.state.history entry x) { knows = record (as_published log.state.history entry x).knows { held = writes left.state ∷ []; notes = u.knows.notes }; turns = x.turns }) first.same;
+            noted = λ fact other there. k.seat.noted fact (still_over log.state.history entry fact other) (first.noted fact (still_kept log.state.history entry fact other z.cells way) there);
           }
 
-      history_is : left.table.history ≡ log.table.history ++ entry ∷ []
-      history_is = ap (λ (x : LogState). x.table.history) k.log_is
+      history_is : left.state.history ≡ log.state.history ++ entry ∷ []
+      history_is = ap (λ (x : LogState). x.state.history) k.log_is
 
-      pending_is : left.table.pending ≡ others
-      pending_is = ap (λ (x : LogState). x.table.pending) k.log_is
+      pending_is : left.state.pending ≡ others
+      pending_is = ap (λ (x : LogState). x.state.pending) k.log_is
 
-      longer : length left.table.history ≡ suc (length log.table.history)
-      longer = let l = length-append log.table.history (entry ∷ []) in ap length history_is ∙ omega (arith, l)
+      longer : length left.state.history ≡ suc (length log.state.history)
+      longer = let l = length-append log.state.history (entry ∷ []) in ap length history_is ∙ omega (arith, l)
 
-      pub joined : ((bound : ℕ) (words : List ℕ) → Noted s.knows (words_stay bound words) → Noted t.knows (words_stay (bound_with z.cells (length log.table.history) bound words way) (with_way words way))) → HasJoined z s log entry others u left
+      pub joined : ((bound : ℕ) (words : List ℕ) → Noted s.knows (words_stay bound words) → Noted t.knows (words_stay (bound_with z.cells (length log.state.history) bound words way) (with_way words way))) → HasJoined z s log entry others u left
       joined entering = let w = h.words in record {
         holds = record {
           turn = record {
@@ -165,36 +165,36 @@ module _ {D : Type 0} (z : SharedState D) (s t u : SeatState) (log left : LogSta
           seen = ap (λ (x : SeatState). x.knows.participant.seen) joined_goes.same ∙ sym history_is;
           of_store = h.of_store ∙ ap Some (sym (ap (λ (x : LogState). x.first) k.log_is));
           words = record {
-            bound = bound_with z.cells (length log.table.history) w.bound w.words way;
+            bound = bound_with z.cells (length log.state.history) w.bound w.words way;
             words = with_way w.words way;
-            noted = k.seat.noted (words_stay (bound_with z.cells (length log.table.history) w.bound w.words way) (with_way w.words way)) refl (entering w.bound w.words w.noted);
+            noted = k.seat.noted (words_stay (bound_with z.cells (length log.state.history) w.bound w.words way) (with_way w.words way)) refl (entering w.bound w.words w.noted);
             are_published = subst (λ (n : ℕ). ArePublished n (with_way w.words way)) (sym longer)
-                (way_published z.cells (length log.table.history) w.words (pending_pair log.table.history log.table.pending) (λ pair e. pending_order log.table.history log.table.pending pair may.may.legal e) w.are_published);
+                (way_published z.cells (length log.state.history) w.words (pending_pair log.state.history log.state.pending) (λ pair e. pending_order log.state.history log.state.pending pair may.may.legal e) w.are_published);
           };
         };
         seat = joined_goes;
         words = λ bound words there.
-            subst (λ (o : Option CommitPair). Noted u.knows (words_stay (bound_with z.cells (length log.table.history) bound words (way_of z.cells o)) (with_way words (way_of z.cells o)))) pair_is
-            (k.seat.noted (words_stay (bound_with z.cells (length log.table.history) bound words way) (with_way words way)) refl (entering bound words there));
+            subst (λ (o : Option CommitPair). Noted u.knows (words_stay (bound_with z.cells (length log.state.history) bound words (way_of z.cells o)) (with_way words (way_of z.cells o)))) pair_is
+            (k.seat.noted (words_stay (bound_with z.cells (length log.state.history) bound words way) (with_way words way)) refl (entering bound words there));
         log_is = k.log_is;
       }
 
       -- the others may join behind it
-      pub others_join : ((place : ℕ) → IsElsewhere z.cells place way → IsReadyAt s.knows (length log.table.history) place → IsReadyAt t.knows (length log.table.history) place)
-          → ((p : ℕ) → IsReached s.knows p → IsReached t.knows p) → (bound : ℕ) (words : List ℕ) → Noted t.knows (words_stay bound words) → IsEntered t.knows z.cells words way → MayJoin u.knows z.cells left.table × AreBehind left.table.pending
+      pub others_join : ((place : ℕ) → IsElsewhere z.cells place way → IsReadyAt s.knows (length log.state.history) place → IsReadyAt t.knows (length log.state.history) place)
+          → ((p : ℕ) → IsReached s.knows p → IsReached t.knows p) → (bound : ℕ) (words : List ℕ) → Noted t.knows (words_stay bound words) → IsEntered t.knows z.cells words way → MayJoin u.knows z.cells left.state × AreBehind left.state.pending
       others_join elsewhere reached bound words noted there =
           let behind : AreBehind others = subst (λ (e : List Entry). AreBehind (rest_of e)) pending may.behind in
-          let same : u.knows.participant ≡ (as_published log.table.history entry s).knows.participant = ap (λ (x : SeatState). x.knows.participant) joined_goes.same in
-          let legal : IsLegal (log.table.history ++ entry ∷ others) = subst (λ (e : List Entry). IsLegal (log.table.history ++ e)) pending may.may.legal in
-          let owned : OwnsEntries s.knows log.table.history (entry ∷ others) = subst (OwnsEntries s.knows log.table.history) pending may.may.owned in
-          let pairs : AreReady s.knows z.cells (length log.table.history) (way_of z.cells (pair_by (suc (length log.table.history)) entry) ∷ ways_of z.cells (suc (suc (length log.table.history))) others) =
-          subst (λ (e : List Entry). AreReady s.knows z.cells (length log.table.history) (ways_of z.cells (suc (length log.table.history)) e)) pending may.pairs in
-          let apart : AreApart z.cells (way_of z.cells (pair_by (suc (length log.table.history)) entry) ∷ ways_of z.cells (suc (suc (length log.table.history))) others) =
-          subst (λ (e : List Entry). AreApart z.cells (ways_of z.cells (suc (length log.table.history)) e)) pending may.apart in
-          let keeps = keeps_ready (is_over log.table.history entry) (as_published log.table.history entry t) u (writes left.table ∷ []) t.turns (λ place pair. (refl, refl, refl)) k.seat (λ b list n. (b, k.seat.noted (words_stay b list) refl n, omega arith)) in
-          let later : length log.table.history ≤ length left.table.history = let l = longer in omega (arith, l) in
-          let own : (p c : ℕ) → way ≡ InWord p c → p ≡ c → IsReadyAt u.knows (length left.table.history) (cache_place z.cells p) = λ p c is itself.
-          let last : c ≡ suc (length log.table.history) = pending_decides log.table.history log.table.pending (commit_pair p c) (pair_of_way z.cells (pending_pair log.table.history log.table.pending) p c is).0 in
+          let same : u.knows.participant ≡ (as_published log.state.history entry s).knows.participant = ap (λ (x : SeatState). x.knows.participant) joined_goes.same in
+          let legal : IsLegal (log.state.history ++ entry ∷ others) = subst (λ (e : List Entry). IsLegal (log.state.history ++ e)) pending may.may.legal in
+          let owned : OwnsEntries s.knows log.state.history (entry ∷ others) = subst (OwnsEntries s.knows log.state.history) pending may.may.owned in
+          let pairs : AreReady s.knows z.cells (length log.state.history) (way_of z.cells (pair_by (suc (length log.state.history)) entry) ∷ ways_of z.cells (suc (suc (length log.state.history))) others) =
+          subst (λ (e : List Entry). AreReady s.knows z.cells (length log.state.history) (ways_of z.cells (suc (length log.state.history)) e)) pending may.pairs in
+          let apart : AreApart z.cells (way_of z.cells (pair_by (suc (length log.state.history)) entry) ∷ ways_of z.cells (suc (suc (length log.state.history))) others) =
+          subst (λ (e : List Entry). AreApart z.cells (ways_of z.cells (suc (length log.state.history)) e)) pending may.apart in
+          let keeps = keeps_ready (is_over log.state.history entry) (as_published log.state.history entry t) u (writes left.state ∷ []) t.turns (λ place pair. (refl, refl, refl)) k.seat (λ b list n. (b, k.seat.noted (words_stay b list) refl n, omega arith)) in
+          let later : length log.state.history ≤ length left.state.history = let l = longer in omega (arith, l) in
+          let own : (p c : ℕ) → way ≡ InWord p c → p ≡ c → IsReadyAt u.knows (length left.state.history) (cache_place z.cells p) = λ p c is itself.
+          let last : c ≡ suc (length log.state.history) = pending_decides log.state.history log.state.pending (commit_pair p c) (pair_of_way z.cells (pending_pair log.state.history log.state.pending) p c is).0 in
           let l = longer in
           inr (
             bound,
@@ -204,21 +204,21 @@ module _ {D : Type 0} (z : SharedState D) (s t u : SeatState) (log left : LogSta
             omega (arith, l, last),
             subst (λ (w : Way). IsEntered t.knows z.cells words w) is there ∙ ap (λ (q : ℕ). Some (commit_pair q c)) itself,
           ) in
-          let ready : AreReady u.knows z.cells (length left.table.history) (ways_of z.cells (suc (suc (length log.table.history))) others) =
-          ready_behind s.knows u.knows z.cells (length log.table.history) (length left.table.history) (λ p r. reached_still (as_published log.table.history entry t).knows u.knows keeps p (reached p r)) way (ways_of z.cells (suc (suc (length log.table.history))) others)
-          (λ place away r. ready_still (as_published log.table.history entry t).knows u.knows z.cells (length log.table.history) (length left.table.history) keeps later place (elsewhere place away r))
+          let ready : AreReady u.knows z.cells (length left.state.history) (ways_of z.cells (suc (suc (length log.state.history))) others) =
+          ready_behind s.knows u.knows z.cells (length log.state.history) (length left.state.history) (λ p r. reached_still (as_published log.state.history entry t).knows u.knows keeps p (reached p r)) way (ways_of z.cells (suc (suc (length log.state.history))) others)
+          (λ place away r. ready_still (as_published log.state.history entry t).knows u.knows z.cells (length log.state.history) (length left.state.history) keeps later place (elsewhere place away r))
           own
-          (subst (λ (o : Option CommitPair). MayPrecede z.cells (way_of z.cells o) (ways_of z.cells (suc (suc (length log.table.history))) others)) (sym pair_is) apart.0)
+          (subst (λ (o : Option CommitPair). MayPrecede z.cells (way_of z.cells o) (ways_of z.cells (suc (suc (length log.state.history))) others)) (sym pair_is) apart.0)
           pairs.1 in (
             record {
-              logged = ap (λ (x : LogState). x.table.logged) k.log_is ∙ may.logged;
+              logged = ap (λ (x : LogState). x.state.logged) k.log_is ∙ may.logged;
               may = record {
-                legal = subst (λ (x : List Entry × List Entry). IsLegal (x.0 ++ x.1)) (λ i. (sym history_is i, sym pending_is i)) (subst IsLegal (sym (append_assoc log.table.history (entry ∷ []) others)) legal);
+                legal = subst (λ (x : List Entry × List Entry). IsLegal (x.0 ++ x.1)) (λ i. (sym history_is i, sym pending_is i)) (subst IsLegal (sym (append_assoc log.state.history (entry ∷ []) others)) legal);
                 owned = subst (λ (x : List Entry × List Entry). OwnsEntries u.knows x.0 x.1) (λ i. (sym history_is i, sym pending_is i))
-                    (own_still s.knows u.knows (ap (λ (x : Participant). x.direct) same) (ap (λ (x : Participant). x.transactions) same) (log.table.history ++ entry ∷ []) others owned.1);
+                    (own_still s.knows u.knows (ap (λ (x : Participant). x.direct) same) (ap (λ (x : Participant). x.transactions) same) (log.state.history ++ entry ∷ []) others owned.1);
               };
               number = λ is. absurd (behind_decides others behind (sym (ap (λ (e : List Entry). is_prepare (next_of e)) pending_is) ∙ is));
-              pairs = subst (λ (x : ℕ × List Entry). AreReady u.knows z.cells (length left.table.history) (ways_of z.cells (suc x.0) x.1)) (λ i. (sym longer i, sym pending_is i)) ready;
+              pairs = subst (λ (x : ℕ × List Entry). AreReady u.knows z.cells (length left.state.history) (ways_of z.cells (suc x.0) x.1)) (λ i. (sym longer i, sym pending_is i)) ready;
               apart = subst (λ (x : ℕ × List Entry). AreApart z.cells (ways_of z.cells (suc x.0) x.1)) (λ i. (sym longer i, sym pending_is i)) apart.1;
               behind = subst (λ (e : List Entry). AreBehind (rest_of e)) (sym pending_is) (behind_rest others behind);
             },
@@ -246,19 +246,19 @@ noted_join s t fact cells d is k = joins_still s.knows t.knows cells d (ap (λ (
 
 -- ---- the record is ready, and was logged
 
-pub logged_join : {D : Type 0} (z : SharedState D) (s t : SeatState) (log mid : LogState) (cells : ℕ) → IsOneRecord log.table.pending → MayPut s.knows log.table.history log.table.pending → AreApart cells (ways_of cells (suc (length log.table.history)) log.table.pending) → IsReadied s.knows cells log.table
-    → IsLogged z s log t mid → MayJoin t.knows cells mid.table × Noted t.knows versions_in_memory
+pub logged_join : {D : Type 0} (z : SharedState D) (s t : SeatState) (log mid : LogState) (cells : ℕ) → IsOneRecord log.state.pending → MayPut s.knows log.state.history log.state.pending → AreApart cells (ways_of cells (suc (length log.state.history)) log.state.pending) → IsReadied s.knows cells log.state
+    → IsLogged z s log t mid → MayJoin t.knows cells mid.state × Noted t.knows versions_in_memory
 logged_join z s t log mid cells one may apart ready k =
     let noted : (fact : Fact) → Noted s.knows fact → Noted t.knows fact = λ fact there. subst (λ (x : SeatState). Noted x.knows fact) (sym k.seat) there in
-    let history : mid.table.history ≡ log.table.history = ap (λ (x : WriteState). x.history) k.table in
-    let pending : mid.table.pending ≡ log.table.pending = ap (λ (x : WriteState). x.pending) k.table in (
-      joins_still s.knows t.knows cells mid.table (ap (λ (x : SeatState). x.knows.participant) k.seat) noted (record {
-        logged = ap (λ (x : WriteState). x.logged) k.table;
+    let history : mid.state.history ≡ log.state.history = ap (λ (x : WriteState). x.history) k.state in
+    let pending : mid.state.pending ≡ log.state.pending = ap (λ (x : WriteState). x.pending) k.state in (
+      joins_still s.knows t.knows cells mid.state (ap (λ (x : SeatState). x.knows.participant) k.seat) noted (record {
+        logged = ap (λ (x : WriteState). x.logged) k.state;
         may = subst (λ (x : List Entry × List Entry). MayPut s.knows x.0 x.1) (λ i. (sym history i, sym pending i)) may;
         number = λ is. ready.number (ap (λ (e : List Entry). is_prepare (next_of e)) (sym pending) ∙ is);
         pairs = subst (λ (x : List Entry × List Entry). AreReady s.knows cells (length x.0) (ways_of cells (suc (length x.0)) x.1)) (λ i. (sym history i, sym pending i)) ready.pairs;
         apart = subst (λ (x : List Entry × List Entry). AreApart cells (ways_of cells (suc (length x.0)) x.1)) (λ i. (sym history i, sym pending i)) apart;
-        behind = subst (λ (e : List Entry). AreBehind (rest_of e)) (sym pending) (one_behind log.table.pending one);
+        behind = subst (λ (e : List Entry). AreBehind (rest_of e)) (sym pending) (one_behind log.state.pending one);
       }),
       noted versions_in_memory ready.versions,
     )

@@ -17,7 +17,7 @@ use Rattle.wp_core.specs.Entries.{next_of, HasVersionsAt}
 use Rattle.wp_core.specs.Lists.{IsIn}
 use Rattle.wp_core.specs.Notes.{ends}
 use Rattle.wp_core.specs.Steps.{Step, make_pending, log_pending, close_log, drop_pending, add_prepared, take_pending_prepared, add_versions, take_versions, store_published, note}
-use Rattle.wp_core.specs.Tables.{Content, WriteState, StoreState, writes, prepared, store}
+use Rattle.wp_core.specs.States.{Content, WriteState, StoreState, writes, prepared, store}
 use Rattle.wp_core.specs.Turns.{write_turn}
 use Rattle.wp_core.specs.Views.{Fact, words_stay, versions_in_memory, versions_nowhere, number_in_heap, number_not_in_heap, pair_delayed, pair_not_delayed, none_waits, undecided_at, prior_values, unprepared}
 use Rattle.wp_core.specs.World.{Actor, World}
@@ -35,7 +35,7 @@ use Rattle.wp_shared.specs.Seats.{SeatState}
 use Rattle.wp_shared.proofs.OneStep.{made, becomes}
 use Rattle.wp_shared.specs.Notes.{GoesOn, KnowsWords}
 use Rattle.wp_shared.proofs.Goes.{goes_with}
-use Rattle.wp_shared.proofs.Tables.{held_table}
+use Rattle.wp_shared.proofs.Tables.{held_state}
 use Rattle.wp_commits.specs.declared.way.Way.TheVariants.{InWord, Delayed}
 use Rattle.wp_commits.specs.Ways.{way_of, IsEntered}
 use Rattle.wp_commits.proofs.Flags.{note_ends_none}
@@ -88,7 +88,7 @@ none_still t d is (inr closed) = inr (sym (ap (λ (x : WriteState). x.closed) is
 pub may_begin : (p : Place) (a : Actor) (t d : WriteState) → a.held ≡ writes t ∷ [] → t.pending ≡ [] → d ≡ record t { pending = d.pending; logged = false } → IsOneRecord d.pending → IsLegal (d.history ++ d.pending) → NoneNext d
     → MayMake p a (λ w. make_pending d.pending ∷ note versions_nowhere ∷ note number_not_in_heap ∷ note pair_not_delayed ∷ [])
 may_begin p a t d held none is one legal alone =
-    begins_entries p a d.pending (record { table = t; held = first_held a (writes t) [] held; so_is = (none, one, subst (λ (h : List Entry). IsLegal (h ++ d.pending)) (ap (λ (x : WriteState). x.history) is) legal, none_still t d is alone) })
+    begins_entries p a d.pending (record { state = t; held = first_held a (writes t) [] held; so_is = (none, one, subst (λ (h : List Entry). IsLegal (h ++ d.pending)) (ap (λ (x : WriteState). x.history) is) legal, none_still t d is alone) })
 
 pub began : (p : Place) (so : World → Type 0) (s u : SeatState) → (u.table ≡ s.table) × (u.by ≡ s.by) × (u.turns ≡ s.turns) → (t d : WriteState) → s.knows.held ≡ writes t ∷ [] → d ≡ record t { pending = d.pending; logged = false }
     → Moved p (λ w. make_pending d.pending ∷ note versions_nowhere ∷ note number_not_in_heap ∷ note pair_not_delayed ∷ []) so s.knows u.knows
@@ -96,7 +96,7 @@ pub began : (p : Place) (so : World → Type 0) (s u : SeatState) → (u.table �
 began p so s u same t d held is m =
     let w = m.world in
     let steps : World → List Step = λ v. make_pending d.pending ∷ note versions_nowhere ∷ note number_not_in_heap ∷ note pair_not_delayed ∷ [] in
-    let table : w.writes ≡ t = held_table p s.knows w (writes t) m.before (first_held s.knows (writes t) [] held) in
+    let table : w.writes ≡ t = held_state p s.knows w (writes t) m.before (first_held s.knows (writes t) [] held) in
     let left : held_with s.knows.held (writes (record w.writes { pending = d.pending; logged = false })) ≡ writes d ∷ [] =
     (λ i. held_with (held i) (writes (record (table i) { pending = d.pending; logged = false }))) ∙ ap (λ (x : WriteState). writes x ∷ []) (sym is) in (
       goes_by p so s u same steps m is_of_pending (writes d ∷ []) refl left (λ fact other.
@@ -119,13 +119,13 @@ drop_ends history words other e = refl
 pub may_drop : (p : Place) (a : Actor) (t d : WriteState) → a.held ≡ writes t ∷ [] → t.logged ≡ false → d ≡ record t { pending = [] } → KnowsWords a (length d.history) → Noted a versions_nowhere → Noted a number_not_in_heap → Noted a pair_not_delayed → MayMake p a (λ w. drop_pending ∷ [])
 may_drop p a t d held unlogged is words nowhere below undelayed =
     let known : KnowsWords a (length t.history) = subst (λ (h : List Entry). KnowsWords a (length h)) (ap (λ (x : WriteState). x.history) is) words in
-    known_made p a drop_pending tt (record { table = t; held = first_held a (writes t) [] held; so_is = (unlogged, (known.bound, known.words, known.noted, uncached a t known), undelayed, nowhere, below) })
+    known_made p a drop_pending tt (record { state = t; held = first_held a (writes t) [] held; so_is = (unlogged, (known.bound, known.words, known.noted, uncached a t known), undelayed, nowhere, below) })
 
 pub dropped : (p : Place) (so : World → Type 0) (s u : SeatState) → (u.table ≡ s.table) × (u.by ≡ s.by) × (u.turns ≡ s.turns) → (t d : WriteState) → s.knows.held ≡ writes t ∷ [] → d ≡ record t { pending = [] } → Moved p (λ w. drop_pending ∷ []) so s.knows u.knows
     → GoesOn is_of_pending (writes d ∷ []) s.turns s u
 dropped p so s u same t d held is m =
     let w = m.world in
-    let table : w.writes ≡ t = held_table p s.knows w (writes t) m.before (first_held s.knows (writes t) [] held) in
+    let table : w.writes ≡ t = held_state p s.knows w (writes t) m.before (first_held s.knows (writes t) [] held) in
     let left : held_with s.knows.held (writes (record w.writes { pending = [] })) ≡ writes d ∷ [] = (λ i. held_with (held i) (writes (record (table i) { pending = [] }))) ∙ ap (λ (x : WriteState). writes x ∷ []) (sym is) in
     goes_by p so s u same (λ v. drop_pending ∷ []) m is_of_pending (writes d ∷ []) refl left (λ fact other. ((λ x. x), drop_ends w.writes.history (length w.cache) fact other, tt))
 
@@ -138,16 +138,16 @@ close_ends : EndsNothing close_log
 close_ends = record { guard = λ turn. refl; place = λ words place. refl; words = refl; delayed_flag = refl; old_flag = refl; pending = refl; adds = refl; takes = refl; prepared = refl; unprepared = refl; delays = refl; transaction = λ history name. refl; direct = refl; moves = refl; replaces = refl; installing = refl }
 
 pub may_log : (p : Place) (a : Actor) (t : WriteState) → a.held ≡ writes t ∷ [] → IsUnlogged t → MayMake p a (λ w. log_pending ∷ [])
-may_log p a t held k = known_made p a log_pending tt (record { table = t; held = first_held a (writes t) [] held; so_is = (k.some, k.unlogged, k.running) })
+may_log p a t held k = known_made p a log_pending tt (record { state = t; held = first_held a (writes t) [] held; so_is = (k.some, k.unlogged, k.running) })
 
 pub may_close : (p : Place) (a : Actor) (t : WriteState) → a.held ≡ writes t ∷ [] → IsUnlogged t → MayMake p a (λ w. close_log ∷ [])
-may_close p a t held k = known_made p a close_log tt (record { table = t; held = first_held a (writes t) [] held; so_is = (k.running, inl (k.some, k.unlogged)) })
+may_close p a t held k = known_made p a close_log tt (record { state = t; held = first_held a (writes t) [] held; so_is = (k.running, inl (k.some, k.unlogged)) })
 
 pub logged : (p : Place) (so : World → Type 0) (s u : SeatState) → (u.table ≡ s.table) × (u.by ≡ s.by) × (u.turns ≡ s.turns) → (t d : WriteState) → s.knows.held ≡ writes t ∷ [] → d ≡ record t { logged = true; log = t.log ++ t.pending } → Moved p (λ w. log_pending ∷ []) so s.knows u.knows
     → u ≡ holding d s
 logged p so s u same t d held is m =
     let step = made p log_pending so s.knows u.knows log_ends m in
-    let table : step.world.writes ≡ t = held_table p s.knows step.world (writes t) step.before (first_held s.knows (writes t) [] held) in
+    let table : step.world.writes ≡ t = held_state p s.knows step.world (writes t) step.before (first_held s.knows (writes t) [] held) in
     becomes s u (record s.knows { held = writes d ∷ [] }) same
     (step.actor ∙ ((λ i. record s.knows { held = held_with (held i) (writes (record (table i) { logged = true; log = (table i).log ++ (table i).pending })) }) ∙ ap (λ (x : WriteState). record s.knows { held = writes x ∷ [] }) (sym is)))
 
@@ -155,7 +155,7 @@ pub closed : (p : Place) (so : World → Type 0) (s u : SeatState) → (u.table 
     → u ≡ holding d (as_failed d.failed s)
 closed p so s u same t d held is m =
     let step = made p close_log so s.knows u.knows close_ends m in
-    let table : step.world.writes ≡ t = held_table p s.knows step.world (writes t) step.before (first_held s.knows (writes t) [] held) in
+    let table : step.world.writes ≡ t = held_state p s.knows step.world (writes t) step.before (first_held s.knows (writes t) [] held) in
     let Failed : WriteState → Actor = λ x. record (as_failed x.failed s).knows { held = writes x ∷ [] } in
     becomes s u (Failed d) same
     (step.actor ∙ ((λ i. record (as_failed (table i).pending s).knows { held = held_with (held i) (writes (record (table i) { closed = true; failed = (table i).pending })) }) ∙ ap Failed (sym is)))
@@ -187,18 +187,18 @@ at_number entry n before now key has = has key n ∙ ap (λ (b : Bool). cond b (
 
 module _ (p : Place) (a : Actor) (d : WriteState) (t : StoreState) (memory : List Version) (held : a.held ≡ store t ∷ writes d ∷ []) where
   both_are : (w : World) → IsAt p a w → (w.writes ≡ d) × (w.store ≡ t)
-  both_are w k = (held_table p a w (writes d) k (second_held a (store t) (writes d) held), stores_are p a w t k (first_held a (store t) (writes d ∷ []) held))
+  both_are w k = (held_state p a w (writes d) k (second_held a (store t) (writes d) held), stores_are p a w t k (first_held a (store t) (writes d ∷ []) held))
 
   pub may_add : HasVersionsAt (next_of d.pending) (suc (length d.history)) t.memory memory → MayMake p a (λ w. add_versions memory ∷ note versions_in_memory ∷ [])
   may_add has w k =
-      let n = needed p a w k (add_versions memory) (record { table = d; held = second_held a (store t) (writes d) held; so_is = record { table = t; held = first_held a (store t) (writes d ∷ []) held; so_is = has } }) in
+      let n = needed p a w k (add_versions memory) (record { state = d; held = second_held a (store t) (writes d) held; so_is = record { state = t; held = first_held a (store t) (writes d ∷ []) held; so_is = has } }) in
       let there : (key : List ℕ) (value : Option (List ℕ)) → version_in (next_of w.writes.pending) key ≡ Some value → version_at memory key (suc (length w.writes.history)) ≡ Some value =
       λ key value e. at_number (next_of w.writes.pending) (suc (length w.writes.history)) w.store.memory memory key n.2 ∙ e in
       ((tt, (tt, tt)), (n, ((holder_is_live p a w write_turn k n.0, guarded p a w k write_turn n.0, there), tt)))
 
   pub may_take : HasVersionsAt None (suc (length d.history)) t.memory memory → MayMake p a (λ w. take_versions memory ∷ note versions_nowhere ∷ [])
   may_take has w k =
-      let n = needed p a w k (take_versions memory) (record { table = d; held = second_held a (store t) (writes d) held; so_is = record { table = t; held = first_held a (store t) (writes d ∷ []) held; so_is = has } }) in
+      let n = needed p a w k (take_versions memory) (record { state = d; held = second_held a (store t) (writes d) held; so_is = record { state = t; held = first_held a (store t) (writes d ∷ []) held; so_is = has } }) in
       let none : (key : List ℕ) → version_at memory key (suc (length w.writes.history)) ≡ None = λ key. at_number None (suc (length w.writes.history)) w.store.memory memory key n.2 in
       ((tt, (tt, tt)), (n, ((holder_is_live p a w write_turn k n.0, guarded p a w k write_turn n.0, none), tt)))
 
@@ -239,19 +239,19 @@ out_ends history words other e = refl
 module _ (p : Place) (a : Actor) (d : WriteState) (t : PreparedSets) (held : a.held ≡ prepared t ∷ writes d ∷ []) (prepare : HasPrepare d) where
   pub may_put_number : MayMake p a (λ w. add_prepared ∷ note number_in_heap ∷ [])
   may_put_number w k =
-      let n = needed p a w k add_prepared (record { table = d; held = second_held a (prepared t) (writes d) held; so_is = record { table = t; held = first_held a (prepared t) (writes d ∷ []) held; so_is = prepare } }) in
+      let n = needed p a w k add_prepared (record { state = d; held = second_held a (prepared t) (writes d) held; so_is = record { state = t; held = first_held a (prepared t) (writes d ∷ []) held; so_is = prepare } }) in
       ((tt, (tt, tt)), (n, ((holder_is_live p a w write_turn k n.0, guarded p a w k write_turn n.0, in_inserted w.prepared.heap (suc (length w.writes.history))), tt)))
 
   pub may_take_number : MayMake p a (λ w. take_pending_prepared ∷ note number_not_in_heap ∷ [])
   may_take_number w k =
-      let n = needed p a w k take_pending_prepared (record { table = d; held = second_held a (prepared t) (writes d) held; so_is = record { table = t; held = first_held a (prepared t) (writes d ∷ []) held; so_is = prepare } }) in
+      let n = needed p a w k take_pending_prepared (record { state = d; held = second_held a (prepared t) (writes d) held; so_is = record { state = t; held = first_held a (prepared t) (writes d ∷ []) held; so_is = prepare } }) in
       ((tt, (tt, tt)), (n, ((holder_is_live p a w write_turn k n.0, guarded p a w k write_turn n.0, in_removed w.prepared.heap (suc (length w.writes.history))), tt)))
 
 module _ (p : Place) (so : World → Type 0) (s u : SeatState) (same : (u.table ≡ s.table) × (u.by ≡ s.by) × (u.turns ≡ s.turns)) (d : WriteState) (t tables : PreparedSets) (held : s.knows.held ≡ prepared t ∷ writes d ∷ []) where
   heap_held : (f : PreparedSets → ℕ → PreparedSets) → tables ≡ f t (suc (length d.history)) → (w : World) → IsAt p s.knows w → held_with s.knows.held (prepared (f w.prepared (suc (length w.writes.history)))) ≡ prepared tables ∷ writes d ∷ []
   heap_held f is w k =
-      let one : w.prepared ≡ t = held_table p s.knows w (prepared t) k (first_held s.knows (prepared t) (writes d ∷ []) held) in
-      let two : w.writes ≡ d = held_table p s.knows w (writes d) k (second_held s.knows (prepared t) (writes d) held) in
+      let one : w.prepared ≡ t = held_state p s.knows w (prepared t) k (first_held s.knows (prepared t) (writes d ∷ []) held) in
+      let two : w.writes ≡ d = held_state p s.knows w (writes d) k (second_held s.knows (prepared t) (writes d) held) in
       (λ i. held_with (held i) (prepared (f (one i) (suc (length (two i).history))))) ∙ ap (λ (x : PreparedSets). prepared x ∷ writes d ∷ []) (sym is)
 
   pub number_put : tables ≡ record t { heap = set.insert t.heap (suc (length d.history)) } → Moved p (λ w. add_prepared ∷ note number_in_heap ∷ []) so s.knows u.knows
@@ -306,7 +306,7 @@ pub may_publish : (p : Place) (a : Actor) (d : WriteState) (entry : Entry) (othe
 may_publish p a d entry others held next place w k =
     needed p a w k (store_published entry others)
     (record {
-      table = d;
+      state = d;
       held = first_held a (writes d) [] held;
       so_is = record {
         pending = next.pending;
@@ -325,7 +325,7 @@ pub published : (p : Place) (so : World → Type 0) (s u : SeatState) → (u.tab
 published p so s u same d e entry others held is m =
     let w = m.world in
     let steps : World → List Step = λ v. store_published entry others ∷ [] in
-    let table : w.writes ≡ d = held_table p s.knows w (writes d) m.before (first_held s.knows (writes d) [] held) in
+    let table : w.writes ≡ d = held_state p s.knows w (writes d) m.before (first_held s.knows (writes d) [] held) in
     let b : Actor = actor_after (store_published entry others ∷ []) w p.by s.knows in
     let form : b ≡ record (publishes d.history entry s.knows) { held = b.held; notes = b.notes } = ap (λ (x : WriteState). record (publishes x.history entry s.knows) { held = b.held; notes = b.notes }) table in
     let left : held_with s.knows.held (writes (with_entry w.writes entry others)) ≡ writes e ∷ [] = (λ i. held_with (held i) (writes (with_entry (table i) entry others))) ∙ ap (λ (x : WriteState). writes x ∷ []) (sym is) in

@@ -8,7 +8,7 @@ use Rattle.wp_model.specs.Legal.{changes_in}
 use Rattle.wp_model.specs.Versions.{version_at}
 use Rattle.wp_core.specs.Entries.{next_of, HasVersionsAt}
 use Rattle.wp_core.specs.Lists.{IsIn}
-use Rattle.wp_core.specs.Tables.{WriteState, StoreState, Content, writes, store}
+use Rattle.wp_core.specs.States.{WriteState, StoreState, Content, writes, store}
 use Rattle.wp_core.specs.Views.{versions_nowhere}
 use Rattle.wp_core.specs.Sound.Views.{IsNowhere}
 use Rattle.wp_rule.specs.Knows.{Noted}
@@ -20,13 +20,13 @@ use Rattle.wp_shared.specs.Seats.{SharedState, SeatState, Stands, place_at}
 use Rattle.wp_shared.specs.Turns.{Taken}
 use Rattle.wp_shared.specs.Notes.{GoesOn}
 use Rattle.wp_shared.proofs.Goes.{stays}
-use Rattle.wp_shared.proofs.Tables.{held_table}
+use Rattle.wp_shared.proofs.Tables.{held_state}
 use Rattle.wp_records.specs.Stages.{is_of_versions}
 
 -- nothing of the pending entry is in the versions that a turn is taken with
 pub nowhere_there : {D : Type 0} (z : SharedState D) (old new : SeatState) (t : StoreState) (d : WriteState) → Taken z old new (store t) → IsIn (writes d) old.knows.held → Noted old.knows versions_nowhere → IsNowhere d t
 nowhere_there z old new t d k held noted =
-    subst (λ (x : WriteState × StoreState). IsNowhere x.0 x.1) (λ i. (held_table (place_at z old.by) old.knows k.world (writes d) k.before held i, k.is i))
+    subst (λ (x : WriteState × StoreState). IsNowhere x.0 x.1) (λ i. (held_state (place_at z old.by) old.knows k.world (writes d) k.before held i, k.is i))
     (noted_is (place_at z old.by) old.knows k.world versions_nowhere k.before noted).is_so
 
 -- ---- versions are put there
@@ -60,10 +60,10 @@ module _ (s : SeatState) (d : WriteState) (old now : StockState) (held : s.knows
     there = subst (λ (x : SeatState). IsAt (place_at z x.by) x.knows w) same at.1
 
     store_is : w.store ≡ store_state old
-    store_is = held_table (place_at z s.by) s.knows w (store (store_state old)) there (subst (IsIn (store (store_state old))) (sym held) (inl refl))
+    store_is = held_state (place_at z s.by) s.knows w (store (store_state old)) there (subst (IsIn (store (store_state old))) (sym held) (inl refl))
 
     writes_is : w.writes ≡ d
-    writes_is = held_table (place_at z s.by) s.knows w (writes d) there (subst (IsIn (writes d)) (sym held) (inr (inl refl)))
+    writes_is = held_state (place_at z s.by) s.knows w (writes d) there (subst (IsIn (writes d)) (sym held) (inr (inl refl)))
 
     none_later : (key : List ℕ) (p : ℕ) → suc (length d.history) ≤ p → p ≢ suc (length d.history) → version_at (store_state old).memory key p ≡ None
     none_later key p from other = by (version_at (store_state old).memory key p) refl

@@ -10,7 +10,7 @@ use Rattle.wp_model.specs.declared.entry.Entry.TheVariants.{Write, Prepare, Comm
 use Rattle.wp_judge.specs.Words.{CommitPair, commit_pair, delta_of, delta_bound, fits, word_of, is_pair, pair_with, pair_of, decision_if}
 use Rattle.wp_core.specs.Cache.{cache_place, cached, pair_at, with_pair}
 use Rattle.wp_core.specs.Entries.{pair_by, pending_pair}
-use Rattle.wp_core.specs.Tables.{WriteState}
+use Rattle.wp_core.specs.States.{WriteState}
 use Rattle.wp_core.specs.World.{Actor}
 use Rattle.wp_core.proofs.StoresWord.{pending_next}
 use Rattle.wp_model.proofs.Tests.{same_some}

@@ -13,7 +13,7 @@ use Rattle.wp_core.specs.Conditions.{HasTransaction}
 use Rattle.wp_core.specs.Entries.{transaction_of, changes_under}
 use Rattle.wp_core.specs.Lists.{IsIn}
 use Rattle.wp_core.specs.Sound.Views.{guarded_by}
-use Rattle.wp_core.specs.Tables.{WriteState, writes}
+use Rattle.wp_core.specs.States.{WriteState, writes}
 use Rattle.wp_core.specs.Views.{Fact, words_stay, none_waits, log_failed}
 use Rattle.wp_core.specs.World.{Transaction, Actor, Participant, World}
 use Rattle.wp_rule.specs.Knows.{KnowsHeld, Noted}
@@ -71,7 +71,7 @@ pub record HasCleared {D : Type 0} (z : SharedState D) (old : SeatState) (histor
   pub stands : Stands z seat world
   pub same_by : seat.by ≡ old.by
   pub participant : seat.knows.participant ≡ old.knows.participant
-  pub table : WriteState
+  pub state : WriteState
   pub held : seat.knows.held ≡ writes table ∷ []
   pub history_is : table.history ≡ history
   pub pending_is : table.pending ≡ entries
@@ -85,28 +85,28 @@ pub record HasCleared {D : Type 0} (z : SharedState D) (old : SeatState) (histor
 pub record IsPutWith {D : Type 0} (z : SharedState D) (old : SeatState) (log : LogState) (cleared : List Way) (entries : List Entry) (new : SeatState) (left : LogState) : Type 0 where
   pub holds : HoldsWrite z new left
   pub same_by : new.by ≡ old.by
-  pub history : left.table.history ≡ log.table.history ++ entries
-  pub running : left.table.closed ≡ false
-  pub knows : new.knows ≡ record old.knows { participant = putting log.table.history entries old.knows.participant; learned = []; held = writes left.table ∷ []; notes = new.knows.notes }
-  pub notes : (fact : Fact) → guarded_by fact ≡ None → IsAboutNone log.table.history entries fact → IsIn fact old.knows.notes → IsIn fact new.knows.notes
-  pub waited : AnyClears cleared → HasCleared z old log.table.history entries
+  pub history : left.state.history ≡ log.state.history ++ entries
+  pub running : left.state.closed ≡ false
+  pub knows : new.knows ≡ record old.knows { participant = putting log.state.history entries old.knows.participant; learned = []; held = writes left.state ∷ []; notes = new.knows.notes }
+  pub notes : (fact : Fact) → guarded_by fact ≡ None → IsAboutNone log.state.history entries fact → IsIn fact old.knows.notes → IsIn fact new.knows.notes
+  pub waited : AnyClears cleared → HasCleared z old log.state.history entries
   pub words : (bound : ℕ) (words : List ℕ) → Noted old.knows (words_stay bound words)
-      → Noted new.knows (entered z.cells (length log.table.history) (bound_for z.cells (length log.table.history) bound words cleared) words (ways_of z.cells (suc (length log.table.history)) entries))
+      → Noted new.knows (entered z.cells (length log.state.history) (bound_for z.cells (length log.state.history) bound words cleared) words (ways_of z.cells (suc (length log.state.history)) entries))
 
 -- ... for those of all its entries
 abbrev pub IsPut : {D : Type 0} → SharedState D → SeatState → LogState → List Entry → SeatState → LogState → Type 0
-IsPut z old log entries new left = IsPutWith z old log (ways_of z.cells (suc (length log.table.history)) entries) entries new left
+IsPut z old log entries new left = IsPutWith z old log (ways_of z.cells (suc (length log.state.history)) entries) entries new left
 
 -- The history is as it was, and nothing is pending. The log is closed now, or it is not. The bound rose for these ways, and the words
 -- are as they were.
 pub record IsNotPut {D : Type 0} (z : SharedState D) (old : SeatState) (log : LogState) (cleared : List Way) (closed : Bool) (after : Participant) (new : SeatState) (left : LogState) : Type 0 where
   pub holds : HoldsWrite z new left
   pub same_by : new.by ≡ old.by
-  pub history : left.table.history ≡ log.table.history
-  pub closed_is : left.table.closed ≡ closed
-  pub knows : new.knows ≡ record old.knows { participant = after; held = writes left.table ∷ []; notes = new.knows.notes }
+  pub history : left.state.history ≡ log.state.history
+  pub closed_is : left.state.closed ≡ closed
+  pub knows : new.knows ≡ record old.knows { participant = after; held = writes left.state ∷ []; notes = new.knows.notes }
   pub notes : (fact : Fact) → guarded_by fact ≡ None → IsIn fact old.knows.notes → IsIn fact new.knows.notes
-  pub words : RisesFor z.cells (length log.table.history) old.knows new.knows cleared
+  pub words : RisesFor z.cells (length log.state.history) old.knows new.knows cleared
 
 -- the participant, to which the log call for these entries failed
 abbrev pub failing : List Entry → Participant → Participant
@@ -124,15 +124,15 @@ LeavesAll wal table entries moments =
 -- The append of these entries failed: the count of the log's device rose, and the log is closed for good. A crash at any moment of it
 -- left the history, or it and the entries, whole, and lost nothing that was acknowledged.
 pub record FailsAppend (log : LogState) (entries : List Entry) (left : LogState) : Type 0 where
-  pub table : left.table ≡ record log.table { pending = []; logged = false; closed = true; failed = entries }
+  pub state : left.state ≡ record log.state { pending = []; logged = false; closed = true; failed = entries }
   pub rose : Rose log.wal.faults left.wal.faults
-  pub passed : LeavesAll log.wal log.table entries left.wal.moments
-  pub durable : LosesNothingAt log.table.segment.place log.wal.moments left.wal.moments
+  pub passed : LeavesAll log.wal log.state entries left.wal.moments
+  pub durable : LosesNothingAt log.state.segment.place log.wal.moments left.wal.moments
 
 -- What a call answers that puts these entries behind the history, and what it leaves. Where memory is wanting the bound rose for some
 -- of the first of its ways, for none, or for all; and the log's device was not called.
 abbrev pub Puts : {D : Type 0} → SharedState D → SeatState → LogState → List Entry → Result (Unit {0}) WriteError → SeatState → LogState → Type 0
 Puts z old log entries (Ok done) new left = IsPut z old log entries new left
 Puts z old log entries (Err Memory) new left =
-    (cleared : List Way) × (others : List Way) × (ways_of z.cells (suc (length log.table.history)) entries ≡ cleared ++ others) × IsNotPut z old log cleared false old.knows.participant new left × IsUncalled log left
-Puts z old log entries (Err LogFault) new left = IsNotPut z old log (ways_of z.cells (suc (length log.table.history)) entries) true (failing entries old.knows.participant) new left × FailsAppend log entries left
+    (cleared : List Way) × (others : List Way) × (ways_of z.cells (suc (length log.state.history)) entries ≡ cleared ++ others) × IsNotPut z old log cleared false old.knows.participant new left × IsUncalled log left
+Puts z old log entries (Err LogFault) new left = IsNotPut z old log (ways_of z.cells (suc (length log.state.history)) entries) true (failing entries old.knows.participant) new left × FailsAppend log entries left

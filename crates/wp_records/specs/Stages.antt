@@ -11,7 +11,7 @@ use Rattle.wp_core.specs.Conditions.{IsPrepare}
 use Rattle.wp_core.specs.Effects.{with_entry, publishes}
 use Rattle.wp_core.specs.Entries.{next_of, pair_by, transaction_of}
 use Rattle.wp_core.specs.Sound.Views.{guarded_by}
-use Rattle.wp_core.specs.Tables.{WriteState, writes}
+use Rattle.wp_core.specs.States.{WriteState, writes}
 use Rattle.wp_core.specs.Views.{Fact, versions_in_memory, versions_nowhere, number_in_heap, number_not_in_heap, pair_delayed, pair_not_delayed, none_waits, words_stay, log_failed}
 use Rattle.wp_core.specs.World.{Actor}
 use Rattle.wp_rule.specs.Knows.{Noted}
@@ -87,10 +87,10 @@ as_published history entry s = record s { knows = publishes history entry s.know
 -- The seat holds the write turn alone, with this log, whatever is pending there. It has seen the whole history, and each pair of the
 -- words that it noted is published.
 pub record HoldsPending {D : Type 0} (z : SharedState D) (s : SeatState) (log : LogState) : Type 0 where
-  pub turn : HoldsTurn z s (writes log.table) [] []
-  pub seen : s.knows.participant.seen ≡ log.table.history
+  pub turn : HoldsTurn z s (writes log.state) [] []
+  pub seen : s.knows.participant.seen ≡ log.state.history
   pub of_store : log_first z.first ≡ Some log.first
-  pub words : KnowsWords s.knows (length log.table.history)
+  pub words : KnowsWords s.knows (length log.state.history)
 
 -- ---- before the log call
 
@@ -107,8 +107,8 @@ HasPrepare d = (name : List ℕ) × (batch : List Change) × (others : List Entr
 -- the entries were made pending, and nothing of them is anywhere
 pub record IsBegun {D : Type 0} (z : SharedState D) (old : SeatState) (log : LogState) (entries : List Entry) (new : SeatState) (left : LogState) : Type 0 where
   pub holds : HoldsPending z new left
-  pub seat : GoesOn is_of_pending (writes left.table ∷ []) old.turns old new
-  pub table : left.table ≡ record log.table { pending = entries; logged = false }
+  pub seat : GoesOn is_of_pending (writes left.state ∷ []) old.turns old new
+  pub state : left.state ≡ record log.state { pending = entries; logged = false }
   pub uncalled : IsUncalled log left
   pub nowhere : Noted new.knows versions_nowhere
   pub below : Noted new.knows number_not_in_heap
@@ -126,14 +126,14 @@ pub record IsReadied (a : Actor) (cells : ℕ) (d : WriteState) : Type 0 where
 -- the pending record is logged
 pub record IsLogged {D : Type 0} (z : SharedState D) (old : SeatState) (log : LogState) (new : SeatState) (left : LogState) : Type 0 where
   pub holds : HoldsPending z new left
-  pub seat : new ≡ holding left.table old
-  pub table : left.table ≡ record log.table { logged = true; log = log.table.log ++ log.table.pending }
+  pub seat : new ≡ holding left.state old
+  pub state : left.state ≡ record log.state { logged = true; log = log.state.log ++ log.state.pending }
 
 -- what the log call leaves of the pending record: it is logged, or taken back. It takes no memory
 abbrev pub Logs : {D : Type 0} → SharedState D → SeatState → LogState → Result (Unit {0}) WriteError → SeatState → LogState → Type 0
 Logs z old log (Ok done) new left = IsLogged z old log new left
 Logs z old log (Err Memory) new left = ⊥
-Logs z old log (Err LogFault) new left = IsNotPut z old log [] true (failing log.table.pending old.knows.participant) new left × FailsAppend log log.table.pending left
+Logs z old log (Err LogFault) new left = IsNotPut z old log [] true (failing log.state.pending old.knows.participant) new left × FailsAppend log log.state.pending left
 
 -- ---- behind it
 
@@ -153,15 +153,15 @@ pub record IsInPlace (a : Actor) (cells : ℕ) (d : WriteState) (entry : Entry) 
 
 -- the entry joined the history, and these are pending
 pub record IsPublished (old : SeatState) (log : LogState) (entry : Entry) (others : List Entry) (new : SeatState) (left : LogState) : Type 0 where
-  pub seat : GoesOn (is_over log.table.history entry) (writes left.table ∷ []) old.turns (as_published log.table.history entry old) new
-  pub log_is : left ≡ record log { table = with_entry log.table entry others }
+  pub seat : GoesOn (is_over log.state.history entry) (writes left.state ∷ []) old.turns (as_published log.state.history entry old) new
+  pub log_is : left ≡ record log { state = with_entry log.state entry others }
 
 -- ... and the seat knows the words as published ones again
 pub record HasJoined {D : Type 0} (z : SharedState D) (old : SeatState) (log : LogState) (entry : Entry) (others : List Entry) (new : SeatState) (left : LogState) : Type 0 where
   pub holds : HoldsPending z new left
-  pub seat : GoesOn (may_end log.table.history entry) (writes left.table ∷ []) old.turns (as_published log.table.history entry old) new
-  pub words : (bound : ℕ) (words : List ℕ) → Noted old.knows (words_stay bound words) → Noted new.knows (entered z.cells (length log.table.history) bound words (ways_of z.cells (suc (length log.table.history)) (entry ∷ [])))
-  pub log_is : left ≡ record log { table = with_entry log.table entry others }
+  pub seat : GoesOn (may_end log.state.history entry) (writes left.state ∷ []) old.turns (as_published log.state.history entry old) new
+  pub words : (bound : ℕ) (words : List ℕ) → Noted old.knows (words_stay bound words) → Noted new.knows (entered z.cells (length log.state.history) bound words (ways_of z.cells (suc (length log.state.history)) (entry ∷ [])))
+  pub log_is : left ≡ record log { state = with_entry log.state entry others }
 
 -- they have no versions, and none is a Prepare: so they may stand in a record behind another one
 abbrev pub AreBehind : List Entry → Type 0

@@ -2,7 +2,7 @@
 use Rattle.std.specs.Prelude.{◌≡◌, Bool, List, [], length, Some}
 use Rattle.wp_model.specs.declared.entry.Entry.{Entry}
 use Rattle.wp_core.specs.Lists.{IsIn}
-use Rattle.wp_core.specs.Tables.{writes}
+use Rattle.wp_core.specs.States.{writes}
 use Rattle.wp_core.specs.World.{Actor, Participant, World}
 use Rattle.wp_rule.specs.Words.{IsAt}
 use Rattle.wp_parts.specs.Log.{LogState}
@@ -13,11 +13,11 @@ use Rattle.wp_shared.specs.Turns.{HoldsTurn}
 
 -- The seat holds the write turn alone, with this log, in which nothing is pending. It has seen the whole history.
 pub record HoldsWrite {D : Type 0} (z : SharedState D) (s : SeatState) (log : LogState) : Type 0 where
-  pub turn : HoldsTurn z s (writes log.table) [] []
-  pub pending : log.table.pending ≡ []
-  pub seen : s.knows.participant.seen ≡ log.table.history
+  pub turn : HoldsTurn z s (writes log.state) [] []
+  pub pending : log.state.pending ≡ []
+  pub seen : s.knows.participant.seen ≡ log.state.history
   pub of_store : log_first z.first ≡ Some log.first
-  pub words : KnowsWords s.knows (length log.table.history)
+  pub words : KnowsWords s.knows (length log.state.history)
 
 -- In a reached world the seat held the write turn, and had seen the whole history, which is this one. It was this participant
 -- then, but for what it had seen, and had made and taken in no other since; and the log was closed, or it was not.

@@ -40,10 +40,10 @@ fn ready<D: Disk + Drop, R: Wait>(
     ensures holds { HoldsPending store.now seat.new log.now }
     ensures undelayed { Noted seat.new.knows pair_not_delayed }
     ensures seat { GoesOn is_guarded (held_by seat.old) seat.old.turns seat.old seat.new }
-    ensures ok { OnOk result (IsReadied seat.new.knows store.now.cells log.now.table) }
-    ensures waits { OnOk result (AnyClears (ways_of store.now.cells (suc (length (history_in log.now))) log.now.table.pending) → Noted seat.new.knows none_waits) }
-    ensures bound { OnOk result (RisesFor store.now.cells (length (history_in log.now)) seat.old.knows seat.new.knows (ways_of store.now.cells (suc (length (history_in log.now))) log.now.table.pending)) }
-    ensures refused { OnErr result ((cleared : List Way) × (others : List Way) × (ways_of store.now.cells (suc (length (history_in log.now))) log.now.table.pending ≡ cleared ++ others)
+    ensures ok { OnOk result (IsReadied seat.new.knows store.now.cells log.now.state) }
+    ensures waits { OnOk result (AnyClears (ways_of store.now.cells (suc (length (history_in log.now))) log.now.state.pending) → Noted seat.new.knows none_waits) }
+    ensures bound { OnOk result (RisesFor store.now.cells (length (history_in log.now)) seat.old.knows seat.new.knows (ways_of store.now.cells (suc (length (history_in log.now))) log.now.state.pending)) }
+    ensures refused { OnErr result ((cleared : List Way) × (others : List Way) × (ways_of store.now.cells (suc (length (history_in log.now))) log.now.state.pending ≡ cleared ++ others)
         × RisesFor store.now.cells (length (history_in log.now)) seat.old.knows seat.new.knows cleared) }
 {
     clear_all(store, rt, seat, log)?;
@@ -60,7 +60,7 @@ fn append<D: Disk + Drop, R: Wait>(
     log: &mut Log<D>,
 ) -> Result<(), WriteError>
     requires holds { HoldsPending store.now seat.old log.old }
-    requires unlogged { IsUnlogged log.old.table }
+    requires unlogged { IsUnlogged log.old.state }
     requires undelayed { Noted seat.old.knows pair_not_delayed }
     ensures { Logs store.now seat.old log.old result seat.new log.new }
 {
@@ -83,12 +83,12 @@ fn publish_next<D: Disk + Drop, R: Wait>(
     log: &mut Log<D>,
 )
     requires holds { HoldsPending store.now seat.old log.old }
-    requires some { log.old.table.pending ≢ [] }
-    requires may { MayJoin seat.old.knows store.now.cells log.old.table }
+    requires some { log.old.state.pending ≢ [] }
+    requires may { MayJoin seat.old.knows store.now.cells log.old.state }
     requires versions { Noted seat.old.knows versions_in_memory }
-    ensures joined { (entry : Entry) (others : List Entry) → log.old.table.pending ≡ entry ∷ others → HasJoined store.now seat.old log.old entry others seat.new log.new }
-    ensures may { MayJoin seat.new.knows store.now.cells log.new.table }
-    ensures behind { AreBehind log.new.table.pending }
+    ensures joined { (entry : Entry) (others : List Entry) → log.old.state.pending ≡ entry ∷ others → HasJoined store.now seat.old log.old entry others seat.new log.new }
+    ensures may { MayJoin seat.new.knows store.now.cells log.new.state }
+    ensures behind { AreBehind log.new.state.pending }
 {
     let n = log.published() + 1;
     enter(store, rt, seat, log);
@@ -104,11 +104,11 @@ fn publish_all<D: Disk + Drop, R: Wait>(
     log: &mut Log<D>,
 )
     requires holds { HoldsPending store.now seat.old log.old }
-    requires some { log.old.table.pending ≢ [] }
-    requires running { log.old.table.closed ≡ false }
-    requires may { MayJoin seat.old.knows store.now.cells log.old.table }
+    requires some { log.old.state.pending ≢ [] }
+    requires running { log.old.state.closed ≡ false }
+    requires may { MayJoin seat.old.knows store.now.cells log.old.state }
     requires versions { Noted seat.old.knows versions_in_memory }
-    ensures { IsPutWith store.now seat.old log.old [] log.old.table.pending seat.new log.new }
+    ensures { IsPutWith store.now seat.old log.old [] log.old.state.pending seat.new log.new }
 {
     publish_next(store, rt, seat, log);
     while !log.pending().is_empty() {
@@ -127,14 +127,14 @@ fn put_pending<D: Disk + Drop, R: Wait>(
     log: &mut Log<D>,
 ) -> Result<(), WriteError>
     requires holds { HoldsPending store.now seat.old log.old }
-    requires unlogged { IsUnlogged log.old.table }
-    requires one { IsOneRecord log.old.table.pending }
-    requires may { MayPut seat.old.knows (history_in log.old) log.old.table.pending }
-    requires apart { AreApart store.now.cells (ways_of store.now.cells (suc (length (history_in log.old))) log.old.table.pending) }
+    requires unlogged { IsUnlogged log.old.state }
+    requires one { IsOneRecord log.old.state.pending }
+    requires may { MayPut seat.old.knows (history_in log.old) log.old.state.pending }
+    requires apart { AreApart store.now.cells (ways_of store.now.cells (suc (length (history_in log.old))) log.old.state.pending) }
     requires nowhere { Noted seat.old.knows versions_nowhere }
     requires below { Noted seat.old.knows number_not_in_heap }
     requires undelayed { Noted seat.old.knows pair_not_delayed }
-    ensures { Puts store.now seat.old log.old log.old.table.pending result seat.new log.new }
+    ensures { Puts store.now seat.old log.old log.old.state.pending result seat.new log.new }
 {
     let Ok(()) = ready(store, rt, seat, log) else {
         take_back(store, rt, seat, log);
@@ -156,7 +156,7 @@ pub fn put<D: Disk + Drop, R: Wait>(
     entries: Record,
 ) -> Result<(), WriteError>
     requires holds { HoldsWrite store.now seat.old log.old }
-    requires running { log.old.table.closed ≡ false }
+    requires running { log.old.state.closed ≡ false }
     requires may { MayPut seat.old.knows (history_in log.old) entries }
     requires within { length (history_in log.old) + length entries ≤ last_number log.old.wal.format }
     requires apart { AreApart store.now.cells (ways_of store.now.cells (suc (length (history_in log.old))) entries) }

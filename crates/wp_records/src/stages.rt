@@ -8,8 +8,8 @@ ghost use Rattle.wp_entry.specs.Record.{last_number};
 ghost use Rattle.wp_model.specs.Record.{IsOneRecord};
 ghost use Rattle.wp_core.specs.Entries.{next_of};
 ghost use Rattle.wp_core.specs.Sound.Views.{IsNowhere};
-ghost use Rattle.wp_core.specs.Tables.{writes, prepared};
-ghost use Rattle.wp_core.specs.Tables as table;
+ghost use Rattle.wp_core.specs.States.{writes, prepared};
+ghost use Rattle.wp_core.specs.States as table;
 ghost use Rattle.wp_core.specs.Views.{versions_in_memory, versions_nowhere, number_in_heap, number_not_in_heap, pair_not_delayed};
 ghost use Rattle.wp_rule.specs.Knows.{HasNoVersions, Noted};
 ghost use Rattle.wp_parts.specs.Stock.{store_state};
@@ -39,11 +39,11 @@ pub(crate) fn make_pending<D: Disk + Drop>(
     entries: Record,
 ) -> Result<(), AllocError>
     requires holds { HoldsWrite store.now seat.old log.old }
-    requires running { log.old.table.closed ≡ false }
+    requires running { log.old.state.closed ≡ false }
     requires legal { IsLegal ((history_in log.old) ++ entries) }
     requires within { length (history_in log.old) + length entries ≤ last_number log.old.wal.format }
     ensures ok { OnOk result (IsBegun store.now seat.old log.old entries seat.new log.new) }
-    ensures one { OnOk result (IsOneRecord log.new.table.pending) }
+    ensures one { OnOk result (IsOneRecord log.new.state.pending) }
     ensures err { OnErr result ((seat.new ≡ seat.old) × (log.new ≡ log.old)) }
 {
     let Ok(()) = log.reserve(entries.into_entries()) else {
@@ -58,7 +58,7 @@ pub(crate) fn make_pending<D: Disk + Drop>(
 
 /// The changes of the first pending entry, if it has some.
 fn next_batch<D: Disk>(log: &Log<D>) -> Option<&Batch>
-    ensures { MatchOption result (HasNoVersions (next_of log.now.table.pending)) (λ batch. (entry : Entry) × (next_of log.now.table.pending ≡ Some entry) × (changes_in entry ≡ batch.now)) }
+    ensures { MatchOption result (HasNoVersions (next_of log.now.state.pending)) (λ batch. (entry : Entry) × (next_of log.now.state.pending ≡ Some entry) × (changes_in entry ≡ batch.now)) }
 {
     match log.pending().first()? {
         Entry::Write(batch) | Entry::Prepare(_, batch) | Entry::Undo(_, batch) => Some(batch),
@@ -75,10 +75,10 @@ fn insert_versions<D: Disk + Drop>(
     batch: &Batch,
 ) -> Result<(), AllocError>
     requires seat { seat.old.table ≡ store.now.table }
-    requires held { held_by seat.old ≡ table.store (store_state stock.old) ∷ writes log.now.table ∷ [] }
-    requires entry { (entry : Entry) × (next_of log.now.table.pending ≡ Some entry) × (changes_in entry ≡ batch.now) }
-    requires nowhere { IsNowhere log.now.table (store_state stock.old) }
-    ensures seat { GoesOn is_of_versions (table.store (store_state stock.new) ∷ writes log.now.table ∷ []) seat.old.turns seat.old seat.new }
+    requires held { held_by seat.old ≡ table.store (store_state stock.old) ∷ writes log.now.state ∷ [] }
+    requires entry { (entry : Entry) × (next_of log.now.state.pending ≡ Some entry) × (changes_in entry ≡ batch.now) }
+    requires nowhere { IsNowhere log.now.state (store_state stock.old) }
+    ensures seat { GoesOn is_of_versions (table.store (store_state stock.new) ∷ writes log.now.state ∷ []) seat.old.turns seat.old seat.new }
     ensures ok { OnOk result (Noted seat.new.knows versions_in_memory) }
 {
     stock.insert(log.published() + 1, batch)?;
@@ -118,8 +118,8 @@ fn remove_versions<D: Disk + Drop>(
     stock: &mut Stock,
 )
     requires seat { seat.old.table ≡ store.now.table }
-    requires held { held_by seat.old ≡ table.store (store_state stock.old) ∷ writes log.now.table ∷ [] }
-    ensures seat { GoesOn is_of_versions (table.store (store_state stock.new) ∷ writes log.now.table ∷ []) seat.old.turns seat.old seat.new }
+    requires held { held_by seat.old ≡ table.store (store_state stock.old) ∷ writes log.now.state ∷ [] }
+    ensures seat { GoesOn is_of_versions (table.store (store_state stock.new) ∷ writes log.now.state ∷ []) seat.old.turns seat.old seat.new }
     ensures nowhere { Noted seat.new.knows versions_nowhere }
 {
     store.shows_world(seat);
@@ -148,8 +148,8 @@ fn leave_memory<D: Disk + Drop, R: Wait>(
 
 /// Whether the first pending entry is a Prepare.
 fn prepares<D: Disk>(log: &Log<D>) -> bool
-    ensures is { result ≡ is_prepare (next_of log.now.table.pending) }
-    ensures prepare { result ≡ true → HasPrepare log.now.table }
+    ensures is { result ≡ is_prepare (next_of log.now.state.pending) }
+    ensures prepare { result ≡ true → HasPrepare log.now.state }
 {
     match log.pending().first() {
         Some(Entry::Prepare(_, _)) => true,
@@ -166,11 +166,11 @@ fn insert_number<D: Disk + Drop>(
     tables: &mut Prepared,
 ) -> Result<(), AllocError>
     requires seat { seat.old.table ≡ store.now.table }
-    requires held { held_by seat.old ≡ prepared tables.old ∷ writes log.now.table ∷ [] }
-    requires prepare { HasPrepare log.now.table }
+    requires held { held_by seat.old ≡ prepared tables.old ∷ writes log.now.state ∷ [] }
+    requires prepare { HasPrepare log.now.state }
     requires below { Noted seat.old.knows number_not_in_heap }
     requires flag { DelayedFlagTells seat.old.knows tables.old }
-    ensures seat { GoesOn is_of_number (prepared tables.new ∷ writes log.now.table ∷ []) seat.old.turns seat.old seat.new }
+    ensures seat { GoesOn is_of_number (prepared tables.new ∷ writes log.now.state ∷ []) seat.old.turns seat.old seat.new }
     ensures flag { DelayedFlagTells seat.new.knows tables.new }
     ensures ok { OnOk result (Noted seat.new.knows number_in_heap) }
 {
@@ -191,7 +191,7 @@ pub(crate) fn put_number<D: Disk + Drop, R: Wait>(
     requires below { Noted seat.old.knows number_not_in_heap }
     ensures holds { HoldsPending store.now seat.new log.now }
     ensures seat { GoesOn is_of_number (held_by seat.old) seat.old.turns seat.old seat.new }
-    ensures ok { OnOk result (is_prepare (next_of log.now.table.pending) ≡ true → Noted seat.new.knows number_in_heap) }
+    ensures ok { OnOk result (is_prepare (next_of log.now.state.pending) ≡ true → Noted seat.new.knows number_in_heap) }
 {
     if !prepares(log) {
         return Ok(());
@@ -211,10 +211,10 @@ fn remove_number<D: Disk + Drop>(
     tables: &mut Prepared,
 )
     requires seat { seat.old.table ≡ store.now.table }
-    requires held { held_by seat.old ≡ prepared tables.old ∷ writes log.now.table ∷ [] }
-    requires prepare { HasPrepare log.now.table }
+    requires held { held_by seat.old ≡ prepared tables.old ∷ writes log.now.state ∷ [] }
+    requires prepare { HasPrepare log.now.state }
     requires flag { DelayedFlagTells seat.old.knows tables.old }
-    ensures seat { GoesOn is_of_number (prepared tables.new ∷ writes log.now.table ∷ []) seat.old.turns seat.old seat.new }
+    ensures seat { GoesOn is_of_number (prepared tables.new ∷ writes log.now.state ∷ []) seat.old.turns seat.old seat.new }
     ensures flag { DelayedFlagTells seat.new.knows tables.new }
     ensures below { Noted seat.new.knows number_not_in_heap }
 {
@@ -249,11 +249,11 @@ pub(crate) fn take_back<D: Disk + Drop, R: Wait>(
     log: &mut Log<D>,
 )
     requires holds { HoldsPending store.now seat.old log.old }
-    requires unlogged { log.old.table.logged ≡ false }
+    requires unlogged { log.old.state.logged ≡ false }
     requires undelayed { Noted seat.old.knows pair_not_delayed }
     ensures holds { HoldsWrite store.now seat.new log.new }
-    ensures seat { GoesOn is_of_stage (writes log.new.table ∷ []) seat.old.turns seat.old seat.new }
-    ensures log { log.new ≡ record log.old { table = record log.old.table { pending = [] } } }
+    ensures seat { GoesOn is_of_stage (writes log.new.state ∷ []) seat.old.turns seat.old seat.new }
+    ensures log { log.new ≡ record log.old { state = record log.old.state { pending = [] } } }
 {
     leave_heap(store, rt, seat, log);
     leave_memory(store, rt, seat, log);

@@ -3,7 +3,7 @@ ghost use Rattle.std.specs.Prelude.{◌≡◌, true, false, [], ◌∷◌, ◌++
 ghost use Rattle.wp_model.specs.History.{is_prepare};
 ghost use Rattle.wp_core.specs.Entries.{next_of};
 ghost use Rattle.wp_core.specs.Lists.{IsIn};
-ghost use Rattle.wp_core.specs.Tables.{WriteState, writes};
+ghost use Rattle.wp_core.specs.States.{WriteState, writes};
 ghost use Rattle.wp_core.specs.Views.{versions_in_memory, number_not_in_heap};
 ghost use Rattle.wp_rule.specs.Knows.{HasNoVersions};
 ghost use Rattle.wp_shared.specs.Notes.{noting};
@@ -19,8 +19,8 @@ use wp_shared::{Log, Seat, Shared};
 /// The pending record was appended to the log.
 pub(crate) fn log_pending<D: Disk + Drop>(store: &Shared<D>, seat: &mut Seat<D>, log: &Log<D>)
     requires seat { seat.old.table ≡ store.now.table }
-    requires held { (t : WriteState) × (held_by seat.old ≡ writes t ∷ []) × IsUnlogged t × (log.now.table ≡ record t { logged = true; log = t.log ++ t.pending }) }
-    ensures { seat.new ≡ holding log.now.table seat.old }
+    requires held { (t : WriteState) × (held_by seat.old ≡ writes t ∷ []) × IsUnlogged t × (log.now.state ≡ record t { logged = true; log = t.log ++ t.pending }) }
+    ensures { seat.new ≡ holding log.now.state seat.old }
 {
     store.make::<Brand>(seat);
 }
@@ -28,8 +28,8 @@ pub(crate) fn log_pending<D: Disk + Drop>(store: &Shared<D>, seat: &mut Seat<D>,
 /// The append of the pending record failed, and the log is closed.
 pub(crate) fn close_log<D: Disk + Drop>(store: &Shared<D>, seat: &mut Seat<D>, log: &Log<D>)
     requires seat { seat.old.table ≡ store.now.table }
-    requires held { (t : WriteState) × (held_by seat.old ≡ writes t ∷ []) × IsUnlogged t × (log.now.table ≡ record t { closed = true; failed = t.pending }) }
-    ensures { seat.new ≡ holding log.now.table (as_failed log.now.table.failed seat.old) }
+    requires held { (t : WriteState) × (held_by seat.old ≡ writes t ∷ []) × IsUnlogged t × (log.now.state ≡ record t { closed = true; failed = t.pending }) }
+    ensures { seat.new ≡ holding log.now.state (as_failed log.now.state.failed seat.old) }
 {
     store.make::<Brand>(seat);
 }
@@ -39,8 +39,8 @@ pub(crate) fn close_log<D: Disk + Drop>(store: &Shared<D>, seat: &mut Seat<D>, l
 /// Notes that all versions of the pending entry are in memory, since it has none.
 pub(crate) fn note_no_versions<D: Disk + Drop>(store: &Shared<D>, seat: &mut Seat<D>, log: &Log<D>)
     requires seat { (seat.old.table ≡ store.now.table) × (seat.old.knows.live ≡ true) }
-    requires held { IsIn (writes log.now.table) (held_by seat.old) }
-    requires none { HasNoVersions (next_of log.now.table.pending) }
+    requires held { IsIn (writes log.now.state) (held_by seat.old) }
+    requires none { HasNoVersions (next_of log.now.state.pending) }
     ensures { seat.new ≡ noting versions_in_memory seat.old }
 {
     store.make::<Brand>(seat);
@@ -51,8 +51,8 @@ pub(crate) fn note_no_versions<D: Disk + Drop>(store: &Shared<D>, seat: &mut Sea
 /// Notes that the number of the pending entry is not in the prepared heap, since that is no Prepare.
 pub(crate) fn note_no_number<D: Disk + Drop>(store: &Shared<D>, seat: &mut Seat<D>, log: &Log<D>)
     requires seat { (seat.old.table ≡ store.now.table) × (seat.old.knows.live ≡ true) }
-    requires held { IsIn (writes log.now.table) (held_by seat.old) }
-    requires none { is_prepare (next_of log.now.table.pending) ≡ false }
+    requires held { IsIn (writes log.now.state) (held_by seat.old) }
+    requires none { is_prepare (next_of log.now.state.pending) ≡ false }
     ensures { seat.new ≡ noting number_not_in_heap seat.old }
 {
     store.make::<Brand>(seat);

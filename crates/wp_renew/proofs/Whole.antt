@@ -10,7 +10,7 @@ use Rattle.wp_replies.specs.Tables.{after_renewal}
 use Rattle.wp_tableset.specs.Changes.{Asked, one_part}
 use Rattle.wp_tableset.specs.declared.gone.Gone.TheVariants as gone
 use Rattle.wp_tableset.specs.Set.{TableSetState}
-use Rattle.wp_core.specs.Tables.{WriteState, Installed, writes, installed}
+use Rattle.wp_core.specs.States.{WriteState, Installed, writes, installed}
 use Rattle.wp_core.specs.Views.{frozen_stay}
 use Rattle.wp_core.specs.World.{Participant, World}
 use Rattle.wp_model.proofs.Tests.{none_some}
@@ -39,22 +39,22 @@ use Rattle.wp_renew.proofs.Renewed.{beside_still, broken_holding, closed_holding
 use Rattle.wp_stages.proofs.StageLemmas.{beside_same}
 
 -- the seat and the log are as they were
-pub at_start : {D : Type 0} (z : SharedState D) (s u : SeatState) (e : VersionSetState) (log now : LogState) → u ≡ s → now ≡ log → HoldsBoth z u e now now.table → HoldsBoth z s e log log.table
-at_start z s u e log now same same_log holds = subst (λ (x : SeatState × LogState). HoldsBoth z x.0 e x.1 x.1.table) (λ i. (same i, same_log i)) holds
+pub at_start : {D : Type 0} (z : SharedState D) (s u : SeatState) (e : VersionSetState) (log now : LogState) → u ≡ s → now ≡ log → HoldsBoth z u e now now.state → HoldsBoth z s e log log.state
+at_start z s u e log now same same_log holds = subst (λ (x : SeatState × LogState). HoldsBoth z x.0 e x.1 x.1.state) (λ i. (same i, same_log i)) holds
 
-module _ {D : Type 0} (z : SharedState D) (s0 : SeatState) (e0 : VersionSetState) (log0 : LogState) (holds : HoldsBoth z s0 e0 log0 log0.table) (running : e0.table.halted ≡ false) (open_ : log0.table.closed ≡ false) (nothing : log0.table.pending ≡ []) (coupled : e0.table.last.segment ≡ log0.table.segment) (below : log0.table.segment.base < length log0.table.history)
-    (seen : s0.knows.participant.seen ≡ log0.table.history) (whole : log0.table.log ≡ log0.table.history) (w0 : (w : World) × Stands z s0 w) (in_step : KnowsTables s0.knows e0.table.last) (is_edits : IsEdits e0) (is_log : IsLog log0)
-    (f : Frozen) (ready : ReadyInstallState) (is : ready.edit.asked ≡ record { gone = gone.Frozen; versions = versions_of f; flushed = f.at }) (frozen : HasFrozen s0.knows e0.table f) where
+module _ {D : Type 0} (z : SharedState D) (s0 : SeatState) (e0 : VersionSetState) (log0 : LogState) (holds : HoldsBoth z s0 e0 log0 log0.state) (running : e0.state.halted ≡ false) (open_ : log0.state.closed ≡ false) (nothing : log0.state.pending ≡ []) (coupled : e0.state.last.segment ≡ log0.state.segment) (below : log0.state.segment.base < length log0.state.history)
+    (seen : s0.knows.participant.seen ≡ log0.state.history) (whole : log0.state.log ≡ log0.state.history) (w0 : (w : World) × Stands z s0 w) (in_step : KnowsTables s0.knows e0.state.last) (is_edits : IsEdits e0) (is_log : IsLog log0)
+    (f : Frozen) (ready : ReadyInstallState) (is : ready.edit.asked ≡ record { gone = gone.Frozen; versions = versions_of f; flushed = f.at }) (frozen : HasFrozen s0.knows e0.state f) where
   begun : GoesOnAs s0 s0 s0.knows.participant
   begun = goes_none s0
 
   -- ---- the table was not written
 
   -- a crash meanwhile left the tables that there were
-  while_written : (left : VersionSetState) → SurvivesWrite ready.edit.asked e0 left → SurvivesInstall e0 left (after_renewal s0.knows.participant.seen 0 e0.table.last)
+  while_written : (left : VersionSetState) → SurvivesWrite ready.edit.asked e0 left → SurvivesInstall e0 left (after_renewal s0.knows.participant.seen 0 e0.state.last)
   while_written left survives =
       let segment : Segment = record { place = 0; base = f.at } in
-      subst (SurvivesInstall e0 left) (same_renewal s0.knows.participant.seen e0.table.last ready.edit.asked segment (ap (λ (x : Asked). x.gone) is) (ap (λ (x : Asked). x.versions) is ∙ frozen.versions) (ap (λ (x : Asked). x.flushed) is ∙ frozen.at) frozen.at) (survives segment)
+      subst (SurvivesInstall e0 left) (same_renewal s0.knows.participant.seen e0.state.last ready.edit.asked segment (ap (λ (x : Asked). x.gone) is) (ap (λ (x : Asked). x.versions) is ∙ frozen.versions) (ap (λ (x : Asked). x.flushed) is ∙ frozen.at) frozen.at) (survives segment)
 
   pub not_written : (T : Type 0) (why : RenewError) (u : SeatState) (left : VersionSetState) (now : LogState) (behind : ReadyInstallState) → WritesTable {T = T} z s0 e0 log0 ready (Err why) u left now behind → RenewsHolding (GoesOnAs s0 u) z s0 e0 log0 (Err why) u left now
   not_written T Memory u left now behind wrong = absurd wrong
@@ -64,19 +64,19 @@ module _ {D : Type 0} (z : SharedState D) (s0 : SeatState) (e0 : VersionSetState
   not_written T LogFault u left now behind wrong = absurd wrong
   not_written T TableFault u left now behind k =
       broken_holding z s0 s0 e0 e0 log0 log0 holds running open_ nothing (sym coupled) below seen whole w0 is_edits is_log begun refl refl refl (λ before after. SurvivesWrite ready.edit.asked before after × IsUncalled before after) None u left now k
-      (after_renewal s0.knows.participant.seen 0 e0.table.last) (0, refl) tt (while_written left k.survives.0) (λ none. k.survives.1)
+      (after_renewal s0.knows.participant.seen 0 e0.state.last) (0, refl) tt (while_written left k.survives.0) (λ none. k.survives.1)
       (beside_same log0 now (ap (λ (l : LogState). l.wal.moments) k.stopped)) k.fault in_step
 
   -- ---- the table is written, if there is one
 
-  module _ (e1 : VersionSetState) (behind : ReadyInstallState) (same_table : e1.table ≡ e0.table) (its : IsBehind e0 e1 behind) (same_asked : behind.edit.asked ≡ ready.edit.asked) (holds1 : HoldsBoth z s0 e1 log0 log0.table) where
+  module _ (e1 : VersionSetState) (behind : ReadyInstallState) (same_table : e1.state ≡ e0.state) (its : IsBehind e0 e1 behind) (same_asked : behind.edit.asked ≡ ready.edit.asked) (holds1 : HoldsBoth z s0 e1 log0 log0.state) where
     is_behind : behind.edit.asked ≡ record { gone = gone.Frozen; versions = versions_of f; flushed = f.at }
     is_behind = same_asked ∙ is
 
     same_manifest : e1.set.manifest ≡ e0.set.manifest
     same_manifest = ap (λ (s : TableSetState). s.manifest) its.written.changed
 
-    settled1 : KnowsTables s0.knows e1.table.last
+    settled1 : KnowsTables s0.knows e1.state.last
     settled1 = subst (λ (t : Installed). KnowsTables s0.knows t.last) (sym same_table) in_step
 
     -- the segment was not
@@ -92,37 +92,37 @@ module _ {D : Type 0} (z : SharedState D) (s0 : SeatState) (e0 : VersionSetState
     -- ---- and so is the segment
 
     module _ (written : WrittenState) (u : SeatState) (log1 : LogState) (p : HasSegment z s0 e1 log0 written u log1) where
-      based : written.segment.base ≡ length log0.table.history
-      based = p.waits.based ∙ ap (λ (t : WriteState). length t.history) p.table
+      based : written.segment.base ≡ length log0.state.history
+      based = p.waits.based ∙ ap (λ (t : WriteState). length t.history) p.state
 
       at_base : written.segment.base ≡ f.at
       at_base = based ∙ ap (λ (h : List Entry). length h) (sym seen) ∙ sym frozen.at
 
       first : GoesOnAs s0 u s0.knows.participant
-      first = goes_same s0 u no_fact (writes (with_next log1.table written.segment) ∷ installed e1.table ∷ []) s0.turns loose_none p.goes
+      first = goes_same s0 u no_fact (writes (with_next log1.state written.segment) ∷ installed e1.state ∷ []) s0.turns loose_none p.goes
 
       still : u.knows.participant ≡ s0.knows.participant
       still = ap (λ (x : SeatState). x.knows.participant) p.goes.same
 
-      settled2 : KnowsTables u.knows e1.table.last
-      settled2 = in_step_on s0 u no_fact (writes (with_next log1.table written.segment) ∷ installed e1.table ∷ []) s0.turns refl (λ vs floor. refl) p.goes e1.table.last settled1
+      settled2 : KnowsTables u.knows e1.state.last
+      settled2 = in_step_on s0 u no_fact (writes (with_next log1.state written.segment) ∷ installed e1.state ∷ []) s0.turns refl (λ vs floor. refl) p.goes e1.state.last settled1
 
-      pub told : log0.table.next ≡ None → IsTold z u e1 log1 written behind
+      pub told : log0.state.next ≡ None → IsTold z u e1 log1 written behind
       told none_next = record {
         holds = p.holds;
         running = ap (λ (t : Installed). t.halted) same_table ∙ running;
-        unclosed = ap (λ (t : WriteState). t.closed) p.table ∙ open_;
-        nothing = ap (λ (t : WriteState). t.pending) p.table ∙ nothing;
-        none_next = ap (λ (t : WriteState). t.next) p.table ∙ none_next;
-        seen = ap (λ (x : SeatState). x.knows.participant.seen) p.goes.same ∙ seen ∙ ap (λ (t : WriteState). t.history) (sym p.table);
+        unclosed = ap (λ (t : WriteState). t.closed) p.state ∙ open_;
+        nothing = ap (λ (t : WriteState). t.pending) p.state ∙ nothing;
+        none_next = ap (λ (t : WriteState). t.next) p.state ∙ none_next;
+        seen = ap (λ (x : SeatState). x.knows.participant.seen) p.goes.same ∙ seen ∙ ap (λ (t : WriteState). t.history) (sym p.state);
         waits = p.waits;
-        apart = λ is. p.survives.beside.1 (is ∙ ap (λ (t : WriteState). t.segment.place) p.table);
-        coupled = ap (λ (t : Installed). t.last.segment) same_table ∙ coupled ∙ ap (λ (t : WriteState). t.segment) (sym p.table);
+        apart = λ is. p.survives.beside.1 (is ∙ ap (λ (t : WriteState). t.segment.place) p.state);
+        coupled = ap (λ (t : Installed). t.last.segment) same_table ∙ coupled ∙ ap (λ (t : WriteState). t.segment) (sym p.state);
         before = e0;
         behind = its;
         gone_is = ap (λ (x : Asked). x.gone) is_behind;
         flushed_is = ap (λ (x : Asked). x.flushed) is_behind ∙ sym at_base;
-        covered = covered_next z s0 u e0 e1 log0 log1 holds running open_ nothing (sym coupled) below seen whole w0 is_edits is_log first still same_table p.table written behind f is_behind frozen based;
+        covered = covered_next z s0 u e0 e1 log0 log1 holds running open_ nothing (sym coupled) below seen whole w0 is_edits is_log first still same_table p.state written behind f is_behind frozen based;
         stands = p.stands;
       }
 
@@ -134,25 +134,25 @@ module _ {D : Type 0} (z : SharedState D) (s0 : SeatState) (e0 : VersionSetState
       not_installed T Nothing v left now wrong = absurd wrong
       not_installed T LogFault v left now wrong = absurd wrong
       not_installed T TableFault v left now k =
-          let edit = asked_for behind.edit.asked written.segment e1.table.last in
-          let its_edit = is_next z s0 u e0 e1 log0 log1 holds running open_ nothing (sym coupled) below seen whole w0 is_edits is_log first still same_table p.table written behind f is_behind frozen based in
-          broken_holding z s0 u e0 e1 log0 log1 holds running open_ nothing (sym coupled) below seen whole w0 is_edits is_log first still same_table p.table (SurvivesEdit written behind)
+          let edit = asked_for behind.edit.asked written.segment e1.state.last in
+          let its_edit = is_next z s0 u e0 e1 log0 log1 holds running open_ nothing (sym coupled) below seen whole w0 is_edits is_log first still same_table p.state written behind f is_behind frozen based in
+          broken_holding z s0 u e0 e1 log0 log1 holds running open_ nothing (sym coupled) below seen whole w0 is_edits is_log first still same_table p.state (SurvivesEdit written behind)
           (Some edit) v left now k
-          (after_renewal s0.knows.participant.seen written.segment.place e0.table.last) (written.segment.place, refl) its_edit
+          (after_renewal s0.knows.participant.seen written.segment.place e0.state.last) (written.segment.place, refl) its_edit
           (subst (SurvivesInstall e0 left) its_edit (k.survives e0 its)) (λ none. absurd (none_some (Some edit) edit none refl))
           (beside_still log0 log1 now (Some written.segment) (ap (λ (l : LogState). l.wal.moments) k.stopped) p.survives)
           (fault_since e0.set e1.set left.set (ap (λ (s : TableSetState). s.manifest.log.faults) its.written.changed) its.written.later k.fault) settled2
 
       -- it was
       module _ (v : SeatState) (left : VersionSetState) (now : LogState) (k : HasMoved z u e1 log1 written behind v left now) where
-        pub may_put : (table : Option (List Version)) → table ≡ one_part (versions_of f) → MayPut v.knows left.table f table
+        pub may_put : (table : Option (List Version)) → table ≡ one_part (versions_of f) → MayPut v.knows left.state f table
         may_put table is =
-            may_put_all z s0 u e0 e1 log0 log1 holds running open_ nothing (sym coupled) below seen whole w0 is_edits is_log first still same_table p.table written behind f is_behind frozen based v left now k its p.survives table is settled2
+            may_put_all z s0 u e0 e1 log0 log1 holds running open_ nothing (sym coupled) below seen whole w0 is_edits is_log first still same_table p.state written behind f is_behind frozen based v left now k its p.survives table is settled2
             (p.goes.noted (frozen_stay f.at (versions_of f)) refl)
 
-        pub went_through : (x : SeatState) → GoesOn is_of_tables (writes now.table ∷ installed left.table ∷ []) v.turns v x → (done : Renewed) → done.at ≡ f.at → done.carried ≡ length (undecided log0.table.history) → KnowsTables x.knows left.table.last → RenewsHolding (GoesOnAs s0 x) z s0 e0 log0 (Ok done) x left now
+        pub went_through : (x : SeatState) → GoesOn is_of_tables (writes now.state ∷ installed left.state ∷ []) v.turns v x → (done : Renewed) → done.at ≡ f.at → done.carried ≡ length (undecided log0.state.history) → KnowsTables x.knows left.state.last → RenewsHolding (GoesOnAs s0 x) z s0 e0 log0 (Ok done) x left now
         went_through x put done at_is counted last =
-            renewed_holding z s0 u e0 e1 log0 log1 holds running open_ nothing (sym coupled) below seen whole w0 is_edits is_log first still same_table p.table written behind f is_behind frozen based v left now k its p.survives x put done at_is counted last
+            renewed_holding z s0 u e0 e1 log0 log1 holds running open_ nothing (sym coupled) below seen whole w0 is_edits is_log first still same_table p.state written behind f is_behind frozen based v left now k its p.survives x put done at_is counted last
 
 -- ---- before the memory is there, and the stages behind it
 
@@ -160,11 +160,11 @@ strictly : (a b : ℕ) → a ≤ b → (a ≡ b → ⊥) → a < b
 strictly a b le apart = omega (arith, le, apart)
 
 -- the base of the segment in use is in the history; where it is not its end, it is below
-pub base_below : (log : LogState) → IsLog log → log.table.log ≡ log.table.history → (log.table.segment.base ≡ length log.table.history → ⊥) → log.table.segment.base < length log.table.history
+pub base_below : (log : LogState) → IsLog log → log.state.log ≡ log.state.history → (log.state.segment.base ≡ length log.state.history → ⊥) → log.state.segment.base < length log.state.history
 base_below log is whole apart =
-    let cut_base : is.cut.base ≤ length log.table.log = is.is_cut.within in
-    let based : is.cut.base ≡ log.table.segment.base = is.stores.based ∙ ap (λ (g : Segment). g.base) (sym is.segment) in
-    strictly log.table.segment.base (length log.table.history) (subst (λ (x : ℕ × List Entry). x.0 ≤ length x.1) (λ i. (based i, whole i)) cut_base) apart
+    let cut_base : is.cut.base ≤ length log.state.log = is.is_cut.within in
+    let based : is.cut.base ≡ log.state.segment.base = is.stores.based ∙ ap (λ (g : Segment). g.base) (sym is.segment) in
+    strictly log.state.segment.base (length log.state.history) (subst (λ (x : ℕ × List Entry). x.0 ≤ length x.1) (λ i. (based i, whole i)) cut_base) apart
 
 module _ {D : Type 0} (z : SharedState D) (s t u : SeatState) (e : VersionSetState) (log : LogState) (goes : GoesOn no_fact s.knows.held s.turns s t) where
   so_far : GoesOnAs s t s.knows.participant
@@ -176,14 +176,14 @@ module _ {D : Type 0} (z : SharedState D) (s t u : SeatState) (e : VersionSetSta
     holds = k.holds;
     nothing = k.nothing;
     in_step = k.in_step;
-    says = renews_so (GoesOnAs t u) (GoesOnAs s u) z s t u u e.table (so_far.same_by, so_far.made, so_far.joined) (ap (λ (p : Participant). p.past) so_far.participant) so_far.seen refl (starts_same u.knows.participant.seen)
+    says = renews_so (GoesOnAs t u) (GoesOnAs s u) z s t u u e.state (so_far.same_by, so_far.made, so_far.joined) (ap (λ (p : Participant). p.past) so_far.participant) so_far.seen refl (starts_same u.knows.participant.seen)
         (λ events h. goes_more s t u s.knows.participant so_far events h) (λ h. goes_still s t u s.knows.participant so_far h) refl result k.says;
     manifest = k.manifest;
     untouched = k.untouched;
   }
 
   -- both turns are held as before
-  pub holds_both_still : HoldsBoth z s e log log.table → HoldsBoth z t e log log.table
+  pub holds_both_still : HoldsBoth z s e log log.state → HoldsBoth z t e log log.state
   holds_both_still holds = record {
     turn = record {
       same_table = ap (λ (x : SeatState). x.table) goes.same ∙ holds.turn.same_table;
@@ -195,12 +195,12 @@ module _ {D : Type 0} (z : SharedState D) (s t u : SeatState) (e : VersionSetSta
     log_of_store = holds.log_of_store;
   }
 
-  pub in_step_still : KnowsTables s.knows e.table.last → KnowsTables t.knows e.table.last
-  in_step_still in_step = in_step_on s t no_fact s.knows.held s.turns refl (λ vs floor. refl) goes e.table.last in_step
+  pub in_step_still : KnowsTables s.knows e.state.last → KnowsTables t.knows e.state.last
+  in_step_still in_step = in_step_on s t no_fact s.knows.held s.turns refl (λ vs floor. refl) goes e.state.last in_step
 
   -- there is no memory for it
-  pub no_room : HoldsBoth z s e log log.table → e.table.halted ≡ false → log.table.closed ≡ false → log.table.pending ≡ [] → e.table.last.segment ≡ log.table.segment → log.table.segment.base < length log.table.history → s.knows.participant.seen ≡ log.table.history → log.table.log ≡ log.table.history
-      → (w : World) × Stands z s w → IsEdits e → IsLog log → EditsStand e → LogStands log → KnowsTables s.knows e.table.last → RenewsHolding (GoesOnAs s t) z s e log (Err Memory) t e log
+  pub no_room : HoldsBoth z s e log log.state → e.state.halted ≡ false → log.state.closed ≡ false → log.state.pending ≡ [] → e.state.last.segment ≡ log.state.segment → log.state.segment.base < length log.state.history → s.knows.participant.seen ≡ log.state.history → log.state.log ≡ log.state.history
+      → (w : World) × Stands z s w → IsEdits e → IsLog log → EditsStand e → LogStands log → KnowsTables s.knows e.state.last → RenewsHolding (GoesOnAs s t) z s e log (Err Memory) t e log
   no_room holds running open_ nothing coupled below seen whole w0 is_edits is_log edits_stand log_stands in_step = record {
     holds = holds_both_still holds;
     nothing = nothing;

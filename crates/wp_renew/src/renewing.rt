@@ -40,11 +40,11 @@ fn freeze_held<D: Disk + Drop, R: Wait>(
     edits: &VersionSet<D>,
     log: &Log<D>,
 ) -> Result<Frozen, AllocError>
-    requires holds { HoldsBoth store.now seat.old edits.now log.now log.now.table }
-    requires in_step { KnowsTables seat.old.knows edits.now.table.last }
-    requires seen { (seat.old.knows.participant.seen ≡ log.now.table.history) × (log.now.table.pending ≡ []) }
+    requires holds { HoldsBoth store.now seat.old edits.now log.now log.now.state }
+    requires in_step { KnowsTables seat.old.knows edits.now.state.last }
+    requires seen { (seat.old.knows.participant.seen ≡ log.now.state.history) × (log.now.state.pending ≡ []) }
     ensures goes { GoesOn no_fact seat.old.knows.held seat.old.turns seat.old seat.new }
-    ensures frozen { IfOk result (HasFrozen seat.new.knows edits.now.table) }
+    ensures frozen { IfOk result (HasFrozen seat.new.knows edits.now.state) }
     ensures stands { (w : World) × Stands store.now seat.new w }
 {
     let mut stock = store.take_turn::<Stock, R>(rt, seat);
@@ -61,10 +61,10 @@ fn make_renewal_ready<D: Disk + Drop, R: Wait>(
     edits: &VersionSet<D>,
     log: &Log<D>,
 ) -> Result<ReadyRenewal, AllocError>
-    requires holds { HoldsBoth store.now seat.old edits.now log.now log.now.table }
-    requires in_step { KnowsTables seat.old.knows edits.now.table.last }
-    requires seen { (seat.old.knows.participant.seen ≡ log.now.table.history) × (log.now.table.pending ≡ []) }
-    requires whole { undone_last log.now.table.history ≡ None }
+    requires holds { HoldsBoth store.now seat.old edits.now log.now log.now.state }
+    requires in_step { KnowsTables seat.old.knows edits.now.state.last }
+    requires seen { (seat.old.knows.participant.seen ≡ log.now.state.history) × (log.now.state.pending ≡ []) }
+    requires whole { undone_last log.now.state.history ≡ None }
     ensures goes { GoesOn no_fact seat.old.knows.held seat.old.turns seat.old seat.new }
     ensures ready { IfOk result (λ ready. HasReady seat.new.knows edits.now ready.flush × IsSegmentOf log.now ready.segment) }
     ensures stands { (w : World) × Stands store.now seat.new w }
@@ -84,13 +84,13 @@ fn renew_in<D: Disk + Drop, R: Wait>(
     log: &mut Log<D>,
     ready: ReadyRenewal,
 ) -> Result<Renewed, RenewError>
-    requires holds { HoldsBoth store.now seat.old edits.old log.old log.old.table }
-    requires running { (edits.old.table.halted ≡ false) × (log.old.table.closed ≡ false) × (log.old.table.pending ≡ []) }
-    requires coupled { edits.old.table.last.segment ≡ log.old.table.segment }
-    requires below { log.old.table.segment.base < length log.old.table.history }
-    requires whole { undone_last log.old.table.history ≡ None }
-    requires in_step { KnowsTables seat.old.knows edits.old.table.last }
-    requires seen { (seat.old.knows.participant.seen ≡ log.old.table.history) × (log.old.table.log ≡ log.old.table.history) }
+    requires holds { HoldsBoth store.now seat.old edits.old log.old log.old.state }
+    requires running { (edits.old.state.halted ≡ false) × (log.old.state.closed ≡ false) × (log.old.state.pending ≡ []) }
+    requires coupled { edits.old.state.last.segment ≡ log.old.state.segment }
+    requires below { log.old.state.segment.base < length log.old.state.history }
+    requires whole { undone_last log.old.state.history ≡ None }
+    requires in_step { KnowsTables seat.old.knows edits.old.state.last }
+    requires seen { (seat.old.knows.participant.seen ≡ log.old.state.history) × (log.old.state.log ≡ log.old.state.history) }
     requires ready { HasReady seat.old.knows edits.old ready.flush × IsSegmentOf log.old ready.segment }
     requires edits { IsEdits edits.old }
     requires log { IsLog log.old }
@@ -122,10 +122,10 @@ fn shows_segment<D: Disk + Drop>(
     edits: &VersionSet<D>,
     log: &Log<D>,
 )
-    requires { HoldsBoth store.now seat.old edits.now log.now log.now.table }
+    requires { HoldsBoth store.now seat.old edits.now log.now log.now.state }
     ensures same { seat.new ≡ seat.old }
-    ensures segment { edits.now.table.last.segment ≡ log.now.table.segment }
-    ensures whole { log.now.table.pending ≡ [] → (undone_last log.now.table.history ≡ None) × (log.now.table.log ≡ log.now.table.history) }
+    ensures segment { edits.now.state.last.segment ≡ log.now.state.segment }
+    ensures whole { log.now.state.pending ≡ [] → (undone_last log.now.state.history ≡ None) × (log.now.state.log ≡ log.now.state.history) }
 {
     let _ = edits;
     log.devices_agree();
@@ -140,10 +140,10 @@ fn renew_held<D: Disk + Drop, R: Wait>(
     edits: &mut VersionSet<D>,
     log: &mut Log<D>,
 ) -> Result<Renewed, RenewError>
-    requires holds { HoldsBoth store.now seat.old edits.old log.old log.old.table }
-    requires running { edits.old.table.halted ≡ false }
-    requires seen { (seat.old.knows.participant.seen ≡ log.old.table.history) × (log.old.table.pending ≡ []) }
-    requires in_step { KnowsTables seat.old.knows edits.old.table.last }
+    requires holds { HoldsBoth store.now seat.old edits.old log.old log.old.state }
+    requires running { edits.old.state.halted ≡ false }
+    requires seen { (seat.old.knows.participant.seen ≡ log.old.state.history) × (log.old.state.pending ≡ []) }
+    requires in_step { KnowsTables seat.old.knows edits.old.state.last }
     requires stands { (w : World) × Stands store.now seat.old w }
     ensures { RenewsHolding (GoesOnAs seat.old seat.new) store.now seat.old edits.old log.old result seat.new edits.new log.new }
 {
@@ -171,10 +171,10 @@ fn renew_tables<D: Disk + Drop, R: Wait>(
     edits: &mut VersionSet<D>,
 ) -> Result<Renewed, RenewError>
     requires holds { HoldsEdits store.now seat.old edits.old }
-    requires in_step { KnowsTables seat.old.knows edits.old.table.last }
+    requires in_step { KnowsTables seat.old.knows edits.old.state.last }
     ensures holds { HoldsEdits store.now seat.new edits.new }
-    ensures in_step { KnowsTables seat.new.knows edits.new.table.last }
-    ensures says { RenewsFrom (GoesOnAs seat.old seat.new) store.now seat.old edits.old.table result seat.new }
+    ensures in_step { KnowsTables seat.new.knows edits.new.state.last }
+    ensures says { RenewsFrom (GoesOnAs seat.old seat.new) store.now seat.old edits.old.state result seat.new }
     ensures manifest { IfErr result (UnlessDeviceFault (AreLeft edits.old edits.new)) }
     ensures untouched { IfErr result (BeforeDevices (edits.new ≡ edits.old)) }
 {

@@ -7,7 +7,7 @@ use lib.ListN.{get_elem?}
 use Rattle.atomic_table.specs.Table.{Final, Seen}
 use Rattle.wp_core.specs.Lists.{EachAt, IsIn, one_if}
 use Rattle.wp_core.specs.Turns.{Turn, write_turn, prepared_turn, snapshots_turn, store_turn, locks_turn, tables_turn, turn_holder}
-use Rattle.wp_core.specs.Tables.{Content}
+use Rattle.wp_core.specs.States.{Content}
 use Rattle.wp_core.specs.World.{Actor, World, content_of, new_actor}
 use Rattle.wp_core.specs.Changes.{turn_index}
 use Rattle.wp_core.specs.Sound.Actors.{Role, role_of, held_of}

@@ -8,7 +8,7 @@ use Rattle.atomic_table.specs.Table.{opening}
 use Rattle.atomic_table.proofs.Lists.{at_map}
 use Rattle.wp_model.specs.declared.entry.Entry.{Entry}
 use Rattle.wp_core.specs.Turns.{Turn, write_turn, prepared_turn, snapshots_turn, store_turn, locks_turn, tables_turn, Holders, turn_holder, all_free}
-use Rattle.wp_core.specs.Tables.{Content}
+use Rattle.wp_core.specs.States.{Content}
 use Rattle.wp_core.specs.World.{Actor, new_actor, content_of}
 use Rattle.wp_core.specs.Changes.{turn_index}
 use Rattle.wp_core.specs.Runs.{stays}

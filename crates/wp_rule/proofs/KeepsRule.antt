@@ -12,7 +12,7 @@ use Rattle.atomic_table.specs.Table.{State, Me, step, Act, keeps, takes, gives, 
 use Rattle.atomic_table.proofs.Lists.{set_here, set_else, set_again, exchanged}
 use Rattle.wp_model.specs.declared.entry.Entry.{Entry}
 use Rattle.wp_core.specs.Turns.{Turn, write_turn, prepared_turn, snapshots_turn, store_turn, locks_turn, tables_turn, turn_holder, with_holder}
-use Rattle.wp_core.specs.Tables.{Content}
+use Rattle.wp_core.specs.States.{Content}
 use Rattle.wp_core.specs.World.{Actor, World, content_of}
 use Rattle.wp_core.specs.Changes.{turn_index}
 use Rattle.wp_core.specs.Steps.{Step, give_turn}
@@ -193,7 +193,7 @@ module _ {S : Type 0} (content : S → Option Content) (tells : S → Type 0) (f
             back = record {
               value = x;
               last_taken = refl;
-              left = record { table = content_of w turn; held = inl refl; of_turn = table_of w turn; is_part = h.2 };
+              left = record { state = content_of w turn; held = inl refl; of_turn = table_of w turn; is_part = h.2 };
               may = λ v there. needed (place id) b v there (give_turn turn) (knows_give w m.0 turn may);
             };
           }),
@@ -224,8 +224,8 @@ module _ {S : Type 0} (content : S → Option Content) (tells : S → Type 0) (f
       → Allows Rule 6 id m (turn_place turn) (λ _. 0) (λ _. plays.unclaims (place id) turn (step 6 (turn_place turn) 0 0 none) m 0)
   given id turn m may s r deep at low =
       let w = r.world in let k = at_world s r id m.0 at in let n = may.may w k in let it = may.left in
-      let has = held_is (place id) m.0 w it.table k it.held in
-      let same : content_of w turn ≡ it.table = subst (λ (t : Turn). content_of w t ≡ it.table) it.of_turn has.1 in
+      let has = held_is (place id) m.0 w it.state k it.held in
+      let same : content_of w turn ≡ it.state = subst (λ (t : Turn). content_of w t ≡ it.state) it.of_turn has.1 in
       let out : get_elem? s.homes (turn_index turn) ≡ some none = is_out (turn_holder w.holders turn) id (content_of w turn) (get_elem? s.homes (turn_index turn)) n.0 (r.rests turn) in
       let b : Actor = actor_after_step w m.0 (give_turn turn) in let next : World = world_after_step w id m.0 (give_turn turn) in
       let reached : Reaches next = reached_next w id m.0 (give_turn turn) k.there r.reached n in

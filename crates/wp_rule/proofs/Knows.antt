@@ -6,7 +6,7 @@ use Rattle.wp_model.specs.PreparedSets.{PreparedSets}
 use Rattle.wp_model.specs.Snapshots.{Snapshots}
 use Rattle.wp_core.specs.Lists.{IsIn}
 use Rattle.wp_core.specs.Turns.{Turn, Holders, Holds}
-use Rattle.wp_core.specs.Tables.{WriteState, StoreState, Installed, Content, writes, prepared, snapshots, store, locks, installed, turn_of}
+use Rattle.wp_core.specs.States.{WriteState, StoreState, Installed, Content, writes, prepared, snapshots, store, locks, installed, turn_of}
 use Rattle.wp_core.specs.Views.{Fact}
 use Rattle.wp_core.specs.World.{Actor, World, content_of}
 use Rattle.wp_core.specs.Sound.Actors.{StartsWith, seen_of, learned_of, held_of, AreHeld}
@@ -16,7 +16,7 @@ use Rattle.wp_core.proofs.AllParticipants.{mine}
 use Rattle.wp_core.proofs.EachStep.{reached_is_sound}
 use Rattle.wp_core.proofs.Frames.{at_map}
 use Rattle.wp_rule.specs.Words.{Place, IsAt}
-use Rattle.wp_rule.specs.Knows.{IsTableOf}
+use Rattle.wp_rule.specs.Knows.{IsStateOf}
 use Rattle.wp_rule.specs.Shows.{WasLast}
 
 pub at_sound : (p : Place) (a : Actor) (w : World) → IsAt p a w → IsSound w
@@ -61,13 +61,13 @@ abbrev installed_in : Installed → Content → Installed
 installed_in e (installed d) = d
 installed_in e other = e
 
-pub is_table : (w : World) (table : Content) → content_of w (turn_of table) ≡ table → IsTableOf w table
-is_table w (writes t) e = ap (writes_in t) e
-is_table w (prepared t) e = ap (prepared_in t) e
-is_table w (snapshots m) e = ap (snapshots_in m) e
-is_table w (store t) e = ap (store_in t) e
-is_table w (locks t) e = ap (locks_in t) e
-is_table w (installed d) e = ap (installed_in d) e
+pub is_state : (w : World) (table : Content) → content_of w (turn_of table) ≡ table → IsStateOf w table
+is_state w (writes t) e = ap (writes_in t) e
+is_state w (prepared t) e = ap (prepared_in t) e
+is_state w (snapshots m) e = ap (snapshots_in m) e
+is_state w (store t) e = ap (store_in t) e
+is_state w (locks t) e = ap (locks_in t) e
+is_state w (installed d) e = ap (installed_in d) e
 
 -- ---- what was seen, learned and noted
 

@@ -14,7 +14,7 @@ use Rattle.wp_history_laws.proofs.Counting.{entry_version_old}
 use Rattle.wp_history_laws.proofs.Growth.{legal_before}
 use Rattle.wp_core.specs.Sound.Actors.{StartsWith}
 use Rattle.wp_core.specs.Sound.Store.{IsStored}
-use Rattle.wp_core.specs.Tables.{StoreState, Installed, live_numbers, up_to}
+use Rattle.wp_core.specs.States.{StoreState, Installed, live_numbers, up_to}
 use Rattle.wp_core.specs.World.{Actor}
 use Rattle.wp_core.proofs.CoveredGrows.{covered_grows}
 use Rattle.wp_core.proofs.HistoryGrows.{none_is, grown_length, version_new}

@@ -16,7 +16,7 @@ use Rattle.wp_model.specs.PreparedSets.{IsSmallest, NonePrepared}
 use Rattle.wp_core.specs.Turns.{write_turn, prepared_turn, snapshots_turn, locks_turn}
 use Rattle.wp_core.specs.Views.{words_stay, versions_nowhere, number_not_in_heap, unprepared, delayed_flag_stays, old_flag_stays, pair_not_delayed}
 use Rattle.wp_core.specs.World.{Transaction, Actor, World}
-use Rattle.wp_core.specs.Tables.{writes, prepared, snapshots, locks}
+use Rattle.wp_core.specs.States.{writes, prepared, snapshots, locks}
 use Rattle.wp_core.specs.Steps.{Step, register, make_pending, claim_name, find_holder, note}
 use Rattle.wp_core.specs.Changes.{keys_of_holder}
 use Rattle.wp_core.specs.Entries.{next_of, pending_pair, extended}
@@ -39,13 +39,13 @@ pub known_made : (p : Place) (a : Actor) (step : Step) → IsQuiet step → Know
 known_made p a step quiet known w k = ((quiet, tt), (needed p a w k step known, tt))
 
 pub words_noted : (p : Place) (a : Actor) → a.live ≡ true → Holding a writes (λ d. Unit {0}) → MayMake p a (λ w. note (words_stay w.max_evicted w.cache) ∷ [])
-words_noted p a live n w k = ((tt, tt), ((live, guarded p a w k write_turn (held_is p a w (writes n.table) k n.held).0, (refl, refl)), tt))
+words_noted p a live n w k = ((tt, tt), ((live, guarded p a w k write_turn (held_is p a w (writes n.state) k n.held).0, (refl, refl)), tt))
 
 pub delayed_noted : (p : Place) (a : Actor) → a.live ≡ true → Holding a prepared (λ t. Unit {0}) → MayMake p a (λ w. note (delayed_flag_stays w.delayed_flag) ∷ [])
-delayed_noted p a live n w k = ((tt, tt), ((live, guarded p a w k prepared_turn (held_is p a w (prepared n.table) k n.held).0, refl), tt))
+delayed_noted p a live n w k = ((tt, tt), ((live, guarded p a w k prepared_turn (held_is p a w (prepared n.state) k n.held).0, refl), tt))
 
 pub old_noted : (p : Place) (a : Actor) → a.live ≡ true → Holding a snapshots (λ m. Unit {0}) → MayMake p a (λ w. note (old_flag_stays w.old_flag) ∷ [])
-old_noted p a live n w k = ((tt, tt), ((live, guarded p a w k snapshots_turn (held_is p a w (snapshots n.table) k n.held).0, refl), tt))
+old_noted p a live n w k = ((tt, tt), ((live, guarded p a w k snapshots_turn (held_is p a w (snapshots n.state) k n.held).0, refl), tt))
 
 -- ---- a snapshot
 

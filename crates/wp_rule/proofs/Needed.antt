@@ -13,7 +13,7 @@ use Rattle.wp_model.specs.Decision.{decision_of, version_in}
 use Rattle.wp_model.specs.Flushed.{InstalledEdit, IsEditCovered}
 use Rattle.wp_model.specs.History.{entry_at, name_at, batch_at, named, is_changed, is_prepare, holder_of}
 use Rattle.wp_model.specs.PreparedSets.{PreparedSets, is_prepared}
-use Rattle.wp_model.specs.Snapshots.{Snapshots, Snapshot, IsLive}
+use Rattle.wp_model.specs.Snapshots.{Snapshots, LiveSnapshot, IsLive}
 use Rattle.wp_model.specs.Versions.{version_at}
 use Rattle.wp_model.specs.LockState.{LockState}
 use Rattle.wp_judge.specs.Words.{CommitPair, commit_pair, fits, delta_of, delta_bound}
@@ -22,7 +22,7 @@ use Rattle.wp_judge.specs.declared.observed.Load.TheVariants.{FirstWord, FirstMa
 use Rattle.wp_core.specs.Lists.{IsIn}
 use Rattle.wp_core.specs.Turns.{Turn, write_turn, prepared_turn, snapshots_turn, store_turn, locks_turn, tables_turn, Holds}
 use Rattle.wp_core.specs.Cache.{cache_place, cached, pair_at}
-use Rattle.wp_core.specs.Tables.{WriteState, StoreState, Installed, writes, prepared, snapshots, store, locks, installed}
+use Rattle.wp_core.specs.States.{WriteState, StoreState, Installed, writes, prepared, snapshots, store, locks, installed}
 use Rattle.wp_core.specs.Views.{Fact, passed, in_old_commits, apart, words_stay, has_left, versions_in_memory, versions_nowhere, number_in_heap, number_not_in_heap, undecided_at, prior_values, unprepared, direct_free, tables_stay, live_listed, nothing_flushed, frozen_stay, delayed_flag_stays, old_flag_stays, pair_delayed, pair_not_delayed, none_waits}
 use Rattle.wp_core.specs.World.{Transaction, Actor, World}
 use Rattle.wp_core.specs.Entries.{next_of, batch_of_name, extended, pending_pair, pair_by, pairs_of}
@@ -48,7 +48,7 @@ use Rattle.wp_model.proofs.Tests.{none_some, same_some}
 use Rattle.wp_rule.specs.Words.{Place, IsAt}
 use Rattle.wp_rule.specs.Knows.{Holding, Noted, IsUp, KnowsLook, KnowsCleared, KnowsTables, KnowsReplaced, KnowsGive, KnowsPair, IsRise, HasNoVersions, KnowsFact, KnowsHeld, KnowsPublish, NextNamed, Knows, IsRiseForWord, IsRiseForWide, KnowsEntered}
 use Rattle.wp_rule.proofs.Bound.{past_reaches, past_published}
-use Rattle.wp_rule.proofs.Knows.{at_sound, is_table, held_is, seen_is, noted_is}
+use Rattle.wp_rule.proofs.Knows.{at_sound, is_state, held_is, seen_is, noted_is}
 use Rattle.wp_rule.proofs.Maintenance.{edit_later, moved, next_stays, replaced, installed_now, halted_now, halted_only}
 
 -- ---- wide pairs of a record
@@ -87,22 +87,22 @@ module _ (p : Place) (a : Actor) (w : World) (k : IsAt p a w) where
   -- ---- tables
 
   pub has_writes : (so : WriteState → Type 0) → Holding a writes so → Holds w.holders write_turn p.by × so w.writes
-  has_writes so n = let h = held_is p a w (writes n.table) k n.held in (h.0, subst so (sym (is_table w (writes n.table) h.1)) n.so_is)
+  has_writes so n = let h = held_is p a w (writes n.state) k n.held in (h.0, subst so (sym (is_state w (writes n.state) h.1)) n.so_is)
 
   pub has_prepared : (so : PreparedSets → Type 0) → Holding a prepared so → Holds w.holders prepared_turn p.by × so w.prepared
-  has_prepared so n = let h = held_is p a w (prepared n.table) k n.held in (h.0, subst so (sym (is_table w (prepared n.table) h.1)) n.so_is)
+  has_prepared so n = let h = held_is p a w (prepared n.state) k n.held in (h.0, subst so (sym (is_state w (prepared n.state) h.1)) n.so_is)
 
   pub has_snapshots : (so : Snapshots → Type 0) → Holding a snapshots so → Holds w.holders snapshots_turn p.by × so w.snapshots
-  has_snapshots so n = let h = held_is p a w (snapshots n.table) k n.held in (h.0, subst so (sym (is_table w (snapshots n.table) h.1)) n.so_is)
+  has_snapshots so n = let h = held_is p a w (snapshots n.state) k n.held in (h.0, subst so (sym (is_state w (snapshots n.state) h.1)) n.so_is)
 
   has_store : (so : StoreState → Type 0) → Holding a store so → Holds w.holders store_turn p.by × so w.store
-  has_store so n = let h = held_is p a w (store n.table) k n.held in (h.0, subst so (sym (is_table w (store n.table) h.1)) n.so_is)
+  has_store so n = let h = held_is p a w (store n.state) k n.held in (h.0, subst so (sym (is_state w (store n.state) h.1)) n.so_is)
 
   pub has_locks : (so : LockState → Type 0) → Holding a locks so → Holds w.holders locks_turn p.by × so w.locks
-  has_locks so n = let h = held_is p a w (locks n.table) k n.held in (h.0, subst so (sym (is_table w (locks n.table) h.1)) n.so_is)
+  has_locks so n = let h = held_is p a w (locks n.state) k n.held in (h.0, subst so (sym (is_state w (locks n.state) h.1)) n.so_is)
 
   has_installed : (so : Installed → Type 0) → Holding a installed so → Holds w.holders tables_turn p.by × so w.installed
-  has_installed so n = let h = held_is p a w (installed n.table) k n.held in (h.0, subst so (sym (is_table w (installed n.table) h.1)) n.so_is)
+  has_installed so n = let h = held_is p a w (installed n.state) k n.held in (h.0, subst so (sym (is_state w (installed n.state) h.1)) n.so_is)
 
   -- ---- notes, and what was seen
 
@@ -301,7 +301,7 @@ module _ (p : Place) (a : Actor) (w : World) (k : IsAt p a w) where
 
   -- ---- maintenance
 
-  live_of : (s : ℕ) (o : Option Snapshot) → finite.get w.snapshots s ≡ o → is_some o ≡ true → s ≤ length w.writes.history
+  live_of : (s : ℕ) (o : Option LiveSnapshot) → finite.get w.snapshots s ≡ o → is_some o ≡ true → s ≤ length w.writes.history
   live_of s None is live = absurd cc
   live_of s (Some x) is live = (sound.registrations.live s x is).1
 

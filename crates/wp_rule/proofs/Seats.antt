@@ -6,7 +6,7 @@ use Rattle.atomic_table.specs.Table.{State, Splits, Joins}
 use Rattle.atomic_table.proofs.Lists.{set_again, set_else}
 use Rattle.wp_model.specs.declared.entry.Entry.{Entry}
 use Rattle.wp_core.specs.Turns.{turn_holder}
-use Rattle.wp_core.specs.Tables.{Content}
+use Rattle.wp_core.specs.States.{Content}
 use Rattle.wp_core.specs.World.{Actor, World, new_actor, content_of}
 use Rattle.wp_core.specs.Changes.{turn_index, made_one, informed, joins, joined_actor}
 use Rattle.wp_core.specs.Steps.{Step, make_note, make_seat, learn, join_seat}

@@ -5,7 +5,7 @@ use Rattle.wp_model.specs.declared.entry.Entry.{Entry}
 use Rattle.wp_judge.specs.Words.{CommitPair, word_of}
 use Rattle.wp_core.specs.Lists.{IsIn}
 use Rattle.wp_core.specs.Cache.{cache_place, with_pair}
-use Rattle.wp_core.specs.Tables.{WriteState, Content, writes, prepared, with_moved}
+use Rattle.wp_core.specs.States.{WriteState, Content, writes, prepared, with_moved}
 use Rattle.wp_core.specs.Turns.{Turn, write_turn, prepared_turn, snapshots_turn, Holds}
 use Rattle.wp_core.specs.Views.{Fact, words_stay, delayed_flag_stays, old_flag_stays}
 use Rattle.wp_core.specs.World.{Actor, World}
@@ -121,10 +121,10 @@ same_writes p a w t k held = ap (writes_or t) (held_is p a w (writes t) k held).
 
 pub may_publish : (p : Place) (a : Actor) (number : ℕ) → MayPublishAs p a number → MayStore p a (λ w. publishing w.writes.pending) 0 number
 may_publish p a number m w k =
-    let same : w.writes ≡ m.table = same_writes p a w m.table k m.held in
+    let same : w.writes ≡ m.state = same_writes p a w m.state k m.held in
     let step : Step = store_published m.entry m.others in let n = m.may w k in
     let b : Actor = actor_after_step w a step in let t : Content = writes (with_entry w.writes m.entry m.others) in
-    let l = length-append w.writes.history (m.entry ∷ []) in let q : length w.writes.history ≡ length m.table.history = ap (λ (x : WriteState). length x.history) same in
+    let l = length-append w.writes.history (m.entry ∷ []) in let q : length w.writes.history ≡ length m.state.history = ap (λ (x : WriteState). length x.history) same in
     let counts : length (w.writes.history ++ m.entry ∷ []) ≡ number = l ∙ (let i = m.number_is in omega (arith, q, i)) in
     subst (λ (entries : List Entry). LeadTo p a w (publishing entries) (set (words_of w) 0 number)) (sym (ap (λ (x : WriteState). x.pending) same ∙ m.pending)) (
       (n, tt),

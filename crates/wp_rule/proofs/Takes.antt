@@ -3,7 +3,7 @@ use Rattle.std.proofs.Common.{◌≡◌, inl, inr, ℕ, Bool, true, false, List,
 use mathlib.Core.Option.{some}
 use lib.ListN.{get_elem?}
 use Rattle.wp_core.specs.Turns.{Turn, write_turn, prepared_turn, snapshots_turn, store_turn, locks_turn, tables_turn, turn_holder, with_holder, Holds}
-use Rattle.wp_core.specs.Tables.{Content, WriteState, Installed, turn_of}
+use Rattle.wp_core.specs.States.{Content, WriteState, Installed, turn_of}
 use Rattle.wp_model.specs.declared.segment.Segment.{Segment}
 use Rattle.wp_model.specs.declared.version.Version.{Version}
 use Rattle.wp_core.specs.Views.{Fact, tables_stay, nothing_flushed, delayed_flag_stays, old_flag_stays}
@@ -53,12 +53,12 @@ may_give w locks_turn s free = tt
 may_give w tables_turn s free = s.in_step free
 
 pub knows_give : (w : World) (a : Actor) (turn : Turn) → MayGive w turn → KnowsGive (with_turn turn w a) turn
-knows_give w a write_turn may = record { table = w.writes; held = inl refl; so_is = may }
-knows_give w a prepared_turn may = record { table = w.prepared; held = inl refl; so_is = λ none. inl (ap delayed_flag_stays (may none)) }
-knows_give w a snapshots_turn may = record { table = w.snapshots; held = inl refl; so_is = λ none. inl (ap old_flag_stays (may none)) }
-knows_give w a store_turn may = record { table = w.store; held = inl refl; so_is = tt }
-knows_give w a locks_turn may = record { table = w.locks; held = inl refl; so_is = tt }
-knows_give w a tables_turn may = record { table = w.installed; held = inl refl; so_is = (inl refl, (w.store.floor, inr (inl (ap (λ (versions : List Version). tables_stay versions w.store.floor) may.1)))) }
+knows_give w a write_turn may = record { state = w.writes; held = inl refl; so_is = may }
+knows_give w a prepared_turn may = record { state = w.prepared; held = inl refl; so_is = λ none. inl (ap delayed_flag_stays (may none)) }
+knows_give w a snapshots_turn may = record { state = w.snapshots; held = inl refl; so_is = λ none. inl (ap old_flag_stays (may none)) }
+knows_give w a store_turn may = record { state = w.store; held = inl refl; so_is = tt }
+knows_give w a locks_turn may = record { state = w.locks; held = inl refl; so_is = tt }
+knows_give w a tables_turn may = record { state = w.installed; held = inl refl; so_is = (inl refl, (w.store.floor, inr (inl (ap (λ (versions : List Version). tables_stay versions w.store.floor) may.1)))) }
 
 -- ---- the steps
 

@@ -24,7 +24,7 @@ use Rattle.wp_judge.specs.declared.observed.Load.TheVariants.{InPrepared, IsOldC
 use Rattle.wp_core.specs.Lists.{IsIn}
 use Rattle.wp_core.specs.Turns.{Turn, write_turn, prepared_turn, snapshots_turn, store_turn, locks_turn, tables_turn}
 use Rattle.wp_core.specs.Cache.{cached, cache_place, pair_at}
-use Rattle.wp_core.specs.Tables.{WriteState, StoreState, Installed, Content, writes, prepared, snapshots, store, locks, installed, up_to}
+use Rattle.wp_core.specs.States.{WriteState, StoreState, Installed, Content, writes, prepared, snapshots, store, locks, installed, up_to}
 use Rattle.wp_core.specs.Views.{Fact, passed, in_old_commits, apart, words_stay, has_left, versions_in_memory, versions_nowhere, number_in_heap, number_not_in_heap, pair_delayed, pair_not_delayed, none_waits, undecided_at, prior_values, unprepared, direct_free, tables_stay, live_listed, nothing_flushed, frozen_stay, delayed_flag_stays, old_flag_stays}
 use Rattle.wp_core.specs.World.{Transaction, Actor, World}
 use Rattle.wp_model.specs.Record.{IsOneRecord}
@@ -40,18 +40,18 @@ use Rattle.wp_rule.specs.Words.{Place}
 
 -- the view has a table of this kind, of which this is so
 pub record Holding (a : Actor) {T : Type 0} (content : T → Content) (so : T → Type 0) : Type 0 where
-  pub table : T
+  pub state : T
   pub held : IsIn (content table) a.held
   pub so_is : so table
 
 -- the table is the world's
-abbrev pub IsTableOf : World → Content → Type 0
-IsTableOf w (writes t) = w.writes ≡ t
-IsTableOf w (prepared t) = w.prepared ≡ t
-IsTableOf w (snapshots m) = w.snapshots ≡ m
-IsTableOf w (store t) = w.store ≡ t
-IsTableOf w (locks t) = w.locks ≡ t
-IsTableOf w (installed e) = w.installed ≡ e
+abbrev pub IsStateOf : World → Content → Type 0
+IsStateOf w (writes t) = w.writes ≡ t
+IsStateOf w (prepared t) = w.prepared ≡ t
+IsStateOf w (snapshots m) = w.snapshots ≡ m
+IsStateOf w (store t) = w.store ≡ t
+IsStateOf w (locks t) = w.locks ≡ t
+IsStateOf w (installed e) = w.installed ≡ e
 
 -- a fact that was noted
 abbrev pub Noted : Actor → Fact → Type 0

@@ -5,7 +5,7 @@ use Rattle.wp_model.specs.History.{named}
 use Rattle.wp_judge.specs.Words.{CommitPair}
 use Rattle.wp_core.specs.Cache.{with_pair}
 use Rattle.wp_core.specs.Lists.{IsIn}
-use Rattle.wp_core.specs.Tables.{WriteState, writes}
+use Rattle.wp_core.specs.States.{WriteState, writes}
 use Rattle.wp_core.specs.Turns.{Turn, turn_holder}
 use Rattle.wp_core.specs.Views.{Fact, words_stay, undecided_at}
 use Rattle.wp_core.specs.World.{Actor, World, content_of}
@@ -147,7 +147,7 @@ taking_name name w = let p = unwrap_or (named w.writes.history name) 0 in load_p
 -- The first of the pending entries may be published as this number: the view has the table of the write turn, in which it is
 -- the first, and the number is the next.
 pub record MayPublishAs (p : Place) (a : Actor) (number : ℕ) : Type 0 where
-  pub table : WriteState
+  pub state : WriteState
   pub entry : Entry
   pub others : List Entry
   pub held : IsIn (writes table) a.held

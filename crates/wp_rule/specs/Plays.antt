@@ -5,7 +5,7 @@ use Rattle.wp_core.specs.Turns.{Turn, write_turn, prepared_turn, snapshots_turn,
 use Rattle.wp_core.specs.Changes.{turn_index}
 use Rattle.wp_core.specs.Conditions.{MayGive}
 use Rattle.wp_core.specs.Lists.{IsIn}
-use Rattle.wp_core.specs.Tables.{Content, turn_of}
+use Rattle.wp_core.specs.States.{Content, turn_of}
 use Rattle.wp_core.specs.Views.{Fact, words_stay, delayed_flag_stays, old_flag_stays, tables_stay, nothing_flushed}
 use Rattle.wp_core.specs.World.{Actor, World, content_of}
 use Rattle.wp_core.specs.Steps.{take_turn, give_turn, note}
@@ -53,7 +53,7 @@ module _ {S : Type 0} (p : Place) where
 module _ {S : Type 0} (content : S → Option Content) (tells : S → Type 0) where
   -- the value is the turn's table as its holder left that at its last step
   pub record IsLeft (turn : Turn) (a : Actor) (value : S) : Type 0 where
-    pub table : Content
+    pub state : Content
     pub held : IsIn table a.held
     pub of_turn : turn_of table ≡ turn
     pub is_part : IsPart content tells value table

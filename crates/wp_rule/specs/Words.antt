@@ -7,7 +7,7 @@ use Rattle.atomic_table.specs.Seated.{TableId}
 use Rattle.wp_model.specs.declared.entry.Entry.{Entry}
 use Rattle.wp_model.specs.Flushed.{InstalledEdit}
 use Rattle.wp_core.specs.Turns.{Turn, Holders}
-use Rattle.wp_core.specs.Tables.{Content, installed}
+use Rattle.wp_core.specs.States.{Content, installed}
 use Rattle.wp_core.specs.Changes.{turn_index}
 use Rattle.wp_core.specs.World.{Actor, World}
 use Rattle.wp_core.specs.Runs.{Reaches}

@@ -7,7 +7,7 @@ ghost use Rattle.wp_model.specs.Flushed.{InstalledEdit};
 ghost use Rattle.wp_model.specs.PreparedSets.{IsSmallest, NonePrepared};
 ghost use Rattle.wp_core.specs.Lists.{IsIn};
 ghost use Rattle.wp_core.specs.Turns.{Holds};
-ghost use Rattle.wp_core.specs.Tables.{Content, writes, prepared, snapshots, locks, turn_of};
+ghost use Rattle.wp_core.specs.States.{Content, writes, prepared, snapshots, locks, turn_of};
 ghost use Rattle.wp_core.specs.Views.{Fact, words_stay, versions_nowhere, number_not_in_heap, pair_not_delayed, unprepared, delayed_flag_stays, old_flag_stays};
 ghost use Rattle.wp_core.specs.World.{Actor, World, content_of};
 ghost use Rattle.wp_core.specs.Steps.{Step, register, make_pending, claim_name, find_holder, note};

@@ -1,6 +1,6 @@
 //! What lies in a slot.
 ghost use Rattle.std.specs.Prelude.{List, Option};
-ghost use Rattle.wp_core.specs.Tables.{Content};
+ghost use Rattle.wp_core.specs.States.{Content};
 
 /// A value behind a turn, or one that stands in its slot while it is out.
 pub trait HoldsPart {

@@ -17,7 +17,7 @@ ghost use Rattle.wp_rule.specs.Shows.{Founds, Leaves};
 ghost use Rattle.wp_rule.specs.Ends.{part_of};
 ghost use Rattle.wp_rule.specs.Plays.{Claimed, WasHeld, MayLie, MayUnclaim};
 ghost use Rattle.wp_core.specs.Lists.{IsIn};
-ghost use Rattle.wp_core.specs.Tables.{WriteState, writes};
+ghost use Rattle.wp_core.specs.States.{WriteState, writes};
 ghost use Rattle.wp_core.specs.Cache.{cache_place};
 ghost use Rattle.wp_judge.specs.Words.{CommitPair, word_of, pair_of};
 

@@ -4,7 +4,7 @@ use Rattle.wp_model.specs.declared.entry.Entry.{Entry}
 use Rattle.wp_model.specs.Flushed.{InstalledEdit}
 use Rattle.wp_outside.specs.Disk.{Moment, images}
 use Rattle.wp_core.specs.Lists.{one_if}
-use Rattle.wp_core.specs.Tables.{WriteState, Installed}
+use Rattle.wp_core.specs.States.{WriteState, Installed}
 use Rattle.wp_replies.specs.Known.{StoredState}
 use Rattle.wp_replies.specs.Replies.{Untaken}
 use Rattle.wp_shared.specs.Ended.{IsFrom, OpensAsLeft}

@@ -23,7 +23,7 @@ use Rattle.wp_tableset.specs.Set.{TableSetState}
 use Rattle.wp_core.specs.Conditions.{NoneNext}
 use Rattle.wp_core.specs.Images.{MaySpell, MayName}
 use Rattle.wp_core.specs.IsSound.{participants}
-use Rattle.wp_core.specs.Tables.{WriteState, Installed, Content, writes, installed}
+use Rattle.wp_core.specs.States.{WriteState, Installed, Content, writes, installed}
 use Rattle.wp_core.specs.Turns.{Turn, write_turn, tables_turn}
 use Rattle.wp_core.specs.Views.{Event}
 use Rattle.wp_core.specs.World.{Participant, World}
@@ -38,8 +38,8 @@ use Rattle.wp_parts.specs.Log.{LogState, IsLog}
 use Rattle.wp_parts.specs.VersionSet.{VersionSetState, IsEdits}
 use Rattle.wp_contents.specs.Opens.{installed_of}
 use Rattle.wp_parts.specs.Parts.{content, tells, IsGuardedBy}
-use Rattle.wp_parts.specs.declared.part.TurnValue.{TurnValue}
-use Rattle.wp_parts.specs.declared.part.TurnValue.TheVariants as part
+use Rattle.wp_parts.specs.declared.turn_value.TurnValue.{TurnValue}
+use Rattle.wp_parts.specs.declared.turn_value.TurnValue.TheVariants as part
 use Rattle.wp_parts.specs.Devices.{DevicesLeft, devices_behind}
 use Rattle.wp_shared.proofs.Tables.{in_place}
 use Rattle.wp_shared.specs.Opening.{IsOneStore}
@@ -103,11 +103,11 @@ module _ {D : Type 0} (z : SharedState D) (first : SeatState) (others : List Sea
   edits_part : IsPart content (tells z.first) (part.Tables edits_box) (installed w.installed)
   edits_part = subst (λ (x : TurnValue D). IsPart content (tells z.first) x (installed w.installed)) is_edits (l.are_parts tables_turn)
 
-  same_writes : log.table ≡ w.writes
-  same_writes = ap (λ (c : Option Content). writes_in c log.table) log_part.0
+  same_writes : log.state ≡ w.writes
+  same_writes = ap (λ (c : Option Content). writes_in c log.state) log_part.0
 
-  same_installed : edits.table ≡ w.installed
-  same_installed = ap (λ (c : Option Content). installed_in c edits.table) edits_part.0
+  same_installed : edits.state ≡ w.installed
+  same_installed = ap (λ (c : Option Content). installed_in c edits.state) edits_part.0
 
   wal_is : log.first ≡ o.wal
   wal_is = ap (λ (x : Option WalState). unwrap_or x o.wal) (sym log_part.1.1 ∙ o.log)
@@ -126,13 +126,13 @@ module _ {D : Type 0} (z : SharedState D) (first : SeatState) (others : List Sea
   log_is : w.writes.log ≡ w.writes.history
   log_is = l.alone.history.log ∙ (ap (λ (xs : List Entry). w.writes.history ++ xs) (ap (logged_part w.writes.logged) (l.alone.pending (l.free write_turn)) ∙ none_logged w.writes.logged) ∙ append-nil w.writes.history)
 
-  log_was : log.table.log ≡ w.writes.history
+  log_was : log.state.log ≡ w.writes.history
   log_was = ap (λ (t : WriteState). t.log) same_writes ∙ log_is
 
   segment_is : log.wal.segment ≡ w.writes.segment
   segment_is = sym k.segment ∙ ap (λ (t : WriteState). t.segment) same_writes
 
-  failed_is : log.table.failed ≡ w.writes.failed
+  failed_is : log.state.failed ≡ w.writes.failed
   failed_is = ap (λ (t : WriteState). t.failed) same_writes
 
   cut_left : IsCut w.writes.history k.cut
@@ -154,7 +154,7 @@ module _ {D : Type 0} (z : SharedState D) (first : SeatState) (others : List Sea
 
   stored_left : IfKnown log.wal.moments (LeavesCutOrNext o.wal.id w.writes.segment.place k.cut w.writes.failed)
   stored_left =
-      subst (λ (x : ℕ × Segment × List Entry). IfKnown log.wal.moments (LeavesCutOrNext x.0 x.1.place k.cut x.2)) (λ i. (log_id i, segment_is i, failed_is i)) (stored_as log.wal k.cut log.table.failed k.stores)
+      subst (λ (x : ℕ × Segment × List Entry). IfKnown log.wal.moments (LeavesCutOrNext x.0 x.1.place k.cut x.2)) (λ i. (log_id i, segment_is i, failed_is i)) (stored_as log.wal k.cut log.state.failed k.stores)
 
   -- an image spells, in the segment of an edit that may be named, a list that the log may spell
   spelled_at : (image : List ℕ) → images log.wal.moments image → (edit : InstalledEdit) → MayName w.installed edit → (left : List Entry) × MaySpell w.writes left × HasCutAt o.wal.id edit.segment image left
@@ -268,7 +268,7 @@ module _ {D : Type 0} (z : SharedState D) (first : SeatState) (others : List Sea
     since = since_opened;
   }
 
-  ended_as : (history : List Entry) (left : DevicesLeft) → history ≡ log.table.history → left ≡ devices_behind log.wal edits.set → IsEnded z (first ∷ others) history left × IsBasedAsOpened z log
+  ended_as : (history : List Entry) (left : DevicesLeft) → history ≡ log.state.history → left ≡ devices_behind log.wal edits.set → IsEnded z (first ∷ others) history left × IsBasedAsOpened z log
   ended_as history left same devices = (
     subst (λ (x : List Entry × DevicesLeft). IsEnded z (first ∷ others) x.0 x.1) (λ i. (sym (same ∙ ap (λ (t : WriteState). t.history) same_writes) i, sym devices i)) ended_first,
     based_left,
@@ -285,9 +285,9 @@ edits_left z (first ∷ others) parts all l = (installed l.world.installed, (l.a
 
 pub ended : {D : Type 0} (z : SharedState D) (seats : List SeatState) (parts : Turn → TurnValue D) (log_box : Box LogState Global) (edits_box : Box VersionSetState Global) (log : LogState) (edits : VersionSetState) (history : List Entry) (left : DevicesLeft)
     → log ≡ log_box.value → edits ≡ edits_box.value → IsOneStore z.opened z.first → AreAll seats → Remains z seats parts → parts write_turn ≡ part.Write log_box → parts tables_turn ≡ part.Tables edits_box → IsLog log → IsEdits edits
-    → history ≡ log.table.history → left ≡ devices_behind log.wal edits.set → IsEnded z seats history left × IsBasedAsOpened z log
+    → history ≡ log.state.history → left ≡ devices_behind log.wal edits.set → IsEnded z seats history left × IsBasedAsOpened z log
 ended z [] parts log_box edits_box log edits history left inside edits_inside o all l is_log is_edits k e same devices = absurd all
 ended z (first ∷ others) parts log_box edits_box log edits history left inside edits_inside o all l is_log is_edits k e same devices =
-    let it = ended_as z first others parts log_box edits_box o all.1 l is_log is_edits (subst IsLog inside k) (subst IsEdits edits_inside e) history left (same ∙ ap (λ (x : LogState). x.table.history) inside)
+    let it = ended_as z first others parts log_box edits_box o all.1 l is_log is_edits (subst IsLog inside k) (subst IsEdits edits_inside e) history left (same ∙ ap (λ (x : LogState). x.state.history) inside)
     (devices ∙ (λ i. devices_behind (inside i).wal (edits_inside i).set)) in
     (it.0, λ edit last. ap (λ (x : LogState). x.first.segment.base) inside ∙ it.1 edit last)

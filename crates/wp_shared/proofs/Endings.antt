@@ -6,7 +6,7 @@ use Rattle.atomic_table.specs.Seated.{TableId}
 use Rattle.wp_core.specs.Turns.{Turn}
 use Rattle.wp_core.specs.World.{Actor}
 use Rattle.wp_rule.specs.Shows.{Leaves}
-use Rattle.wp_parts.specs.declared.part.TurnValue.{TurnValue}
+use Rattle.wp_parts.specs.declared.turn_value.TurnValue.{TurnValue}
 use Rattle.wp_parts.specs.Parts.{content, tells}
 use Rattle.wp_shared.specs.Seats.{SharedState, SeatState, IsFree, turns_of, place_at, participant_of}
 use Rattle.wp_shared.specs.Ending.{AllFree, AreAll, all_joined, Remains}

@@ -1,6 +1,6 @@
 -- A seat that goes on, step after step.
 use Rattle.std.proofs.Common.{◌≡◌, inr, ℕ, Bool, true, false, List, [], refl, sym, subst, ap, ◌∙◌}
-use Rattle.wp_core.specs.Tables.{Content}
+use Rattle.wp_core.specs.States.{Content}
 use Rattle.wp_core.specs.Turns.{store_turn, locks_turn}
 use Rattle.wp_core.specs.Views.{Fact, passed}
 use Rattle.wp_rule.specs.Knows.{Noted}

@@ -15,8 +15,8 @@ use Rattle.wp_rule.specs.Shows.{IsPart}
 use Rattle.wp_rule.specs.Plays.{taking, with_turn, Claimed, MayLie, MayUnclaim, IsLeft}
 use Rattle.wp_rule.specs.Knows.{Noted}
 use Rattle.wp_rule.proofs.Outlasting.{outlasts}
-use Rattle.wp_parts.specs.declared.part.TurnValue.{TurnValue}
-use Rattle.wp_parts.specs.declared.part.TurnValue.TheVariants as part
+use Rattle.wp_parts.specs.declared.turn_value.TurnValue.{TurnValue}
+use Rattle.wp_parts.specs.declared.turn_value.TurnValue.TheVariants as part
 use Rattle.wp_parts.specs.Parts.{content, tells}
 use Rattle.wp_shared.specs.Notes.{is_under}
 use Rattle.wp_shared.specs.Seats.{SharedState, SeatState, AllAway, turns_of, place_at}
@@ -106,7 +106,7 @@ module _ {D : Type 0} (z : SharedState D) (s : SeatState) (value : TurnValue D) 
 
   -- the value is the turn's table as the seat left it
   is_left : (a : Actor) → a ≡ s.knows → IsLeft content (tells z.first) turn a value
-  is_left a same = record { table = h.table; held = subst (λ (x : Actor). IsIn h.table x.held) (sym same) h.held; of_turn = sym h.of_turn; is_part = (h.is, h.told) }
+  is_left a same = record { state = h.state; held = subst (λ (x : Actor). IsIn h.state x.held) (sym same) h.held; of_turn = sym h.of_turn; is_part = (h.is, h.told) }
 
   pub may_lie : (y : SharedState D) (a : Actor) → y ≡ z → a ≡ s.knows → MayLie content (tells y.first) turn a value
   may_lie y a store same = subst (λ (x : SharedState D). MayLie content (tells x.first) turn a value) (sym store) (inr (is_left a same))

@@ -5,7 +5,7 @@ use Rattle.wp_core.specs.Steps.{Step}
 use Rattle.wp_rule.specs.Words.{Place, IsAt, SawAll}
 use Rattle.wp_rule.specs.Moves.{MayStep, Moved}
 use Rattle.wp_shared.specs.Seats.{SharedState, SeatState, Stands, AllAway, place_at}
-use Rattle.wp_parts.specs.declared.part.TurnValue.{TurnValue}
+use Rattle.wp_parts.specs.declared.turn_value.TurnValue.{TurnValue}
 
 -- the seat moved, and so it did by its view
 pub moved_from : (p : Place) (steps : World → List Step) (so : World → Type 0) (s t : SeatState) (b : Actor) → s ≡ t → Moved p steps so s.knows b → Moved p steps so t.knows b

@@ -15,21 +15,21 @@ use Rattle.wp_core.specs.Entries.{extended}
 use Rattle.wp_core.specs.IsSound.{IsSound}
 use Rattle.wp_core.specs.Lists.{IsIn}
 use Rattle.wp_core.specs.Steps.{give_turn}
-use Rattle.wp_core.specs.Tables.{Content, WriteState, Installed, writes, prepared, snapshots, store, locks, installed, turn_of}
+use Rattle.wp_core.specs.States.{Content, WriteState, Installed, writes, prepared, snapshots, store, locks, installed, turn_of}
 use Rattle.wp_core.specs.Views.{Fact, words_stay, tables_stay, nothing_flushed, delayed_flag_stays, old_flag_stays}
 use Rattle.wp_core.specs.World.{Actor, World}
 use Rattle.wp_core.proofs.HistoryLaws.{decision_within}
 use Rattle.wp_model.proofs.Tests.{none_some, some_none, same_some}
-use Rattle.wp_rule.specs.Knows.{Noted, IsTableOf}
+use Rattle.wp_rule.specs.Knows.{Noted, IsStateOf}
 use Rattle.wp_rule.specs.Moves.{MayStep}
 use Rattle.wp_rule.specs.Plays.{facts_at}
 use Rattle.wp_rule.specs.Words.{Place, IsAt}
-use Rattle.wp_rule.proofs.Knows.{is_table, held_is}
+use Rattle.wp_rule.proofs.Knows.{is_state, held_is}
 use Rattle.wp_rule.proofs.Needed.{needed}
 use Rattle.wp_parts.specs.Parts.{content, Tells}
 use Rattle.wp_parts.specs.Stock.{store_state}
-use Rattle.wp_parts.specs.declared.part.TurnValue.{TurnValue}
-use Rattle.wp_parts.specs.declared.part.TurnValue.TheVariants as part
+use Rattle.wp_parts.specs.declared.turn_value.TurnValue.{TurnValue}
+use Rattle.wp_parts.specs.declared.turn_value.TurnValue.TheVariants as part
 use Rattle.wp_shared.specs.Notes.{ArePublished}
 use Rattle.wp_shared.specs.Turns.{KnowsTaken, KnowsToGive}
 use Rattle.wp_judge.proofs.Packing.{pair_parts, with_test}
@@ -45,8 +45,8 @@ in_place t last (inr waits) (inr closed) = absurd (true≢false (sym closed ∙ 
 -- ---- which table it is
 
 -- a table that the seat holds is the world's
-pub held_table : (p : Place) (a : Actor) (w : World) (table : Content) → IsAt p a w → IsIn table a.held → IsTableOf w table
-held_table p a w table k held = is_table w table (held_is p a w table k held).1
+pub held_state : (p : Place) (a : Actor) (w : World) (table : Content) → IsAt p a w → IsIn table a.held → IsStateOf w table
+held_state p a w table k held = is_state w table (held_is p a w table k held).1
 
 -- ---- words of a world in which nothing is pending
 
@@ -76,17 +76,17 @@ NoneWaits other = Unit {0}
 
 pub none_in : {D : Type 0} (x : TurnValue D) (c : Content) → content x ≡ Some c → Tells x → NoneWaits c
 none_in part.Away c is told = let q : None ≡ Some c = is in absurd (cc)
-none_in (part.Write log) c is told = subst NoneWaits (same_some (writes log.value.table) c is) told.1
+none_in (part.Write log) c is told = subst NoneWaits (same_some (writes log.value.state) c is) told.1
 none_in (part.Prepared t) c is told = subst NoneWaits (same_some (prepared t.value) c is) tt
 none_in (part.Snapshots m) c is told = subst NoneWaits (same_some (snapshots m.value) c is) tt
 none_in (part.Store t) c is told = subst NoneWaits (same_some (store (store_state t.value)) c is) tt
 none_in (part.Locks t) c is told = subst NoneWaits (same_some (locks t.value) c is) tt
-none_in (part.Tables e) c is told = subst NoneWaits (same_some (installed e.value.table) c is) tt
+none_in (part.Tables e) c is told = subst NoneWaits (same_some (installed e.value.state) c is) tt
 
 -- ---- what is known of it
 
 -- once it is taken
-pub knows_taken : (w : World) (a : Actor) (table : Content) → IsSound w → MayGive w (turn_of table) → IsTableOf w table → ((fact : Fact) → IsIn fact (facts_at (turn_of table) w) → Noted a fact) → KnowsTaken a table
+pub knows_taken : (w : World) (a : Actor) (table : Content) → IsSound w → MayGive w (turn_of table) → IsStateOf w table → ((fact : Fact) → IsIn fact (facts_at (turn_of table) w) → Noted a fact) → KnowsTaken a table
 knows_taken w a (writes t) s may is noted = (
   ap (λ (d : WriteState). d.pending) (sym is) ∙ may.0,
   record {
@@ -126,9 +126,9 @@ knows_to_give a (installed d) k = k
 
 -- the turn may be given then, where no segment of the log waits
 pub may_give : (p : Place) (a : Actor) (table : Content) → IsIn table a.held → NoneWaits table → KnowsToGive a table → MayStep p a (give_turn (turn_of table))
-may_give p a (writes t) held none known w k = needed p a w k (give_turn (turn_of (writes t))) (record { table = t; held = held; so_is = (known, none) })
-may_give p a (prepared t) held none known w k = needed p a w k (give_turn (turn_of (prepared t))) (record { table = t; held = held; so_is = known })
-may_give p a (snapshots m) held none known w k = needed p a w k (give_turn (turn_of (snapshots m))) (record { table = m; held = held; so_is = known })
-may_give p a (store t) held none known w k = needed p a w k (give_turn (turn_of (store t))) (record { table = t; held = held; so_is = tt })
-may_give p a (locks t) held none known w k = needed p a w k (give_turn (turn_of (locks t))) (record { table = t; held = held; so_is = tt })
-may_give p a (installed d) held none known w k = needed p a w k (give_turn (turn_of (installed d))) (record { table = d; held = held; so_is = known })
+may_give p a (writes t) held none known w k = needed p a w k (give_turn (turn_of (writes t))) (record { state = t; held = held; so_is = (known, none) })
+may_give p a (prepared t) held none known w k = needed p a w k (give_turn (turn_of (prepared t))) (record { state = t; held = held; so_is = known })
+may_give p a (snapshots m) held none known w k = needed p a w k (give_turn (turn_of (snapshots m))) (record { state = m; held = held; so_is = known })
+may_give p a (store t) held none known w k = needed p a w k (give_turn (turn_of (store t))) (record { state = t; held = held; so_is = tt })
+may_give p a (locks t) held none known w k = needed p a w k (give_turn (turn_of (locks t))) (record { state = t; held = held; so_is = tt })
+may_give p a (installed d) held none known w k = needed p a w k (give_turn (turn_of (installed d))) (record { state = d; held = held; so_is = known })

@@ -5,24 +5,24 @@ use Rattle.wp_core.specs.Changes.{turn_index, held_without, sees}
 use Rattle.wp_core.specs.Conditions.{MayGive}
 use Rattle.wp_core.specs.Lists.{IsIn}
 use Rattle.wp_core.specs.Steps.{give_turn}
-use Rattle.wp_core.specs.Tables.{Content, WriteState, writes, turn_of}
+use Rattle.wp_core.specs.States.{Content, WriteState, writes, turn_of}
 use Rattle.wp_core.specs.Turns.{Turn, turn_holder}
 use Rattle.wp_core.specs.Views.{Fact, words_stay}
 use Rattle.wp_core.specs.World.{Actor, World, content_of}
 use Rattle.wp_model.proofs.Tests.{same_some}
-use Rattle.wp_rule.specs.Knows.{Noted, IsTableOf}
+use Rattle.wp_rule.specs.Knows.{Noted, IsStateOf}
 use Rattle.wp_rule.specs.Moves.{MayStep}
 use Rattle.wp_rule.specs.Plays.{facts_at}
-use Rattle.wp_rule.proofs.Knows.{at_sound, is_table}
+use Rattle.wp_rule.proofs.Knows.{at_sound, is_state}
 use Rattle.wp_rule.proofs.Takes.{table_of}
-use Rattle.wp_parts.specs.declared.part.TurnValue.{TurnValue}
+use Rattle.wp_parts.specs.declared.turn_value.TurnValue.{TurnValue}
 use Rattle.wp_parts.specs.Log.{LogState}
 use Rattle.wp_parts.specs.Parts.{content, tells, log_first, IsGuardedBy}
 use Rattle.wp_shared.specs.Notes.{is_under, seeing, SawHistory, GoesOn}
 use Rattle.wp_shared.specs.Seats.{SharedState, SeatState, place_at}
 use Rattle.wp_shared.specs.Turns.{TookPart, MayGivePart, GavePart, HoldsTurn, KnowsToGive, Taken, TookLog, Given}
 use Rattle.wp_shared.proofs.Goes.{goes_with, is_free}
-use Rattle.wp_shared.proofs.Tables.{held_table, none_in, knows_taken, may_give}
+use Rattle.wp_shared.proofs.Tables.{held_state, none_in, knows_taken, may_give}
 
 in_front : {X : Type 0} (x : X) (xs ys : List X) → IsIn x xs → IsIn x (xs ++ ys)
 in_front x [] ys there = absurd there
@@ -49,8 +49,8 @@ module _ {D : Type 0} (z : SharedState D) (turn : Turn) (old new : SeatState) (v
     of_turn : turn ≡ turn_of table
     of_turn = sym (table_of w turn) ∙ ap turn_of here
 
-    table_is : IsTableOf w table
-    table_is = is_table w table (ap (content_of w) (sym of_turn) ∙ here)
+    table_is : IsStateOf w table
+    table_is = is_state w table (ap (content_of w) (sym of_turn) ∙ here)
 
     knows_is : new.knows ≡ record old.knows { held = table ∷ old.knows.held; notes = facts_at (turn_of table) w ++ old.knows.notes }
     knows_is = k.knows ∙ (λ i. record old.knows { held = here i ∷ old.knows.held; notes = facts_at (of_turn i) w ++ old.knows.notes })
@@ -76,23 +76,23 @@ module _ {D : Type 0} (z : SharedState D) (turn : Turn) (old new : SeatState) (v
     }
 
 -- the write turn is taken, and then the published number is loaded
-module _ {D : Type 0} (z : SharedState D) (old s new : SeatState) (log : LogState) (k : Taken z old s (writes log.table)) (of_store : log_first z.first ≡ Some log.first) (saw : SawHistory z s new) where
+module _ {D : Type 0} (z : SharedState D) (old s new : SeatState) (log : LogState) (k : Taken z old s (writes log.state)) (of_store : log_first z.first ≡ Some log.first) (saw : SawHistory z s new) where
   abbrev notes_then : List Fact
   notes_then = words_stay k.world.max_evicted k.world.cache ∷ old.knows.notes
 
   abbrev saw_as : List Entry → SeatState
-  saw_as h = record old { knows = record (sees h old.knows) { held = writes log.table ∷ old.knows.held; notes = notes_then }; turns = 0 ∷ old.turns }
+  saw_as h = record old { knows = record (sees h old.knows) { held = writes log.state ∷ old.knows.held; notes = notes_then }; turns = 0 ∷ old.turns }
 
   now_is : new ≡ saw_as saw.history
   now_is = saw.seat ∙ ap (seeing saw.history) k.seat
 
-  log_there : saw.world.writes ≡ log.table
-  log_there = held_table (place_at z new.by) new.knows saw.world (writes log.table) saw.stands (subst (λ (x : SeatState). IsIn (writes log.table) x.knows.held) (sym now_is) (inl refl))
+  log_there : saw.world.writes ≡ log.state
+  log_there = held_state (place_at z new.by) new.knows saw.world (writes log.state) saw.stands (subst (λ (x : SeatState). IsIn (writes log.state) x.knows.held) (sym now_is) (inl refl))
 
-  all_seen : saw.history ≡ log.table.history
+  all_seen : saw.history ≡ log.state.history
   all_seen = sym saw.is ∙ ap (λ (t : WriteState). t.history) log_there
 
-  now_is_all : new ≡ saw_as log.table.history
+  now_is_all : new ≡ saw_as log.state.history
   now_is_all = now_is ∙ ap saw_as all_seen
 
   -- the load changed what it has seen alone
@@ -107,7 +107,7 @@ module _ {D : Type 0} (z : SharedState D) (old s new : SeatState) (log : LogStat
     found_is = k.is;
     seat = now_is_all;
     goes = record {
-      same = now_is_all ∙ ap (λ (notes : List Fact). record (saw_as log.table.history) { knows = record (saw_as log.table.history).knows { notes = notes } }) (sym (ap (λ (x : SeatState). x.knows.notes) now_is_all));
+      same = now_is_all ∙ ap (λ (notes : List Fact). record (saw_as log.state.history) { knows = record (saw_as log.state.history).knows { notes = notes } }) (sym (ap (λ (x : SeatState). x.knows.notes) now_is_all));
       noted = λ fact other there. subst (λ (x : SeatState). Noted x.knows fact) (sym now_is_all) (inr there);
     };
     holds = record {
@@ -138,7 +138,7 @@ module _ {D : Type 0} (z : SharedState D) (turn : Turn) (old : SeatState) (table
   pub may_give_part : (value : TurnValue D) → content value ≡ Some table → tells z.first value → KnowsToGive old.knows table → MayGivePart z turn old value
   may_give_part value is told known =
       let held : IsIn table old.knows.held = subst (IsIn table) (sym h.held) (inl refl) in record {
-        table = table;
+        state = table;
         is = is;
         of_turn = of_turn;
         told = told;

@@ -19,7 +19,7 @@ use Rattle.wp_tableset.specs.Device.{KeepsFronts}
 use Rattle.wp_tableset.specs.Set.{TableSetState}
 use Rattle.wp_contents.specs.Opens.{OpensTo}
 use Rattle.wp_core.specs.Images.{MaySpell, MayName}
-use Rattle.wp_core.specs.Tables.{WriteState, Installed}
+use Rattle.wp_core.specs.States.{WriteState, Installed}
 use Rattle.wp_core.specs.World.{Participant}
 use Rattle.wp_core.specs.Sound.Actors.{StartsWith, AreSeen, AreOwned, seen_of, own_of}
 use Rattle.wp_core.specs.Sound.Pasts.{AreHolders, IsBoard, AreFaults, AreEdits, past_of}

@@ -21,7 +21,7 @@ use Rattle.wp_core.specs.Notes.{gives_guard, is_name}
 use Rattle.wp_core.specs.Sound.Actors.{StartsWith}
 use Rattle.wp_core.specs.Sound.Views.{guarded_by}
 use Rattle.wp_core.specs.Steps.{give_turn}
-use Rattle.wp_core.specs.Tables.{Content}
+use Rattle.wp_core.specs.States.{Content}
 use Rattle.wp_core.specs.Turns.{Turn}
 use Rattle.wp_core.specs.Views.{Fact, words_stay, undecided_at, prior_values, unprepared, delayed_flag_stays, old_flag_stays}
 use Rattle.wp_core.specs.World.{Actor, Participant, World}

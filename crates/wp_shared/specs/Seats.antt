@@ -2,11 +2,11 @@
 use Rattle.std.specs.Prelude.{◌≡◌, ℕ, true, List, [], ◌∷◌}
 use Rattle.atomic_table.specs.Seated.{TableId}
 use Rattle.wp_model.specs.declared.entry.Entry.{Entry}
-use Rattle.wp_core.specs.Tables.{Content}
+use Rattle.wp_core.specs.States.{Content}
 use Rattle.wp_core.specs.World.{Actor, Participant, World}
 use Rattle.wp_rule.specs.Words.{SharedWords, Place, place_of, IsAt}
-use Rattle.wp_parts.specs.declared.part.TurnValue.{TurnValue}
-use Rattle.wp_parts.specs.declared.part.TurnValue.TheVariants as part
+use Rattle.wp_parts.specs.declared.turn_value.TurnValue.{TurnValue}
+use Rattle.wp_parts.specs.declared.turn_value.TurnValue.TheVariants as part
 use Rattle.wp_parts.specs.Parts.{content}
 
 -- The store: which table it is, the history that was opened, how many words its cache has, the values behind the turns as

@@ -6,24 +6,24 @@ use Rattle.wp_core.specs.Conditions.{MayGive}
 use Rattle.wp_core.specs.Lists.{IsIn}
 use Rattle.wp_core.specs.Sound.Actors.{StartsWith}
 use Rattle.wp_core.specs.Steps.{give_turn}
-use Rattle.wp_core.specs.Tables.{Content, writes, prepared, snapshots, store, locks, installed, turn_of}
+use Rattle.wp_core.specs.States.{Content, writes, prepared, snapshots, store, locks, installed, turn_of}
 use Rattle.wp_model.specs.PreparedSets.{NoneDelayed}
 use Rattle.wp_model.specs.Snapshots.{NoOldCommits}
 use Rattle.wp_core.specs.Turns.{Turn, write_turn, turn_holder}
 use Rattle.wp_core.specs.Views.{Fact, words_stay, delayed_flag_stays, old_flag_stays}
 use Rattle.wp_core.specs.World.{Actor, World, content_of}
-use Rattle.wp_rule.specs.Knows.{Noted, KnowsTables, IsTableOf}
+use Rattle.wp_rule.specs.Knows.{Noted, KnowsTables, IsStateOf}
 use Rattle.wp_rule.specs.Moves.{MayStep}
 use Rattle.wp_rule.specs.Plays.{facts_at, with_turn}
 use Rattle.wp_parts.specs.Log.{LogState}
 use Rattle.wp_parts.specs.Parts.{content, tells, log_first}
-use Rattle.wp_parts.specs.declared.part.TurnValue.{TurnValue}
+use Rattle.wp_parts.specs.declared.turn_value.TurnValue.{TurnValue}
 use Rattle.wp_shared.specs.Notes.{no_fact, is_under, seeing, GoesOn, DelayedFlagTells, OldFlagTells, KnowsWords}
 use Rattle.wp_shared.specs.Seats.{SharedState, SeatState, IsFree, Stands, place_at}
 
 -- the history that the log's table has
 abbrev pub history_in : LogState → List Entry
-history_in log = log.table.history
+history_in log = log.state.history
 
 -- ---- what a seat knows of a turn's table
 
@@ -62,7 +62,7 @@ pub record TookPart {D : Type 0} (z : SharedState D) (turn : Turn) (old new : Se
 
 -- The value may go home: it is the table of the turn, which was taken last, as the seat left it, and the turn may be given.
 pub record MayGivePart {D : Type 0} (z : SharedState D) (turn : Turn) (s : SeatState) (part : TurnValue D) : Type 0 where
-  pub table : Content
+  pub state : Content
   pub is : content part ≡ Some table
   pub of_turn : turn ≡ turn_of table
   pub told : tells z.first part
@@ -95,7 +95,7 @@ pub record Taken {D : Type 0} (z : SharedState D) (old new : SeatState) (table :
   pub world : World
   pub before : Stands z old world
   pub free : turn_holder world.holders (turn_of table) ≡ None
-  pub is : IsTableOf world table
+  pub is : IsStateOf world table
   pub seat : new ≡ record old { knows = record old.knows { held = table ∷ old.knows.held; notes = facts_at (turn_of table) world ++ old.knows.notes }; turns = turn_index (turn_of table) ∷ old.turns }
   pub goes : GoesOn no_fact (table ∷ old.knows.held) (turn_index (turn_of table) ∷ old.turns) old new
   pub holds : HoldsTurn z new table old.knows.held old.turns
@@ -108,17 +108,17 @@ pub record TookLog {D : Type 0} (z : SharedState D) (old new : SeatState) (log :
   pub found : World
   pub before : Stands z old found
   pub free : turn_holder found.holders write_turn ≡ None
-  pub found_is : found.writes ≡ log.table
-  pub seat : new ≡ record old { knows = record (sees log.table.history old.knows) { held = writes log.table ∷ old.knows.held; notes = words_stay found.max_evicted found.cache ∷ old.knows.notes }; turns = 0 ∷ old.turns }
-  pub goes : GoesOn no_fact (writes log.table ∷ old.knows.held) (0 ∷ old.turns) (seeing log.table.history old) new
-  pub holds : HoldsTurn z new (writes log.table) old.knows.held old.turns
-  pub knows : KnowsTaken new.knows (writes log.table)
-  pub seen : new.knows.participant.seen ≡ log.table.history
-  pub grown : StartsWith log.table.history old.knows.participant.seen
+  pub found_is : found.writes ≡ log.state
+  pub seat : new ≡ record old { knows = record (sees log.state.history old.knows) { held = writes log.state ∷ old.knows.held; notes = words_stay found.max_evicted found.cache ∷ old.knows.notes }; turns = 0 ∷ old.turns }
+  pub goes : GoesOn no_fact (writes log.state ∷ old.knows.held) (0 ∷ old.turns) (seeing log.state.history old) new
+  pub holds : HoldsTurn z new (writes log.state) old.knows.held old.turns
+  pub knows : KnowsTaken new.knows (writes log.state)
+  pub seen : new.knows.participant.seen ≡ log.state.history
+  pub grown : StartsWith log.state.history old.knows.participant.seen
   pub of_store : log_first z.first ≡ Some log.first
   pub world : World
   pub stands : Stands z new world
-  pub is : world.writes ≡ log.table
+  pub is : world.writes ≡ log.state
 
 -- The turn is given: the seat has its table no more, nor what it noted under the turn. It is free where it held no other.
 pub record Given {D : Type 0} (z : SharedState D) (turn : Turn) (old new : SeatState) (others : List Content) (beneath : List ℕ) : Type 0 where

@@ -5,7 +5,7 @@ ghost use Rattle.wp_model.specs.declared.entry.Entry.{Entry};
 ghost use Rattle.wp_judge.specs.Words.{CommitPair, word_of, pair_of};
 ghost use Rattle.wp_core.specs.Cache.{cache_place};
 ghost use Rattle.wp_core.specs.Lists.{IsIn};
-ghost use Rattle.wp_core.specs.Tables.{WriteState, writes};
+ghost use Rattle.wp_core.specs.States.{WriteState, writes};
 ghost use Rattle.wp_core.specs.Steps as step;
 ghost use Rattle.wp_core.specs.Steps.{store_max_evicted, note};
 ghost use Rattle.wp_core.specs.Views.{delayed_flag_stays, old_flag_stays};

@@ -2,7 +2,7 @@
 ghost use Rattle.std.specs.Prelude.{◌≡◌, ◌∷◌, ℕ, List, true};
 ghost use Rattle.wp_core.specs.Turns.{turn_of};
 ghost use Rattle.wp_core.specs.Changes.{turn_index};
-ghost use Rattle.wp_core.specs.Tables.{Content};
+ghost use Rattle.wp_core.specs.States.{Content};
 ghost use Rattle.wp_shared.specs.Turns.{TookPart, MayGivePart, GavePart, HoldsTurn, KnowsToGive, Taken, TookLog, Given};
 
 use crate::seat::Seat;
@@ -87,7 +87,7 @@ impl<D: Disk + Drop> Shared<D> {
         seat: &mut Seat<D>,
     ) -> Box<G>
         requires { (seat.old.table ≡ self.now.table) × (seat.old.knows.live ≡ true) }
-        ensures taken { Taken self.now seat.old seat.new (G.table result.value) }
+        ensures taken { Taken self.now seat.old seat.new (G.state result.value) }
         ensures of_store { G.is_of self.now.first result.value }
     {
         G::out_of(self.take_part(rt, seat, G::turn()))
@@ -105,10 +105,10 @@ impl<D: Disk + Drop> Shared<D> {
 
     /// Gives the turn that was taken last, with the value that was taken with it, as the seat left its table.
     pub fn give_turn<G: BehindTurn<TurnValue<D>>>(&self, seat: &mut Seat<D>, value: Box<G>)
-        requires holds { (others : List Content) × (beneath : List ℕ) × HoldsTurn self.now seat.old (G.table value.value) others beneath }
+        requires holds { (others : List Content) × (beneath : List ℕ) × HoldsTurn self.now seat.old (G.state value.value) others beneath }
         requires of_store { G.is_of self.now.first value.value }
-        requires knows { KnowsToGive seat.old.knows (G.table value.value) }
-        ensures { (others : List Content) (beneath : List ℕ) → HoldsTurn self.now seat.old (G.table value.value) others beneath
+        requires knows { KnowsToGive seat.old.knows (G.state value.value) }
+        ensures { (others : List Content) (beneath : List ℕ) → HoldsTurn self.now seat.old (G.state value.value) others beneath
             → Given self.now G.turn seat.old seat.new others beneath }
     {
         self.give_part(seat, G::turn(), G::into_part(value));

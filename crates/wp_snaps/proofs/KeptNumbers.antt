@@ -8,7 +8,7 @@ use Rattle.std.specs.Int.{from_bool}
 use Rattle.std.specs.FinMap as finite
 use Rattle.std.specs.FinSet.{FinSet, contains, empty, insert, remove, len, contains-empty, contains-from_list, len-empty, len-insert, len-remove, empty_of_len, same_set, nat_cmp-IsAntisymmetric}
 use Rattle.std.proofs.lemmas.Bool.{cases_eq, eq-eqb, ne_eqb, eqb-true, both_ways, not-false}
-use Rattle.wp_model.specs.Snapshots.{Snapshot, Snapshots, ChangesWhere, after_register, after_release, after_keep, NoOldCommits}
+use Rattle.wp_model.specs.Snapshots.{LiveSnapshot, Snapshots, ChangesWhere, after_register, after_release, after_keep, NoOldCommits}
 use Rattle.std.specs.declared.alloc.AllocError.{AllocError}
 use Rattle.wp_model.proofs.Numbers.{in_inserted, in_inserted_else, in_removed, in_removed_else, get_inserted_else}
 use Rattle.wp_snaps.specs.KeptNumbers.{has_old_commits, kept_numbers}
@@ -52,10 +52,10 @@ has_none s zero = ap not (eq-eqb (len s) 0 zero)
 
 -- ---- the numbers with something under them
 
-abbrev pub under : Option Snapshot → Bool
+abbrev pub under : Option LiveSnapshot → Bool
 under o = option_map_or (λ x. not (len x.old_commits == 0)) o false
 
-kept_or_none : (b : Bool) (o : Option Snapshot) → b ≡ under o → is_some (cond b o None) ≡ b
+kept_or_none : (b : Bool) (o : Option LiveSnapshot) → b ≡ under o → is_some (cond b o None) ≡ b
 kept_or_none true None is = absurd cc
 kept_or_none true (Some x) is = refl
 kept_or_none false o is = refl
@@ -67,14 +67,14 @@ contains-kept m q =
     ∙ ap is_some (finite.get-retain_keys m (has_old_commits m) q (λ x tied. ap (has_old_commits m) (sym (nat_cmp-IsAntisymmetric q x tied))))
     ∙ kept_or_none (has_old_commits m q) (finite.get m q) refl
 
-abbrev pub old_commit_in : Option Snapshot → ℕ → Bool
+abbrev pub old_commit_in : Option LiveSnapshot → ℕ → Bool
 old_commit_in o p = option_map_or (λ x. contains x.old_commits p) o false
 
-none_under : (o : Option Snapshot) → under o ≡ false → (p : ℕ) → old_commit_in o p ≡ false
+none_under : (o : Option LiveSnapshot) → under o ≡ false → (p : ℕ) → old_commit_in o p ≡ false
 none_under None none p = refl
 none_under (Some x) none p = none_in x.old_commits none p
 
-under_none : (o : Option Snapshot) → ((p : ℕ) → old_commit_in o p ≡ false) → under o ≡ false
+under_none : (o : Option LiveSnapshot) → ((p : ℕ) → old_commit_in o p ≡ false) → under o ≡ false
 under_none None none = refl
 under_none (Some x) none = has_none x.old_commits (len_none x.old_commits none)
 
@@ -128,7 +128,7 @@ has_counted m s = by (has_old_commits m s) refl
     by true is = len_some (kept_numbers m) s (contains-kept m s ∙ is)
     by false is = omega arith
 
-module _ (old new : Snapshots) (s : ℕ) (change : Option Snapshot → Option Snapshot) (changes : ChangesWhere (λ q. q == s) change old new) where
+module _ (old new : Snapshots) (s : ℕ) (change : Option LiveSnapshot → Option LiveSnapshot) (changes : ChangesWhere (λ q. q == s) change old new) where
   elsewhere : (q : ℕ) → (q ≡ s → ⊥) → finite.get new q ≡ finite.get old q
   elsewhere q other = changes q ∙ ap (λ b. cond b (change (finite.get old q)) (finite.get old q)) (ne_eqb q s other)
 
@@ -143,11 +143,11 @@ module _ (old new : Snapshots) (s : ℕ) (change : Option Snapshot → Option Sn
   pub len-same : under (change (finite.get old s)) ≡ has_old_commits old s → len (kept_numbers new) ≡ len (kept_numbers old)
   len-same same = let e = len-change in let f = ap from_bool same in omega (arith, e, f)
 
-pub under-register : (o : Option Snapshot) → under (after_register o) ≡ under o
+pub under-register : (o : Option LiveSnapshot) → under (after_register o) ≡ under o
 under-register None = has_none empty (len-empty nat_cmp)
 under-register (Some x) = refl
 
-pub under-keep : (p : ℕ) (x : Snapshot) → under (after_keep p (Some x)) ≡ true
+pub under-keep : (p : ℕ) (x : LiveSnapshot) → under (after_keep p (Some x)) ≡ true
 under-keep p x = some_at (insert x.old_commits p) p (in_inserted x.old_commits p)
 
 -- ---- what a call makes of one entry

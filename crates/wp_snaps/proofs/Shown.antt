@@ -7,7 +7,7 @@ use Rattle.std.specs.Map.{lookup}
 use Rattle.std.specs.BTreeMap.{is_at}
 use Rattle.std.specs.FinMap.{find, get, from_entries, get-from_entries, same_map, nat_cmp-IsAntisymmetric}
 use Rattle.std.proofs.lemmas.Bool.{cases_eq, eq-eqb, ne_eqb, le-leb, lt-leb}
-use Rattle.wp_model.specs.Snapshots.{Snapshot, Snapshots, after_release, ChangesWhere}
+use Rattle.wp_model.specs.Snapshots.{LiveSnapshot, Snapshots, after_release, ChangesWhere}
 use Rattle.wp_snaps.specs.Room.{RoomySnapshot}
 
 -- the entries without their room
@@ -19,7 +19,7 @@ abbrev pub snapshot_at : List (ℕ × RoomySnapshot) → ℕ → Option RoomySna
 snapshot_at es q = lookup (is_at (nat_cmp q)) es
 
 -- a value without its room
-abbrev pub shown : Option RoomySnapshot → Option Snapshot
+abbrev pub shown : Option RoomySnapshot → Option LiveSnapshot
 shown = option_map (λ x. x.snapshot)
 
 shown_choice : (b : Bool) (x : RoomySnapshot) (y : Option RoomySnapshot) → cond b (Some x.snapshot) (shown y) ≡ shown (cond b (Some x) y)
@@ -41,7 +41,7 @@ abbrev pub UpdatedAt : List (ℕ × RoomySnapshot) → List (ℕ × RoomySnapsho
 UpdatedAt es ns s w = (q : ℕ) → snapshot_at ns q ≡ cond (eq_by_cmp nat_cmp s q) w (snapshot_at es q)
 
 -- entries that are changed at one number show just that change
-pub changes_at : (es ns : List (ℕ × RoomySnapshot)) (s : ℕ) (w : Option RoomySnapshot) (change : Option Snapshot → Option Snapshot) → UpdatedAt es ns s w → shown w ≡ change (shown (snapshot_at es s)) → ChangesWhere (λ q. q == s) change (shown_of es) (shown_of ns)
+pub changes_at : (es ns : List (ℕ × RoomySnapshot)) (s : ℕ) (w : Option RoomySnapshot) (change : Option LiveSnapshot → Option LiveSnapshot) → UpdatedAt es ns s w → shown w ≡ change (shown (snapshot_at es s)) → ChangesWhere (λ q. q == s) change (shown_of es) (shown_of ns)
 changes_at es ns s w change updated is q =
     get-shown_of ns q
     ∙ ap shown (updated q)
@@ -83,8 +83,8 @@ pub get_of_entry : (es : List (ℕ × RoomySnapshot)) (m : Snapshots) (s : ℕ) 
 get_of_entry es m s x is found = ap (λ n. get n s) (sym is) ∙ get-shown_of es s ∙ ap shown (sym found)
 
 -- of several registrations one goes, of one the snapshot goes
-pub after_release-shared : (x : Snapshot) → 1 < x.registrations → after_release (Some x) ≡ Some (record x { registrations = x.registrations - 1 })
+pub after_release-shared : (x : LiveSnapshot) → 1 < x.registrations → after_release (Some x) ≡ Some (record x { registrations = x.registrations - 1 })
 after_release-shared x shared = rw (lt-leb x.registrations 1 shared) refl
 
-pub after_release-last : (x : Snapshot) → x.registrations ≤ 1 → after_release (Some x) ≡ None
+pub after_release-last : (x : LiveSnapshot) → x.registrations ≤ 1 → after_release (Some x) ≡ None
 after_release-last x last = rw (le-leb x.registrations 1 last) refl

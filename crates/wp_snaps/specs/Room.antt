@@ -4,16 +4,16 @@ use Rattle.std.specs.Ordering.{nat_cmp}
 use Rattle.std.specs.Coded.{Coded, code_by, coded×, coded_ℕ}
 use Rattle.std.specs.BTreeMap.{BTreeMap, get}
 use Rattle.std.specs.FinMap.{from_entries}
-use Rattle.wp_model.specs.Snapshots.{Snapshot, Snapshots, snapshot_code}
+use Rattle.wp_model.specs.Snapshots.{LiveSnapshot, Snapshots, snapshot_code}
 
 -- a snapshot, and how many more numbers may be under it without memory
 pub record RoomySnapshot : Type 0 where
-  pub snapshot : Snapshot
+  pub snapshot : LiveSnapshot
   pub room : ℕ
 
 abbrev pub roomy_snapshot_code : Coded RoomySnapshot
 roomy_snapshot_code =
-    code_by (Snapshot × ℕ) (coded× snapshot_code coded_ℕ) (λ s. (s.snapshot, s.room)) (λ p. record { snapshot = p.0; room = p.1 }) (λ _. refl)
+    code_by (LiveSnapshot × ℕ) (coded× snapshot_code coded_ℕ) (λ s. (s.snapshot, s.room)) (λ p. record { snapshot = p.0; room = p.1 }) (λ _. refl)
 
 -- the snapshots without their room
 abbrev pub snapshots_of : BTreeMap ℕ RoomySnapshot → Snapshots

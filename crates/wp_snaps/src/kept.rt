@@ -5,13 +5,13 @@ ghost use Rattle.std.specs.FinSet as set;
 ghost use Rattle.wp_snaps.specs.KeptNumbers.{kept_numbers};
 ghost use Rattle.wp_snaps.specs.Room.{snapshots_of, HasRoom, NoneLive, IsNextLive};
 
-use crate::snapshot::Snapshot;
+use crate::snapshot::LiveSnapshot;
 use std::alloc::AllocError;
 use std::collections::BTreeMap;
 use wp_model::Seq;
 
 /// The least live number from `from` on, where it is below `end`.
-fn next_live(live: &BTreeMap<Seq, Snapshot>, from: Seq, end: Seq) -> Option<Seq>
+fn next_live(live: &BTreeMap<Seq, LiveSnapshot>, from: Seq, end: Seq) -> Option<Seq>
     ensures { MatchOption result (NoneLive live.now from end) (IsNextLive live.now from end) }
 {
     let (s, _) = live.range(from..).next()?;
@@ -20,7 +20,7 @@ fn next_live(live: &BTreeMap<Seq, Snapshot>, from: Seq, end: Seq) -> Option<Seq>
 
 /// Takes the memory for one number more under each live number from `start` on and below `end`.
 pub(crate) fn reserve_each(
-    live: &mut BTreeMap<Seq, Snapshot>,
+    live: &mut BTreeMap<Seq, LiveSnapshot>,
     start: Seq,
     end: Seq,
 ) -> Result<(), AllocError>
@@ -37,7 +37,7 @@ pub(crate) fn reserve_each(
 
 /// Puts `p` under each live number from `p` on and below `c`, in memory that was taken before. Returns how many of
 /// them had nothing under them.
-pub(crate) fn keep_each(live: &mut BTreeMap<Seq, Snapshot>, p: Seq, c: Seq) -> usize
+pub(crate) fn keep_each(live: &mut BTreeMap<Seq, LiveSnapshot>, p: Seq, c: Seq) -> usize
     requires { HasRoom live.old p c }
     ensures kept { ChangesWhere (overlaps p c) (after_keep p) (snapshots_of live.old) (snapshots_of live.new) }
     ensures more { set.len (kept_numbers (snapshots_of live.new)) ≡ set.len (kept_numbers (snapshots_of live.old)) + result }

@@ -1,7 +1,7 @@
 ghost use Rattle.std.specs.Prelude.{◌≡◌};
 ghost use Rattle.std.specs.Iterator.{YieldsFirst, item_count};
 
-use crate::snapshot::Snapshot;
+use crate::snapshot::LiveSnapshot;
 use std::collections::btree_map::Keys;
 use std::marker::Model;
 use wp_model::Seq;
@@ -9,7 +9,7 @@ use wp_model::Seq;
 /// The live snapshot numbers, ascending, each once.
 #[derive(Drop)]
 pub struct Live<'a> {
-    numbers: Keys<'a, Seq, Snapshot>,
+    numbers: Keys<'a, Seq, LiveSnapshot>,
 }
 
 impl<'a> Model for Live<'a> {
@@ -21,7 +21,7 @@ impl<'a> Model for Live<'a> {
 }
 
 impl<'a> Live<'a> {
-    pub(crate) fn new(numbers: Keys<'a, Seq, Snapshot>) -> Live<'a>
+    pub(crate) fn new(numbers: Keys<'a, Seq, LiveSnapshot>) -> Live<'a>
         ensures { result ≡ numbers.entry }
     {
         Live { numbers }

@@ -6,7 +6,7 @@ ghost use Rattle.wp_model.specs.Snapshots.{ChangesWhere, IsLive, is_old_commit, 
 
 use crate::kept::{keep_each, reserve_each};
 use crate::live::Live;
-use crate::snapshot::Snapshot;
+use crate::snapshot::LiveSnapshot;
 use std::alloc::{AllocError, Global};
 use std::collections::BTreeMap;
 use std::marker::Model;
@@ -15,7 +15,7 @@ use wp_model::Seq;
 /// The live snapshots with the old commit map, which the holder of the snapshots turn changes.
 pub struct Snaps {
     alloc: Global,
-    live: BTreeMap<Seq, Snapshot>,
+    live: BTreeMap<Seq, LiveSnapshot>,
     /// How many live numbers have something under them.
     kept: usize,
 }
@@ -56,7 +56,7 @@ impl Snaps {
         if let Some(snapshot) = self.live.get_mut(&s) {
             return snapshot.register();
         }
-        self.live.insert(s, Snapshot::new(self.alloc))?;
+        self.live.insert(s, LiveSnapshot::new(self.alloc))?;
         Ok(())
     }
 

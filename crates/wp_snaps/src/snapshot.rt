@@ -11,12 +11,12 @@ use wp_model::Seq;
 /// These are asked for one by one and never listed, so a hash set serves. Unlike an ordered set it can take the
 /// memory for a number before the number goes in.
 #[derive(Drop)]
-pub(crate) struct Snapshot {
+pub(crate) struct LiveSnapshot {
     registrations: u64,
     old_commits: HashSet<Seq>,
 }
 
-impl Model for Snapshot {
+impl Model for LiveSnapshot {
     ghost use Rattle.std.specs.FinSet as set;
     ghost use Rattle.std.specs.HashSet.{spare};
     ghost use Rattle.wp_snaps.specs.Room.{RoomySnapshot, roomy_snapshot_code};
@@ -28,11 +28,11 @@ impl Model for Snapshot {
     ghost view = { λ s. record { snapshot = record { registrations = s.registrations; old_commits = set.from_list s.old_commits.keys }; room = spare s.old_commits } };
 }
 
-impl Snapshot {
-    pub fn new(alloc: Global) -> Snapshot
+impl LiveSnapshot {
+    pub fn new(alloc: Global) -> LiveSnapshot
         ensures { result.snapshot ≡ record { registrations = 1; old_commits = set.empty } }
     {
-        Snapshot {
+        LiveSnapshot {
             registrations: 1,
             old_commits: HashSet::new(alloc),
         }

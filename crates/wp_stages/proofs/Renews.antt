@@ -6,7 +6,7 @@ use Rattle.wp_core.specs.Lists.{IsIn}
 use Rattle.wp_core.specs.Notes.{ends}
 use Rattle.wp_core.specs.Sound.History.{IsHistory, logged_part}
 use Rattle.wp_core.specs.Steps.{find_log_closed, write_segment, close_log, renew, use_segment, halt, stop_log}
-use Rattle.wp_core.specs.Tables.{Content, WriteState, Installed, writes, installed}
+use Rattle.wp_core.specs.States.{Content, WriteState, Installed, writes, installed}
 use Rattle.wp_core.specs.Views.{Fact, nothing_flushed, log_failed, log_stopped, renewed, stopped, tables_failed}
 use Rattle.wp_core.specs.World.{Actor, World}
 use Rattle.wp_core.proofs.PendingSteps.{none_logged}
@@ -25,7 +25,7 @@ use Rattle.wp_shared.specs.Seats.{SeatState}
 use Rattle.wp_maint.specs.Holding.{is_of_flushed}
 use Rattle.wp_rule.proofs.Forgets.{EndsNothing}
 use Rattle.wp_shared.proofs.OneStep.{made, becomes}
-use Rattle.wp_shared.proofs.Tables.{held_table}
+use Rattle.wp_shared.proofs.Tables.{held_state}
 use Rattle.wp_maint.proofs.Found.{failed_last}
 use Rattle.wp_maint.proofs.Made.{first_held, goes_from, second_held}
 
@@ -54,23 +54,23 @@ module _ (p : Place) (a : Actor) (d : WriteState) (t : Installed) (held : a.held
   tables_held = second_held a (writes d) (installed t) held
 
   pub may_write : (place : ℕ) → d.pending ≡ [] → d.closed ≡ false → d.next ≡ None → place ≢ d.segment.place → MayMake p a (λ w. write_segment place ∷ [])
-  may_write place nothing open_ none apart = known_made p a (write_segment place) tt (record { table = d; held = log_held; so_is = (nothing, open_, none, apart) })
+  may_write place nothing open_ none apart = known_made p a (write_segment place) tt (record { state = d; held = log_held; so_is = (nothing, open_, none, apart) })
 
   pub may_close : d.closed ≡ false → d.pending ≡ [] → d.next ≡ None → MayMake p a (λ w. close_log ∷ [])
-  may_close open_ nothing none = known_made p a close_log tt (record { table = d; held = log_held; so_is = (open_, inr (nothing, none)) })
+  may_close open_ nothing none = known_made p a close_log tt (record { state = d; held = log_held; so_is = (open_, inr (nothing, none)) })
 
   pub may_renew : (edit : InstalledEdit) → KnowsRenewed a d t edit → MayMake p a (λ w. renew edit ∷ [])
-  may_renew edit known = known_made p a (renew edit) tt (record { table = d; held = log_held; so_is = record { table = t; held = tables_held; so_is = known } })
+  may_renew edit known = known_made p a (renew edit) tt (record { state = d; held = log_held; so_is = record { state = t; held = tables_held; so_is = known } })
 
   pub may_use : d.closed ≡ false → d.next ≡ Some t.last.segment → MayMake p a (λ w. use_segment ∷ [])
-  may_use open_ named = known_made p a use_segment tt (record { table = d; held = log_held; so_is = (open_, record { table = t; held = tables_held; so_is = named }) })
+  may_use open_ named = known_made p a use_segment tt (record { state = d; held = log_held; so_is = (open_, record { state = t; held = tables_held; so_is = named }) })
 
   pub may_halt_next : (edit : Option InstalledEdit) → t.halted ≡ false → IfSome edit (λ e. IsEditCovered a.participant.seen e × NextNamed d e) → MayMake p a (λ w. halt edit ∷ [])
-  may_halt_next None running asked = known_made p a (halt None) tt (record { table = t; held = tables_held; so_is = running })
-  may_halt_next (Some edit) running asked = known_made p a (halt (Some edit)) tt (record { table = t; held = tables_held; so_is = (running, asked.0, inr (record { table = d; held = log_held; so_is = asked.1 })) })
+  may_halt_next None running asked = known_made p a (halt None) tt (record { state = t; held = tables_held; so_is = running })
+  may_halt_next (Some edit) running asked = known_made p a (halt (Some edit)) tt (record { state = t; held = tables_held; so_is = (running, asked.0, inr (record { state = d; held = log_held; so_is = asked.1 })) })
 
   pub may_stop : d.pending ≡ [] → d.closed ≡ false → d.next ≢ Some t.last.segment → t.halted ≡ true → MayMake p a (λ w. stop_log ∷ [])
-  may_stop nothing open_ other halted = known_made p a stop_log tt (record { table = d; held = log_held; so_is = record { table = t; held = tables_held; so_is = (nothing, open_, other, halted) } })
+  may_stop nothing open_ other halted = known_made p a stop_log tt (record { state = d; held = log_held; so_is = record { state = t; held = tables_held; so_is = (nothing, open_, other, halted) } })
 
 -- what each leaves of the seat is told by `goes_from`, as for the steps of a flush: the held tables by `held_with`, the past by the event,
 -- the notes by what ends none of them but `nothing_flushed`, which an edit ends
@@ -101,10 +101,10 @@ halt_ends history words edit other = refl
 
 module _ (p : Place) (so : World → Type 0) (s u : SeatState) (same : (u.table ≡ s.table) × (u.by ≡ s.by) × (u.turns ≡ s.turns)) (d : WriteState) (t : Installed) (held : s.knows.held ≡ writes d ∷ installed t ∷ []) where
   log_is : (w : World) → IsAt p s.knows w → w.writes ≡ d
-  log_is w k = held_table p s.knows w (writes d) k (first_held s.knows (writes d) (installed t ∷ []) held)
+  log_is w k = held_state p s.knows w (writes d) k (first_held s.knows (writes d) (installed t ∷ []) held)
 
   tables_are : (w : World) → IsAt p s.knows w → w.installed ≡ t
-  tables_are w k = held_table p s.knows w (installed t) k (second_held s.knows (writes d) (installed t) held)
+  tables_are w k = held_state p s.knows w (installed t) k (second_held s.knows (writes d) (installed t) held)
 
   pub was_written : (place : ℕ) (segment : Segment) → segment ≡ record { place = place; base = length d.history } → Moved p (λ w. write_segment place ∷ []) so s.knows u.knows
       → GoesOn no_fact (writes (with_next d segment) ∷ installed t ∷ []) s.turns s u
@@ -185,11 +185,11 @@ closed_ends : EndsNothing find_log_closed
 closed_ends = record { guard = λ turn. refl; place = λ words place. refl; words = refl; delayed_flag = refl; old_flag = refl; pending = refl; adds = refl; takes = refl; prepared = refl; unprepared = refl; delays = refl; transaction = λ history name. refl; direct = refl; moves = refl; replaces = refl; installing = refl }
 
 pub may_find_closed : (p : Place) (a : Actor) (d : WriteState) → IsIn (writes d) a.held → d.closed ≡ true → MayMake p a (λ w. find_log_closed ∷ [])
-may_find_closed p a d held closed = known_made p a find_log_closed tt (record { table = d; held = held; so_is = closed })
+may_find_closed p a d held closed = known_made p a find_log_closed tt (record { state = d; held = held; so_is = closed })
 
 pub closed_found : (p : Place) (so : World → Type 0) (s u : SeatState) → (u.table ≡ s.table) × (u.by ≡ s.by) × (u.turns ≡ s.turns) → (d : WriteState) → IsIn (writes d) s.knows.held → Moved p (λ w. find_log_closed ∷ []) so s.knows u.knows
     → u ≡ with_participant (with_events (stopped (length d.history) ∷ []) s.knows.participant) s
 closed_found p so s u same d held m =
     let step = made p find_log_closed so s.knows u.knows closed_ends m in
     becomes s u (record s.knows { participant = with_events (stopped (length d.history) ∷ []) s.knows.participant }) same
-    (step.actor ∙ ap (λ (x : WriteState). record s.knows { participant = with_events (stopped (length x.history) ∷ []) s.knows.participant }) (held_table p s.knows step.world (writes d) step.before held))
+    (step.actor ∙ ap (λ (x : WriteState). record s.knows { participant = with_events (stopped (length x.history) ∷ []) s.knows.participant }) (held_state p s.knows step.world (writes d) step.before held))

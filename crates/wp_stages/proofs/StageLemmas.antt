@@ -15,7 +15,7 @@ use Rattle.wp_model.specs.declared.version.Version.{Version}
 use Rattle.wp_model.specs.Flushed.{InstalledEdit}
 use Rattle.wp_core.specs.Conditions.{NoneNext}
 use Rattle.wp_core.specs.Effects.{with_failed}
-use Rattle.wp_core.specs.Tables.{Content, WriteState, Installed, writes, installed}
+use Rattle.wp_core.specs.States.{Content, WriteState, Installed, writes, installed}
 use Rattle.wp_core.specs.Views.{Event, Fact, log_stopped, renewed, tables_failed}
 use Rattle.wp_core.specs.World.{Participant, World}
 use Rattle.wp_model.proofs.Tests.{none_some}
@@ -64,14 +64,14 @@ more_tables asked segment last is = subst (λ (x : Gone). last.tables ≤ (with_
 -- ---- a segment is written
 
 -- What the call says of the log in use, and of the segment that it wrote.
-module _ (log now : LogState) (passed : (c : Cut) → IsCut log.table.history c → c.base ≡ log.table.segment.base → Passes (Leaves (IsLogAt log.wal.id log.table.segment.place c)) log.wal.moments now.wal.moments) (durable : LosesNothingAt log.table.segment.place log.wal.moments now.wal.moments) where
+module _ (log now : LogState) (passed : (c : Cut) → IsCut log.state.history c → c.base ≡ log.state.segment.base → Passes (Leaves (IsLogAt log.wal.id log.state.segment.place c)) log.wal.moments now.wal.moments) (durable : LosesNothingAt log.state.segment.place log.wal.moments now.wal.moments) where
   pub beside_none : SurvivesBeside log now None
   beside_none = record { still = passed; durable = durable; beside = tt; placed = tt }
 
-  pub beside_some : (written : WrittenState) → IsWaiting now written → written.segment.place ≢ log.table.segment.place → now.table ≡ log.table → now.wal.id ≡ log.wal.id → (segment : NewSegmentState) → IsSegmentOf log segment → IsPlaceOf log segment written.segment.place
+  pub beside_some : (written : WrittenState) → IsWaiting now written → written.segment.place ≢ log.state.segment.place → now.state ≡ log.state → now.wal.id ≡ log.wal.id → (segment : NewSegmentState) → IsSegmentOf log segment → IsPlaceOf log segment written.segment.place
       → SurvivesBeside log now (Some written.segment)
   beside_some written waits apart same id segment its at =
-      let history : now.table.history ≡ log.table.history = ap (λ (t : WriteState). t.history) same in record {
+      let history : now.state.history ≡ log.state.history = ap (λ (t : WriteState). t.history) same in record {
         still = passed;
         durable = durable;
         beside = (
@@ -86,7 +86,7 @@ module _ (log now : LogState) (passed : (c : Cut) → IsCut log.table.history c 
 pub beside_same : (log now : LogState) → now.wal.moments ≡ log.wal.moments → SurvivesBeside log now None
 beside_same log now same = record {
   still = λ c cut at. ([], same, tt);
-  durable = subst (λ ms. LosesNothingAt log.table.segment.place log.wal.moments ms) (sym same) (λ stamp records. ([], refl, tt));
+  durable = subst (λ ms. LosesNothingAt log.state.segment.place log.wal.moments ms) (sym same) (λ stamp records. ([], refl, tt));
   beside = tt;
   placed = tt;
 }
@@ -95,7 +95,7 @@ beside_same log now same = record {
 
 module _ {D : Type 0} (z : SharedState D) (s u : SeatState) (e left : VersionSetState) (log now : LogState) (table : WriteState) (test : Fact → Bool) (holds : HoldsBoth z s e log table) where
   -- both have other tables, and are the store's still, whatever it remembers
-  pub both_on : (p : Participant) (d : WriteState) → GoesOn test (writes d ∷ installed left.table ∷ []) s.turns (with_participant p s) u → left.first ≡ e.first → now.first ≡ log.first → HoldsBoth z u left now d
+  pub both_on : (p : Participant) (d : WriteState) → GoesOn test (writes d ∷ installed left.state ∷ []) s.turns (with_participant p s) u → left.first ≡ e.first → now.first ≡ log.first → HoldsBoth z u left now d
   both_on p d goes edits_first log_first_is = record {
     turn = record {
       same_table = ap (λ (x : SeatState). x.table) goes.same ∙ holds.turn.same_table;
@@ -140,36 +140,36 @@ module _ (t u v : SeatState) (test : Fact → Bool) (first second : List Content
 
 -- ---- what a stage leaves, once the seat has found the tables
 
-module _ {D : Type 0} (z : SharedState D) (s t u v : SeatState) (e left : VersionSetState) (log now : LogState) (d : WriteState) (holds : HoldsBoth z s e log d) (k : Remembers z s e.table t) where
+module _ {D : Type 0} (z : SharedState D) (s t u v : SeatState) (e left : VersionSetState) (log now : LogState) (d : WriteState) (holds : HoldsBoth z s e log d) (k : Remembers z s e.state t) where
   -- a device of the tables failed, and the log is stopped
-  module _ (asked : Option InstalledEdit) (last : left.table.last ≡ e.table.last) (failed : left.table.failed ≡ asked)
-      (first : GoesOn no_fact (writes d ∷ installed left.table ∷ []) t.turns (with_participant (with_events (tables_failed left.table.last left.table.failed ∷ []) t.knows.participant) t) u)
-      (second : GoesOn no_fact (writes now.table ∷ installed left.table ∷ []) u.turns (with_participant (with_events (log_stopped ∷ []) u.knows.participant) u) v) where
+  module _ (asked : Option InstalledEdit) (last : left.state.last ≡ e.state.last) (failed : left.state.failed ≡ asked)
+      (first : GoesOn no_fact (writes d ∷ installed left.state ∷ []) t.turns (with_participant (with_events (tables_failed left.state.last left.state.failed ∷ []) t.knows.participant) t) u)
+      (second : GoesOn no_fact (writes now.state ∷ installed left.state ∷ []) u.turns (with_participant (with_events (log_stopped ∷ []) u.knows.participant) u) v) where
     abbrev events : List Event
-    events = tables_failed e.table.last asked ∷ log_stopped ∷ []
+    events = tables_failed e.state.last asked ∷ log_stopped ∷ []
 
-    failed_first : GoesOn no_fact (writes d ∷ installed left.table ∷ []) t.turns (with_participant (with_events (tables_failed e.table.last asked ∷ []) t.knows.participant) t) u
-    failed_first = subst (λ (x : InstalledEdit × Option InstalledEdit). GoesOn no_fact (writes d ∷ installed left.table ∷ []) t.turns (with_participant (with_events (tables_failed x.0 x.1 ∷ []) t.knows.participant) t) u) (λ i. (last i, failed i)) first
+    failed_first : GoesOn no_fact (writes d ∷ installed left.state ∷ []) t.turns (with_participant (with_events (tables_failed e.state.last asked ∷ []) t.knows.participant) t) u
+    failed_first = subst (λ (x : InstalledEdit × Option InstalledEdit). GoesOn no_fact (writes d ∷ installed left.state ∷ []) t.turns (with_participant (with_events (tables_failed x.0 x.1 ∷ []) t.knows.participant) t) u) (λ i. (last i, failed i)) first
 
-    stopped_next : GoesOn no_fact (writes now.table ∷ installed left.table ∷ []) t.turns (with_participant (with_events (log_stopped ∷ []) u.knows.participant) u) v
-    stopped_next = subst (λ (m : List ℕ). GoesOn no_fact (writes now.table ∷ installed left.table ∷ []) m (with_participant (with_events (log_stopped ∷ []) u.knows.participant) u) v) (ap (λ (x : SeatState). x.turns) first.same) second
+    stopped_next : GoesOn no_fact (writes now.state ∷ installed left.state ∷ []) t.turns (with_participant (with_events (log_stopped ∷ []) u.knows.participant) u) v
+    stopped_next = subst (λ (m : List ℕ). GoesOn no_fact (writes now.state ∷ installed left.state ∷ []) m (with_participant (with_events (log_stopped ∷ []) u.knows.participant) u) v) (ap (λ (x : SeatState). x.turns) first.same) second
 
-    stops : GoesOn no_fact (writes now.table ∷ installed left.table ∷ []) t.turns (with_participant (with_events events t.knows.participant) t) v
-    stops = goes_two t u v no_fact (writes d ∷ installed left.table ∷ []) (writes now.table ∷ installed left.table ∷ []) t.turns t.turns (tables_failed e.table.last asked ∷ []) (log_stopped ∷ []) failed_first stopped_next
+    stops : GoesOn no_fact (writes now.state ∷ installed left.state ∷ []) t.turns (with_participant (with_events events t.knows.participant) t) v
+    stops = goes_two t u v no_fact (writes d ∷ installed left.state ∷ []) (writes now.state ∷ installed left.state ∷ []) t.turns t.turns (tables_failed e.state.last asked ∷ []) (log_stopped ∷ []) failed_first stopped_next
 
-    stopped_found : Finds z s v e.table
-    stopped_found = found_then z s t v e.table k (writes now.table ∷ installed left.table ∷ []) no_fact events stops
+    stopped_found : Finds z s v e.state
+    stopped_found = found_then z s t v e.state k (writes now.state ∷ installed left.state ∷ []) no_fact events stops
 
-    stops_since : GoesOn no_fact (writes now.table ∷ installed left.table ∷ []) s.turns (with_participant (with_events (found_by z s v e.table stopped_found ∷ events) s.knows.participant) s) v
+    stops_since : GoesOn no_fact (writes now.state ∷ installed left.state ∷ []) s.turns (with_participant (with_events (found_by z s v e.state stopped_found ∷ events) s.knows.participant) s) v
     unfolding stopped_found
-    stops_since = goes_then_more z s t v e.table k (writes now.table ∷ installed left.table ∷ []) no_fact events stops
+    stops_since = goes_then_more z s t v e.state k (writes now.state ∷ installed left.state ∷ []) no_fact events stops
 
-    pub has_stopped : (Survives : VersionSetState → VersionSetState → Type 0) → left.table ≡ with_failed e.table asked → now ≡ record log { table = record log.table { next = segment_of asked; closed = true; stopped = true } }
+    pub has_stopped : (Survives : VersionSetState → VersionSetState → Type 0) → left.state ≡ with_failed e.state asked → now ≡ record log { state = record log.state { next = segment_of asked; closed = true; stopped = true } }
         → left.first ≡ e.first → HasFault e left → Survives e left → IsEdits e → IsEdits left → IsLog log → IsLog now → (w : World) × Stands z v w → HasStopped z Survives s e log asked v left now
     has_stopped Survives halted stopped edits_first fault survives edits still_edits log_is still_log stands = record {
-      table = halted;
+      state = halted;
       stopped = stopped;
-      holds = both_on z s v e left log now d no_fact holds (with_events (found_by z s v e.table stopped_found ∷ events) s.knows.participant) now.table stops_since edits_first (ap (λ (l : LogState). l.first) stopped);
+      holds = both_on z s v e left log now d no_fact holds (with_events (found_by z s v e.state stopped_found ∷ events) s.knows.participant) now.state stops_since edits_first (ap (λ (l : LogState). l.first) stopped);
       found = stopped_found;
       goes = stops_since;
       fault = fault;
@@ -182,31 +182,31 @@ module _ {D : Type 0} (z : SharedState D) (s t u v : SeatState) (e left : Versio
     }
 
   -- the edit is installed, and the log has moved
-  module _ (first : GoesOn is_of_flushed (writes d ∷ installed left.table ∷ []) t.turns (with_participant (with_events (renewed left.table.last ∷ []) t.knows.participant) t) u)
-      (second : GoesOn no_fact (writes now.table ∷ installed left.table ∷ []) u.turns u v) where
-    moved_next : GoesOn is_of_flushed (writes now.table ∷ installed left.table ∷ []) t.turns u v
+  module _ (first : GoesOn is_of_flushed (writes d ∷ installed left.state ∷ []) t.turns (with_participant (with_events (renewed left.state.last ∷ []) t.knows.participant) t) u)
+      (second : GoesOn no_fact (writes now.state ∷ installed left.state ∷ []) u.turns u v) where
+    moved_next : GoesOn is_of_flushed (writes now.state ∷ installed left.state ∷ []) t.turns u v
     moved_next =
-        subst (λ (m : List ℕ). GoesOn is_of_flushed (writes now.table ∷ installed left.table ∷ []) m u v) (ap (λ (x : SeatState). x.turns) first.same)
-        (wider no_fact u v v is_of_flushed (writes now.table ∷ installed left.table ∷ []) u.turns (none_too is_of_flushed) second)
+        subst (λ (m : List ℕ). GoesOn is_of_flushed (writes now.state ∷ installed left.state ∷ []) m u v) (ap (λ (x : SeatState). x.turns) first.same)
+        (wider no_fact u v v is_of_flushed (writes now.state ∷ installed left.state ∷ []) u.turns (none_too is_of_flushed) second)
 
-    moves : GoesOn is_of_flushed (writes now.table ∷ installed left.table ∷ []) t.turns (with_participant (with_events (renewed left.table.last ∷ []) t.knows.participant) t) v
-    moves = then is_of_flushed (with_participant (with_events (renewed left.table.last ∷ []) t.knows.participant) t) u v (writes d ∷ installed left.table ∷ []) (writes now.table ∷ installed left.table ∷ []) t.turns t.turns first moved_next
+    moves : GoesOn is_of_flushed (writes now.state ∷ installed left.state ∷ []) t.turns (with_participant (with_events (renewed left.state.last ∷ []) t.knows.participant) t) v
+    moves = then is_of_flushed (with_participant (with_events (renewed left.state.last ∷ []) t.knows.participant) t) u v (writes d ∷ installed left.state ∷ []) (writes now.state ∷ installed left.state ∷ []) t.turns t.turns first moved_next
 
-    moved_found : Finds z s v e.table
-    moved_found = found_then z s t v e.table k (writes now.table ∷ installed left.table ∷ []) is_of_flushed (renewed left.table.last ∷ []) moves
+    moved_found : Finds z s v e.state
+    moved_found = found_then z s t v e.state k (writes now.state ∷ installed left.state ∷ []) is_of_flushed (renewed left.state.last ∷ []) moves
 
-    moves_since : GoesOn is_of_flushed (writes now.table ∷ installed left.table ∷ []) s.turns (with_participant (with_events (found_by z s v e.table moved_found ∷ renewed left.table.last ∷ []) s.knows.participant) s) v
+    moves_since : GoesOn is_of_flushed (writes now.state ∷ installed left.state ∷ []) s.turns (with_participant (with_events (found_by z s v e.state moved_found ∷ renewed left.state.last ∷ []) s.knows.participant) s) v
     unfolding moved_found
-    moves_since = goes_then_more z s t v e.table k (writes now.table ∷ installed left.table ∷ []) is_of_flushed (renewed left.table.last ∷ []) moves
+    moves_since = goes_then_more z s t v e.state k (writes now.state ∷ installed left.state ∷ []) is_of_flushed (renewed left.state.last ∷ []) moves
 
-    pub has_moved : (written : WrittenState) (edit : ReadyInstallState) → left.table ≡ record e.table { last = asked_for edit.edit.asked written.segment e.table.last }
-        → now.table ≡ with_segment log.table written.segment → (now.wal.moments ≡ log.wal.moments) × (now.wal.faults ≡ log.wal.faults) × (now.wal.id ≡ log.wal.id) → left.first ≡ e.first → now.first ≡ log.first
+    pub has_moved : (written : WrittenState) (edit : ReadyInstallState) → left.state ≡ record e.state { last = asked_for edit.edit.asked written.segment e.state.last }
+        → now.state ≡ with_segment log.state written.segment → (now.wal.moments ≡ log.wal.moments) × (now.wal.faults ≡ log.wal.faults) × (now.wal.id ≡ log.wal.id) → left.first ≡ e.first → now.first ≡ log.first
         → left.parts ≡ parts_after edit.edit.asked e.parts → SurvivesEdit written edit e left → IsEdits left → IsLog now → (w : World) × Stands z v w → HasMoved z s e log written edit v left now
     has_moved written edit table log_table device edits_first log_first parts survives still_edits still_log stands = record {
-      table = table;
+      state = table;
       log_table = log_table;
       device = device;
-      holds = both_on z s v e left log now d is_of_flushed holds (with_events (found_by z s v e.table moved_found ∷ renewed left.table.last ∷ []) s.knows.participant) now.table moves_since edits_first log_first;
+      holds = both_on z s v e left log now d is_of_flushed holds (with_events (found_by z s v e.state moved_found ∷ renewed left.state.last ∷ []) s.knows.participant) now.state moves_since edits_first log_first;
       found = moved_found;
       goes = moves_since;
       parts = parts;

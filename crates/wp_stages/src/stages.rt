@@ -31,8 +31,8 @@ pub fn write_table<D: Disk + Drop>(
     log: &mut Log<D>,
     edit: &mut ReadyInstall,
 ) -> Result<Option<Arc<Table>>, RenewError>
-    requires holds { HoldsBoth store.now seat.old edits.old log.old log.old.table }
-    requires running { (edits.old.table.halted ≡ false) × (log.old.table.closed ≡ false) × (log.old.table.pending ≡ []) }
+    requires holds { HoldsBoth store.now seat.old edits.old log.old log.old.state }
+    requires running { (edits.old.state.halted ≡ false) × (log.old.state.closed ≡ false) × (log.old.state.pending ≡ []) }
     requires ready { IsReadyFor edits.old edit.old }
     ensures writes { WritesTable store.now seat.old edits.old log.old edit.old result seat.new edits.new log.new edit.new }
     ensures table { IfOk result (λ table. option_map arc_value table ≡ one_part edit.old.edit.asked.versions) }
@@ -65,10 +65,10 @@ pub fn write_segment<D: Disk + Drop>(
     log: &mut Log<D>,
     segment: &NewSegment,
 ) -> Result<Written, RenewError>
-    requires holds { HoldsBoth store.now seat.old edits.now log.old log.old.table }
-    requires running { (log.old.table.closed ≡ false) × (log.old.table.pending ≡ []) }
-    requires below { log.old.table.segment.base < length log.old.table.history }
-    requires whole { undone_last log.old.table.history ≡ None }
+    requires holds { HoldsBoth store.now seat.old edits.now log.old log.old.state }
+    requires running { (log.old.state.closed ≡ false) × (log.old.state.pending ≡ []) }
+    requires below { log.old.state.segment.base < length log.old.state.history }
+    requires whole { undone_last log.old.state.history ≡ None }
     requires segment { IsSegmentOf log.old segment.now }
     requires stands { (w : World) × Stands store.now seat.old w }
     ensures { HasPlace store.now seat.old edits.now log.old result seat.new log.new }

@@ -2,7 +2,7 @@
 ghost use Rattle.std.specs.Prelude.{◌≡◌, ◌≢◌, true, false, [], ◌∷◌, length, None, Some, IfSome};
 ghost use Rattle.wp_core.specs.Effects.{with_failed};
 ghost use Rattle.wp_core.specs.Lists.{IsIn};
-ghost use Rattle.wp_core.specs.Tables.{WriteState, Installed, installed, writes};
+ghost use Rattle.wp_core.specs.States.{WriteState, Installed, installed, writes};
 ghost use Rattle.wp_core.specs.Views.{log_failed, log_stopped, renewed, stopped, tables_failed};
 ghost use Rattle.wp_core.specs.World.{World};
 ghost use Rattle.wp_model.specs.Flushed.{IsEditCovered};
@@ -21,8 +21,8 @@ use wp_wal::Written;
 /// The seat remembers that it found the log closed.
 pub fn find_closed<D: Disk + Drop>(store: &Shared<D>, seat: &mut Seat<D>, log: &Log<D>)
     requires seat { seat.old.table ≡ store.now.table }
-    requires held { IsIn (writes log.now.table) seat.old.knows.held × (log.now.table.closed ≡ true) }
-    ensures { seat.new ≡ with_participant (with_events (stopped (length log.now.table.history) ∷ []) seat.old.knows.participant) seat.old }
+    requires held { IsIn (writes log.now.state) seat.old.knows.held × (log.now.state.closed ≡ true) }
+    ensures { seat.new ≡ with_participant (with_events (stopped (length log.now.state.history) ∷ []) seat.old.knows.participant) seat.old }
 {
     store.make_about::<Brand, Log<D>>(seat, log);
 }
@@ -36,10 +36,10 @@ pub(crate) fn remember_segment<D: Disk + Drop>(
     written: &Written,
 )
     requires seat { seat.old.table ≡ store.now.table }
-    requires held { seat.old.knows.held ≡ writes log.now.table ∷ installed edits.now.table ∷ [] }
-    requires may { (log.now.table.pending ≡ []) × (log.now.table.closed ≡ false) × (log.now.table.next ≡ None)
-        × (written.now.segment.place ≢ log.now.table.segment.place) × (written.now.segment.base ≡ length log.now.table.history) }
-    ensures goes { GoesOn no_fact (writes (with_next log.now.table written.now.segment) ∷ installed edits.now.table ∷ []) seat.old.turns seat.old seat.new }
+    requires held { seat.old.knows.held ≡ writes log.now.state ∷ installed edits.now.state ∷ [] }
+    requires may { (log.now.state.pending ≡ []) × (log.now.state.closed ≡ false) × (log.now.state.next ≡ None)
+        × (written.now.segment.place ≢ log.now.state.segment.place) × (written.now.segment.base ≡ length log.now.state.history) }
+    ensures goes { GoesOn no_fact (writes (with_next log.now.state written.now.segment) ∷ installed edits.now.state ∷ []) seat.old.turns seat.old seat.new }
     ensures stands { (w : World) × Stands store.now seat.new w }
 {
     store.make_about::<Brand, Written>(seat, written);
@@ -53,9 +53,9 @@ pub(crate) fn remember_log_fault<D: Disk + Drop>(
     log: &Log<D>,
 )
     requires seat { seat.old.table ≡ store.now.table }
-    requires held { (d : WriteState) × (seat.old.knows.held ≡ writes d ∷ installed edits.now.table ∷ []) × (log.now.table ≡ record d { closed = true })
+    requires held { (d : WriteState) × (seat.old.knows.held ≡ writes d ∷ installed edits.now.state ∷ []) × (log.now.state ≡ record d { closed = true })
         × (d.closed ≡ false) × (d.pending ≡ []) × (d.failed ≡ []) × (d.next ≡ None) }
-    ensures goes { GoesOn no_fact (writes log.now.table ∷ installed edits.now.table ∷ []) seat.old.turns (with_participant (with_events (log_failed [] ∷ []) seat.old.knows.participant) seat.old) seat.new }
+    ensures goes { GoesOn no_fact (writes log.now.state ∷ installed edits.now.state ∷ []) seat.old.turns (with_participant (with_events (log_failed [] ∷ []) seat.old.knows.participant) seat.old) seat.new }
     ensures stands { (w : World) × Stands store.now seat.new w }
 {
     store.make_about::<Brand, Log<D>>(seat, log);
@@ -69,10 +69,10 @@ pub(crate) fn remember_renewal<D: Disk + Drop>(
     written: &Written,
 )
     requires seat { seat.old.table ≡ store.now.table }
-    requires held { (t : Installed) × (d : WriteState) × (seat.old.knows.held ≡ writes d ∷ installed t ∷ []) × (edits.now.table ≡ record t { last = edits.now.table.last })
-        × (d.next ≡ Some written.now.segment) × KnowsRenewed seat.old.knows d t edits.now.table.last }
+    requires held { (t : Installed) × (d : WriteState) × (seat.old.knows.held ≡ writes d ∷ installed t ∷ []) × (edits.now.state ≡ record t { last = edits.now.state.last })
+        × (d.next ≡ Some written.now.segment) × KnowsRenewed seat.old.knows d t edits.now.state.last }
     ensures goes { (d : WriteState) (t : Installed) → seat.old.knows.held ≡ writes d ∷ installed t ∷ []
-        → GoesOn is_of_flushed (writes d ∷ installed edits.now.table ∷ []) seat.old.turns (with_participant (with_events (renewed edits.now.table.last ∷ []) seat.old.knows.participant) seat.old) seat.new }
+        → GoesOn is_of_flushed (writes d ∷ installed edits.now.state ∷ []) seat.old.turns (with_participant (with_events (renewed edits.now.state.last ∷ []) seat.old.knows.participant) seat.old) seat.new }
     ensures stands { (w : World) × Stands store.now seat.new w }
 {
     store.make_about::<Brand, VersionSet<D>>(seat, edits);
@@ -86,9 +86,9 @@ pub(crate) fn use_segment<D: Disk + Drop>(
     log: &Log<D>,
 )
     requires seat { seat.old.table ≡ store.now.table }
-    requires held { (d : WriteState) × (seat.old.knows.held ≡ writes d ∷ installed edits.now.table ∷ []) × (d.closed ≡ false)
-        × (d.next ≡ Some edits.now.table.last.segment) × (log.now.table ≡ with_segment d edits.now.table.last.segment) }
-    ensures goes { GoesOn no_fact (writes log.now.table ∷ installed edits.now.table ∷ []) seat.old.turns seat.old seat.new }
+    requires held { (d : WriteState) × (seat.old.knows.held ≡ writes d ∷ installed edits.now.state ∷ []) × (d.closed ≡ false)
+        × (d.next ≡ Some edits.now.state.last.segment) × (log.now.state ≡ with_segment d edits.now.state.last.segment) }
+    ensures goes { GoesOn no_fact (writes log.now.state ∷ installed edits.now.state ∷ []) seat.old.turns seat.old seat.new }
     ensures stands { (w : World) × Stands store.now seat.new w }
 {
     store.make_about::<Brand, Log<D>>(seat, log);
@@ -101,10 +101,10 @@ pub(crate) fn remember_tables_fault<D: Disk + Drop>(
     edits: &VersionSet<D>,
 )
     requires seat { seat.old.table ≡ store.now.table }
-    requires held { (t : Installed) × (d : WriteState) × (seat.old.knows.held ≡ writes d ∷ installed t ∷ []) × (edits.now.table ≡ with_failed t edits.now.table.failed) × (t.halted ≡ false)
-        × IfSome edits.now.table.failed (λ edit. IsEditCovered seat.old.knows.participant.seen edit × NextNamed d edit) }
+    requires held { (t : Installed) × (d : WriteState) × (seat.old.knows.held ≡ writes d ∷ installed t ∷ []) × (edits.now.state ≡ with_failed t edits.now.state.failed) × (t.halted ≡ false)
+        × IfSome edits.now.state.failed (λ edit. IsEditCovered seat.old.knows.participant.seen edit × NextNamed d edit) }
     ensures goes { (d : WriteState) (t : Installed) → seat.old.knows.held ≡ writes d ∷ installed t ∷ []
-        → GoesOn no_fact (writes d ∷ installed edits.now.table ∷ []) seat.old.turns (with_participant (with_events (tables_failed edits.now.table.last edits.now.table.failed ∷ []) seat.old.knows.participant) seat.old) seat.new }
+        → GoesOn no_fact (writes d ∷ installed edits.now.state ∷ []) seat.old.turns (with_participant (with_events (tables_failed edits.now.state.last edits.now.state.failed ∷ []) seat.old.knows.participant) seat.old) seat.new }
     ensures stands { (w : World) × Stands store.now seat.new w }
 {
     store.make_about::<Brand, VersionSet<D>>(seat, edits);
@@ -118,9 +118,9 @@ pub(crate) fn remember_stop<D: Disk + Drop>(
     log: &Log<D>,
 )
     requires seat { seat.old.table ≡ store.now.table }
-    requires held { (d : WriteState) × (seat.old.knows.held ≡ writes d ∷ installed edits.now.table ∷ []) × (log.now.table ≡ record d { closed = true; stopped = true })
-        × (d.closed ≡ false) × (d.pending ≡ []) × (d.next ≢ Some edits.now.table.last.segment) × (edits.now.table.halted ≡ true) }
-    ensures goes { GoesOn no_fact (writes log.now.table ∷ installed edits.now.table ∷ []) seat.old.turns (with_participant (with_events (log_stopped ∷ []) seat.old.knows.participant) seat.old) seat.new }
+    requires held { (d : WriteState) × (seat.old.knows.held ≡ writes d ∷ installed edits.now.state ∷ []) × (log.now.state ≡ record d { closed = true; stopped = true })
+        × (d.closed ≡ false) × (d.pending ≡ []) × (d.next ≢ Some edits.now.state.last.segment) × (edits.now.state.halted ≡ true) }
+    ensures goes { GoesOn no_fact (writes log.now.state ∷ installed edits.now.state ∷ []) seat.old.turns (with_participant (with_events (log_stopped ∷ []) seat.old.knows.participant) seat.old) seat.new }
     ensures stands { (w : World) × Stands store.now seat.new w }
 {
     store.make_about::<Brand, Log<D>>(seat, log);

@@ -16,7 +16,7 @@ use Rattle.wp_core.specs.Changes.{without_key}
 use Rattle.wp_core.specs.Lists.{IsIn}
 use Rattle.wp_core.specs.Notes.{ends}
 use Rattle.wp_core.specs.Steps.{lock_direct, free_direct, note}
-use Rattle.wp_core.specs.Tables.{locks}
+use Rattle.wp_core.specs.States.{locks}
 use Rattle.wp_core.specs.Turns.{locks_turn}
 use Rattle.wp_core.specs.Views.{Fact, passed, in_old_commits, apart, words_stay, has_left, versions_in_memory, versions_nowhere, number_in_heap, number_not_in_heap, pair_delayed, pair_not_delayed, none_waits, undecided_at, prior_values, unprepared, direct_free, tables_stay, live_listed, nothing_flushed, frozen_stay, delayed_flag_stays, old_flag_stays}
 use Rattle.wp_core.specs.World.{Actor, Participant, World}
@@ -70,7 +70,7 @@ free_there p a w key k free = none_is (holder_of w.writes.history key) (λ q e.
 pub may_lock_direct : (p : Place) (a : Actor) (t : LockState) (key : List ℕ) → a.live ≡ true → a.participant.direct ≡ None → IsIn (locks t) a.held → is_free_for (finite.get t.keys key) (Client a.participant.client) ≡ true
     → MayMake p a (λ w. lock_direct key ∷ note (direct_free key) ∷ [])
 may_lock_direct p a t key live none held free w k =
-    let h = has_locks p a w k (λ l. is_free_for (finite.get l.keys key) (Client a.participant.client) ≡ true) (record { table = t; held = held; so_is = free }) in
+    let h = has_locks p a w k (λ l. is_free_for (finite.get l.keys key) (Client a.participant.client) ≡ true) (record { state = t; held = held; so_is = free }) in
     let nobody = none_there (finite.get w.locks.keys key) a.participant.client h.1 in
     ((tt, (tt, tt)), ((h.0, none, nobody), ((live, alone p a w k, (refl, at_inserted w.locks.keys key (Client a.participant.client) key refl, free_there p a w key k nobody)), tt)))
 
@@ -79,7 +79,7 @@ direct_locked p so a b t key m held =
     all_made p (λ w. lock_direct key ∷ note (direct_free key) ∷ []) so a b m (lock_ends key, (note_ends (direct_free key), tt)) ∙ ap (λ (l : LockState). with_direct l key a) (locks_are p a m.world t m.before held)
 
 pub may_free_direct : (p : Place) (a : Actor) (t : LockState) (key : List ℕ) → a.participant.direct ≡ Some key → IsIn (locks t) a.held → MayMake p a (λ w. free_direct key ∷ [])
-may_free_direct p a t key has held = known_made p a (free_direct key) tt (record { table = t; held = held; so_is = has })
+may_free_direct p a t key has held = known_made p a (free_direct key) tt (record { state = t; held = held; so_is = has })
 
 free_ends : (history : List Entry) (words : ℕ) (key : List ℕ) (fact : Fact) → IsNoDirect fact → ends history words (free_direct key) fact ≡ false
 free_ends history words key (direct_free other) e = e.1

@@ -22,7 +22,7 @@ use Rattle.wp_entry.specs.Record.{last_number}
 use Rattle.wp_core.specs.Conditions.{HasTransaction}
 use Rattle.wp_core.specs.Entries.{transaction_of, changes_under}
 use Rattle.wp_core.specs.Lists.{IsIn}
-use Rattle.wp_core.specs.Tables.{WriteState}
+use Rattle.wp_core.specs.States.{WriteState}
 use Rattle.wp_core.specs.Views.{direct_free, undecided_at, unprepared}
 use Rattle.wp_core.specs.World.{Transactions, Participant}
 use Rattle.wp_core.proofs.HistoryGrows.{none_is}
@@ -72,7 +72,7 @@ prior_changes history batch key = ap is_some (prior_to history batch key) ∙ so
 
 module _ {D : Type 0} (z : SharedState D) (old new : SeatState) (log : LogState) (needed : ℕ) (o : OpensLog z old new log needed) where
   abbrev history : List Entry
-  history = log.table.history
+  history = log.state.history
 
   same_participant : new.knows.participant ≡ record old.knows.participant { seen = history }
   same_participant = ap (λ (x : SeatState). x.knows.participant) o.took.seat

@@ -31,20 +31,20 @@ module _ {D : Type 0} (z : SharedState D) (s : SeatState) (entries : List Entry)
 
   pub records_prepare : (x : OpenState) (kind : Noting) → entries ≡ Prepare x.name x.batch ∷ [] → HasOpen s x → is_batch x.batch ≡ true → ((history : List Entry) → MayNote kind history (Prepare x.name x.batch ∷ [])) → MayRecord z s entries kind
   records_prepare x kind is h whole may_note = as_made _ _ is (record {
-    may = λ t log o. (may_prepare z s t log 1 o x h whole (omega arith), may_note log.table.history);
+    may = λ t log o. (may_prepare z s t log 1 o x h whole (omega arith), may_note log.state.history);
     apart = λ n. one_apart z.cells n (Prepare x.name x.batch);
   })
 
   module _ (x : PreparedState) (kind : Noting) (h : HasPrepared s x) where
     pub records_commit : entries ≡ Commit x.number ∷ [] → ((history : List Entry) → IsEndOf x.name history (Commit x.number ∷ []) → MayNote kind history (Commit x.number ∷ [])) → MayRecord z s entries kind
     records_commit is may_note = as_made _ _ is (record {
-      may = λ t log o. (may_commit z s t log 1 o x h (omega arith), may_note log.table.history (x.number, named_still z s t log 1 o x h, inl refl));
+      may = λ t log o. (may_commit z s t log 1 o x h (omega arith), may_note log.state.history (x.number, named_still z s t log 1 o x h, inl refl));
       apart = λ n. one_apart z.cells n (Commit x.number);
     })
 
     pub records_rollback : (prior : List Change) → entries ≡ Undo x.number prior ∷ Close x.number ∷ [] → is_batch prior ≡ true → KeysKeepValues → HadPrior s x.number x.batch prior
         → ((history : List Entry) → IsEndOf x.name history (Undo x.number prior ∷ Close x.number ∷ []) → MayNote kind history (Undo x.number prior ∷ Close x.number ∷ [])) → MayRecord z s entries kind
     records_rollback prior is whole law had may_note = as_made _ _ is (record {
-      may = λ t log o. (may_roll_back z s t log 2 o x h (omega arith) prior whole (restores z s t log 2 o x h law prior had), may_note log.table.history (x.number, named_still z s t log 2 o x h, inr (prior, refl)));
+      may = λ t log o. (may_roll_back z s t log 2 o x h (omega arith) prior whole (restores z s t log 2 o x h law prior had), may_note log.state.history (x.number, named_still z s t log 2 o x h, inr (prior, refl)));
       apart = λ n. both_apart z.cells n x.number prior;
     })

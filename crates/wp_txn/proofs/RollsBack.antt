@@ -144,9 +144,9 @@ KeysKeepValues = (h : List Entry) (p n : ℕ) → IsLegal h → is_undecided h p
 
 module _ {D : Type 0} (z : SharedState D) (old new : SeatState) (log : LogState) (needed : ℕ) (o : OpensLog z old new log needed) (x : PreparedState) (h : HasPrepared old x) where
   -- the seat saw a part of this history then
-  pub restores : KeysKeepValues → (found : List Change) → HadPrior old x.number x.batch found → found ≡ prior log.table.history (batch_at log.table.history x.number)
+  pub restores : KeysKeepValues → (found : List Change) → HadPrior old x.number x.batch found → found ≡ prior log.state.history (batch_at log.state.history x.number)
   restores law found had =
-      let history = log.table.history in let seen = old.knows.participant.seen in let n = had.0 in let high = had.2 in
+      let history = log.state.history in let seen = old.knows.participant.seen in let n = had.0 in let high = had.2 in
       let long = shorter history seen o.took.grown in
       let same : x.batch ≡ batch_at history x.number = sym (ap prepared_batch (stands_still z old new log needed o x h)) in
       had.3 ∙ ap (prior (take n seen)) same

@@ -21,7 +21,7 @@ use Rattle.wp_core.specs.Conditions.{NoneNext}
 use Rattle.wp_core.specs.Entries.{transaction_of, pair_by}
 use Rattle.wp_core.specs.Lists.{IsIn}
 use Rattle.wp_core.specs.Steps.{find_log_closed}
-use Rattle.wp_core.specs.Tables.{Content, WriteState, writes}
+use Rattle.wp_core.specs.States.{Content, WriteState, writes}
 use Rattle.wp_core.specs.Turns.{write_turn}
 use Rattle.wp_core.specs.Views.{Fact, stopped, undecided_at, unprepared}
 use Rattle.wp_core.specs.World.{Participant, Actor, World}
@@ -35,7 +35,7 @@ use Rattle.wp_rule.specs.Words.{Place, IsAt}
 use Rattle.wp_rule.proofs.Forgets.{EndsNothing}
 use Rattle.wp_rule.proofs.MayBeMade.{known_made}
 use Rattle.wp_rule.proofs.Knows.{at_sound}
-use Rattle.wp_shared.proofs.Tables.{held_table, in_place}
+use Rattle.wp_shared.proofs.Tables.{held_state, in_place}
 use Rattle.wp_shared.specs.Limits.{limit_at}
 use Rattle.wp_shared.proofs.Limits.{limit_is}
 use Rattle.wp_parts.specs.Log.{LogState, IsLog, format_at}
@@ -65,11 +65,11 @@ closed_ends : EndsNothing find_log_closed
 closed_ends = record { guard = λ turn. refl; place = λ words place. refl; words = refl; delayed_flag = refl; old_flag = refl; pending = refl; adds = refl; takes = refl; prepared = refl; unprepared = refl; delays = refl; transaction = λ history name. refl; direct = refl; moves = refl; replaces = refl; installing = refl }
 
 pub may_find_closed : (p : Place) (a : Actor) (d : WriteState) → IsIn (writes d) a.held → d.closed ≡ true → MayMake p a (λ w. find_log_closed ∷ [])
-may_find_closed p a d held closed = known_made p a find_log_closed tt (record { table = d; held = held; so_is = closed })
+may_find_closed p a d held closed = known_made p a find_log_closed tt (record { state = d; held = held; so_is = closed })
 
 pub closed_found : (p : Place) (so : World → Type 0) (a b : Actor) (d : WriteState) → Moved p (λ w. find_log_closed ∷ []) so a b → IsIn (writes d) a.held → b ≡ with_stopped (length d.history) a
 closed_found p so a b d m held =
-    all_made p (λ w. find_log_closed ∷ []) so a b m (closed_ends, tt) ∙ ap (λ (t : WriteState). with_stopped (length t.history) a) (held_table p a m.world (writes d) m.before held)
+    all_made p (λ w. find_log_closed ∷ []) so a b m (closed_ends, tt) ∙ ap (λ (t : WriteState). with_stopped (length t.history) a) (held_state p a m.world (writes d) m.before held)
 
 -- ---- the turn is given
 
@@ -92,7 +92,7 @@ given_back Stays z old s new after gives by starts is loose notes made joined =
 
 module _ {D : Type 0} (z : SharedState D) (old s : SeatState) (log : LogState) (took : TookLog z old s log) where
   abbrev history : List Entry
-  history = log.table.history
+  history = log.state.history
 
   abbrev was : Participant
   was = old.knows.participant
@@ -118,12 +118,12 @@ module _ {D : Type 0} (z : SharedState D) (old s : SeatState) (log : LogState) (
   joined_then : s.knows.joined ≡ old.knows.joined
   joined_then = ap (λ (x : SeatState). x.knows.joined) took.seat
 
-  abbrev found_then : (seen : List Entry) (b : Bool) → seen ≡ history → log.table.closed ≡ b → FoundLog z old was seen b
+  abbrev found_then : (seen : List Entry) (b : Bool) → seen ≡ history → log.state.closed ≡ b → FoundLog z old was seen b
   found_then seen b is closed = record {
     world = took.world;
     actor = s.knows;
     there = subst (λ (n : ℕ). IsAt (place_at z n) s.knows took.world) same_by took.stands;
-    held = subst (λ (d : WriteState). IsIn (writes d) s.knows.held) (sym took.is) (subst (IsIn (writes log.table)) (sym took.holds.held) (inl refl));
+    held = subst (λ (d : WriteState). IsIn (writes d) s.knows.held) (sym took.is) (subst (IsIn (writes log.state)) (sym took.holds.held) (inl refl));
     participant = participant_then ∙ ap (λ (h : List Entry). record was { seen = h }) (sym is);
     made = made_then;
     joined = joined_then;
@@ -132,7 +132,7 @@ module _ {D : Type 0} (z : SharedState D) (old s : SeatState) (log : LogState) (
   }
 
   -- it was given back with its device uncalled
-  left_alone : (left : LogState) (new : SeatState) (b : Bool) → new.knows.participant.seen ≡ history → log.table.closed ≡ b → IsLog log → log_first z.first ≡ Some left.first → IsLog left → IsUncalled log left → LeavesDevice z was old new
+  left_alone : (left : LogState) (new : SeatState) (b : Bool) → new.knows.participant.seen ≡ history → log.state.closed ≡ b → IsLog log → log_first z.first ≡ Some left.first → IsLog left → IsUncalled log left → LeavesDevice z was old new
   left_alone left new b is closed is_log of_store still_log uncalled = inr (
     b,
     found_then new.knows.participant.seen b is closed,
@@ -140,8 +140,8 @@ module _ {D : Type 0} (z : SharedState D) (old s : SeatState) (log : LogState) (
   )
 
   -- it holds this turn alone
-  pub alone : IsFree z.table old → HoldsTurn z s (writes log.table) [] []
-  alone free = subst (λ (x : List Content × List ℕ). HoldsTurn z s (writes log.table) x.0 x.1) (λ i. (free.held i, free.turns i)) took.holds
+  pub alone : IsFree z.table old → HoldsTurn z s (writes log.state) [] []
+  alone free = subst (λ (x : List Content × List ℕ). HoldsTurn z s (writes log.state) x.0 x.1) (λ i. (free.held i, free.turns i)) took.holds
 
   -- the last edit names the segment that the log is in
   in_place_then : IsLog log → took.world.installed.last.segment ≡ log.wal.segment
@@ -155,7 +155,7 @@ module _ {D : Type 0} (z : SharedState D) (old s : SeatState) (log : LogState) (
       ap (λ (f : Format). min z.limit (last_number f)) (k.form ∙ ap (λ (g : Segment). format_at log.first g.base) (sym (in_place_then k)))
       ∙ sym (limit_is z log.first took.world.installed.last.segment.base took.of_store)
 
-  pub opened : IsFree z.table old → (needed published limit : ℕ) → log.table.closed ≡ false → published ≡ length history → limit ≡ min z.limit (last_number log.wal.format) → published + needed ≤ limit → IsLog log → OpensLog z old s log needed
+  pub opened : IsFree z.table old → (needed published limit : ℕ) → log.state.closed ≡ false → published ≡ length history → limit ≡ min z.limit (last_number log.wal.format) → published + needed ≤ limit → IsLog log → OpensLog z old s log needed
   opened free needed published limit running number is within is_log = record {
     took = took;
     holds = record { turn = alone free; pending = took.knows.0; seen = took.seen; of_store = took.of_store; words = took.knows.1 };
@@ -168,10 +168,10 @@ module _ {D : Type 0} (z : SharedState D) (old s : SeatState) (log : LogState) (
   -- ---- the log was found closed, or full
 
   module _ (t new : SeatState) (n : ℕ) (found : t ≡ seat_of s (with_stopped (length history) s.knows)) (number : n ≡ length history) where
-    pub alone_still : IsFree z.table old → HoldsTurn z t (writes log.table) [] []
-    alone_still free = let h = alone free in subst (λ (x : SeatState). HoldsTurn z x (writes log.table) [] []) (sym found) (record { same_table = h.same_table; live = h.live; held = h.held; turns = h.turns })
+    pub alone_still : IsFree z.table old → HoldsTurn z t (writes log.state) [] []
+    alone_still free = let h = alone free in subst (λ (x : SeatState). HoldsTurn z x (writes log.state) [] []) (sym found) (record { same_table = h.same_table; live = h.live; held = h.held; turns = h.turns })
 
-    pub stopped_back : (needed : ℕ) (Asks : List Entry → Type 0) → log.table.closed ≡ true → IsLog log → Given z write_turn t new [] [] → Refuses z old new needed Asks was was (Stopped n) × LeavesDevice z was old new
+    pub stopped_back : (needed : ℕ) (Asks : List Entry → Type 0) → log.state.closed ≡ true → IsLog log → Given z write_turn t new [] [] → Refuses z old new needed Asks was was (Stopped n) × LeavesDevice z was old new
     stopped_back needed Asks closed is_log gives =
         let seen_there : t.knows.participant.seen ≡ history = ap (λ (x : SeatState). x.knows.participant.seen) found ∙ took.seen in
         let seen : new.knows.participant.seen ≡ history = ap (λ (x : SeatState). x.knows.participant.seen) gives.goes.same ∙ seen_there in (
@@ -190,7 +190,7 @@ module _ {D : Type 0} (z : SharedState D) (old s : SeatState) (log : LogState) (
           left_alone log new true seen closed is_log took.of_store is_log refl,
         )
 
-  pub full_back : (new : SeatState) (needed published limit : ℕ) (Asks : List Entry → Type 0) → log.table.closed ≡ false → IsLog log → published ≡ length history → limit ≡ min z.limit (last_number log.wal.format) → limit < published + needed → Given z write_turn s new [] []
+  pub full_back : (new : SeatState) (needed published limit : ℕ) (Asks : List Entry → Type 0) → log.state.closed ≡ false → IsLog log → published ≡ length history → limit ≡ min z.limit (last_number log.wal.format) → limit < published + needed → Given z write_turn s new [] []
       → Refuses z old new needed Asks was was (NumbersFull published limit) × LeavesDevice z was old new
   full_back new needed published limit Asks running is_log number is over gives =
       let seen : new.knows.participant.seen ≡ history = ap (λ (x : SeatState). x.knows.participant.seen) gives.goes.same ∙ took.seen in (
@@ -211,10 +211,10 @@ unsaturated sum found limit most Two is at low = omega (arith, is, at, low)
 
 -- ---- a record
 
-module _ {D : Type 0} (z : SharedState D) (old s t new : SeatState) (log left : LogState) (entries : List Entry) (facts : ℕ → List Fact) (o : OpensLog z old s log (length entries)) (legal : IsLegal (log.table.history ++ entries))
+module _ {D : Type 0} (z : SharedState D) (old s t new : SeatState) (log left : LogState) (entries : List Entry) (facts : ℕ → List Fact) (o : OpensLog z old s log (length entries)) (legal : IsLegal (log.state.history ++ entries))
     (loose : (n : ℕ) (fact : Fact) → IsIn fact (facts n) → IsLoose fact) (gives : Given z write_turn t new [] []) (still_log : IsLog left) where
   abbrev before_it : List Entry
-  before_it = log.table.history
+  before_it = log.state.history
 
   abbrev it : Participant
   it = old.knows.participant
@@ -247,12 +247,12 @@ module _ {D : Type 0} (z : SharedState D) (old s t new : SeatState) (log left : 
             (ap (λ (a : Actor). a.joined) put.knows ∙ joined_then z old s log o.took),
       )
 
-  pub recorded : (outcome : Result (Unit {0}) WriteError) → PutsNoting z s log entries (facts (length left.table.history)) outcome t left → Records z old entries facts (answer_of outcome (length left.table.history)) new
+  pub recorded : (outcome : Result (Unit {0}) WriteError) → PutsNoting z s log entries (facts (length left.state.history)) outcome t left → Records z old entries facts (answer_of outcome (length left.state.history)) new
   recorded (Ok done) p =
       let put = put_back p.0 in (
         ap (λ (es : List Entry). length es) (p.0.history ∙ sym put.seen),
         (before_it, record { put = put; legal = legal }),
-        λ fact there. gives.goes.noted fact (loose_under write_turn fact (loose (length left.table.history) fact there)) (p.1 fact there),
+        λ fact there. gives.goes.noted fact (loose_under write_turn fact (loose (length left.state.history) fact there)) (p.1 fact there),
       )
   recorded (Err write_error.Memory) p =
       let back = not_put_back p.0 false (λ (x : Participant). x) (λ es x. refl) p.3 in
@@ -359,9 +359,9 @@ commit_frees history name p legal is = name_is_free history (Commit p) p name le
 name_of : (history : List Entry) (name : List ℕ) (p : ℕ) → named history name ≡ Some p → Some (name_at history p) ≡ Some name
 name_of history name p is = ap (λ (n : List ℕ). Some n) ((bytes_eq-Decides (name_at history p) name).0 (found_named history name p is).1)
 
-module _ {D : Type 0} (z : SharedState D) (s t : SeatState) (log left : LogState) (entries : List Entry) (put : IsPut z s log entries t left) (may : MayPut s.knows log.table.history entries) (name : List ℕ) where
+module _ {D : Type 0} (z : SharedState D) (s t : SeatState) (log left : LogState) (entries : List Entry) (put : IsPut z s log entries t left) (may : MayPut s.knows log.state.history entries) (name : List ℕ) where
   abbrev behind : List Entry
-  behind = log.table.history
+  behind = log.state.history
 
   legal_with : (others : List Entry) → entries ≡ others → IsLegal (behind ++ others)
   legal_with others are = subst (λ (es : List Entry). IsLegal (behind ++ es)) are may.legal
@@ -372,14 +372,14 @@ module _ {D : Type 0} (z : SharedState D) (s t : SeatState) (log left : LogState
       let owned = (subst (λ (es : List Entry). MayPut s.knows behind es) are may).owned.0.transaction name is in
       ap (λ (a : Actor). is_some (finite.get a.participant.transactions name)) put.knows ∙ ap is_some owned.1
 
-  pub held_still : IsIn (writes left.table) t.knows.held
-  held_still = subst (IsIn (writes left.table)) (sym put.holds.turn.held) (inl refl)
+  pub held_still : IsIn (writes left.state) t.knows.held
+  held_still = subst (IsIn (writes left.state)) (sym put.holds.turn.held) (inl refl)
 
   module _ (batch : List Change) (are : entries ≡ Prepare name batch ∷ []) where
     pub prepare_has : is_some (finite.get t.knows.participant.transactions name) ≡ true
     prepare_has = has_still (Prepare name batch) [] are refl
 
-    pub prepare_is : named left.table.history name ≡ Some (length left.table.history)
+    pub prepare_is : named left.state.history name ≡ Some (length left.state.history)
     prepare_is = subst (λ (h : List Entry). named h name ≡ Some (length h)) (sym (put.history ∙ ap (λ (es : List Entry). behind ++ es) are)) (prepare_named behind name batch (legal_with (Prepare name batch ∷ []) are))
 
   module _ (p : ℕ) (is : named behind name ≡ Some p) (ends : (entries ≡ Commit p ∷ []) ⊎ ((batch : List Change) × (entries ≡ Undo p batch ∷ Close p ∷ []))) where
@@ -389,7 +389,7 @@ module _ {D : Type 0} (z : SharedState D) (s t : SeatState) (log left : LogState
         (λ (e : (batch : List Change) × (entries ≡ Undo p batch ∷ Close p ∷ [])). has_still (Undo p e.0) (Close p ∷ []) e.1 (name_of behind name p is))
         ends
 
-    pub end_none : named left.table.history name ≡ None
+    pub end_none : named left.state.history name ≡ None
     end_none = ap (λ (h : List Entry). named h name) put.history ∙ ⊎_elim
         (λ (e : entries ≡ Commit p ∷ []). ap (λ (es : List Entry). named (behind ++ es) name) e ∙ commit_frees behind name p (legal_with (Commit p ∷ []) e) is)
         (λ (e : (batch : List Change) × (entries ≡ Undo p batch ∷ Close p ∷ [])). ap (λ (es : List Entry). named (behind ++ es) name) e.1 ∙ rollback_frees behind p e.0 (legal_with (Undo p e.0 ∷ Close p ∷ []) e.1) name is)

@@ -50,14 +50,14 @@ MayNote (noting.Unprepared name) history entries = IsEndOf name.now history entr
 pub record OpensLog {D : Type 0} (z : SharedState D) (old new : SeatState) (log : LogState) (needed : ℕ) : Type 0 where
   pub took : TookLog z old new log
   pub holds : HoldsWrite z new log
-  pub running : log.table.closed ≡ false
-  pub within : length log.table.history + needed ≤ limit_at z took.world.installed.last.segment.base
-  pub numbers : length log.table.history + needed ≤ last_number log.wal.format
+  pub running : log.state.closed ≡ false
+  pub within : length log.state.history + needed ≤ limit_at z took.world.installed.last.segment.base
+  pub numbers : length log.state.history + needed ≤ last_number log.wal.format
   pub is_log : IsLog log
 
 -- these entries may be put into whatever log the seat finds running, so much may be noted of them, and their pairs are kept apart
 pub record MayRecord {D : Type 0} (z : SharedState D) (s : SeatState) (entries : List Entry) (noting : Noting) : Type 0 where
-  pub may : (t : SeatState) (log : LogState) → OpensLog z s t log (length entries) → MayPut t.knows log.table.history entries × MayNote noting log.table.history entries
+  pub may : (t : SeatState) (log : LogState) → OpensLog z s t log (length entries) → MayPut t.knows log.state.history entries × MayNote noting log.state.history entries
   pub apart : (n : ℕ) → AreApart z.cells (ways_of z.cells n entries)
 
 -- what a record leaves, behind which these facts are noted while the write turn is held

@@ -10,7 +10,7 @@ use Rattle.wp_model.specs.Legal.{IsLegal, prior}
 use Rattle.wp_judge.specs.Words.{fits}
 use Rattle.wp_core.specs.Sound.Actors.{StartsWith}
 use Rattle.wp_core.specs.Sound.Views.{guarded_by}
-use Rattle.wp_core.specs.Tables.{WriteState}
+use Rattle.wp_core.specs.States.{WriteState}
 use Rattle.wp_core.specs.Lists.{IsIn}
 use Rattle.wp_core.specs.Sound.Pasts.{is_log_fault}
 use Rattle.wp_core.specs.Views.{Event, Fact, has_left, locked, log_failed, stopped}
@@ -53,7 +53,7 @@ pub record HadLog {D : Type 0} (z : SharedState D) (found : WriteState) (CameAbo
   pub left : LogState
   pub of_store : log_first z.first ≡ Some before.first
   pub still_of_store : log_first z.first ≡ Some left.first
-  pub before_is : before.table ≡ found
+  pub before_is : before.state ≡ found
   pub log : IsLog before
   pub still_log : IsLog left
   pub came_about : CameAbout before left

@@ -1,6 +1,6 @@
 //! A direct write: one change, as an entry of its own.
 ghost use Rattle.std.specs.Prelude.{◌≡◌, [], Some, None, IfErr};
-ghost use Rattle.wp_core.specs.Tables.{locks};
+ghost use Rattle.wp_core.specs.States.{locks};
 ghost use Rattle.wp_model.specs.Batch.{key_of};
 ghost use Rattle.wp_model.specs.declared.holder.Holder.TheVariants.{Client};
 ghost use Rattle.wp_shared.specs.Seats.{IsFree, participant_of};

@@ -80,7 +80,7 @@ fn close_log<D: Disk + Drop>(
 ) -> Result<Seq, TxnError>
     requires { HoldsWrite store.now seat.old log.value }
     ensures gives { Given store.now write_turn seat.old seat.new [] [] }
-    ensures answer { result ≡ answer_of outcome (length log.value.table.history) }
+    ensures answer { result ≡ answer_of outcome (length log.value.state.history) }
     ensures log { IsLog log.value }
 {
     log.devices_agree();
@@ -103,7 +103,7 @@ fn put_noting<D: Disk + Drop, R: Wait>(
     noting: Noting,
 ) -> Result<(), WriteError>
     requires holds { HoldsWrite store.now seat.old log.old }
-    requires running { log.old.table.closed ≡ false }
+    requires running { log.old.state.closed ≡ false }
     requires may { MayPut seat.old.knows (history_in log.old) entries }
     requires apart { (n : ℕ) → AreApart store.now.cells (ways_of store.now.cells n entries) }
     requires within { length (history_in log.old) + length entries ≤ last_number log.old.wal.format }

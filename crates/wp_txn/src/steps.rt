@@ -7,7 +7,7 @@ ghost use Rattle.wp_model.specs.LockState.{LockState};
 ghost use Rattle.wp_locks.specs.Locks.{is_free_for};
 ghost use Rattle.wp_core.specs.Changes.{without_key};
 ghost use Rattle.wp_core.specs.Lists.{IsIn};
-ghost use Rattle.wp_core.specs.Tables.{writes, locks};
+ghost use Rattle.wp_core.specs.States.{writes, locks};
 ghost use Rattle.wp_core.specs.Views.{unprepared, undecided_at};
 ghost use Rattle.wp_core.specs.World.{World};
 ghost use Rattle.wp_shared.specs.Notes.{with_note, seat_of};
@@ -51,8 +51,8 @@ pub(crate) fn free_direct<D: Disk + Drop>(
 /// The seat found the log closed.
 pub(crate) fn find_log_closed<D: Disk + Drop>(store: &Shared<D>, seat: &mut Seat<D>, log: &Log<D>)
     requires seat { seat.old.table ≡ store.now.table }
-    requires held { IsIn (writes log.now.table) (held_by seat.old) }
-    requires closed { log.now.table.closed ≡ true }
+    requires held { IsIn (writes log.now.state) (held_by seat.old) }
+    requires closed { log.now.state.closed ≡ true }
     ensures { seat.new ≡ seat_of seat.old (with_stopped (length (history_in log.now)) seat.old.knows) }
 {
     store.make::<Brand>(seat);
@@ -67,7 +67,7 @@ pub(crate) fn note_undecided<D: Disk + Drop>(
     number: Seq,
 )
     requires seat { (seat.old.table ≡ store.now.table) × (seat.old.knows.live ≡ true) }
-    requires held { IsIn (writes log.now.table) (held_by seat.old) }
+    requires held { IsIn (writes log.now.state) (held_by seat.old) }
     requires has { is_some (finite.get seat.old.knows.participant.transactions name.now) ≡ true }
     requires prepare { named (history_in log.now) name.now ≡ Some number }
     ensures { seat.new ≡ seat_of seat.old (with_note (undecided_at name.now number) seat.old.knows) }
@@ -83,7 +83,7 @@ pub(crate) fn note_unprepared<D: Disk + Drop>(
     name: &Name,
 )
     requires seat { (seat.old.table ≡ store.now.table) × (seat.old.knows.live ≡ true) }
-    requires held { IsIn (writes log.now.table) (held_by seat.old) }
+    requires held { IsIn (writes log.now.state) (held_by seat.old) }
     requires has { is_some (finite.get seat.old.knows.participant.transactions name.now) ≡ true }
     requires none { named (history_in log.now) name.now ≡ None }
     ensures { seat.new ≡ seat_of seat.old (with_note (unprepared name.now) seat.old.knows) }

@@ -11,7 +11,7 @@ use Rattle.wp_core.specs.Lists.{IsIn, one_if}
 use Rattle.wp_core.specs.Sound.Pasts.{is_tables_fault}
 use Rattle.wp_core.specs.Views.{Event, log_failed, log_stopped, tables_failed, stopped, told}
 use Rattle.wp_core.specs.Views as event
-use Rattle.wp_core.specs.Tables.{WriteState, Installed, writes}
+use Rattle.wp_core.specs.States.{WriteState, Installed, writes}
 use Rattle.wp_core.specs.World.{World}
 use Rattle.wp_rule.specs.Shows.{WasLast}
 use Rattle.wp_parts.specs.Parts.{content}

@@ -10,7 +10,7 @@ use Rattle.wp_text.specs.declared.reply.Reply.TheVariants as reply
 use Rattle.wp_core.specs.Alone.{IsAlone}
 use Rattle.wp_core.specs.Lists.{IsIn, one_if, total}
 use Rattle.wp_core.specs.Sound.Pasts.{closes_log, is_tables_fault, last_after, last_installed}
-use Rattle.wp_core.specs.Tables.{Installed, installed}
+use Rattle.wp_core.specs.States.{Installed, installed}
 use Rattle.wp_core.specs.Views.{Event, log_failed, log_stopped, tables_failed, told}
 use Rattle.wp_core.specs.Views as event
 use Rattle.wp_core.specs.World.{World}

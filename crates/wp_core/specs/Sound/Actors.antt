@@ -5,7 +5,7 @@ use lib.ListN.{get_elem?}
 use Rattle.wp_model.specs.declared.entry.Entry.{Entry}
 use Rattle.wp_core.specs.Lists.{EachAt, IsIn, one_if, total}
 use Rattle.wp_core.specs.Turns.{Turn, Holders, Holds}
-use Rattle.wp_core.specs.Tables.{Content, turn_of}
+use Rattle.wp_core.specs.States.{Content, turn_of}
 use Rattle.wp_core.specs.World.{Participant, Actor, new_participant}
 
 -- the second history is the first part of the first

@@ -3,7 +3,7 @@ use Rattle.std.specs.Prelude.{◌≡◌, ℕ, ◌≤◌, ◌⊎◌, Bool, true, 
 use Rattle.wp_model.specs.declared.entry.Entry.{Entry}
 use Rattle.wp_model.specs.declared.entry.Entry.TheVariants.{Close}
 use Rattle.wp_model.specs.Legal.{IsLegal, undone_last}
-use Rattle.wp_core.specs.Tables.{WriteState}
+use Rattle.wp_core.specs.States.{WriteState}
 use Rattle.wp_model.specs.Record.{IsOneRecord}
 use Rattle.wp_core.specs.Sound.Actors.{StartsWith}
 

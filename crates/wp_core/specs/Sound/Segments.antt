@@ -1,7 +1,7 @@
 -- What is so of the log's segments and the edits that name them.
 use Rattle.std.specs.Prelude.{◌≡◌, ◌≢◌, ◌⊎◌, ℕ, false, [], length, Option, Some, None}
 use Rattle.wp_model.specs.declared.segment.Segment.{Segment}
-use Rattle.wp_core.specs.Tables.{WriteState, Installed}
+use Rattle.wp_core.specs.States.{WriteState, Installed}
 use Rattle.wp_model.specs.Flushed.{InstalledEdit}
 
 -- The last edit names the segment in use, or the next one, while the log is not closed. The edit whose install failed names the same

@@ -6,7 +6,7 @@ use Rattle.wp_model.specs.declared.version.Version.{Version}
 use Rattle.wp_model.specs.Versions.{version_at}
 use Rattle.wp_model.specs.Covered.{IsCovered}
 use Rattle.wp_model.specs.Snapshots.{Snapshots}
-use Rattle.wp_core.specs.Tables.{StoreState, Installed, live_numbers, up_to, all_in}
+use Rattle.wp_core.specs.States.{StoreState, Installed, live_numbers, up_to, all_in}
 use Rattle.wp_model.specs.Flushed.{InstalledEdit, IsEditCovered}
 use Rattle.wp_core.specs.Entries.{next_of}
 

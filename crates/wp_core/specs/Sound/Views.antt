@@ -16,7 +16,7 @@ use Rattle.wp_judge.specs.Words.{CommitPair}
 use Rattle.wp_core.specs.Cache.{cached, pair_at}
 use Rattle.wp_model.specs.PreparedSets.{PreparedSets, is_prepared}
 use Rattle.wp_model.specs.LockState.{LockState}
-use Rattle.wp_core.specs.Tables.{WriteState, StoreState, Installed}
+use Rattle.wp_core.specs.States.{WriteState, StoreState, Installed}
 use Rattle.wp_core.specs.Views.{Fact, passed, in_old_commits, apart, words_stay, has_left, versions_in_memory, versions_nowhere, number_in_heap, number_not_in_heap, pair_delayed, pair_not_delayed, none_waits, undecided_at, prior_values, unprepared, direct_free, tables_stay, live_listed, nothing_flushed, frozen_stay, delayed_flag_stays, old_flag_stays}
 use Rattle.wp_core.specs.Entries.{next_of, pending_pair}
 use Rattle.wp_core.specs.World.{Transaction, Participant, Actor}

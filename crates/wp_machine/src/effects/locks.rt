@@ -4,7 +4,7 @@ ghost use Rattle.std.specs.FinSet as set;
 ghost use Rattle.std.specs.FinMap as finite;
 ghost use Rattle.wp_model.specs.History.{batch_at};
 ghost use Rattle.wp_model.specs.declared.holder.Holder.TheVariants as holder;
-ghost use Rattle.wp_core.specs.Tables as tables;
+ghost use Rattle.wp_core.specs.States as tables;
 ghost use Rattle.wp_core.specs.Views.{locked};
 ghost use Rattle.wp_core.specs.Changes.{remembers, has_transaction, with_actor, change, with_name, with_key, without_key, keys_of_holder};
 ghost use Rattle.wp_core.specs.Steps as step;

@@ -3,7 +3,7 @@ ghost use Rattle.std.specs.Prelude.{◌≡◌, ◌↔◌, ◌∷◌, ◌++◌, S
 ghost use Rattle.std.specs.Option.{option_copied};
 ghost use Rattle.wp_model.specs.Covered.{IsCovered};
 ghost use Rattle.wp_core.specs.Sound.Store.{IsOfEdit};
-ghost use Rattle.wp_core.specs.Tables.{live_numbers, up_to};
+ghost use Rattle.wp_core.specs.States.{live_numbers, up_to};
 ghost use Rattle.wp_model.specs.Flushed.{InstalledEdit, later_versions, IsEditCovered};
 
 use crate::needs::live::numbers;

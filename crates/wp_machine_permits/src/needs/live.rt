@@ -5,11 +5,11 @@ ghost use Rattle.wp_model.specs.Snapshots as snaps;
 ghost use Rattle.wp_model.specs.Covered.{is_among};
 
 use std::alloc::{AllocError, Global};
-use wp_machine::{Snapshot, Snapshots};
+use wp_machine::{LiveSnapshot, Snapshots};
 use wp_model::Seq;
 
-fn numbers_of(pairs: &[(Seq, Snapshot)], alloc: Global) -> Result<Vec<Seq>, AllocError>
-    ensures { IfOk result (λ numbers. numbers.items ≡ map (λ (pair : ℕ × snaps.Snapshot). pair.0) pairs.now) }
+fn numbers_of(pairs: &[(Seq, LiveSnapshot)], alloc: Global) -> Result<Vec<Seq>, AllocError>
+    ensures { IfOk result (λ numbers. numbers.items ≡ map (λ (pair : ℕ × snaps.LiveSnapshot). pair.0) pairs.now) }
 {
     let mut numbers = Vec::with_capacity(alloc, pairs.len())?;
     for pair in pairs {

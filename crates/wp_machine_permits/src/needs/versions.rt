@@ -5,7 +5,7 @@ ghost use Rattle.wp_model.specs.declared.change.Change.{Change};
 ghost use Rattle.wp_model.specs.declared.version.Version.{Version};
 ghost use Rattle.wp_model.specs.Versions.{version_at};
 ghost use Rattle.wp_model.specs.Batch.{key_of, change_to};
-ghost use Rattle.wp_core.specs.Tables.{up_to};
+ghost use Rattle.wp_core.specs.States.{up_to};
 ghost use Rattle.wp_core.specs.Sound.Store.{NoneFlushed};
 ghost use Rattle.wp_machine_permits.specs.Each.{Each};
 ghost use Rattle.wp_machine_permits.specs.VersionLists.{HasAll, AreSame, NoneAt, HasChanges};

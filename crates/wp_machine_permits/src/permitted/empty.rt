@@ -5,7 +5,7 @@ ghost use Rattle.wp_model.specs.Snapshots.{is_old_commit, NoOldCommits};
 ghost use Rattle.wp_model.specs.PreparedSets.{NoneDelayed};
 ghost use Rattle.wp_machine_permits.specs.Each.{Each};
 
-use wp_machine::{PreparedSets, Snapshot, Snapshots};
+use wp_machine::{PreparedSets, LiveSnapshot, Snapshots};
 use wp_model::Seq;
 
 /// Each of the numbers is from this one on.
@@ -63,14 +63,14 @@ fn kept_at(snapshots: &Snapshots, s: Seq) -> Option<Seq>
     first_of(snapshot)
 }
 
-fn first_of(snapshot: &Snapshot) -> Option<Seq>
+fn first_of(snapshot: &LiveSnapshot) -> Option<Seq>
     ensures { MatchOption result ((p : ℕ) → set.contains snapshot.now.old_commits p ≡ false) (λ p. set.contains snapshot.now.old_commits p ≡ true) }
 {
     snapshot.old_commits.first().copied()
 }
 
 /// A version that the old commit map has under one of these, and that number.
-fn kept_under(live: &[(Seq, Snapshot)], snapshots: &Snapshots) -> Option<(Seq, Seq)>
+fn kept_under(live: &[(Seq, LiveSnapshot)], snapshots: &Snapshots) -> Option<(Seq, Seq)>
     ensures { MatchOption result (Each (λ pair. (p : ℕ) → is_old_commit snapshots.now pair.0 p ≡ false) live.now) (λ r. is_old_commit snapshots.now r.0 r.1 ≡ true) }
 {
     for pair in live {

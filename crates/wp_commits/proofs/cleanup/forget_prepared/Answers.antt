@@ -2,7 +2,7 @@ use Rattle.std.proofs.Common.{◌≡◌, ℕ, true, List, [], ◌∷◌, refl, s
 use Rattle.wp_judge.specs.Words.{commit_pair, fits}
 use Rattle.wp_model.specs.declared.entry.Entry.{Entry}
 use Rattle.wp_model.specs.Decision.{decision_of}
-use Rattle.wp_core.specs.Tables.{prepared}
+use Rattle.wp_core.specs.States.{prepared}
 use Rattle.wp_core.specs.Turns.{prepared_turn}
 use Rattle.wp_core.specs.Views.{has_left}
 use Rattle.wp_shared.specs.Notes.{is_flag, GoesOn, DelayedFlagTells}

@@ -1,7 +1,7 @@
 use Rattle.std.proofs.Common.{◌⊎◌, ⊎_elim, ℕ, [], ◌∷◌, length, refl, sym, subst, ap, ◌∙◌}
 use Rattle.wp_judge.specs.Words.{CommitPair, commit_pair}
 use Rattle.wp_core.specs.Cache.{pair_at}
-use Rattle.wp_core.specs.Tables.{writes}
+use Rattle.wp_core.specs.States.{writes}
 use Rattle.wp_core.specs.Views.{words_stay, none_waits}
 use Rattle.wp_rule.specs.Knows.{Noted}
 use Rattle.wp_shared.specs.Notes.{is_flag}
@@ -20,10 +20,10 @@ use Rattle.wp_commits.proofs.clear.clear.Goals as goal
 
 pub returns-in-Undecided-clause-bound : goal.returns-in-Undecided-clause-bound
 returns-in-Undecided-clause-bound g c bound words there =
-    subst (λ (w : Way). Noted c.args.seat.now.knows (words_stay (bound_with c.args.store.now.cells (length c.args.log.now.table.history) bound words w) words)) (sym c.in-Undecided.is) there
+    subst (λ (w : Way). Noted c.args.seat.now.knows (words_stay (bound_with c.args.store.now.cells (length c.args.log.now.state.history) bound words w) words)) (sym c.in-Undecided.is) there
 
 pub returns-in-Undecided-clause-seat : goal.returns-in-Undecided-clause-seat
-returns-in-Undecided-clause-seat g c = let s = c.args.seat.now in stays_at s s s s is_of_words (writes c.args.log.now.table ∷ []) refl c.requires.held
+returns-in-Undecided-clause-seat g c = let s = c.args.seat.now in stays_at s s s s is_of_words (writes c.args.log.now.state ∷ []) refl c.requires.held
 
 pub returns-in-Undecided-clause-cleared : goal.returns-in-Undecided-clause-cleared
 returns-in-Undecided-clause-cleared g c = subst (IsClearedFor c.args.seat.now.knows c.args.store.now.cells) (sym c.in-Undecided.is) tt
@@ -43,7 +43,7 @@ pub returns-in_err-clear_place-in-InWord-clause-seat : goal.returns-in_err-clear
 returns-in_err-clear_place-in-InWord-clause-seat g c = c.clear_place.ensures.seat
 
 pub returns-in_err-clear_place-in-InWord-clause-bound : goal.returns-in_err-clear_place-in-InWord-clause-bound
-returns-in_err-clear_place-in-InWord-clause-bound g c bound words there = let z = c.args.store.now in let d = c.args.log.now.table in let t = c.clear_place.new.seat in
+returns-in_err-clear_place-in-InWord-clause-bound g c bound words there = let z = c.args.store.now in let d = c.args.log.now.state in let t = c.clear_place.new.seat in
     subst (λ (w : Way). Noted t.knows (words_stay (bound_with z.cells (length d.history) bound words w) words)) (sym c.in-InWord.is)
     (subst (λ (i : ℕ). Noted t.knows (words_stay (bound_after z.cells (length d.history) bound (pair_at words i)) words)) c.place_of-place.ensures.place (c.clear_place.ensures.bound bound words there))
 
@@ -58,7 +58,7 @@ pass-requires g c = let k = c.clear_place.ensures.seat in let w = c.requires.wor
 }
 
 pub returns-in_ok-clear_place-in-InWord : goal.returns-in_ok-clear_place-in-InWord
-returns-in_ok-clear_place-in-InWord g c = let z = c.args.store.now in let s = c.args.seat.now in let d = c.args.log.now.table in let t = c.clear_place.new.seat in let u = c.pass.new.seat in let place = c.place_of-place in let kept = c.pass.ensures.seat.noted in record {
+returns-in_ok-clear_place-in-InWord g c = let z = c.args.store.now in let s = c.args.seat.now in let d = c.args.log.now.state in let t = c.clear_place.new.seat in let u = c.pass.new.seat in let place = c.place_of-place in let kept = c.pass.ensures.seat.noted in record {
   seat = then_flags s t u u (writes d ∷ []) (writes d ∷ []) s.turns c.clear_place.ensures.seat c.pass.ensures.seat;
   bound = λ bound words there.
       subst (λ (w : Way). Noted u.knows (words_stay (bound_with z.cells (length d.history) bound words w) words)) (sym c.in-InWord.is)
@@ -87,7 +87,7 @@ pass-requires-in-Delayed g c = let k = c.reach.ensures.seat in let w = c.require
 }
 
 pub returns-in-Delayed : goal.returns-in-Delayed
-returns-in-Delayed g c = let z = c.args.store.now in let s = c.args.seat.now in let d = c.args.log.now.table in let t = c.reach.new.seat in let pass = c.pass-in-Delayed in let u = pass.new.seat in let w = c.requires.words in let way : Way = Delayed c.in-Delayed.p c.in-Delayed.c in
+returns-in-Delayed g c = let z = c.args.store.now in let s = c.args.seat.now in let d = c.args.log.now.state in let t = c.reach.new.seat in let pass = c.pass-in-Delayed in let u = pass.new.seat in let w = c.requires.words in let way : Way = Delayed c.in-Delayed.p c.in-Delayed.c in
     let b = bound_with z.cells (length d.history) w.0 w.1 way in
     record {
       seat = then_flags s t u u (writes d ∷ []) (writes d ∷ []) s.turns c.reach.ensures.seat pass.ensures.seat;

@@ -3,7 +3,7 @@ use Rattle.std.specs.Prelude.{slice_get}
 use Rattle.std.proofs.lemmas.Option.{slice_get_read}
 use Rattle.wp_model.specs.declared.entry.Entry.{Entry}
 use Rattle.wp_core.specs.Entries.{pair_by}
-use Rattle.wp_core.specs.Tables.{Content}
+use Rattle.wp_core.specs.States.{Content}
 use Rattle.wp_core.specs.Views.{words_stay, none_waits}
 use Rattle.wp_rule.specs.Knows.{Noted}
 use Rattle.wp_shared.specs.Notes.{GoesOn}
@@ -20,7 +20,7 @@ use Rattle.wp_commits.proofs.clear.clear_all.Goals as goal
 
 pub of-requires-clause-pair : goal.of-requires-clause-pair
 of-requires-clause-pair g c pair is =
-    let d = c.args.log.now.table in let k = c.loop-entry.invariant in let i = c.loop-entry.entry-index in
+    let d = c.args.log.now.state in let k = c.loop-entry.invariant in let i = c.loop-entry.entry-index in
     let here : Entry = c.entry-item.result in
     let lt : i < length c.pending-entries.result.now = omega arith in
     let got : slice_get d.pending i ≡ Some here = subst (λ (e : List Entry). slice_get e i ≡ Some here) c.pending-entries.ensures (slice_get_read c.pending-entries.result.now (length c.pending-entries.result.now) i here refl lt c.entry-item.is) in
@@ -43,7 +43,7 @@ clear-requires-clause-unentered g c pair is = let w = c.requires.unentered pair 
 
 pub clear-requires-clause-wanted : goal.clear-requires-clause-wanted
 clear-requires-clause-wanted g c =
-    let z = c.args.store.now in let s = c.args.seat.now in let d = c.args.log.now.table in let t = c.loop-entry.seat in let k = c.loop-entry.invariant in let i = c.loop-entry.entry-index in
+    let z = c.args.store.now in let s = c.args.seat.now in let d = c.args.log.now.state in let t = c.loop-entry.seat in let k = c.loop-entry.invariant in let i = c.loop-entry.entry-index in
     let here : Entry = c.entry-item.result in
     let lt : i < length c.pending-entries.result.now = omega arith in
     let got : slice_get d.pending i ≡ Some here = subst (λ (e : List Entry). slice_get e i ≡ Some here) c.pending-entries.ensures (slice_get_read c.pending-entries.result.now (length c.pending-entries.result.now) i here refl lt c.entry-item.is) in
@@ -54,7 +54,7 @@ clear-requires-clause-wanted g c =
 
 pub loop-entry-preserved : goal.loop-entry-preserved
 loop-entry-preserved g c =
-    let z = c.args.store.now in let s = c.args.seat.now in let d = c.args.log.now.table in let t = c.loop-entry.seat in let u = c.clear.new.seat in let k = c.loop-entry.invariant in let i = c.loop-entry.entry-index in
+    let z = c.args.store.now in let s = c.args.seat.now in let d = c.args.log.now.state in let t = c.loop-entry.seat in let u = c.clear.new.seat in let k = c.loop-entry.invariant in let i = c.loop-entry.entry-index in
     let here : Entry = c.entry-item.result in
     let lt : i < length c.pending-entries.result.now = omega arith in
     let got : slice_get d.pending i ≡ Some here = subst (λ (e : List Entry). slice_get e i ≡ Some here) c.pending-entries.ensures (slice_get_read c.pending-entries.result.now (length c.pending-entries.result.now) i here refl lt c.entry-item.is) in
@@ -90,7 +90,7 @@ returns-in_err-clear-clause-seat g c =
 
 pub returns-in_err-clear-clause-refused : goal.returns-in_err-clear-clause-refused
 returns-in_err-clear-clause-refused g c =
-    let z = c.args.store.now in let s = c.args.seat.now in let d = c.args.log.now.table in let t = c.loop-entry.seat in let u = c.clear.new.seat in let k = c.loop-entry.invariant in let i = c.loop-entry.entry-index in
+    let z = c.args.store.now in let s = c.args.seat.now in let d = c.args.log.now.state in let t = c.loop-entry.seat in let u = c.clear.new.seat in let k = c.loop-entry.invariant in let i = c.loop-entry.entry-index in
     let here : Entry = c.entry-item.result in
     let lt : i < length c.pending-entries.result.now = omega arith in
     let got : slice_get d.pending i ≡ Some here = subst (λ (e : List Entry). slice_get e i ≡ Some here) c.pending-entries.ensures (slice_get_read c.pending-entries.result.now (length c.pending-entries.result.now) i here refl lt c.entry-item.is) in
@@ -111,18 +111,18 @@ returns-in_err-clear-clause-refused g c =
 
 pub returns-clause-bound : goal.returns-clause-bound
 returns-clause-bound g c =
-    let z = c.args.store.now in let d = c.args.log.now.table in let all : c.loop-entry.entry-index ≡ length c.pending-entries.result.now = omega arith in
+    let z = c.args.store.now in let d = c.args.log.now.state in let all : c.loop-entry.entry-index ≡ length c.pending-entries.result.now = omega arith in
     let whole = ap (λ (m : ℕ). take m (ways_of z.cells (suc (length d.history)) d.pending)) all ∙ (ap (λ (e : List Entry). take (length e) (ways_of z.cells (suc (length d.history)) d.pending)) c.pending-entries.ensures ∙ all_taken z.cells (suc (length d.history)) d.pending) in
     subst (RisesFor c.args.store.now.cells (length d.history) c.args.seat.now.knows c.loop-entry.seat.knows) whole c.loop-entry.invariant.bound
 
 pub returns-clause-cleared : goal.returns-clause-cleared
 returns-clause-cleared g c =
-    let z = c.args.store.now in let d = c.args.log.now.table in let all : c.loop-entry.entry-index ≡ length c.pending-entries.result.now = omega arith in
+    let z = c.args.store.now in let d = c.args.log.now.state in let all : c.loop-entry.entry-index ≡ length c.pending-entries.result.now = omega arith in
     let whole = ap (λ (m : ℕ). take m (ways_of z.cells (suc (length d.history)) d.pending)) all ∙ (ap (λ (e : List Entry). take (length e) (ways_of z.cells (suc (length d.history)) d.pending)) c.pending-entries.ensures ∙ all_taken z.cells (suc (length d.history)) d.pending) in
     subst (AreCleared c.loop-entry.seat.knows c.args.store.now.cells) whole c.loop-entry.invariant.cleared
 
 pub returns-clause-waits : goal.returns-clause-waits
 returns-clause-waits g c =
-    let z = c.args.store.now in let d = c.args.log.now.table in let all : c.loop-entry.entry-index ≡ length c.pending-entries.result.now = omega arith in
+    let z = c.args.store.now in let d = c.args.log.now.state in let all : c.loop-entry.entry-index ≡ length c.pending-entries.result.now = omega arith in
     let whole = ap (λ (m : ℕ). take m (ways_of z.cells (suc (length d.history)) d.pending)) all ∙ (ap (λ (e : List Entry). take (length e) (ways_of z.cells (suc (length d.history)) d.pending)) c.pending-entries.ensures ∙ all_taken z.cells (suc (length d.history)) d.pending) in
     subst (λ (l : List Way). AnyClears l → Noted c.loop-entry.seat.knows none_waits) whole c.loop-entry.invariant.waits

@@ -2,7 +2,7 @@ use Rattle.std.proofs.Common.{List, [], ◌∷◌, inl, inr, length, refl, sym, 
 use Rattle.wp_model.specs.PreparedSets.{NoneDelayed}
 use Rattle.wp_judge.specs.Words.{commit_pair}
 use Rattle.wp_core.specs.Lists.{IsIn}
-use Rattle.wp_core.specs.Tables.{Content, prepared, writes}
+use Rattle.wp_core.specs.States.{Content, prepared, writes}
 use Rattle.wp_core.specs.Turns.{prepared_turn}
 use Rattle.wp_core.specs.Views.{passed, apart, words_stay, delayed_flag_stays}
 use Rattle.wp_shared.specs.Notes.{GoesOn, DelayedFlagTells}
@@ -21,7 +21,7 @@ pub take_turn-tables-requires : goal.take_turn-tables-requires
 take_turn-tables-requires g c = c.requires.seat
 
 pub raise_past-requires : goal.raise_past-requires
-raise_past-requires g c = let z = c.args.store.now in let s = c.args.seat.now in let d = c.args.log.now.table in let t = c.take_turn-tables in let taken = t.ensures.taken in let k = c.requires.there in record {
+raise_past-requires g c = let z = c.args.store.now in let s = c.args.seat.now in let d = c.args.log.now.state in let t = c.take_turn-tables in let taken = t.ensures.taken in let k = c.requires.there in record {
   seat = taken.holds.same_table;
   held = held_taken z s t.new.seat s (prepared t.result.value) (prepared t.result.value) (writes d ∷ []) c.requires.held taken ∙ ap (λ x. prepared x ∷ writes d ∷ []) (sym c.deref_mut.ensures.value);
   wanted = c.requires.wanted;
@@ -30,7 +30,7 @@ raise_past-requires g c = let z = c.args.store.now in let s = c.args.seat.now in
 }
 
 pub note-requires : goal.note-requires
-note-requires g c = let s = c.args.seat.now in let d = c.args.log.now.table in let t = c.take_turn-tables.new.seat in let taken = c.take_turn-tables.ensures.taken in let u = c.raise_past.new.seat in let raise = c.raise_past.ensures in
+note-requires g c = let s = c.args.seat.now in let d = c.args.log.now.state in let t = c.take_turn-tables.new.seat in let taken = c.take_turn-tables.ensures.taken in let u = c.raise_past.new.seat in let raise = c.raise_past.ensures in
     let was = c.requires.there in let k : IsThere t.knows d.history c.args.place c.args.p c.args.c = still_there s.knows t.knows d.history c.args.place c.args.p c.args.c was was.bound (taken.goes.noted (words_stay was.bound was.words) refl was.noted) in
     record {
       seat = (ap (λ (x : SeatState). x.table) raise.seat.same ∙ taken.holds.same_table, ap (λ (x : SeatState). x.knows.live) raise.seat.same ∙ taken.holds.live);
@@ -40,7 +40,7 @@ note-requires g c = let s = c.args.seat.now in let d = c.args.log.now.table in l
 
 pub delay-requires : goal.delay-requires
 delay-requires g c =
-    let k = c.requires.there in let d = c.args.log.now.table in let taken = c.take_turn-tables.ensures.taken in let raise = c.raise_past.ensures in let u = c.raise_past.new.seat in let w = c.note.new.seat in let new = c.note.ensures in
+    let k = c.requires.there in let d = c.args.log.now.state in let taken = c.take_turn-tables.ensures.taken in let raise = c.raise_past.ensures in let u = c.raise_past.new.seat in let w = c.note.new.seat in let new = c.note.ensures in
     let b = raised c.args.store.now.cells (length d.history) k.bound c.args.c in
     let one = passed c.args.place (commit_pair c.args.p c.args.c) in let back = sym c.deref_mut-2.ensures.value in record {
       seat = ap (λ (x : SeatState). x.table) new ∙ (ap (λ (x : SeatState). x.table) raise.seat.same ∙ taken.holds.same_table);
@@ -52,7 +52,7 @@ delay-requires g c =
 
 pub note-requires-2 : goal.note-requires-2
 note-requires-2 g c =
-    let s = c.args.seat.now in let d = c.args.log.now.table in let taken = c.take_turn-tables.ensures.taken in let u = c.raise_past.new.seat in let w = c.note.new.seat in let new = c.note.ensures in let v = c.delay.new.seat in let raise = c.raise_past.ensures in let delay = c.delay.ensures in
+    let s = c.args.seat.now in let d = c.args.log.now.state in let taken = c.take_turn-tables.ensures.taken in let u = c.raise_past.new.seat in let w = c.note.new.seat in let new = c.note.ensures in let v = c.delay.new.seat in let raise = c.raise_past.ensures in let delay = c.delay.ensures in
     let k = c.requires.there in let b = raised c.args.store.now.cells (length d.history) k.bound c.args.c in
     record {
       seat = (
@@ -67,7 +67,7 @@ note-requires-2 g c =
 
 pub give_turn-requires-clause-holds : goal.give_turn-requires-clause-holds
 give_turn-requires-clause-holds g c =
-    let z = c.args.store.now in let s = c.args.seat.now in let d = c.args.log.now.table in let t = c.take_turn-tables in let u = c.raise_past.new.seat in let w = c.note.new.seat in let v = c.delay.new.seat in let x = c.note-2.new.seat in let now = c.delay.new.tables in
+    let z = c.args.store.now in let s = c.args.seat.now in let d = c.args.log.now.state in let t = c.take_turn-tables in let u = c.raise_past.new.seat in let w = c.note.new.seat in let v = c.delay.new.seat in let x = c.note-2.new.seat in let now = c.delay.new.tables in
     let middle : List Content = prepared c.raise_past.new.tables ∷ writes d ∷ [] in let held : List Content = prepared now ∷ writes d ∷ [] in
     let under : GoesOn is_of_words held t.new.seat.turns t.new.seat x = then_noted t.new.seat v x x is_of_words (apart c.args.place (commit_pair c.args.p c.args.c)) held t.new.seat.turns
     (then_flags t.new.seat w v v middle held t.new.seat.turns (then_noted t.new.seat u w v is_of_words (passed c.args.place (commit_pair c.args.p c.args.c)) middle t.new.seat.turns c.raise_past.ensures.seat c.note.ensures) c.delay.ensures.seat)
@@ -81,7 +81,7 @@ give_turn-requires-clause-knows g c = let v = c.delay.new.seat in let x = c.note
 
 pub returns : goal.returns
 returns g c =
-    let z = c.args.store.now in let s = c.args.seat.now in let d = c.args.log.now.table in let t = c.take_turn-tables in let taken = t.ensures.taken in let u = c.raise_past.new.seat in let w = c.note.new.seat in let v = c.delay.new.seat in let x = c.note-2.new.seat in let y = c.give_turn.new.seat in let now = c.delay.new.tables in
+    let z = c.args.store.now in let s = c.args.seat.now in let d = c.args.log.now.state in let t = c.take_turn-tables in let taken = t.ensures.taken in let u = c.raise_past.new.seat in let w = c.note.new.seat in let v = c.delay.new.seat in let x = c.note-2.new.seat in let y = c.give_turn.new.seat in let now = c.delay.new.tables in
     let delay = c.delay.ensures in
     let one = passed c.args.place (commit_pair c.args.p c.args.c) in let two = apart c.args.place (commit_pair c.args.p c.args.c) in
     let middle : List Content = prepared c.raise_past.new.tables ∷ writes d ∷ [] in let held : List Content = prepared now ∷ writes d ∷ [] in

@@ -1,5 +1,5 @@
 use Rattle.std.proofs.Common.{◌≡◌, ℕ, ◌≤◌, [], ◌∷◌, length, refl, sym, subst, ap, ◌∙◌}
-use Rattle.wp_core.specs.Tables.{prepared, writes}
+use Rattle.wp_core.specs.States.{prepared, writes}
 use Rattle.wp_core.specs.Turns.{prepared_turn}
 use Rattle.wp_core.specs.Views.{words_stay}
 use Rattle.wp_rule.specs.Knows.{Noted}
@@ -14,12 +14,12 @@ use Rattle.wp_commits.proofs.Words.{bound_is}
 use Rattle.wp_commits.proofs.clear.let_pass.Goals as goal
 
 pub returns-then-c-bound : goal.returns-then-c-bound
-returns-then-c-bound g c = let s = c.args.seat.now in let d = c.args.log.now.table in let r = c.max-bound.new.seat in let same = c.max-bound.ensures.same in record {
+returns-then-c-bound g c = let s = c.args.seat.now in let d = c.args.log.now.state in let r = c.max-bound.new.seat in let same = c.max-bound.ensures.same in record {
   seat = stays_at s r r r is_of_words (writes d ∷ []) same c.requires.held;
   bound = λ bound words there.
       let is : c.max-bound.result ≡ bound = bound_is c.args.store.now c.args.seat.now c.max-bound.new.seat c.max-bound.result c.max-bound.ensures.same c.max-bound.ensures.found bound words there in
       let low : c.args.c ≤ bound = subst (λ (n : ℕ). c.args.c ≤ n) is c.if-c-bound.true in
-      subst (λ (x : SeatState × ℕ). Noted x.0.knows (words_stay x.1 words)) (λ i. (sym same i, sym (raised_low c.args.store.now.cells (length c.args.log.now.table.history) bound c.args.c low) i)) there;
+      subst (λ (x : SeatState × ℕ). Noted x.0.knows (words_stay x.1 words)) (λ i. (sym same i, sym (raised_low c.args.store.now.cells (length c.args.log.now.state.history) bound c.args.c low) i)) there;
 }
 
 pub take_turn-tables-requires : goal.take_turn-tables-requires
@@ -29,27 +29,27 @@ pub raise_past-requires-clause-seat : goal.raise_past-requires-clause-seat
 raise_past-requires-clause-seat g c = c.take_turn-tables.ensures.taken.holds.same_table
 
 pub raise_past-requires-clause-held : goal.raise_past-requires-clause-held
-raise_past-requires-clause-held g c = let z = c.args.store.now in let s = c.args.seat.now in let d = c.args.log.now.table in let t = c.take_turn-tables in
+raise_past-requires-clause-held g c = let z = c.args.store.now in let s = c.args.seat.now in let d = c.args.log.now.state in let t = c.take_turn-tables in
     held_taken z c.max-bound.new.seat t.new.seat s (prepared t.result.value) (prepared t.result.value) (writes d ∷ []) (ap (λ (x : SeatState). x.knows.held) c.max-bound.ensures.same ∙ c.requires.held) t.ensures.taken
     ∙ ap (λ x. prepared x ∷ writes d ∷ []) (sym c.deref_mut.ensures.value)
 
 pub raise_past-requires-clause-there : goal.raise_past-requires-clause-there
 raise_past-requires-clause-there g c = let k = c.requires.there in let t = c.take_turn-tables in
-    still_there c.args.seat.now.knows t.new.seat.knows c.args.log.now.table.history c.args.place c.args.p c.args.c k k.bound
+    still_there c.args.seat.now.knows t.new.seat.knows c.args.log.now.state.history c.args.place c.args.p c.args.c k k.bound
     (t.ensures.taken.goes.noted (words_stay k.bound k.words) refl (subst (λ (x : SeatState). Noted x.knows (words_stay k.bound k.words)) (sym c.max-bound.ensures.same) k.noted))
 
 pub raise_past-requires-clause-flag : goal.raise_past-requires-clause-flag
 raise_past-requires-clause-flag g c = let t = c.take_turn-tables in subst (DelayedFlagTells t.new.seat.knows) (sym c.deref_mut.ensures.value) t.ensures.taken.knows
 
 pub give_turn-requires-clause-holds : goal.give_turn-requires-clause-holds
-give_turn-requires-clause-holds g c = let z = c.args.store.now in let s = c.args.seat.now in let d = c.args.log.now.table in let r = c.max-bound.new.seat in let t = c.take_turn-tables in let u = c.raise_past in
+give_turn-requires-clause-holds g c = let z = c.args.store.now in let s = c.args.seat.now in let d = c.args.log.now.state in let r = c.max-bound.new.seat in let t = c.take_turn-tables in let u = c.raise_past in
     (writes d ∷ [], r.turns, holds_still z r t.new.seat u.new.seat (prepared t.result.value) (prepared u.new.tables) (writes d ∷ []) (ap (λ (x : SeatState). x.knows.held) c.max-bound.ensures.same ∙ c.requires.held) t.ensures.taken is_of_words _ u.ensures.seat refl)
 
 pub give_turn-requires-clause-knows : goal.give_turn-requires-clause-knows
 give_turn-requires-clause-knows g c = let u = c.raise_past in knows_to_give u.new.seat.knows (prepared u.new.tables) u.ensures.flag
 
 pub returns : goal.returns
-returns g c = let z = c.args.store.now in let s = c.args.seat.now in let d = c.args.log.now.table in let r = c.max-bound.new.seat in let same = c.max-bound.ensures.same in let t = c.take_turn-tables in let u = c.raise_past in let v = c.give_turn.new.seat in
+returns g c = let z = c.args.store.now in let s = c.args.seat.now in let d = c.args.log.now.state in let r = c.max-bound.new.seat in let same = c.max-bound.ensures.same in let t = c.take_turn-tables in let u = c.raise_past in let v = c.give_turn.new.seat in
     let held : r.knows.held ≡ writes d ∷ [] = ap (λ (x : SeatState). x.knows.held) same ∙ c.requires.held in
     let holds = holds_still z r t.new.seat u.new.seat (prepared t.result.value) (prepared u.new.tables) (writes d ∷ []) held t.ensures.taken is_of_words _ u.ensures.seat refl in
     let gave = (c.give_turn.ensures (writes d ∷ []) r.turns holds).goes in

@@ -1,5 +1,5 @@
 use Rattle.std.proofs.Common.{◌≡◌, inl, ℕ, ◌<◌, ◌≤◌, [], ◌∷◌, length, sym, subst, ap, ◌∙◌, arith}
-use Rattle.wp_core.specs.Tables.{prepared, writes}
+use Rattle.wp_core.specs.States.{prepared, writes}
 use Rattle.wp_core.specs.Views.{words_stay}
 use Rattle.wp_model.specs.Legal.{log_end}
 use Rattle.wp_judge.specs.Words.{commit_pair, seq_end}
@@ -17,7 +17,7 @@ before_end : (c n found : ℕ) → c ≤ n → found ≡ n → found < log_end �
 before_end c n found low is few = omega arith
 
 pub returns-then-c-bound : goal.returns-then-c-bound
-returns-then-c-bound g c = let z = c.args.store.now in let s = c.args.seat.now in let d = c.args.log.now.table in let t = c.args.tables.now in let b = c.max-bound in let r = b.new.seat in record {
+returns-then-c-bound g c = let z = c.args.store.now in let s = c.args.seat.now in let d = c.args.log.now.state in let t = c.args.tables.now in let b = c.max-bound in let r = b.new.seat in record {
   seat = stays_at s r r r is_of_words (prepared t ∷ writes d ∷ []) b.ensures.same c.requires.held;
   flag = subst (λ (x : SeatState). DelayedFlagTells x.knows t) (sym b.ensures.same) c.requires.flag;
   bound = λ bound words there.
@@ -27,11 +27,11 @@ returns-then-c-bound g c = let z = c.args.store.now in let s = c.args.seat.now i
 }
 
 pub bound_past-m-requires : goal.bound_past-m-requires
-bound_past-m-requires g c = before_end c.args.c (length c.args.log.now.table.history) c.published.result c.requires.there.published c.published.ensures.value c.published.ensures.few
+bound_past-m-requires g c = before_end c.args.c (length c.args.log.now.state.history) c.published.result c.requires.there.published c.published.ensures.value c.published.ensures.few
 
 pub raise-requires : goal.raise-requires
 raise-requires g c =
-    let z = c.args.store.now in let s = c.args.seat.now in let d = c.args.log.now.table in let b = c.max-bound in let same = b.ensures.same in let k = c.requires.there in let w = c.requires.wanted in
+    let z = c.args.store.now in let s = c.args.seat.now in let d = c.args.log.now.state in let b = c.max-bound in let same = b.ensures.same in let k = c.requires.there in let w = c.requires.wanted in
     let is : b.result ≡ k.bound = bound_is z s b.new.seat b.result same b.ensures.found k.bound k.words k.noted in
     let high : k.bound < c.args.c = subst (λ (n : ℕ). n < c.args.c) is c.if-c-bound.false in
     record {
@@ -49,7 +49,7 @@ raise-requires g c =
     }
 
 pub returns : goal.returns
-returns g c = let z = c.args.store.now in let s = c.args.seat.now in let d = c.args.log.now.table in let b = c.max-bound in let same = b.ensures.same in let u = c.raise.new.seat in record {
+returns g c = let z = c.args.store.now in let s = c.args.seat.now in let d = c.args.log.now.state in let b = c.max-bound in let same = b.ensures.same in let u = c.raise.new.seat in record {
   seat = goes_from s b.new.seat u u is_of_words (prepared c.raise.new.tables ∷ writes d ∷ []) same c.raise.ensures.seat;
   flag = c.raise.ensures.flag;
   bound = λ bound words there.

@@ -1,6 +1,6 @@
 use Rattle.std.proofs.Common.{◌≡◌, inr, ℕ, ◌<◌, ◌≤◌, [], ◌∷◌, refl, sym, subst, ap, ◌∙◌}
 use Rattle.wp_judge.specs.Words.{commit_pair}
-use Rattle.wp_core.specs.Tables.{prepared, writes}
+use Rattle.wp_core.specs.States.{prepared, writes}
 use Rattle.wp_core.specs.Turns.{prepared_turn}
 use Rattle.wp_core.specs.Views.{words_stay}
 use Rattle.wp_rule.specs.Knows.{Noted}
@@ -14,7 +14,7 @@ use Rattle.wp_commits.proofs.Words.{bound_is}
 use Rattle.wp_commits.proofs.clear.reach.Goals as goal
 
 pub returns-then-p-bound : goal.returns-then-p-bound
-returns-then-p-bound g c = let s = c.args.seat.now in let d = c.args.log.now.table in let r = c.max-bound.new.seat in let same = c.max-bound.ensures.same in record {
+returns-then-p-bound g c = let s = c.args.seat.now in let d = c.args.log.now.state in let r = c.max-bound.new.seat in let same = c.max-bound.ensures.same in record {
   seat = stays_at s r r r is_of_words (writes d ∷ []) same c.requires.held;
   bound = λ bound words there.
       let is : c.max-bound.result ≡ bound = bound_is c.args.store.now c.args.seat.now c.max-bound.new.seat c.max-bound.result c.max-bound.ensures.same c.max-bound.ensures.found bound words there in
@@ -29,7 +29,7 @@ pub raise-requires-clause-seat : goal.raise-requires-clause-seat
 raise-requires-clause-seat g c = c.take_turn-tables.ensures.taken.holds.same_table
 
 pub raise-requires-clause-held : goal.raise-requires-clause-held
-raise-requires-clause-held g c = let z = c.args.store.now in let s = c.args.seat.now in let d = c.args.log.now.table in let t = c.take_turn-tables in
+raise-requires-clause-held g c = let z = c.args.store.now in let s = c.args.seat.now in let d = c.args.log.now.state in let t = c.take_turn-tables in
     held_taken z c.max-bound.new.seat t.new.seat s (prepared t.result.value) (prepared t.result.value) (writes d ∷ []) (ap (λ (x : SeatState). x.knows.held) c.max-bound.ensures.same ∙ c.requires.held) t.ensures.taken
     ∙ ap (λ x. prepared x ∷ writes d ∷ []) (sym c.deref_mut.ensures.value)
 
@@ -50,14 +50,14 @@ pub raise-requires-clause-flag : goal.raise-requires-clause-flag
 raise-requires-clause-flag g c = let t = c.take_turn-tables in subst (DelayedFlagTells t.new.seat.knows) (sym c.deref_mut.ensures.value) t.ensures.taken.knows
 
 pub give_turn-requires-clause-holds : goal.give_turn-requires-clause-holds
-give_turn-requires-clause-holds g c = let z = c.args.store.now in let s = c.args.seat.now in let d = c.args.log.now.table in let r = c.max-bound.new.seat in let t = c.take_turn-tables in let u = c.raise in
+give_turn-requires-clause-holds g c = let z = c.args.store.now in let s = c.args.seat.now in let d = c.args.log.now.state in let r = c.max-bound.new.seat in let t = c.take_turn-tables in let u = c.raise in
     (writes d ∷ [], r.turns, holds_still z r t.new.seat u.new.seat (prepared t.result.value) (prepared u.new.tables) (writes d ∷ []) (ap (λ (x : SeatState). x.knows.held) c.max-bound.ensures.same ∙ c.requires.held) t.ensures.taken is_of_words _ u.ensures.seat refl)
 
 pub give_turn-requires-clause-knows : goal.give_turn-requires-clause-knows
 give_turn-requires-clause-knows g c = let u = c.raise in knows_to_give u.new.seat.knows (prepared u.new.tables) u.ensures.flag
 
 pub returns : goal.returns
-returns g c = let z = c.args.store.now in let s = c.args.seat.now in let d = c.args.log.now.table in let r = c.max-bound.new.seat in let same = c.max-bound.ensures.same in let t = c.take_turn-tables in let u = c.raise in let v = c.give_turn.new.seat in
+returns g c = let z = c.args.store.now in let s = c.args.seat.now in let d = c.args.log.now.state in let r = c.max-bound.new.seat in let same = c.max-bound.ensures.same in let t = c.take_turn-tables in let u = c.raise in let v = c.give_turn.new.seat in
     let held : r.knows.held ≡ writes d ∷ [] = ap (λ (x : SeatState). x.knows.held) same ∙ c.requires.held in
     let holds = holds_still z r t.new.seat u.new.seat (prepared t.result.value) (prepared u.new.tables) (writes d ∷ []) held t.ensures.taken is_of_words _ u.ensures.seat refl in
     let gave = (c.give_turn.ensures (writes d ∷ []) r.turns holds).goes in

@@ -2,7 +2,7 @@ use Rattle.std.proofs.Common.{◌≡◌, ⊎_elim, inl, inr, ℕ, List, [], ◌�
 use Rattle.wp_judge.specs.Words.{CommitPair, commit_pair}
 use Rattle.wp_core.specs.Cache.{pair_at}
 use Rattle.wp_core.specs.Lists.{IsIn}
-use Rattle.wp_core.specs.Tables.{writes}
+use Rattle.wp_core.specs.States.{writes}
 use Rattle.wp_core.specs.Views.{words_stay}
 use Rattle.wp_model.proofs.Tests.{same_some}
 use Rattle.wp_rule.specs.Knows.{Noted}
@@ -14,10 +14,10 @@ use Rattle.wp_commits.proofs.Clears.{no_pair, that_pair, stays_at, goes_from}
 use Rattle.wp_commits.proofs.entering.clear_again.Goals as goal
 
 pub pair-requires : goal.pair-requires
-pair-requires g c = let d = c.args.log.now.table in record { seat = c.requires.seat.0; held = subst (IsIn (writes d)) (sym c.requires.held) (inl refl); within = c.requires.within; words = c.requires.words; published = inr c.requires.ready }
+pair-requires g c = let d = c.args.log.now.state in record { seat = c.requires.seat.0; held = subst (IsIn (writes d)) (sym c.requires.held) (inl refl); within = c.requires.within; words = c.requires.words; published = inr c.requires.ready }
 
 pub returns-in-None : goal.returns-in-None
-returns-in-None g c = let s = c.args.seat.now in let d = c.args.log.now.table in let r = c.pair.new.seat in let same = c.pair.ensures.same in let k = c.requires.words in
+returns-in-None g c = let s = c.args.seat.now in let d = c.args.log.now.state in let r = c.pair.new.seat in let same = c.pair.ensures.same in let k = c.requires.words in
     let none : (bound : ℕ) (words : List ℕ) → Noted s.knows (words_stay bound words) → pair_at words c.args.place ≡ None =
     λ bound words there. no_pair (pair_at words c.args.place) (sym c.in-None.is ∙ c.pair.ensures.pair bound words there) in
     record {
@@ -28,7 +28,7 @@ returns-in-None g c = let s = c.args.seat.now in let d = c.args.log.now.table in
     }
 
 pub clear_own-requires : goal.clear_own-requires
-clear_own-requires g c = let d = c.args.log.now.table in let same = c.pair.ensures.same in record {
+clear_own-requires g c = let d = c.args.log.now.state in let same = c.pair.ensures.same in record {
   seat = (ap (λ (x : SeatState). x.table) same ∙ c.requires.seat.0, ap (λ (x : SeatState). x.knows.live) same ∙ c.requires.seat.1);
   held = ap (λ (x : SeatState). x.knows.held) same ∙ c.requires.held;
   wanted = c.requires.wanted;
@@ -43,7 +43,7 @@ clear_own-requires g c = let d = c.args.log.now.table in let same = c.pair.ensur
 }
 
 pub returns-in-Some : goal.returns-in-Some
-returns-in-Some g c = let s = c.args.seat.now in let d = c.args.log.now.table in let r = c.pair.new.seat in let u = c.clear_own.new.seat in let same = c.pair.ensures.same in record {
+returns-in-Some g c = let s = c.args.seat.now in let d = c.args.log.now.state in let r = c.pair.new.seat in let u = c.clear_own.new.seat in let same = c.pair.ensures.same in record {
   seat = goes_from s r u u is_of_words (writes d ∷ []) same c.clear_own.ensures.seat;
   bound = λ bound words there.
       let that = that_pair (pair_at words c.args.place) c.in-Some.p c.in-Some.c (sym c.in-Some.is ∙ c.pair.ensures.pair bound words there) in

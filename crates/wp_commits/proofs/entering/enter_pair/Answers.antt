@@ -12,12 +12,12 @@ use Rattle.wp_commits.proofs.entering.enter_pair.Goals as goal
 
 pub clear_again-requires-clause-ready : goal.clear_again-requires-clause-ready
 clear_again-requires-clause-ready g c =
-    subst (IsReadyAt c.args.seat.now.knows (length c.args.log.now.table.history)) (sym c.place_of-place.ensures.place) c.requires.ready
+    subst (IsReadyAt c.args.seat.now.knows (length c.args.log.now.state.history)) (sym c.place_of-place.ensures.place) c.requires.ready
 
 pub clear_again-requires-clause-wanted : goal.clear_again-requires-clause-wanted
 clear_again-requires-clause-wanted g c = (
   commit_pair c.args.p c.args.c,
-  next_in c.args.log.now.table.history c.args.log.now.table.pending (commit_pair c.args.p c.args.c) c.requires.pending,
+  next_in c.args.log.now.state.history c.args.log.now.state.pending (commit_pair c.args.p c.args.c) c.requires.pending,
   c.place_of-place.ensures.place,
   c.requires.narrow,
 )
@@ -28,7 +28,7 @@ returns-clause-seat g c =
 
 pub returns-clause-words : goal.returns-clause-words
 returns-clause-words g c bound words there =
-    let cells = c.args.store.now.cells in let published = length c.args.log.now.table.history in
+    let cells = c.args.store.now.cells in let published = length c.args.log.now.state.history in
     subst (λ (i : ℕ). Noted c.put_word.new.seat.knows (words_stay (bound_after cells published bound (pair_at words i)) (with_pair words (commit_pair c.args.p c.args.c)))) c.place_of-place.ensures.place
     (c.put_word.ensures.words (bound_after cells published bound (pair_at words c.place_of-place.result)) words (c.clear_again.ensures.bound bound words there))
 
@@ -38,6 +38,6 @@ returns-clause-there g c bound words there =
 
 pub returns-clause-elsewhere : goal.returns-clause-elsewhere
 returns-clause-elsewhere g c place ne ready =
-    let cells = c.args.store.now.cells in let published = length c.args.log.now.table.history in
+    let cells = c.args.store.now.cells in let published = length c.args.log.now.state.history in
     let keeps = keeps_ready is_of_words c.args.seat.now c.clear_again.new.seat _ _ (λ i pair. (refl, refl, refl)) c.clear_again.ensures.seat (λ bound words there. (bound_after cells published bound (pair_at words c.place_of-place.result), c.clear_again.ensures.bound bound words there, after_keeps cells published bound (pair_at words c.place_of-place.result))) in
     c.put_word.ensures.elsewhere published place (λ e. ne (e ∙ c.place_of-place.ensures.place)) (ready_still c.args.seat.now.knows c.clear_again.new.seat.knows cells published published keeps (omega arith) place ready)

@@ -1,5 +1,5 @@
 use Rattle.std.proofs.Common.{◌≡◌, List, [], ◌∷◌, refl, sym, subst, ap, ◌∙◌}
-use Rattle.wp_core.specs.Tables.{Content, snapshots, prepared, writes}
+use Rattle.wp_core.specs.States.{Content, snapshots, prepared, writes}
 use Rattle.wp_core.specs.Turns.{prepared_turn, snapshots_turn}
 use Rattle.wp_core.specs.Views.{words_stay, none_waits, delayed_flag_stays}
 use Rattle.wp_model.specs.PreparedSets.{NoneDelayed}
@@ -27,7 +27,7 @@ pub take_turn-snaps-requires : goal.take_turn-snaps-requires
 take_turn-snaps-requires g c = let holds = c.take_turn-tables.ensures.taken.holds in (holds.same_table, holds.live)
 
 pub pass_all-result-requires : goal.pass_all-result-requires
-pass_all-result-requires g c = let same = match_false c.none_delayed.result _ _ c.if-none_delayed.false c.none_delayed.ensures in let z = c.args.store.now in let d = c.args.log.now.table in let r = c.none_delayed.new.seat in let t = c.take_turn-tables in let u = c.take_turn-snaps in
+pass_all-result-requires g c = let same = match_false c.none_delayed.result _ _ c.if-none_delayed.false c.none_delayed.ensures in let z = c.args.store.now in let d = c.args.log.now.state in let r = c.none_delayed.new.seat in let t = c.take_turn-tables in let u = c.take_turn-snaps in
     let held : r.knows.held ≡ writes d ∷ [] = ap (λ (x : SeatState). x.knows.held) same ∙ c.requires.held in
     let before : t.new.seat.knows.held ≡ prepared t.result.value ∷ writes d ∷ [] = held_taken z r t.new.seat r (prepared t.result.value) (prepared t.result.value) (writes d ∷ []) held t.ensures.taken in
     let taken = u.ensures.taken in let w = c.requires.words in let first = c.deref_mut.ensures.value in let second = c.deref_mut-2.ensures.value in
@@ -40,7 +40,7 @@ pass_all-result-requires g c = let same = match_false c.none_delayed.result _ _ 
     }
 
 pub give_turn-requires-clause-holds : goal.give_turn-requires-clause-holds
-give_turn-requires-clause-holds g c = let same = match_false c.none_delayed.result _ _ c.if-none_delayed.false c.none_delayed.ensures in let z = c.args.store.now in let d = c.args.log.now.table in let r = c.none_delayed.new.seat in let t = c.take_turn-tables in let u = c.take_turn-snaps in let v = c.pass_all-result in
+give_turn-requires-clause-holds g c = let same = match_false c.none_delayed.result _ _ c.if-none_delayed.false c.none_delayed.ensures in let z = c.args.store.now in let d = c.args.log.now.state in let r = c.none_delayed.new.seat in let t = c.take_turn-tables in let u = c.take_turn-snaps in let v = c.pass_all-result in
     let held : r.knows.held ≡ writes d ∷ [] = ap (λ (x : SeatState). x.knows.held) same ∙ c.requires.held in
     let before : t.new.seat.knows.held ≡ prepared t.result.value ∷ writes d ∷ [] = held_taken z r t.new.seat r (prepared t.result.value) (prepared t.result.value) (writes d ∷ []) held t.ensures.taken in
     let beneath : List Content = prepared v.new.tables ∷ writes d ∷ [] in
@@ -51,7 +51,7 @@ pub give_turn-requires-clause-knows : goal.give_turn-requires-clause-knows
 give_turn-requires-clause-knows g c = let v = c.pass_all-result in knows_to_give v.new.seat.knows (snapshots v.new.snaps) v.ensures.old_flag
 
 pub give_turn-requires-2-clause-holds : goal.give_turn-requires-2-clause-holds
-give_turn-requires-2-clause-holds g c = let same = match_false c.none_delayed.result _ _ c.if-none_delayed.false c.none_delayed.ensures in let z = c.args.store.now in let d = c.args.log.now.table in let r = c.none_delayed.new.seat in let t = c.take_turn-tables in let u = c.take_turn-snaps in let v = c.pass_all-result in
+give_turn-requires-2-clause-holds g c = let same = match_false c.none_delayed.result _ _ c.if-none_delayed.false c.none_delayed.ensures in let z = c.args.store.now in let d = c.args.log.now.state in let r = c.none_delayed.new.seat in let t = c.take_turn-tables in let u = c.take_turn-snaps in let v = c.pass_all-result in
     let held : r.knows.held ≡ writes d ∷ [] = ap (λ (x : SeatState). x.knows.held) same ∙ c.requires.held in
     let before : t.new.seat.knows.held ≡ prepared t.result.value ∷ writes d ∷ [] = held_taken z r t.new.seat r (prepared t.result.value) (prepared t.result.value) (writes d ∷ []) held t.ensures.taken in
     let beneath : List Content = prepared v.new.tables ∷ writes d ∷ [] in
@@ -64,7 +64,7 @@ give_turn-requires-2-clause-holds g c = let same = match_false c.none_delayed.re
     (writes d ∷ [], r.turns, given)
 
 pub give_turn-requires-2-clause-knows : goal.give_turn-requires-2-clause-knows
-give_turn-requires-2-clause-knows g c = let same = match_false c.none_delayed.result _ _ c.if-none_delayed.false c.none_delayed.ensures in let z = c.args.store.now in let d = c.args.log.now.table in let r = c.none_delayed.new.seat in let t = c.take_turn-tables in let u = c.take_turn-snaps in let v = c.pass_all-result in
+give_turn-requires-2-clause-knows g c = let same = match_false c.none_delayed.result _ _ c.if-none_delayed.false c.none_delayed.ensures in let z = c.args.store.now in let d = c.args.log.now.state in let r = c.none_delayed.new.seat in let t = c.take_turn-tables in let u = c.take_turn-snaps in let v = c.pass_all-result in
     let held : r.knows.held ≡ writes d ∷ [] = ap (λ (x : SeatState). x.knows.held) same ∙ c.requires.held in
     let before : t.new.seat.knows.held ≡ prepared t.result.value ∷ writes d ∷ [] = held_taken z r t.new.seat r (prepared t.result.value) (prepared t.result.value) (writes d ∷ []) held t.ensures.taken in
     let beneath : List Content = prepared v.new.tables ∷ writes d ∷ [] in
@@ -74,7 +74,7 @@ give_turn-requires-2-clause-knows g c = let same = match_false c.none_delayed.re
     knows_to_give w.knows (prepared v.new.tables) (tells_still v.new.seat.knows w.knows delayed_flag_stays (NoneDelayed v.new.tables) (λ value there. gave.noted (delayed_flag_stays value) refl there) v.ensures.delayed_flag)
 
 pub returns : goal.returns
-returns g c = let same = match_false c.none_delayed.result _ _ c.if-none_delayed.false c.none_delayed.ensures in let z = c.args.store.now in let d = c.args.log.now.table in let r = c.none_delayed.new.seat in let t = c.take_turn-tables in let u = c.take_turn-snaps in let v = c.pass_all-result in
+returns g c = let same = match_false c.none_delayed.result _ _ c.if-none_delayed.false c.none_delayed.ensures in let z = c.args.store.now in let d = c.args.log.now.state in let r = c.none_delayed.new.seat in let t = c.take_turn-tables in let u = c.take_turn-snaps in let v = c.pass_all-result in
     let held : r.knows.held ≡ writes d ∷ [] = ap (λ (x : SeatState). x.knows.held) same ∙ c.requires.held in
     let before : t.new.seat.knows.held ≡ prepared t.result.value ∷ writes d ∷ [] = held_taken z r t.new.seat r (prepared t.result.value) (prepared t.result.value) (writes d ∷ []) held t.ensures.taken in
     let beneath : List Content = prepared v.new.tables ∷ writes d ∷ [] in

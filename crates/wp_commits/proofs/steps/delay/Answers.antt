@@ -2,7 +2,7 @@ use Rattle.std.proofs.Common.{◌≡◌, List, [], ◌∷◌, inl, refl, sym, su
 use Rattle.wp_model.specs.PreparedSets.{PreparedSets, NoneDelayed}
 use Rattle.wp_judge.specs.Words.{commit_pair}
 use Rattle.wp_core.specs.Lists.{IsIn}
-use Rattle.wp_core.specs.Tables.{Content, writes, prepared}
+use Rattle.wp_core.specs.States.{Content, writes, prepared}
 use Rattle.wp_core.specs.Views.{delayed_flag_stays}
 use Rattle.wp_rule.specs.Knows.{Noted}
 use Rattle.wp_core.specs.Sound.Views.{IsApart}
@@ -20,7 +20,7 @@ note_evicted-requires g c = let t = c.args.tables.now in
 
 pub fit_delayed_flag-requires-clause-held : goal.fit_delayed_flag-requires-clause-held
 fit_delayed_flag-requires-clause-held g c = record {
-  table = c.args.tables.now;
+  state = c.args.tables.now;
   held = subst (λ (x : SeatState). IsIn (prepared c.args.tables.now) x.knows.held) (sym c.shows_world.ensures.same) (subst (IsIn (prepared c.args.tables.now)) (sym c.requires.held) (inl refl));
   so_is = λ none. none_before_commit c.args.tables.now c.args.p c.args.c (subst NoneDelayed c.note_evicted.ensures none);
 }
@@ -35,7 +35,7 @@ fit_delayed_flag-requires-clause-flag g c = let f = c.requires.flag in let k = c
 
 pub make_about-requires-clause-may : goal.make_about-requires-clause-may
 make_about-requires-clause-may g c = let r = c.shows_world.new.seat in let u = c.fit_delayed_flag.new.seat in
-    may_delay (place_at c.args.store.now u.by) u u c.args.log.now.table c.args.tables.now c.note_evicted.new.self c.args.p c.args.c
+    may_delay (place_at c.args.store.now u.by) u u c.args.log.now.state c.args.tables.now c.note_evicted.new.self c.args.p c.args.c
     (holds_now is_flag r u r.knows.held r.turns c.fit_delayed_flag.ensures.seat ∙ (ap (λ (x : SeatState). x.knows.held) c.shows_world.ensures.same ∙ c.requires.held))
     c.note_evicted.ensures c.requires.decided c.fit_delayed_flag.ensures.flag
 
@@ -43,7 +43,7 @@ pub make_about-requires-clause-client : goal.make_about-requires-clause-client
 make_about-requires-clause-client g c = delaying_keeps (commit_pair c.args.p c.args.c)
 
 pub returns : goal.returns
-returns g c = let s = c.args.seat.now in let d = c.args.log.now.table in let r = c.shows_world.new.seat in let same = c.shows_world.ensures.same in let t = c.note_evicted.new.self in let fit = c.fit_delayed_flag.ensures in let u = c.fit_delayed_flag.new.seat in let v = c.make_about.new.seat in
+returns g c = let s = c.args.seat.now in let d = c.args.log.now.state in let r = c.shows_world.new.seat in let same = c.shows_world.ensures.same in let t = c.note_evicted.new.self in let fit = c.fit_delayed_flag.ensures in let u = c.fit_delayed_flag.new.seat in let v = c.make_about.new.seat in
     let held : List Content = prepared t ∷ writes d ∷ [] in
     let before : u.knows.held ≡ prepared c.args.tables.now ∷ writes d ∷ [] = holds_now is_flag r u r.knows.held r.turns fit.seat ∙ (ap (λ (x : SeatState). x.knows.held) same ∙ c.requires.held) in
     let made : v ≡ record u { knows = record u.knows { held = held } } =

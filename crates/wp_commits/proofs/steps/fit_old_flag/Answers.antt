@@ -8,7 +8,7 @@ use Rattle.wp_commits.proofs.steps.fit_old_flag.Goals as goal
 pub store_old_flag-requires-clause-may : goal.store_old_flag-requires-clause-may
 store_old_flag-requires-clause-may g c = let h = c.requires.held in let none = c.none_kept-none in
     let says : Says none.result c.from.result = record { up = λ e. c.from.ensures ∙ ap (λ (b : Bool). from_bool (not b)) e; down = λ e. c.from.ensures ∙ ap (λ (b : Bool). from_bool (not b)) e } in
-    may_put_old (place_at c.args.store.now c.args.seat.now.by) c.args.seat.now.knows none.result c.from.result says (record { table = h.table; held = h.held; so_is = λ e. h.so_is (none.ensures.0 e) })
+    may_put_old (place_at c.args.store.now c.args.seat.now.by) c.args.seat.now.knows none.result c.from.result says (record { state = h.state; held = h.held; so_is = λ e. h.so_is (none.ensures.0 e) })
 
 pub returns : goal.returns
 returns g c = let s = c.args.seat.now in let t = c.store_old_flag in let p = place_at c.args.store.now s.by in let none = c.none_kept-none in

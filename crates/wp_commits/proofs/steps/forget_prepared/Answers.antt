@@ -1,6 +1,6 @@
 use Rattle.std.proofs.Common.{◌≡◌, inl, inr, refl, sym, subst, [], ◌∷◌, ◌∙◌}
 use Rattle.wp_core.specs.Lists.{IsIn}
-use Rattle.wp_core.specs.Tables.{prepared, without_prepared}
+use Rattle.wp_core.specs.States.{prepared, without_prepared}
 use Rattle.wp_core.specs.Views.{has_left, delayed_flag_stays}
 use Rattle.wp_rule.specs.Knows.{Noted}
 use Rattle.wp_shared.specs.Seats.{SeatState, place_at}
@@ -19,7 +19,7 @@ fit_delayed_flag-requires g c = let s = c.args.seat.now in let t = c.remove.new.
     let out = took_out (place_at c.args.store.now s.by) _ s u c.args.tables.now t c.args.p c.requires.held left c.make_about.ensures.same c.make_about.ensures.moved in
     record {
       seat = c.make_about.ensures.same.0 ∙ c.requires.seat.0;
-      held = record { table = t; held = subst (λ (x : SeatState). IsIn (prepared t) x.knows.held) (sym out) (inl refl); so_is = λ none. none };
+      held = record { state = t; held = subst (λ (x : SeatState). IsIn (prepared t) x.knows.held) (sym out) (inl refl); so_is = λ none. none };
       flag = record { value = f.value; noted = subst (λ (x : SeatState). Noted x.knows (delayed_flag_stays f.value)) (sym out) (inr f.noted); empty = λ e. k.1 (f.empty e); down = λ e. f.down (k.0 e) };
     }
 

@@ -1,7 +1,7 @@
 use Rattle.std.proofs.Common.{◌≡◌, ◌-◌, List, ◌∷◌, inl, refl, ap, sym, subst, ◌∙◌}
 use Rattle.wp_model.specs.Snapshots.{Snapshots, NoOldCommits}
 use Rattle.wp_core.specs.Lists.{IsIn}
-use Rattle.wp_core.specs.Tables.{Content, snapshots}
+use Rattle.wp_core.specs.States.{Content, snapshots}
 use Rattle.wp_core.specs.Views.{delayed_flag_stays, old_flag_stays}
 use Rattle.wp_rule.specs.Knows.{Noted}
 use Rattle.wp_shared.specs.Seats.{SeatState, place_at}
@@ -17,7 +17,7 @@ returns-in_err-keep_evicted-clause-seat g c others held = let s = c.args.seat.no
 
 pub fit_old_flag-requires-clause-held : goal.fit_old_flag-requires-clause-held
 fit_old_flag-requires-clause-held g c =
-    record { table = c.args.snaps.now; held = subst (IsIn (snapshots c.args.snaps.now)) (sym c.requires.held.1) (inl refl); so_is = none_before_kept c.args.snaps.now c.keep_evicted.new.self c.args.p c.args.c c.in_ok-keep_evicted.ensures.ok }
+    record { state = c.args.snaps.now; held = subst (IsIn (snapshots c.args.snaps.now)) (sym c.requires.held.1) (inl refl); so_is = none_before_kept c.args.snaps.now c.keep_evicted.new.self c.args.p c.args.c c.in_ok-keep_evicted.ensures.ok }
 
 pub fit_old_flag-requires-clause-flag : goal.fit_old_flag-requires-clause-flag
 fit_old_flag-requires-clause-flag g c = let f = c.requires.flag in let k = c.none_kept-none.ensures in record { value = f.value; noted = f.noted; empty = λ e. k.1 (f.empty e); down = λ e. f.down (k.0 e) }
@@ -25,7 +25,7 @@ fit_old_flag-requires-clause-flag g c = let f = c.requires.flag in let k = c.non
 pub make_about-requires-clause-may : goal.make_about-requires-clause-may
 make_about-requires-clause-may g c = let s = c.args.seat.now in let h = c.requires.held in let u = c.fit_old_flag.new.seat in
     may_keep (place_at c.args.store.now u.by) u u c.args.snaps.now c.keep_evicted.new.self c.args.p c.args.c h.0 (holds_now is_flag s u s.knows.held s.turns c.fit_old_flag.ensures.seat ∙ h.1) c.in_ok-keep_evicted.ensures.ok
-    c.args.log.now.table h.2 c.requires.ordered c.requires.decided c.fit_old_flag.ensures.flag
+    c.args.log.now.state h.2 c.requires.ordered c.requires.decided c.fit_old_flag.ensures.flag
 
 pub make_about-requires-clause-client : goal.make_about-requires-clause-client
 make_about-requires-clause-client g c w = keeping_keeps w.snapshots c.args.p (c.args.c - c.args.p) c.args.p

@@ -3,7 +3,7 @@ use Rattle.wp_commits.proofs.Passed.{zero_match, may_look, look_keeps, looked_do
 use Rattle.wp_commits.proofs.steps.none_delayed.Goals as goal
 
 pub load-requires-clause-may : goal.load-requires-clause-may
-load-requires-clause-may g c = may_look (place_at c.args.store.now c.args.seat.now.by) c.args.seat.now.knows c.args.log.now.table c.requires.seat.1 c.requires.held
+load-requires-clause-may g c = may_look (place_at c.args.store.now c.args.seat.now.by) c.args.seat.now.knows c.args.log.now.state c.requires.seat.1 c.requires.held
 
 pub load-requires-clause-client : goal.load-requires-clause-client
 load-requires-clause-client g c = look_keeps

@@ -9,10 +9,10 @@ unpack-requires-clause-place g c = subst (λ (n : ℕ). c.args.place < n) c.bits
 
 pub returns-clause-pair : goal.returns-clause-pair
 returns-clause-pair g c bound words there =
-    pair_is c.args.store.now c.args.seat.now c.word.new.seat c.args.log.now.table c.args.place c.word.result c.word.ensures.same c.word.ensures.found bound words there c.unpack.result
+    pair_is c.args.store.now c.args.seat.now c.word.new.seat c.args.log.now.state c.args.place c.word.result c.word.ensures.same c.word.ensures.found bound words there c.unpack.result
     (c.unpack.ensures.pair ∙ ap (λ (n : ℕ). option_map numbers_of (pair_of n c.args.place c.word.result)) (sym c.bits-bits.ensures.1))
 
 pub returns-clause-there : goal.returns-clause-there
 returns-clause-there g c =
-    found c.args.store.now c.args.seat.now c.word.new.seat c.args.log.now.table c.args.place c.word.result c.word.ensures.same c.word.ensures.found c.requires.held c.requires.within c.requires.words c.requires.published c.unpack.result
+    found c.args.store.now c.args.seat.now c.word.new.seat c.args.log.now.state c.args.place c.word.result c.word.ensures.same c.word.ensures.found c.requires.held c.requires.within c.requires.words c.requires.published c.unpack.result
     (c.unpack.ensures.pair ∙ ap (λ (n : ℕ). option_map numbers_of (pair_of n c.args.place c.word.result)) (sym c.bits-bits.ensures.1))

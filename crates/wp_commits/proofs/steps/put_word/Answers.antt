@@ -7,7 +7,7 @@ use Rattle.wp_commits.proofs.steps.put_word.Goals as goal
 pub pack-requires-clause-pair : goal.pack-requires-clause-pair
 pack-requires-clause-pair g c =
     let pair : CommitPair = commit_pair c.args.p c.args.c in
-    subst (λ (n : ℕ). MayBePacked n pair) c.bits-bits.ensures.1 (next_packs c.args.store.now.cells c.args.log.now.table.history c.args.log.now.table.pending pair c.devices_agree.ensures.log.legal c.requires.pending c.requires.narrow)
+    subst (λ (n : ℕ). MayBePacked n pair) c.bits-bits.ensures.1 (next_packs c.args.store.now.cells c.args.log.now.state.history c.args.log.now.state.pending pair c.devices_agree.ensures.log.legal c.requires.pending c.requires.narrow)
 
 pub store_word-requires-clause-pair : goal.store_word-requires-clause-pair
 store_word-requires-clause-pair g c =
@@ -17,7 +17,7 @@ store_word-requires-clause-pair g c =
       word_there c.args.store.now.cells c.bits-bits.result c.args.place c.pack.result pair c.bits-bits.ensures.1 c.requires.place.0 c.pack.ensures.unpacks,
       c.requires.place.1,
       c.requires.place.0,
-      may_put (place_at c.args.store.now c.args.seat.now.by) c.args.seat.now.knows c.args.log.now.table c.args.place pair c.requires.held c.requires.place.0 c.requires.pending c.requires.narrow c.requires.cleared,
+      may_put (place_at c.args.store.now c.args.seat.now.by) c.args.seat.now.knows c.args.log.now.state c.args.place pair c.requires.held c.requires.place.0 c.requires.pending c.requires.narrow c.requires.cleared,
     )
 
 pub returns : goal.returns

@@ -1,5 +1,5 @@
 use Rattle.std.proofs.Common.{[], ◌∷◌, Some, refl, arith, sym, ◌∙◌}
-use Rattle.wp_core.specs.Tables.{installed}
+use Rattle.wp_core.specs.States.{installed}
 use Rattle.wp_shared.specs.Notes.{no_fact, seeing}
 use Rattle.wp_shared.proofs.Onward.{loose_none, goes_none}
 use Rattle.wp_read.specs.Registers.{numbers_of}
@@ -13,39 +13,39 @@ use Rattle.wp_compact.proofs.compacting.compact_in.Goals as goal
 -- ---- there is nothing to do
 
 pub find_edits-requires-clause-held : goal.find_edits-requires-clause-held
-find_edits-requires-clause-held g c = let e = c.args.edits.now.table in (e, held_first c.args.seat.now e c.requires.holds.turn.held)
+find_edits-requires-clause-held g c = let e = c.args.edits.now.state in (e, held_first c.args.seat.now e c.requires.holds.turn.held)
 
 pub returns-then-is_halted-clause-holds : goal.returns-then-is_halted-clause-holds
 returns-then-is_halted-clause-holds g c =
-    let e = c.args.edits.now in let k = c.find_edits.ensures e.table (held_first c.args.seat.now e.table c.requires.holds.turn.held) in
+    let e = c.args.edits.now in let k = c.find_edits.ensures e.state (held_first c.args.seat.now e.state c.requires.holds.turn.held) in
     holds_being c.args.store.now c.args.seat.now c.find_edits.new.seat _ k.is e c.requires.holds
 
 pub returns-then-is_halted-clause-in_step : goal.returns-then-is_halted-clause-in_step
 returns-then-is_halted-clause-in_step g c =
-    let e = c.args.edits.now.table in let k = c.find_edits.ensures e (held_first c.args.seat.now e c.requires.holds.turn.held) in
+    let e = c.args.edits.now.state in let k = c.find_edits.ensures e (held_first c.args.seat.now e c.requires.holds.turn.held) in
     in_step_being c.args.store.now c.args.seat.now c.find_edits.new.seat _ k.is e.last c.requires.in_step
 
 pub returns-then-is_halted-clause-says : goal.returns-then-is_halted-clause-says
 returns-then-is_halted-clause-says g c =
-    let z = c.args.store.now in let s = c.args.seat.now in let e = c.args.edits.now.table in let k = c.find_edits.ensures e (held_first s e c.requires.holds.turn.held) in
+    let z = c.args.store.now in let s = c.args.seat.now in let e = c.args.edits.now.state in let k = c.find_edits.ensures e (held_first s e c.requires.holds.turn.held) in
     found_halted z s s c.find_edits.new.seat e (goes_none s) k (sym c.is_halted.ensures ∙ c.if-is_halted.true) c.flushed.result c.flushed.ensures.number
 
 pub find_edits-requires-then-table_count-lt2-clause-held : goal.find_edits-requires-then-table_count-lt2-clause-held
-find_edits-requires-then-table_count-lt2-clause-held g c = let e = c.args.edits.now.table in (e, held_first c.args.seat.now e c.requires.holds.turn.held)
+find_edits-requires-then-table_count-lt2-clause-held g c = let e = c.args.edits.now.state in (e, held_first c.args.seat.now e c.requires.holds.turn.held)
 
 pub returns-then-table_count-lt2-clause-holds : goal.returns-then-table_count-lt2-clause-holds
 returns-then-table_count-lt2-clause-holds g c =
-    let e = c.args.edits.now in let k = c.find_edits-then-table_count-lt2.ensures e.table (held_first c.args.seat.now e.table c.requires.holds.turn.held) in
+    let e = c.args.edits.now in let k = c.find_edits-then-table_count-lt2.ensures e.state (held_first c.args.seat.now e.state c.requires.holds.turn.held) in
     holds_being c.args.store.now c.args.seat.now c.find_edits-then-table_count-lt2.new.seat _ k.is e c.requires.holds
 
 pub returns-then-table_count-lt2-clause-in_step : goal.returns-then-table_count-lt2-clause-in_step
 returns-then-table_count-lt2-clause-in_step g c =
-    let e = c.args.edits.now.table in let k = c.find_edits-then-table_count-lt2.ensures e (held_first c.args.seat.now e c.requires.holds.turn.held) in
+    let e = c.args.edits.now.state in let k = c.find_edits-then-table_count-lt2.ensures e (held_first c.args.seat.now e c.requires.holds.turn.held) in
     in_step_being c.args.store.now c.args.seat.now c.find_edits-then-table_count-lt2.new.seat _ k.is e.last c.requires.in_step
 
 pub returns-then-table_count-lt2-clause-says : goal.returns-then-table_count-lt2-clause-says
 returns-then-table_count-lt2-clause-says g c =
-    let s = c.args.seat.now in let e = c.args.edits.now.table in let k = c.find_edits-then-table_count-lt2.ensures e (held_first s e c.requires.holds.turn.held) in
+    let s = c.args.seat.now in let e = c.args.edits.now.state in let k = c.find_edits-then-table_count-lt2.ensures e (held_first s e c.requires.holds.turn.held) in
     let few = c.if-table_count-lt2.true in let count = c.table_count.ensures in
     found_few c.args.store.now s c.find_edits-then-table_count-lt2.new.seat e (IsPin c.args.pinned.now.floor.number (numbers_of c.args.pinned.now.live.items)) k (sym c.is_halted.ensures ∙ c.if-is_halted.false) (omega (arith, few, count))
 
@@ -56,11 +56,11 @@ merge-requires-clause-holds g c = still_edits c.requires.holds c.are_unchanged.e
 
 pub merge-requires-clause-decided : goal.merge-requires-clause-decided
 merge-requires-clause-decided g c =
-    decided_looked c.args.seat.now c.are_unchanged.new.seat (installed c.args.edits.now.table ∷ []) c.args.seat.now.turns c.are_unchanged.ensures.goes c.are_unchanged.ensures.grown c.args.pinned.now.floor c.args.pinned.now.live.items c.args.decided.bases c.args.decided.versions c.args.decided.committed.items c.requires.decided
+    decided_looked c.args.seat.now c.are_unchanged.new.seat (installed c.args.edits.now.state ∷ []) c.args.seat.now.turns c.are_unchanged.ensures.goes c.are_unchanged.ensures.grown c.args.pinned.now.floor c.args.pinned.now.live.items c.args.decided.bases c.args.decided.versions c.args.decided.committed.items c.requires.decided
 
 pub returns-in-Ok-true-clause-says : goal.returns-in-Ok-true-clause-says
 returns-in-Ok-true-clause-says g c =
-    let s = c.args.seat.now in let u = c.are_unchanged.new.seat in let e = c.args.edits.now.table in let p = c.args.pinned.now in let pins = IsPin p.floor.number (numbers_of p.live.items) in
+    let s = c.args.seat.now in let u = c.are_unchanged.new.seat in let e = c.args.edits.now.state in let p = c.args.pinned.now in let pins = IsPin p.floor.number (numbers_of p.live.items) in
     let first = goes_saw s u no_fact (installed e ∷ []) s.turns c.are_unchanged.ensures.goes c.are_unchanged.ensures.grown loose_none in
     ends_then c.args.store.now s u c.merge.new.seat e pins (IsDecision p.floor.number c.args.decided.bases c.args.decided.versions) first (Some c.merge.result) c.merge.ensures.says
 
@@ -69,7 +69,7 @@ returns-in-Ok-false-clause-holds g c = still_edits c.requires.holds c.are_unchan
 
 pub returns-in-Ok-false-clause-in_step : goal.returns-in-Ok-false-clause-in_step
 returns-in-Ok-false-clause-in_step g c =
-    let s = c.args.seat.now in let u = c.are_unchanged.new.seat in let e = c.args.edits.now.table in
+    let s = c.args.seat.now in let u = c.are_unchanged.new.seat in let e = c.args.edits.now.state in
     in_step_on (seeing u.knows.participant.seen s) u no_fact (installed e ∷ []) s.turns refl (λ versions floor. refl) c.are_unchanged.ensures.goes e.last c.requires.in_step
 
 pub returns-in-Ok-false-clause-says : goal.returns-in-Ok-false-clause-says
@@ -85,7 +85,7 @@ returns-in-Ok-false-clause-says g c =
       bases = c.args.decided.bases;
       decided = (refl, refl, refl);
       overtaken = c.in-Ok-false.ensures.overtaken c.in-Ok-false.field-0-test;
-      goes_on = goes_saw s u no_fact (installed c.args.edits.now.table ∷ []) s.turns c.are_unchanged.ensures.goes c.are_unchanged.ensures.grown loose_none;
+      goes_on = goes_saw s u no_fact (installed c.args.edits.now.state ∷ []) s.turns c.are_unchanged.ensures.goes c.are_unchanged.ensures.grown loose_none;
     }
 
 pub returns-in-Err-clause-holds : goal.returns-in-Err-clause-holds
@@ -93,10 +93,10 @@ returns-in-Err-clause-holds g c = still_edits c.requires.holds c.are_unchanged.e
 
 pub returns-in-Err-clause-in_step : goal.returns-in-Err-clause-in_step
 returns-in-Err-clause-in_step g c =
-    let s = c.args.seat.now in let u = c.are_unchanged.new.seat in let e = c.args.edits.now.table in
+    let s = c.args.seat.now in let u = c.are_unchanged.new.seat in let e = c.args.edits.now.state in
     in_step_on (seeing u.knows.participant.seen s) u no_fact (installed e ∷ []) s.turns refl (λ versions floor. refl) c.are_unchanged.ensures.goes e.last c.requires.in_step
 
 pub returns-in-Err-clause-says : goal.returns-in-Err-clause-says
 returns-in-Err-clause-says g c =
     let s = c.args.seat.now in let u = c.are_unchanged.new.seat in
-    goes_saw s u no_fact (installed c.args.edits.now.table ∷ []) s.turns c.are_unchanged.ensures.goes c.are_unchanged.ensures.grown loose_none
+    goes_saw s u no_fact (installed c.args.edits.now.state ∷ []) s.turns c.are_unchanged.ensures.goes c.are_unchanged.ensures.grown loose_none

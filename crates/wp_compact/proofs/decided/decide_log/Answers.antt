@@ -25,16 +25,16 @@ pub returns-clause-bases : goal.returns-clause-bases
 returns-clause-bases g c =
     let k = c.take_log-log.ensures in let p = c.args.pinned.now in
     are_bases k (c.give_turn.ensures [] [] (took_alone k c.requires.free)) c.shows_one_store.ensures (subst IsLog c.deref.ensures c.devices_agree.ensures.log) p.floor p.live.items c.requires.pinned (record { opened = c.opened_base.result; installed = c.min.result }) (c.opened_base.ensures ∙ ap (λ (x : LogState). x.first.segment.base) c.deref-2.ensures)
-    (c.min.ensures ∙ (λ i. min ((c.base.ensures ∙ ap (λ (x : LogState). x.table.segment.base) c.deref-3.ensures) i) (c.number.ensures i)))
+    (c.min.ensures ∙ (λ i. min ((c.base.ensures ∙ ap (λ (x : LogState). x.state.segment.base) c.deref-3.ensures) i) (c.number.ensures i)))
 
 pub returns-clause-low : goal.returns-clause-low
 returns-clause-low g c =
     let k = c.take_log-log.ensures in let p = c.args.pinned.now in
     are_low k (c.give_turn.ensures [] [] (took_alone k c.requires.free)) c.shows_one_store.ensures (subst IsLog c.deref.ensures c.devices_agree.ensures.log) p.floor p.live.items c.requires.pinned (record { opened = c.opened_base.result; installed = c.min.result }) (c.opened_base.ensures ∙ ap (λ (x : LogState). x.first.segment.base) c.deref-2.ensures)
-    (c.min.ensures ∙ (λ i. min ((c.base.ensures ∙ ap (λ (x : LogState). x.table.segment.base) c.deref-3.ensures) i) (c.number.ensures i)))
+    (c.min.ensures ∙ (λ i. min ((c.base.ensures ∙ ap (λ (x : LogState). x.state.segment.base) c.deref-3.ensures) i) (c.number.ensures i)))
 
 pub returns-clause-decided : goal.returns-clause-decided
 returns-clause-decided g c =
     let k = c.take_log-log.ensures in let v = c.give_turn.new.seat in
-    let seen = ap (λ (x : LogState). x.table.history) c.deref-4.ensures ∙ sym k.seen ∙ sym (ap (λ (p : Participant). p.seen) (same_given k (c.give_turn.ensures [] [] (took_alone k c.requires.free)))) in
+    let seen = ap (λ (x : LogState). x.state.history) c.deref-4.ensures ∙ sym k.seen ∙ sym (ap (λ (p : Participant). p.seen) (same_given k (c.give_turn.ensures [] [] (took_alone k c.requires.free)))) in
     subst (λ (h : List Entry). Decides h (version_numbers c.args.versions.now) (both_bases (record { opened = c.opened_base.result; installed = c.min.result })) c.args.committed.now.items c.decide_in-decided.new.committed.items) seen c.in_ok-decided.ensures

@@ -13,21 +13,21 @@ use Rattle.wp_compact.proofs.merging.merge.Goals as goal
 
 pub make_ready-requires-clause-numbered : goal.make_ready-requires-clause-numbered
 make_ready-requires-clause-numbered g c =
-    let p = c.args.pinned.now in let d = c.args.decided in let e = c.args.edits.now.table in let front = take p.floor.number c.args.seat.now.knows.participant.seen in
+    let p = c.args.pinned.now in let d = c.args.decided in let e = c.args.edits.now.state in let front = take p.floor.number c.args.seat.now.knows.participant.seen in
     let kept = kept_retained c.args.seat.now.knows e p.floor p.live.items d.bases d.versions d.committed.items c.requires.decided c.requires.may c.requires.same c.in-Ok.kept
     (c.in-Ok.ensures ∙ (λ i. retained_of (is_committed (c.deref.ensures.value i)) d.versions (numbers_of p.live.items ++ d.bases.opened ∷ (c.segment.ensures i).base ∷ []) p.floor.number)) in
     subst (λ (l : List Version). list_all is_numbered l ≡ true) (sym kept) (all_retained (decision.is_committed front) e.last.versions (listed (numbers_of p.live.items) d.bases.opened e.last) (length front) is_numbered c.requires.may.numbered)
 
 pub make_ready-requires-clause-flushed : goal.make_ready-requires-clause-flushed
 make_ready-requires-clause-flushed g c =
-    let p = c.args.pinned.now in let d = c.args.decided in let e = c.args.edits.now.table in let front = take p.floor.number c.args.seat.now.knows.participant.seen in
+    let p = c.args.pinned.now in let d = c.args.decided in let e = c.args.edits.now.state in let front = take p.floor.number c.args.seat.now.knows.participant.seen in
     let kept = kept_retained c.args.seat.now.knows e p.floor p.live.items d.bases d.versions d.committed.items c.requires.decided c.requires.may c.requires.same c.in-Ok.kept
     (c.in-Ok.ensures ∙ (λ i. retained_of (is_committed (c.deref.ensures.value i)) d.versions (numbers_of p.live.items ++ d.bases.opened ∷ (c.segment.ensures i).base ∷ []) p.floor.number)) in
     subst (λ (l : List Version). list_all (is_flushed e.last.flushed) l ≡ true) (sym kept) (all_retained (decision.is_committed front) e.last.versions (listed (numbers_of p.live.items) d.bases.opened e.last) (length front) (is_flushed e.last.flushed) c.requires.may.replace.low)
 
 pub merge_ready-requires-clause-may : goal.merge_ready-requires-clause-may
 merge_ready-requires-clause-may g c =
-    let p = c.args.pinned.now in let d = c.args.decided in let e = c.args.edits.now.table in (
+    let p = c.args.pinned.now in let d = c.args.decided in let e = c.args.edits.now.state in (
       d.bases,
       c.requires.opened,
       c.requires.may,

@@ -16,8 +16,8 @@ install-requires-clause-ready g c = c.requires.ready.ready
 pub install-requires-clause-may : goal.install-requires-clause-may
 install-requires-clause-may g c =
     let m = c.requires.may in let p = c.args.pinned.now in let r = c.args.ready in let e = c.args.edits.now in let a = c.args.seat.now.knows in
-    subst (MayInstall a e.table) (sym c.requires.ready.asked)
-    (may_compact a e.table r.kept c.requires.running (next_covered c.args.store.now c.args.seat.now c.args.seat.now e e p.floor.number p.live.items m.0 m.1 m.2 r.kept m.3) m.2.replace.gone)
+    subst (MayInstall a e.state) (sym c.requires.ready.asked)
+    (may_compact a e.state r.kept c.requires.running (next_covered c.args.store.now c.args.seat.now c.args.seat.now e e p.floor.number p.live.items m.0 m.1 m.2 r.kept m.3) m.2.replace.gone)
 
 pub with_first-requires : goal.with_first-requires
 with_first-requires g c = let r = c.requires.ready in let n = ap length r.none in let room = r.room in omega (arith, n, room)
@@ -29,7 +29,7 @@ pub put_tables-requires-clause-may : goal.put_tables-requires-clause-may
 put_tables-requires-clause-may g c =
     let m = c.requires.may in let p = c.args.pinned.now in let r = c.args.ready in let e = c.args.edits.now in let left = c.install.new.edits in
     rw c.number.ensures (replaces_next c.args.store.now c.args.seat.now c.install.new.seat e left p.floor.number p.live.items m.0 m.1 m.2 r.kept m.3
-    (subst (λ (x : Asked). HasInstalled c.args.store.now c.args.seat.now e (next_of x e.table.last) (is_compaction x.gone) c.install.new.seat left) c.requires.ready.asked c.in-Ok.ensures.installed) (c.in-Ok.ensures.gone (ap (λ (x : Asked). x.gone) c.requires.ready.asked)))
+    (subst (λ (x : Asked). HasInstalled c.args.store.now c.args.seat.now e (next_of x e.state.last) (is_compaction x.gone) c.install.new.seat left) c.requires.ready.asked c.in-Ok.ensures.installed) (c.in-Ok.ensures.gone (ap (λ (x : Asked). x.gone) c.requires.ready.asked)))
 
 pub put_tables-requires-clause-tables : goal.put_tables-requires-clause-tables
 put_tables-requires-clause-tables g c =
@@ -37,14 +37,14 @@ put_tables-requires-clause-tables g c =
     only_sorted r.kept c.as_slice.ensures.in_order (map arc_value c.with_first.result.items) (option_map arc_value c.in-Ok.table) (c.with_first.ensures ∙ ap (λ l. with_newest (option_map arc_value c.in-Ok.table) (map arc_value l)) c.requires.ready.none)
     (c.in-Ok.ensures.table ∙ ap (λ (x : Asked). one_part x.versions) c.requires.ready.asked)
     ∙ sym (left_kept c.args.store.now c.args.seat.now c.install.new.seat e left p.floor.number p.live.items m.0 m.1 m.2 r.kept m.3
-    (subst (λ (x : Asked). HasInstalled c.args.store.now c.args.seat.now e (next_of x e.table.last) (is_compaction x.gone) c.install.new.seat left) c.requires.ready.asked c.in-Ok.ensures.installed))
+    (subst (λ (x : Asked). HasInstalled c.args.store.now c.args.seat.now e (next_of x e.state.last) (is_compaction x.gone) c.install.new.seat left) c.requires.ready.asked c.in-Ok.ensures.installed))
 
 pub returns-in-Ok-clause-says : goal.returns-in-Ok-clause-says
 returns-in-Ok-clause-says g c =
     let m = c.requires.may in let p = c.args.pinned.now in let r = c.args.ready in let e = c.args.edits.now in let left = c.install.new.edits in
     rw c.number.ensures
     (has_compacted c.args.store.now c.args.seat.now c.install.new.seat e left p.floor.number p.live.items m.0 m.1 m.2 r.kept m.3
-    (subst (λ (x : Asked). HasInstalled c.args.store.now c.args.seat.now e (next_of x e.table.last) (is_compaction x.gone) c.install.new.seat left) c.requires.ready.asked c.in-Ok.ensures.installed)
+    (subst (λ (x : Asked). HasInstalled c.args.store.now c.args.seat.now e (next_of x e.state.last) (is_compaction x.gone) c.install.new.seat left) c.requires.ready.asked c.in-Ok.ensures.installed)
     c.requires.holds (alone e left r.kept r.edit.edit.asked c.requires.ready.asked c.in-Ok.ensures.parts) c.put_tables.new.seat _ c.put_tables.ensures.goes c.requires.running c.requires.several
     (length c.as_slice.result.now) (ap (λ (l : List Version). length l) c.as_slice.ensures.value))
 
@@ -57,4 +57,4 @@ pub returns-clause-says : goal.returns-clause-says
 returns-clause-says g c =
     let m = c.requires.may in let p = c.args.pinned.now in let r = c.args.ready in let e = c.args.edits.now in let left = c.install.new.edits in
     not_compacted c.args.store.now c.args.seat.now c.install.new.seat e left p.floor.number p.live.items m.0 m.1 m.2 r.kept m.3 c.requires.holds
-    (subst (λ (x : Asked). HasBroken c.args.store.now c.args.seat.now e (next_of x e.table.last) c.install.new.seat left) c.requires.ready.asked c.in-Err.ensures.refused) c.requires.running c.requires.several
+    (subst (λ (x : Asked). HasBroken c.args.store.now c.args.seat.now e (next_of x e.state.last) c.install.new.seat left) c.requires.ready.asked c.in-Err.ensures.refused) c.requires.running c.requires.several

@@ -1,6 +1,6 @@
 use Rattle.std.proofs.Common.{◌≤◌, List, refl, subst, sym, ap, ◌∙◌}
 use Rattle.wp_core.specs.Conditions.{KeepsStore}
-use Rattle.wp_core.specs.Tables.{Content, StoreState}
+use Rattle.wp_core.specs.States.{Content, StoreState}
 use Rattle.wp_core.specs.Views.{nothing_flushed}
 use Rattle.wp_parts.specs.Stock.{store_state}
 use Rattle.wp_shared.specs.Notes.{GoesOn}
@@ -20,7 +20,7 @@ pub replace_versions-requires-clause-may : goal.replace_versions-requires-clause
 replace_versions-requires-clause-may g c w stands =
     let t = store_state c.take_turn-stock.result.value in let k = c.take_turn-stock.ensures.taken in
     let shown = ap store_state c.deref.ensures ∙ c.replace.ensures in let tables = ap (λ (x : StoreState). x.tables) shown ∙ c.requires.tables in let floor = ap (λ (x : StoreState). x.floor) shown in
-    let p = may_put c.args.store.now c.args.seat.now c.args.edits.now.table c.args.floor c.requires.may c.take_turn-stock.new.seat t (ap (λ (x : SeatState). x.knows.participant) k.goes.same) (λ fact there. k.goes.noted fact refl there) (holds_taken c.requires.holds k).held w stands in
+    let p = may_put c.args.store.now c.args.seat.now c.args.edits.now.state c.args.floor c.requires.may c.take_turn-stock.new.seat t (ap (λ (x : SeatState). x.knows.participant) k.goes.same) (λ fact there. k.goes.noted fact refl there) (holds_taken c.requires.holds k).held w stands in
     subst (λ (x : StoreState). (w.store.floor ≤ x.floor) × KeepsStore w (record w.store { tables = x.tables; floor = x.floor }) w.installed) (λ i. record { memory = t.memory; tables = sym tables i; floor = sym floor i }) p
 
 pub give_turn-requires-clause-holds : goal.give_turn-requires-clause-holds

@@ -42,13 +42,13 @@ returns-clause-grown g c = saw_grown c.shows_history.ensures
 
 pub returns-clause-tables : goal.returns-clause-tables
 returns-clause-tables g c =
-    let e = c.args.edits.now.table in let number = c.number-floor.ensures in let high = c.if-flushed-floor.false in let given = c.if-floor.false in let f = c.flushed.ensures.number in let g2 = c.floor.ensures in
+    let e = c.args.edits.now.state in let number = c.number-floor.ensures in let high = c.if-flushed-floor.false in let given = c.if-floor.false in let f = c.flushed.ensures.number in let g2 = c.floor.ensures in
     c.in_ok-copy_tables.ensures.tables
     ∙ tables_here c.args.stock.now c.args.pinned.now.floor.number c.args.pinned.now.live.items c.args.bases c.shows_history.ensures c.requires.holds c.requires.in_step c.requires.live c.requires.bases.0 c.requires.bases.1 (subst (λ (n : ℕ). list_all (is_flushed n) e.last.versions ≡ true) f c.flushed.ensures.tables) (based_here (c.is_based.ensures.0 c.if-not-is_based.false) (ap (λ (g : Segment). g.base) c.segment.ensures) number) (omega (arith, f, number, high)) (omega (arith, g2, number, given))
 
 pub returns-clause-may : goal.returns-clause-may
 returns-clause-may g c =
-    let e = c.args.edits.now.table in let number = c.number-floor.ensures in let high = c.if-flushed-floor.false in let given = c.if-floor.false in let f = c.flushed.ensures.number in let g2 = c.floor.ensures in
+    let e = c.args.edits.now.state in let number = c.number-floor.ensures in let high = c.if-flushed-floor.false in let given = c.if-floor.false in let f = c.flushed.ensures.number in let g2 = c.floor.ensures in
     may_merge c.args.stock.now c.args.pinned.now.floor.number c.args.pinned.now.live.items c.args.bases c.shows_history.ensures c.requires.holds c.requires.in_step c.requires.live c.requires.bases.0 c.requires.bases.1 (subst (λ (n : ℕ). list_all (is_flushed n) e.last.versions ≡ true) f c.flushed.ensures.tables) (based_here (c.is_based.ensures.0 c.if-not-is_based.false) (ap (λ (g : Segment). g.base) c.segment.ensures) number) (omega (arith, f, number, high)) (omega (arith, g2, number, given))
 
 pub returns-then-flushed-floor-clause-tables : goal.returns-then-flushed-floor-clause-tables

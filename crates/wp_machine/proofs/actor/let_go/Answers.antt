@@ -1,6 +1,6 @@
 use Rattle.std.proofs.Common.{rules, not, ◌==◌}
 use Rattle.std.proofs.lemmas.Fn.{filter_same}
-use Rattle.wp_core.specs.Tables as tables
+use Rattle.wp_core.specs.States as tables
 use Rattle.wp_core.specs.Changes.{turn_index}
 use Rattle.wp_core.specs.Turns.{turn_of}
 use Rattle.wp_machine.proofs.actor.let_go.Goals as goal

@@ -2,7 +2,7 @@ use Rattle.std.proofs.Common.{List, subst, ap, ◌∙◌}
 use Rattle.std.specs.Arc.{arc_value}
 use Rattle.std.specs.Option.{option_map}
 use Rattle.wp_tableset.specs.Changes.{Asked, one_part}
-use Rattle.wp_core.specs.Tables.{Content}
+use Rattle.wp_core.specs.States.{Content}
 use Rattle.wp_shared.specs.Notes.{GoesOn}
 use Rattle.wp_shared.proofs.Onward.{holds_on}
 use Rattle.wp_maint.specs.Holding.{is_of_tables}
@@ -17,7 +17,7 @@ install-requires-clause-ready g c = c.requires.ready.0.ready
 
 pub install-requires-clause-may : goal.install-requires-clause-may
 install-requires-clause-may g c = let r = c.args.ready in let k = c.requires.ready in
-    may_flush c.args.seat.now.knows c.args.edits.now.table r.frozen r.edit.edit.asked k.0.frozen k.1 k.0.asked c.requires.running
+    may_flush c.args.seat.now.knows c.args.edits.now.state r.frozen r.edit.edit.asked k.0.frozen k.1 k.0.asked c.requires.running
 
 pub put_table-requires-clause-holds : goal.put_table-requires-clause-holds
 put_table-requires-clause-holds g c = tables_alone c.in-Ok.ensures.installed.holds

@@ -1,5 +1,5 @@
 use Rattle.std.proofs.Common.{ℕ, List, [], ◌∷◌, sym, subst, ap, ◌∙◌}
-use Rattle.wp_core.specs.Tables.{writes, installed}
+use Rattle.wp_core.specs.States.{writes, installed}
 use Rattle.wp_core.specs.Turns.{write_turn}
 use Rattle.wp_parts.specs.Stock.{store_state}
 use Rattle.wp_shared.specs.Notes.{is_under, seeing, GoesOn}
@@ -23,19 +23,19 @@ freeze_some-frozen-requires-clause-stands g c = c.take_turn-stock.ensures.taken.
 
 pub give_turn-requires-clause-holds : goal.give_turn-requires-clause-holds
 give_turn-requires-clause-holds g c =
-    (writes c.take_log-log.result.value.table ∷ installed c.args.edits.now.table ∷ [], 0 ∷ 5 ∷ [], holds_given c.requires.holds c.take_log-log.ensures c.take_turn-stock.ensures.taken c.freeze_some-frozen.ensures.goes _ (c.freeze_some-frozen.ensures.same ∙ ap store_state c.deref_mut.ensures.value))
+    (writes c.take_log-log.result.value.state ∷ installed c.args.edits.now.state ∷ [], 0 ∷ 5 ∷ [], holds_given c.requires.holds c.take_log-log.ensures c.take_turn-stock.ensures.taken c.freeze_some-frozen.ensures.goes _ (c.freeze_some-frozen.ensures.same ∙ ap store_state c.deref_mut.ensures.value))
 
 pub give_turn-requires-2-clause-holds : goal.give_turn-requires-2-clause-holds
 give_turn-requires-2-clause-holds g c =
     let k = c.freeze_some-frozen.ensures.goes in let gave = c.give_turn.ensures _ _ (holds_given c.requires.holds c.take_log-log.ensures c.take_turn-stock.ensures.taken k _ (c.freeze_some-frozen.ensures.same ∙ ap store_state c.deref_mut.ensures.value)) in
-    (installed c.args.edits.now.table ∷ [], 5 ∷ [], holds_left c.requires.holds c.take_log-log.ensures c.take_turn-stock.ensures.taken k gave)
+    (installed c.args.edits.now.state ∷ [], 5 ∷ [], holds_left c.requires.holds c.take_log-log.ensures c.take_turn-stock.ensures.taken k gave)
 
 pub returns : goal.returns
 returns g c =
     let k0 = c.requires.holds in let k1 = c.take_log-log.ensures in let k2 = c.take_turn-stock.ensures.taken in let k3 = c.freeze_some-frozen.ensures.goes in
-    let k4 = c.give_turn.ensures (writes c.take_log-log.result.value.table ∷ installed c.args.edits.now.table ∷ []) (0 ∷ 5 ∷ []) (holds_given k0 k1 k2 k3 _ (c.freeze_some-frozen.ensures.same ∙ ap store_state c.deref_mut.ensures.value)) in
-    let k5 = c.give_turn-2.ensures (installed c.args.edits.now.table ∷ []) (5 ∷ []) (holds_left k0 k1 k2 k3 k4) in record {
-      goes = subst (λ (turns : List ℕ). GoesOn (is_under write_turn) (installed c.args.edits.now.table ∷ []) turns (seeing c.give_turn-2.new.seat.knows.participant.seen c.args.seat.now) c.give_turn-2.new.seat) (sym k0.turn.turns) (goes_five k0 k1 k2 k3 k4 k5);
+    let k4 = c.give_turn.ensures (writes c.take_log-log.result.value.state ∷ installed c.args.edits.now.state ∷ []) (0 ∷ 5 ∷ []) (holds_given k0 k1 k2 k3 _ (c.freeze_some-frozen.ensures.same ∙ ap store_state c.deref_mut.ensures.value)) in
+    let k5 = c.give_turn-2.ensures (installed c.args.edits.now.state ∷ []) (5 ∷ []) (holds_left k0 k1 k2 k3 k4) in record {
+      goes = subst (λ (turns : List ℕ). GoesOn (is_under write_turn) (installed c.args.edits.now.state ∷ []) turns (seeing c.give_turn-2.new.seat.knows.participant.seen c.args.seat.now) c.give_turn-2.new.seat) (sym k0.turn.turns) (goes_five k0 k1 k2 k3 k4 k5);
       grown = grown_five k0 k1 k2 k3 k4 k5;
       whole = whole_five k0 k1 k2 k3 k4 k5;
       frozen = frozen_five k0 k1 k2 k3 k4 k5 c.freeze_some-frozen.result c.freeze_some-frozen.ensures.frozen;

@@ -5,7 +5,7 @@ use Rattle.wp_maint.proofs.frozen.freeze_some.Goals as goal
 
 pub returns-then-is_flushed-clause-frozen : goal.returns-then-is_flushed-clause-frozen
 returns-then-is_flushed-clause-frozen g c =
-    none_frozen c.args.store.now c.args.seat.now c.args.log.now.table c.args.stock.now c.args.edits.now.table c.requires.holds.held c.requires.pending c.requires.seen c.requires.in_step c.requires.stands.0 c.requires.stands.1
+    none_frozen c.args.store.now c.args.seat.now c.args.log.now.state c.args.stock.now c.args.edits.now.state c.requires.holds.held c.requires.pending c.requires.seen c.requires.in_step c.requires.stands.0 c.requires.stands.1
     (c.is_flushed.ensures.none c.if-is_flushed.true)
 
 pub returns-clause-frozen : goal.returns-clause-frozen

@@ -20,7 +20,7 @@ ready-requires-clause-flushed g c =
 pub ready-requires-clause-later : goal.ready-requires-clause-later
 ready-requires-clause-later g c =
     let f = c.args.frozen in let are = merged_is_sorted f.parts c.in_ok-versions.versions c.in_ok-versions.ensures in let k = c.requires.1 in
-    (k.later.0, λ frozen. subst (λ (l : List Version). 1 ≤ length l → c.args.edits.now.table.last.flushed < f.at) (sym are) k.later.1)
+    (k.later.0, λ frozen. subst (λ (l : List Version). 1 ≤ length l → c.args.edits.now.state.last.flushed < f.at) (sym are) k.later.1)
 
 pub returns : goal.returns
 returns g c a k =

@@ -4,7 +4,7 @@ use Rattle.std.specs.Option.{option_map}
 use Rattle.wp_model.specs.declared.version.Version.{Version}
 use Rattle.wp_merge.specs.Merge.{joined, sorted_of}
 use Rattle.wp_core.specs.Sound.Store.{NoneFlushed}
-use Rattle.wp_core.specs.Tables.{StoreState}
+use Rattle.wp_core.specs.States.{StoreState}
 use Rattle.wp_rule.specs.Knows.{KnowsMoved}
 use Rattle.wp_parts.specs.Stock.{StockState, store_state}
 use Rattle.wp_maint.proofs.Installed.{knows_moved, none_flushed, tables_named}
@@ -17,7 +17,7 @@ move_versions-requires-clause-seat g c = c.take_turn-stock.ensures.taken.holds.s
 pub move_versions-requires-clause-held : goal.move_versions-requires-clause-held
 move_versions-requires-clause-held g c =
     let k = c.take_turn-stock.ensures.taken in let lent = store_state c.deref_mut.result.now in let s = c.args.seat.now in let held = (holds_lent c.requires.holds k (ap store_state c.deref_mut.ensures.value)).held in
-    let e = c.args.edits.now.table in
+    let e = c.args.edits.now.state in
     let moved = knows_moved c.args.store.now s e c.args.frozen (option_map arc_value c.args.table) c.requires.may c.take_turn-stock.new.seat k.stands.0 k.stands.1 (λ fact there. k.goes.noted fact refl there) lent s.knows.held held (store_state c.install_flushed.new.self) c.install_flushed.ensures.memory
     (c.install_flushed.ensures.tables ∙ ap (λ (l : List (List Version)). sorted_of (joined l)) c.with_first-tables.ensures) in (
       lent,
@@ -31,7 +31,7 @@ move_versions-requires-clause-held g c =
 pub move_versions-requires-clause-gone : goal.move_versions-requires-clause-gone
 move_versions-requires-clause-gone g c =
     let k = c.take_turn-stock.ensures.taken in let lent = store_state c.deref_mut.result.now in let s = c.args.seat.now in let held = (holds_lent c.requires.holds k (ap store_state c.deref_mut.ensures.value)).held in
-    let e = c.args.edits.now.table in
+    let e = c.args.edits.now.state in
     subst (λ (x : StockState). NoneFlushed (store_state x).memory e.last.flushed) (sym c.deref.ensures)
     (none_flushed c.args.store.now s e c.args.frozen (option_map arc_value c.args.table) c.requires.may c.take_turn-stock.new.seat k.stands.0 k.stands.1 (λ fact there. k.goes.noted fact refl there) lent s.knows.held held (store_state c.install_flushed.new.self) c.install_flushed.ensures.memory
     (c.install_flushed.ensures.tables ∙ ap (λ (l : List (List Version)). sorted_of (joined l)) c.with_first-tables.ensures))
@@ -52,5 +52,5 @@ returns-clause-in_step g c =
     let s = c.args.seat.now in let h = c.requires.holds in let k = c.take_turn-stock.ensures.taken in let same = ap store_state c.deref.ensures in
     let lent = store_state c.deref_mut.result.now in let held = (holds_lent h k (ap store_state c.deref_mut.ensures.value)).held in let two = c.move_versions.ensures.goes lent s.knows.held held in
     put_in_step h k same two (c.give_turn.ensures s.knows.held s.turns (holds_changed h k same two)) c.move_versions.ensures.flushed c.move_versions.ensures.named
-    (ap (λ (x : StoreState). x.tables) same ∙ tables_named c.args.store.now s c.args.edits.now.table c.args.frozen (option_map arc_value c.args.table) c.requires.may c.take_turn-stock.new.seat k.stands.0 k.stands.1 (λ fact there. k.goes.noted fact refl there) lent s.knows.held held (store_state c.install_flushed.new.self) c.install_flushed.ensures.memory
+    (ap (λ (x : StoreState). x.tables) same ∙ tables_named c.args.store.now s c.args.edits.now.state c.args.frozen (option_map arc_value c.args.table) c.requires.may c.take_turn-stock.new.seat k.stands.0 k.stands.1 (λ fact there. k.goes.noted fact refl there) lent s.knows.held held (store_state c.install_flushed.new.self) c.install_flushed.ensures.memory
     (c.install_flushed.ensures.tables ∙ ap (λ (l : List (List Version)). sorted_of (joined l)) c.with_first-tables.ensures))

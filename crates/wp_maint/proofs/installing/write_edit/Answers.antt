@@ -3,7 +3,7 @@ use Rattle.std.proofs.lemmas.Result.{err_from_is_err_and}
 use Rattle.std.specs.Prelude.{IfSome}
 use Rattle.wp_model.specs.Flushed.{InstalledEdit}
 use Rattle.wp_core.specs.Effects.{with_failed}
-use Rattle.wp_core.specs.Tables.{Installed}
+use Rattle.wp_core.specs.States.{Installed}
 use Rattle.wp_parts.specs.VersionSet.{asked_for}
 use Rattle.wp_maint.specs.Installs.{next_of}
 use Rattle.wp_maint.proofs.installing.write_edit.Goals as goal
@@ -13,8 +13,8 @@ install-requires-clause-written g c = (c.args.edits.now, c.in_ok-table.ensures.w
 
 pub returns-in_err-table-clause-refused : goal.returns-in_err-table-clause-refused
 returns-in_err-table-clause-refused g c =
-    let p = err_from_is_err_and c.from_residual.result c.from_residual.ensures.1 in let e = c.args.edits.now.table in
-    let halted = c.in_err-table.ensures.refused in let none : c.write_table.new.self.table.failed ≡ None = ap (λ (t : Installed). t.failed) halted ∙ c.requires.edits.none_failed (c.requires.edits.running c.requires.running) in
+    let p = err_from_is_err_and c.from_residual.result c.from_residual.ensures.1 in let e = c.args.edits.now.state in
+    let halted = c.in_err-table.ensures.refused in let none : c.write_table.new.self.state.failed ≡ None = ap (λ (t : Installed). t.failed) halted ∙ c.requires.edits.none_failed (c.requires.edits.running c.requires.running) in
     rw p.1 (halted ∙ ap (with_failed e) (sym none), subst (λ (o : Option InstalledEdit). IfSome o (λ asked. asked ≡ next_of c.args.edit.edit.asked e.last)) (sym none) tt)
 
 pub returns-clause-installed : goal.returns-clause-installed

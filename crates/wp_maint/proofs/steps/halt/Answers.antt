@@ -21,8 +21,8 @@ remember_fault-requires-clause-held g c =
 pub remember_fault-requires-clause-covered : goal.remember_fault-requires-clause-covered
 remember_fault-requires-clause-covered g c =
     let h = c.requires.held in let k = c.find_edits.ensures h.0 (held_first c.args.seat.now h.0 h.1) in
-    subst (λ (s : SeatState). IfSome c.args.edits.now.table.failed (IsEditCovered s.knows.participant.seen)) (sym k.is) c.requires.covered
+    subst (λ (s : SeatState). IfSome c.args.edits.now.state.failed (IsEditCovered s.knows.participant.seen)) (sym k.is) c.requires.covered
 
 pub returns-clause-changes : goal.returns-clause-changes
 returns-clause-changes g c t held =
-    then_changes c.args.store.now c.args.seat.now c.find_edits.new.seat c.remember_fault.new.seat t (c.find_edits.ensures t (held_first c.args.seat.now t held)) c.args.edits.now.table (tables_failed c.args.edits.now.table.last c.args.edits.now.table.failed) _ c.remember_fault.ensures.goes
+    then_changes c.args.store.now c.args.seat.now c.find_edits.new.seat c.remember_fault.new.seat t (c.find_edits.ensures t (held_first c.args.seat.now t held)) c.args.edits.now.state (tables_failed c.args.edits.now.state.last c.args.edits.now.state.failed) _ c.remember_fault.ensures.goes

@@ -1,6 +1,6 @@
 use Rattle.std.proofs.Common.{List, ◌∷◌, subst}
-use Rattle.wp_core.specs.Tables.{Content}
-use Rattle.wp_core.specs.Tables as table
+use Rattle.wp_core.specs.States.{Content}
+use Rattle.wp_core.specs.States as table
 use Rattle.wp_shared.specs.Notes.{GoesOn}
 use Rattle.wp_parts.specs.Stock.{store_state}
 use Rattle.wp_maint.specs.Holding.{is_of_tables}
@@ -8,7 +8,7 @@ use Rattle.wp_maint.proofs.Made.{may_move, noted_moved, same_others, was_moved}
 use Rattle.wp_maint.proofs.steps.move_versions.Goals as goal
 
 pub make_about-requires-clause-may : goal.make_about-requires-clause-may
-make_about-requires-clause-may g c = let h = c.requires.held in may_move _ _ h.0 (store_state c.args.stock.now) c.args.edits.now.table h.1 h.3 h.2 h.4 h.5 c.requires.gone
+make_about-requires-clause-may g c = let h = c.requires.held in may_move _ _ h.0 (store_state c.args.stock.now) c.args.edits.now.state h.1 h.3 h.2 h.4 h.5 c.requires.gone
 
 pub returns : goal.returns
 returns g c =

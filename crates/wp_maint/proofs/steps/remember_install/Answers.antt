@@ -19,7 +19,7 @@ remember_flush-requires-clause-seat g c =
 
 pub remember_flush-requires-clause-held : goal.remember_flush-requires-clause-held
 remember_flush-requires-clause-held g c =
-    let h = c.requires.held in let k = c.find_edits.ensures h.0 (held_first c.args.seat.now h.0 h.1) in let u = c.find_edits.new.seat in let last = c.args.edits.now.table.last in
+    let h = c.requires.held in let k = c.find_edits.ensures h.0 (held_first c.args.seat.now h.0 h.1) in let u = c.find_edits.new.seat in let last = c.args.edits.now.state.last in
     (h.0, (held_still c.args.store.now c.args.seat.now u h.0 h.1 k).1, h.2, subst (λ (x : Gone). KnowsInstalled u.knows h.0 last (is_compaction x)) c.in-Frozen.is (knows_still c.args.store.now c.args.seat.now u h.0 k h.0 last (is_compaction c.args.gone) h.3))
 
 pub remember_compaction-requires-clause-seat : goal.remember_compaction-requires-clause-seat
@@ -29,7 +29,7 @@ remember_compaction-requires-clause-seat g c =
 
 pub remember_compaction-requires-clause-held : goal.remember_compaction-requires-clause-held
 remember_compaction-requires-clause-held g c =
-    let h = c.requires.held in let k = c.find_edits.ensures h.0 (held_first c.args.seat.now h.0 h.1) in let u = c.find_edits.new.seat in let last = c.args.edits.now.table.last in
+    let h = c.requires.held in let k = c.find_edits.ensures h.0 (held_first c.args.seat.now h.0 h.1) in let u = c.find_edits.new.seat in let last = c.args.edits.now.state.last in
     (h.0, (held_still c.args.store.now c.args.seat.now u h.0 h.1 k).1, h.2, subst (λ (x : Gone). KnowsInstalled u.knows h.0 last (is_compaction x)) c.in-Tables.is (knows_still c.args.store.now c.args.seat.now u h.0 k h.0 last (is_compaction c.args.gone) h.3))
 
 pub remember_compaction-requires-clause-gone : goal.remember_compaction-requires-clause-gone
@@ -39,7 +39,7 @@ remember_compaction-requires-clause-gone g c =
 
 pub returns-in-Frozen-clause-changes : goal.returns-in-Frozen-clause-changes
 returns-in-Frozen-clause-changes g c t held =
-    let left = c.args.edits.now.table in
+    let left = c.args.edits.now.state in
     subst (λ (x : Gone). Changes c.args.store.now c.args.seat.now t left (event.installed left.last (is_compaction x)) is_of_flushed c.remember_flush.new.seat) (sym c.in-Frozen.is)
     (then_changes c.args.store.now c.args.seat.now c.find_edits.new.seat c.remember_flush.new.seat t (c.find_edits.ensures t (held_first c.args.seat.now t held)) left (event.installed left.last false) _ c.remember_flush.ensures.goes)
 
@@ -48,6 +48,6 @@ returns-in-Frozen-clause-gone g c is = let none : false ≡ true = ap is_compact
 
 pub returns-in-Tables-clause-changes : goal.returns-in-Tables-clause-changes
 returns-in-Tables-clause-changes g c t held =
-    let left = c.args.edits.now.table in
+    let left = c.args.edits.now.state in
     subst (λ (x : Gone). Changes c.args.store.now c.args.seat.now t left (event.installed left.last (is_compaction x)) is_of_flushed c.remember_compaction.new.seat) (sym c.in-Tables.is)
     (then_changes c.args.store.now c.args.seat.now c.find_edits.new.seat c.remember_compaction.new.seat t (c.find_edits.ensures t (held_first c.args.seat.now t held)) left (event.installed left.last true) _ c.remember_compaction.ensures.goes)

@@ -1,6 +1,6 @@
 use Rattle.std.proofs.Common.{[], subst}
 use Rattle.wp_model.specs.LockState.{LockState}
-use Rattle.wp_core.specs.Tables.{locks}
+use Rattle.wp_core.specs.States.{locks}
 use Rattle.wp_shared.specs.Turns.{HoldsTurn}
 use Rattle.wp_shared.proofs.Onward.{holds_alone}
 use Rattle.wp_open_txns.proofs.GoesOn.{lent_as, heard_back}

@@ -3,7 +3,7 @@ use Rattle.std.specs.FinMap as finite
 use Rattle.wp_model.specs.declared.holder.Holder.{Holder}
 use Rattle.wp_locks.specs.Locks.{is_free_for}
 use Rattle.wp_core.specs.Lists.{IsIn}
-use Rattle.wp_core.specs.Tables.{locks}
+use Rattle.wp_core.specs.States.{locks}
 use Rattle.wp_shared.specs.Seats.{SeatState}
 use Rattle.wp_open_txns.proofs.GoesOn.{held_last}
 use Rattle.wp_open_txns.proofs.changes.lock.Goals as goal

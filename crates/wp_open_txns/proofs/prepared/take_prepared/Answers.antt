@@ -3,7 +3,7 @@ use Rattle.std.proofs.lemmas.Result.{err_from_is_err_and}
 use Rattle.std.specs.Prelude.{ℕ, Option, Result}
 use Rattle.wp_model.specs.declared.change.Change.{Change}
 use Rattle.wp_model.specs.declared.entry.Entry.{Entry}
-use Rattle.wp_core.specs.Tables.{writes}
+use Rattle.wp_core.specs.States.{writes}
 use Rattle.wp_parts.specs.Log.{LogState}
 use Rattle.wp_shared.proofs.Onward.{continues_none, holds_alone, holds_two, holds_next}
 use Rattle.wp_open_txns.specs.declared.error.TxnError.{TxnError}
@@ -24,16 +24,16 @@ pub returns-in_default : goal.returns-in_default
 returns-in_default g c = gave_at_once c.args.store.now c.args.seat.now _ _ c.take_turn-log.ensures.taken _ (c.give_turn.ensures [] [] (holds_alone c.requires c.take_turn-log.ensures.taken))
 
 pub take_under-outcome-requires-clause-seat : goal.take_under-outcome-requires-clause-seat
-take_under-outcome-requires-clause-seat g c = let d = c.take_turn-log.result.value.table in
+take_under-outcome-requires-clause-seat g c = let d = c.take_turn-log.result.value.state in
     (writes d ∷ [], 0 ∷ [], holds_two (holds_alone c.requires c.take_turn-log.ensures.taken) (lent_as c.deref_mut.ensures.value c.take_turn-tables.ensures.taken))
 
 pub give_turn-requires-2-clause-holds : goal.give_turn-requires-2-clause-holds
-give_turn-requires-2-clause-holds g c = let d = c.take_turn-log.result.value.table in
+give_turn-requires-2-clause-holds g c = let d = c.take_turn-log.result.value.state in
     (writes d ∷ [], 0 ∷ [], c.take_under-outcome.ensures.holds (writes d ∷ []) (0 ∷ []) (holds_two (holds_alone c.requires c.take_turn-log.ensures.taken) (lent_as c.deref_mut.ensures.value c.take_turn-tables.ensures.taken)))
 
 pub give_turn-requires-3-clause-holds : goal.give_turn-requires-3-clause-holds
 give_turn-requires-3-clause-holds g c =
-    let d = c.take_turn-log.result.value.table in
+    let d = c.take_turn-log.result.value.state in
     let held = c.take_under-outcome.ensures.holds (writes d ∷ []) (0 ∷ []) (holds_two (holds_alone c.requires c.take_turn-log.ensures.taken) (lent_as c.deref_mut.ensures.value c.take_turn-tables.ensures.taken)) in
     ([], [], holds_next held (c.give_turn-2.ensures (writes d ∷ []) (0 ∷ []) held).goes)
 
@@ -42,7 +42,7 @@ give_turn-requires-3-clause-knows g c = c.take_turn-log.ensures.taken.knows.0
 
 pub returns-in_err-outcome : goal.returns-in_err-outcome
 returns-in_err-outcome g c =
-    let z = c.args.store.now in let d = c.take_turn-log.result.value.table in let k = c.take_turn-log.ensures.taken in let k2 = lent_as c.deref_mut.ensures.value c.take_turn-tables.ensures.taken in
+    let z = c.args.store.now in let d = c.take_turn-log.result.value.state in let k = c.take_turn-log.ensures.taken in let k2 = lent_as c.deref_mut.ensures.value c.take_turn-tables.ensures.taken in
     let held = c.take_under-outcome.ensures.holds (writes d ∷ []) (0 ∷ []) (holds_two (holds_alone c.requires k) k2) in
     let gave = c.give_turn-2.ensures (writes d ∷ []) (0 ∷ []) held in
     let p = err_from_is_err_and c.from_residual-in_err-outcome.result c.from_residual-in_err-outcome.ensures.1 in
@@ -51,19 +51,19 @@ returns-in_err-outcome g c =
 
 pub unreachable-requires : goal.unreachable-requires
 unreachable-requires g c =
-    let name = c.args.name.now in let z = c.args.store.now in let d = c.take_turn-log.result.value.table in let k = c.take_turn-log.ensures.taken in let k2 = lent_as c.deref_mut.ensures.value c.take_turn-tables.ensures.taken in
+    let name = c.args.name.now in let z = c.args.store.now in let d = c.take_turn-log.result.value.state in let k = c.take_turn-log.ensures.taken in let k2 = lent_as c.deref_mut.ensures.value c.take_turn-tables.ensures.taken in
     let held = c.take_under-outcome.ensures.holds (writes d ∷ []) (0 ∷ []) (holds_two (holds_alone c.requires k) k2) in
     let gave = c.give_turn-2.ensures (writes d ∷ []) (0 ∷ []) held in
-    let found : IsPrepareOf d.history name c.in-Ok.prepare = subst (λ (entries : List Entry). IsPrepareOf entries name c.in-Ok.prepare) (c.history.ensures ∙ ap (λ (x : LogState). x.table.history) c.deref.ensures) (c.in-Ok.ensures {u = tt}) in
+    let found : IsPrepareOf d.history name c.in-Ok.prepare = subst (λ (entries : List Entry). IsPrepareOf entries name c.in-Ok.prepare) (c.history.ensures ∙ ap (λ (x : LogState). x.state.history) c.deref.ensures) (c.in-Ok.ensures {u = tt}) in
     not_none z c.args.seat.now d _ k _ _ k2 _ _ _ gave (c.give_turn-3.ensures [] [] (holds_next held gave.goes)) name (c.in_ok-outcome.ensures {u = tt}).answered.2
     (subst (λ (o : Option (ℕ × List Change)). IsPrepareOf d.history name o) c.in_default-prepare.is found)
 
 pub returns : goal.returns
 returns g c =
-    let name = c.args.name.now in let z = c.args.store.now in let d = c.take_turn-log.result.value.table in let k = c.take_turn-log.ensures.taken in let k2 = lent_as c.deref_mut.ensures.value c.take_turn-tables.ensures.taken in
+    let name = c.args.name.now in let z = c.args.store.now in let d = c.take_turn-log.result.value.state in let k = c.take_turn-log.ensures.taken in let k2 = lent_as c.deref_mut.ensures.value c.take_turn-tables.ensures.taken in
     let held = c.take_under-outcome.ensures.holds (writes d ∷ []) (0 ∷ []) (holds_two (holds_alone c.requires k) k2) in
     let gave = c.give_turn-2.ensures (writes d ∷ []) (0 ∷ []) held in
-    let found : IsPrepareOf d.history name c.in-Ok.prepare = subst (λ (entries : List Entry). IsPrepareOf entries name c.in-Ok.prepare) (c.history.ensures ∙ ap (λ (x : LogState). x.table.history) c.deref.ensures) (c.in-Ok.ensures {u = tt}) in
+    let found : IsPrepareOf d.history name c.in-Ok.prepare = subst (λ (entries : List Entry). IsPrepareOf entries name c.in-Ok.prepare) (c.history.ensures ∙ ap (λ (x : LogState). x.state.history) c.deref.ensures) (c.in-Ok.ensures {u = tt}) in
     let t = takes z c.args.seat.now d _ k _ _ k2 _ _ _ gave (c.give_turn-3.ensures [] [] (holds_next held gave.goes)) name (c.in_ok-outcome.ensures {u = tt}).answered.2 c.in-Some.number c.in-Some.batch (c.in_ok-outcome.ensures {u = tt}).answered.1
     (subst (λ (o : Option (ℕ × List Change)). IsPrepareOf d.history name o) c.in-Some.is found) in
     let under : List ℕ → PreparedState = λ n. record { name = n; number = c.in-Some.number; batch = c.in-Some.batch } in

@@ -8,9 +8,9 @@ use Rattle.wp_locks.specs.Locks.{RefusesTake}
 use Rattle.wp_locks.specs.declared.error.LockError.{LockError}
 use Rattle.wp_core.specs.Changes.{with_name}
 use Rattle.wp_core.specs.Lists.{IsIn}
-use Rattle.wp_core.specs.Tables.{WriteState, writes, locks}
+use Rattle.wp_core.specs.States.{WriteState, writes, locks}
 use Rattle.wp_core.specs.World.{Actor}
-use Rattle.wp_shared.proofs.Tables.{held_table}
+use Rattle.wp_shared.proofs.Tables.{held_state}
 use Rattle.wp_shared.proofs.OneStep.{becomes}
 use Rattle.wp_open_txns.specs.Actors.{with_found, with_taken}
 use Rattle.wp_shared.specs.Notes.{seat_of}
@@ -37,7 +37,7 @@ returns-in-Unknown-clause-answered g c =
         ap (λ (h : List Entry). named h c.args.name.now) (sym seen.stands.seen) ∙ not_named _ new.knows seen.stands.world t c.args.name.now seen.stands.there held none,
         seen.seen.1,
         becomes c.args.seat.now new _ seen.same seen.rest,
-        λ d there. sym seen.stands.seen ∙ ap (λ (x : WriteState). x.history) (held_table _ new.knows seen.stands.world (writes d) seen.stands.there (subst (λ (a : Actor). IsIn (writes d) a.held) (sym seen.rest) there)),
+        λ d there. sym seen.stands.seen ∙ ap (λ (x : WriteState). x.history) (held_state _ new.knows seen.stands.world (writes d) seen.stands.there (subst (λ (a : Actor). IsIn (writes d) a.held) (sym seen.rest) there)),
       ),
     )
 

@@ -4,7 +4,7 @@ use Rattle.wp_model.specs.History.{value_at}
 use Rattle.wp_model.specs.Snapshots.{Snapshots, after_register}
 use Rattle.wp_core.specs.Changes.{with_registered}
 use Rattle.wp_core.specs.Lists.{IsIn}
-use Rattle.wp_core.specs.Tables.{snapshots}
+use Rattle.wp_core.specs.States.{snapshots}
 use Rattle.wp_shared.specs.Turns.{HoldsTurn}
 use Rattle.wp_read.proofs.AtOnce.{reading_holds, reading_at, registered_goes, registered_holds, registered_in, begun_registered, back_holds, back_goes, back_read, begun_read}
 use Rattle.wp_read.proofs.Registers.{changes_placed}

@@ -7,7 +7,7 @@ use Rattle.wp_core.specs.Changes.{held_without}
 use Rattle.wp_core.specs.Lists.{IsIn}
 use Rattle.wp_core.specs.Sound.Reader.{IsRight}
 use Rattle.wp_core.specs.Sound.Snapshots.{has_versions_at}
-use Rattle.wp_core.specs.Tables.{Content}
+use Rattle.wp_core.specs.States.{Content}
 use Rattle.wp_core.specs.Turns.{store_turn}
 use Rattle.wp_core.specs.World.{Participant}
 use Rattle.wp_core.proofs.HistoryLaws.{is_equal}

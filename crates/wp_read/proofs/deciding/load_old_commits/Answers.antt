@@ -1,5 +1,5 @@
 use Rattle.std.proofs.Common.{[]}
-use Rattle.wp_core.specs.Tables.{snapshots}
+use Rattle.wp_core.specs.States.{snapshots}
 use Rattle.wp_core.specs.Views.{old_flag_stays}
 use Rattle.wp_shared.proofs.Tables.{knows_to_give}
 use Rattle.wp_read.proofs.Seated.{holds_looked, noted_looked, loads_between, keeps_between}

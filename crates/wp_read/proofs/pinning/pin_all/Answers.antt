@@ -2,7 +2,7 @@ use Rattle.std.proofs.Common.{◌≡◌, List, [], ◌∷◌, length, refl, ap, 
 use Rattle.std.proofs.lemmas.Result.{IfOk-weaker}
 use Rattle.wp_model.specs.declared.entry.Entry.{Entry}
 use Rattle.wp_core.specs.Lists.{IsIn}
-use Rattle.wp_core.specs.Tables.{prepared}
+use Rattle.wp_core.specs.States.{prepared}
 use Rattle.wp_core.specs.Views.{live_listed}
 use Rattle.wp_read.specs.declared.registration.Pinned.{Pinned}
 use Rattle.wp_read.specs.Registers.{numbers_of, IsPinned, registered_by}

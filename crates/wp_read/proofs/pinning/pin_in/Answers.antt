@@ -5,7 +5,7 @@ use Rattle.wp_model.specs.Snapshots.{Snapshots, NoOldCommits}
 use Rattle.wp_core.specs.Changes.{with_released}
 use Rattle.wp_core.specs.Lists.{IsIn}
 use Rattle.wp_core.specs.Reading.{Registration}
-use Rattle.wp_core.specs.Tables.{prepared, snapshots}
+use Rattle.wp_core.specs.States.{prepared, snapshots}
 use Rattle.wp_core.specs.World.{Participant}
 use Rattle.wp_shared.specs.Turns.{HoldsTurn}
 use Rattle.wp_read.specs.Registers.{AreCounted, AreLive, IsPinned, MayPin}

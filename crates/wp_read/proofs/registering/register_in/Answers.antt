@@ -2,7 +2,7 @@ use Rattle.std.proofs.Common.{inl, refl, sym, subst, ap, ◌∙◌}
 use Rattle.wp_core.specs.Changes.{with_registered}
 use Rattle.wp_core.specs.Lists.{IsIn}
 use Rattle.wp_core.specs.Reading.{Registration}
-use Rattle.wp_core.specs.Tables.{snapshots}
+use Rattle.wp_core.specs.States.{snapshots}
 use Rattle.wp_core.specs.World.{Participant}
 use Rattle.wp_read.specs.Registers.{registration_of}
 use Rattle.wp_read.proofs.Seated.{changed_so, changed, number_seen, smallest_is, was_taken, changed_back, kept_before}

@@ -1,6 +1,6 @@
 use Rattle.std.proofs.Common.{◌≡◌, [], ◌∷◌, ◌++◌, sym, subst}
 use Rattle.wp_model.specs.Snapshots.{Snapshots, NoOldCommits}
-use Rattle.wp_core.specs.Tables.{snapshots}
+use Rattle.wp_core.specs.States.{snapshots}
 use Rattle.wp_core.specs.Views.{old_flag_stays}
 use Rattle.wp_shared.specs.Seats.{SeatState}
 use Rattle.wp_shared.specs.Turns.{HoldsTurn}

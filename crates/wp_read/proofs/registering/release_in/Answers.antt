@@ -1,6 +1,6 @@
 use Rattle.std.proofs.Common.{inl, refl, sym, subst}
 use Rattle.wp_core.specs.Lists.{IsIn}
-use Rattle.wp_core.specs.Tables.{snapshots}
+use Rattle.wp_core.specs.States.{snapshots}
 use Rattle.wp_read.specs.Registers.{before_last, behind_last}
 use Rattle.wp_read.proofs.Registers.{none_behind, split_last}
 use Rattle.wp_read.proofs.Seated.{released_one}

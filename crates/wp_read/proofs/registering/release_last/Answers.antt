@@ -1,7 +1,7 @@
 use Rattle.std.proofs.Common.{List, [], inl, refl, sym, subst, append-nil}
 use Rattle.wp_core.specs.Lists.{IsIn}
 use Rattle.wp_core.specs.Reading.{Registration}
-use Rattle.wp_core.specs.Tables.{snapshots}
+use Rattle.wp_core.specs.States.{snapshots}
 use Rattle.wp_read.specs.Registers.{ChangesSnapshots}
 use Rattle.wp_read.proofs.Seated.{released_one}
 use Rattle.wp_read.proofs.registering.release_last.Goals as goal

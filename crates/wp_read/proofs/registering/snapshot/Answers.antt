@@ -3,7 +3,7 @@ use Rattle.std.proofs.lemmas.Result.{IfOk-weaker}
 use Rattle.wp_model.specs.declared.entry.Entry.{Entry}
 use Rattle.wp_core.specs.Lists.{IsIn}
 use Rattle.wp_core.specs.Reading.{Registration}
-use Rattle.wp_core.specs.Tables.{prepared}
+use Rattle.wp_core.specs.States.{prepared}
 use Rattle.wp_read.specs.Registers.{IsTakenWithLeast, registered_by}
 use Rattle.wp_read.proofs.Seated.{took_both, holds_both, holds_changed, gives_snaps, holds_left, gives_tables, seen_both, continues_both}
 use Rattle.wp_read.proofs.Taking.{registered_blind, taken_ok, refused_err, least_since}

@@ -1,5 +1,5 @@
 use Rattle.std.proofs.Common.{◌∷◌, sym, subst, ap, ◌∙◌}
-use Rattle.wp_core.specs.Tables.{store}
+use Rattle.wp_core.specs.States.{store}
 use Rattle.wp_core.specs.Turns.{store_turn}
 use Rattle.wp_parts.specs.Stock.{store_state}
 use Rattle.wp_shared.specs.Notes.{no_fact, is_under, GoesOn}

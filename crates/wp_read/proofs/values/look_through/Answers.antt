@@ -4,7 +4,7 @@ use Rattle.wp_model.specs.declared.version.Version.{Version}
 use Rattle.wp_model.specs.Decision.{IsCommittedAt}
 use Rattle.wp_core.specs.Lists.{IsIn}
 use Rattle.wp_core.specs.Sound.Snapshots.{has_versions_at}
-use Rattle.wp_core.specs.Tables.{Content}
+use Rattle.wp_core.specs.States.{Content}
 use Rattle.wp_core.specs.World.{Participant}
 use Rattle.wp_core.specs.Changes.{held_without}
 use Rattle.wp_core.specs.Turns.{store_turn}

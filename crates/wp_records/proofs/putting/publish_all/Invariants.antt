@@ -8,12 +8,12 @@ use Rattle.wp_records.proofs.putting.publish_all.Given as goal
 abbrev pub invariant-loop-seat : goal.invariant-loop-seat
 invariant-loop-seat g l = record {
   holds : HoldsPending l.store l.seat l.log;
-  may : MayJoin l.seat.knows l.store.cells l.log.table;
-  behind : AreBehind l.log.table.pending;
-  running : l.log.table.closed ≡ false;
+  may : MayJoin l.seat.knows l.store.cells l.log.state;
+  behind : AreBehind l.log.state.pending;
+  running : l.log.state.closed ≡ false;
   learned : l.seat.knows.learned ≡ [];
-  puts : (new : SeatState) (left : LogState) → IsPutWith l.store l.seat l.log [] l.log.table.pending new left → IsPutWith l.store l.fn.seat l.fn.log [] l.fn.log.table.pending new left;
+  puts : (new : SeatState) (left : LogState) → IsPutWith l.store l.seat l.log [] l.log.state.pending new left → IsPutWith l.store l.fn.seat l.fn.log [] l.fn.log.state.pending new left;
 }
 
 abbrev pub decreases-loop-seat : goal.decreases-loop-seat
-decreases-loop-seat g l = length l.log.table.pending
+decreases-loop-seat g l = length l.log.state.pending

@@ -3,7 +3,7 @@ use Rattle.std.specs.Prelude.{Result, Err}
 use Rattle.std.proofs.lemmas.Result.{err_from_is_err_and}
 use Rattle.wp_model.specs.declared.entry.Entry.{Entry}
 use Rattle.wp_wal.specs.Wal.{WalState}
-use Rattle.wp_core.specs.Tables.{WriteState}
+use Rattle.wp_core.specs.States.{WriteState}
 use Rattle.wp_core.specs.Views.{pair_not_delayed}
 use Rattle.wp_rule.specs.Knows.{Noted}
 use Rattle.wp_parts.specs.Log.{LogState}
@@ -38,21 +38,21 @@ pub publish_all-requires-clause-may : goal.publish_all-requires-clause-may
 publish_all-requires-clause-may g c =
     let s = c.args.seat.now in let t = c.shows_world.new.seat in let log = c.args.log.now in let back = sym c.shows_world.ensures.same in let cells = c.args.store.now.cells in
     let seat = subst (λ (x : SeatState). GoesOn is_guarded s.knows.held s.turns s x) back c.ready.ensures.seat in
-    (logged_join c.args.store.now t c.append.new.seat log c.append.new.log cells c.requires.one (may_still s.knows t.knows log.table.history log.table.pending (ap (λ (x : SeatState). x.knows.participant) seat.same) c.requires.may) c.requires.apart
-    (subst (λ (x : SeatState). IsReadied x.knows cells log.table) back c.in-Ok.ensures.ok) (c.in_ok-append.ensures {u = tt})).0
+    (logged_join c.args.store.now t c.append.new.seat log c.append.new.log cells c.requires.one (may_still s.knows t.knows log.state.history log.state.pending (ap (λ (x : SeatState). x.knows.participant) seat.same) c.requires.may) c.requires.apart
+    (subst (λ (x : SeatState). IsReadied x.knows cells log.state) back c.in-Ok.ensures.ok) (c.in_ok-append.ensures {u = tt})).0
 
 pub publish_all-requires-clause-versions : goal.publish_all-requires-clause-versions
 publish_all-requires-clause-versions g c =
     let s = c.args.seat.now in let t = c.shows_world.new.seat in let log = c.args.log.now in let back = sym c.shows_world.ensures.same in let cells = c.args.store.now.cells in
     let seat = subst (λ (x : SeatState). GoesOn is_guarded s.knows.held s.turns s x) back c.ready.ensures.seat in
-    (logged_join c.args.store.now t c.append.new.seat log c.append.new.log cells c.requires.one (may_still s.knows t.knows log.table.history log.table.pending (ap (λ (x : SeatState). x.knows.participant) seat.same) c.requires.may) c.requires.apart
-    (subst (λ (x : SeatState). IsReadied x.knows cells log.table) back c.in-Ok.ensures.ok) (c.in_ok-append.ensures {u = tt})).1
+    (logged_join c.args.store.now t c.append.new.seat log c.append.new.log cells c.requires.one (may_still s.knows t.knows log.state.history log.state.pending (ap (λ (x : SeatState). x.knows.participant) seat.same) c.requires.may) c.requires.apart
+    (subst (λ (x : SeatState). IsReadied x.knows cells log.state) back c.in-Ok.ensures.ok) (c.in_ok-append.ensures {u = tt})).1
 
 pub returns : goal.returns
 returns g c =
     let z = c.args.store.now in let s = c.args.seat.now in let r = c.ready.new.seat in let t = c.shows_world.new.seat in let log = c.args.log.now in let same = c.shows_world.ensures.same in
     put_logged z s t c.append.new.seat c.publish_all.new.seat log c.append.new.log c.publish_all.new.log (subst (λ (x : SeatState). GoesOn is_guarded s.knows.held s.turns s x) (sym same) c.ready.ensures.seat)
-    (subst (λ (x : SeatState). RisesFor z.cells (length log.table.history) s.knows x.knows (ways_of z.cells (suc (length log.table.history)) log.table.pending)) (sym same) c.in-Ok.ensures.bound)
+    (subst (λ (x : SeatState). RisesFor z.cells (length log.state.history) s.knows x.knows (ways_of z.cells (suc (length log.state.history)) log.state.pending)) (sym same) c.in-Ok.ensures.bound)
     (λ any. ready_cleared z s r t log c.ready.ensures.seat c.ready.ensures.holds same c.shows_world.ensures.stands c.in-Ok.ensures.bound (c.in-Ok.ensures.waits any)) (c.in_ok-append.ensures {u = tt}) c.publish_all.ensures
 
 pub take_back-requires : goal.take_back-requires
@@ -63,14 +63,14 @@ returns-in_default g c =
     let z = c.args.store.now in let s = c.args.seat.now in let t = c.ready.new.seat in let u = c.take_back.new.seat in let log = c.args.log.now in let left = c.take_back.new.log in let back = c.take_back.ensures in let r = c.in_default.ensures.refused in
     let wal = ap (λ (x : LogState). x.wal) back.log in
     not_ready z s t u log left c.ready.ensures.seat r.0 r.3 r.1 r.2 Memory refl
-    (not_put z t u log left back.holds _ _ back.seat (ap (λ (x : LogState). x.table.history) back.log) (ap (λ (x : LogState). x.table.closed) back.log ∙ c.requires.unlogged.running))
+    (not_put z t u log left back.holds _ _ back.seat (ap (λ (x : LogState). x.state.history) back.log) (ap (λ (x : LogState). x.state.closed) back.log ∙ c.requires.unlogged.running))
     (wal ∙ ap (λ (w : WalState). record log.wal { reserved = w.reserved }) (sym wal))
 
 pub returns-in_err-append : goal.returns-in_err-append
 returns-in_err-append g c =
     let z = c.args.store.now in let s = c.args.seat.now in let t = c.shows_world.new.seat in let log = c.args.log.now in let back = sym c.shows_world.ensures.same in
-    let ways = ways_of z.cells (suc (length log.table.history)) log.table.pending in
+    let ways = ways_of z.cells (suc (length log.state.history)) log.state.pending in
     let p = err_from_is_err_and c.from_residual.result c.from_residual.ensures.1 in
-    subst (λ (r : Result (Unit {0}) WriteError). Puts z s log log.table.pending r c.append.new.seat c.append.new.log) (sym (p.1 ∙ ap Err p.2))
+    subst (λ (r : Result (Unit {0}) WriteError). Puts z s log log.state.pending r c.append.new.seat c.append.new.log) (sym (p.1 ∙ ap Err p.2))
     (not_logged z s t c.append.new.seat log c.append.new.log (subst (λ (x : SeatState). GoesOn is_guarded s.knows.held s.turns s x) back c.ready.ensures.seat) ways
-    (subst (λ (x : SeatState). RisesFor z.cells (length log.table.history) s.knows x.knows ways) back c.in-Ok.ensures.bound) refl _ c.in_err-append.ensures)
+    (subst (λ (x : SeatState). RisesFor z.cells (length log.state.history) s.knows x.knows ways) back c.in-Ok.ensures.bound) refl _ c.in_err-append.ensures)

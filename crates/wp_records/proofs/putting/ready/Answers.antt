@@ -18,7 +18,7 @@ pub clear_all-requires-clause-words : goal.clear_all-requires-clause-words
 clear_all-requires-clause-words g c = let w = c.requires.holds.words in (w.bound, w.words, w.noted)
 
 pub clear_all-requires-clause-unentered : goal.clear_all-requires-clause-unentered
-clear_all-requires-clause-unentered g c = unentered c.args.seat.now.knows c.args.store.now.cells c.args.log.now.table c.requires.holds.words
+clear_all-requires-clause-unentered g c = unentered c.args.seat.now.knows c.args.store.now.cells c.args.log.now.state c.requires.holds.words
 
 pub returns-in_err-clear_all-clause-holds : goal.returns-in_err-clear_all-clause-holds
 returns-in_err-clear_all-clause-holds g c =
@@ -49,7 +49,7 @@ returns-clause-seat g c =
 
 pub returns-clause-ok : goal.returns-clause-ok
 returns-clause-ok g c =
-    let t = c.clear_all.new.seat in let u = c.put_versions.new.seat in let v = c.put_number.new.seat in let d = c.args.log.now.table in let cells = c.args.store.now.cells in
+    let t = c.clear_all.new.seat in let u = c.put_versions.new.seat in let v = c.put_number.new.seat in let d = c.args.log.now.state in let cells = c.args.store.now.cells in
     let one = keeps_ready is_of_versions t u _ _ (λ place pair. (refl, refl, refl)) c.put_versions.ensures.seat (λ bound words there. (bound, c.put_versions.ensures.seat.noted (words_stay bound words) refl there, omega arith)) in
     let two = keeps_ready is_of_number u v _ _ (λ place pair. (refl, refl, refl)) c.put_number.ensures.seat (λ bound words there. (bound, c.put_number.ensures.seat.noted (words_stay bound words) refl there, omega arith)) in
     let ways = ways_of c.args.store.now.cells (suc (length d.history)) d.pending in let n = length d.history in
@@ -68,19 +68,19 @@ returns-in_err-clear_all-clause-refused g c =
 
 pub returns-in_err-put_versions-clause-refused : goal.returns-in_err-put_versions-clause-refused
 returns-in_err-put_versions-clause-refused g c =
-    let d = c.args.log.now.table in let ways = ways_of c.args.store.now.cells (suc (length d.history)) d.pending in
+    let d = c.args.log.now.state in let ways = ways_of c.args.store.now.cells (suc (length d.history)) d.pending in
     err_any c.from_residual-in_err-put_versions.result _ (ways, [], sym (append-nil ways), λ bound words there. c.put_versions.ensures.seat.noted (words_stay _ words) refl (c.in_ok-clear_all.ensures.bound bound words there))
 
 pub returns-clause-bound : goal.returns-clause-bound
 returns-clause-bound g c =
-    let d = c.args.log.now.table in
+    let d = c.args.log.now.state in
     on_ok c.put_number.result _ (RisesFor c.args.store.now.cells (length d.history) c.args.seat.now.knows c.put_number.new.seat.knows (ways_of c.args.store.now.cells (suc (length d.history)) d.pending))
     (λ number bound words there. c.put_number.ensures.seat.noted (words_stay _ words) refl (c.put_versions.ensures.seat.noted (words_stay _ words) refl (c.in_ok-clear_all.ensures.bound bound words there)))
     c.put_number.ensures.ok
 
 pub returns-clause-refused : goal.returns-clause-refused
 returns-clause-refused g c =
-    let d = c.args.log.now.table in let ways = ways_of c.args.store.now.cells (suc (length d.history)) d.pending in
+    let d = c.args.log.now.state in let ways = ways_of c.args.store.now.cells (suc (length d.history)) d.pending in
     err_any c.put_number.result _
     (ways, [], sym (append-nil ways), λ bound words there. c.put_number.ensures.seat.noted (words_stay _ words) refl (c.put_versions.ensures.seat.noted (words_stay _ words) refl (c.in_ok-clear_all.ensures.bound bound words there)))
 
@@ -97,7 +97,7 @@ returns-clause-undelayed g c = c.put_number.ensures.seat.noted pair_not_delayed 
 -- nor does a number wait by them
 pub returns-clause-waits : goal.returns-clause-waits
 returns-clause-waits g c =
-    let d = c.args.log.now.table in
+    let d = c.args.log.now.state in
     on_ok c.put_number.result _ (AnyClears (ways_of c.args.store.now.cells (suc (length d.history)) d.pending) → Noted c.put_number.new.seat.knows none_waits)
     (λ number any. c.put_number.ensures.seat.noted none_waits refl (c.put_versions.ensures.seat.noted none_waits refl (c.in_ok-clear_all.ensures.waits any)))
     c.put_number.ensures.ok

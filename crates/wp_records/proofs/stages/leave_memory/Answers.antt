@@ -1,5 +1,5 @@
 use Rattle.std.proofs.Common.{List, [], ◌∷◌, refl, sym, subst, ap, ◌∙◌}
-use Rattle.wp_core.specs.Tables.{Content, writes, store}
+use Rattle.wp_core.specs.States.{Content, writes, store}
 use Rattle.wp_core.specs.Turns.{store_turn}
 use Rattle.wp_core.specs.Views.{versions_nowhere}
 use Rattle.wp_shared.specs.Notes.{GoesOn}
@@ -17,15 +17,15 @@ pub remove_versions-requires-clause-seat : goal.remove_versions-requires-clause-
 remove_versions-requires-clause-seat g c = c.take_turn-stock.ensures.taken.holds.same_table
 
 pub remove_versions-requires-clause-held : goal.remove_versions-requires-clause-held
-remove_versions-requires-clause-held g c = let z = c.args.store.now in let s = c.args.seat.now in let d = c.args.log.now.table in let t = c.take_turn-stock in
+remove_versions-requires-clause-held g c = let z = c.args.store.now in let s = c.args.seat.now in let d = c.args.log.now.state in let t = c.take_turn-stock in
     held_taken z s t.new.seat s (store (store_state t.result.value)) (store (store_state t.result.value)) (writes d ∷ []) c.requires.holds.turn.held t.ensures.taken ∙ ap (λ x. store (store_state x) ∷ writes d ∷ []) (sym c.deref_mut.ensures.value)
 
 pub give_turn-requires-clause-holds : goal.give_turn-requires-clause-holds
-give_turn-requires-clause-holds g c = let z = c.args.store.now in let s = c.args.seat.now in let d = c.args.log.now.table in let t = c.take_turn-stock in let u = c.remove_versions in
+give_turn-requires-clause-holds g c = let z = c.args.store.now in let s = c.args.seat.now in let d = c.args.log.now.state in let t = c.take_turn-stock in let u = c.remove_versions in
     (writes d ∷ [], s.turns, holds_still z s t.new.seat u.new.seat (store (store_state t.result.value)) (store (store_state u.new.stock)) (writes d ∷ []) c.requires.holds.turn.held t.ensures.taken is_of_versions _ u.ensures.seat refl)
 
 pub returns : goal.returns
-returns g c = let z = c.args.store.now in let s = c.args.seat.now in let d = c.args.log.now.table in let t = c.take_turn-stock in let u = c.remove_versions in let v = c.give_turn.new.seat in
+returns g c = let z = c.args.store.now in let s = c.args.seat.now in let d = c.args.log.now.state in let t = c.take_turn-stock in let u = c.remove_versions in let v = c.give_turn.new.seat in
     let before = store (store_state t.result.value) in let now = store (store_state u.new.stock) in
     let holds = holds_still z s t.new.seat u.new.seat before now (writes d ∷ []) c.requires.holds.turn.held t.ensures.taken is_of_versions _ u.ensures.seat refl in
     let gave = (c.give_turn.ensures (writes d ∷ []) s.turns holds).goes in

@@ -5,4 +5,4 @@ use Rattle.wp_shared.specs.Seats.{place_at}
 use Rattle.wp_records.proofs.stages.make_pending.Given as goal
 
 abbrev pub ghosts-make_about : goal.ghosts-make_about
-ghosts-make_about g a = record { place = place_at a.self.now a.seat.now.by; steps = λ w. make_pending a.about.now.table.pending ∷ note versions_nowhere ∷ note number_not_in_heap ∷ note pair_not_delayed ∷ [] }
+ghosts-make_about g a = record { place = place_at a.self.now a.seat.now.by; steps = λ w. make_pending a.about.now.state.pending ∷ note versions_nowhere ∷ note number_not_in_heap ∷ note pair_not_delayed ∷ [] }

@@ -1,7 +1,7 @@
 use Rattle.std.proofs.Common.{◌≡◌, true, true≢false, List, [], ◌∷◌, refl, sym, subst, ap, ◌∙◌}
 use Rattle.wp_model.specs.History.{is_prepare}
 use Rattle.wp_core.specs.Entries.{next_of}
-use Rattle.wp_core.specs.Tables.{Content, writes, prepared}
+use Rattle.wp_core.specs.States.{Content, writes, prepared}
 use Rattle.wp_core.specs.Turns.{prepared_turn}
 use Rattle.wp_core.specs.Views.{number_in_heap, number_not_in_heap}
 use Rattle.wp_rule.specs.Knows.{Noted}
@@ -35,20 +35,20 @@ pub insert_number-result-requires-clause-below : goal.insert_number-result-requi
 insert_number-result-requires-clause-below g c = c.take_turn-tables.ensures.taken.goes.noted number_not_in_heap refl c.requires.below
 
 pub insert_number-result-requires-clause-held : goal.insert_number-result-requires-clause-held
-insert_number-result-requires-clause-held g c = let z = c.args.store.now in let s = c.args.seat.now in let d = c.args.log.now.table in let t = c.take_turn-tables in held_taken z s t.new.seat s (prepared t.result.value) (prepared t.result.value) (writes d ∷ []) c.requires.holds.turn.held t.ensures.taken ∙ ap (λ x. prepared x ∷ writes d ∷ []) (sym c.deref_mut.ensures.value)
+insert_number-result-requires-clause-held g c = let z = c.args.store.now in let s = c.args.seat.now in let d = c.args.log.now.state in let t = c.take_turn-tables in held_taken z s t.new.seat s (prepared t.result.value) (prepared t.result.value) (writes d ∷ []) c.requires.holds.turn.held t.ensures.taken ∙ ap (λ x. prepared x ∷ writes d ∷ []) (sym c.deref_mut.ensures.value)
 
 pub insert_number-result-requires-clause-flag : goal.insert_number-result-requires-clause-flag
 insert_number-result-requires-clause-flag g c = let t = c.take_turn-tables in subst (DelayedFlagTells t.new.seat.knows) (sym c.deref_mut.ensures.value) t.ensures.taken.knows
 
 pub give_turn-requires-clause-holds : goal.give_turn-requires-clause-holds
-give_turn-requires-clause-holds g c = let z = c.args.store.now in let s = c.args.seat.now in let d = c.args.log.now.table in let t = c.take_turn-tables in let u = c.insert_number-result in
+give_turn-requires-clause-holds g c = let z = c.args.store.now in let s = c.args.seat.now in let d = c.args.log.now.state in let t = c.take_turn-tables in let u = c.insert_number-result in
     (writes d ∷ [], s.turns, holds_still z s t.new.seat u.new.seat (prepared t.result.value) (prepared u.new.tables) (writes d ∷ []) c.requires.holds.turn.held t.ensures.taken is_of_number _ u.ensures.seat refl)
 
 pub give_turn-requires-clause-knows : goal.give_turn-requires-clause-knows
 give_turn-requires-clause-knows g c = let u = c.insert_number-result in knows_to_give u.new.seat.knows (prepared u.new.tables) u.ensures.flag
 
 pub returns : goal.returns
-returns g c = let z = c.args.store.now in let s = c.args.seat.now in let d = c.args.log.now.table in let t = c.take_turn-tables in let u = c.insert_number-result in let v = c.give_turn.new.seat in
+returns g c = let z = c.args.store.now in let s = c.args.seat.now in let d = c.args.log.now.state in let t = c.take_turn-tables in let u = c.insert_number-result in let v = c.give_turn.new.seat in
     let holds = holds_still z s t.new.seat u.new.seat (prepared t.result.value) (prepared u.new.tables) (writes d ∷ []) c.requires.holds.turn.held t.ensures.taken is_of_number _ u.ensures.seat refl in
     let gave = (c.give_turn.ensures (writes d ∷ []) s.turns holds).goes in
     let goes = goes_through z s t.new.seat u.new.seat (prepared t.result.value) (prepared u.new.tables) (writes d ∷ []) c.requires.holds.turn.held t.ensures.taken is_of_number _ u.ensures.seat refl prepared_turn v number_under_prepared gave in

@@ -1,6 +1,6 @@
 use Rattle.std.proofs.Common.{List, [], ◌∷◌, inl, refl, sym, subst, ap, ◌∙◌}
 use Rattle.wp_core.specs.Lists.{IsIn}
-use Rattle.wp_core.specs.Tables.{Content, writes, store}
+use Rattle.wp_core.specs.States.{Content, writes, store}
 use Rattle.wp_core.specs.Turns.{store_turn}
 use Rattle.wp_core.specs.Sound.Views.{IsNowhere}
 use Rattle.wp_core.specs.Views.{versions_in_memory}
@@ -22,19 +22,19 @@ pub insert_versions-result-requires-clause-seat : goal.insert_versions-result-re
 insert_versions-result-requires-clause-seat g c = c.take_turn-stock.ensures.taken.holds.same_table
 
 pub insert_versions-result-requires-clause-held : goal.insert_versions-result-requires-clause-held
-insert_versions-result-requires-clause-held g c = let z = c.args.store.now in let s = c.args.seat.now in let d = c.args.log.now.table in let t = c.take_turn-stock in
+insert_versions-result-requires-clause-held g c = let z = c.args.store.now in let s = c.args.seat.now in let d = c.args.log.now.state in let t = c.take_turn-stock in
     held_taken z s t.new.seat s (store (store_state t.result.value)) (store (store_state t.result.value)) (writes d ∷ []) c.requires.holds.turn.held t.ensures.taken ∙ ap (λ x. store (store_state x) ∷ writes d ∷ []) (sym c.deref_mut.ensures.value)
 
 pub insert_versions-result-requires-clause-nowhere : goal.insert_versions-result-requires-clause-nowhere
-insert_versions-result-requires-clause-nowhere g c = let z = c.args.store.now in let s = c.args.seat.now in let d = c.args.log.now.table in let t = c.take_turn-stock in
+insert_versions-result-requires-clause-nowhere g c = let z = c.args.store.now in let s = c.args.seat.now in let d = c.args.log.now.state in let t = c.take_turn-stock in
     subst (λ x. IsNowhere d (store_state x)) (sym c.deref_mut.ensures.value) (nowhere_there z s t.new.seat (store_state t.result.value) d t.ensures.taken (subst (IsIn (writes d)) (sym c.requires.holds.turn.held) (inl refl)) c.requires.nowhere)
 
 pub give_turn-requires-clause-holds : goal.give_turn-requires-clause-holds
-give_turn-requires-clause-holds g c = let z = c.args.store.now in let s = c.args.seat.now in let d = c.args.log.now.table in let t = c.take_turn-stock in let u = c.insert_versions-result in
+give_turn-requires-clause-holds g c = let z = c.args.store.now in let s = c.args.seat.now in let d = c.args.log.now.state in let t = c.take_turn-stock in let u = c.insert_versions-result in
     (writes d ∷ [], s.turns, holds_still z s t.new.seat u.new.seat (store (store_state t.result.value)) (store (store_state u.new.stock)) (writes d ∷ []) c.requires.holds.turn.held t.ensures.taken is_of_versions _ u.ensures.seat refl)
 
 pub returns : goal.returns
-returns g c = let z = c.args.store.now in let s = c.args.seat.now in let d = c.args.log.now.table in let t = c.take_turn-stock in let u = c.insert_versions-result in let v = c.give_turn.new.seat in
+returns g c = let z = c.args.store.now in let s = c.args.seat.now in let d = c.args.log.now.state in let t = c.take_turn-stock in let u = c.insert_versions-result in let v = c.give_turn.new.seat in
     let before = store (store_state t.result.value) in let now = store (store_state u.new.stock) in
     let holds = holds_still z s t.new.seat u.new.seat before now (writes d ∷ []) c.requires.holds.turn.held t.ensures.taken is_of_versions _ u.ensures.seat refl in
     let gave = (c.give_turn.ensures (writes d ∷ []) s.turns holds).goes in

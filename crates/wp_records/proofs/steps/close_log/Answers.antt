@@ -5,4 +5,4 @@ pub make-requires-clause-may : goal.make-requires-clause-may
 make-requires-clause-may g c = let h = c.requires.held in may_close _ _ h.0 h.1 h.2
 
 pub returns : goal.returns
-returns g c = let h = c.requires.held in closed _ _ c.args.seat.now c.make.new.seat c.make.ensures.same h.0 c.args.log.now.table h.1 h.3 c.make.ensures.moved
+returns g c = let h = c.requires.held in closed _ _ c.args.seat.now c.make.new.seat c.make.ensures.same h.0 c.args.log.now.state h.1 h.3 c.make.ensures.moved

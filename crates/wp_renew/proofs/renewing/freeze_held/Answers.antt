@@ -1,6 +1,6 @@
 use Rattle.std.proofs.Common.{[], ◌∷◌, refl, ap, ◌∙◌}
 use Rattle.std.proofs.lemmas.Result.{IfOk-weaker}
-use Rattle.wp_core.specs.Tables.{installed, writes}
+use Rattle.wp_core.specs.States.{installed, writes}
 use Rattle.wp_core.specs.Views.{frozen_stay}
 use Rattle.wp_shared.specs.Notes.{no_fact}
 use Rattle.wp_shared.specs.Seats.{SeatState}
@@ -19,20 +19,20 @@ freeze_in-frozen-requires-clause-seen g c = ap (λ (x : SeatState). x.knows.part
 
 pub freeze_in-frozen-requires-clause-in_step : goal.freeze_in-frozen-requires-clause-in_step
 freeze_in-frozen-requires-clause-in_step g c =
-    let k = c.take_turn-stock.ensures.taken in in_step_on c.args.seat.now c.take_turn-stock.new.seat no_fact _ _ refl (λ versions floor. refl) k.goes c.args.edits.now.table.last c.requires.in_step
+    let k = c.take_turn-stock.ensures.taken in in_step_on c.args.seat.now c.take_turn-stock.new.seat no_fact _ _ refl (λ versions floor. refl) k.goes c.args.edits.now.state.last c.requires.in_step
 
 pub freeze_in-frozen-requires-clause-stands : goal.freeze_in-frozen-requires-clause-stands
 freeze_in-frozen-requires-clause-stands g c = c.take_turn-stock.ensures.taken.stands
 
 pub give_turn-requires-clause-holds : goal.give_turn-requires-clause-holds
 give_turn-requires-clause-holds g c =
-    (writes c.args.log.now.table ∷ installed c.args.edits.now.table ∷ [], 0 ∷ 5 ∷ [], both_left c.requires.holds.turn c.take_turn-stock.ensures.taken c.freeze_in-frozen.ensures.goes (c.freeze_in-frozen.ensures.same ∙ ap store_state c.deref_mut.ensures.value))
+    (writes c.args.log.now.state ∷ installed c.args.edits.now.state ∷ [], 0 ∷ 5 ∷ [], both_left c.requires.holds.turn c.take_turn-stock.ensures.taken c.freeze_in-frozen.ensures.goes (c.freeze_in-frozen.ensures.same ∙ ap store_state c.deref_mut.ensures.value))
 
 pub returns : goal.returns
 returns g c =
     let h = c.requires.holds.turn in let k = c.take_turn-stock.ensures.taken in let second = c.freeze_in-frozen.ensures.goes in let u = c.freeze_in-frozen.new.seat in let v = c.give_turn.new.seat in
-    let gave = c.give_turn.ensures (writes c.args.log.now.table ∷ installed c.args.edits.now.table ∷ []) (0 ∷ 5 ∷ []) (both_left h k second (c.freeze_in-frozen.ensures.same ∙ ap store_state c.deref_mut.ensures.value)) in record {
+    let gave = c.give_turn.ensures (writes c.args.log.now.state ∷ installed c.args.edits.now.state ∷ []) (0 ∷ 5 ∷ []) (both_left h k second (c.freeze_in-frozen.ensures.same ∙ ap store_state c.deref_mut.ensures.value)) in record {
       goes = both_given h k second gave;
-      frozen = IfOk-weaker c.freeze_in-frozen.result _ (HasFrozen v.knows c.args.edits.now.table) (λ f is. frozen_still u.knows v.knows c.args.edits.now.table f (ap (λ (x : SeatState). x.knows.participant.seen) gave.goes.same) (gave.goes.noted (frozen_stay f.at (versions_of f)) refl) is.0) c.freeze_in-frozen.ensures.frozen;
+      frozen = IfOk-weaker c.freeze_in-frozen.result _ (HasFrozen v.knows c.args.edits.now.state) (λ f is. frozen_still u.knows v.knows c.args.edits.now.state f (ap (λ (x : SeatState). x.knows.participant.seen) gave.goes.same) (gave.goes.noted (frozen_stay f.at (versions_of f)) refl) is.0) c.freeze_in-frozen.ensures.frozen;
       stands = gave.stands;
     }

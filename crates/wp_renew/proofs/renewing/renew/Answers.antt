@@ -1,5 +1,5 @@
 use Rattle.std.proofs.Common.{[], ◌∷◌, refl, sym, subst, ap}
-use Rattle.wp_core.specs.Tables.{installed}
+use Rattle.wp_core.specs.States.{installed}
 use Rattle.wp_core.specs.Turns.{tables_turn}
 use Rattle.wp_core.specs.World.{Participant}
 use Rattle.wp_rule.specs.Knows.{KnowsTables}
@@ -20,7 +20,7 @@ pub renew_tables-result-requires-clause-holds : goal.renew_tables-result-require
 renew_tables-result-requires-clause-holds g c = subst (HoldsEdits c.args.store.now c.take_turn-edits.new.seat) (sym c.deref_mut.ensures.value) (record { turn = holds_alone c.requires c.take_turn-edits.ensures.taken; of_store = c.take_turn-edits.ensures.of_store })
 
 pub renew_tables-result-requires-clause-in_step : goal.renew_tables-result-requires-clause-in_step
-renew_tables-result-requires-clause-in_step g c = subst (λ (e : VersionSetState). KnowsTables c.take_turn-edits.new.seat.knows e.table.last) (sym c.deref_mut.ensures.value) c.take_turn-edits.ensures.taken.knows
+renew_tables-result-requires-clause-in_step g c = subst (λ (e : VersionSetState). KnowsTables c.take_turn-edits.new.seat.knows e.state.last) (sym c.deref_mut.ensures.value) c.take_turn-edits.ensures.taken.knows
 
 pub give_turn-requires-clause-holds : goal.give_turn-requires-clause-holds
 give_turn-requires-clause-holds g c = ([], [], c.renew_tables-result.ensures.holds.turn)
@@ -28,8 +28,8 @@ give_turn-requires-clause-holds g c = ([], [], c.renew_tables-result.ensures.hol
 pub returns-clause-answers : goal.returns-clause-answers
 returns-clause-answers g c =
     let z = c.args.store.now in let s = c.args.seat.now in let t = c.take_turn-edits.new.seat in let u = c.renew_tables-result.new.seat in let v = c.give_turn.new.seat in
-    let e = c.deref_mut.result.now.table in let p : Participant = s.knows.participant in
-    let first : GoesOnAs s t p = goes_same s t no_fact (installed c.take_turn-edits.result.value.table ∷ s.knows.held) (5 ∷ s.turns) loose_none c.take_turn-edits.ensures.taken.goes in
+    let e = c.deref_mut.result.now.state in let p : Participant = s.knows.participant in
+    let first : GoesOnAs s t p = goes_same s t no_fact (installed c.take_turn-edits.result.value.state ∷ s.knows.held) (5 ∷ s.turns) loose_none c.take_turn-edits.ensures.taken.goes in
     let given = c.give_turn.ensures [] [] c.renew_tables-result.ensures.holds.turn in
     let last : GoesOnAs u v u.knows.participant = goes_same u v (is_under tables_turn) [] [] (loose_under tables_turn) given.goes in
     let freed = given.free refl refl in let same = given.goes.same in (
@@ -46,7 +46,7 @@ returns-clause-before_install g c =
     let taken = c.take_turn-edits.ensures.taken in let same = taken.goes.same in let holds = subst (HoldsEdits z t) (sym c.deref_mut.ensures.value) (record { turn = holds_alone c.requires taken; of_store = c.take_turn-edits.ensures.of_store }) in let answers = returns-clause-answers g c in
     renewed_before z s v (LeavesOnce z s v) result answers
     (renewal_more
-    (left_once z s t v before after taken.stands (ap (λ (x : SeatState). x.by) same, ap (λ (x : SeatState). x.knows.made) same, ap (λ (x : SeatState). x.knows.joined) same) (ap (λ (x : SeatState). x.knows.participant) same) (held_first t before.table holds.turn.held) holds.of_store c.renew_tables-result.ensures.holds.of_store
+    (left_once z s t v before after taken.stands (ap (λ (x : SeatState). x.by) same, ap (λ (x : SeatState). x.knows.made) same, ap (λ (x : SeatState). x.knows.joined) same) (ap (λ (x : SeatState). x.knows.participant) same) (held_first t before.state holds.turn.held) holds.of_store c.renew_tables-result.ensures.holds.of_store
     (subst IsEdits (sym c.deref_mut.ensures.value) (subst IsEdits c.deref.ensures c.devices_agree.ensures.edits)) (subst IsEdits c.deref-2.ensures c.devices_agree-2.ensures.edits) (renewed_grown z s v result answers))
     result c.renew_tables-result.ensures.manifest)
 
@@ -56,7 +56,7 @@ returns-clause-untouched g c =
     let before = c.deref_mut.result.now in let after = c.renew_tables-result.new.edits in let result = c.renew_tables-result.result in
     let taken = c.take_turn-edits.ensures.taken in let same = taken.goes.same in let holds = subst (HoldsEdits z t) (sym c.deref_mut.ensures.value) (record { turn = holds_alone c.requires taken; of_store = c.take_turn-edits.ensures.of_store }) in
     devices_more
-    (kept_once z s t v before after taken.stands (ap (λ (x : SeatState). x.by) same, ap (λ (x : SeatState). x.knows.made) same, ap (λ (x : SeatState). x.knows.joined) same) (ap (λ (x : SeatState). x.knows.participant) same) (held_first t before.table holds.turn.held) holds.of_store c.renew_tables-result.ensures.holds.of_store
+    (kept_once z s t v before after taken.stands (ap (λ (x : SeatState). x.by) same, ap (λ (x : SeatState). x.knows.made) same, ap (λ (x : SeatState). x.knows.joined) same) (ap (λ (x : SeatState). x.knows.participant) same) (held_first t before.state holds.turn.held) holds.of_store c.renew_tables-result.ensures.holds.of_store
     (subst IsEdits (sym c.deref_mut.ensures.value) (subst IsEdits c.deref.ensures c.devices_agree.ensures.edits)) (subst IsEdits c.deref-2.ensures c.devices_agree-2.ensures.edits) (renewed_grown z s v result (returns-clause-answers g c))
     (subst EditsStand (sym c.deref_mut.ensures.value) (subst EditsStand c.deref.ensures (c.devices_agree.ensures.manifest, c.devices_agree.ensures.tables))))
     result c.renew_tables-result.ensures.untouched

@@ -3,7 +3,7 @@ use Rattle.std.specs.Prelude.{Result}
 use Rattle.std.proofs.lemmas.Result.{err_from_is_err_and}
 use Rattle.wp_model.specs.declared.segment.Segment.{Segment}
 use Rattle.wp_core.specs.Lists.{IsIn}
-use Rattle.wp_core.specs.Tables.{writes, installed}
+use Rattle.wp_core.specs.States.{writes, installed}
 use Rattle.wp_core.specs.Views.{stopped}
 use Rattle.wp_shared.specs.Calls.{GoesOnAs, with_events}
 use Rattle.wp_shared.specs.Notes.{with_participant, no_fact, GoesOn}
@@ -21,13 +21,13 @@ pub find_edits-requires-clause-seat : goal.find_edits-requires-clause-seat
 find_edits-requires-clause-seat g c = c.requires.holds.turn.same_table
 
 pub find_edits-requires-clause-held : goal.find_edits-requires-clause-held
-find_edits-requires-clause-held g c = let e = c.args.edits.now.table in (e, second_held c.args.seat.now.knows (writes c.args.log.now.table) (installed e) c.requires.holds.turn.held)
+find_edits-requires-clause-held g c = let e = c.args.edits.now.state in (e, second_held c.args.seat.now.knows (writes c.args.log.now.state) (installed e) c.requires.holds.turn.held)
 
 -- the log was closed before
 pub returns-then-is_closed : goal.returns-then-is_closed
 returns-then-is_closed g c =
     let z = c.args.store.now in let s = c.args.seat.now in let e = c.args.edits.now in let log = c.args.log.now in
-    let k = c.find_edits.ensures e.table (second_held s.knows (writes log.table) (installed e.table) c.requires.holds.turn.held) in
+    let k = c.find_edits.ensures e.state (second_held s.knows (writes log.state) (installed e.state) c.requires.holds.turn.held) in
     closed_before z s e log c.requires.holds c.requires.running c.requires.seen.0 c.requires.seen.1 c.requires.in_step c.requires.stands c.devices_agree.ensures.edits (c.devices_agree.ensures.manifest, c.devices_agree.ensures.tables) c.devices_agree-2.ensures.log (c.devices_agree-2.ensures.tells, c.devices_agree-2.ensures.next) c.find_edits.new.seat c.find_closed.new.seat c.published.result k c.published.ensures.value
     (c.find_closed.ensures ∙ ap (λ (n : ℕ). with_participant (with_events (stopped n ∷ []) c.find_edits.new.seat.knows.participant) c.find_edits.new.seat) (sym c.published.ensures.value)) (sym c.is_closed.ensures ∙ c.if-is_closed.true)
 
@@ -36,22 +36,22 @@ pub returns-then-base-published : goal.returns-then-base-published
 returns-then-base-published g c =
     let z = c.args.store.now in let s = c.args.seat.now in let e = c.args.edits.now in let log = c.args.log.now in
     let t = c.shows_segment.new.seat in let u = c.find_edits-then-base-published.new.seat in
-    let k = c.find_edits-then-base-published.ensures e.table (second_held t.knows (writes log.table) (installed e.table) (ap (λ (x : SeatState). x.knows.held) c.shows_segment.ensures.same ∙ c.requires.holds.turn.held)) in
-    nothing_to_renew z s e log c.requires.holds c.requires.running c.requires.seen.0 c.requires.seen.1 c.requires.in_step c.requires.stands c.devices_agree.ensures.edits (c.devices_agree.ensures.manifest, c.devices_agree.ensures.tables) c.devices_agree-2.ensures.log (c.devices_agree-2.ensures.tells, c.devices_agree-2.ensures.next) u (subst (λ (x : SeatState). Remembers z x e.table u) c.shows_segment.ensures.same k) (sym c.is_closed.ensures ∙ c.if-is_closed.false) (c.shows_segment.ensures.whole c.requires.seen.1).1
+    let k = c.find_edits-then-base-published.ensures e.state (second_held t.knows (writes log.state) (installed e.state) (ap (λ (x : SeatState). x.knows.held) c.shows_segment.ensures.same ∙ c.requires.holds.turn.held)) in
+    nothing_to_renew z s e log c.requires.holds c.requires.running c.requires.seen.0 c.requires.seen.1 c.requires.in_step c.requires.stands c.devices_agree.ensures.edits (c.devices_agree.ensures.manifest, c.devices_agree.ensures.tables) c.devices_agree-2.ensures.log (c.devices_agree-2.ensures.tells, c.devices_agree-2.ensures.next) u (subst (λ (x : SeatState). Remembers z x e.state u) c.shows_segment.ensures.same k) (sym c.is_closed.ensures ∙ c.if-is_closed.false) (c.shows_segment.ensures.whole c.requires.seen.1).1
     (ap (λ (x : Segment). x.base) c.shows_segment.ensures.segment ∙ sym c.base.ensures ∙ c.if-base-published.true ∙ c.published-2.ensures.value)
 
 pub find_closed-requires-clause-seat : goal.find_closed-requires-clause-seat
-find_closed-requires-clause-seat g c = let e = c.args.edits.now.table in
-    ap (λ (x : SeatState). x.table) (c.find_edits.ensures e (second_held c.args.seat.now.knows (writes c.args.log.now.table) (installed e) c.requires.holds.turn.held)).is ∙ c.requires.holds.turn.same_table
+find_closed-requires-clause-seat g c = let e = c.args.edits.now.state in
+    ap (λ (x : SeatState). x.table) (c.find_edits.ensures e (second_held c.args.seat.now.knows (writes c.args.log.now.state) (installed e) c.requires.holds.turn.held)).is ∙ c.requires.holds.turn.same_table
 
 pub find_closed-requires-clause-held : goal.find_closed-requires-clause-held
-find_closed-requires-clause-held g c = let e = c.args.edits.now.table in let d = c.args.log.now.table in let s = c.args.seat.now in
+find_closed-requires-clause-held g c = let e = c.args.edits.now.state in let d = c.args.log.now.state in let s = c.args.seat.now in
     let k = c.find_edits.ensures e (second_held s.knows (writes d) (installed e) c.requires.holds.turn.held) in
     (subst (λ (x : SeatState). IsIn (writes d) x.knows.held) (sym k.is) (first_held s.knows (writes d) (installed e ∷ []) c.requires.holds.turn.held), sym c.is_closed.ensures ∙ c.if-is_closed.true)
 
 pub find_edits-requires-then-base-published-clause-held : goal.find_edits-requires-then-base-published-clause-held
-find_edits-requires-then-base-published-clause-held g c = let e = c.args.edits.now.table in
-    (e, second_held c.shows_segment.new.seat.knows (writes c.args.log.now.table) (installed e) (ap (λ (x : SeatState). x.knows.held) c.shows_segment.ensures.same ∙ c.requires.holds.turn.held))
+find_edits-requires-then-base-published-clause-held g c = let e = c.args.edits.now.state in
+    (e, second_held c.shows_segment.new.seat.knows (writes c.args.log.now.state) (installed e) (ap (λ (x : SeatState). x.knows.held) c.shows_segment.ensures.same ∙ c.requires.holds.turn.held))
 
 -- there is something to renew
 

@@ -5,7 +5,7 @@ use Rattle.std.proofs.lemmas.Result.{err_from_is_err_and}
 use Rattle.wp_model.specs.History.{undecided}
 use Rattle.wp_model.specs.Legal.{undone_last}
 use Rattle.wp_tableset.specs.Changes.{Asked, one_part}
-use Rattle.wp_core.specs.Tables.{Content}
+use Rattle.wp_core.specs.States.{Content}
 use Rattle.wp_core.specs.World.{World}
 use Rattle.wp_shared.specs.Notes.{GoesOn}
 use Rattle.wp_maint.specs.Holding.{is_of_tables}
@@ -39,13 +39,13 @@ pub write_segment-requires-clause-holds : goal.write_segment-requires-clause-hol
 write_segment-requires-clause-holds g c = c.in_ok-table.ensures.writes.3
 
 pub write_segment-requires-clause-running : goal.write_segment-requires-clause-running
-write_segment-requires-clause-running g c = let same = c.in_ok-table.ensures.writes.1 in (ap (λ (l : LogState). l.table.closed) same ∙ c.requires.running.1, ap (λ (l : LogState). l.table.pending) same ∙ c.requires.running.2)
+write_segment-requires-clause-running g c = let same = c.in_ok-table.ensures.writes.1 in (ap (λ (l : LogState). l.state.closed) same ∙ c.requires.running.1, ap (λ (l : LogState). l.state.pending) same ∙ c.requires.running.2)
 
 pub write_segment-requires-clause-below : goal.write_segment-requires-clause-below
-write_segment-requires-clause-below g c = subst (λ (l : LogState). l.table.segment.base < length l.table.history) (sym c.in_ok-table.ensures.writes.1) c.requires.below
+write_segment-requires-clause-below g c = subst (λ (l : LogState). l.state.segment.base < length l.state.history) (sym c.in_ok-table.ensures.writes.1) c.requires.below
 
 pub write_segment-requires-clause-whole : goal.write_segment-requires-clause-whole
-write_segment-requires-clause-whole g c = subst (λ (l : LogState). undone_last l.table.history ≡ None) (sym c.in_ok-table.ensures.writes.1) c.requires.whole
+write_segment-requires-clause-whole g c = subst (λ (l : LogState). undone_last l.state.history ≡ None) (sym c.in_ok-table.ensures.writes.1) c.requires.whole
 
 pub write_segment-requires-clause-segment : goal.write_segment-requires-clause-segment
 write_segment-requires-clause-segment g c = subst (λ (l : LogState). IsSegmentOf l c.args.ready.segment) (sym c.in_ok-table.ensures.writes.1) c.requires.ready.1
@@ -73,7 +73,7 @@ install-requires g c =
     let one = c.write_table.new in let k = c.in_ok-table.ensures.writes in let holds = at_start z s one.seat one.edits log one.log k.0 k.1 k.3 in
     let two = c.write_segment.new in let p = subst (λ (x : SeatState × LogState). HasSegment z x.0 one.edits x.1 c.in_ok-written.written two.seat two.log) (λ i. (k.0 i, k.1 i)) c.in_ok-written.ensures in
     told z s e log c.requires.holds c.requires.running.0 c.requires.running.1 c.requires.running.2 c.requires.coupled c.requires.below c.requires.seen.0 c.requires.seen.1 c.requires.stands c.requires.in_step c.requires.edits c.requires.log r.frozen r.edit c.requires.ready.0.asked c.requires.ready.0.frozen
-    one.edits one.edit k.2 k.4 k.5 holds c.in_ok-written.written two.seat two.log p (none_waits log.table c.requires.log.none_waits c.requires.running.1)
+    one.edits one.edit k.2 k.4 k.5 holds c.in_ok-written.written two.seat two.log p (none_waits log.state c.requires.log.none_waits c.requires.running.1)
 
 pub returns-in_err-install : goal.returns-in_err-install
 returns-in_err-install g c =
@@ -104,4 +104,4 @@ returns g c =
     let one = c.write_table.new in let k = c.in_ok-table.ensures.writes in let holds = at_start z s one.seat one.edits log one.log k.0 k.1 k.3 in
     let two = c.write_segment.new in let p = subst (λ (x : SeatState × LogState). HasSegment z x.0 one.edits x.1 c.in_ok-written.written two.seat two.log) (λ i. (k.0 i, k.1 i)) c.in_ok-written.ensures in
     let three = c.install.new in went_through z s e log c.requires.holds c.requires.running.0 c.requires.running.1 c.requires.running.2 c.requires.coupled c.requires.below c.requires.seen.0 c.requires.seen.1 c.requires.stands c.requires.in_step c.requires.edits c.requires.log r.frozen r.edit c.requires.ready.0.asked c.requires.ready.0.frozen
-    one.edits one.edit k.2 k.4 k.5 holds c.in_ok-written.written two.seat two.log p three.seat three.edits three.log c.in_ok-install.ensures c.put_table.new.seat (subst (λ (l : List Content). GoesOn is_of_tables l three.seat.turns three.seat c.put_table.new.seat) c.in_ok-install.ensures.holds.turn.held c.put_table.ensures.goes) _ refl (c.undecided_count.ensures ∙ length-map (undecided log.table.history) _) c.put_table.ensures.in_step
+    one.edits one.edit k.2 k.4 k.5 holds c.in_ok-written.written two.seat two.log p three.seat three.edits three.log c.in_ok-install.ensures c.put_table.new.seat (subst (λ (l : List Content). GoesOn is_of_tables l three.seat.turns three.seat c.put_table.new.seat) c.in_ok-install.ensures.holds.turn.held c.put_table.ensures.goes) _ refl (c.undecided_count.ensures ∙ length-map (undecided log.state.history) _) c.put_table.ensures.in_step

@@ -1,5 +1,5 @@
 use Rattle.std.proofs.Common.{[], ◌∷◌, refl, sym, ap, ◌∙◌}
-use Rattle.wp_core.specs.Tables.{installed}
+use Rattle.wp_core.specs.States.{installed}
 use Rattle.wp_core.specs.Turns.{write_turn}
 use Rattle.wp_core.specs.World.{Participant}
 use Rattle.wp_shared.specs.Calls.{GoesOnAs, with_events}
@@ -12,43 +12,43 @@ use Rattle.wp_maint.proofs.Onward.{found_halted, goes_more, holds_being, renews_
 use Rattle.wp_renew.proofs.renewing.renew_tables.Goals as goal
 
 pub find_edits-requires-clause-held : goal.find_edits-requires-clause-held
-find_edits-requires-clause-held g c = let e = c.args.edits.now.table in (e, held_first c.args.seat.now e c.requires.holds.turn.held)
+find_edits-requires-clause-held g c = let e = c.args.edits.now.state in (e, held_first c.args.seat.now e c.requires.holds.turn.held)
 
 pub returns-then-is_halted-clause-holds : goal.returns-then-is_halted-clause-holds
 returns-then-is_halted-clause-holds g c =
-    let e = c.args.edits.now in let k = c.find_edits.ensures e.table (held_first c.args.seat.now e.table c.requires.holds.turn.held) in
+    let e = c.args.edits.now in let k = c.find_edits.ensures e.state (held_first c.args.seat.now e.state c.requires.holds.turn.held) in
     holds_being c.args.store.now c.args.seat.now c.find_edits.new.seat _ k.is e c.requires.holds
 
 pub returns-then-is_halted-clause-in_step : goal.returns-then-is_halted-clause-in_step
 returns-then-is_halted-clause-in_step g c =
-    let e = c.args.edits.now.table in let k = c.find_edits.ensures e (held_first c.args.seat.now e c.requires.holds.turn.held) in
+    let e = c.args.edits.now.state in let k = c.find_edits.ensures e (held_first c.args.seat.now e c.requires.holds.turn.held) in
     in_step_being c.args.store.now c.args.seat.now c.find_edits.new.seat _ k.is e.last c.requires.in_step
 
 pub returns-then-is_halted-clause-says : goal.returns-then-is_halted-clause-says
 returns-then-is_halted-clause-says g c =
-    let z = c.args.store.now in let s = c.args.seat.now in let e = c.args.edits.now.table in let k = c.find_edits.ensures e (held_first s e c.requires.holds.turn.held) in
+    let z = c.args.store.now in let s = c.args.seat.now in let e = c.args.edits.now.state in let k = c.find_edits.ensures e (held_first s e c.requires.holds.turn.held) in
     found_halted z s s c.find_edits.new.seat e (goes_none s) k (sym c.is_halted.ensures ∙ c.if-is_halted.true) c.flushed.result c.flushed.ensures.number
 
 -- ---- the log is renewed, under the write turn
 
 pub returns-clause-holds : goal.returns-clause-holds
 returns-clause-holds g c =
-    let k = c.renew_held-result.ensures in let left = c.renew_held-result.new.edits in let gave = c.give_turn.ensures (installed left.table ∷ []) (5 ∷ []) k.holds.turn in
+    let k = c.renew_held-result.ensures in let left = c.renew_held-result.new.edits in let gave = c.give_turn.ensures (installed left.state ∷ []) (5 ∷ []) k.holds.turn in
     record { turn = holds_next k.holds.turn gave.goes; of_store = k.holds.edits_of_store }
 
 pub returns-clause-in_step : goal.returns-clause-in_step
 returns-clause-in_step g c =
-    let k = c.renew_held-result.ensures in let left = c.renew_held-result.new.edits in let gave = c.give_turn.ensures (installed left.table ∷ []) (5 ∷ []) k.holds.turn in
-    in_step_on c.renew_held-result.new.seat c.give_turn.new.seat _ _ _ refl (λ vs floor. refl) gave.goes left.table.last k.in_step
+    let k = c.renew_held-result.ensures in let left = c.renew_held-result.new.edits in let gave = c.give_turn.ensures (installed left.state ∷ []) (5 ∷ []) k.holds.turn in
+    in_step_on c.renew_held-result.new.seat c.give_turn.new.seat _ _ _ refl (λ vs floor. refl) gave.goes left.state.last k.in_step
 
 pub returns-clause-says : goal.returns-clause-says
 returns-clause-says g c =
     let z = c.args.store.now in let s = c.args.seat.now in let t = c.take_log-log.new.seat in let u = c.renew_held-result.new.seat in let v = c.give_turn.new.seat in let p = s.knows.participant in
-    let took = c.take_log-log.ensures in let h = c.take_log-log.result.value.table.history in let e = c.args.edits.now in let left = c.renew_held-result.new.edits in
-    let k = c.renew_held-result.ensures in let gave = c.give_turn.ensures (installed left.table ∷ []) (5 ∷ []) k.holds.turn in
+    let took = c.take_log-log.ensures in let h = c.take_log-log.result.value.state.history in let e = c.args.edits.now in let left = c.renew_held-result.new.edits in
+    let k = c.renew_held-result.ensures in let gave = c.give_turn.ensures (installed left.state ∷ []) (5 ∷ []) k.holds.turn in
     let first : GoesOnAs s t p = goes_still s (seeing h s) t p (goes_seeing s h took.grown) (goes_same (seeing h s) t no_fact _ _ loose_none took.goes) in
     let last : GoesOnAs u v u.knows.participant = goes_same u v (is_under write_turn) _ _ (loose_under write_turn) gave.goes in let same = gave.goes.same in
-    renews_so (GoesOnAs t u) (GoesOnAs s v) z s t u v e.table (first.same_by, first.made, first.joined) (ap (λ (x : Participant). x.past) first.participant) first.seen (sym (ap (λ (x : SeatState). x.knows.participant.past) same)) last.seen
+    renews_so (GoesOnAs t u) (GoesOnAs s v) z s t u v e.state (first.same_by, first.made, first.joined) (ap (λ (x : Participant). x.past) first.participant) first.seen (sym (ap (λ (x : SeatState). x.knows.participant.past) same)) last.seen
     (λ events x. goes_still s u v (with_events events p) (goes_more s t u p first events x) last) (λ x. goes_still s u v p (goes_still s t u p first x) last) (sym (ap (λ (x : SeatState). x.knows.participant.seen) same)) c.renew_held-result.result k.says
 
 pub returns-clause-untouched : goal.returns-clause-untouched

@@ -4,7 +4,7 @@ use Rattle.wp_model.specs.declared.segment.Segment.{Segment}
 use Rattle.wp_model.specs.Flushed.{InstalledEdit, IsEditCovered}
 use Rattle.wp_rule.specs.Knows.{NextNamed}
 use Rattle.wp_core.specs.Effects.{with_failed}
-use Rattle.wp_core.specs.Tables.{Installed, writes, installed}
+use Rattle.wp_core.specs.States.{Installed, writes, installed}
 use Rattle.wp_parts.specs.Log.{LogState}
 use Rattle.wp_shared.specs.Seats.{SeatState}
 use Rattle.wp_shared.specs.Turns.{HoldsTurn}
@@ -21,7 +21,7 @@ returns-in-Ok-clause-writes g c =
       refl,
       same,
       record {
-        turn = subst (λ (t : Installed). HoldsTurn z s (writes log.table) (installed t ∷ []) (5 ∷ [])) (sym same) h.turn;
+        turn = subst (λ (t : Installed). HoldsTurn z s (writes log.state) (installed t ∷ []) (5 ∷ [])) (sym same) h.turn;
         edits_of_store = h.edits_of_store ∙ ap Some (sym c.in-Ok.ensures.first);
         log_of_store = h.log_of_store;
       },
@@ -31,11 +31,11 @@ returns-in-Ok-clause-writes g c =
     )
 
 pub find_edits-requires-clause-held : goal.find_edits-requires-clause-held
-find_edits-requires-clause-held g c = let e = c.args.edits.now.table in (e, second_held c.args.seat.now.knows (writes c.args.log.now.table) (installed e) c.requires.holds.turn.held)
+find_edits-requires-clause-held g c = let e = c.args.edits.now.state in (e, second_held c.args.seat.now.knows (writes c.args.log.now.state) (installed e) c.requires.holds.turn.held)
 
 pub remember_tables_fault-requires-clause-held : goal.remember_tables_fault-requires-clause-held
 remember_tables_fault-requires-clause-held g c =
-    let e = c.args.edits.now.table in let d = c.args.log.now.table in let left = c.write_table.new.self.table in
+    let e = c.args.edits.now.state in let d = c.args.log.now.state in let left = c.write_table.new.self.state in
     let k = c.find_edits.ensures e (second_held c.args.seat.now.knows (writes d) (installed e) c.requires.holds.turn.held) in
     let halted = c.in-Err.ensures.refused in
     let none : left.failed ≡ None = ap (λ (t : Installed). t.failed) halted ∙ c.devices_agree.ensures.edits.none_failed (c.devices_agree.ensures.edits.running c.requires.running.0) in (
@@ -49,13 +49,13 @@ remember_tables_fault-requires-clause-held g c =
 
 pub remember_stop-requires-clause-held : goal.remember_stop-requires-clause-held
 remember_stop-requires-clause-held g c =
-    let e = c.args.edits.now.table in let d = c.args.log.now.table in let left = c.write_table.new.self.table in
+    let e = c.args.edits.now.state in let d = c.args.log.now.state in let left = c.write_table.new.self.state in
     let k = c.find_edits.ensures e (second_held c.args.seat.now.knows (writes d) (installed e) c.requires.holds.turn.held) in
     let halted = c.in-Err.ensures.refused in
     let goes = c.remember_tables_fault.ensures.goes d e (ap (λ (x : SeatState). x.knows.held) k.is ∙ c.requires.holds.turn.held) in (
       d,
       ap (λ (x : SeatState). x.knows.held) goes.same,
-      ap (λ (l : LogState). l.table) c.stop.ensures,
+      ap (λ (l : LogState). l.state) c.stop.ensures,
       c.requires.running.1,
       c.requires.running.2,
       waits_not d left.last.segment (none_waits d c.devices_agree-2.ensures.next c.requires.running.1),
@@ -65,22 +65,22 @@ remember_stop-requires-clause-held g c =
 pub returns-in-Err-clause-writes : goal.returns-in-Err-clause-writes
 returns-in-Err-clause-writes g c =
     let z = c.args.store.now in let s = c.args.seat.now in let e = c.args.edits.now in let log = c.args.log.now in let holds = c.requires.holds in
-    let k = c.find_edits.ensures e.table (second_held s.knows (writes log.table) (installed e.table) holds.turn.held) in
+    let k = c.find_edits.ensures e.state (second_held s.knows (writes log.state) (installed e.state) holds.turn.held) in
     let halted = c.in-Err.ensures.refused in
-    has_stopped z s c.find_edits.new.seat c.remember_tables_fault.new.seat c.remember_stop.new.seat e c.write_table.new.self log c.stop.new.self log.table holds k None
+    has_stopped z s c.find_edits.new.seat c.remember_tables_fault.new.seat c.remember_stop.new.seat e c.write_table.new.self log c.stop.new.self log.state holds k None
     (ap (λ (x : Installed). x.last) halted) (ap (λ (x : Installed). x.failed) halted ∙ c.devices_agree.ensures.edits.none_failed (c.devices_agree.ensures.edits.running c.requires.running.0))
-    (c.remember_tables_fault.ensures.goes log.table e.table (ap (λ (x : SeatState). x.knows.held) k.is ∙ holds.turn.held)) c.remember_stop.ensures.goes
+    (c.remember_tables_fault.ensures.goes log.state e.state (ap (λ (x : SeatState). x.knows.held) k.is ∙ holds.turn.held)) c.remember_stop.ensures.goes
     (λ before after. SurvivesWrite c.args.edit.now.edit.asked before after × IsUncalled before after) halted
-    (c.stop.ensures ∙ ap (λ (o : Option Segment). record log { table = record log.table { next = o; closed = true; stopped = true } }) (none_waits log.table c.devices_agree-2.ensures.next c.requires.running.1))
+    (c.stop.ensures ∙ ap (λ (o : Option Segment). record log { state = record log.state { next = o; closed = true; stopped = true } }) (none_waits log.state c.devices_agree-2.ensures.next c.requires.running.1))
     c.in-Err.ensures.first c.in-Err.ensures.cause (c.in-Err.ensures.survives, c.in-Err.ensures.manifest)
     c.devices_agree.ensures.edits c.devices_agree-in-Err.ensures.edits c.devices_agree-2.ensures.log c.devices_agree-in-Err-2.ensures.log c.remember_stop.ensures.stands
 
 pub remember_tables_fault-requires-clause-seat : goal.remember_tables_fault-requires-clause-seat
-remember_tables_fault-requires-clause-seat g c = let e = c.args.edits.now.table in
-    ap (λ (x : SeatState). x.table) (c.find_edits.ensures e (second_held c.args.seat.now.knows (writes c.args.log.now.table) (installed e) c.requires.holds.turn.held)).is ∙ c.requires.holds.turn.same_table
+remember_tables_fault-requires-clause-seat g c = let e = c.args.edits.now.state in
+    ap (λ (x : SeatState). x.table) (c.find_edits.ensures e (second_held c.args.seat.now.knows (writes c.args.log.now.state) (installed e) c.requires.holds.turn.held)).is ∙ c.requires.holds.turn.same_table
 
 pub remember_stop-requires-clause-seat : goal.remember_stop-requires-clause-seat
-remember_stop-requires-clause-seat g c = let e = c.args.edits.now.table in let d = c.args.log.now.table in
+remember_stop-requires-clause-seat g c = let e = c.args.edits.now.state in let d = c.args.log.now.state in
     let found = c.find_edits.ensures e (second_held c.args.seat.now.knows (writes d) (installed e) c.requires.holds.turn.held) in
     let goes = c.remember_tables_fault.ensures.goes d e (ap (λ (x : SeatState). x.knows.held) found.is ∙ c.requires.holds.turn.held) in
     ap (λ (x : SeatState). x.table) goes.same ∙ ap (λ (x : SeatState). x.table) found.is ∙ c.requires.holds.turn.same_table

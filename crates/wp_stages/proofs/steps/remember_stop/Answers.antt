@@ -1,5 +1,5 @@
 use Rattle.std.proofs.Common.{[], ◌∷◌, sym, subst}
-use Rattle.wp_core.specs.Tables.{WriteState, installed, writes}
+use Rattle.wp_core.specs.States.{WriteState, installed, writes}
 use Rattle.wp_core.specs.Views.{log_stopped}
 use Rattle.wp_shared.specs.Calls.{with_events}
 use Rattle.wp_shared.specs.Notes.{GoesOn, with_participant}
@@ -8,11 +8,11 @@ use Rattle.wp_stages.proofs.Renews.{may_stop, was_stopped}
 use Rattle.wp_stages.proofs.steps.remember_stop.Goals as goal
 
 pub make_about-requires-clause-may : goal.make_about-requires-clause-may
-make_about-requires-clause-may g c = let h = c.requires.held in may_stop _ _ h.0 c.args.edits.now.table h.1 h.4 h.3 h.5 h.6
+make_about-requires-clause-may g c = let h = c.requires.held in may_stop _ _ h.0 c.args.edits.now.state h.1 h.4 h.3 h.5 h.6
 
 pub returns : goal.returns
 returns g c =
     let s = c.args.seat.now in let u = c.make_about.new.seat in let h = c.requires.held in record {
-      goes = subst (λ (x : WriteState). GoesOn _ (writes x ∷ installed c.args.edits.now.table ∷ []) s.turns (with_participant (with_events (log_stopped ∷ []) s.knows.participant) s) u) (sym h.2) (was_stopped _ _ s u c.make_about.ensures.same h.0 c.args.edits.now.table h.1 c.make_about.ensures.moved);
+      goes = subst (λ (x : WriteState). GoesOn _ (writes x ∷ installed c.args.edits.now.state ∷ []) s.turns (with_participant (with_events (log_stopped ∷ []) s.knows.participant) s) u) (sym h.2) (was_stopped _ _ s u c.make_about.ensures.same h.0 c.args.edits.now.state h.1 c.make_about.ensures.moved);
       stands = stands_after c.args.store.now _ _ s u c.make_about.ensures.same.1 c.make_about.ensures.moved;
     }

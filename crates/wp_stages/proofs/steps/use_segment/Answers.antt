@@ -1,16 +1,16 @@
 use Rattle.std.proofs.Common.{[], ◌∷◌, sym, subst}
-use Rattle.wp_core.specs.Tables.{WriteState, installed, writes}
+use Rattle.wp_core.specs.States.{WriteState, installed, writes}
 use Rattle.wp_shared.specs.Notes.{GoesOn}
 use Rattle.wp_maint.proofs.Made.{stands_after}
 use Rattle.wp_stages.proofs.Renews.{may_use, was_used}
 use Rattle.wp_stages.proofs.steps.use_segment.Goals as goal
 
 pub make_about-requires-clause-may : goal.make_about-requires-clause-may
-make_about-requires-clause-may g c = let h = c.requires.held in may_use _ _ h.0 c.args.edits.now.table h.1 h.2 h.3
+make_about-requires-clause-may g c = let h = c.requires.held in may_use _ _ h.0 c.args.edits.now.state h.1 h.2 h.3
 
 pub returns : goal.returns
 returns g c =
     let s = c.args.seat.now in let u = c.make_about.new.seat in let h = c.requires.held in record {
-      goes = subst (λ (x : WriteState). GoesOn _ (writes x ∷ installed c.args.edits.now.table ∷ []) s.turns s u) (sym h.4) (was_used _ _ s u c.make_about.ensures.same h.0 c.args.edits.now.table h.1 c.make_about.ensures.moved h.3);
+      goes = subst (λ (x : WriteState). GoesOn _ (writes x ∷ installed c.args.edits.now.state ∷ []) s.turns s u) (sym h.4) (was_used _ _ s u c.make_about.ensures.same h.0 c.args.edits.now.state h.1 c.make_about.ensures.moved h.3);
       stands = stands_after c.args.store.now _ _ s u c.make_about.ensures.same.1 c.make_about.ensures.moved;
     }

@@ -5,7 +5,7 @@ use Rattle.wp_model.specs.declared.holder.Holder.TheVariants.{Client}
 use Rattle.wp_locks.specs.Locks.{is_free_for}
 use Rattle.wp_core.specs.Changes.{with_key}
 use Rattle.wp_core.specs.Lists.{IsIn}
-use Rattle.wp_core.specs.Tables.{locks}
+use Rattle.wp_core.specs.States.{locks}
 use Rattle.wp_shared.specs.Seats.{SeatState}
 use Rattle.wp_open_txns.specs.Actors.{with_direct}
 use Rattle.wp_shared.specs.Notes.{seat_of}

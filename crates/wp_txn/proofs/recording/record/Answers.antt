@@ -23,28 +23,28 @@ pub put_noting-outcome-requires-clause-holds : goal.put_noting-outcome-requires-
 put_noting-outcome-requires-clause-holds g c = subst (HoldsWrite c.args.store.now c.open_log.new.seat) (sym c.deref_mut.ensures.value) c.in_ok-log.ensures.ok.holds
 
 pub put_noting-outcome-requires-clause-running : goal.put_noting-outcome-requires-clause-running
-put_noting-outcome-requires-clause-running g c = ap (λ (x : LogState). x.table.closed) c.deref_mut.ensures.value ∙ c.in_ok-log.ensures.ok.running
+put_noting-outcome-requires-clause-running g c = ap (λ (x : LogState). x.state.closed) c.deref_mut.ensures.value ∙ c.in_ok-log.ensures.ok.running
 
 pub put_noting-outcome-requires-clause-may : goal.put_noting-outcome-requires-clause-may
 put_noting-outcome-requires-clause-may g c = let t = c.open_log.new.seat in
-    subst (λ (x : LogState). MayPut t.knows x.table.history c.args.entries) (sym c.deref_mut.ensures.value) (c.requires.may.may t c.in_ok-log.log.value (subst (OpensLog c.args.store.now c.args.seat.now t c.in_ok-log.log.value) c.len.ensures c.in_ok-log.ensures.ok)).0
+    subst (λ (x : LogState). MayPut t.knows x.state.history c.args.entries) (sym c.deref_mut.ensures.value) (c.requires.may.may t c.in_ok-log.log.value (subst (OpensLog c.args.store.now c.args.seat.now t c.in_ok-log.log.value) c.len.ensures c.in_ok-log.ensures.ok)).0
 
 pub put_noting-outcome-requires-clause-within : goal.put_noting-outcome-requires-clause-within
 put_noting-outcome-requires-clause-within g c =
     let o = subst (OpensLog c.args.store.now c.args.seat.now c.open_log.new.seat c.in_ok-log.log.value) c.len.ensures c.in_ok-log.ensures.ok in
-    subst (λ (x : LogState). length x.table.history + length c.args.entries ≤ last_number x.wal.format) (sym c.deref_mut.ensures.value) o.numbers
+    subst (λ (x : LogState). length x.state.history + length c.args.entries ≤ last_number x.wal.format) (sym c.deref_mut.ensures.value) o.numbers
 
 pub put_noting-outcome-requires-clause-noting : goal.put_noting-outcome-requires-clause-noting
 put_noting-outcome-requires-clause-noting g c = let t = c.open_log.new.seat in
-    subst (λ (x : LogState). MayNote c.args.noting x.table.history c.args.entries) (sym c.deref_mut.ensures.value) (c.requires.may.may t c.in_ok-log.log.value (subst (OpensLog c.args.store.now c.args.seat.now t c.in_ok-log.log.value) c.len.ensures c.in_ok-log.ensures.ok)).1
+    subst (λ (x : LogState). MayNote c.args.noting x.state.history c.args.entries) (sym c.deref_mut.ensures.value) (c.requires.may.may t c.in_ok-log.log.value (subst (OpensLog c.args.store.now c.args.seat.now t c.in_ok-log.log.value) c.len.ensures c.in_ok-log.ensures.ok)).1
 
 pub close_log-requires : goal.close_log-requires
-close_log-requires g c = let put = c.put_noting-outcome in holds_then c.args.store.now c.open_log.new.seat put.new.seat c.deref_mut.result.now put.new.log c.args.entries (notes_of c.args.noting (length put.new.log.table.history)) put.result put.ensures
+close_log-requires g c = let put = c.put_noting-outcome in holds_then c.args.store.now c.open_log.new.seat put.new.seat c.deref_mut.result.now put.new.log c.args.entries (notes_of c.args.noting (length put.new.log.state.history)) put.result put.ensures
 
 pub returns : goal.returns
 returns g c =
     let z = c.args.store.now in let s = c.args.seat.now in let t = c.open_log.new.seat in let log = c.in_ok-log.log.value in let put = c.put_noting-outcome in let entries = c.args.entries in let noting = c.args.noting in
     let o = subst (OpensLog z s t log) c.len.ensures c.in_ok-log.ensures.ok in
-    let puts = subst (λ (x : LogState). PutsNoting z t x entries (notes_of noting (length put.new.log.table.history)) put.result put.new.seat put.new.log) c.deref_mut.ensures.value put.ensures in
+    let puts = subst (λ (x : LogState). PutsNoting z t x entries (notes_of noting (length put.new.log.state.history)) put.result put.new.seat put.new.log) c.deref_mut.ensures.value put.ensures in
     subst (λ (r : Result ℕ TxnError). Records z s entries (notes_of noting) r c.close_log.new.seat) (sym c.close_log.ensures.answer)
     (recorded z s t put.new.seat c.close_log.new.seat log put.new.log entries (notes_of noting) o (c.requires.may.may t log o).0.legal (noting_loose noting) c.close_log.ensures.gives c.close_log.ensures.log put.result puts)

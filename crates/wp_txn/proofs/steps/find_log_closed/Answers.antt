@@ -3,7 +3,7 @@ use Rattle.wp_txn.proofs.UnderLog.{may_find_closed, closed_found}
 use Rattle.wp_txn.proofs.steps.find_log_closed.Goals as goal
 
 pub make-requires-clause-may : goal.make-requires-clause-may
-make-requires-clause-may g c = may_find_closed _ _ c.args.log.now.table c.requires.held c.requires.closed
+make-requires-clause-may g c = may_find_closed _ _ c.args.log.now.state c.requires.held c.requires.closed
 
 pub returns : goal.returns
-returns g c = becomes c.args.seat.now c.make.new.seat _ c.make.ensures.same (closed_found _ _ _ _ c.args.log.now.table c.make.ensures.moved c.requires.held)
+returns g c = becomes c.args.seat.now c.make.new.seat _ c.make.ensures.same (closed_found _ _ _ _ c.args.log.now.state c.make.ensures.moved c.requires.held)

@@ -7,7 +7,7 @@ use Rattle.wp_txn.proofs.steps.note_unprepared.Goals as goal
 pub make_about-requires-clause-may : goal.make_about-requires-clause-may
 make_about-requires-clause-may g c =
     let a = c.args.seat.now.knows in let name = c.args.name.now in
-    may_note _ a (unprepared c.args.name.now) c.requires.seat.1 (record { table = c.args.log.now.table; held = c.requires.held; so_is = ((transaction_in a.participant name, has_its a name c.requires.has), c.requires.none) })
+    may_note _ a (unprepared c.args.name.now) c.requires.seat.1 (record { state = c.args.log.now.state; held = c.requires.held; so_is = ((transaction_in a.participant name, has_its a name c.requires.has), c.requires.none) })
 
 pub returns : goal.returns
 returns g c = noted _ _ (unprepared c.args.name.now) _ _ c.make_about.ensures.same c.make_about.ensures.moved

@@ -2,7 +2,7 @@ use Rattle.std.proofs.Common.{◌≡◌, ◌++◌, ℕ, nat_eq, List, length, is
 use Rattle.std.specs.FinMap as finite
 use Rattle.wp_model.specs.declared.version.Version.{Version}
 use Rattle.wp_model.specs.Covered.{is_among}
-use Rattle.wp_core.specs.Tables.{up_to}
+use Rattle.wp_core.specs.States.{up_to}
 use Rattle.wp_machine_permits.proofs.Stores.{covered_live}
 use Rattle.wp_machine_permits.proofs.needs.edits.is_store_covered.Goals as goal
 

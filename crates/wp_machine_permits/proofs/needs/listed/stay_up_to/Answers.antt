@@ -1,5 +1,5 @@
 use Rattle.std.proofs.Common.{◌≡◌, ◌∙◌}
-use Rattle.wp_core.specs.Tables.{up_to}
+use Rattle.wp_core.specs.States.{up_to}
 use Rattle.wp_machine_permits.proofs.ListFacts.{same_up_to, up_to_same}
 use Rattle.wp_machine_permits.proofs.needs.listed.stay_up_to.Goals as goal
 

@@ -1,5 +1,5 @@
 use Rattle.std.proofs.Common.{◌≡◌, take}
-use Rattle.wp_core.specs.Tables.{up_to}
+use Rattle.wp_core.specs.States.{up_to}
 use Rattle.wp_machine_permits.proofs.needs.versions.up_to.Given as goal
 
 abbrev pub invariant-loop-version : goal.invariant-loop-version

@@ -3,8 +3,8 @@ use Rattle.atomic_table.specs.Table.{Me}
 use Rattle.wp_core.specs.Turns.{turn_of}
 use Rattle.wp_core.specs.World.{Actor}
 use Rattle.wp_core.specs.Changes.{turn_index}
-use Rattle.wp_parts.specs.declared.part.TurnValue.{TurnValue}
-use Rattle.wp_parts.specs.declared.part.TurnValue.TheVariants as part
+use Rattle.wp_parts.specs.declared.turn_value.TurnValue.{TurnValue}
+use Rattle.wp_parts.specs.declared.turn_value.TurnValue.TheVariants as part
 use Rattle.wp_shared.specs.Seats.{SeatState}
 use Rattle.wp_shared.proofs.HeldTurns.{carried, turns_left, may_lie, may_unclaim, gave}
 use Rattle.wp_shared.proofs.shared.Shared.give_part.Goals as goal

@@ -1,6 +1,6 @@
 use Rattle.std.proofs.Common.{subst, sym}
 use Rattle.wp_core.specs.Lists.{IsIn}
-use Rattle.wp_core.specs.Tables.{writes}
+use Rattle.wp_core.specs.States.{writes}
 use Rattle.wp_shared.specs.Seats.{SeatState}
 use Rattle.wp_shared.proofs.Clients.{moved_keeps}
 use Rattle.wp_shared.proofs.Places.{moved_there, still_sits}

@@ -4,7 +4,7 @@ use Rattle.wp_core.specs.Changes.{turn_index}
 use Rattle.wp_core.specs.World.{Actor}
 use Rattle.wp_core.specs.Turns.{turn_of}
 use Rattle.wp_rule.specs.Words.{place_of}
-use Rattle.wp_parts.specs.declared.part.TurnValue.{TurnValue}
+use Rattle.wp_parts.specs.declared.turn_value.TurnValue.{TurnValue}
 use Rattle.wp_parts.specs.Parts.{content}
 use Rattle.wp_shared.specs.Seats.{SharedState, SeatState, AllAway, turns_of}
 use Rattle.wp_shared.proofs.HeldTurns.{still_sits, took}

@@ -1,7 +1,7 @@
 use Rattle.std.proofs.Common.{sym, ap, ◌∙◌}
 use Rattle.std.specs.FinSet.{contains}
 use Rattle.wp_snaps.proofs.Sets.{contains-old_commit_set}
-use Rattle.wp_snaps.proofs.snapshot.Snapshot.keeps.Goals as goal
+use Rattle.wp_snaps.proofs.snapshot.LiveSnapshot.keeps.Goals as goal
 
 pub returns : goal.returns
 returns c =

@@ -1,6 +1,6 @@
 use Rattle.wp_snaps.proofs.KeptNumbers.{no_keys}
 use Rattle.wp_snaps.proofs.Sets.{set_of_inserted}
-use Rattle.wp_snaps.proofs.snapshot.Snapshot.keep.Goals as goal
+use Rattle.wp_snaps.proofs.snapshot.LiveSnapshot.keep.Goals as goal
 
 pub returns-clause-kept : goal.returns-clause-kept
 returns-clause-kept c =

@@ -1,5 +1,5 @@
 use Rattle.wp_snaps.proofs.Sets.{set_of_reordered}
-use Rattle.wp_snaps.proofs.snapshot.Snapshot.reserve.Goals as goal
+use Rattle.wp_snaps.proofs.snapshot.LiveSnapshot.reserve.Goals as goal
 
 pub returns-clause-same_snapshot : goal.returns-clause-same_snapshot
 returns-clause-same_snapshot c =
