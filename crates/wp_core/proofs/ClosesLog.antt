@@ -55,7 +55,7 @@ module _ (w : World) (by : ℕ) (a : Actor) (step : Step) (failure : Event) (sto
     pub record_is : (entries : List Entry) → failure ≡ log_failed entries → failed ≡ entries
     pub of_log : (entries : List Entry) → failure ≡ log_failed entries → stops ≡ false
     pub behind : failure ≡ log_stopped → w.installed.halted ≡ true
-    pub unfailed : failure ≡ log_stopped → failed ≡ []
+    pub unfailed : failure ≡ log_stopped → (stops ≡ true) × (failed ≡ [])
 
   module _ (at : get_elem? w.actors by ≡ some a) (k : Closes) (s : IsSound w) where
     abbrev p : Participant
@@ -91,7 +91,8 @@ module _ (w : World) (by : ℕ) (a : Actor) (step : Step) (failure : Event) (sto
       failed = λ entries h. ⊎_elim (λ f. absurd (true≢false (sym (s.faults.failed entries f).0 ∙ k.running))) (λ (q : failure ≡ log_failed entries). (refl, k.record_is entries q)) (past_before w.actors by a b failure at refl refl (log_failed entries) h);
       of_log = λ entries h. ⊎_elim (λ f. absurd (true≢false (sym (s.faults.failed entries f).0 ∙ k.running))) (λ (q : failure ≡ log_failed entries). k.of_log entries q) (past_before w.actors by a b failure at refl refl (log_failed entries) h);
       behind = λ h. ⊎_elim (λ f. s.faults.behind f) (λ (q : failure ≡ log_stopped). k.behind q) (past_before w.actors by a b failure at refl refl log_stopped h);
-      unfailed = λ h. (refl, ⊎_elim (λ f. absurd (true≢false (sym (s.faults.unfailed f).0 ∙ k.running))) (λ (q : failure ≡ log_stopped). k.unfailed q) (past_before w.actors by a b failure at refl refl log_stopped h));
+      unfailed = λ h.
+          let c : (stops ≡ true) × (failed ≡ []) = ⊎_elim (λ f. absurd (true≢false (sym (s.faults.unfailed f).0 ∙ k.running))) (λ (q : failure ≡ log_stopped). k.unfailed q) (past_before w.actors by a b failure at refl refl log_stopped h) in (refl, c.0, c.1);
     }
 
     coupled_closed : AreCoupled d w.installed w.holders.write
@@ -157,5 +158,5 @@ stops_log w by a at n s = log_closes w by a stop_log log_stopped true w.writes.f
   record_is = λ entries q. absurd cc;
   of_log = λ entries q. absurd cc;
   behind = λ q. n.5;
-  unfailed = λ q. s.history.none_failed n.3;
+  unfailed = λ q. (refl, s.history.none_failed n.3);
 }) s

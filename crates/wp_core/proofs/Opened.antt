@@ -49,7 +49,7 @@ use Rattle.wp_core.proofs.PendingSteps.{none_logged}
 -- ---- what is not there
 
 not_kept : (s p : ℕ) → snaps.is_old_commit finite.empty s p ≡ false
-not_kept s p = ap (λ (o : Option snaps.Snapshot). option_map_or (λ x. finset.contains x.old_commits p) o false) (finite.get-empty nat_cmp s)
+not_kept s p = ap (λ (o : Option snaps.LiveSnapshot). option_map_or (λ x. finset.contains x.old_commits p) o false) (finite.get-empty nat_cmp s)
 
 one : {X : Type 0} (x y : X) (j : ℕ) → get_elem? (x ∷ []) j ≡ some y → x ≡ y
 one x y zero e = some-injective x y e

@@ -98,7 +98,7 @@ loaded w IsOldCommit r = record r { is_old_commit = Some (snaps.is_old_commit w.
 
 -- ---- snapshots
 
-abbrev pub placed : Snapshots → ℕ → Option snaps.Snapshot → Snapshots
+abbrev pub placed : Snapshots → ℕ → Option snaps.LiveSnapshot → Snapshots
 placed m s None = finite.remove m s
 placed m s (Some x) = finite.insert m s x
 

@@ -36,7 +36,7 @@ Appends bytes old new result = (magic front dead : List ℕ) (records : List (Li
 -- four moments: the frame was written after the closed gate, a sync, that gate, a sync.
 pub record FrameAppended (old new : LogState) (bytes : List ℕ) : Type 0 where
   pub was_open : old.closed ≡ false
-  pub changed : new ≡ record old { moments = new.moments; faults = new.faults; count = old.count + 1; end = old.end + (length bytes + 9) }
+  pub changed : new ≡ record old { moments = new.moments; count = old.count + 1; end = old.end + (length bytes + 9) }
   pub calls : new.moments ≡ added after_sync (added (after_write old.end (1 ∷ [])) (added after_sync (added (after_write (old.end + 1) (frame_of bytes)) old.moments)))
 
 -- The disk failed, and the log is closed from now on. Or it was closed before: nothing changes, and n is the count of

@@ -99,7 +99,7 @@ pub record HasAsRead (read : ReadState) (log : LogState) : Type 0 where
   pub id : log.id ≡ read.id
   pub counted : log.count ≡ length read.records
   pub running : log.closed ≡ false
-  pub later : read.faults ≤ log.faults
+  pub unfailed : log.faults ≡ read.faults
 
 -- No log at that place was read, on a disk with these moments and so many faults: its bytes are as the refusal says; or the disk failed, or
 -- memory ran out.

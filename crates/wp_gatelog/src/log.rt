@@ -81,6 +81,7 @@ impl<D: Disk> GateLog<D> {
             (λ opened. KeepsLogAt place magic (stamped newest id) (D.moments disk) opened.0.moments (D.faults disk) opened.0.faults)
             (λ refused. KeepsLogAt place magic (stamped newest id)
             (D.moments disk) (D.moments refused.disk) (D.faults disk) (D.faults refused.disk)) }
+        ensures unfailed { IfOk result (λ opened. opened.0.faults ≡ D.faults disk) }
     {
         let read = match ReadLog::read(alloc, disk, place, magic, newest, id) {
             Ok(read) => read,
@@ -160,7 +161,7 @@ impl<D: Disk> GateLog<D> {
     pub fn write_beside(&mut self, place: u64, bytes: &[u8]) -> Result<(), AppendError>
         ensures writes { Writes place bytes.now self.old self.new result }
         ensures ok { OnOk result ((self.old.closed ≡ false)
-            × (self.new ≡ record self.old { moments = self.new.moments; faults = self.new.faults })
+            × (self.new ≡ record self.old { moments = self.new.moments })
             × (self.new.moments ≡ added after_sync (added (after_write place bytes.now) self.old.moments))) }
         ensures bounded { OnOk result (write_end place bytes.now ≤ 2 ^ 62) }
         ensures err { IfErr result (FrameRefused self.old self.new) }
@@ -194,7 +195,7 @@ impl<D: Disk> GateLog<D> {
     pub fn disk_len(&mut self) -> Result<u64, AppendError>
         ensures ok { IfOk result (λ len. (self.old.closed ≡ false) × (len ≤ 2 ^ 62)
             × IfKnown self.old.moments (λ m. len ≡ length m.reads)
-            × (self.new ≡ record self.old { faults = self.new.faults })) }
+            × (self.new ≡ self.old)) }
         ensures err { IfErr result (FrameRefused self.old self.new) }
         ensures moments { self.new.moments ≡ self.old.moments }
         ensures later { self.old.faults ≤ self.new.faults }

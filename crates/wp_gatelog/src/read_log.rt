@@ -59,7 +59,7 @@ impl<D: Disk> ReadLog<D> {
         ensures read { IfOk result (IsRead place magic (stamped newest id) (D.moments disk)) }
         ensures refused { IfErr result (λ refused. IsUnread place magic newest
             (D.moments disk) (D.moments refused.disk) (D.faults disk) (D.faults refused.disk) refused.why) }
-        ensures later { MatchResult result (λ log. D.faults disk ≤ log.faults) (λ refused. D.faults disk ≤ D.faults refused.disk) }
+        ensures faults { MatchResult result (λ log. log.faults ≡ D.faults disk) (λ refused. D.faults disk ≤ D.faults refused.disk) }
     {
         match find(alloc, &mut disk, place, magic, newest, id) {
             Ok(log) => Ok(ReadLog {

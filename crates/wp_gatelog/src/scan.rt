@@ -72,6 +72,7 @@ pub(crate) fn read_records<P: Peek>(
     ensures looks { Looks (P.moments disk.old) (P.moments disk.new) (P.is_alone disk.old) (P.is_alone disk.new) }
     ensures fault { IfErr result (FaultRose (P.faults disk.old) (P.faults disk.new)) }
     ensures later { P.faults disk.old ≤ P.faults disk.new }
+    ensures unfailed { OnOk result (P.faults disk.new ≡ P.faults disk.old) }
 {
     let mut records = Vec::new(alloc);
     let mut last = None;
@@ -115,6 +116,7 @@ pub(crate) fn own_records<D: Disk>(
     ensures unchanged { D.moments disk.new ≡ D.moments disk.old }
     ensures fault { IfErr result (FaultRose (D.faults disk.old) (D.faults disk.new)) }
     ensures later { D.faults disk.old ≤ D.faults disk.new }
+    ensures unfailed { OnOk result (D.faults disk.new ≡ D.faults disk.old) }
 {
     read_records(alloc, disk, start, id, first, PIECE as usize)
 }
@@ -136,6 +138,7 @@ fn read_next<P: Peek>(
     ensures looks { Looks (P.moments disk.old) (P.moments disk.new) (P.is_alone disk.old) (P.is_alone disk.new) }
     ensures refused { IfErr result (IsOutside (P.faults disk.old) (P.faults disk.new)) }
     ensures later { P.faults disk.old ≤ P.faults disk.new }
+    ensures unfailed { OnOk result (P.faults disk.new ≡ P.faults disk.old) }
 {
     let known = next_in(piece.rest());
     let Next::Short { .. } = known else {
@@ -153,6 +156,7 @@ fn read_whole<P: Peek>(alloc: Global, disk: &mut P, at: u64) -> Result<Vec<u8>, 
     ensures looks { Looks (P.moments disk.old) (P.moments disk.new) (P.is_alone disk.old) (P.is_alone disk.new) }
     ensures refused { IfErr result (IsOutside (P.faults disk.old) (P.faults disk.new)) }
     ensures later { P.faults disk.old ≤ P.faults disk.new }
+    ensures unfailed { OnOk result (P.faults disk.new ≡ P.faults disk.old) }
 {
     let mut size = PIECE;
     'sizes: while size < MOST {

@@ -1,5 +1,5 @@
 -- What was seen of a manifest, by whether one was made.
-use Rattle.std.proofs.Common.{◌≡◌, ◌≢◌, inl, inr, ℕ, ◌<◌, ◌≤◌, ◌^◌, List, [], refl, sym, ap, subst, ◌∙◌}
+use Rattle.std.proofs.Common.{◌≡◌, ◌≢◌, inl, inr, ℕ, ◌<◌, ◌≤◌, ◌^◌, List, [], refl, sym, ap, subst, ◌∙◌, arith}
 use Rattle.wp_outside.specs.declared.disk.Disks.{Disks}
 use Rattle.wp_outside.specs.Disk.{Moment, IfKnown}
 use Rattle.wp_cuts.specs.Cut.{Cut}
@@ -18,7 +18,7 @@ use Rattle.wp_refused.specs.Damage.{IsOther}
 use Rattle.wp_refused.specs.Parts.{LogsOpened}
 use Rattle.wp_refused.specs.Refused.{IsManifestLeft, IsManifestSeen, WereRead}
 use Rattle.wp_refused.proofs.BothOpen.{logs_made, logs_new, manifest_left, other_id}
-use Rattle.wp_refused.proofs.Stages.{cause_since, edits_read, kept_since, none_read, seen_durable}
+use Rattle.wp_refused.proofs.Stages.{edits_read, none_read, seen_durable}
 use Rattle.wp_logs.specs.declared.manifest.SeenManifest.{SeenManifest}
 use Rattle.wp_logs.specs.declared.manifest.SeenManifest.TheVariants as seen
 use Rattle.wp_logs.specs.Seen.{HasOther, HasSame, MayNotOpen, OpensSeen, WasMade, seen_faults, seen_moments, seen_place}
@@ -58,7 +58,7 @@ module _ {D : Type 0} (asked : ℕ) (moments : D → List Moment) (faults : D �
     under = λ id same. inr (refl, was.2, was.0);
     place = refl;
     durable = seen_durable (moments disk) (moments new) was.0;
-    later = was.1;
+    later = omega (arith, was.1);
   }
 
   -- it was made, under another id
@@ -99,12 +99,11 @@ module _ {D : Type 0} (asked : ℕ) (moments : D → List Moment) (faults : D �
   pub as_none : (id : ℕ) (it : SeenManifest D) (new : D) (why : ManifestError) → WasMade asked moments faults disk it → MayNotOpen id moments faults it new why → SeenNone id it new why
   as_none id (seen.Made edits) new why was refused = absurd refused
   as_none id (seen.Unmade still) new why was refused =
-      let unopened = subst (λ (ms : List Moment). IsUnopenedManifest ms (moments new) (faults still) (faults new) why) was.0 refused.0 in
       record {
         front = refl;
         unmade = was.2;
-        unopened = record { cause = cause_since (faults disk) (faults still) (faults new) (moments disk) why was.1 unopened.cause; left = unopened.left };
-        kept = kept_since id (faults disk) (faults still) (faults new) (moments disk) (moments new) was.1 (subst (λ (ms : List Moment). KeepsLog MAGIC (head_stamp id) ms (moments new) (faults still) (faults new)) was.0 refused.1);
+        unopened = rw (was.0, was.1) at refused.0;
+        kept = rw (was.0, was.1) at refused.1;
       }
 
   -- ... and was, but names another place, or has another id: the one that was seen does not
@@ -113,13 +112,15 @@ module _ {D : Type 0} (asked : ℕ) (moments : D → List Moment) (faults : D �
     pub unmade : IfKnown (moments disk) (λ m. IsUnmade m.reads)
     pub opened : Opened id (moments disk) edits
     pub kept : KeepsLog MAGIC (head_stamp id) (moments disk) edits.log.moments (faults disk) edits.log.faults
+    pub unfailed : edits.log.faults ≡ faults disk
 
   as_new : (id : ℕ) (new : D) (edits : ManifestState) → WasMade asked moments faults disk (seen.Unmade new) → OpensSeen id moments faults (seen.Unmade new) edits → SeenNew id (seen.Unmade new) edits
   as_new id new edits was opens = record {
     front = refl;
     unmade = was.2;
-    opened = subst (λ (ms : List Moment). Opened id ms edits) was.0 opens.0;
-    kept = kept_since id (faults disk) (faults new) edits.log.faults (moments disk) edits.log.moments was.1 (subst (λ (ms : List Moment). KeepsLog MAGIC (head_stamp id) ms edits.log.moments (faults new) edits.log.faults) was.0 opens.1);
+    opened = rw was.0 at opens.0;
+    kept = rw (was.0, was.1) at opens.1;
+    unfailed = opens.2 ∙ was.1;
   }
 
   pub as_elsewhere : (id : ℕ) (it : SeenManifest D) (edits : ManifestState) → WasMade asked moments faults disk it → HasSame id it → OpensSeen id moments faults it edits → place_of edits.edit ≢ seen_place it → SeenNew id it edits
@@ -132,9 +133,9 @@ module _ {D : Type 0} (asked : ℕ) (moments : D → List Moment) (faults : D �
 
 -- both are open
 pub logs_opened : {D : Type 0} (asked : ℕ) (moments : D → List Moment) (faults : D → ℕ) (disks : Disks D) (it : SeenManifest D) (wal : WalState) (c : Cut) (edits : ManifestState) → WasMade asked moments faults disks.manifest it → HasSame wal.id it → OpensSeen wal.id moments faults it edits
-    → IsOpenedLog asked (seen_place it) (moments disks.log) wal c → KeepsWal (seen_place it) asked (moments disks.log) wal.moments (faults disks.log) wal.faults → place_of edits.edit ≡ wal.segment.place → edits.log.id ≡ wal.id → LogsOpened asked (devices_of moments faults disks) wal c edits
-logs_opened asked moments faults disks (seen.Made made) wal c edits was same opens log kept place one =
-    subst (λ (s : ManifestState). LogsOpened asked (devices_of moments faults disks) wal c s) (sym opens) (logs_made asked (devices_of moments faults disks) wal c made log was.0 was.1 same kept was.2)
-logs_opened asked moments faults disks (seen.Unmade new) wal c edits was same opens log kept place one =
+    → IsOpenedLog asked (seen_place it) (moments disks.log) wal c → KeepsWal (seen_place it) asked (moments disks.log) wal.moments (faults disks.log) wal.faults → wal.faults ≡ faults disks.log → place_of edits.edit ≡ wal.segment.place → edits.log.id ≡ wal.id → LogsOpened asked (devices_of moments faults disks) wal c edits
+logs_opened asked moments faults disks (seen.Made made) wal c edits was same opens log kept unfailed place one =
+    subst (λ (s : ManifestState). LogsOpened asked (devices_of moments faults disks) wal c s) (sym opens) (logs_made asked (devices_of moments faults disks) wal c made log was.0 was.1 same kept was.2 unfailed was.3)
+logs_opened asked moments faults disks (seen.Unmade new) wal c edits was same opens log kept unfailed place one =
     let it = as_new asked moments faults disks.manifest wal.id new edits was opens in
-    logs_new asked (devices_of moments faults disks) wal c edits log (place ∙ log.placed) it.opened one kept it.kept
+    logs_new asked (devices_of moments faults disks) wal c edits log (place ∙ log.placed) it.opened one kept it.kept unfailed it.unfailed

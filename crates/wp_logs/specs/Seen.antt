@@ -15,14 +15,15 @@ use Rattle.wp_refused.specs.declared.bad.Bad.TheVariants as bad
 use Rattle.wp_logs.specs.declared.manifest.SeenManifest.{SeenManifest}
 use Rattle.wp_logs.specs.declared.manifest.SeenManifest.TheVariants as seen
 
--- One was made there, and is open; or none was, and the disk was only looked at.
+-- One was made there, and is open; or none was, and the disk was only looked at. The disk did not fail.
 abbrev pub WasMade : {D : Type 0} → ℕ → (D → List Moment) → (D → ℕ) → D → SeenManifest D → Type 0
 WasMade asked moments faults disk (seen.Made edits) =
     Opened asked (moments disk) edits
     × IfKnown (moments disk) (λ m. IsUnmade m.reads → ⊥)
     × KeepsLog MAGIC (head_stamp asked) (moments disk) edits.log.moments (faults disk) edits.log.faults
+    × (edits.log.faults ≡ faults disk)
 WasMade asked moments faults disk (seen.Unmade new) =
-    (moments new ≡ moments disk) × (faults disk ≤ faults new) × IfKnown (moments disk) (λ m. IsUnmade m.reads)
+    (moments new ≡ moments disk) × (faults new ≡ faults disk) × IfKnown (moments disk) (λ m. IsUnmade m.reads)
 
 -- the place that it names for the log
 abbrev pub seen_place : {D : Type 0} → SeenManifest D → ℕ
@@ -48,11 +49,13 @@ abbrev pub HasSame : {D : Type 0} → ℕ → SeenManifest D → Type 0
 HasSame id (seen.Made edits) = edits.log.id ≡ id
 HasSame id (seen.Unmade disk) = Unit {0}
 
--- it is as it was made, or new
+-- it is as it was made, or new, on a disk that did not fail
 abbrev pub OpensSeen : {D : Type 0} → ℕ → (D → List Moment) → (D → ℕ) → SeenManifest D → ManifestState → Type 0
 OpensSeen id moments faults (seen.Made edits) opened = opened ≡ edits
 OpensSeen id moments faults (seen.Unmade disk) opened =
-    Opened id (moments disk) opened × KeepsLog MAGIC (head_stamp id) (moments disk) opened.log.moments (faults disk) opened.log.faults
+    Opened id (moments disk) opened
+    × KeepsLog MAGIC (head_stamp id) (moments disk) opened.log.moments (faults disk) opened.log.faults
+    × (opened.log.faults ≡ faults disk)
 
 -- one is not made
 abbrev pub MayNotOpen : {D : Type 0} → ℕ → (D → List Moment) → (D → ℕ) → SeenManifest D → D → ManifestError → Type 0

@@ -72,6 +72,7 @@ fn open_store<D: Disk>(
     ensures cause { IfErr result (IsStoreCause id (cut_in outline) edit.now (Rose (D.faults tables.old) (D.faults tables.new)) (D.moments tables.old)) }
     ensures left { IfErr result (LeavesSynced (tables.new ≡ tables.old) (D.moments tables.old) (D.moments tables.new)) }
     ensures later { D.faults tables.old ≤ D.faults tables.new }
+    ensures unfailed { OnOk result (D.faults tables.new ≡ D.faults tables.old) }
 {
     match is_within(&outline, edit) {
         Ok(()) => {}

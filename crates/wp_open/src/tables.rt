@@ -1,5 +1,5 @@
 //! Reading the tables of an edit.
-ghost use Rattle.std.specs.Prelude.{◌≡◌, ◌⊎◌, ◌+◌, ◌<◌, ◌≤◌, ◌^◌, length, map, IfOk, IfErr};
+ghost use Rattle.std.specs.Prelude.{◌≡◌, ◌⊎◌, ◌+◌, ◌<◌, ◌≤◌, ◌^◌, length, map, IfOk, IfErr, OnOk};
 ghost use Rattle.std.specs.Arc.{arc_value};
 ghost use Rattle.std.specs.List.{AllByRecursion};
 ghost use Rattle.wp_outside.specs.Disk.{IfKnown, Looks};
@@ -33,6 +33,7 @@ fn bytes_at<P: Peek>(
     ensures looks { Looks (P.moments tables.old) (P.moments tables.new) (P.is_alone tables.old) (P.is_alone tables.new) }
     ensures cause { IfErr result (IsReadCause (Rose (P.faults tables.old) (P.faults tables.new))) }
     ensures later { P.faults tables.old ≤ P.faults tables.new }
+    ensures unfailed { OnOk result (P.faults tables.new ≡ P.faults tables.old) }
 {
     let place = placed.0.min(len);
     let size = placed.1.min(len - place);
@@ -62,6 +63,7 @@ fn read_table<P: Peek>(
     ensures looks { Looks (P.moments tables.old) (P.moments tables.new) (P.is_alone tables.old) (P.is_alone tables.new) }
     ensures cause { IfErr result (IsTableCause id flushed placed len (Rose (P.faults tables.old) (P.faults tables.new)) (P.moments tables.new)) }
     ensures later { P.faults tables.old ≤ P.faults tables.new }
+    ensures unfailed { OnOk result (P.faults tables.new ≡ P.faults tables.old) }
 {
     let bytes = bytes_at(alloc, tables, len, placed)?;
     let is_short = (bytes.len() as u64) < placed.1;
@@ -90,6 +92,7 @@ pub(crate) fn read_tables<P: Peek>(
     ensures cause { IfErr result (IsTablesCause id (Rose (P.faults tables.old) (P.faults tables.new))
         (WasFirstWrong id edit.now (P.moments tables.old) (P.moments tables.new))) }
     ensures later { P.faults tables.old ≤ P.faults tables.new }
+    ensures unfailed { OnOk result (P.faults tables.new ≡ P.faults tables.old) }
 {
     let Ok(len) = tables.len() else {
         return Err(OpenError::OpenFault(Device::Tables));
@@ -115,6 +118,7 @@ pub(crate) fn own_tables<D: Disk>(
     ensures unchanged { D.moments tables.new ≡ D.moments tables.old }
     ensures cause { IfErr result (AreTablesCause id edit.now (Rose (D.faults tables.old) (D.faults tables.new)) (D.moments tables.old)) }
     ensures later { D.faults tables.old ≤ D.faults tables.new }
+    ensures unfailed { OnOk result (D.faults tables.new ≡ D.faults tables.old) }
 {
     read_tables(alloc, tables, id, edit)
 }

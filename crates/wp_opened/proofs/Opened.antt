@@ -1,6 +1,6 @@
 -- What a store was opened from, and what a refused opening hands back.
 use Rattle.std.specs.declared.alloc.Global.{Global}
-use Rattle.std.proofs.Common.{Box, ◌≡◌, ℕ, ◌<◌, ◌^◌, List, [], ◌∷◌, Some, refl, sym, ap, subst, ◌∙◌}
+use Rattle.std.proofs.Common.{Box, ◌≡◌, ℕ, ◌<◌, ◌^◌, List, [], ◌∷◌, Some, refl, sym, ap, subst, ◌∙◌, arith}
 use Rattle.std.specs.Prelude.{slice_index_or}
 use Rattle.std.specs.List.{remove}
 use Rattle.wp_model.specs.declared.entry.Entry.{Entry}
@@ -114,6 +114,7 @@ module _ (same_log same_tables : Type 0) (asked : ℕ) (old : DevicesLeft) (wal 
     one_id = p.one_id;
     log_kept = subst (λ (n : ℕ). KeepsWal n asked old.log wal.moments old.log_faults wal.faults) p.opened.placed found.log;
     manifest_kept = found.manifest;
+    unfailed = (found.unfailed.0, found.unfailed.1);
   }
 
   left_behind : IsLeft asked same_log same_tables old left open_error.Memory
@@ -141,5 +142,5 @@ refused_late same_log same_tables asked old left wal history edits tables_now fa
       manifest_durable = found.manifest.durable;
       log_later = found.log.later;
       manifest_later = found.manifest.later;
-      tables_later = found.tables_later;
+      tables_later = omega (arith, found.unfailed.2);
     })

@@ -21,8 +21,8 @@ pub record HasParts {D : Type 0} (wal : WalState) (set : TableSetState) (edit : 
   pub last_is : WasLast content z.first edit
 
 -- The store has what the devices opened to, under this id where no log was made: the values behind its turns were its log, and
--- its tables, whose last edit was the manifest's. Since then no fault was forgotten, and what was acknowledged is so still; and while it was opened a crash left the
--- log and the manifest as they were, or repaired.
+-- its tables, whose last edit was the manifest's. While it was opened no device failed, what was acknowledged stayed so, and a crash left
+-- the log and the manifest as they were, or repaired.
 pub record IsOpenedFrom {D : Type 0} (asked : ℕ) (old : DevicesLeft) (z : SharedState D) : Type 0 where
   pub wal : WalState
   pub edits : ManifestState

@@ -1,1 +1,2 @@
 pub mod Opaque
+pub mod Stdin

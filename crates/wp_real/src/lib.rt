@@ -1,7 +1,8 @@
 //! The real outside: files and the standard streams, over std.
 //!
-//! Each form meets its trait whatever the system answers: it hands on every failure as the one refusal and counts it. None
-//! shows what it holds, since nothing is known of what a system keeps or gives.
+//! Each form meets its trait whatever the system answers: it hands on every failure as the one refusal and counts it. Standard
+//! input shows what the runtime's reader knows that it will give. Files and standard output show nothing, since nothing is known of
+//! what a system keeps.
 #![tactic(auto)]
 
 mod counted;

@@ -1,3 +1,5 @@
+ghost use Rattle.std.specs.Prelude.{◌<◌, IsErr};
+
 use crate::file::File;
 use std::fs;
 use std::io::{self, ErrorKind};
@@ -28,7 +30,9 @@ impl<'a, R: Files> NamedFile<'a, R> {
 
 impl<R: Files<File = fs::File>> NamedFile<'_, R> {
     /// The file, as long as no call has failed.
-    pub(crate) fn usable(&mut self, faults: u64) -> io::Result<&mut File> {
+    pub(crate) fn usable(&mut self, faults: u64) -> io::Result<&mut File>
+        ensures { 0 < faults → IsErr result }
+    {
         if faults > 0 {
             return Err(ErrorKind::Other.into());
         }
@@ -40,7 +44,9 @@ impl<R: Files<File = fs::File>> NamedFile<'_, R> {
     }
 
     /// The first sync also syncs the folder, without which a crash may take a new file away.
-    pub(crate) fn sync(&mut self, faults: u64) -> io::Result<()> {
+    pub(crate) fn sync(&mut self, faults: u64) -> io::Result<()>
+        ensures { 0 < faults → IsErr result }
+    {
         self.usable(faults)?.sync()?;
         if !self.is_listed {
             fs::open(&self.files, folder_of(self.path))?.sync_all()?;

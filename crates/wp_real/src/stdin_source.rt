@@ -1,4 +1,4 @@
-ghost use Rattle.std.specs.Prelude.{◌≡◌, None};
+ghost use Rattle.std.specs.Prelude.{◌≡◌};
 
 use crate::counted::counted;
 use crate::read::read_some;
@@ -14,11 +14,11 @@ pub struct StdinSource<I: Input> {
 }
 
 impl<I: Input> Model for StdinSource<I> {
-    ghost use Rattle.wp_real.specs.Opaque.{Opaque};
+    ghost use Rattle.wp_real.specs.Stdin.{StdinState};
 
-    ghost Value = { Opaque };
+    ghost Value = { StdinState };
 
-    ghost view = { λ s. record { faults = s.faults } };
+    ghost view = { λ s. record { left = I.Reader.Read.remaining s.reader; faults = s.faults } };
 }
 
 impl<I: Input> StdinSource<I> {
@@ -34,7 +34,7 @@ impl<I: Input> StdinSource<I> {
 }
 
 impl<I: Input> Source for StdinSource<I> {
-    ghost left = { λ _. None };
+    ghost left = { λ s. s.left };
 
     ghost faults = { λ s. s.faults };
 

@@ -33,23 +33,27 @@ use Rattle.wp_refused.proofs.Stages.{OpensOrDamaged, edit_left, kept_whatever, m
 -- ---- both are open
 
 pub logs_made : (asked : ℕ) (old : DevicesLeft) (wal : WalState) (c : Cut) (state : ManifestState) → IsOpenedLog asked (place_of state.edit) old.log wal c → Opened asked old.manifest state → IfKnown old.manifest (λ m. IsUnmade m.reads → ⊥)
-    → state.log.id ≡ wal.id → KeepsWal (place_of state.edit) asked old.log wal.moments old.log_faults wal.faults → KeepsLog edits.MAGIC (edits.head_stamp asked) old.manifest state.log.moments old.manifest_faults state.log.faults → LogsOpened asked old wal c state
-logs_made asked old wal c state log manifest made one log_kept manifest_kept = record {
+    → state.log.id ≡ wal.id → KeepsWal (place_of state.edit) asked old.log wal.moments old.log_faults wal.faults → KeepsLog edits.MAGIC (edits.head_stamp asked) old.manifest state.log.moments old.manifest_faults state.log.faults
+    → wal.faults ≡ old.log_faults → state.log.faults ≡ old.manifest_faults → LogsOpened asked old wal c state
+logs_made asked old wal c state log manifest made one log_kept manifest_kept log_unfailed manifest_unfailed = record {
   log = log;
   one_id = one;
   manifest = opened_anew asked wal.id old.manifest state manifest (made_any (state.log.id ≡ wal.id) old.manifest made);
   log_kept = log_kept;
   manifest_kept = kept_whatever asked wal.id old.manifest state.log.moments old.manifest_faults state.log.faults made manifest_kept;
+  unfailed = (log_unfailed, manifest_unfailed);
 }
 
 pub logs_new : (asked : ℕ) (old : DevicesLeft) (wal : WalState) (c : Cut) (state : ManifestState) → IsOpenedLog asked 0 old.log wal c → place_of state.edit ≡ 0 → Opened wal.id old.manifest state
-    → state.log.id ≡ wal.id → KeepsWal 0 asked old.log wal.moments old.log_faults wal.faults → KeepsLog edits.MAGIC (edits.head_stamp wal.id) old.manifest state.log.moments old.manifest_faults state.log.faults → LogsOpened asked old wal c state
-logs_new asked old wal c state log place manifest one log_kept manifest_kept = record {
+    → state.log.id ≡ wal.id → KeepsWal 0 asked old.log wal.moments old.log_faults wal.faults → KeepsLog edits.MAGIC (edits.head_stamp wal.id) old.manifest state.log.moments old.manifest_faults state.log.faults
+    → wal.faults ≡ old.log_faults → state.log.faults ≡ old.manifest_faults → LogsOpened asked old wal c state
+logs_new asked old wal c state log place manifest one log_kept manifest_kept log_unfailed manifest_unfailed = record {
   one_id = one;
   log = subst (λ (n : ℕ). IsOpenedLog asked n old.log wal c) (sym place) log;
   manifest = manifest;
   log_kept = subst (λ (n : ℕ). KeepsWal n asked old.log wal.moments old.log_faults wal.faults) (sym place) log_kept;
   manifest_kept = manifest_kept;
+  unfailed = (log_unfailed, manifest_unfailed);
 }
 
 -- what the log has of the history over its cut is that cut

@@ -1,5 +1,5 @@
 -- What an opening hands out.
-use Rattle.std.specs.Prelude.{◌≡◌, ℕ, ◌<◌, ◌≤◌, ◌^◌, List, []}
+use Rattle.std.specs.Prelude.{◌≡◌, ℕ, ◌<◌, ◌^◌, List, []}
 use Rattle.std.specs.List.{AllByRecursion}
 use Rattle.wp_model.specs.declared.entry.Entry.{Entry}
 use Rattle.wp_model.specs.Flushed.{later_versions}
@@ -29,6 +29,7 @@ pub record LogsOpened (asked : ℕ) (old : DevicesLeft) (wal : WalState) (c : Cu
   pub one_id : edits.log.id ≡ wal.id
   pub log_kept : KeepsWal (place_of edits.edit) asked old.log wal.moments old.log_faults wal.faults
   pub manifest_kept : KeepsLog MAGIC (head_stamp wal.id) old.manifest edits.log.moments old.manifest_faults edits.log.faults
+  pub unfailed : (wal.faults ≡ old.log_faults) × (edits.log.faults ≡ old.manifest_faults)
 
 -- ---- the whole
 
@@ -65,5 +66,5 @@ pub record ArePartsOf (asked : ℕ) (old : DevicesLeft) (wal : WalState) (histor
   -- what each of the two logs keeps of its device
   pub log : KeepsWal wal.segment.place asked old.log wal.moments old.log_faults wal.faults
   pub manifest : KeepsLog MAGIC (head_stamp wal.id) old.manifest edits.log.moments old.manifest_faults edits.log.faults
-  -- no fault of the third device is forgotten
-  pub tables_later : old.tables_faults ≤ tables_faults
+  -- none of the three failed
+  pub unfailed : (wal.faults ≡ old.log_faults) × (edits.log.faults ≡ old.manifest_faults) × (tables_faults ≡ old.tables_faults)

@@ -99,7 +99,8 @@ appended_reserved old new segment due reserved r there appended =
     let id : new.id ≡ old.id = ap (λ (s : LogState). s.id) appended.changed in
     let count : new.count ≡ old.count + 1 = ap (λ (s : LogState). s.count) appended.changed in
     let closed : new.closed ≡ old.closed = ap (λ (s : LogState). s.closed) appended.changed in
-    rw there (record { was_open = appended.was_open; changed = rw (end, format, id, count, closed) refl })
+    let faults : new.faults ≡ old.faults = ap (λ (s : LogState). s.faults) appended.changed in
+    rw there (record { was_open = appended.was_open; changed = rw (end, format, id, count, closed, faults) refl })
 
 -- no record that was acknowledged at the log's place is lost
 pub loses_nothing : (old new : List Moment) (place : ℕ) (front : List ℕ) → place ≡ length front → LosesNoRecordAt (length front) MAGIC old new → LosesNothingAt place old new

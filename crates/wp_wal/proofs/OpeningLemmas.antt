@@ -154,6 +154,13 @@ no_records : (records : List (List ℕ)) (count : ℕ) → count ≡ length reco
 no_records [] count counted none = refl
 no_records (r ∷ records) count counted none = absurd (omega (arith, counted, none))
 
+abbrev IsNone : List ℕ → Type 0
+IsNone xs = xs ≡ []
+
+none_left : (n : ℕ) → IsNone (drop n [])
+none_left zero = refl
+none_left (suc n) = refl
+
 -- A log without records, in the second version, spells nothing; it stands at place 0.
 spells_nothing : (format : Format) (place : ℕ) (records : List (List ℕ)) (c : Cut) → format ≡ Two → records ≡ [] → AreCut format place records c → (place ≡ 0) × (c ≡ uncut [])
 spells_nothing One place records c version none spelled = absurd cc
@@ -279,11 +286,13 @@ module _ (place asked : ℕ) (old : List Moment) (log : LogState) (records : Lis
   -- ---- what it answers
 
   pub opened_log : (new : LogState) (done : Unit {0}) (segment : Segment) (due : ℕ) → IsBegunLog log new (Ok done) → IsJudged c → segment.place ≡ place → segment.base ≡ c.base → due ≡ next_number c → IsOpenedLog asked place old (wal_state new segment due None) c
+  unfolding kept_stores begun_stores
   opened_log new done segment due begun judged at base numbered = elim (needs_one log) [
     | inl none ↦
         let same : new ≡ log = (as_it_was log new (Ok done) begun none).0 in
         rw same (record {
           stores = kept_stores (begun_there log.format records log.count opened.counted none) segment due at base numbered;
+          clean = refl;
           judged = judged;
           running = opened.running;
           unreserved = refl;
@@ -299,6 +308,7 @@ module _ (place asked : ℕ) (old : List Moment) (log : LogState) (records : Lis
         let closed : new.closed ≡ log.closed = ap (λ (s : LogState). s.closed) there.1.changed in
         record {
           stores = begun_stores one.0 one.1 new done there.0 there.1 segment due at base numbered;
+          clean = none_left (length first_record + 9);
           judged = judged;
           running = closed ∙ opened.running;
           unreserved = refl;

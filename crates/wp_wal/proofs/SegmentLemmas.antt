@@ -16,7 +16,7 @@ use Rattle.wp_gatelog.specs.Durability.{HasAcknowledged}
 use Rattle.wp_gatelog.specs.Log.{IsAtRest, LogState, stamp_of}
 use Rattle.wp_gatelog.specs.Moments.{Leaves}
 use Rattle.wp_gatelog.specs.Spelling.{Stamp, stamped, IsUpTo, SpellsAt, log_of}
-use Rattle.wp_wal.specs.Segment.{IsAsked, IsBeside, IsEndFor, IsPlaceFor, NewSegmentState, SurvivesBeside, WrittenState, cut_behind}
+use Rattle.wp_wal.specs.Segment.{IsBeside, IsEndFor, IsPlaceFor, NewSegmentState, SurvivesBeside, WrittenState, cut_behind}
 use Rattle.wp_wal.specs.Spelling.{MAGIC, NEWEST, AreCut, IsBegun, IsLogAt, IsLogOrNextAt, HasAcknowledgedCut, base_of_cut}
 use Rattle.wp_wal.specs.Wal.{HasNumbers, LeavesCut, LosesNothingAt, Reserved, StoresCut, WalState, wal_state}
 use Rattle.wp_wal.proofs.AppendLemmas.{at_rest_leaves, each_other, known_other, left_both, loses_nothing, running_cut}
@@ -101,23 +101,6 @@ stores_same log segment due reserved also c stores = record {
   left = stores.left;
 }
 
--- where its length was asked for
-asked_same : (old mid : LogState) → IsAsked old mid → mid ≡ record old { faults = mid.faults }
-asked_same old mid (inl same) = rw same refl
-asked_same old mid (inr asked) = asked.1
-
--- a refusal that came behind that question
-pub refused_behind : (old mid new : LogState) (why : AppendError) → IsAsked old mid → old.faults ≤ mid.faults → FrameRefused mid new why → FrameRefused old new why
-refused_behind old mid new DiskFault asked later (running, rose, changed) =
-    let same = asked_same old mid asked in
-    let gate : mid.closed ≡ old.closed = ap (λ (s : LogState). s.closed) same in
-    (sym gate ∙ running, omega (arith, rose, later), changed ∙ ap (λ (s : LogState). record s { moments = new.moments; faults = new.faults; closed = true }) same)
-refused_behind old mid new (Closed n) (inl same) later (closed, count, kept) = subst (λ (s : LogState). FrameRefused s new (Closed n)) same (closed, count, kept)
-refused_behind old mid new (Closed n) (inr asked) later (closed, count, kept) =
-    let gate : mid.closed ≡ old.closed = ap (λ (s : LogState). s.closed) asked.1 in
-    let running : old.closed ≡ false = asked.0 in
-    absurd cc
-
 module _ (old : LogState) (segment : Segment) (due : ℕ) (reserved : Option Reserved) (c : Cut) (stores : StoresCut (wal_state old segment due reserved) c []) where
   abbrev pub place : ℕ
   place = segment.place
@@ -156,7 +139,7 @@ module _ (old : LogState) (segment : Segment) (due : ℕ) (reserved : Option Res
       }
 
   -- it stays as it is, if it is at rest between other bytes too
-  still_there : (new : LogState) → new ≡ record old { moments = new.moments; faults = new.faults } → (front dead : List ℕ) → place ≡ length front → IfKnown new.moments (IsAtRest MAGIC (stamp_of old) old.end front dead stores.records) → old.closed ≡ false
+  still_there : (new : LogState) → new ≡ record old { moments = new.moments } → (front dead : List ℕ) → place ≡ length front → IfKnown new.moments (IsAtRest MAGIC (stamp_of old) old.end front dead stores.records) → old.closed ≡ false
       → StoresCut (wal_state new segment due None) c []
   still_there new changed front dead begins rests running =
       let version : new.format ≡ old.format = ap (λ (s : LogState). s.format) changed in
@@ -199,20 +182,16 @@ module _ (old : LogState) (segment : Segment) (due : ℕ) (reserved : Option Res
 
   -- ---- what was written
 
-  module _ (mid new : LogState) (asked : IsAsked old mid) (at : ℕ) (base : Base) (bytes : List ℕ) (is : IsPlaceFor place (length bytes) at) (end : IsEndFor place (length bytes) old.moments at) where
+  module _ (new : LogState) (at : ℕ) (base : Base) (bytes : List ℕ) (is : IsPlaceFor place (length bytes) at) (end : IsEndFor place (length bytes) old.moments at) where
     abbrev pub written : NewSegmentState
     written = record { base = base; bytes = bytes }
 
-    -- the same log, with other faults
-    abbrev pub here : LogState
-    here = record old { faults = mid.faults }
-
-    writes_beside : {T E : Type 0} (result : Result T E) → old.closed ≡ false → Writes at bytes mid new result → WritesBeside at bytes MAGIC stores.front stores.dead stores.records here new result
+    writes_beside : {T E : Type 0} (result : Result T E) → old.closed ≡ false → Writes at bytes old new result → WritesBeside at bytes MAGIC stores.front stores.dead stores.records old new result
     writes_beside result running writes =
-        subst (λ (s : LogState). Writes at bytes s new result) (asked_same old mid asked) writes MAGIC stores.front stores.dead stores.records running (stores.rests running)
+        writes MAGIC stores.front stores.dead stores.records running (stores.rests running)
         (dead_there place (length bytes) at old.end (stamp_of old) stores.front stores.dead stores.records old.moments stores.begins is end (stores.rests running))
 
-    module _ {T E : Type 0} (result : Result T E) (beside : WritesBeside at bytes MAGIC stores.front stores.dead stores.records here new result) where
+    module _ {T E : Type 0} (result : Result T E) (beside : WritesBeside at bytes MAGIC stores.front stores.dead stores.records old new result) where
       passes : Passes (Leaves (IsLogAt old.id place c)) old.moments new.moments
       passes =
           let passed = beside.any_moment in
@@ -227,31 +206,25 @@ module _ (old : LogState) (segment : Segment) (due : ℕ) (reserved : Option Res
       keeps_records = loses_nothing old.moments new.moments place stores.front stores.begins beside.durable
 
     -- the disk failed, or the log was closed
-    pub refused_writing : {T : Type 0} (why : AppendError) → old.faults ≤ mid.faults → FrameRefused mid new why → Writes {T = T} {E = AppendError} at bytes mid new (Err why)
+    pub refused_writing : {T : Type 0} (why : AppendError) → FrameRefused old new why → Writes {T = T} {E = AppendError} at bytes old new (Err why)
         → SurvivesBeside {E = AppendError} c written (wal_state old segment due reserved) (wal_state new segment due None) (Err why)
-    refused_writing DiskFault later refused writes =
-        let from = refused_behind old mid new DiskFault asked later refused in
-        let beside = writes_beside (Err DiskFault) from.0 writes in
+    refused_writing DiskFault refused writes =
+        let beside = writes_beside (Err DiskFault) refused.0 writes in
         record {
           any_moment = passes (Err DiskFault) beside;
           durable = keeps_records (Err DiskFault) beside;
           beside = tt;
           still = tt;
           place = tt;
-          refused = stopped new from (passes (Err DiskFault) beside) (acknowledges (Err DiskFault) beside);
+          refused = stopped new refused (passes (Err DiskFault) beside) (acknowledges (Err DiskFault) beside);
         }
-    refused_writing (Closed n) later refused writes =
-        let from = refused_behind old mid new (Closed n) asked later refused in
-        refused_before new (Closed n) written from (ap (λ (s : LogState). s.moments) from.2)
+    refused_writing (Closed n) refused writes = refused_before new (Closed n) written refused (ap (λ (s : LogState). s.moments) refused.2)
 
     -- it stands beside the log in use
-    pub survives_beside : {T E F : Type 0} (x : T) (w : WrittenState) → mid.closed ≡ false → new ≡ record mid { moments = new.moments; faults = new.faults } → Writes {E = E} at bytes mid new (Ok x)
+    pub survives_beside : {T E F : Type 0} (x : T) (w : WrittenState) → old.closed ≡ false → new ≡ record old { moments = new.moments } → Writes {E = E} at bytes old new (Ok x)
         → IsBase base → IsWholeLog MAGIC (stamped Two old.id) (base_bytes base ∷ []) bytes → w.segment.place ≡ at → w.segment.base ≡ base.number → w.end + 1 ≡ at + length bytes → at ≢ place
         → SurvivesBeside {E = F} c written (wal_state old segment due reserved) (wal_state new segment due None) (Ok w)
-    survives_beside x w open_ grown writes is_base whole there based ends apart =
-        let asked_is = asked_same old mid asked in
-        let running : old.closed ≡ false = sym (ap (λ (s : LogState). s.closed) asked_is) ∙ open_ in
-        let changed : new ≡ record old { moments = new.moments; faults = new.faults } = grown ∙ ap (λ (s : LogState). record s { moments = new.moments; faults = new.faults }) asked_is in
+    survives_beside x w running changed writes is_base whole there based ends apart =
         let same : new.id ≡ old.id = ap (λ (s : LogState). s.id) changed in
         let beside = writes_beside (Ok x) running writes in
         let rests : IfKnown new.moments (IsAtRestAt w.segment.place MAGIC (stamped Two new.id) w.end (base_bytes base ∷ [])) = rw (same, there) (known_rests new.moments beside.rest whole w.end ends) in
@@ -277,7 +250,7 @@ module _ (old : LogState) (segment : Segment) (due : ℕ) (reserved : Option Res
         known_rests [] both whole_log last far = tt
         known_rests (m ∷ past) both whole_log last far = both.written MAGIC (stamped Two old.id) last (base_bytes base ∷ []) whole_log far
 
-        stands : (ms : List Moment) → new.moments ≡ ms → new ≡ record old { moments = new.moments; faults = new.faults } → old.closed ≡ false → IfKnown new.moments (BothRest at bytes (length stores.front) MAGIC (stamp_of old) old.end stores.records)
+        stands : (ms : List Moment) → new.moments ≡ ms → new ≡ record old { moments = new.moments } → old.closed ≡ false → IfKnown new.moments (BothRest at bytes (length stores.front) MAGIC (stamp_of old) old.end stores.records)
             → StoresCut (wal_state new segment due None) c []
         stands [] none changed running both = still_there new changed stores.front stores.dead stores.begins (rw none tt) running
         stands (m ∷ past) known changed running both =

@@ -44,9 +44,10 @@ pub record IsReadWal (asked place : ℕ) (old : List Moment) (read : ReadWalStat
 -- ---- an open one
 
 -- The log at that place was opened on a disk with these moments. It stores the cut that the disk spelled there, whose entries may come so, under the id and in
--- the version of the head; or, where no log was made, under the id that was asked for, in the newest version.
+-- the version of the head; or, where no log was made, under the id that was asked for, in the newest version. No byte follows the gate that ends it.
 pub record IsOpenedLog (asked place : ℕ) (old : List Moment) (wal : WalState) (c : Cut) : Type 0 where
   pub stores : StoresCut wal c []
+  pub clean : stores.dead ≡ []
   pub judged : IsJudged c
   pub running : wal.closed ≡ false
   pub unreserved : wal.reserved ≡ None

@@ -1,5 +1,5 @@
 -- Another segment of the log, written beside the one in use.
-use Rattle.std.specs.Prelude.{◌≡◌, ◌≢◌, ◌⊎◌, ℕ, ◌<◌, ◌≤◌, false, List, [], ◌∷◌, length, Result, OnOk, OnErr, IfOk}
+use Rattle.std.specs.Prelude.{◌≡◌, ◌≢◌, ◌⊎◌, ℕ, ◌<◌, ◌≤◌, List, [], ◌∷◌, length, Result, OnOk, OnErr, IfOk}
 use Rattle.wp_model.specs.declared.entry.Entry.{Entry}
 use Rattle.wp_model.specs.declared.segment.Segment.{Segment}
 use Rattle.wp_cuts.specs.Cut.{Cut, carried_of}
@@ -7,7 +7,6 @@ use Rattle.wp_outside.specs.Disk.{Moment, IfKnown, Passes}
 use Rattle.wp_fields.specs.declared.format.Format.TheVariants.{Two}
 use Rattle.wp_entry.specs.Base.{Base, IsBase, base_bytes}
 use Rattle.wp_gatelog.specs.Beside.{IsAtRestAt}
-use Rattle.wp_gatelog.specs.Log.{LogState}
 use Rattle.wp_gatelog.specs.Moments.{Leaves}
 use Rattle.wp_gatelog.specs.Spelling.{stamped}
 use Rattle.wp_wal.specs.Spelling.{MAGIC, IsLogAt, base_of_cut}
@@ -48,10 +47,6 @@ IsPlaceFor used size place = ((size ≤ used) × (place ≡ 0)) ⊎ ((used < siz
 -- where it is not 0, it is the device's end, if the log begins before that
 abbrev pub IsEndFor : ℕ → ℕ → List Moment → ℕ → Type 0
 IsEndFor used size moments place = used < size → IfKnown moments (λ m. used < length m.reads → place ≡ length m.reads)
-
--- the log's device was asked for its length, or was not
-abbrev pub IsAsked : LogState → LogState → Type 0
-IsAsked old new = (new ≡ old) ⊎ ((old.closed ≡ false) × (new ≡ record old { faults = new.faults }))
 
 -- This segment is written beside a log that stores the cut.
 pub record SurvivesBeside {E : Type 0} (c : Cut) (segment : NewSegmentState) (old new : WalState) (result : Result WrittenState E) : Type 0 where

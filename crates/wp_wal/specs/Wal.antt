@@ -106,7 +106,6 @@ pub record Appended (old new : WalState) (added : Reserved) : Type 0 where
   pub was_open : old.closed ≡ false
   pub changed : new ≡ record old {
     moments = new.moments;
-    faults = new.faults;
     end = old.end + length added.bytes + 9;
     count = old.count + 1;
     due = old.due + added.count;

@@ -47,7 +47,7 @@ impl<D: Disk> ReadWal<D> {
         ensures read { IfOk result (IsReadWal id place (D.moments disk)) }
         ensures refused { IfErr result (λ refused. IsUnopenedLog place
             (D.moments disk) (D.moments refused.disk) (D.faults disk) (D.faults refused.disk) refused.why) }
-        ensures later { MatchResult result (λ read. D.faults disk ≤ read.log.faults) (λ refused. D.faults disk ≤ D.faults refused.disk) }
+        ensures faults { MatchResult result (λ read. read.log.faults ≡ D.faults disk) (λ refused. D.faults disk ≤ D.faults refused.disk) }
     {
         let log = match ReadLog::read(alloc, disk, place, LOG_MAGIC, Format::Two, id) {
             Ok(log) => log,
@@ -95,6 +95,7 @@ impl<D: Disk> ReadWal<D> {
             (λ opened. KeepsWal place asked old opened.0.moments self.log.faults opened.0.faults)
             (λ refused. KeepsWal place asked old (D.moments refused.disk) self.log.faults (D.faults refused.disk)) }
         ensures failed { IfErr result (λ refused. Rose self.log.faults (D.faults refused.disk)) }
+        ensures unfailed { IfOk result (λ opened. opened.0.faults ≡ self.log.faults) }
     {
         let ReadWal {
             alloc,

@@ -8,7 +8,7 @@ ghost use Rattle.wp_entry.specs.Record.{last_number};
 ghost use Rattle.wp_gatelog.specs.Append.{FrameRefused};
 ghost use Rattle.wp_gatelog.specs.Beside.{IsWholeLog};
 ghost use Rattle.wp_gatelog.specs.Spelling.{stamped};
-ghost use Rattle.wp_wal.specs.Segment.{IsAsked, IsBeside, IsEndFor, IsPlaceFor, SurvivesBeside};
+ghost use Rattle.wp_wal.specs.Segment.{IsBeside, IsEndFor, IsPlaceFor, SurvivesBeside};
 ghost use Rattle.wp_wal.specs.Spelling.{MAGIC};
 ghost use Rattle.wp_wal.specs.Wal.{Refuses, StoresCut};
 
@@ -74,7 +74,7 @@ impl Written {
 fn place_beside<D: Disk>(log: &mut GateLog<D>, used: u64, size: u64) -> Result<u64, AppendError>
     ensures place { IfOk result (IsPlaceFor used size) }
     ensures end { IfOk result (IsEndFor used size log.old.moments) }
-    ensures ok { OnOk result (IsAsked log.old log.new) }
+    ensures ok { OnOk result (log.new ≡ log.old) }
     ensures err { IfErr result (FrameRefused log.old log.new) }
     ensures moments { log.new.moments ≡ log.old.moments }
     ensures later { log.old.faults ≤ log.new.faults }
@@ -111,7 +111,7 @@ impl<D: Disk> Wal<D> {
     /// afterwards; after a fault the log is closed.
     pub fn write_segment(&mut self, new: &NewSegment) -> Result<Written, AppendError>
         ensures ok { IfOk result (λ w. (w.segment.base ≡ new.now.base.number) × (w.segment.place ≢ self.old.segment.place)
-            × (self.new ≡ record self.old { moments = self.new.moments; faults = self.new.faults; reserved = None })) }
+            × (self.new ≡ record self.old { moments = self.new.moments; reserved = None })) }
         ensures place { IfOk result (λ w. IsPlaceFor self.old.segment.place (length new.now.bytes) w.segment.place
             × (w.end + 1 ≡ w.segment.place + length new.now.bytes)) }
         ensures writes { (c : Cut) → StoresCut self.old c [] → IsBase new.now.base

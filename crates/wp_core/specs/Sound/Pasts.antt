@@ -98,7 +98,7 @@ pub record AreFaults (writes : WriteState) (halted : Bool) (pasts : List (List (
   pub of_log : (entries : List Entry) → IsPast pasts (log_failed entries) → writes.stopped ≡ false
   -- it was stopped only where the devices of the tables had failed, and then no append failed
   pub behind : IsPast pasts log_stopped → halted ≡ true
-  pub unfailed : IsPast pasts log_stopped → (writes.closed ≡ true) × (writes.failed ≡ [])
+  pub unfailed : IsPast pasts log_stopped → (writes.closed ≡ true) × (writes.stopped ≡ true) × (writes.failed ≡ [])
 
 -- ---- edits
 

@@ -22,7 +22,7 @@ has_versions other = false
 abbrev pub has_versions_at : List Entry → ℕ → Bool
 has_versions_at history p = has_versions (entry_at history p)
 
-abbrev pub count_of : Option snaps.Snapshot → ℕ
+abbrev pub count_of : Option snaps.LiveSnapshot → ℕ
 count_of None = 0
 count_of (Some x) = x.registrations
 
@@ -57,5 +57,5 @@ AreFromBase base snapshots = (s : ℕ) → IsLive snapshots s → base ≤ s
 -- the counts are the sums of the actors' registrations, and each live number is at most the published one
 pub record AreRegistered (history : List Entry) (snapshots : Snapshots) (registered : List (List (List Registration))) : Type 0 where
   pub counted : (s : ℕ) → count_of (finite.get snapshots s) ≡ registrations_at s registered
-  pub live : (s : ℕ) (x : snaps.Snapshot) → finite.get snapshots s ≡ Some x → (1 ≤ x.registrations) × (s ≤ length history)
+  pub live : (s : ℕ) (x : snaps.LiveSnapshot) → finite.get snapshots s ≡ Some x → (1 ≤ x.registrations) × (s ≤ length history)
   pub smallest : EachParticipant (AreBelowCommitted history) registered

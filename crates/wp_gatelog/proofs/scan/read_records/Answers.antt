@@ -1,4 +1,4 @@
-use Rattle.std.proofs.Common.{◌≡◌, ◌+◌, ◌∷◌, [], ◌++◌, Some, List, ℕ, length, take, drop, refl, rules, arith}
+use Rattle.std.proofs.Common.{◌≡◌, ◌+◌, ◌∷◌, [], ◌++◌, Some, List, ℕ, length, take, drop, refl, ◌∙◌, rules, arith}
 use Rattle.wp_outside.specs.Disk.{Moment}
 use Rattle.wp_outside.proofs.Moments.{looks_on, looks_same}
 use Rattle.wp_gatelog.specs.declared.error.LogError.TheVariants as error
@@ -11,7 +11,7 @@ use Rattle.wp_gatelog.proofs.scan.read_records.Goals as goal
 pub gates-init : goal.gates-init
 gates-init g c = record {
   looks = looks_same _ _ _ _ refl refl;
-  later = omega arith;
+  unfailed = refl;
   count = omega arith;
   scanned = (let one : c.of-piece.result ≡ c.args.first ∷ [] = search rules in rw (one, c.new-records.ensures.items) (scan_begins c.args.start (g.P.Peek.moments c.args.disk.now) c.args.first));
 }
@@ -45,7 +45,7 @@ gates-preserved g c =
     c.in-Open.gate len c.args.reach record_is c.requires refl found) old c.gates.invariant.scanned in
     record {
       looks = looks_on _ _ _ _ _ _ c.gates.invariant.looks c.read_next.ensures.looks;
-      later = omega (arith, c.gates.invariant.later, c.read_next.ensures.later);
+      unfailed = c.in_ok-read_next.ensures.unfailed ∙ c.gates.invariant.unfailed;
       count = omega (arith, c.gates.invariant.count, c.in_ok-size-in-Open.ensures.count, size);
       scanned = rw (taken, c.pass.ensures, size) scanned;
     }

@@ -1,4 +1,4 @@
-use Rattle.std.proofs.Common.{◌≡◌, ◌<◌, length, refl, rules, arith}
+use Rattle.std.proofs.Common.{◌≡◌, ◌<◌, length, refl, ◌∙◌, rules}
 use Rattle.wp_outside.specs.Disk.{IsRead}
 use Rattle.wp_outside.proofs.Moments.{looks_on, looks_same}
 use Rattle.wp_gatelog.specs.Scanning.{IsWholeAt}
@@ -7,12 +7,12 @@ use Rattle.wp_gatelog.proofs.ScanLemmas.{finished, left_read, whole_read}
 use Rattle.wp_gatelog.proofs.scan.read_whole.Goals as goal
 
 pub sizes-init : goal.sizes-init
-sizes-init g c = record { looks = looks_same _ _ _ _ refl refl; later = omega arith }
+sizes-init g c = record { looks = looks_same _ _ _ _ refl refl; unfailed = refl }
 
 pub sizes-preserved : goal.sizes-preserved
 sizes-preserved g c = record {
   looks = looks_on _ _ _ _ _ _ c.sizes.invariant.looks (looks_on _ _ _ _ _ _ c.read_at.ensures.looks c.len.ensures.looks);
-  later = omega (arith, c.sizes.invariant.later, c.read_at.ensures.cause.later, c.len.ensures.cause.later);
+  unfailed = c.in_ok-len.ensures.cause.ok ∙ c.in_ok-read.ensures.cause.ok ∙ c.sizes.invariant.unfailed;
 }
 
 pub returns-then-read-size-clause-found : goal.returns-then-read-size-clause-found

@@ -1,7 +1,6 @@
 use Rattle.std.proofs.Common.{◌≡◌, ◌≢◌, [], inl, inr, refl, sym, ap, subst, ◌∙◌, ℕ, arith}
 use Rattle.wp_history.specs.Outline.{cut_in}
 use Rattle.wp_manifest.specs.Edit.{place_of}
-use Rattle.wp_wal.specs.Opening.{KeepsWal}
 use Rattle.wp_refused.specs.declared.bad.Bad.{Bad}
 use Rattle.wp_refused.specs.declared.error.OpenError.TheVariants as open_error
 use Rattle.wp_refused.specs.Refused.{IsLogBroken, IsLogLeft, IsLogSeen, WasRead}
@@ -27,7 +26,7 @@ returns-in-Err-read-clause-refused g c =
     let s = as_seen c.args.id g.D.Peek.moments g.D.Peek.faults c.args.disks.manifest c.in-Ok.seen c.in-Ok.ensures.made in
     let e = c.in-Err-read.ensures in
     rw (c.refuse-in-Err-read.ensures.log, c.refuse-in-Err-read.ensures.manifest, c.refuse-in-Err-read.ensures.tables, c.refuse-in-Err-read.ensures.why, c.into_disk.ensures.moments, c.into_disk.ensures.faults)
-    (log_refused c.a_store_is_opened_in_one_way.ensures.opened_or_damaged c.args.id _ _ _ _ _ refl (omega arith) s.found s.list c.place.result c.in-Err-read.field-0.why (c.place.ensures ∙ s.place) s.reads s.left c.log_reason.ensures e.refused e.later s.durable s.later)
+    (log_refused c.a_store_is_opened_in_one_way.ensures.opened_or_damaged c.args.id _ _ _ _ _ refl (omega arith) s.found s.list c.place.result c.in-Err-read.field-0.why (c.place.ensures ∙ s.place) s.reads s.left c.log_reason.ensures e.refused e.faults s.durable s.later)
 
 -- ---- it is another store's
 
@@ -46,7 +45,7 @@ returns-in-Some-clause-refused g c =
     subst (λ (n : ℕ). IsLogSeen n c.place.result cut (g.D.Peek.moments c.args.disks.log) read.log.moments) (sym id) (record { found = is.found; left = is.log.synced }) in
     rw (c.refuse-in-Some.ensures.log, c.refuse-in-Some.ensures.manifest, c.refuse-in-Some.ensures.tables, c.refuse-in-Some.ensures.why, c.into_disk-in-Some.ensures.moments, c.into_disk-in-Some.ensures.faults, c.into_disk-in-Some-2.ensures.moments, c.into_disk-in-Some-2.ensures.faults)
     (ids_refused c.a_store_is_opened_in_one_way.ensures.opened_or_damaged c.args.id _ _ _ _ _ refl (omega arith) c.id-log.result found cut s.list s.reads finds s.differ s.other
-    (subst (λ (n : ℕ). IsLogSeen c.id-log.result n cut (g.D.Peek.moments c.args.disks.log) read.log.moments) place seen) s.left refl c.in-Ok-read.ensures.later s.durable s.later)
+    (subst (λ (n : ℕ). IsLogSeen c.id-log.result n cut (g.D.Peek.moments c.args.disks.log) read.log.moments) place seen) s.left refl (omega (arith, c.in-Ok-read.ensures.faults)) s.durable s.later)
 
 -- ---- its device fails while it is repaired
 
@@ -54,15 +53,12 @@ pub returns-in-Err-repair-clause-refused : goal.returns-in-Err-repair-clause-ref
 returns-in-Err-repair-clause-refused g c =
     let read = c.in-Ok-read.read in
     let is = c.in-Ok-read.ensures.read in
-    let later = c.in-Ok-read.ensures.later in
+    let same = c.in-Ok-read.ensures.faults in
     let s = as_seen c.args.id g.D.Peek.moments g.D.Peek.faults c.args.disks.manifest c.in-Ok.seen c.in-Ok.ensures.made in
     let place = c.place.ensures ∙ s.place in
-    let kept = c.in-Err-repair.ensures.kept c.args.id c.place.result (g.D.Peek.moments c.args.disks.log) is in
-    let on = kept.later in
     let rose = c.in-Err-repair.ensures.failed in
     let disk = c.in-Err-repair.field-0.disk in
-    let keeps : KeepsWal c.place.result c.args.id (g.D.Peek.moments c.args.disks.log) (g.D.Peek.moments disk) (g.D.Peek.faults c.args.disks.log) (g.D.Peek.faults disk) =
-    record { survives = kept.survives; durable = kept.durable; later = omega (arith, later, on) } in
+    let keeps = rw same at (c.in-Err-repair.ensures.kept c.args.id c.place.result (g.D.Peek.moments c.args.disks.log) is) in
     let old : DevicesLeft = devices_of g.D.Peek.moments g.D.Peek.faults c.args.disks in
     let new : DevicesLeft = record {
       log = g.D.Peek.moments disk;
@@ -75,7 +71,7 @@ returns-in-Err-repair-clause-refused g c =
     rw (c.refuse-in-Err-repair.ensures.log, c.refuse-in-Err-repair.ensures.manifest, c.refuse-in-Err-repair.ensures.tables, c.refuse-in-Err-repair.ensures.why, c.into_disk-in-Err-repair.ensures.moments, c.into_disk-in-Err-repair.ensures.faults)
     (repair_refused c.a_store_is_opened_in_one_way.ensures.opened_or_damaged c.args.id _ _ old new _ refl (omega arith) c.id-log.result s.found (cut_in read.outline) s.list s.reads (s.under c.id-log.result (c.in_default.ensures.none))
     (subst (λ (n : ℕ). IsLogBroken c.args.id c.id-log.result n (cut_in read.outline) old new) place (subst (λ (n : ℕ). IsLogBroken c.args.id n c.place.result (cut_in read.outline) old new) (sym c.id-log.ensures) (record { found = is.found; kept = keeps })))
-    (omega (arith, rose, later)) refl s.durable s.later)
+    (rw same at rose) refl s.durable s.later)
 
 -- ---- no manifest is made
 
@@ -83,14 +79,12 @@ pub returns-in-Err-open-clause-refused : goal.returns-in-Err-open-clause-refused
 returns-in-Err-open-clause-refused g c =
     let read = c.in-Ok-read.read in
     let is = c.in-Ok-read.ensures.read in
-    let later = c.in-Ok-read.ensures.later in
+    let same = c.in-Ok-read.ensures.faults in
     let wal = c.in-Ok-repair.opened.0 in
     let cut = cut_in read.outline in
     let back = c.into_disk-in-Err-open.ensures in
     let opened = c.in-Ok-repair.ensures.opened c.args.id c.place.result (g.D.Peek.moments c.args.disks.log) is in
-    let kept = c.in-Ok-repair.ensures.kept c.args.id c.place.result (g.D.Peek.moments c.args.disks.log) is in
-    let on = kept.later in
-    let keeps : KeepsWal c.place.result c.args.id (g.D.Peek.moments c.args.disks.log) wal.moments (g.D.Peek.faults c.args.disks.log) wal.faults = record { survives = kept.survives; durable = kept.durable; later = omega (arith, later, on) } in
+    let keeps = rw same at (c.in-Ok-repair.ensures.kept c.args.id c.place.result (g.D.Peek.moments c.args.disks.log) is) in
     let id : wal.id ≡ c.id-log.result = c.in-Ok-repair.ensures.same.0 ∙ sym c.id-log.ensures in
     let s = as_none c.args.id g.D.Peek.moments g.D.Peek.faults c.args.disks.manifest c.id-log.result c.in-Ok.seen c.in-Err-open.field-0.disk c.in-Err-open.field-0.why c.in-Ok.ensures.made c.in-Err-open.ensures.refused in
     let old : DevicesLeft = devices_of g.D.Peek.moments g.D.Peek.faults c.args.disks in
@@ -115,14 +109,12 @@ returns-in-Err-may_open-clause-refused g c =
     let law = c.a_store_is_opened_in_one_way.ensures.opened_or_damaged in
     let manifest = g.D.Peek.moments c.args.disks.manifest in
     let is = c.in-Ok-read.ensures.read in
-    let later = c.in-Ok-read.ensures.later in
+    let same = c.in-Ok-read.ensures.faults in
     let wal = c.in-Ok-repair.opened.0 in
     let edits = c.in-Ok-open.manifest in
     let cut = cut_in c.in-Ok-read.read.outline in
     let opened = c.in-Ok-repair.ensures.opened c.args.id c.place.result (g.D.Peek.moments c.args.disks.log) is in
-    let kept = c.in-Ok-repair.ensures.kept c.args.id c.place.result (g.D.Peek.moments c.args.disks.log) is in
-    let on = kept.later in
-    let keeps : KeepsWal c.place.result c.args.id (g.D.Peek.moments c.args.disks.log) wal.moments (g.D.Peek.faults c.args.disks.log) wal.faults = record { survives = kept.survives; durable = kept.durable; later = omega (arith, later, on) } in
+    let keeps = rw same at (c.in-Ok-repair.ensures.kept c.args.id c.place.result (g.D.Peek.moments c.args.disks.log) is) in
     let id : c.id-log.result ≡ wal.id = c.id-log.ensures ∙ sym c.in-Ok-repair.ensures.same.0 in
     let made = c.in-Ok.ensures.made in
     let same = subst (λ (n : ℕ). HasSame n c.in-Ok.seen) id c.in_default.ensures.none in
@@ -160,16 +152,14 @@ returns-in-Err-may_open-clause-refused g c =
 pub returns-in-Ok-may_open-clause-opened : goal.returns-in-Ok-may_open-clause-opened
 returns-in-Ok-may_open-clause-opened g c =
     let is = c.in-Ok-read.ensures.read in
-    let later = c.in-Ok-read.ensures.later in
+    let same = c.in-Ok-read.ensures.faults in
     let wal = c.in-Ok-repair.opened.0 in
     let opened = c.in-Ok-repair.ensures.opened c.args.id c.place.result (g.D.Peek.moments c.args.disks.log) is in
-    let kept = c.in-Ok-repair.ensures.kept c.args.id c.place.result (g.D.Peek.moments c.args.disks.log) is in
-    let on = kept.later in
-    let keeps : KeepsWal c.place.result c.args.id (g.D.Peek.moments c.args.disks.log) wal.moments (g.D.Peek.faults c.args.disks.log) wal.faults = record { survives = kept.survives; durable = kept.durable; later = omega (arith, later, on) } in
+    let keeps = rw same at (c.in-Ok-repair.ensures.kept c.args.id c.place.result (g.D.Peek.moments c.args.disks.log) is) in
     let id : c.id-log.result ≡ wal.id = c.id-log.ensures ∙ sym c.in-Ok-repair.ensures.same.0 in
     let edits = c.in-Ok-open.manifest in
     let ok = c.in-Ok-may_open.ensures.ok in
     rw (c.in-Ok-repair.ensures.same.1)
     (logs_opened c.args.id g.D.Peek.moments g.D.Peek.faults c.args.disks c.in-Ok.seen wal (cut_in c.in-Ok-read.read.outline) edits c.in-Ok.ensures.made
     (subst (λ (n : ℕ). HasSame n c.in-Ok.seen) id c.in_default.ensures.none) (rw id at c.in-Ok-open.ensures.opened)
-    (rw c.place.ensures at opened) (rw c.place.ensures at keeps) ok.0 ok.1)
+    (rw c.place.ensures at opened) (rw c.place.ensures at keeps) (c.in-Ok-repair.ensures.unfailed ∙ same) ok.0 ok.1)

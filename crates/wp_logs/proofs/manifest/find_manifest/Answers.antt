@@ -1,4 +1,4 @@
-use Rattle.std.proofs.Common.{◌≡◌, ◌↔◌, true, false, refl, true≢false}
+use Rattle.std.proofs.Common.{◌≡◌, ◌↔◌, true, false, refl, ◌∙◌, true≢false}
 use Rattle.wp_gatelog.specs.Spelling.{IsUnmade}
 use Rattle.wp_gatelog.proofs.MomentLemmas.{known_map}
 use Rattle.wp_refused.proofs.Stages.{cause_since, kept_since, seen_durable, seen_only}
@@ -12,6 +12,7 @@ returns-in-Ok-clause-made g c =
       rw same at c.in-Ok.ensures.opened,
       known_map (λ m. (true ≡ false) ↔ IsUnmade m.reads) (λ m. IsUnmade m.reads → ⊥) (λ m is unmade. true≢false (is.1 unmade)) old (rw c.in-Ok-true.field-0-test at c.in-Ok-true.ensures.made),
       kept_since c.args.id _ _ _ old c.in-Ok.manifest.log.moments looked.cause.later (rw same at c.in-Ok.ensures.kept),
+      c.in-Ok.ensures.unfailed ∙ c.in-Ok-true.ensures.cause.ok,
     )
 
 pub returns-in-Err-open-clause-refused : goal.returns-in-Err-open-clause-refused
@@ -28,7 +29,7 @@ returns-in-Err-open-clause-kept g c =
 pub returns-in-Ok-false-clause-made : goal.returns-in-Ok-false-clause-made
 returns-in-Ok-false-clause-made g c =
     let old = g.D.Peek.moments c.args.disk in
-    (c.is_made.ensures.unchanged, c.is_made.ensures.cause.later, known_map (λ m. (false ≡ false) ↔ IsUnmade m.reads) (λ m. IsUnmade m.reads) (λ m is. is.0 refl) old (rw c.in-Ok-false.field-0-test at c.in-Ok-false.ensures.made))
+    (c.is_made.ensures.unchanged, c.in-Ok-false.ensures.cause.ok, known_map (λ m. (false ≡ false) ↔ IsUnmade m.reads) (λ m. IsUnmade m.reads) (λ m is. is.0 refl) old (rw c.in-Ok-false.field-0-test at c.in-Ok-false.ensures.made))
 
 pub returns-in-Err-clause-kept : goal.returns-in-Err-clause-kept
 returns-in-Err-clause-kept g c = record {

@@ -58,7 +58,7 @@ returns-in-Ok-open_store-clause-found g c =
           (g.D.Peek.moments c.open_store.new.tables) c.in-Ok-open_store.store (returns-in-Ok-open_store-clause-opened g c);
       log = rw l.log.placed l.log_kept;
       manifest = l.manifest_kept;
-      tables_later = rw c.in-Ok.ensures.tables at c.open_store.ensures.later;
+      unfailed = (l.unfailed.0, l.unfailed.1, rw c.in-Ok.ensures.tables at c.in-Ok-open_store.ensures.unfailed);
     }
 
 -- ---- what the last edit says is refused

@@ -33,7 +33,7 @@ returns-in_err-table-clause-cause g c =
     rw (p.1, p.2) (tables_cause c.args.id edit c.in-Ok.len (g.P.Peek.faults c.args.tables.now) (g.P.Peek.faults c.loop-placed.tables) (g.P.Peek.faults c.read_table.new.tables) old new (take i items) (drop (suc i) items) (get_or items i (0, 0)) parts
     (at_place items edit.tables i (0, 0) lt (c.deref-placed-items.ensures.value ∙ tables_is)) (looks_on old mid new _ _ _ c.loop-placed.invariant.looks c.read_table.ensures.looks).passes
     (shown_later c.args.id edit.flushed old mid new looks (take i items) parts c.loop-placed.invariant.there) (sometime_later (λ m. c.in-Ok.len ≡ length m.reads) old mid new looks c.loop-placed.invariant.sized)
-    (c.loop-placed.invariant.as_many ∙ sym (length-take-le i items (omega (arith, lt)))) c.loop-placed.invariant.are c.loop-placed.invariant.later c.in_err-table.field-0.0 cause)
+    (c.loop-placed.invariant.as_many ∙ sym (length-take-le i items (omega (arith, lt)))) c.loop-placed.invariant.are (omega (arith, c.loop-placed.invariant.unfailed)) c.in_err-table.field-0.0 cause)
 
 pub returns-in_err-table-clause-looks : goal.returns-in_err-table-clause-looks
 returns-in_err-table-clause-looks g c = looks_on _ _ _ _ _ _ c.loop-placed.invariant.looks c.read_table.ensures.looks
@@ -47,7 +47,7 @@ returns-in_err-push-clause-looks g c = looks_on _ _ _ _ _ _ c.loop-placed.invari
 pub loop-placed-init : goal.loop-placed-init
 loop-placed-init g c = record {
   looks = c.len.ensures.looks;
-  later = c.len.ensures.cause.later;
+  unfailed = c.in-Ok.ensures.cause.ok;
   sized = sometime_now (λ m. c.in-Ok.len ≡ length m.reads) _ _ c.len.ensures.looks.passes c.in-Ok.ensures.length;
   there = search rules;
   are = search rules;
@@ -69,7 +69,7 @@ loop-placed-preserved g c =
     let is = ap (map arc_value) c.in_ok-push.ensures.items ∙ map_push arc_value c.loop-placed.parts.items c.in_ok-new.field-0 ∙ ap (λ (v : List Version). map arc_value c.loop-placed.parts.items ++ v ∷ []) c.in_ok-new.ensures.ok in
     record {
       looks = looks;
-      later = omega (arith, c.read_table.ensures.later, c.loop-placed.invariant.later);
+      unfailed = c.in_ok-table.ensures.unfailed ∙ c.loop-placed.invariant.unfailed;
       sized = sometime_later (λ m. c.in-Ok.len ≡ length m.reads) old mid new c.read_table.ensures.looks.passes c.loop-placed.invariant.sized;
       there = tables_more c.args.id c.args.edit.now.flushed items i (0, 0) (map arc_value c.loop-placed.parts.items) (map arc_value c.push.new.self.items) versions old mid new lt is c.read_table.ensures.looks.passes looks.passes c.loop-placed.invariant.there one;
       are = all_more (IsTable c.args.id c.args.edit.now.flushed) (map arc_value c.loop-placed.parts.items) (map arc_value c.push.new.self.items) versions is c.loop-placed.invariant.are (subst (λ (n : ℕ). IsTable c.args.id n versions) flushed_is c.in_ok-table.ensures.is);

@@ -7,7 +7,7 @@ invariant-loop-piece g l = record {
   consumed : Consumes (g.S.Source.left l.initial.source) (g.S.Source.left l.source) l.bytes.items;
   few : length l.bytes.items ≤ l.most;
   piece : length l.piece ≡ 4096;
-  later : g.S.Source.faults l.initial.source ≤ g.S.Source.faults l.source;
+  unfailed : g.S.Source.faults l.source ≡ g.S.Source.faults l.initial.source;
 }
 
 abbrev pub decreases-loop-piece : goal.decreases-loop-piece

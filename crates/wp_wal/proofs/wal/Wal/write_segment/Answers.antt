@@ -15,10 +15,11 @@ returns-in_err-write_beside-clause-writes g c =
     let inside = c.self.inside in
     let place = rw c.bytes-bytes.ensures at c.in_ok-place.ensures.place in
     let end = rw c.bytes-bytes.ensures at c.in_ok-place.ensures.end in
-    let writes = rw c.bytes-bytes.ensures at c.in_err-write_beside.ensures.writes in
+    let same = c.in_ok-place.ensures.ok in
+    let writes = rw (c.bytes-bytes.ensures, same) at c.in_err-write_beside.ensures.writes in
     rw (p.1, p.2, ← c.self.view_is, ← c.new.view_is)
-    (λ cut stores is whole. refused_writing inside.log inside.segment inside.due inside.reserved cut stores c.place_beside.new.log c.write_beside.new.self c.in_ok-place.ensures.ok c.in_ok-place.place c.new.inside.base.value c.new.inside.log place end c.in_err-write_beside.field-0.0
-    c.place_beside.ensures.later c.in_err-write_beside.ensures.err writes)
+    (λ cut stores is whole. refused_writing inside.log inside.segment inside.due inside.reserved cut stores c.write_beside.new.self c.in_ok-place.place c.new.inside.base.value c.new.inside.log place end c.in_err-write_beside.field-0.0
+    (rw same at c.in_err-write_beside.ensures.err) writes)
 
 pub returns-clause-writes : goal.returns-clause-writes
 returns-clause-writes g c =
@@ -27,9 +28,11 @@ returns-clause-writes g c =
     let bytes = c.new.inside.log in
     let place = rw c.bytes-bytes.ensures at c.in_ok-place.ensures.place in
     let end = rw c.bytes-bytes.ensures at c.in_ok-place.ensures.end in
-    let writes = rw c.bytes-bytes.ensures at c.in_ok-write_beside.ensures.writes in
+    let same = c.in_ok-place.ensures.ok in
+    let writes = rw (c.bytes-bytes.ensures, same) at c.in_ok-write_beside.ensures.writes in
+    let ok = rw same at c.in_ok-write_beside.ensures.ok in
     let some = c.new.invariant.1 in
     let ends : at + length c.bytes-bytes.result.now - 1 + 1 ≡ at + length bytes = rw c.bytes-bytes.ensures (omega (arith, some)) in
     rw (← c.self.view_is, ← c.new.view_is)
-    (λ cut stores is whole. survives_beside inside.log inside.segment inside.due inside.reserved cut stores c.place_beside.new.log c.write_beside.new.self c.in_ok-place.ensures.ok at c.new.inside.base.value bytes place end _ _ c.in_ok-write_beside.ensures.ok.0 c.in_ok-write_beside.ensures.ok.1 writes is whole refl
+    (λ cut stores is whole. survives_beside inside.log inside.segment inside.due inside.reserved cut stores c.write_beside.new.self at c.new.inside.base.value bytes place end _ _ ok.0 ok.1 writes is whole refl
     c.new.invariant.0 ends (places_differ inside.segment.place (length bytes) at some place))
