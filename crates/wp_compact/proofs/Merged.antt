@@ -34,6 +34,7 @@ use Rattle.wp_compact.specs.declared.decided.Bases.{Bases}
 use Rattle.wp_compact.specs.Compaction.{IsOpenedBase, IsPin, MayMerge, MayPutKept}
 use Rattle.wp_maint.specs.Holding.{is_of_flushed, is_of_tables, HoldsEdits}
 use Rattle.wp_maint.specs.Installs.{next_of, HasBroken, HasInstalled}
+use Rattle.wp_maint.proofs.Became.{tables_became}
 use Rattle.wp_maint.proofs.Onward.{changed_seat, held_left, found_later, flushed_free, tables_free, goes_remembering}
 use Rattle.wp_compact.proofs.Replaces.{all_in_one, in_one_is, number_in}
 use Rattle.wp_maint.proofs.Throughout.{opens_throughout}
@@ -141,17 +142,7 @@ module _ {D : Type 0} (z : SharedState D) (s u : SeatState) (e left : VersionSet
               (subst (λ (x : (List Entry × List ℕ) × ℕ). IsCompactionCount x.0.0 x.1 floor (length (retained x.0.0 x.0.1 e.state.last))) (λ i. (same i, opened.2 i)) may.few);
           left = held_left z s u v (record e.state { last = after_compaction (take floor v.knows.participant.seen) (listed (numbers_of live) first.segment.base e.state.last) e.state.last }) k.stands (changed_seat z s u e.state left.state k.changes) seen (ap (λ (x : SeatState). x.knows.participant) put.same)
               (subst (λ (t : Installed). IsIn (installed t) u.knows.held) (k.state ∙ ap (λ (edit : InstalledEdit). record e.state { last = edit }) named) (subst (IsIn (installed left.state)) (sym k.holds.turn.held) (inl refl)));
-          state = record {
-            before = e;
-            after = left;
-            of_store = holds.of_store;
-            still_of_store = k.holds.of_store;
-            before_is = refl;
-            after_is = k.state ∙ ap (λ (edit : InstalledEdit). record e.state { last = edit }) named;
-            edits = k.edits;
-            still_edits = k.still_edits;
-            so = parts ∙ ap (λ (l : List Version). new_parts l) kept_then;
-          };
+          state = tables_became e left holds.of_store k.holds.of_store k.edits k.still_edits (k.state ∙ ap (λ (edit : InstalledEdit). record e.state { last = edit }) named) (parts ∙ ap (λ (l : List Version). new_parts l) kept_then);
           survives = subst (SurvivesInstall e left) named k.survives;
           throughout = opens_throughout s.knows.participant.seen v.knows.participant.seen e left next (after_compaction (take floor v.knows.participant.seen) (listed (numbers_of live) first.segment.base e.state.last) e.state.last) k.edits running k.survives next_covered refl then named;
           goes_on = subst (λ (edit : InstalledEdit). GoesOnAs s v (after edit)) named (goes_still s u v (after next) one second);
@@ -181,7 +172,7 @@ module _ {D : Type 0} (z : SharedState D) (s u : SeatState) (e left : VersionSet
         next = asked_so left.state.failed k.asked same;
         left = held_left z s u u (with_failed e.state left.state.failed) k.stands (changed_seat z s u e.state left.state k.changes) same refl
             (subst (λ (t : Installed). IsIn (installed t) u.knows.held) k.state (subst (IsIn (installed left.state)) (sym k.holds.turn.held) (inl refl)));
-        fault = record { before = e; after = left; of_store = holds.of_store; still_of_store = k.holds.of_store; before_is = refl; after_is = k.state; edits = k.edits; still_edits = k.still_edits; so = k.fault };
+        fault = tables_became e left holds.of_store k.holds.of_store k.edits k.still_edits k.state k.fault;
         survives = (next, asked_so (Some next) refl same, k.survives, opens_throughout s.knows.participant.seen u.knows.participant.seen e left next next k.edits running k.survives next_covered refl same refl);
         goes_on = goes_remembering s u (found_by z s u e.state k.changes.found ∷ tables_failed e.state.last left.state.failed ∷ []) no_fact (installed left.state ∷ []) s.turns k.changes.goes loose_none;
       }

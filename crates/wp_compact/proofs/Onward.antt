@@ -24,6 +24,7 @@ use Rattle.wp_compact.specs.Calls.{FewTables, CompactsFrom, IsCompactionOf}
 use Rattle.wp_compact.specs.declared.decided.Bases.{Bases}
 use Rattle.wp_compact.specs.Compaction.{AreBases, HadDecision, HadVersions, IsPassed, IsOvertaken, BeginsAgain, EndsRoundFrom}
 use Rattle.wp_maint.specs.Moments.{OpensThroughout}
+use Rattle.wp_maint.proofs.Became.{tables_so}
 use Rattle.wp_maint.proofs.Onward.{IsSeat, found_so, had_between, holds_so, nothing_so, remembers_so, throughout_so}
 
 -- ---- the tables and the log that it held
@@ -87,17 +88,7 @@ module _ {D : Type 0} (First Last : Participant → Type 0) (z : SharedState D) 
       versions = k.versions ∙ ap (λ (h : List Entry). length (retained h (listed k.live k.first.segment.base e.last) e.last)) p.1;
       few = subst (λ (h : List Entry). IsCompactionCount h k.first.segment.base done.at done.versions) p.1 k.few;
       left = subst (λ (h : List Entry). HeldTables z s v v.knows.participant.past (record e { last = after_compaction h (listed k.live k.first.segment.base e.last) e.last })) p.1 (holds_on (record e { last = after_compaction (take done.at u.knows.participant.seen) (listed k.live k.first.segment.base e.last) e.last }) k.left);
-      state = record {
-        before = k.state.before;
-        after = k.state.after;
-        of_store = k.state.of_store;
-        still_of_store = k.state.still_of_store;
-        before_is = k.state.before_is;
-        after_is = k.state.after_is ∙ ap (λ (h : List Entry). record e { last = after_compaction h (listed k.live k.first.segment.base e.last) e.last }) p.1;
-        edits = k.state.edits;
-        still_edits = k.state.still_edits;
-        so = k.state.so ∙ ap (λ (h : List Entry). new_parts (retained h (listed k.live k.first.segment.base e.last) e.last)) p.1;
-      };
+      state = tables_so k.state (ap (λ (h : List Entry). record e { last = after_compaction h (listed k.live k.first.segment.base e.last) e.last }) p.1) (k.state.so ∙ ap (λ (h : List Entry). new_parts (retained h (listed k.live k.first.segment.base e.last) e.last)) p.1);
       survives = subst (λ (h : List Entry). SurvivesInstall k.state.before k.state.after (after_compaction h (listed k.live k.first.segment.base e.last) e.last)) p.1 k.survives;
       throughout = throughout_on k.state.before k.state.after (after_compaction (take done.at u.knows.participant.seen) (listed k.live k.first.segment.base e.last) e.last) (after_compaction (take done.at v.knows.participant.seen) (listed k.live k.first.segment.base e.last) e.last) (ap (λ (h : List Entry). after_compaction h (listed k.live k.first.segment.base e.last) e.last) p.1) k.throughout;
       goes_on = remembers_on k.found (event.installed (after_compaction (take done.at v.knows.participant.seen) (listed k.live k.first.segment.base e.last) e.last) true ∷ [])

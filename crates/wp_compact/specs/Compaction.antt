@@ -73,8 +73,8 @@ IsOpenedBase z base = (first : InstalledEdit) × WasLast content z.first first �
 pub record AreBases {D : Type 0} (z : SharedState D) (old new : SeatState) (floor : ℕ) (bases : Bases) : Type 0 where
   pub opened : IsOpenedBase z bases.opened
   pub state : WriteState
-  pub held : HeldContent z old new old.knows.participant.past (writes table)
-  pub installed_is : bases.installed ≡ min table.segment.base floor
+  pub held : HeldContent z old new old.knows.participant.past (writes state)
+  pub installed_is : bases.installed ≡ min state.segment.base floor
 
 -- ---- what may be done
 

@@ -16,7 +16,7 @@ use crate::pins::unpin;
 use crate::unchanged::are_unchanged;
 use std::alloc::Global;
 use std::sync::Wait;
-use wp_maint::{Done, MaintError, find_edits};
+use wp_maint::{Done, MaintError, find_held};
 use wp_outside::Disk;
 use wp_read::{Pinned, pin_all};
 use wp_shared::{Seat, Shared, VersionSet};
@@ -41,11 +41,11 @@ fn compact_in<D: Disk + Drop, R: Wait>(
     ensures untouched { InRound (edits.new ≡ edits.old) result }
 {
     if edits.is_halted() {
-        find_edits(store, seat);
+        find_held(store, seat, edits);
         return Some(Err(MaintError::TablesStopped(edits.flushed())));
     }
     if edits.table_count() < 2 {
-        find_edits(store, seat);
+        find_held(store, seat, edits);
         return Some(Err(MaintError::Nothing));
     }
     match are_unchanged(store, rt, alloc, seat, edits, pinned, &decided) {

@@ -2,7 +2,7 @@
 ghost use Rattle.std.specs.Prelude.{◌≡◌, ◌≤◌, [], ◌∷◌};
 ghost use Rattle.wp_core.specs.Conditions.{KeepsStore};
 ghost use Rattle.wp_core.specs.States.{StoreState, installed};
-ghost use Rattle.wp_core.specs.States as table;
+ghost use Rattle.wp_core.specs.States as state;
 ghost use Rattle.wp_core.specs.Views.{tables_stay, nothing_flushed};
 ghost use Rattle.wp_core.specs.World.{World};
 ghost use Rattle.wp_rule.specs.Knows.{Noted};
@@ -23,9 +23,9 @@ pub(crate) fn replace_versions<D: Disk + Drop>(
     stock: &Stock,
 )
     requires seat { seat.old.table ≡ store.now.table }
-    requires held { (t : StoreState) × (seat.old.knows.held ≡ table.store t ∷ installed edits.now.state ∷ []) × ((store_state stock.now).memory ≡ t.memory) }
+    requires held { (t : StoreState) × (seat.old.knows.held ≡ state.store t ∷ installed edits.now.state ∷ []) × ((store_state stock.now).memory ≡ t.memory) }
     requires may { (w : World) → Stands store.now seat.old w → (w.store.floor ≤ (store_state stock.now).floor) × KeepsStore w (record w.store { tables = (store_state stock.now).tables; floor = (store_state stock.now).floor }) w.installed }
-    ensures goes { GoesOn is_of_tables (table.store (store_state stock.now) ∷ installed edits.now.state ∷ []) seat.old.turns seat.old seat.new }
+    ensures goes { GoesOn is_of_tables (state.store (store_state stock.now) ∷ installed edits.now.state ∷ []) seat.old.turns seat.old seat.new }
     ensures named { Noted seat.new.knows (tables_stay (store_state stock.now).tables (store_state stock.now).floor) }
     ensures gone { Noted seat.old.knows nothing_flushed → Noted seat.new.knows nothing_flushed }
 {

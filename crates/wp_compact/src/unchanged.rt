@@ -4,7 +4,7 @@ ghost use Rattle.std.specs.Arc.{arc_value};
 ghost use Rattle.wp_merge.specs.Merge.{joined, sorted_of};
 ghost use Rattle.wp_core.specs.Sound.Actors.{StartsWith};
 ghost use Rattle.wp_core.specs.States.{installed};
-ghost use Rattle.wp_core.specs.States as table;
+ghost use Rattle.wp_core.specs.States as state;
 ghost use Rattle.wp_parts.specs.Stock.{store_state};
 ghost use Rattle.wp_rule.specs.Knows.{KnowsTables};
 ghost use Rattle.wp_shared.specs.Notes.{no_fact, seeing, GoesOn};
@@ -62,7 +62,7 @@ fn tables_in<D: Disk + Drop>(
     pinned: &Pinned,
     bases: Bases,
 ) -> Result<Option<Vec<Arc<Table>>>, AllocError>
-    requires holds { HoldsTurn store.now seat.old (table.store (store_state stock.now)) (installed edits.now.state ∷ []) (5 ∷ []) }
+    requires holds { HoldsTurn store.now seat.old (state.store (store_state stock.now)) (installed edits.now.state ∷ []) (5 ∷ []) }
     requires in_step { KnowsTables seat.old.knows edits.now.state.last }
     requires live { KnowsLive seat.old.knows pinned.now.floor.number pinned.now.live.items }
     requires bases { AreLow seat.old.knows.participant.seen pinned.now.floor.number pinned.now.live.items bases × IsOpenedBase store.now bases.opened }

@@ -23,6 +23,7 @@ use Rattle.wp_maint.specs.declared.renewed.RenewError.TheVariants as renewal
 use Rattle.wp_maint.specs.Calls.{AreSameTables, Finds, Flushes, GivesBack, InstalledNone, IsUncalled, is_of_edit, is_of_install, installs_of, LeavesOnce, KeepsOnce, KeepsEach, MadeNoInstall, FailedOnce, UnlessFault, RefusesBeforeDevices, found_by}
 use Rattle.wp_maint.specs.Installs.{AreLeft}
 use Rattle.wp_maint.specs.Renewal.{BeforeDevices, IsRefusedBefore, Renews, UnlessDeviceFault}
+use Rattle.wp_maint.proofs.Became.{tables_became}
 use Rattle.wp_maint.proofs.Onward.{IsSeat}
 
 -- ---- unless a device failed
@@ -76,7 +77,7 @@ module _ {D : Type 0} (z : SharedState D) (s t v : SeatState) (before after : Ve
   }
 
   gives : (So : VersionSetState → VersionSetState → Type 0) → after.state ≡ before.state → So before after → GivesBack So z s v before.state
-  gives So table so = (found, record { before = before; after = after; of_store = of_store; still_of_store = still_of_store; before_is = refl; after_is = table; edits = edits; still_edits = still_edits; so = so })
+  gives So same_state so = (found, tables_became before after of_store still_of_store edits still_edits same_state so)
 
   pub left_once : AreLeft before after → LeavesOnce z s v
   left_once k = (before.state, gives IsUncalled k.0 k.1)

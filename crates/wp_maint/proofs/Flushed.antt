@@ -27,6 +27,7 @@ use Rattle.wp_maint.specs.Calls.{found_by, SawWhole, HasFlushed, HasNewest, Flus
 use Rattle.wp_maint.specs.Flush.{versions_of, HasFrozen, MayPut}
 use Rattle.wp_maint.specs.Installs.{is_compaction, next_of, HasBroken, HasInstalled}
 use Rattle.wp_maint.specs.Holding.{is_of_flushed, is_of_tables, HoldsEdits}
+use Rattle.wp_maint.proofs.Became.{tables_became}
 use Rattle.wp_maint.proofs.Installed.{same_edit, same_list}
 use Rattle.wp_maint.proofs.Throughout.{opens_throughout}
 use Rattle.wp_maint.proofs.Onward.{changed_seat, held_left, found_later, flushed_free, tables_free, goes_remembering}
@@ -77,17 +78,7 @@ module _ {D : Type 0} (z : SharedState D) (s u : SeatState) (e left : VersionSet
             versions = counted ∙ frozen.count ∙ ap (λ (h : List Entry). length (unflushed h e.state.last)) (sym seen);
             left = held_left z s u v (record e.state { last = after_flush v.knows.participant.seen e.state.last }) k.stands (changed_seat z s u e.state left.state k.changes) before (ap (λ (x : SeatState). x.knows.participant) put.same)
                 (subst (λ (t : Installed). IsIn (installed t) u.knows.held) (k.state ∙ ap (λ (h : List Entry). record e.state { last = after_flush h e.state.last }) (sym seen)) (subst (IsIn (installed left.state)) (sym k.holds.turn.held) (inl refl)));
-            state = record {
-              before = e;
-              after = left;
-              of_store = holds.of_store;
-              still_of_store = k.holds.of_store;
-              before_is = refl;
-              after_is = k.state ∙ ap (λ (h : List Entry). record e.state { last = after_flush h e.state.last }) (sym seen);
-              edits = k.edits;
-              still_edits = k.still_edits;
-              so = parts ∙ ap (λ (l : List Version). l ∷ e.parts) (frozen.versions ∙ ap (λ (h : List Entry). sorted_of (unflushed h e.state.last)) (sym seen));
-            };
+            state = tables_became e left holds.of_store k.holds.of_store k.edits k.still_edits (k.state ∙ ap (λ (h : List Entry). record e.state { last = after_flush h e.state.last }) (sym seen)) (parts ∙ ap (λ (l : List Version). l ∷ e.parts) (frozen.versions ∙ ap (λ (h : List Entry). sorted_of (unflushed h e.state.last)) (sym seen)));
             survives = subst (λ (h : List Entry). SurvivesInstall e left (after_flush h e.state.last)) (sym seen) k.survives;
             throughout = opens_throughout s.knows.participant.seen v.knows.participant.seen e left next (after_flush v.knows.participant.seen e.state.last) k.edits running k.survives frozen.covered refl seen (ap (λ (h : List Entry). after_flush h e.state.last) (sym seen));
             goes_on = subst (λ (h : List Entry). GoesOnAs s v (after (after_flush h e.state.last))) (sym seen) (goes_still s u v (after next) first second);
@@ -106,7 +97,7 @@ module _ {D : Type 0} (z : SharedState D) (s u : SeatState) (e left : VersionSet
           next = subst (λ (h : List Entry). IfSome left.state.failed (λ edit. edit ≡ after_flush h e.state.last)) (sym seen) k.asked;
           left = held_left z s u u (with_failed e.state left.state.failed) k.stands (changed_seat z s u e.state left.state k.changes) seen refl
               (subst (λ (t : Installed). IsIn (installed t) u.knows.held) k.state (subst (IsIn (installed left.state)) (sym k.holds.turn.held) (inl refl)));
-          fault = record { before = e; after = left; of_store = holds.of_store; still_of_store = k.holds.of_store; before_is = refl; after_is = k.state; edits = k.edits; still_edits = k.still_edits; so = k.fault };
+          fault = tables_became e left holds.of_store k.holds.of_store k.edits k.still_edits k.state k.fault;
           survives = (next, ap (λ (h : List Entry). after_flush h e.state.last) (sym seen), k.survives, opens_throughout s.knows.participant.seen u.knows.participant.seen e left next next k.edits running k.survives frozen.covered refl seen refl);
           goes_on = goes_remembering s u (found_by z s u e.state k.changes.found ∷ tables_failed e.state.last left.state.failed ∷ []) no_fact (installed left.state ∷ []) s.turns k.changes.goes loose_none;
         },

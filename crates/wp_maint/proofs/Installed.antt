@@ -1,5 +1,5 @@
 -- The edit of a flush, and the table that takes the place of what was frozen.
-use Rattle.std.proofs.Common.{◌≡◌, ◌⊎◌, inl, inr, ℕ, suc, ◌<◌, ◌≤◌, nat_le, Bool, true, false, cond, List, [], ◌∷◌, ◌++◌, length, map, Option, Some, None, refl, sym, subst, ap, ◌∙◌, arith}
+use Rattle.std.proofs.Common.{◌≡◌, ◌⊎◌, inl, inr, ℕ, suc, ◌<◌, ◌≤◌, nat_le, Bool, true, false, cond, List, [], ◌∷◌, ◌++◌, length, map, Option, Some, None, Result, Ok, Err, OnErr, refl, sym, subst, ap, ◌∙◌, arith}
 use Rattle.std.proofs.lemmas.Bool.{cases_lt, le-leb}
 use Rattle.std.specs.Prelude.{IfSome}
 use Rattle.std.specs.Arc.{arc_value}
@@ -76,9 +76,14 @@ asked_of so edit None is same = tt
 asked_of so edit (Some next) is same = subst so (sym same) is
 
 -- a fault behind another call is one since before it
-pub fault_since : (old mid new : TableSetState) → mid.manifest.log.faults ≡ old.manifest.log.faults → old.faults ≤ mid.faults → HadCause mid new → HadCause old new
-fault_since old mid new same later (inl rose) = inl (subst (λ (n : ℕ). Rose n new.manifest.log.faults) same rose)
-fault_since old mid new same later (inr rose) = inr (omega (arith, rose, later))
+pub fault_since : (old mid new : TableSetState) → mid.manifest.log.faults ≡ old.manifest.log.faults → mid.faults ≡ old.faults → HadCause mid new → HadCause old new
+fault_since old mid new same equal (inl rose) = inl (subst (λ (n : ℕ). Rose n new.manifest.log.faults) same rose)
+fault_since old mid new same equal (inr rose) = inr (subst (λ (n : ℕ). Rose n new.faults) equal rose)
+
+-- where it is refused, so much more is so
+pub on_err : {T E : Type 0} {P Q : Type 0} (r : Result T E) → (P → Q) → OnErr r P → OnErr r Q
+on_err (Ok x) more so = tt
+on_err (Err e) more so = more so
 
 pub still_holds : {D : Type 0} (z : SharedState D) (s u : SeatState) (e left : VersionSetState) (p : Participant) (test : Fact → Bool) → HoldsEdits z s e → GoesOn test (installed left.state ∷ []) s.turns (with_participant p s) u → left.first ≡ e.first → HoldsEdits z u left
 still_holds z s u e left p test h k first = record {

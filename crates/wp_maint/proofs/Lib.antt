@@ -1,5 +1,6 @@
 pub mod Throughout
 pub mod Found
+pub mod Became
 pub mod Made
 pub mod Versions
 pub mod Memory

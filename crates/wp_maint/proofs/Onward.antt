@@ -35,6 +35,7 @@ use Rattle.wp_maint.specs.Calls.{HeldContent, HeldTables, SawWhole, Finds, HasNo
 use Rattle.wp_maint.specs.Finding.{Remembers, Changes}
 use Rattle.wp_maint.specs.Holding.{is_of_flushed, is_of_tables, HoldsEdits}
 use Rattle.wp_maint.specs.Moments.{OpensThroughout}
+use Rattle.wp_maint.proofs.Became.{tables_so}
 use Rattle.wp_maint.proofs.Throughout.{throughout_between}
 
 -- ---- which facts stay
@@ -194,17 +195,7 @@ module _ {D : Type 0} (First Last : Participant → Type 0) (z : SharedState D) 
     some = k.some;
     versions = k.versions ∙ ap (λ (h : List Entry). length (unflushed h e.last)) seen;
     left = subst (λ (h : List Entry). HeldTables z s v v.knows.participant.past (record e { last = after_flush h e.last })) seen (holds_so (record e { last = after_flush u.knows.participant.seen e.last }) k.left);
-    state = record {
-      before = k.state.before;
-      after = k.state.after;
-      of_store = k.state.of_store;
-      still_of_store = k.state.still_of_store;
-      before_is = k.state.before_is;
-      after_is = k.state.after_is ∙ ap (λ (h : List Entry). record e { last = after_flush h e.last }) seen;
-      edits = k.state.edits;
-      still_edits = k.state.still_edits;
-      so = k.state.so ∙ ap (λ (h : List Entry). sorted_of (unflushed h e.last) ∷ k.state.before.parts) seen;
-    };
+    state = tables_so k.state (ap (λ (h : List Entry). record e { last = after_flush h e.last }) seen) (k.state.so ∙ ap (λ (h : List Entry). sorted_of (unflushed h e.last) ∷ k.state.before.parts) seen);
     survives = subst (λ (h : List Entry). SurvivesInstall k.state.before k.state.after (after_flush h e.last)) seen k.survives;
     throughout = throughout_so k.state.before k.state.after (after_flush u.knows.participant.seen e.last) (after_flush v.knows.participant.seen e.last) (ap (λ (h : List Entry). after_flush h e.last) seen) k.throughout;
     goes_on = remembers_so k.found (event.installed (after_flush v.knows.participant.seen e.last) false ∷ [])
@@ -247,17 +238,7 @@ module _ {D : Type 0} (First Last : Participant → Type 0) (z : SharedState D) 
     carried = k.carried ∙ ap (λ (h : List Entry). length (undecided h)) seen;
     place = k.place;
     left = subst (λ (h : List Entry). HeldTables z s v v.knows.participant.past (record e { last = after_renewal h k.place e.last })) seen (holds_so (record e { last = after_renewal u.knows.participant.seen k.place e.last }) k.left);
-    state = record {
-      before = k.state.before;
-      after = k.state.after;
-      of_store = k.state.of_store;
-      still_of_store = k.state.still_of_store;
-      before_is = k.state.before_is;
-      after_is = k.state.after_is ∙ ap (λ (h : List Entry). record e { last = after_renewal h k.place e.last }) seen;
-      edits = k.state.edits;
-      still_edits = k.state.still_edits;
-      so = k.state.so ∙ ap (λ (h : List Entry). new_parts (sorted_of (unflushed h e.last)) ++ k.state.before.parts) seen;
-    };
+    state = tables_so k.state (ap (λ (h : List Entry). record e { last = after_renewal h k.place e.last }) seen) (k.state.so ∙ ap (λ (h : List Entry). new_parts (sorted_of (unflushed h e.last)) ++ k.state.before.parts) seen);
     survives = subst (λ (h : List Entry). SurvivesInstall k.state.before k.state.after (after_renewal h k.place e.last)) seen k.survives;
     log = subst (λ (h : List Entry). LogBecame z k.busy.unclosed.0 (record k.busy.unclosed.0 { segment = record { place = k.place; base = length h }; next = None })
         (λ before after. SurvivesBeside before after (Some after.state.segment) × NamesItsSegment k.state.before k.state.after before after (Some (after_renewal h k.place e.last)))) seen k.log;

@@ -1,7 +1,6 @@
 -- The store turn is taken while the tables turn is held, the versions change, and it is given.
-use Rattle.std.proofs.Common.{◌≡◌, inl, inr, ℕ, Bool, false, List, [], ◌∷◌, refl, sym, subst}
+use Rattle.std.proofs.Common.{◌≡◌, inl, inr, ℕ, Bool, false, List, [], ◌∷◌, refl, sym, subst, ap}
 use Rattle.wp_model.specs.declared.version.Version.{Version}
-use Rattle.wp_core.specs.Changes.{held_without}
 use Rattle.wp_core.specs.Lists.{IsIn}
 use Rattle.wp_core.specs.States.{Content, WriteState, StoreState, Installed, writes, store, installed}
 use Rattle.wp_core.specs.Turns.{store_turn}
@@ -10,9 +9,10 @@ use Rattle.wp_rule.specs.Knows.{Noted, KnowsTables}
 use Rattle.wp_parts.specs.VersionSet.{VersionSetState}
 use Rattle.wp_shared.specs.Notes.{no_fact, is_under, GoesOn}
 use Rattle.wp_shared.specs.Seats.{SharedState, SeatState}
-use Rattle.wp_shared.specs.Turns.{HoldsTurn, Taken, Given}
+use Rattle.wp_shared.specs.Turns.{comes_last, HoldsTurn, Taken, Given}
 use Rattle.wp_shared.proofs.Goes.{then, wider, none_too, none_under_store}
 use Rattle.wp_shared.proofs.Onward.{holds_on, holds_two, holds_as}
+use Rattle.wp_shared.proofs.TakenTurns.{last_without}
 use Rattle.wp_maint.specs.Holding.{is_of_tables, HoldsEdits, HoldsTables}
 
 under_too : (fact : Fact) → is_of_tables fact ≡ false → is_under store_turn fact ≡ false
@@ -30,7 +30,7 @@ module _ {D : Type 0} {z : SharedState D} {s t : SeatState} {e : Installed} {bef
 
     module _ {v : SeatState} (third : Given z store_turn u v s.knows.held s.turns) where
       gave : GoesOn (is_under store_turn) s.knows.held s.turns u v
-      gave = subst (λ (l : List Content). GoesOn (is_under store_turn) l s.turns u v) holds.without third.goes
+      gave = subst (λ (l : List Content). GoesOn (is_under store_turn) l s.turns u v) (last_without store_turn s.knows.held holds.order) third.goes
 
       pub put : GoesOn is_of_tables s.knows.held s.turns s v
       put =
@@ -55,7 +55,7 @@ tables_alone {e = e} h = record {
   same_table = h.turn.same_table;
   live = h.turn.live;
   tables = subst (IsIn (installed e.state)) (sym h.turn.held) (inl refl);
-  without = subst (λ (l : List Content). held_without l store_turn ≡ l) (sym h.turn.held) refl;
+  order = ap (comes_last store_turn) h.turn.held;
 }
 
 pub tables_beneath : {D : Type 0} {z : SharedState D} {s : SeatState} {d : WriteState} {e : Installed} → HoldsTurn z s (writes d) (installed e ∷ []) (5 ∷ []) → HoldsTables z s e
@@ -63,7 +63,7 @@ tables_beneath {d = d} {e = e} h = record {
   same_table = h.same_table;
   live = h.live;
   tables = subst (IsIn (installed e)) (sym h.held) (inr (inl refl));
-  without = subst (λ (l : List Content). held_without l store_turn ≡ l) (sym h.held) refl;
+  order = ap (comes_last store_turn) h.held;
 }
 
 -- ---- the write turn is held too

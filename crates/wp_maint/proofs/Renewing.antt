@@ -120,7 +120,7 @@ module _ {D : Type 0} (z : SharedState D) (s u : SeatState) (e : Installed) (one
     sound : IsSound world
     sound = reached_is_sound world busy.unclosed.1.there.reached
 
-    here : world.installed ≡ tables.before.table
+    here : world.installed ≡ tables.before.state
     here = busy.at_once.0 ∙ sym tables.before_is
 
     there : world.writes ≡ log.before.state

@@ -110,9 +110,9 @@ module _ {D : Type 0} (z : SharedState D) (one : IsOneStore z.opened z.first) wh
 
   -- the tables and the log are as they were, in one world
   module _ (s u : SeatState) (e : Installed) (d : WriteState) (tables : TablesBecame z e e AreSameTables) (log : LogBecame z d d IsSameLog) (running : e.halted ≡ false) (w : World) (reached : Reaches w) (at_once : (w.installed ≡ e) × (w.writes ≡ d)) where
-    is_last : (edit : InstalledEdit) → MayName tables.before.table edit → edit ≡ e.last
+    is_last : (edit : InstalledEdit) → MayName tables.before.state edit → edit ≡ e.last
     is_last edit (inl is) = is ∙ ap (λ (x : Installed). x.last) tables.before_is
-    is_last edit (inr asked) = absurd (none_some tables.before.table.failed edit (tables.edits.none_failed (tables.edits.running (ap (λ (x : Installed). x.halted) tables.before_is ∙ running))) asked)
+    is_last edit (inr asked) = absurd (none_some tables.before.state.failed edit (tables.edits.none_failed (tables.edits.running (ap (λ (x : Installed). x.halted) tables.before_is ∙ running))) asked)
 
     pub opens_same : (Spells : List Entry → Type 0) → ((entries : List Entry) → MaySpell d entries → Spells entries) → OpensUnmoved Spells (λ edit. edit ≡ e.last) tables.before log.before
     opens_same Spells more l m t at_l at_m at_t =

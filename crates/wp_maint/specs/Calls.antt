@@ -65,8 +65,8 @@ abbrev pub found_by : {D : Type 0} → (z : SharedState D) → (old new : SeatSt
 found_by z old new e found = found_edit e.last.flushed e.last.segment.base e.last.tables (tables_due found.world.first_edit old.knows.participant.past) e.halted
 
 -- The store's tables on their devices, as the call found them, with this table, and as it left them, with that one. Both are what
--- the value behind the turn may be: the devices have the tables that it names, no fault since the opening was forgotten, and what was
--- for good then is so still. No clause of a call on a shared store sees its devices: that the value was the one and became the
+-- the value behind the turn may be: the devices have the tables that it names, one has failed since the opening just where it is halted,
+-- and what was for good then is so still. No clause of a call on a shared store sees its devices: that the value was the one and became the
 -- other in this very call is what the install itself says, of the value that the call took out from behind the turn.
 pub record TablesBecame {D : Type 0} (z : SharedState D) (e next : Installed) (So : VersionSetState → VersionSetState → Type 0) : Type 0 where
   pub before : VersionSetState
@@ -140,8 +140,8 @@ pub record HasFlushed {D : Type 0} (Goes : Participant → Type 0) (z : SharedSt
   pub versions : done.versions ≡ length (unflushed new.knows.participant.seen e.last)
   pub left : HeldTables z old new new.knows.participant.past (record e { last = after_flush new.knows.participant.seen e.last })
   pub state : TablesBecame z e (record e { last = after_flush new.knows.participant.seen e.last }) (HasNewest (sorted_of (unflushed new.knows.participant.seen e.last)))
-  pub survives : SurvivesInstall table.before table.after (after_flush new.knows.participant.seen e.last)
-  pub throughout : OpensThroughout old.knows.participant.seen new.knows.participant.seen table.before table.after (after_flush new.knows.participant.seen e.last)
+  pub survives : SurvivesInstall state.before state.after (after_flush new.knows.participant.seen e.last)
+  pub throughout : OpensThroughout old.knows.participant.seen new.knows.participant.seen state.before state.after (after_flush new.knows.participant.seen e.last)
   pub goes_on : Goes (with_events (found_by z old new e found ∷ event.installed (after_flush new.knows.participant.seen e.last) false ∷ []) old.knows.participant)
 
 -- What it answers and leaves where it finds these tables. Where there was nothing to flush, or a device failed, the seat had seen
@@ -197,7 +197,7 @@ abbrev pub KeepsOnce : {D : Type 0} → SharedState D → SeatState → SeatStat
 KeepsOnce z old new = (e : Installed) × Finds z old new e × TablesBecame z e e AreSameTables
 
 -- ... and a compaction, which takes them in each round, unless it wants memory before it does: each time that it took them. That there
--- was no other time no clause tells; but an append leaves its mark, as below.
+-- was no other time no clause tells; but a device that was called then leaves its mark, as below.
 abbrev pub KeepsEach : {D : Type 0} → SharedState D → SeatState → SeatState → Type 0
 KeepsEach z old new = (taken : List Installed) × ((e : Installed) → IsIn e taken → GivesBack AreSameTables z old new e)
 
@@ -218,9 +218,9 @@ abbrev pub UnlessFault : Type 0 → MaintError → Type 0
 UnlessFault So TableFault = Unit {0}
 UnlessFault So other = So
 
--- What a refused call did with the devices. Each append of an edit leaves its mark: who installs holds the tables turn, and
--- can give it only with the tables as the machine has them. By then an edit whose append answered Ok is in its past, and so is a
--- device that failed. Where the call says that one failed, it made no more than that install, and it is in its past; it says so too where
+-- What a refused call did with the devices. Each call of one leaves its mark: who makes it holds the tables turn, and can give that only
+-- with the tables as the machine has them; and a table that was written can't be forgotten, but is installed, or given up behind a
+-- closed log. By then an edit whose append answered Ok is in its past, and so is a device that failed. Where the call says that one failed, it made no more than that install, and it is in its past; it says so too where
 -- the table could not be written, and the manifest was not called. Where it says anything else, want of memory too, it appended no edit,
 -- and no device was called.
 abbrev pub RefusesBeforeDevices : (Keeps : Type 0) → SeatState → MaintError → SeatState → Type 0

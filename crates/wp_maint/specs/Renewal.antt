@@ -208,9 +208,9 @@ pub record HasRenewed {D : Type 0} (Goes : Participant → Type 0) (z : SharedSt
   pub left : HeldTables z old new new.knows.participant.past (record e { last = after_renewal new.knows.participant.seen place e.last })
   pub state : TablesBecame z e (record e { last = after_renewal new.knows.participant.seen place e.last })
       (λ before after. after.parts ≡ new_parts (sorted_of (unflushed new.knows.participant.seen e.last)) ++ before.parts)
-  pub survives : SurvivesInstall table.before table.after (after_renewal new.knows.participant.seen place e.last)
+  pub survives : SurvivesInstall state.before state.after (after_renewal new.knows.participant.seen place e.last)
   pub log : LogBecame z busy.unclosed.0 (record busy.unclosed.0 { segment = record { place = place; base = length new.knows.participant.seen }; next = None })
-      (λ before after. SurvivesBeside before after (Some after.state.segment) × NamesItsSegment table.before table.after before after (Some (after_renewal new.knows.participant.seen place e.last)))
+      (λ before after. SurvivesBeside before after (Some after.state.segment) × NamesItsSegment state.before state.after before after (Some (after_renewal new.knows.participant.seen place e.last)))
   pub goes_on : Goes (with_events (found_by z old new e found ∷ event.renewed (after_renewal new.knows.participant.seen place e.last) ∷ []) old.knows.participant)
 
 -- what it answers and leaves where it finds these tables

@@ -3,7 +3,7 @@ use Rattle.std.specs.Prelude.{◌≡◌, ◌≢◌, true, false, [], ◌∷◌, 
 use Rattle.wp_model.specs.declared.segment.Segment.{Segment}
 use Rattle.wp_model.specs.Flushed.{InstalledEdit, IsEditCovered}
 use Rattle.wp_outside.specs.Faults.{Rose}
-use Rattle.wp_tableset.specs.Changes.{Asked, parts_after}
+use Rattle.wp_tableset.specs.Changes.{parts_after}
 use Rattle.wp_tableset.specs.declared.gone.Gone.TheVariants as gone
 use Rattle.wp_wal.specs.Segment.{WrittenState}
 use Rattle.wp_core.specs.Effects.{with_failed}
@@ -13,7 +13,7 @@ use Rattle.wp_core.specs.Views as event
 use Rattle.wp_core.specs.World.{Participant, World}
 use Rattle.wp_rule.specs.Knows.{KnowsTables}
 use Rattle.wp_parts.specs.VersionSet.{VersionSetState, IsEdits, asked_for}
-use Rattle.wp_parts.specs.Installs.{ReadyInstallState, IsBehind, SurvivesInstall}
+use Rattle.wp_parts.specs.Installs.{ReadyInstallState, WrittenInstallState, IsBehind, SurvivesSince, SurvivesWrite}
 use Rattle.wp_parts.specs.Log.{LogState, IsLog, IsWaiting, with_next, with_segment}
 use Rattle.wp_shared.specs.Calls.{with_events}
 use Rattle.wp_shared.specs.Notes.{no_fact, with_participant, GoesOn}
@@ -47,15 +47,11 @@ pub record HasStopped {D : Type 0} (z : SharedState D) (Survives : VersionSetSta
 
 -- ---- the table
 
--- What a crash leaves while the table is being written of which this is asked: the edits as they were, and their tables.
-abbrev pub SurvivesWrite : Asked → VersionSetState → VersionSetState → Type 0
-SurvivesWrite asked before now = (segment : Segment) → SurvivesInstall before now (asked_for asked segment before.state.last)
-
 -- What the write of the table leaves: the edit behind it, or a stopped store. A crash meanwhile left the tables that there were.
-abbrev pub WritesTable : {D T : Type 0} → SharedState D → SeatState → VersionSetState → LogState → ReadyInstallState → Result T RenewError → SeatState → VersionSetState → LogState → ReadyInstallState → Type 0
-WritesTable z old e log edit (Ok table) new left now ready = (new ≡ old) × (now ≡ log) × (left.state ≡ e.state) × HoldsBoth z new left now now.state × IsBehind e left ready × (ready.edit.asked ≡ edit.edit.asked) × SurvivesWrite edit.edit.asked e left
-WritesTable z old e log edit (Err TableFault) new left now ready = HasStopped z (λ before after. SurvivesWrite edit.edit.asked before after × IsUncalled before after) old e log None new left now
-WritesTable z old e log edit (Err other) new left now ready = ⊥
+abbrev pub WritesTable : {D : Type 0} → SharedState D → SeatState → VersionSetState → LogState → ReadyInstallState → Result WrittenInstallState RenewError → SeatState → VersionSetState → LogState → Type 0
+WritesTable z old e log edit (Ok written) new left now = (new ≡ old) × (now ≡ log) × (left.state ≡ e.state) × HoldsBoth z new left now now.state × IsBehind e left written × (written.edit.asked ≡ edit.edit.asked) × SurvivesWrite e left edit.edit.asked
+WritesTable z old e log edit (Err TableFault) new left now = HasStopped z (λ before after. SurvivesWrite before after edit.edit.asked × IsUncalled before after) old e log None new left now
+WritesTable z old e log edit (Err other) new left now = ⊥
 
 -- ---- the segment
 
@@ -94,7 +90,7 @@ HasPlace z old e log (Err other) new now = ⊥
 
 -- The segment waits beside the log, and the edit that names it is ready, with its table written: a table more, if it has one, with what
 -- the history has up to the segment's base. The edit is covered by what the seat has seen, which is the whole history.
-pub record IsTold {D : Type 0} (z : SharedState D) (s : SeatState) (e : VersionSetState) (log : LogState) (written : WrittenState) (edit : ReadyInstallState) : Type 0 where
+pub record IsTold {D : Type 0} (z : SharedState D) (s : SeatState) (e : VersionSetState) (log : LogState) (written : WrittenState) (edit : WrittenInstallState) : Type 0 where
   pub holds : HoldsBoth z s e log (with_next log.state written.segment)
   pub running : e.state.halted ≡ false
   pub unclosed : log.state.closed ≡ false
@@ -112,11 +108,11 @@ pub record IsTold {D : Type 0} (z : SharedState D) (s : SeatState) (e : VersionS
   pub stands : (w : World) × Stands z s w
 
 -- what a crash left since the edit's table was written, or there was none to write
-abbrev pub SurvivesEdit : WrittenState → ReadyInstallState → VersionSetState → VersionSetState → Type 0
-SurvivesEdit written edit e left = (before : VersionSetState) → IsBehind before e edit → SurvivesInstall before left (asked_for edit.edit.asked written.segment e.state.last)
+abbrev pub SurvivesEdit : WrittenState → WrittenInstallState → VersionSetState → VersionSetState → Type 0
+SurvivesEdit written edit e left = SurvivesSince e left edit (asked_for edit.edit.asked written.segment e.state.last)
 
 -- the edit is the last one, and its segment is the one in use
-pub record HasMoved {D : Type 0} (z : SharedState D) (old : SeatState) (e : VersionSetState) (log : LogState) (written : WrittenState) (edit : ReadyInstallState) (new : SeatState) (left : VersionSetState) (now : LogState) : Type 0 where
+pub record HasMoved {D : Type 0} (z : SharedState D) (old : SeatState) (e : VersionSetState) (log : LogState) (written : WrittenState) (edit : WrittenInstallState) (new : SeatState) (left : VersionSetState) (now : LogState) : Type 0 where
   pub state : left.state ≡ record e.state { last = asked_for edit.edit.asked written.segment e.state.last }
   pub log_table : now.state ≡ with_segment log.state written.segment
   pub device : (now.wal.moments ≡ log.wal.moments) × (now.wal.faults ≡ log.wal.faults) × (now.wal.id ≡ log.wal.id)
@@ -130,7 +126,7 @@ pub record HasMoved {D : Type 0} (z : SharedState D) (old : SeatState) (e : Vers
   pub still_log : IsLog now
   pub stands : (w : World) × Stands z new w
 
-abbrev pub LeavesSegment : {D T : Type 0} → SharedState D → SeatState → VersionSetState → LogState → WrittenState → ReadyInstallState → Result T RenewError → SeatState → VersionSetState → LogState → Type 0
+abbrev pub LeavesSegment : {D T : Type 0} → SharedState D → SeatState → VersionSetState → LogState → WrittenState → WrittenInstallState → Result T RenewError → SeatState → VersionSetState → LogState → Type 0
 LeavesSegment z old e log written edit (Ok x) new left now = HasMoved z old e log written edit new left now
 LeavesSegment z old e log written edit (Err TableFault) new left now = HasStopped z (SurvivesEdit written edit) old e log (Some (asked_for edit.edit.asked written.segment e.state.last)) new left now
 LeavesSegment z old e log written edit (Err other) new left now = ⊥

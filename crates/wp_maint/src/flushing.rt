@@ -11,7 +11,7 @@ use crate::done::Done;
 use crate::error::MaintError;
 use crate::frozen::{ReadyFlush, freeze_all, make_ready};
 use crate::installing::{install, put_table};
-use crate::steps::find_edits;
+use crate::steps::find_held;
 use std::sync::Wait;
 use wp_outside::{Disk, Failed};
 use wp_shared::{Seat, Shared, VersionSet};
@@ -71,7 +71,7 @@ fn flush_running<D: Disk + Drop, R: Wait>(
         return Err(MaintError::Memory);
     };
     let Some(frozen) = found else {
-        find_edits(store, seat);
+        find_held(store, seat, edits);
         return Err(MaintError::Nothing);
     };
     let Ok(ready) = make_ready(edits, frozen) else {
@@ -95,7 +95,7 @@ fn flush_in<D: Disk + Drop, R: Wait>(
     ensures untouched { IfErr result (UnlessFault (edits.new ≡ edits.old)) }
 {
     if edits.is_halted() {
-        find_edits(store, seat);
+        find_held(store, seat, edits);
         return Err(MaintError::TablesStopped(edits.flushed()));
     }
     flush_running(store, rt, seat, edits)

@@ -1,13 +1,12 @@
 //! What stands in memory is frozen, for a flush or a renewal to write, and all memory is taken for the edit with it.
 ghost use Rattle.std.specs.Prelude.{◌≡◌, [], ◌∷◌, IfOk};
-ghost use Rattle.wp_core.specs.Sound.Actors.{StartsWith};
 ghost use Rattle.wp_core.specs.States.{installed, writes};
-ghost use Rattle.wp_core.specs.States as table;
-ghost use Rattle.wp_core.specs.Turns.{write_turn};
+ghost use Rattle.wp_core.specs.States as state;
 ghost use Rattle.wp_core.specs.World.{Actor, World};
 ghost use Rattle.wp_rule.specs.Knows.{KnowsTables};
 ghost use Rattle.wp_parts.specs.Stock.{store_state};
-ghost use Rattle.wp_shared.specs.Notes.{no_fact, is_under, seeing, GoesOn};
+ghost use Rattle.wp_shared.specs.Calls.{GoesOnAs};
+ghost use Rattle.wp_shared.specs.Notes.{no_fact, GoesOn};
 ghost use Rattle.wp_shared.specs.Seats.{Stands};
 ghost use Rattle.wp_shared.specs.Turns.{HoldsTurn};
 ghost use Rattle.wp_maint.specs.Calls.{SawWhole};
@@ -63,7 +62,7 @@ pub fn freeze_in<D: Disk + Drop>(
     log: &Log<D>,
     stock: &mut Stock,
 ) -> Result<Frozen, AllocError>
-    requires holds { HoldsTurn store.now seat.old (table.store (store_state stock.old)) (writes log.now.state ∷ installed edits.now.state ∷ []) (0 ∷ 5 ∷ []) }
+    requires holds { HoldsTurn store.now seat.old (state.store (store_state stock.old)) (writes log.now.state ∷ installed edits.now.state ∷ []) (0 ∷ 5 ∷ []) }
     requires pending { log.now.state.pending ≡ [] }
     requires seen { seat.old.knows.participant.seen ≡ log.now.state.history }
     requires in_step { KnowsTables seat.old.knows edits.now.state.last }
@@ -85,7 +84,7 @@ fn freeze_some<D: Disk + Drop>(
     log: &Log<D>,
     stock: &mut Stock,
 ) -> Result<Option<Frozen>, AllocError>
-    requires holds { HoldsTurn store.now seat.old (table.store (store_state stock.old)) (writes log.now.state ∷ installed edits.now.state ∷ []) (0 ∷ 5 ∷ []) }
+    requires holds { HoldsTurn store.now seat.old (state.store (store_state stock.old)) (writes log.now.state ∷ installed edits.now.state ∷ []) (0 ∷ 5 ∷ []) }
     requires pending { log.now.state.pending ≡ [] }
     requires seen { seat.old.knows.participant.seen ≡ log.now.state.history }
     requires in_step { KnowsTables seat.old.knows edits.now.state.last }
@@ -110,8 +109,9 @@ pub(crate) fn freeze_all<D: Disk + Drop, R: Wait>(
 ) -> Result<Option<Frozen>, AllocError>
     requires holds { HoldsEdits store.now seat.old edits.now }
     requires in_step { KnowsTables seat.old.knows edits.now.state.last }
-    ensures goes { GoesOn (is_under write_turn) (installed edits.now.state ∷ []) seat.old.turns (seeing seat.new.knows.participant.seen seat.old) seat.new }
-    ensures grown { StartsWith seat.new.knows.participant.seen seat.old.knows.participant.seen }
+    ensures holds { HoldsEdits store.now seat.new edits.now }
+    ensures in_step { KnowsTables seat.new.knows edits.now.state.last }
+    ensures goes { GoesOnAs seat.old seat.new seat.old.knows.participant }
     ensures whole { SawWhole store.now seat.old seat.new.knows.participant.seen }
     ensures frozen { IfOk result (Freezes seat.new.knows edits.now.state) }
 {

@@ -25,7 +25,7 @@ use wp_table::Table;
 /// Writes the table of a ready edit, if it has one, and makes the edit the last one, with the log's segment as it is.
 fn write_edit<D: Disk>(
     edits: &mut VersionSet<D>,
-    mut edit: ReadyInstall,
+    edit: ReadyInstall,
 ) -> Result<Option<Arc<Table>>, Failed>
     requires running { edits.old.state.halted ≡ false }
     requires edits { IsEdits edits.old }
@@ -39,9 +39,8 @@ fn write_edit<D: Disk>(
     ensures first { edits.new.first ≡ edits.old.first }
 {
     let segment = edits.segment();
-    let table = edits.write_table(&mut edit)?;
-    edits.install(edit, segment)?;
-    Ok(table)
+    let written = edits.write_table(edit)?;
+    edits.install(written, segment)
 }
 
 /// Installs a ready edit, with its table, where the seat holds the tables turn alone. It takes no memory.

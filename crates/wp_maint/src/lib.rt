@@ -26,4 +26,4 @@ pub use flushing::flush;
 pub use frozen::{Frozen, ReadyFlush, freeze_in, make_ready};
 pub use installing::{install, put_table, with_first};
 pub use renewed::{RenewError, Renewed};
-pub use steps::{find_edits, halt, move_versions, note_frozen};
+pub use steps::{find_edits, find_held, halt, move_versions, note_frozen};

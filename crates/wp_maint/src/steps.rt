@@ -6,16 +6,16 @@ ghost use Rattle.wp_core.specs.Effects.{with_failed};
 ghost use Rattle.wp_core.specs.Lists.{IsIn};
 ghost use Rattle.wp_core.specs.Sound.Store.{NoneFlushed};
 ghost use Rattle.wp_core.specs.States.{Content, StoreState, Installed, installed};
-ghost use Rattle.wp_core.specs.States as table;
+ghost use Rattle.wp_core.specs.States as state;
 ghost use Rattle.wp_core.specs.Views.{tables_failed, tables_stay, nothing_flushed, frozen_stay};
 ghost use Rattle.wp_core.specs.Views as event;
 ghost use Rattle.wp_core.specs.World.{World};
-ghost use Rattle.wp_rule.specs.Knows.{Noted, KnowsMoved, KnowsInstalled};
+ghost use Rattle.wp_rule.specs.Knows.{Noted, KnowsMoved, KnowsInstalled, KnowsTables};
 ghost use Rattle.wp_parts.specs.Stock.{store_state};
 ghost use Rattle.wp_shared.specs.Calls.{with_events};
 ghost use Rattle.wp_shared.specs.Notes.{no_fact, with_participant, noting, GoesOn};
 ghost use Rattle.wp_shared.specs.Seats.{Stands};
-ghost use Rattle.wp_maint.specs.Holding.{is_of_flushed, is_of_tables};
+ghost use Rattle.wp_maint.specs.Holding.{is_of_flushed, is_of_tables, HoldsEdits};
 ghost use Rattle.wp_maint.specs.Flush.{versions_of};
 ghost use Rattle.wp_maint.specs.Finding.{Changes, Remembers};
 ghost use Rattle.wp_maint.specs.Installs.{is_compaction};
@@ -34,6 +34,18 @@ pub fn find_edits<D: Disk + Drop>(store: &Shared<D>, seat: &mut Seat<D>)
     ensures { (t : Installed) → IsIn (installed t) seat.old.knows.held → Remembers store.now seat.old t seat.new }
 {
     store.make::<Brand>(seat);
+}
+
+/// The same, where the seat holds the tables turn alone, as it does behind it.
+pub fn find_held<D: Disk + Drop>(store: &Shared<D>, seat: &mut Seat<D>, edits: &VersionSet<D>)
+    requires holds { HoldsEdits store.now seat.old edits.now }
+    requires in_step { KnowsTables seat.old.knows edits.now.state.last }
+    ensures holds { HoldsEdits store.now seat.new edits.now }
+    ensures in_step { KnowsTables seat.new.knows edits.now.state.last }
+    ensures found { Remembers store.now seat.old edits.now.state seat.new }
+{
+    let _ = edits;
+    find_edits(store, seat);
 }
 
 /// The edit of a flush was installed.
@@ -113,7 +125,7 @@ pub fn note_frozen<D: Disk + Drop>(
     frozen: &Frozen,
 )
     requires seat { (seat.old.table ≡ store.now.table) × (seat.old.knows.live ≡ true) }
-    requires held { IsIn (installed edits.now.state) seat.old.knows.held × IsIn (table.store (store_state stock.now)) seat.old.knows.held }
+    requires held { IsIn (installed edits.now.state) seat.old.knows.held × IsIn (state.store (store_state stock.now)) seat.old.knows.held }
     requires seen { frozen.now.at ≤ length seat.old.knows.participant.seen }
     requires are { (key : List ℕ) (q : ℕ) → q ≤ frozen.now.at → version_at (store_state stock.now).memory key q ≡ version_at (versions_of frozen.now) key q }
     ensures { seat.new ≡ noting (frozen_stay frozen.now.at (versions_of frozen.now)) seat.old }
@@ -129,11 +141,11 @@ pub fn move_versions<D: Disk + Drop>(
     stock: &Stock,
 )
     requires seat { seat.old.table ≡ store.now.table }
-    requires held { (t : StoreState) × (others : List Content) × (seat.old.knows.held ≡ table.store t ∷ others) × IsIn (installed edits.now.state) others × ((store_state stock.now).floor ≡ t.floor)
+    requires held { (t : StoreState) × (others : List Content) × (seat.old.knows.held ≡ state.store t ∷ others) × IsIn (installed edits.now.state) others × ((store_state stock.now).floor ≡ t.floor)
         × KnowsMoved t edits.now.state.last.flushed (store_state stock.now).memory (store_state stock.now).tables }
     requires gone { NoneFlushed (store_state stock.now).memory edits.now.state.last.flushed }
-    ensures goes { (t : StoreState) (others : List Content) → seat.old.knows.held ≡ table.store t ∷ others
-        → GoesOn is_of_tables (table.store (store_state stock.now) ∷ others) seat.old.turns seat.old seat.new }
+    ensures goes { (t : StoreState) (others : List Content) → seat.old.knows.held ≡ state.store t ∷ others
+        → GoesOn is_of_tables (state.store (store_state stock.now) ∷ others) seat.old.turns seat.old seat.new }
     ensures flushed { Noted seat.new.knows nothing_flushed }
     ensures named { Noted seat.new.knows (tables_stay (store_state stock.now).tables (store_state stock.now).floor) }
 {

@@ -7,7 +7,7 @@ use Rattle.std.specs.Int.{w32, w64, to_be_bytes, from_be_bytes}
 use Rattle.wp_outside.specs.Disk.{Each}
 use Rattle.wp_manifest.specs.declared.edit.TheConstants.{MARK}
 use Rattle.wp_manifest.specs.declared.read.Front.{Front}
-use Rattle.wp_manifest.specs.Edit.{Edit, IsEdit, IsFront, IsNoEdit, ArePlaces, IsSpelling, front_bytes, place_bytes, places_bytes, edit_bytes}
+use Rattle.wp_manifest.specs.Edit.{Edit, IsEdit, IsFront, ArePlaces, IsSpelling, front_bytes, place_bytes, places_bytes, edit_bytes}
 use Rattle.wp_manifest.specs.Reading.{FrontRead}
 use Rattle.wp_manifest.specs.Spelling.{AreEdits, last_edit}
 

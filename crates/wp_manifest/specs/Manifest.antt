@@ -1,5 +1,5 @@
 -- An open manifest that stores edits, and what an install makes of it.
-use Rattle.std.specs.Prelude.{◌≡◌, ℕ, ◌≤◌, true, false, List, [], ◌∷◌, ◌++◌, length, Result, OnOk, IfErr}
+use Rattle.std.specs.Prelude.{◌≡◌, ℕ, ◌≤◌, Bool, true, false, List, [], ◌∷◌, ◌++◌, length, Result, OnOk, IfErr}
 use Rattle.wp_outside.specs.Disk.{Moment, IfKnown, Passes}
 use Rattle.wp_outside.specs.Faults.{Rose}
 use Rattle.wp_gatelog.specs.Durability.{HasAcknowledged, LosesNoRecord}
@@ -39,6 +39,10 @@ pub record Opened (asked : ℕ) (moments : List Moment) (manifest : ManifestStat
   pub made : IfKnown moments (λ m. IsUnmade m.reads → manifest.log.id ≡ asked)
   pub running : manifest.log.closed ≡ false
 
+-- the bytes stand a test for an edit
+abbrev pub Stands : (Edit → List ℕ → Bool) → Edit → List ℕ → Type 0
+Stands test edit bytes = test edit bytes ≡ true
+
 -- each image of the moment is a manifest; and each image that another device has then has what belongs to that one's last edit
 abbrev pub NamesThere : (Has : Edit → List ℕ → Type 0) → ℕ → List Moment → Moment → Type 0
 NamesThere Has id others = Leaves (λ image. (edits : List Edit) × IsManifestOf id edits image × IfKnown others (Leaves (Has (last_edit edits))))
@@ -62,6 +66,7 @@ pub record InstallsInto {T : Type 0} (old new : ManifestState) (edit : Edit) (re
   -- once it is installed, a crash leaves it; and after a fault still one of the two
   pub installed : OnOk result ((edits : List Edit) → StoresEdits old edits no_edit → StoresEdits new (edits ++ edit ∷ []) no_edit)
   pub last : OnOk result (new.edit ≡ edit)
+  pub unfailed : OnOk result (new.log.faults ≡ old.log.faults)
   pub running : OnOk result ((old.log.closed ≡ false) × (new.log.closed ≡ false))
   pub refused : IfErr result (InstallRefused old new edit)
   pub id : new.log.id ≡ old.log.id

@@ -1,6 +1,6 @@
 //! An open manifest.
 
-ghost use Rattle.std.specs.Prelude.{◌≡◌, ◌↔◌, ◌≤◌, ℕ, List, length, true, false, is_some, IfOk, IfErr, MatchResult};
+ghost use Rattle.std.specs.Prelude.{◌≡◌, ◌↔◌, ◌≤◌, ℕ, Bool, List, length, true, false, is_some, IfOk, IfErr, MatchResult};
 ghost use Rattle.wp_outside.specs.Disk.{IfKnown, Passes};
 ghost use Rattle.wp_outside.specs.Faults.{HasCause};
 ghost use Rattle.wp_gatelog.specs.Moments.{Leaves};
@@ -9,7 +9,7 @@ ghost use Rattle.wp_gatelog.specs.Spelling.{IsUnmade};
 ghost use Rattle.wp_manifest.specs.Edit.{Edit, no_edit};
 ghost use Rattle.wp_manifest.specs.Errors.{manifest_error_of};
 ghost use Rattle.wp_manifest.specs.Spelling.{MAGIC, head_stamp};
-ghost use Rattle.wp_manifest.specs.Manifest.{InstallsInto, NamesThere, Opened, StoresEdits};
+ghost use Rattle.wp_manifest.specs.Manifest.{InstallsInto, NamesThere, Opened, Stands, StoresEdits};
 ghost use Rattle.wp_manifest.specs.Opening.{IsUnopenedManifest};
 
 use crate::edit::Edit;
@@ -90,6 +90,7 @@ impl<D: Disk> Manifest<D> {
             (λ opened. KeepsLog MAGIC (head_stamp id) (D.moments disk) opened.log.moments (D.faults disk) opened.log.faults)
             (λ refused. KeepsLog MAGIC (head_stamp id)
             (D.moments disk) (D.moments refused.disk) (D.faults disk) (D.faults refused.disk)) }
+        ensures unfailed { IfOk result (λ opened. opened.log.faults ≡ D.faults disk) }
     {
         let (log, records) = match GateLog::open(alloc, disk, 0, MANIFEST_MAGIC, Format::One, id) {
             Ok(opened) => opened,
@@ -136,11 +137,11 @@ impl<D: Disk> Manifest<D> {
     pub fn install(&mut self, room: EditRoom, tables: &D) -> Result<(), AppendError>
         ensures installs { InstallsInto self.old self.new room result }
 
-        // Where the lent device has what belongs to the edit before and to this one, then whatever a crash leaves of both devices at a
-        // moment of the call, the last edit of the manifest has there what belongs to it.
-        ensures joint { (Has : Edit → List ℕ → Type 0) (edits : List Edit) → StoresEdits self.old edits no_edit → self.old.log.closed ≡ false
-            → IfKnown (D.moments tables.now) (Leaves (Has self.old.edit)) → IfKnown (D.moments tables.now) (Leaves (Has room))
-            → Passes (NamesThere Has self.old.log.id (D.moments tables.now)) self.old.log.moments self.new.log.moments }
+        // Where the lent device has what a test asks for the edit before and for this one, then whatever a crash leaves of both devices at a
+        // moment of the call, the last edit of the manifest has there what the test asks for it.
+        ensures joint { (test : Edit → List ℕ → Bool) (edits : List Edit) → StoresEdits self.old edits no_edit → self.old.log.closed ≡ false
+            → IfKnown (D.moments tables.now) (Leaves (Stands test self.old.edit)) → IfKnown (D.moments tables.now) (Leaves (Stands test room))
+            → Passes (NamesThere (Stands test) self.old.log.id (D.moments tables.now)) self.old.log.moments self.new.log.moments }
     {
         let _ = tables;
         acknowledged_records_come_first();

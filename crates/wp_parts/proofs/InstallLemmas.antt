@@ -23,7 +23,7 @@ use Rattle.wp_store.specs.Store.{with_newest}
 use Rattle.wp_table.specs.Table.{is_flushed}
 use Rattle.wp_tableset.specs.Changes.{Asked, InstallsEdit, IsInstalled, LosesNoTable, NewestIsWritten, NotInstalled, NotWritten, edit_for, new_parts, new_places, one_part, parts_after}
 use Rattle.wp_tableset.specs.Device.{KeepsFronts}
-use Rattle.wp_tableset.specs.Install.{IsWrittenEdit, ReadyState}
+use Rattle.wp_tableset.specs.Install.{IsWrittenEdit, WrittenEditState}
 use Rattle.wp_tableset.specs.Set.{TableSetState, LeavesTables, RestsWith, StoresTables}
 use Rattle.wp_tableset.specs.declared.gone.Gone.{Gone}
 use Rattle.wp_tableset.specs.declared.gone.Gone.TheVariants.{Frozen, Tables}
@@ -33,7 +33,7 @@ use Rattle.wp_core.specs.Effects.{with_failed}
 use Rattle.wp_core.specs.States.{Installed}
 use Rattle.wp_parts.specs.declared.edits.FailedInstall.{FailedInstall}
 use Rattle.wp_parts.specs.VersionSet.{VersionSetState, IsEdits, asked_for, edits_state, failed_edit}
-use Rattle.wp_parts.specs.Installs.{ReadyInstallState, IsBehind, SurvivesInstall}
+use Rattle.wp_parts.specs.Installs.{WrittenInstallState, IsBehind, SurvivesInstall}
 use Rattle.wp_parts.proofs.FlushedVersions.{both_flushed, later_flushed}
 use Rattle.wp_parts.proofs.LogLemmas.{rose_since}
 use Rattle.wp_parts.proofs.StockLemmas.{at_parts}
@@ -144,8 +144,8 @@ module _ (set first : TableSetState) (base : ℕ) (parts : List (List Version)) 
     same_last = ap (λ (m : ManifestState). installed_of base m.edit parts) same
 
     -- the last edit is as it was
-    kept_edits : StoresTables new k.edits no_edit parts [] → (new.halted ≡ true → Rose first.manifest.log.faults new.manifest.log.faults ⊎ Rose first.faults new.faults) → IsEdits (edits_state new first base parts failed)
-    kept_edits stores cause = record {
+    kept_edits : StoresTables new k.edits no_edit parts [] → (new.halted ≡ true → Rose first.manifest.log.faults new.manifest.log.faults ⊎ Rose first.faults new.faults) → (new.halted ≡ false → new.faults ≡ set.faults) → IsEdits (edits_state new first base parts failed)
+    kept_edits stores cause unfailed = record {
       edits = k.edits;
       next = no_edit;
       next_base = 0;
@@ -159,6 +159,7 @@ module _ (set first : TableSetState) (base : ℕ) (parts : List (List Version)) 
       later = omega (arith, k.later, keeps.later);
       manifest_later = omega (arith, k.manifest_later, keeps.manifest_later);
       cause = cause;
+      unfailed = λ runs. (ap (λ (m : ManifestState). m.log.faults) same ∙ (k.unfailed running).0, unfailed runs ∙ (k.unfailed running).1);
       fronts = fronts;
       durable = durable;
     }
@@ -185,12 +186,12 @@ module _ (set first : TableSetState) (base : ℕ) (parts : List (List Version)) 
           next_tables = inl (ap (λ (m : ManifestState). m.log.moments) same);
         }
 
-  module _ (r : ReadyState) (written : IsWrittenEdit set new r) where
+  module _ (r : WrittenEditState) (written : IsWrittenEdit set new r) where
     same_manifest : new.manifest ≡ set.manifest
     same_manifest = ap (λ (s : TableSetState). s.manifest) written.changed
 
     pub written_edits : IsEdits (edits_state new first base parts failed)
-    written_edits = kept_edits same_manifest (written.stores k.edits parts stored) (λ stopped. let halted = ap (λ (s : TableSetState). s.halted) written.changed in absurd cc)
+    written_edits = kept_edits same_manifest (written.stores k.edits parts stored) (λ stopped. let halted = ap (λ (s : TableSetState). s.halted) written.changed in absurd cc) (λ _. ap (λ (s : TableSetState). s.faults) written.changed)
 
     pub written_table : (edits_state new first base parts failed).state ≡ (edits_state set first base parts failed).state
     written_table = kept_table same_manifest set.halted (ap (λ (s : TableSetState). s.halted) written.changed)
@@ -200,7 +201,7 @@ module _ (set first : TableSetState) (base : ℕ) (parts : List (List Version)) 
 
   module _ (stopped : NotWritten set new) where
     pub stopped_edits : IsEdits (edits_state new first base parts failed)
-    stopped_edits = kept_edits stopped.manifest (stopped.stores k.edits parts stored) (λ _. inr (rose_since first.faults set.faults new.faults k.later stopped.rose))
+    stopped_edits = kept_edits stopped.manifest (stopped.stores k.edits parts stored) (λ _. inr (rose_since first.faults set.faults new.faults k.later stopped.rose)) (λ runs. let halted = stopped.halted in absurd cc)
 
 -- ---- the edit is installed, whose table was written before
 
@@ -211,9 +212,9 @@ written_grows old new (table ∷ tables) w before known =
     let result : Result (Unit {0}) (Unit {0}) = Ok tt in
     synced_grows before w.1.0 table.0 old (added (after_write table.0 w.1.0) old) new result known w.0 refl w.1.2 tt
 
-module _ (set first : TableSetState) (base : ℕ) (parts : List (List Version)) (failed : Option FailedInstall) (running : set.halted ≡ false) (segment : Segment) (before : VersionSetState) (ready : ReadyInstallState) (b : IsBehind before (edits_state set first base parts failed) ready) where
+module _ (set first : TableSetState) (base : ℕ) (parts : List (List Version)) (failed : Option FailedInstall) (running : set.halted ≡ false) (segment : Segment) (before : VersionSetState) (put : WrittenInstallState) (b : IsBehind before (edits_state set first base parts failed) put) where
   abbrev asked : Asked
-  asked = ready.edit.asked
+  asked = put.edit.asked
 
   abbrev next : Edit
   next = edit_for before.set asked segment.place b.written.place
@@ -224,7 +225,7 @@ module _ (set first : TableSetState) (base : ℕ) (parts : List (List Version)) 
   abbrev edit : InstalledEdit
   edit = asked_for asked segment (installed_of base set.manifest.edit parts)
 
-  is_next : record ready.edit.edit { place = Some segment.place } ≡ next
+  is_next : record put.edit.edit { place = Some segment.place } ≡ next
   is_next = ap (λ (e : Edit). record e { place = Some segment.place }) b.written.edit
 
   edit_is : edit ≡ installed_of segment.base next after
@@ -242,14 +243,14 @@ module _ (set first : TableSetState) (base : ℕ) (parts : List (List Version)) 
   next_rests : IfKnown set.moments (RestsWith before.set.manifest.log.id next after)
   next_rests = subst (λ (ps : List (List Version)). IfKnown set.moments (RestsWith before.set.manifest.log.id next (parts_after asked ps))) (sym b.parts) (b.written.there segment.place b.was.edits before.parts stored_before)
 
-  pub survives_install : {T E : Type 0} (new : TableSetState) (result : Result T E) (now : VersionSetState) → now.set ≡ new → InstallsEdit set new (record ready.edit.edit { place = Some segment.place }) result → SurvivesInstall before now edit
+  pub survives_install : {T E : Type 0} (new : TableSetState) (result : Result T E) (now : VersionSetState) → now.set ≡ new → InstallsEdit set new (record put.edit.edit { place = Some segment.place }) result → SurvivesInstall before now edit
   survives_install new result now is installs =
       let id : ℕ = before.set.manifest.log.id in
       let edits = b.was.edits in
       let last : before.set.manifest.edit ≡ last_edit edits = b.was.stores.manifest.last in
       let was_running : before.set.halted ≡ false = sym (ap (λ (s : TableSetState). s.halted) b.written.changed) ∙ running in
       let named : set.manifest.edit ≡ last_edit edits = ap (λ (m : ManifestState). m.edit) manifest_is ∙ last in
-      let passed = subst (λ (m : ManifestState). (edits : List Edit) → StoresEdits m edits no_edit → m.log.closed ≡ false → Passes (Leaves (IsManifestOrNext m.log.id edits (record ready.edit.edit { place = Some segment.place }))) m.log.moments new.manifest.log.moments) manifest_is installs.passed edits stored_before.manifest was_open in
+      let passed = subst (λ (m : ManifestState). (edits : List Edit) → StoresEdits m edits no_edit → m.log.closed ≡ false → Passes (Leaves (IsManifestOrNext m.log.id edits (record put.edit.edit { place = Some segment.place }))) m.log.moments new.manifest.log.moments) manifest_is installs.passed edits stored_before.manifest was_open in
       let kept = passes_grown id before.set.manifest.edit before.parts before.set.moments set.moments (written_grows before.set.moments set.moments (new_places id asked.versions b.written.place) b.written.wrote) (stored_before.rests was_running) in
       rw is record {
         edits = edits;
@@ -264,7 +265,7 @@ module _ (set first : TableSetState) (base : ℕ) (parts : List (List Version)) 
       }
 
   -- what the set stores afterwards
-  module _ (k : IsEdits (edits_state set first base parts failed)) (new : TableSetState) (keeps : LosesNoTable set new) (same : new.moments ≡ set.moments) where
+  module _ (k : IsEdits (edits_state set first base parts failed)) (new : TableSetState) (keeps : LosesNoTable set new) (same : new.moments ≡ set.moments) (unfailed : new.faults ≡ set.faults) where
     stored_now : StoresTables set k.edits no_edit parts []
     stored_now = running_stores set k.edits k.next parts k.next_parts (k.running running) k.stores
 
@@ -273,7 +274,7 @@ module _ (set first : TableSetState) (base : ℕ) (parts : List (List Version)) 
         let id_is : before.set.manifest.log.id ≡ new.manifest.log.id = sym (keeps.id ∙ ap (λ (m : ManifestState). m.log.id) manifest_is) in
         subst (λ (ms : List Moment). IfKnown ms (RestsWith new.manifest.log.id next after)) (sym same) (subst (λ (n : ℕ). IfKnown set.moments (RestsWith n next after)) id_is next_rests)
 
-    module _ (is : IsInstalled set new (record ready.edit.edit { place = Some segment.place })) (open_ : new.manifest.log.closed ≡ false) (now : List (List Version)) (are : now ≡ after) where
+    module _ (is : IsInstalled set new (record put.edit.edit { place = Some segment.place })) (open_ : new.manifest.log.closed ≡ false) (now : List (List Version)) (are : now ≡ after) where
       last_now : new.manifest.edit ≡ next
       last_now = is.last ∙ is_next
 
@@ -301,6 +302,7 @@ module _ (set first : TableSetState) (base : ℕ) (parts : List (List Version)) 
             later = omega (arith, k.later, keeps.later);
             manifest_later = omega (arith, k.manifest_later, keeps.manifest_later);
             cause = λ halted. let runs = is.running in absurd cc;
+            unfailed = λ _. (is.unfailed ∙ (k.unfailed running).0, unfailed ∙ (k.unfailed running).1);
             fronts = fronts set first base parts failed k running new keeps;
             durable = durable set first base parts failed k running new keeps;
           }
@@ -313,7 +315,7 @@ module _ (set first : TableSetState) (base : ℕ) (parts : List (List Version)) 
           λ i. record { last = named i; failed = none i; halted = halted i }
 
     -- the manifest's device failed
-    module _ (stopped : NotInstalled set new (record ready.edit.edit { place = Some segment.place })) (f : FailedInstall) (names : (last : InstalledEdit) → asked_for (record { gone = f.gone; versions = joined f.tables.items; flushed = f.flushed }) f.segment last ≡ asked_for asked segment last) where
+    module _ (stopped : NotInstalled set new (record put.edit.edit { place = Some segment.place })) (f : FailedInstall) (names : (last : InstalledEdit) → asked_for (record { gone = f.gone; versions = joined f.tables.items; flushed = f.flushed }) f.segment last ≡ asked_for asked segment last) where
       asked_is : failed_edit new.manifest.log.closed (Some f) (installed_of base new.manifest.edit parts) ≡ Some edit
       asked_is = rw (stopped.closed, stopped.last) (ap Some (names (installed_of base set.manifest.edit parts)))
 
@@ -339,6 +341,7 @@ module _ (set first : TableSetState) (base : ℕ) (parts : List (List Version)) 
             later = omega (arith, k.later, keeps.later);
             manifest_later = omega (arith, k.manifest_later, keeps.manifest_later);
             cause = λ _. inl (rose_since first.manifest.log.faults set.manifest.log.faults new.manifest.log.faults k.manifest_later stopped.rose);
+            unfailed = λ runs. let halted = stopped.halted in absurd cc;
             fronts = fronts set first base parts failed k running new keeps;
             durable = durable set first base parts failed k running new keeps;
           }

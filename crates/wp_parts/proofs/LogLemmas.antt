@@ -143,6 +143,9 @@ new_kept wal history base room c is stores cut running legal = record {
     shut = λ closed. absurd (true≢false (sym closed ∙ running));
     by_fault = λ closed _. absurd cc;
     cause = λ closed. absurd (true≢false (sym closed ∙ running));
+    unfailed = λ _. refl;
+    ended = λ is. absurd cc;
+    unclosed = λ _. running;
     durable = λ _ stamp records. ([], refl, tt);
   };
   ready = record { reserved = λ some. absurd (some refl); fits = omega arith };
@@ -184,9 +187,9 @@ module _ (wal first : WalState) (history pending : List Entry) (logged : Bool) (
 
   module _ (running : ending.closed ≡ false) (new : WalState) (later : wal.faults ≤ new.faults) (durable : LosesNothingAt wal.segment.place wal.moments new.moments) where
     -- it goes on in its segment
-    goes_on : (now : Bool) (c : Cut) → new.segment ≡ wal.segment → new.id ≡ wal.id → new.format ≡ wal.format → new.closed ≡ wal.closed → IsCut (spelled now history pending) c → StoresCut new c []
+    goes_on : (now : Bool) (c : Cut) → new.segment ≡ wal.segment → new.id ≡ wal.id → new.format ≡ wal.format → new.closed ≡ wal.closed → new.faults ≡ wal.faults → IsCut (spelled now history pending) c → StoresCut new c []
         → (pending ≢ [] → now ≡ false → ending.closed ≡ false → IsReserved new c pending) → IsKept (log_state new first history pending now ending) base room
-    goes_on now c same id format closed is stores ready =
+    goes_on now c same id format closed unfailed is stores ready =
         let open_ : new.closed ≡ false = closed ∙ wal_runs running in
         record {
           opened = kept.opened;
@@ -207,6 +210,9 @@ module _ (wal first : WalState) (history pending : List Entry) (logged : Bool) (
             shut = λ shut. absurd (true≢false (sym shut ∙ open_));
             by_fault = λ shut. absurd (true≢false (sym shut ∙ running));
             cause = λ shut. absurd (true≢false (sym shut ∙ open_));
+            unfailed = λ _. unfailed ∙ kept.log.unfailed (wal_runs running);
+            ended = kept.log.ended;
+            unclosed = λ _. open_;
             durable = loses_since new same durable;
           };
           ready = record { reserved = ready; fits = kept.ready.fits };
@@ -237,15 +243,18 @@ module _ (wal first : WalState) (history pending : List Entry) (logged : Bool) (
             shut = λ _. refl;
             by_fault = λ _ _. ap (λ (w : WalState). w.closed) changed;
             cause = λ _. rose_since first.faults wal.faults new.faults kept.log.later refused.1;
+            unfailed = λ open_. let closed = ap (λ (w : WalState). w.closed) changed in absurd cc;
+            ended = λ _. refl;
+            unclosed = λ halted. absurd (true≢false (sym (kept.log.ended halted) ∙ running));
             durable = loses_since new same durable;
           };
           ready = record { reserved = λ _ _ open_. absurd cc; fits = kept.ready.fits };
         }
 
   -- it is stopped with this segment beside it, if one waits
-  halts : (next : Option Segment) → ((segment : Segment) → next ≡ Some segment → (pending ≡ []) × (segment.base ≡ length history) × (undone_last history ≡ None) × IfKnown wal.moments (LeavesCut wal.id segment.place (cut_at history segment.base))) → pending ≡ []
+  halts : (running : ending.closed ≡ false) (next : Option Segment) → ((segment : Segment) → next ≡ Some segment → (pending ≡ []) × (segment.base ≡ length history) × (undone_last history ≡ None) × IfKnown wal.moments (LeavesCut wal.id segment.place (cut_at history segment.base))) → pending ≡ []
       → IsKept (log_state wal first history pending logged (record { closed = true; stopped = true; failed = ending.failed; next = next })) base room
-  halts next beside nothing = record {
+  halts running next beside nothing = record {
     opened = kept.opened;
     log = record {
       cut = kept.log.cut;
@@ -264,14 +273,17 @@ module _ (wal first : WalState) (history pending : List Entry) (logged : Bool) (
       shut = λ _. refl;
       by_fault = λ _ unstopped. absurd cc;
       cause = kept.log.cause;
+      unfailed = kept.log.unfailed;
+      ended = λ _. refl;
+      unclosed = λ _. wal_runs running;
       durable = kept.log.durable;
     };
     ready = record { reserved = λ some. absurd (some nothing); fits = kept.ready.fits };
   }
 
   -- the log is stopped without one
-  pub stopped : pending ≡ [] → IsKept (log_state wal first history pending logged (record ending { closed = true; stopped = true })) base room
-  stopped = halts ending.next kept.log.beside
+  pub stopped : ending.closed ≡ false → pending ≡ [] → IsKept (log_state wal first history pending logged (record ending { closed = true; stopped = true })) base room
+  stopped running = halts running ending.next kept.log.beside
 
   -- nothing is pending
   module _ (none : pending ≡ []) where
@@ -316,6 +328,9 @@ module _ (wal first : WalState) (history pending : List Entry) (logged : Bool) (
           shut = kept.log.shut;
           by_fault = kept.log.by_fault;
           cause = kept.log.cause;
+          unfailed = kept.log.unfailed;
+          ended = kept.log.ended;
+          unclosed = kept.log.unclosed;
           durable = kept.log.durable;
         };
         ready = record {
@@ -345,6 +360,9 @@ module _ (wal first : WalState) (history pending : List Entry) (logged : Bool) (
       shut = kept.log.shut;
       by_fault = kept.log.by_fault;
       cause = kept.log.cause;
+      unfailed = kept.log.unfailed;
+      ended = kept.log.ended;
+      unclosed = kept.log.unclosed;
       durable = kept.log.durable;
     };
     ready = record { reserved = λ some. absurd (some refl); fits = omega arith };
@@ -375,6 +393,9 @@ module _ (wal first : WalState) (history pending : List Entry) (logged : Bool) (
       shut = kept.log.shut;
       by_fault = kept.log.by_fault;
       cause = kept.log.cause;
+      unfailed = kept.log.unfailed;
+      ended = kept.log.ended;
+      unclosed = kept.log.unclosed;
       durable = kept.log.durable;
     };
     ready = record {
@@ -401,14 +422,17 @@ module _ (wal first : WalState) (history pending : List Entry) (logged : Bool) (
     cut_was = subst (λ (xs : List Entry). IsCut xs kept.log.cut) (not_yet logged history pending not_logged) kept.log.is_cut
 
     module _ (new : WalState) (later : wal.faults ≤ new.faults) (durable : LosesNothingAt wal.segment.place wal.moments new.moments) where
-      pub is_appended : IfSome wal.reserved (Appended wal new) → Appended wal new (reserved_of wal.format wal.due pending)
+      is_appended : IfSome wal.reserved (Appended wal new) → Appended wal new (reserved_of wal.format wal.due pending)
       is_appended ok = subst (λ (o : Option Reserved). IfSome o (Appended wal new)) reserved_is ok
 
       pub appended : IfSome wal.reserved (Appended wal new) → StoresCut new (longer kept.log.cut pending) [] → IsKept (log_state new first history pending true ending) base room
       appended ok stores =
           let changed = (is_appended ok).changed in
-          goes_on running new later durable true (longer kept.log.cut pending) (ap (λ (w : WalState). w.segment) changed) (ap (λ (w : WalState). w.id) changed) (ap (λ (w : WalState). w.format) changed) (ap (λ (w : WalState). w.closed) changed)
+          goes_on running new later durable true (longer kept.log.cut pending) (ap (λ (w : WalState). w.segment) changed) (ap (λ (w : WalState). w.id) changed) (ap (λ (w : WalState). w.format) changed) (ap (λ (w : WalState). w.closed) changed) (ap (λ (w : WalState). w.faults) changed)
           (cut_grows history pending kept.log.cut cut_was) stores (λ _ unlogged_ _. absurd cc)
+
+      pub appended_faults : IfSome wal.reserved (Appended wal new) → new.faults ≡ wal.faults
+      appended_faults ok = ap (λ (w : WalState). w.faults) (is_appended ok).changed
 
       pub appended_table : IfSome wal.reserved (Appended wal new) → (log_state new first history pending true ending).state ≡ record (log_state wal first history pending logged ending).state { logged = true; log = spelled logged history pending ++ pending }
       appended_table ok =
@@ -447,9 +471,9 @@ module _ (wal first : WalState) (history pending : List Entry) (logged : Bool) (
     of_stored writes base whole = writes kept.log.cut stores_now base whole
 
     module _ (new : WalState) (later : wal.faults ≤ new.faults) (durable : LosesNothingAt wal.segment.place wal.moments new.moments) where
-      pub written : new ≡ record wal { moments = new.moments; faults = new.faults; reserved = None } → StoresCut new kept.log.cut [] → IsKept (log_state new first history pending logged ending) base room
+      pub written : new ≡ record wal { moments = new.moments; reserved = None } → StoresCut new kept.log.cut [] → IsKept (log_state new first history pending logged ending) base room
       written changed stores =
-          goes_on running new later durable logged kept.log.cut (ap (λ (w : WalState). w.segment) changed) (ap (λ (w : WalState). w.id) changed) (ap (λ (w : WalState). w.format) changed) (ap (λ (w : WalState). w.closed) changed)
+          goes_on running new later durable logged kept.log.cut (ap (λ (w : WalState). w.segment) changed) (ap (λ (w : WalState). w.id) changed) (ap (λ (w : WalState). w.format) changed) (ap (λ (w : WalState). w.closed) changed) (ap (λ (w : WalState). w.faults) changed)
           kept.log.is_cut stores (λ some. absurd (some nothing))
 
       -- the device failed meanwhile
@@ -489,6 +513,9 @@ module _ (wal first : WalState) (history pending : List Entry) (logged : Bool) (
               shut = λ closed. absurd (true≢false (sym closed ∙ open_));
               by_fault = λ closed. absurd (true≢false (sym closed ∙ running));
               cause = λ closed. absurd (true≢false (sym closed ∙ open_));
+              unfailed = λ _. ap (λ (x : WalState). x.faults) changed ∙ kept.log.unfailed (wal_runs running);
+              ended = kept.log.ended;
+              unclosed = λ _. open_;
               durable = λ is. let there : new.segment.base ≡ first.segment.base = ap (λ (g : Segment). g.base) is in absurd (omega (arith, at, above, risen, based, there));
             };
             ready = record { reserved = λ some. absurd (some nothing); fits = kept.ready.fits };
@@ -503,7 +530,7 @@ module _ (wal first : WalState) (history pending : List Entry) (logged : Bool) (
 
       -- the log is stopped with it
       pub stopped_with : (next : Option Segment) → next ≡ Some w.segment → IsKept (log_state wal first history pending logged (record { closed = true; stopped = true; failed = ending.failed; next = next })) base room
-      stopped_with next is = halts next (λ segment there.
+      stopped_with next is = halts running next (λ segment there.
           subst (λ (g : Segment). (pending ≡ []) × (g.base ≡ length history) × (undone_last history ≡ None) × IfKnown wal.moments (LeavesCut wal.id g.place (cut_at history g.base)))
           (same_some w.segment segment (sym is ∙ there))
           (nothing, waits.based, waits.whole, subst (λ (n : ℕ). IfKnown wal.moments (LeavesCut wal.id w.segment.place (cut_at history n))) (sym waits.based) waits.beside.left)) nothing
@@ -554,7 +581,7 @@ pub before_log : (used size place : ℕ) → IsPlaceFor used size place → size
 before_log used size place (inl before) fits = before.1
 before_log used size place (inr behind) fits = absurd (omega (arith, behind.0, fits))
 
-pub waits_of : (wal first : WalState) (history pending : List Entry) (logged : Bool) (ending : Ending) (new : WalState) (w : WrittenState) → new ≡ record wal { moments = new.moments; faults = new.faults; reserved = None }
+pub waits_of : (wal first : WalState) (history pending : List Entry) (logged : Bool) (ending : Ending) (new : WalState) (w : WrittenState) → new ≡ record wal { moments = new.moments; reserved = None }
     → (asked : Base) → asked ≡ base_of history → w.segment.base ≡ asked.number → undone_last history ≡ None → wal.segment.base < length history → IsBeside new (cut_behind asked) w
     → IsWaiting (log_state new first history pending logged ending) w
 waits_of wal first history pending logged ending new w changed asked is based whole below beside =

@@ -23,7 +23,7 @@ use Rattle.wp_parts.specs.contracts.edits.VersionSet.TheInside as EditsInside
 use Rattle.wp_parts.specs.contracts.edits.FailedInstall as FailedInstall
 use Rattle.wp_parts.specs.contracts.table_versions.TableVersions as TableVersions
 use Rattle.wp_parts.specs.contracts.table_versions.TableVersions.TheInside as VersionsInside
-use Rattle.wp_parts.specs.contracts.part.TurnValue as TurnValue
+use Rattle.wp_parts.specs.contracts.turn_value.TurnValue as TurnValue
 
 pub log_send : (D : RattleType) (g : Ghosts D.Denot) → IsSend D → IsSend (Log.the_row D g)
 log_send D g d =

@@ -1,5 +1,5 @@
 -- The tables' edit that comes next, between the stages of its install, and what is left where it is refused.
-use Rattle.std.specs.Prelude.{◌≡◌, ◌⊎◌, ℕ, ◌<◌, List, [], length}
+use Rattle.std.specs.Prelude.{◌≡◌, ◌⊎◌, ℕ, ◌<◌, List, [], length, Some}
 use Rattle.wp_model.specs.declared.segment.Segment.{Segment}
 use Rattle.wp_model.specs.declared.version.Version.{Version}
 use Rattle.wp_model.specs.Flushed.{InstalledEdit}
@@ -10,33 +10,57 @@ use Rattle.wp_manifest.specs.Edit.{Edit, no_edit}
 use Rattle.wp_manifest.specs.Spelling.{last_edit, IsManifestOrNext}
 use Rattle.wp_contents.specs.Opens.{installed_of}
 use Rattle.wp_tableset.specs.Changes.{Asked, new_parts}
-use Rattle.wp_tableset.specs.Install.{ReadyState, IsReadyEdit, IsWrittenEdit, NamesItsTables}
+use Rattle.wp_tableset.specs.Install.{ReadyState, WrittenEditState, IsReadyEdit, IsWrittenEdit, NamesItsTables}
 use Rattle.wp_tableset.specs.Set.{TableSetState, LeavesTables, StoresTables}
+use Rattle.wp_core.specs.Effects.{with_failed}
+use Rattle.wp_core.specs.States.{Installed}
 use Rattle.wp_parts.specs.VersionSet.{VersionSetState, IsEdits, asked_for}
 
 -- ---- the stages
 
--- an edit that is ready, what its new table has once that is written, and for what of how many tables there is room
+-- an edit that is ready, and for what of how many tables there is room
 pub record ReadyInstallState : Type 0 where
   pub edit : ReadyState
+  pub room : ℕ
+
+-- an edit whose table is written, what that has, if there is one, and for what of how many tables there is room
+pub record WrittenInstallState : Type 0 where
+  pub edit : WrittenEditState
   pub tables : List (List Version)
   pub room : ℕ
 
 -- it is ready for these tables, and there is room for what one more has
 pub record IsReadyFor (e : VersionSetState) (ready : ReadyInstallState) : Type 0 where
   pub edit : IsReadyEdit e.set ready.edit
-  pub none : ready.tables ≡ []
   pub room : length e.parts < ready.room
 
--- Of a set as it was, and as it is now that the ready edit's table is written, if it has one: nothing else was made of it.
-pub record IsBehind (before now : VersionSetState) (ready : ReadyInstallState) : Type 0 where
+-- Of a set as it was, and as it is now that the edit's table is written, if it has one: nothing else was made of it.
+pub record IsBehind (before now : VersionSetState) (w : WrittenInstallState) : Type 0 where
   pub was : IsEdits before
-  pub written : IsWrittenEdit before.set now.set ready.edit
-  pub tables_are : ready.tables ≡ new_parts ready.edit.asked.versions
-  pub room : length now.parts < ready.room
+  pub written : IsWrittenEdit before.set now.set w.edit
+  pub tables_are : w.tables ≡ new_parts w.edit.asked.versions
+  pub room : length now.parts < w.room
   pub state : now.state ≡ before.state
   pub parts : now.parts ≡ before.parts
   pub first : now.first ≡ before.first
+
+-- the last edit once it is installed, with the log in this segment
+abbrev pub next_edit : VersionSetState → WrittenInstallState → Segment → InstalledEdit
+next_edit s w segment = asked_for w.edit.asked segment s.state.last
+
+-- ... and the state behind the turn then, or once it has failed
+abbrev pub state_with : VersionSetState → WrittenInstallState → Segment → Installed
+state_with s w segment = record s.state { last = next_edit s w segment }
+
+abbrev pub state_without : VersionSetState → WrittenInstallState → Segment → Installed
+state_without s w segment = with_failed s.state (Some (next_edit s w segment))
+
+-- the device of the tables was not called, as its moments and its count show
+abbrev pub KeepsDevice : TableSetState → TableSetState → Type 0
+KeepsDevice old new = (new.moments ≡ old.moments) × (new.faults ≡ old.faults)
+
+abbrev pub manifest_faults : VersionSetState → ℕ
+manifest_faults s = s.set.manifest.log.faults
 
 -- a device that failed was called just then: its count rose
 abbrev pub HadCause : TableSetState → TableSetState → Type 0
@@ -61,9 +85,12 @@ abbrev pub SurvivesWrite : VersionSetState → VersionSetState → Asked → Typ
 SurvivesWrite old new asked = (segment : Segment) → SurvivesInstall old new (asked_for asked segment old.state.last)
 
 -- ... while it is installed, since its table was to be written
-abbrev pub SurvivesSince : VersionSetState → VersionSetState → ReadyInstallState → InstalledEdit → Type 0
-SurvivesSince old new ready edit = (before : VersionSetState) → IsBehind before old ready → SurvivesInstall before new edit
+abbrev pub SurvivesSince : VersionSetState → VersionSetState → WrittenInstallState → InstalledEdit → Type 0
+SurvivesSince old new written edit = (before : VersionSetState) → IsBehind before old written → SurvivesInstall before new edit
+
+abbrev pub SurvivesNext : VersionSetState → VersionSetState → WrittenInstallState → Segment → Type 0
+SurvivesNext old new w segment = SurvivesSince old new w (next_edit old w segment)
 
 -- Whatever a crash leaves of both devices at a moment between the two, the manifest's last edit has its tables.
-abbrev pub KeepsBoth : VersionSetState → VersionSetState → ReadyInstallState → Type 0
-KeepsBoth old new ready = (before : VersionSetState) → IsBehind before old ready → Passes (NamesItsTables old.set) old.set.manifest.log.moments new.set.manifest.log.moments
+abbrev pub KeepsBoth : VersionSetState → VersionSetState → WrittenInstallState → Type 0
+KeepsBoth old new written = (before : VersionSetState) → IsBehind before old written → Passes (NamesItsTables old.set) old.set.manifest.log.moments new.set.manifest.log.moments

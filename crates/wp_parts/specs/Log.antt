@@ -48,6 +48,13 @@ log_state wal first history pending logged ending = record {
 abbrev pub open_ending : Ending
 open_ending = record { closed = false; stopped = false; failed = []; next = None }
 
+-- once the pending record is in the log, and once its append has failed
+abbrev pub with_logged : WriteState → WriteState
+with_logged t = record t { logged = true; log = t.log ++ t.pending }
+
+abbrev pub with_lost : WriteState → WriteState
+with_lost t = record t { closed = true; failed = t.pending }
+
 -- in this segment the bytes have the log of the entries, cut at its base
 abbrev pub spells : LogState → Segment → List ℕ → List Entry → Type 0
 spells s segment image entries = (c : Cut) × IsLogAt s.wal.id segment.place c image × IsCut entries c × (c.base ≡ segment.base)
@@ -61,8 +68,8 @@ format_at first base = if base == first.segment.base then first.format else Two
 -- The log stores what the table says that it spells, cut at the base of its segment; once an append has failed, that, or that and the
 -- failed record, whole. No segment waits beside the one in use: there is none, or the log is closed, and then each crash leaves the
 -- history in that one too, cut at its end. The log has the id that it was opened with, its version too until its base was raised, and a
--- base no lower. No fault was forgotten since then; where its device failed it is closed, and where it is closed and was not stopped its
--- device failed; and what was acknowledged then is so still, as long as the log is in the segment of then.
+-- base no lower. Since then its device failed just where it is closed and was not stopped; and what was acknowledged then is so still, as
+-- long as the log is in the segment of then.
 pub record IsLog (s : LogState) : Type 0 where
   pub cut : Cut
   pub is_cut : IsCut s.state.log cut
@@ -81,6 +88,9 @@ pub record IsLog (s : LogState) : Type 0 where
   pub shut : s.wal.closed ≡ true → s.state.closed ≡ true
   pub by_fault : s.state.closed ≡ true → s.state.stopped ≡ false → s.wal.closed ≡ true
   pub cause : s.wal.closed ≡ true → Rose s.first.faults s.wal.faults
+  pub unfailed : s.wal.closed ≡ false → s.wal.faults ≡ s.first.faults
+  pub ended : s.state.stopped ≡ true → s.state.closed ≡ true
+  pub unclosed : s.state.stopped ≡ true → s.wal.closed ≡ false
   pub durable : s.wal.segment ≡ s.first.segment → LosesNothingAt s.first.segment.place s.first.moments s.wal.moments
 
 -- What is pending takes no memory any more: its record is ready for the log until it is logged, and the history has room
@@ -139,3 +149,7 @@ pub record IsWaiting (s : LogState) (w : WrittenState) : Type 0 where
   pub whole : undone_last s.state.history ≡ None
   pub below : s.state.segment.base < w.segment.base
   pub beside : IsBeside s.wal (cut_at s.state.history (length s.state.history)) w
+
+-- ... apart from the one that was in use
+abbrev pub WaitsApart : LogState → LogState → WrittenState → Type 0
+WaitsApart old new w = IsWaiting new w × (w.segment.place ≢ old.state.segment.place)

@@ -76,7 +76,7 @@ pub record HasTablesOf (s : VersionSetState) (image : List ℕ) (installed : Ins
 -- ---- what is so of it
 
 -- The set stores its edits, and the tables of the last one; once an install has failed, those of its edit too. No version of the last one's tables has a number above the flushed one. The set has the
--- id that it was opened with. No fault was forgotten since then, and what was for good then is so still.
+-- id that it was opened with. Since then a device failed just where it is halted, and what was for good then is so still.
 pub record IsEdits (s : VersionSetState) : Type 0 where
   pub edits : List Edit
   pub next : Edit
@@ -91,5 +91,6 @@ pub record IsEdits (s : VersionSetState) : Type 0 where
   pub later : s.first.faults ≤ s.set.faults
   pub manifest_later : s.first.manifest.log.faults ≤ s.set.manifest.log.faults
   pub cause : s.state.halted ≡ true → Rose s.first.manifest.log.faults s.set.manifest.log.faults ⊎ Rose s.first.faults s.set.faults
+  pub unfailed : s.state.halted ≡ false → (s.set.manifest.log.faults ≡ s.first.manifest.log.faults) × (s.set.faults ≡ s.first.faults)
   pub fronts : KeepsFronts s.first.moments s.set.moments
   pub durable : LosesNoRecord MAGIC s.first.manifest.log.moments s.set.manifest.log.moments

@@ -24,13 +24,13 @@ pub trait BehindTurn<S: HoldsPart>: Sized {
     /// The turn that guards it.
     ghost turn: { Turn };
 
-    /// The table of the machine that it is.
+    /// The state of the machine that it is.
     ghost state: { Self → Content };
 
     /// Its devices were opened as those of the values behind the turns, of which the list has each as the table was made.
     ghost is_of: { List S → Self → Type 0 };
 
-    /// Its table is the turn's.
+    /// Its state is that of the turn.
     ghost of_turn: { (x : Self) → tables.turn_of (state x) ≡ turn };
 
     /// The turn that guards it.
@@ -40,12 +40,12 @@ pub trait BehindTurn<S: HoldsPart>: Sized {
     /// The value of its turn's slot.
     fn out_of(part: S) -> Box<Self>
         requires { (c : Content) × (S.content part ≡ Some c) × (tables.turn_of c ≡ turn) }
-        ensures table { S.content part ≡ Some (table result.value) }
+        ensures table { S.content part ≡ Some (state result.value) }
         ensures of { (first : List S) → S.tells first part → is_of first result.value };
 
     /// The value, for its turn's slot. What a crash leaves of its devices is as its table says.
     fn into_part(value: Box<Self>) -> S
-        ensures table { S.content result ≡ Some (table value.value) }
+        ensures table { S.content result ≡ Some (state value.value) }
         ensures tells { (first : List S) → is_of first value.value → S.tells first result };
 }
 

@@ -14,9 +14,10 @@ ghost use Rattle.wp_tableset.specs.Set.{StoresTables};
 ghost use Rattle.wp_tableset.specs.declared.gone.Gone.TheVariants.{Frozen};
 ghost use Rattle.wp_core.specs.Effects.{with_failed};
 ghost use Rattle.wp_core.specs.Images.{ManifestTells, TablesTell};
-ghost use Rattle.wp_parts.specs.VersionSet.{VersionSetState, IsEdits, IsNamed, HasTablesOf, asked_for, edits_state};
-ghost use Rattle.wp_parts.specs.Installs.{HadCause, IsBehind, IsReadyFor, KeepsBoth, SurvivesSince, SurvivesWrite};
+ghost use Rattle.wp_parts.specs.VersionSet.{VersionSetState, IsEdits, IsNamed, HasTablesOf, edits_state};
+ghost use Rattle.wp_parts.specs.Installs.{HadCause, IsBehind, IsReadyFor, KeepsBoth, KeepsDevice, SurvivesNext, SurvivesWrite, manifest_faults, state_with, state_without};
 
+use crate::log::Log;
 use crate::table_versions::TableVersions;
 use std::alloc::{AllocError, Global};
 use std::marker::Model;
@@ -25,7 +26,7 @@ use std::sync::Arc;
 use wp_model::{Segment, Seq, Versions};
 use wp_outside::{Disk, Failed};
 use wp_table::Table;
-use wp_tableset::{Gone, ReadyEdit, SetDisks, TableSet};
+use wp_tableset::{Gone, ReadyEdit, SetDisks, TableSet, WrittenEdit};
 
 /// What an install that failed asked for: a table with these versions, if there is one, in place of what was to go, the flushed number,
 /// and the log's segment.
@@ -37,8 +38,7 @@ pub(crate) struct FailedInstall {
     tables: Vec<TableVersions>,
 }
 
-/// An edit with all the memory that its install takes. Clauses see the edit, what its table has once that is written, and for what of
-/// how many tables there is room.
+/// An edit with all the memory that its install takes. Clauses see the edit, and for what of how many tables there is room.
 #[derive(Drop)]
 pub struct ReadyInstall {
     edit: ReadyEdit,
@@ -46,12 +46,30 @@ pub struct ReadyInstall {
 }
 
 impl Model for ReadyInstall {
-    ghost use Rattle.std.specs.Prelude.{vec_capacity};
+    ghost use Rattle.std.specs.Prelude.{◌≡◌, [], vec_capacity};
     ghost use Rattle.wp_parts.specs.Installs.{ReadyInstallState};
 
     ghost Value = { ReadyInstallState };
 
-    ghost view = { λ r. record { edit = r.edit; tables = r.tables.items; room = vec_capacity r.tables } };
+    ghost view = { λ r. record { edit = r.edit; room = vec_capacity r.tables } };
+
+    ghost invariant = { λ r. r.tables.items ≡ [] };
+}
+
+/// An edit whose table is on its device, if it has one. Clauses see the edit, what its table has, and for what of how many tables there
+/// is room. It has no `Drop`, so none that was written is forgotten: it is installed, or given up behind a failed log.
+pub struct WrittenInstall {
+    edit: WrittenEdit,
+    tables: Vec<TableVersions>,
+}
+
+impl Model for WrittenInstall {
+    ghost use Rattle.std.specs.Prelude.{vec_capacity};
+    ghost use Rattle.wp_parts.specs.Installs.{WrittenInstallState};
+
+    ghost Value = { WrittenInstallState };
+
+    ghost view = { λ w. record { edit = w.edit; tables = w.tables.items; room = vec_capacity w.tables } };
 }
 
 impl ReadyInstall {
@@ -59,8 +77,21 @@ impl ReadyInstall {
     pub fn gone(&self) -> Gone
         ensures { result ≡ self.now.edit.asked.gone }
     {
-        let (gone, _flushed) = self.edit.asked();
-        gone
+        self.edit.gone()
+    }
+}
+
+impl WrittenInstall {
+    /// No edit will name the table: the log failed, or was stopped, before one was installed. No device is called.
+    pub fn give_up<D: Disk>(self, log: &Log<D>)
+        requires { log.now.state.closed ≡ true }
+    {
+        let _ = log;
+        let WrittenInstall {
+            edit,
+            tables: _tables,
+        } = self;
+        edit.give_up();
     }
 }
 
@@ -195,48 +226,53 @@ impl<D: Disk> VersionSet<D> {
         Ok(ReadyInstall { edit, tables })
     }
 
-    /// Writes the table of a ready edit, if it has one. The table is for readers. After a fault of the device the tables are halted.
-    /// It takes no memory.
-    pub fn write_table(&mut self, ready: &mut ReadyInstall) -> Result<Option<Arc<Table>>, Failed>
+    /// Writes the table of a ready edit, if it has one. After a fault of the device the tables are halted. It takes no memory.
+    pub fn write_table(&mut self, ready: ReadyInstall) -> Result<WrittenInstall, Failed>
         requires running { self.old.state.halted ≡ false }
-        requires ready { IsReadyFor self.old ready.old }
-        ensures table { IfOk result (λ table. option_map arc_value table ≡ one_part ready.old.edit.asked.versions) }
-        ensures written { OnOk result ((self.new.state ≡ self.old.state) × IsBehind self.old self.new ready.new) }
-        ensures asked { ready.new.edit.asked ≡ ready.old.edit.asked }
+        requires ready { IsReadyFor self.old ready }
+        ensures written { IfOk result (λ written. (self.new.state ≡ self.old.state) × IsBehind self.old self.new written) }
+        ensures asked { IfOk result (λ written. written.edit.asked ≡ ready.edit.asked) }
         ensures parts { self.new.parts ≡ self.old.parts }
-        ensures uncalled { ready.old.edit.asked.versions ≡ [] → self.new ≡ self.old }
+        ensures uncalled { ready.edit.asked.versions ≡ [] → self.new ≡ self.old }
         ensures refused { OnErr result (self.new.state ≡ with_failed self.old.state None) }
         ensures cause { OnErr result (HadCause self.old.set self.new.set) }
-        ensures survives { SurvivesWrite self.old self.new ready.old.edit.asked }
+        ensures survives { SurvivesWrite self.old self.new ready.edit.asked }
         ensures manifest { self.new.set.manifest ≡ self.old.set.manifest }
         ensures first { self.new.first ≡ self.old.first }
     {
-        let table = self.set.write_table(&mut ready.edit)?;
-        put_versions(&mut ready.tables, &table);
-        Ok(table)
+        let ReadyInstall { edit, mut tables } = ready;
+        let edit = self.set.write_table(edit)?;
+        put_versions(&mut tables, edit.table());
+        Ok(WrittenInstall { edit, tables })
     }
 
-    /// Installs a ready edit, whose table was written, with this segment of the log. It takes no memory.
-    pub fn install(&mut self, ready: ReadyInstall, segment: Segment) -> Result<(), Failed>
+    /// Installs an edit whose table was written, with this segment of the log. The table is for readers. It takes no memory.
+    pub fn install(
+        &mut self,
+        written: WrittenInstall,
+        segment: Segment,
+    ) -> Result<Option<Arc<Table>>, Failed>
         requires running { self.old.state.halted ≡ false }
-        requires written { (before : VersionSetState) × IsBehind before self.old ready }
-        ensures installed { OnOk result (self.new.state ≡ record self.old.state { last = asked_for ready.edit.asked segment self.old.state.last }) }
-        ensures parts { OnOk result (self.new.parts ≡ parts_after ready.edit.asked self.old.parts) }
-        ensures refused { OnErr result (self.new.state ≡ with_failed self.old.state (Some (asked_for ready.edit.asked segment self.old.state.last))) }
+        requires written { (before : VersionSetState) × IsBehind before self.old written }
+        ensures table { IfOk result (λ table. option_map arc_value table ≡ one_part written.edit.asked.versions) }
+        ensures installed { OnOk result (self.new.state ≡ state_with self.old written segment) }
+        ensures parts { OnOk result (self.new.parts ≡ parts_after written.edit.asked self.old.parts) }
+        ensures refused { OnErr result (self.new.state ≡ state_without self.old written segment) }
         ensures cause { OnErr result (HadCause self.old.set self.new.set) }
-        ensures survives { SurvivesSince self.old self.new ready (asked_for ready.edit.asked segment self.old.state.last) }
-        ensures tables { (self.new.set.moments ≡ self.old.set.moments) × (self.new.set.faults ≡ self.old.set.faults) }
-        ensures joint { KeepsBoth self.old self.new ready }
+        ensures unfailed { OnOk result (manifest_faults self.new ≡ manifest_faults self.old) }
+        ensures survives { SurvivesNext self.old self.new written segment }
+        ensures tables { KeepsDevice self.old.set self.new.set }
+        ensures joint { KeepsBoth self.old self.new written }
         ensures first { self.new.first ≡ self.old.first }
     {
-        let ReadyInstall { edit, tables } = ready;
+        let WrittenInstall { edit, tables } = written;
         let (gone, flushed) = edit.asked();
         match self.set.install(edit, segment.place) {
-            Ok(()) => {
+            Ok(table) => {
                 shows_running(&self.set);
                 self.base = segment.base;
                 self.tables = with_staying(gone, tables, &mut self.tables);
-                Ok(())
+                Ok(table)
             }
             Err(Failed) => {
                 self.failed = Some(FailedInstall {

@@ -23,7 +23,7 @@ mod turn_value;
 
 pub use apart::take_apart;
 pub use behind_turn::BehindTurn;
-pub use edits::{ReadyInstall, VersionSet};
+pub use edits::{ReadyInstall, VersionSet, WrittenInstall};
 pub use log::Log;
 pub use stock::Stock;
 pub use table_versions::TableVersions;

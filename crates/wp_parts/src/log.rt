@@ -13,9 +13,11 @@ ghost use Rattle.wp_core.specs.Conditions.{NoneNext};
 ghost use Rattle.wp_core.specs.Effects.{with_entry};
 ghost use Rattle.wp_model.specs.Record.{IsOneRecord};
 ghost use Rattle.wp_core.specs.Images.{LogTells};
-ghost use Rattle.wp_parts.specs.Log.{IsLog, KeepsAcknowledged, LeavesHistory, LeavesHistoryOrNext, MayRenew, IsPlaceOf, IsSegmentOf, IsWaiting, log_state, open_ending, spells, with_next, with_segment};
+ghost use Rattle.wp_core.specs.States.{writes};
+ghost use Rattle.wp_parts.specs.Log.{IsLog, KeepsAcknowledged, LeavesHistory, LeavesHistoryOrNext, MayRenew, IsPlaceOf, IsSegmentOf, IsWaiting, WaitsApart, log_state, open_ending, spells, with_logged, with_lost, with_next, with_segment};
 
 use crate::base::end_of;
+use crate::turn_value::TurnValue;
 use std::alloc::{AllocError, Global};
 use std::marker::Model;
 use std::mem;
@@ -25,6 +27,7 @@ use wp_gatelog::AppendError;
 use wp_history::History;
 use wp_model::{Entry, Segment, Seq};
 use wp_outside::{Disk, Failed};
+use wp_rule::WordSeat;
 use wp_wal::{NewSegment, Wal, Written};
 
 /// The history, with the record that is pending, and the log. Clauses see the table of the machine that it is, the log, and
@@ -164,15 +167,17 @@ impl<D: Disk> Log<D> {
         Ok(())
     }
 
-    /// Appends the pending record to the log. It takes no memory. After a fault of the device the log is closed for good, and
-    /// may have the record or not.
-    pub fn append(&mut self) -> Result<(), Failed>
+    /// Appends the pending record to the log, which this seat has out: it holds no turn but the write turn. It takes no memory. After
+    /// a fault of the device the log is closed for good, and may have the record or not.
+    pub fn append(&mut self, seat: &WordSeat<TurnValue<D>>) -> Result<(), Failed>
+        requires alone { seat.now.me.0.held ≡ writes self.old.state ∷ [] }
         requires running { self.old.state.closed ≡ false }
         requires some { self.old.state.pending ≢ [] }
         requires unlogged { self.old.state.logged ≡ false }
-        ensures ok { OnOk result (self.new.state ≡ record self.old.state { logged = true; log = self.old.state.log ++ self.old.state.pending }) }
-        ensures err { OnErr result (self.new.state ≡ record self.old.state { closed = true; failed = self.old.state.pending }) }
+        ensures ok { OnOk result (self.new.state ≡ with_logged self.old.state) }
+        ensures err { OnErr result (self.new.state ≡ with_lost self.old.state) }
         ensures cause { OnErr result (Rose self.old.wal.faults self.new.wal.faults) }
+        ensures unfailed { OnOk result (self.new.wal.faults ≡ self.old.wal.faults) }
         ensures later { self.old.wal.faults ≤ self.new.wal.faults }
         ensures id { self.new.wal.id ≡ self.old.wal.id }
         ensures format { self.new.wal.format ≡ self.old.wal.format }
@@ -237,10 +242,11 @@ impl<D: Disk> Log<D> {
         requires may { MayRenew self.old.state }
         requires segment { IsSegmentOf self.old segment.now }
         ensures ok { OnOk result (self.new.state ≡ self.old.state) }
-        ensures waits { IfOk result (λ written. IsWaiting self.new written × (written.segment.place ≢ self.old.state.segment.place)) }
+        ensures waits { IfOk result (λ written. WaitsApart self.old self.new written) }
         ensures place { IfOk result (λ written. IsPlaceOf self.old segment.now written.segment.place) }
         ensures err { OnErr result (self.new.state ≡ record self.old.state { closed = true }) }
         ensures cause { OnErr result (Rose self.old.wal.faults self.new.wal.faults) }
+        ensures unfailed { OnOk result (self.new.wal.faults ≡ self.old.wal.faults) }
         ensures later { self.old.wal.faults ≤ self.new.wal.faults }
         ensures id { self.new.wal.id ≡ self.old.wal.id }
         ensures format { self.new.wal.format ≡ self.old.wal.format }
@@ -274,6 +280,7 @@ impl<D: Disk> Log<D> {
 
     /// Takes no entry any more: the devices of the tables failed before a segment was written. The device is not called.
     pub fn stop(&mut self)
+        requires running { self.old.state.closed ≡ false }
         requires nothing { self.old.state.pending ≡ [] }
         ensures { self.new ≡ record self.old { state = record self.old.state { closed = true; stopped = true } } }
     {

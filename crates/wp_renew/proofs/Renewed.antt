@@ -33,7 +33,7 @@ use Rattle.wp_model.proofs.Tests.{none_some}
 use Rattle.wp_rule.specs.Knows.{KnowsTables, Noted}
 use Rattle.wp_rule.specs.Words.{IsAt}
 use Rattle.wp_parts.specs.VersionSet.{VersionSetState, IsEdits, asked_for, with_new}
-use Rattle.wp_parts.specs.Installs.{ReadyInstallState, IsBehind, SurvivesInstall}
+use Rattle.wp_parts.specs.Installs.{WrittenInstallState, IsBehind, SurvivesInstall}
 use Rattle.wp_parts.specs.Log.{LogState, IsLog}
 use Rattle.wp_parts.specs.Parts.{EditsStand, LogStands}
 use Rattle.wp_shared.specs.Calls.{GoesOnAs, with_events}
@@ -50,6 +50,7 @@ use Rattle.wp_maint.specs.Flush.{versions_of, HasFrozen, MayPut}
 use Rattle.wp_maint.specs.Holding.{is_of_flushed, is_of_tables}
 use Rattle.wp_maint.specs.Renewal.{HoldsBoth, IsBusy, HasBrokenOff, HasLogFault, HasNoMemory, HasRenewed, IsSameLog, LogBecame, NamesItsSegment, SurvivesBeside, segment_of}
 use Rattle.wp_maint.specs.Renewing.{HasClosed, HasMoved, HasStopped, RenewsHolding}
+use Rattle.wp_maint.proofs.Became.{log_became, tables_became}
 use Rattle.wp_maint.proofs.Found.{failed_last}
 use Rattle.wp_maint.proofs.Installed.{same_list}
 use Rattle.wp_maint.proofs.Made.{first_held, second_held}
@@ -169,8 +170,8 @@ module _ {D : Type 0} (z : SharedState D) (s0 s1 : SeatState) (e0 e1 : VersionSe
   pub no_memory : (u : SeatState) → GoesOnAs s0 u s0.knows.participant → u.knows.participant.seen ≡ s0.knows.participant.seen → EditsStand e0 → LogStands log0 → NamesItsSegment e0 e0 log0 log0 None → HasNoMemory (GoesOnAs s0 u) z s0 u e0.state
   no_memory u goes same edits_stand log_stands named = record {
     busy = busy u same;
-    tables = record { before = e0; after = e0; of_store = holds.edits_of_store; still_of_store = holds.edits_of_store; before_is = refl; after_is = refl; edits = is_edits; still_edits = is_edits; so = (refl, edits_stand) };
-    log = record { before = log0; after = log0; of_store = holds.log_of_store; still_of_store = holds.log_of_store; before_is = refl; after_is = refl; log = is_log; still_log = is_log; so = ((refl, log_stands), named) };
+    tables = tables_became e0 e0 holds.edits_of_store holds.edits_of_store is_edits is_edits refl (refl, edits_stand);
+    log = log_became log0 log0 holds.log_of_store holds.log_of_store is_log is_log refl ((refl, log_stands), named);
     goes_on = goes;
   }
 
@@ -222,20 +223,10 @@ module _ {D : Type 0} (z : SharedState D) (s0 s1 : SeatState) (e0 e1 : VersionSe
       asked = asked;
       next = asked_as u.knows.participant.seen e0.state.last edit asked is_asked made_now;
       left = held_left z s0 u u (with_failed e0.state asked) k.stands (seat_still s0 u _ broken_goes) broken_seen refl (subst (λ (t : Installed). IsIn (installed t) u.knows.held) broken_table (second_held u.knows (writes now.state) (installed left.state) k.holds.turn.held));
-      fault = record { before = e0; after = left; of_store = holds.edits_of_store; still_of_store = k.holds.edits_of_store; before_is = refl; after_is = broken_table; edits = is_edits; still_edits = k.still_edits; so = fault };
+      fault = tables_became e0 left holds.edits_of_store k.holds.edits_of_store is_edits k.still_edits broken_table fault;
       survives = (edit, made_now, is_asked, survived);
       uncalled = uncalled;
-      log = record {
-        before = log0;
-        after = now;
-        of_store = holds.log_of_store;
-        still_of_store = k.holds.log_of_store;
-        before_is = refl;
-        after_is = ap (λ (l : LogState). l.state) k.stopped ∙ ap (λ (t : WriteState). record t { next = segment_of asked; closed = true; stopped = true }) same_log;
-        log = is_log;
-        still_log = k.still_log;
-        so = (beside, names_its_segment e0 left edit is_edits running survived log0 now is_log open_ whole coupled asked is_asked uncalled beside);
-      };
+      log = log_became log0 now holds.log_of_store k.holds.log_of_store is_log k.still_log (ap (λ (l : LogState). l.state) k.stopped ∙ ap (λ (t : WriteState). record t { next = segment_of asked; closed = true; stopped = true }) same_log) (beside, names_its_segment e0 left edit is_edits running survived log0 now is_log open_ whole coupled asked is_asked uncalled beside);
       goes_on = subst (λ (t : Installed). GoesOnAs s0 u (with_events (found_by z s0 u e0.state (found_of u u (starts_same u.knows.participant.seen) k.found) ∷ tables_failed t.last asked ∷ log_stopped ∷ []) s0.knows.participant)) same_table broken_goes;
     }
 
@@ -252,20 +243,20 @@ module _ {D : Type 0} (z : SharedState D) (s0 s1 : SeatState) (e0 e1 : VersionSe
 
   -- ---- the edit is installed
 
-  module _ (written : WrittenState) (ready : ReadyInstallState) (f : Frozen) (is : ready.edit.asked ≡ record { gone = gone.Frozen; versions = versions_of f; flushed = f.at }) (frozen : HasFrozen s0.knows e0.state f) (based : written.segment.base ≡ length log0.state.history) where
+  module _ (written : WrittenState) (edit : WrittenInstallState) (f : Frozen) (is : edit.edit.asked ≡ record { gone = gone.Frozen; versions = versions_of f; flushed = f.at }) (frozen : HasFrozen s0.knows e0.state f) (based : written.segment.base ≡ length log0.state.history) where
     abbrev next : InstalledEdit
     next = after_renewal s0.knows.participant.seen written.segment.place e0.state.last
 
     -- the edit that is asked for is the renewal's
-    pub is_next : asked_for ready.edit.asked written.segment e1.state.last ≡ next
+    pub is_next : asked_for edit.edit.asked written.segment e1.state.last ≡ next
     is_next =
-        ap (λ (t : Installed). asked_for ready.edit.asked written.segment t.last) same_table
-        ∙ same_renewal s0.knows.participant.seen e0.state.last ready.edit.asked written.segment (ap (λ (x : Asked). x.gone) is) (ap (λ (x : Asked). x.versions) is ∙ frozen.versions) (ap (λ (x : Asked). x.flushed) is ∙ frozen.at) (based ∙ ap (λ (h : List Entry). length h) (sym seen))
+        ap (λ (t : Installed). asked_for edit.edit.asked written.segment t.last) same_table
+        ∙ same_renewal s0.knows.participant.seen e0.state.last edit.edit.asked written.segment (ap (λ (x : Asked). x.gone) is) (ap (λ (x : Asked). x.versions) is ∙ frozen.versions) (ap (λ (x : Asked). x.flushed) is ∙ frozen.at) (based ∙ ap (λ (h : List Entry). length h) (sym seen))
 
-    pub covered_next : IsEditCovered s1.knows.participant.seen (asked_for ready.edit.asked written.segment e1.state.last)
+    pub covered_next : IsEditCovered s1.knows.participant.seen (asked_for edit.edit.asked written.segment e1.state.last)
     covered_next = subst (λ (x : List Entry × InstalledEdit). IsEditCovered x.0 x.1) (λ i. (sym seen_still i, sym is_next i)) (frozen.covered_at written.segment.place)
 
-    module _ (u : SeatState) (left : VersionSetState) (now : LogState) (k : HasMoved z s1 e1 log1 written ready u left now) (behind : IsBehind e0 e1 ready) (beside : SurvivesBeside log0 log1 (Some written.segment)) where
+    module _ (u : SeatState) (left : VersionSetState) (now : LogState) (k : HasMoved z s1 e1 log1 written edit u left now) (behind : IsBehind e0 e1 edit) (beside : SurvivesBeside log0 log1 (Some written.segment)) where
       moved_table : left.state ≡ record e0.state { last = next }
       moved_table = k.state ∙ (λ i. record (same_table i) { last = is_next i })
 
@@ -339,33 +330,13 @@ module _ {D : Type 0} (z : SharedState D) (s0 s1 : SeatState) (e0 e1 : VersionSe
           carried = counted ∙ ap (λ (h : List Entry). length (undecided h)) (history_seen v last_seen);
           place = written.segment.place;
           left = held_left z s0 u v (record e0.state { last = last_edit }) k.stands (seat_still s0 u _ moved_goes) moved_seen put_still (subst (λ (t : Installed). IsIn (installed t) u.knows.held) last_table (second_held u.knows (writes now.state) (installed left.state) k.holds.turn.held));
-          state = record {
-            before = e0;
-            after = left;
-            of_store = holds.edits_of_store;
-            still_of_store = k.holds.edits_of_store;
-            before_is = refl;
-            after_is = last_table;
-            edits = is_edits;
-            still_edits = k.still_edits;
-            so = k.parts ∙ ap (λ (x : Asked). parts_after x e1.parts) is ∙ (λ i. new_parts ((frozen.versions ∙ ap (λ (h : List Entry). sorted_of (unflushed h e0.state.last)) (sym last_seen)) i) ++ behind.parts i);
-          };
+          state = tables_became e0 left holds.edits_of_store k.holds.edits_of_store is_edits k.still_edits last_table (k.parts ∙ ap (λ (x : Asked). parts_after x e1.parts) is ∙ (λ i. new_parts ((frozen.versions ∙ ap (λ (h : List Entry). sorted_of (unflushed h e0.state.last)) (sym last_seen)) i) ++ behind.parts i));
           survives = subst (SurvivesInstall e0 left) is_last moved_survived;
-          log = record {
-            before = log0;
-            after = now;
-            of_store = holds.log_of_store;
-            still_of_store = k.holds.log_of_store;
-            before_is = refl;
-            after_is = k.log_table ∙ (λ i. record (same_log i) { segment = base_is i; next = None });
-            log = is_log;
-            still_log = k.still_log;
-            so = (
-              subst (λ (x : Segment). SurvivesBeside log0 now (Some x)) (sym (ap (λ (t : WriteState). t.segment) k.log_table)) moved_beside,
-              names_its_segment e0 left last_edit is_edits running (subst (SurvivesInstall e0 left) is_last moved_survived) log0 now is_log open_ whole coupled (Some last_edit) refl (λ none. absurd (none_some (Some last_edit) last_edit none refl))
-                  (subst (λ (x : Segment). SurvivesBeside log0 now (Some x)) base_is moved_beside),
-            );
-          };
+          log = log_became log0 now holds.log_of_store k.holds.log_of_store is_log k.still_log (k.log_table ∙ (λ i. record (same_log i) { segment = base_is i; next = None })) (
+            subst (λ (x : Segment). SurvivesBeside log0 now (Some x)) (sym (ap (λ (t : WriteState). t.segment) k.log_table)) moved_beside,
+            names_its_segment e0 left last_edit is_edits running (subst (SurvivesInstall e0 left) is_last moved_survived) log0 now is_log open_ whole coupled (Some last_edit) refl (λ none. absurd (none_some (Some last_edit) last_edit none refl))
+                (subst (λ (x : Segment). SurvivesBeside log0 now (Some x)) base_is moved_beside),
+          );
           goes_on = subst (λ (x : InstalledEdit). GoesOnAs s0 v (with_events (found_by z s0 v e0.state found ∷ event.renewed x ∷ []) s0.knows.participant)) (ap (λ (t : Installed). t.last) last_table) (goes_still s0 u v (with_events (found_by z s0 v e0.state found ∷ event.renewed left.state.last ∷ []) s0.knows.participant) moved_goes put_goes);
         }
 
@@ -395,9 +366,9 @@ module _ {D : Type 0} (z : SharedState D) (s0 s1 : SeatState) (e0 e1 : VersionSe
       found = found_of u u (starts_same u.knows.participant.seen) k.found;
       busy = busy u closed_seen;
       left = held_left z s0 u u e0.state k.stands (seat_still s0 u _ closed_goes) closed_seen refl (subst (λ (t : Installed). IsIn (installed t) u.knows.held) same_table (second_held u.knows (writes now.state) (installed e1.state) k.holds.turn.held));
-      tables = record { before = e0; after = e1; of_store = holds.edits_of_store; still_of_store = holds.edits_of_store ∙ ap Some (sym left_first); before_is = refl; after_is = same_table; edits = is_edits; still_edits = is_left; so = manifest };
+      tables = tables_became e0 e1 holds.edits_of_store (holds.edits_of_store ∙ ap Some (sym left_first)) is_edits is_left same_table manifest;
       survives = (after_renewal s0.knows.participant.seen place e0.state.last, (place, ap (λ (h : List Entry). after_renewal h place e0.state.last) (sym closed_seen)), survived);
-      log = record { before = log0; after = now; of_store = holds.log_of_store; still_of_store = k.holds.log_of_store; before_is = refl; after_is = k.state ∙ ap (λ (t : WriteState). record t { closed = true }) same_log; log = is_log; still_log = k.still_log; so = (rose, beside, names_its_segment e0 e1 (after_renewal s0.knows.participant.seen place e0.state.last) is_edits running survived log0 now is_log open_ whole coupled None tt (λ none. manifest) beside) };
+      log = log_became log0 now holds.log_of_store k.holds.log_of_store is_log k.still_log (k.state ∙ ap (λ (t : WriteState). record t { closed = true }) same_log) (rose, beside, names_its_segment e0 e1 (after_renewal s0.knows.participant.seen place e0.state.last) is_edits running survived log0 now is_log open_ whole coupled None tt (λ none. manifest) beside);
       goes_on = closed_goes;
     }
 
@@ -415,10 +386,10 @@ module _ {D : Type 0} (z : SharedState D) (s0 s1 : SeatState) (e0 e1 : VersionSe
 
 module _ {D : Type 0} (z : SharedState D) (s : SeatState) (e : VersionSetState) (log : LogState) (holds : HoldsBoth z s e log log.state) (running : e.state.halted ≡ false) (seen : s.knows.participant.seen ≡ log.state.history) (nothing : log.state.pending ≡ []) (in_step : KnowsTables s.knows e.state.last) (w0 : (w : World) × Stands z s w) (is_edits : IsEdits e) (edits_stand : EditsStand e) (is_log : IsLog log) (log_stands : LogStands log) where
   log_stays : LogBecame z log.state log.state IsSameLog
-  log_stays = record { before = log; after = log; of_store = holds.log_of_store; still_of_store = holds.log_of_store; before_is = refl; after_is = refl; log = is_log; still_log = is_log; so = (refl, log_stands) }
+  log_stays = log_became log log holds.log_of_store holds.log_of_store is_log is_log refl (refl, log_stands)
 
   tables_still : TablesBecame z e.state e.state AreSameTables
-  tables_still = record { before = e; after = e; of_store = holds.edits_of_store; still_of_store = holds.edits_of_store; before_is = refl; after_is = refl; edits = is_edits; still_edits = is_edits; so = (refl, edits_stand) }
+  tables_still = tables_became e e holds.edits_of_store holds.edits_of_store is_edits is_edits refl (refl, edits_stand)
 
   log_there : IsIn (writes log.state) s.knows.held
   log_there = first_held s.knows (writes log.state) (installed e.state ∷ []) holds.turn.held

@@ -1,5 +1,5 @@
 -- A renewal as a whole, from the stage that broke it off, or from all of them.
-use Rattle.std.proofs.Common.{◌≡◌, ℕ, ◌<◌, ◌≤◌, false, List, [], ◌∷◌, length, Option, Some, None, refl, sym, subst, ap, ◌∙◌, arith}
+use Rattle.std.proofs.Common.{◌≡◌, ℕ, ◌<◌, ◌≤◌, true, false, List, [], ◌∷◌, length, Option, Some, None, refl, sym, subst, ap, ◌∙◌, arith}
 use Rattle.std.specs.Prelude.{Ok, Err, Result}
 use Rattle.wp_model.specs.declared.entry.Entry.{Entry}
 use Rattle.wp_model.specs.declared.segment.Segment.{Segment}
@@ -16,7 +16,7 @@ use Rattle.wp_core.specs.World.{Participant, World}
 use Rattle.wp_model.proofs.Tests.{none_some}
 use Rattle.wp_rule.specs.Knows.{KnowsTables}
 use Rattle.wp_parts.specs.VersionSet.{VersionSetState, IsEdits, asked_for}
-use Rattle.wp_parts.specs.Installs.{ReadyInstallState, IsBehind, SurvivesInstall}
+use Rattle.wp_parts.specs.Installs.{ReadyInstallState, WrittenInstallState, IsBehind, SurvivesInstall, SurvivesWrite}
 use Rattle.wp_parts.specs.Log.{LogState, IsLog, with_next}
 use Rattle.wp_parts.specs.Parts.{EditsStand, LogStands}
 use Rattle.wp_shared.specs.Calls.{GoesOnAs}
@@ -31,7 +31,7 @@ use Rattle.wp_maint.specs.Calls.{IsUncalled}
 use Rattle.wp_maint.specs.Flush.{versions_of, HasFrozen, MayPut}
 use Rattle.wp_maint.specs.Holding.{is_of_tables}
 use Rattle.wp_maint.specs.Renewal.{HoldsBoth}
-use Rattle.wp_maint.specs.Renewing.{HasMoved, HasPlace, HasSegment, IsTold, LeavesSegment, RenewsHolding, SurvivesEdit, SurvivesWrite, WritesTable}
+use Rattle.wp_maint.specs.Renewing.{HasMoved, HasPlace, HasSegment, IsTold, LeavesSegment, RenewsHolding, SurvivesEdit, WritesTable}
 use Rattle.wp_maint.proofs.Installed.{fault_since}
 use Rattle.wp_maint.proofs.Onward.{goes_more, renews_so, in_step_on}
 use Rattle.wp_maint.proofs.Throughout.{names_still}
@@ -42,6 +42,15 @@ use Rattle.wp_stages.proofs.StageLemmas.{beside_same}
 pub at_start : {D : Type 0} (z : SharedState D) (s u : SeatState) (e : VersionSetState) (log now : LogState) → u ≡ s → now ≡ log → HoldsBoth z u e now now.state → HoldsBoth z s e log log.state
 at_start z s u e log now same same_log holds = subst (λ (x : SeatState × LogState). HoldsBoth z x.0 e x.1 x.1.state) (λ i. (same i, same_log i)) holds
 
+-- where the segment was not written the log is closed
+pub closed_by : {D : Type 0} (z : SharedState D) (s u : SeatState) (e : VersionSetState) (log now : LogState) (why : RenewError) → HasPlace z s e log (Err why) u now → now.state.closed ≡ true
+closed_by z s u e log now Memory wrong = absurd wrong
+closed_by z s u e log now (TablesStopped n) wrong = absurd wrong
+closed_by z s u e log now (Stopped n) wrong = absurd wrong
+closed_by z s u e log now Nothing wrong = absurd wrong
+closed_by z s u e log now TableFault wrong = absurd wrong
+closed_by z s u e log now LogFault k = ap (λ (t : WriteState). t.closed) k.state
+
 module _ {D : Type 0} (z : SharedState D) (s0 : SeatState) (e0 : VersionSetState) (log0 : LogState) (holds : HoldsBoth z s0 e0 log0 log0.state) (running : e0.state.halted ≡ false) (open_ : log0.state.closed ≡ false) (nothing : log0.state.pending ≡ []) (coupled : e0.state.last.segment ≡ log0.state.segment) (below : log0.state.segment.base < length log0.state.history)
     (seen : s0.knows.participant.seen ≡ log0.state.history) (whole : log0.state.log ≡ log0.state.history) (w0 : (w : World) × Stands z s0 w) (in_step : KnowsTables s0.knows e0.state.last) (is_edits : IsEdits e0) (is_log : IsLog log0)
     (f : Frozen) (ready : ReadyInstallState) (is : ready.edit.asked ≡ record { gone = gone.Frozen; versions = versions_of f; flushed = f.at }) (frozen : HasFrozen s0.knows e0.state f) where
@@ -51,25 +60,25 @@ module _ {D : Type 0} (z : SharedState D) (s0 : SeatState) (e0 : VersionSetState
   -- ---- the table was not written
 
   -- a crash meanwhile left the tables that there were
-  while_written : (left : VersionSetState) → SurvivesWrite ready.edit.asked e0 left → SurvivesInstall e0 left (after_renewal s0.knows.participant.seen 0 e0.state.last)
+  while_written : (left : VersionSetState) → SurvivesWrite e0 left ready.edit.asked → SurvivesInstall e0 left (after_renewal s0.knows.participant.seen 0 e0.state.last)
   while_written left survives =
       let segment : Segment = record { place = 0; base = f.at } in
       subst (SurvivesInstall e0 left) (same_renewal s0.knows.participant.seen e0.state.last ready.edit.asked segment (ap (λ (x : Asked). x.gone) is) (ap (λ (x : Asked). x.versions) is ∙ frozen.versions) (ap (λ (x : Asked). x.flushed) is ∙ frozen.at) frozen.at) (survives segment)
 
-  pub not_written : (T : Type 0) (why : RenewError) (u : SeatState) (left : VersionSetState) (now : LogState) (behind : ReadyInstallState) → WritesTable {T = T} z s0 e0 log0 ready (Err why) u left now behind → RenewsHolding (GoesOnAs s0 u) z s0 e0 log0 (Err why) u left now
-  not_written T Memory u left now behind wrong = absurd wrong
-  not_written T (TablesStopped n) u left now behind wrong = absurd wrong
-  not_written T (Stopped n) u left now behind wrong = absurd wrong
-  not_written T Nothing u left now behind wrong = absurd wrong
-  not_written T LogFault u left now behind wrong = absurd wrong
-  not_written T TableFault u left now behind k =
-      broken_holding z s0 s0 e0 e0 log0 log0 holds running open_ nothing (sym coupled) below seen whole w0 is_edits is_log begun refl refl refl (λ before after. SurvivesWrite ready.edit.asked before after × IsUncalled before after) None u left now k
+  pub not_written : (why : RenewError) (u : SeatState) (left : VersionSetState) (now : LogState) → WritesTable z s0 e0 log0 ready (Err why) u left now → RenewsHolding (GoesOnAs s0 u) z s0 e0 log0 (Err why) u left now
+  not_written Memory u left now wrong = absurd wrong
+  not_written (TablesStopped n) u left now wrong = absurd wrong
+  not_written (Stopped n) u left now wrong = absurd wrong
+  not_written Nothing u left now wrong = absurd wrong
+  not_written LogFault u left now wrong = absurd wrong
+  not_written TableFault u left now k =
+      broken_holding z s0 s0 e0 e0 log0 log0 holds running open_ nothing (sym coupled) below seen whole w0 is_edits is_log begun refl refl refl (λ before after. SurvivesWrite before after ready.edit.asked × IsUncalled before after) None u left now k
       (after_renewal s0.knows.participant.seen 0 e0.state.last) (0, refl) tt (while_written left k.survives.0) (λ none. k.survives.1)
       (beside_same log0 now (ap (λ (l : LogState). l.wal.moments) k.stopped)) k.fault in_step
 
   -- ---- the table is written, if there is one
 
-  module _ (e1 : VersionSetState) (behind : ReadyInstallState) (same_table : e1.state ≡ e0.state) (its : IsBehind e0 e1 behind) (same_asked : behind.edit.asked ≡ ready.edit.asked) (holds1 : HoldsBoth z s0 e1 log0 log0.state) where
+  module _ (e1 : VersionSetState) (behind : WrittenInstallState) (same_table : e1.state ≡ e0.state) (its : IsBehind e0 e1 behind) (same_asked : behind.edit.asked ≡ ready.edit.asked) (holds1 : HoldsBoth z s0 e1 log0 log0.state) where
     is_behind : behind.edit.asked ≡ record { gone = gone.Frozen; versions = versions_of f; flushed = f.at }
     is_behind = same_asked ∙ is
 
@@ -80,7 +89,7 @@ module _ {D : Type 0} (z : SharedState D) (s0 : SeatState) (e0 : VersionSetState
     settled1 = subst (λ (t : Installed). KnowsTables s0.knows t.last) (sym same_table) in_step
 
     -- the segment was not
-    pub not_placed : (why : RenewError) (u : SeatState) (now : LogState) → IsEdits e1 → SurvivesWrite ready.edit.asked e0 e1 → HasPlace z s0 e1 log0 (Err why) u now → RenewsHolding (GoesOnAs s0 u) z s0 e0 log0 (Err why) u e1 now
+    pub not_placed : (why : RenewError) (u : SeatState) (now : LogState) → IsEdits e1 → SurvivesWrite e0 e1 ready.edit.asked → HasPlace z s0 e1 log0 (Err why) u now → RenewsHolding (GoesOnAs s0 u) z s0 e0 log0 (Err why) u e1 now
     not_placed Memory u now is_left survives wrong = absurd wrong
     not_placed (TablesStopped n) u now is_left survives wrong = absurd wrong
     not_placed (Stopped n) u now is_left survives wrong = absurd wrong
@@ -127,13 +136,13 @@ module _ {D : Type 0} (z : SharedState D) (s0 : SeatState) (e0 : VersionSetState
       }
 
       -- the edit was not installed
-      pub not_installed : (T : Type 0) (why : RenewError) (v : SeatState) (left : VersionSetState) (now : LogState) → LeavesSegment {T = T} z u e1 log1 written behind (Err why) v left now → RenewsHolding (GoesOnAs s0 v) z s0 e0 log0 (Err why) v left now
-      not_installed T Memory v left now wrong = absurd wrong
-      not_installed T (TablesStopped n) v left now wrong = absurd wrong
-      not_installed T (Stopped n) v left now wrong = absurd wrong
-      not_installed T Nothing v left now wrong = absurd wrong
-      not_installed T LogFault v left now wrong = absurd wrong
-      not_installed T TableFault v left now k =
+      pub not_installed : (why : RenewError) (v : SeatState) (left : VersionSetState) (now : LogState) → LeavesSegment {T = Unit {0}} z u e1 log1 written behind (Err why) v left now → RenewsHolding (GoesOnAs s0 v) z s0 e0 log0 (Err why) v left now
+      not_installed Memory v left now wrong = absurd wrong
+      not_installed (TablesStopped n) v left now wrong = absurd wrong
+      not_installed (Stopped n) v left now wrong = absurd wrong
+      not_installed Nothing v left now wrong = absurd wrong
+      not_installed LogFault v left now wrong = absurd wrong
+      not_installed TableFault v left now k =
           let edit = asked_for behind.edit.asked written.segment e1.state.last in
           let its_edit = is_next z s0 u e0 e1 log0 log1 holds running open_ nothing (sym coupled) below seen whole w0 is_edits is_log first still same_table p.state written behind f is_behind frozen based in
           broken_holding z s0 u e0 e1 log0 log1 holds running open_ nothing (sym coupled) below seen whole w0 is_edits is_log first still same_table p.state (SurvivesEdit written behind)
@@ -141,7 +150,7 @@ module _ {D : Type 0} (z : SharedState D) (s0 : SeatState) (e0 : VersionSetState
           (after_renewal s0.knows.participant.seen written.segment.place e0.state.last) (written.segment.place, refl) its_edit
           (subst (SurvivesInstall e0 left) its_edit (k.survives e0 its)) (λ none. absurd (none_some (Some edit) edit none refl))
           (beside_still log0 log1 now (Some written.segment) (ap (λ (l : LogState). l.wal.moments) k.stopped) p.survives)
-          (fault_since e0.set e1.set left.set (ap (λ (s : TableSetState). s.manifest.log.faults) its.written.changed) its.written.later k.fault) settled2
+          (fault_since e0.set e1.set left.set (ap (λ (s : TableSetState). s.manifest.log.faults) its.written.changed) (ap (λ (s : TableSetState). s.faults) its.written.changed) k.fault) settled2
 
       -- it was
       module _ (v : SeatState) (left : VersionSetState) (now : LogState) (k : HasMoved z u e1 log1 written behind v left now) where

@@ -18,7 +18,8 @@ ghost use Rattle.wp_maint.specs.Renewing.{RenewsHolding};
 use std::alloc::AllocError;
 use std::sync::Wait;
 use wp_maint::{
-    Frozen, ReadyFlush, RenewError, Renewed, find_edits, freeze_in, make_ready, put_table,
+    Frozen, ReadyFlush, RenewError, Renewed, find_edits, find_held, freeze_in, make_ready,
+    put_table,
 };
 use wp_outside::Disk;
 use wp_shared::{Log, Seat, Shared, Stock, VersionSet};
@@ -100,17 +101,23 @@ fn renew_in<D: Disk + Drop, R: Wait>(
     let ReadyRenewal { flush, segment } = ready;
     let ReadyFlush {
         frozen,
-        mut edit,
+        edit,
         versions: _versions,
     } = flush;
     let done = Renewed {
         at: frozen.at,
         carried: log.undecided_count() as u64,
     };
-    let table = write_table(store, seat, edits, log, &mut edit)?;
-    let written = write_segment(store, seat, edits, log, &segment)?;
+    let tabled = write_table(store, seat, edits, log, edit)?;
+    let written = match write_segment(store, seat, edits, log, &segment) {
+        Ok(written) => written,
+        Err(why) => {
+            tabled.give_up(log);
+            return Err(why);
+        }
+    };
     log.shows_waiting(&written);
-    install(store, seat, edits, log, written, edit)?;
+    let table = install(store, seat, edits, log, written, tabled)?;
     put_table(store, rt, seat, edits, frozen, table);
     Ok(done)
 }
@@ -179,7 +186,7 @@ fn renew_tables<D: Disk + Drop, R: Wait>(
     ensures untouched { IfErr result (BeforeDevices (edits.new ≡ edits.old)) }
 {
     if edits.is_halted() {
-        find_edits(store, seat);
+        find_held(store, seat, edits);
         return Err(RenewError::TablesStopped(edits.flushed()));
     }
     let mut log = store.take_log(rt, seat);

@@ -22,7 +22,7 @@ use Rattle.wp_model.proofs.Tests.{none_some}
 use Rattle.wp_shared.specs.Calls.{with_events}
 use Rattle.wp_rule.specs.Knows.{NextNamed}
 use Rattle.wp_parts.specs.VersionSet.{VersionSetState, IsEdits, asked_for, with_new}
-use Rattle.wp_parts.specs.Installs.{ReadyInstallState}
+use Rattle.wp_parts.specs.Installs.{WrittenInstallState}
 use Rattle.wp_parts.specs.Log.{LogState, IsLog, IsPlaceOf, IsSegmentOf, IsWaiting, with_next, with_segment}
 use Rattle.wp_shared.specs.Notes.{with_participant, no_fact, GoesOn}
 use Rattle.wp_shared.specs.Seats.{SharedState, SeatState, Stands}
@@ -199,7 +199,7 @@ module _ {D : Type 0} (z : SharedState D) (s t u v : SeatState) (e left : Versio
     unfolding moved_found
     moves_since = goes_then_more z s t v e.state k (writes now.state ∷ installed left.state ∷ []) is_of_flushed (renewed left.state.last ∷ []) moves
 
-    pub has_moved : (written : WrittenState) (edit : ReadyInstallState) → left.state ≡ record e.state { last = asked_for edit.edit.asked written.segment e.state.last }
+    pub has_moved : (written : WrittenState) (edit : WrittenInstallState) → left.state ≡ record e.state { last = asked_for edit.edit.asked written.segment e.state.last }
         → now.state ≡ with_segment log.state written.segment → (now.wal.moments ≡ log.wal.moments) × (now.wal.faults ≡ log.wal.faults) × (now.wal.id ≡ log.wal.id) → left.first ≡ e.first → now.first ≡ log.first
         → left.parts ≡ parts_after edit.edit.asked e.parts → SurvivesEdit written edit e left → IsEdits left → IsLog now → (w : World) × Stands z v w → HasMoved z s e log written edit v left now
     has_moved written edit table log_table device edits_first log_first parts survives still_edits still_log stands = record {

@@ -19,7 +19,7 @@ use crate::steps::{
 use std::sync::Arc;
 use wp_maint::{RenewError, find_edits};
 use wp_outside::{Disk, Failed};
-use wp_shared::{Log, ReadyInstall, Seat, Shared, VersionSet};
+use wp_shared::{Log, ReadyInstall, Seat, Shared, VersionSet, WrittenInstall};
 use wp_table::Table;
 use wp_wal::{NewSegment, Written};
 
@@ -29,21 +29,20 @@ pub fn write_table<D: Disk + Drop>(
     seat: &mut Seat<D>,
     edits: &mut VersionSet<D>,
     log: &mut Log<D>,
-    edit: &mut ReadyInstall,
-) -> Result<Option<Arc<Table>>, RenewError>
+    edit: ReadyInstall,
+) -> Result<WrittenInstall, RenewError>
     requires holds { HoldsBoth store.now seat.old edits.old log.old log.old.state }
     requires running { (edits.old.state.halted ≡ false) × (log.old.state.closed ≡ false) × (log.old.state.pending ≡ []) }
-    requires ready { IsReadyFor edits.old edit.old }
-    ensures writes { WritesTable store.now seat.old edits.old log.old edit.old result seat.new edits.new log.new edit.new }
-    ensures table { IfOk result (λ table. option_map arc_value table ≡ one_part edit.old.edit.asked.versions) }
+    requires ready { IsReadyFor edits.old edit }
+    ensures writes { WritesTable store.now seat.old edits.old log.old edit result seat.new edits.new log.new }
     ensures edits { IsEdits edits.new }
 {
     edits.devices_agree();
     log.devices_agree();
     match edits.write_table(edit) {
-        Ok(table) => {
+        Ok(tabled) => {
             edits.devices_agree();
-            Ok(table)
+            Ok(tabled)
         }
         Err(Failed) => {
             edits.devices_agree();
@@ -89,29 +88,31 @@ pub fn write_segment<D: Disk + Drop>(
     }
 }
 
-/// Installs the edit that names the segment, and moves the log there. Where the device failed the log is stopped.
+/// Installs the edit that names the segment, and moves the log there. The answer is the edit's table, for readers. Where the device
+/// failed the log is stopped.
 pub fn install<D: Disk + Drop>(
     store: &Shared<D>,
     seat: &mut Seat<D>,
     edits: &mut VersionSet<D>,
     log: &mut Log<D>,
     written: Written,
-    edit: ReadyInstall,
-) -> Result<(), RenewError>
+    edit: WrittenInstall,
+) -> Result<Option<Arc<Table>>, RenewError>
     requires { IsTold store.now seat.old edits.old log.old written edit }
-    ensures { LeavesSegment store.now seat.old edits.old log.old written edit result seat.new edits.new log.new }
+    ensures leaves { LeavesSegment store.now seat.old edits.old log.old written edit result seat.new edits.new log.new }
+    ensures table { IfOk result (λ table. option_map arc_value table ≡ one_part edit.edit.asked.versions) }
 {
     edits.devices_agree();
     log.devices_agree();
     find_edits(store, seat);
     match edits.install(edit, written.segment()) {
-        Ok(()) => {
+        Ok(table) => {
             edits.devices_agree();
             remember_renewal(store, seat, edits, &written);
             log.use_segment(written);
             log.devices_agree();
             use_segment(store, seat, edits, log);
-            Ok(())
+            Ok(table)
         }
         Err(Failed) => {
             edits.devices_agree();

@@ -115,9 +115,9 @@ module _ (id : ℕ) (last : Edit) (parts : List (List Version)) (gone : Gone) (v
 -- ---- the manifest alone
 
 module _ (old new : ManifestState) (moments : List Moment) (faults : ℕ) (halted : Bool) (edit : Edit) (passed : (edits : List Edit) → StoresEdits old edits no_edit → old.log.closed ≡ false → Passes (Leaves (IsManifestOrNext old.log.id edits edit)) old.log.moments new.log.moments) where
-  pub edit_installed : {T E : Type 0} (x : T) → halted ≡ false → ((edits : List Edit) → StoresEdits old edits no_edit → StoresEdits new (edits ++ edit ∷ []) no_edit) → new.edit ≡ edit
+  pub edit_installed : {T E : Type 0} (x : T) → halted ≡ false → ((edits : List Edit) → StoresEdits old edits no_edit → StoresEdits new (edits ++ edit ∷ []) no_edit) → new.edit ≡ edit → new.log.faults ≡ old.log.faults
       → InstallsEdit {E = E} (record { manifest = old; moments = moments; faults = faults; halted = halted }) (record { manifest = new; moments = moments; faults = faults; halted = halted }) edit (Ok x)
-  edit_installed x running stores last = record { moments = refl; faults = refl; passed = passed; installed = record { running = running; last = last; stores = stores }; refused = tt }
+  edit_installed x running stores last unfailed = record { moments = refl; faults = refl; passed = passed; installed = record { running = running; unfailed = unfailed; last = last; stores = stores }; refused = tt }
 
   pub edit_failed : {T E : Type 0} (e : E) → InstallRefused old new edit DiskFault
       → InstallsEdit {T = T} (record { manifest = old; moments = moments; faults = faults; halted = halted }) (record { manifest = new; moments = moments; faults = faults; halted = true }) edit (Err e)

@@ -1,5 +1,5 @@
 -- What the stages of an edit make of a set.
-use Rattle.std.proofs.Common.{◌≡◌, ℕ, ◌≤◌, sym, subst, ◌<◌, true, false, List, [], ◌∷◌, ◌++◌, length, Option, Some, None, refl, ap, ◌∙◌, le_refl, arith}
+use Rattle.std.proofs.Common.{◌≡◌, ℕ, ◌≤◌, sym, subst, ◌<◌, true, false, List, [], ◌∷◌, ◌++◌, length, Option, Some, None, refl, ap, ◌∙◌, arith}
 use Rattle.std.specs.List.{list_all}
 use Rattle.wp_model.specs.declared.version.Version.{Version}
 use Rattle.wp_outside.specs.Disk.{Moment, IfKnown, added, after_write, after_sync}
@@ -14,7 +14,7 @@ use Rattle.wp_table.specs.Walk.{BuiltTable}
 use Rattle.wp_tableset.specs.Changes.{Asked, NotWritten, edit_for, new_places, parts_after, staying}
 use Rattle.wp_tableset.specs.Device.{IsEnd}
 use Rattle.wp_tableset.specs.Install.{HasSome, IsReady, IsReadyEdit, IsWrittenEdit, MayInstall, built_of, unplaced}
-use Rattle.wp_tableset.specs.Set.{TableSetState, RestsWith}
+use Rattle.wp_tableset.specs.Set.{TableSetState, LeavesTables, RestsWith, StoresTables}
 use Rattle.wp_tableset.specs.declared.gone.Gone.{Gone}
 use Rattle.wp_tableset.specs.declared.gone.Gone.TheVariants.{Frozen, Tables}
 use Rattle.wp_tableset.proofs.DeviceLemmas.{unmoved_grows}
@@ -67,7 +67,7 @@ module _ (old : TableSetState) (running : old.halted ≡ false) (gone : Gone) (f
   asked versions = record { gone = gone; versions = versions; flushed = flushed }
 
   -- without a table nothing is
-  pub none_written : (versions : List Version) (edit : Edit) → IsReadyEdit old (record { edit = edit; built = None; asked = asked versions }) → IsWrittenEdit old old (record { edit = edit; built = None; asked = asked versions })
+  pub none_written : (versions : List Version) (edit : Edit) → IsReadyEdit old (record { edit = edit; built = None; asked = asked versions }) → IsWrittenEdit old old (record { edit = edit; asked = asked versions })
   none_written (v ∷ versions) edit ready = absurd cc
   none_written [] edit ready = record {
     may = ready.may;
@@ -75,7 +75,6 @@ module _ (old : TableSetState) (running : old.halted ≡ false) (gone : Gone) (f
     place = 0;
     edit = ready.edit;
     changed = refl;
-    later = le_refl old.faults;
     wrote = refl;
     stores = λ edits parts stores. stores;
     there = λ log edits parts stores. known_map (RestsWith old.manifest.log.id old.manifest.edit parts) (RestsWith old.manifest.log.id (edit_for old (asked []) log 0) (parts_after (asked []) parts))
@@ -97,10 +96,10 @@ module _ (old : TableSetState) (running : old.halted ≡ false) (gone : Gone) (f
       };
     }
 
-    pub some_written : (versions : List Version) (place : ℕ) (edit next : Edit) (built : BuiltTable) → IsReadyEdit old (record { edit = edit; built = Some built; asked = asked versions }) → old.faults ≤ faults → IsEnd old.moments place → SyncsBehind old.moments mid built.bytes
-        → mid ≡ added after_sync (added (after_write place built.bytes) old.moments) → next ≡ with_newest_at place edit → IsWrittenEdit old (record old { moments = mid; faults = faults }) (record { edit = next; built = None; asked = asked versions })
-    some_written [] place edit next built ready later end syncs calls named = absurd cc
-    some_written (v ∷ versions) place edit next built ready later end syncs calls named =
+    pub some_written : (versions : List Version) (place : ℕ) (edit next : Edit) (built : BuiltTable) → IsReadyEdit old (record { edit = edit; built = Some built; asked = asked versions }) → faults ≡ old.faults → IsEnd old.moments place → SyncsBehind old.moments mid built.bytes
+        → mid ≡ added after_sync (added (after_write place built.bytes) old.moments) → next ≡ with_newest_at place edit → IsWrittenEdit old (record old { moments = mid; faults = faults }) (record { edit = next; asked = asked versions })
+    some_written [] place edit next built ready unfailed end syncs calls named = absurd cc
+    some_written (v ∷ versions) place edit next built ready unfailed end syncs calls named =
         let id : ℕ = old.manifest.log.id in
         let bytes : built.bytes ≡ written_bytes id (v ∷ versions) = ap (λ (b : BuiltTable). b.bytes) (some_same built (record { bytes = written_bytes id (v ∷ versions); versions = v ∷ versions }) ready.built) in
         let behind : SyncsBehind old.moments mid (written_bytes id (v ∷ versions)) = rw bytes at syncs in record {
@@ -108,8 +107,7 @@ module _ (old : TableSetState) (running : old.halted ≡ false) (gone : Gone) (f
           in_order = ready.in_order;
           place = place;
           edit = named ∙ ap (λ (e : Edit). with_newest_at place e) ready.edit;
-          changed = refl;
-          later = later;
+          changed = λ i. record old { moments = mid; faults = unfailed i };
           wrote = (end, (written_bytes id (v ∷ versions), refl, rw bytes at calls));
           stores = λ edits parts stores.
               let rests : IfKnown mid (RestsWith id old.manifest.edit parts) = rests_grown id old.manifest.edit parts built.bytes old.moments mid grows syncs (stores.rests running) in
@@ -120,13 +118,13 @@ module _ (old : TableSetState) (running : old.halted ≡ false) (gone : Gone) (f
 -- ---- the edit is installed
 
 -- a set that may go on, with a further table written, has no more of them than flushed entries
-pub written_count : (old set : TableSetState) (edit : Edit) (built : Option BuiltTable) (asked : Asked) → IsReady set.manifest set.halted → IsWrittenEdit old set (record { edit = edit; built = built; asked = asked }) → length edit.tables ≤ edit.flushed
-written_count old set edit built asked ready written =
+pub written_count : (old set : TableSetState) (edit : Edit) (asked : Asked) → IsReady set.manifest set.halted → IsWrittenEdit old set (record { edit = edit; asked = asked }) → length edit.tables ≤ edit.flushed
+written_count old set edit asked ready written =
     let count : length old.manifest.edit.tables ≤ old.manifest.edit.flushed = rw written.changed at ready.count in
     rw written.edit (asked_count old asked.gone asked.versions asked.flushed 0 written.place count written.may)
 
 -- the tables of the edit before, and of this one, are on the device
-module _ (old set : TableSetState) (edit : Edit) (built : Option BuiltTable) (asked : Asked) (log : ℕ) (written : IsWrittenEdit old set (record { edit = edit; built = built; asked = asked })) (edits : List Edit) (parts : List (List Version)) (stores : StoresTables old edits no_edit parts []) where
+module _ (old set : TableSetState) (edit : Edit) (asked : Asked) (log : ℕ) (written : IsWrittenEdit old set (record { edit = edit; asked = asked })) (edits : List Edit) (parts : List (List Version)) (stores : StoresTables old edits no_edit parts []) where
   pub edits_there : StoresEdits set.manifest edits no_edit
   edits_there = (written.stores edits parts stores).manifest
 

@@ -77,6 +77,7 @@ pub record NotWritten (old new : TableSetState) : Type 0 where
 -- it is the last one
 pub record IsInstalled (old new : TableSetState) (edit : Edit) : Type 0 where
   pub running : new.halted ≡ false
+  pub unfailed : new.manifest.log.faults ≡ old.manifest.log.faults
   pub last : new.manifest.edit ≡ edit
   pub stores : (edits : List Edit) → StoresEdits old.manifest edits no_edit → StoresEdits new.manifest (edits ++ edit ∷ []) no_edit
 

@@ -24,6 +24,11 @@ pub record ReadyState : Type 0 where
   pub built : Option BuiltTable
   pub asked : Asked
 
+-- an edit whose table is written, if it has one, with the table's place, and what was asked of it
+pub record WrittenEditState : Type 0 where
+  pub edit : Edit
+  pub asked : Asked
+
 -- these versions as a table that was built, if there are any
 abbrev pub built_of : ℕ → List Version → Option BuiltTable
 built_of id [] = None
@@ -49,18 +54,17 @@ pub record IsReadyEdit (set : TableSetState) (r : ReadyState) : Type 0 where
   pub built : r.built ≡ built_of set.manifest.log.id r.asked.versions
   pub spelled : 1 ≤ length r.asked.versions → SpellsTable set.manifest.log.id r.asked.flushed r.asked.versions (written_bytes set.manifest.log.id r.asked.versions)
 
--- The ready edit's table, if it has one, is written, and the edit names its place; nothing else does. The tables that there were, and it,
+-- The edit's table, if it has one, is written, and the edit names its place; nothing else does. The tables that there were, and it,
 -- are there for good. What was before is `old`.
-pub record IsWrittenEdit (old set : TableSetState) (r : ReadyState) : Type 0 where
-  pub may : MayInstall old r.asked
-  pub in_order : AreInOrder r.asked.versions
+pub record IsWrittenEdit (old set : TableSetState) (w : WrittenEditState) : Type 0 where
+  pub may : MayInstall old w.asked
+  pub in_order : AreInOrder w.asked.versions
   pub place : ℕ
-  pub edit : r.edit ≡ edit_for old r.asked 0 place
-  pub changed : set ≡ record old { moments = set.moments; faults = set.faults }
-  pub later : old.faults ≤ set.faults
-  pub wrote : NewestIsWritten old.moments set.moments (new_places old.manifest.log.id r.asked.versions place)
+  pub edit : w.edit ≡ edit_for old w.asked 0 place
+  pub changed : set ≡ record old { moments = set.moments }
+  pub wrote : NewestIsWritten old.moments set.moments (new_places old.manifest.log.id w.asked.versions place)
   pub stores : (edits : List Edit) (parts : List (List Version)) → StoresTables old edits no_edit parts [] → StoresTables set edits no_edit parts []
-  pub there : (log : ℕ) (edits : List Edit) (parts : List (List Version)) → StoresTables old edits no_edit parts [] → IfKnown set.moments (RestsWith old.manifest.log.id (edit_for old r.asked log place) (parts_after r.asked parts))
+  pub there : (log : ℕ) (edits : List Edit) (parts : List (List Version)) → StoresTables old edits no_edit parts [] → IfKnown set.moments (RestsWith old.manifest.log.id (edit_for old w.asked log place) (parts_after w.asked parts))
 
 -- the bytes have the edit's tables, of some versions
 abbrev pub HasSome : TableSetState → Edit → List ℕ → Type 0

@@ -6,7 +6,7 @@
 //! device has failed the set is halted: it calls none any more, and a later opening finds which edit there is.
 //!
 //! An edit is installed in three stages: `ready` takes all its memory and calls no device; `write_table` writes its table, if it has one;
-//! `install` makes it the last one. What the new table takes the place of, the frozen parts or all tables, is data.
+//! `install` makes it the last one, and hands out the table. What the new table takes the place of, the frozen parts or all tables, is data.
 #![tactic(auto)]
 
 mod device;
@@ -14,4 +14,4 @@ mod gone;
 mod set;
 
 pub use gone::Gone;
-pub use set::{ReadyEdit, SetDisks, TableSet};
+pub use set::{ReadyEdit, SetDisks, TableSet, WrittenEdit};

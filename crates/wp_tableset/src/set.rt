@@ -57,6 +57,33 @@ impl Model for ReadyEdit {
     } };
 }
 
+/// An edit whose table, if it has one, is on its device. Clauses see the edit, and what was asked of it. It has no `Drop`, so no table
+/// that was written is forgotten: its edit is installed, or it is given up.
+pub struct WrittenEdit {
+    room: EditRoom,
+    table: Option<Arc<Table>>,
+    gone: Gone,
+    flushed: Seq,
+    versions: Ghost<Versions>,
+}
+
+impl Model for WrittenEdit {
+    ghost use Rattle.std.specs.Prelude.{◌≡◌};
+    ghost use Rattle.std.specs.Arc.{arc_value};
+    ghost use Rattle.std.specs.Option.{option_map};
+    ghost use Rattle.wp_tableset.specs.Changes.{one_part};
+    ghost use Rattle.wp_tableset.specs.Install.{WrittenEditState};
+
+    ghost Value = { WrittenEditState };
+
+    ghost view = { λ w. record {
+      edit = w.room;
+      asked = record { gone = w.gone; versions = w.versions.value; flushed = w.flushed };
+    } };
+
+    ghost invariant = { λ w. option_map arc_value w.table ≡ one_part w.versions.value };
+}
+
 /// The two devices of a set.
 #[derive(Drop)]
 pub struct SetDisks<D> {
@@ -115,12 +142,39 @@ fn staying(gone: Gone, tables: &[(u64, u64)]) -> &[(u64, u64)]
 }
 
 impl ReadyEdit {
+    /// What its table takes the place of.
+    pub fn gone(&self) -> Gone
+        ensures { result ≡ self.now.asked.gone }
+    {
+        self.gone
+    }
+}
+
+impl WrittenEdit {
     /// What goes, and the number up to which entries are flushed then.
     pub fn asked(&self) -> (Gone, Seq)
         ensures gone { result.0 ≡ self.now.asked.gone }
         ensures flushed { result.1 ≡ self.now.asked.flushed }
     {
         (self.gone, self.flushed)
+    }
+
+    /// Its table, if it has one.
+    pub fn table(&self) -> &Option<Arc<Table>>
+        ensures { option_map arc_value result.now ≡ one_part self.now.asked.versions }
+    {
+        &self.table
+    }
+
+    /// No edit will name the table: its bytes on the device are dead. No device is called.
+    pub fn give_up(self) {
+        let WrittenEdit {
+            room: _room,
+            table: _table,
+            gone: _gone,
+            flushed: _flushed,
+            versions: _versions,
+        } = self;
     }
 }
 
@@ -194,25 +248,42 @@ impl<D: Disk> TableSet<D> {
         })
     }
 
-    /// Writes the table of a ready edit, if it has one. The table is for readers. It takes no memory. After a fault of the device the
-    /// set is halted.
-    pub fn write_table(&mut self, ready: &mut ReadyEdit) -> Result<Option<Arc<Table>>, Failed>
+    /// Writes the table of a ready edit, if it has one. It takes no memory. After a fault of the device the set is halted.
+    pub fn write_table(&mut self, ready: ReadyEdit) -> Result<WrittenEdit, Failed>
         requires running { self.old.halted ≡ false }
-        requires ready { IsReadyEdit self.old ready.old }
-        ensures table { IfOk result (λ table. option_map arc_value table ≡ one_part ready.old.asked.versions) }
-        ensures written { OnOk result (IsWrittenEdit self.old self.new ready.new) }
-        ensures asked { ready.new.asked ≡ ready.old.asked }
-        ensures uncalled { ready.old.asked.versions ≡ [] → self.new ≡ self.old }
+        requires ready { IsReadyEdit self.old ready }
+        ensures written { IfOk result (IsWrittenEdit self.old self.new) }
+        ensures asked { IfOk result (λ written. written.asked ≡ ready.asked) }
+        ensures uncalled { ready.asked.versions ≡ [] → self.new ≡ self.old }
         ensures refused { OnErr result (NotWritten self.old self.new) }
         ensures keeps { LosesNoTable self.old self.new }
     {
-        let Some(built) = ready.built.take() else {
-            return Ok(None);
+        let ReadyEdit {
+            mut room,
+            built,
+            gone,
+            flushed,
+            versions,
+        } = ready;
+        let Some(built) = built else {
+            return Ok(WrittenEdit {
+                room,
+                table: None,
+                gone,
+                flushed,
+                versions,
+            });
         };
         match write_behind(&mut self.tables, built.bytes()) {
             Ok(place) => {
-                ready.room.set_newest_place(place);
-                Ok(Some(built.into_table()))
+                room.set_newest_place(place);
+                Ok(WrittenEdit {
+                    room,
+                    table: Some(built.into_table()),
+                    gone,
+                    flushed,
+                    versions,
+                })
             }
             Err(Failed) => {
                 self.halted = true;
@@ -221,21 +292,33 @@ impl<D: Disk> TableSet<D> {
         }
     }
 
-    /// Makes a ready edit the last one, whose table was written, and by which the log begins at this place of its device. It takes no
-    /// memory. After a fault of the device the set is halted, and a later opening finds the edit or does not.
-    pub fn install(&mut self, mut ready: ReadyEdit, log_place: u64) -> Result<(), Failed>
+    /// Makes an edit the last one whose table was written, and by which the log begins at this place of its device. The table is for
+    /// readers. It takes no memory. After a fault of the device the set is halted, and a later opening finds the edit or does not.
+    pub fn install(
+        &mut self,
+        written: WrittenEdit,
+        log_place: u64,
+    ) -> Result<Option<Arc<Table>>, Failed>
         requires running { self.old.halted ≡ false }
-        requires written { (old : TableSetState) × IsWrittenEdit old self.old ready }
-        ensures installs { InstallsEdit self.old self.new (record ready.edit { place = Some log_place }) result }
+        requires written { (old : TableSetState) × IsWrittenEdit old self.old written }
+        ensures table { IfOk result (λ table. option_map arc_value table ≡ one_part written.asked.versions) }
+        ensures installs { InstallsEdit self.old self.new (record written.edit { place = Some log_place }) result }
 
         // Whatever a crash leaves of both devices at a moment of the call, the manifest's last edit has its tables.
-        ensures joint { (old : TableSetState) (edits : List Edit) (parts : List (List Version)) → IsWrittenEdit old self.old ready → StoresTables old edits no_edit parts []
+        ensures joint { (old : TableSetState) (edits : List Edit) (parts : List (List Version)) → IsWrittenEdit old self.old written → StoresTables old edits no_edit parts []
             → Passes (NamesItsTables self.old) self.old.manifest.log.moments self.new.manifest.log.moments }
         ensures keeps { LosesNoTable self.old self.new }
     {
-        ready.room.set_log_place(log_place);
-        match self.manifest.install(ready.room, &self.tables) {
-            Ok(()) => Ok(()),
+        let WrittenEdit {
+            mut room,
+            table,
+            gone: _gone,
+            flushed: _flushed,
+            versions: _versions,
+        } = written;
+        room.set_log_place(log_place);
+        match self.manifest.install(room, &self.tables) {
+            Ok(()) => Ok(table),
             Err(AppendError::DiskFault) => {
                 self.halted = true;
                 Err(Failed)

@@ -4,50 +4,22 @@ use Rattle.wp_shared.specs.Notes.{no_fact, seeing}
 use Rattle.wp_shared.proofs.Onward.{loose_none, goes_none}
 use Rattle.wp_read.specs.Registers.{numbers_of}
 use Rattle.wp_compact.specs.Compaction.{IsDecision, IsPin}
-use Rattle.wp_maint.proofs.Onward.{goes_saw, in_step_on, still_edits, holds_being, in_step_being, found_halted}
+use Rattle.wp_maint.proofs.Onward.{goes_saw, in_step_on, still_edits, found_halted}
 use Rattle.wp_compact.proofs.Rounds.{ends_then, found_few}
 use Rattle.wp_compact.proofs.StillTabled.{decided_looked}
-use Rattle.wp_maint.proofs.Found.{held_first}
 use Rattle.wp_compact.proofs.compacting.compact_in.Goals as goal
 
 -- ---- there is nothing to do
 
-pub find_edits-requires-clause-held : goal.find_edits-requires-clause-held
-find_edits-requires-clause-held g c = let e = c.args.edits.now.state in (e, held_first c.args.seat.now e c.requires.holds.turn.held)
-
-pub returns-then-is_halted-clause-holds : goal.returns-then-is_halted-clause-holds
-returns-then-is_halted-clause-holds g c =
-    let e = c.args.edits.now in let k = c.find_edits.ensures e.state (held_first c.args.seat.now e.state c.requires.holds.turn.held) in
-    holds_being c.args.store.now c.args.seat.now c.find_edits.new.seat _ k.is e c.requires.holds
-
-pub returns-then-is_halted-clause-in_step : goal.returns-then-is_halted-clause-in_step
-returns-then-is_halted-clause-in_step g c =
-    let e = c.args.edits.now.state in let k = c.find_edits.ensures e (held_first c.args.seat.now e c.requires.holds.turn.held) in
-    in_step_being c.args.store.now c.args.seat.now c.find_edits.new.seat _ k.is e.last c.requires.in_step
-
 pub returns-then-is_halted-clause-says : goal.returns-then-is_halted-clause-says
 returns-then-is_halted-clause-says g c =
-    let z = c.args.store.now in let s = c.args.seat.now in let e = c.args.edits.now.state in let k = c.find_edits.ensures e (held_first s e c.requires.holds.turn.held) in
-    found_halted z s s c.find_edits.new.seat e (goes_none s) k (sym c.is_halted.ensures ∙ c.if-is_halted.true) c.flushed.result c.flushed.ensures.number
-
-pub find_edits-requires-then-table_count-lt2-clause-held : goal.find_edits-requires-then-table_count-lt2-clause-held
-find_edits-requires-then-table_count-lt2-clause-held g c = let e = c.args.edits.now.state in (e, held_first c.args.seat.now e c.requires.holds.turn.held)
-
-pub returns-then-table_count-lt2-clause-holds : goal.returns-then-table_count-lt2-clause-holds
-returns-then-table_count-lt2-clause-holds g c =
-    let e = c.args.edits.now in let k = c.find_edits-then-table_count-lt2.ensures e.state (held_first c.args.seat.now e.state c.requires.holds.turn.held) in
-    holds_being c.args.store.now c.args.seat.now c.find_edits-then-table_count-lt2.new.seat _ k.is e c.requires.holds
-
-pub returns-then-table_count-lt2-clause-in_step : goal.returns-then-table_count-lt2-clause-in_step
-returns-then-table_count-lt2-clause-in_step g c =
-    let e = c.args.edits.now.state in let k = c.find_edits-then-table_count-lt2.ensures e (held_first c.args.seat.now e c.requires.holds.turn.held) in
-    in_step_being c.args.store.now c.args.seat.now c.find_edits-then-table_count-lt2.new.seat _ k.is e.last c.requires.in_step
+    let s = c.args.seat.now in
+    found_halted c.args.store.now s s c.find_held.new.seat c.args.edits.now.state (goes_none s) c.find_held.ensures.found (sym c.is_halted.ensures ∙ c.if-is_halted.true) c.flushed.result c.flushed.ensures.number
 
 pub returns-then-table_count-lt2-clause-says : goal.returns-then-table_count-lt2-clause-says
 returns-then-table_count-lt2-clause-says g c =
-    let s = c.args.seat.now in let e = c.args.edits.now.state in let k = c.find_edits-then-table_count-lt2.ensures e (held_first s e c.requires.holds.turn.held) in
-    let few = c.if-table_count-lt2.true in let count = c.table_count.ensures in
-    found_few c.args.store.now s c.find_edits-then-table_count-lt2.new.seat e (IsPin c.args.pinned.now.floor.number (numbers_of c.args.pinned.now.live.items)) k (sym c.is_halted.ensures ∙ c.if-is_halted.false) (omega (arith, few, count))
+    let u = c.find_held-then-table_count-lt2.new.seat in let found = c.find_held-then-table_count-lt2.ensures.found in let p = c.args.pinned.now in let few = c.if-table_count-lt2.true in let count = c.table_count.ensures in
+    found_few c.args.store.now c.args.seat.now u c.args.edits.now.state (IsPin p.floor.number (numbers_of p.live.items)) found (sym c.is_halted.ensures ∙ c.if-is_halted.false) (omega (arith, few, count))
 
 -- ---- there are several tables
 

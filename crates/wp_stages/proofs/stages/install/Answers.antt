@@ -67,8 +67,8 @@ use_segment-requires-in-Ok-clause-held g c =
       c.use_segment.ensures.table ∙ ap (λ (x : Segment). with_segment log x) (sym at),
     )
 
-pub returns-in-Ok : goal.returns-in-Ok
-returns-in-Ok g c =
+pub returns-in-Ok-clause-leaves : goal.returns-in-Ok-clause-leaves
+returns-in-Ok-clause-leaves g c =
     let told = c.requires in let s = c.args.seat.now in let e = c.args.edits.now in let left = c.install.new.self in let log = c.args.log.now in
     let d = with_next log.state c.args.written.segment in
     let k = c.find_edits.ensures e.state (second_held s.knows (writes d) (installed e.state) told.holds.turn.held) in
@@ -110,8 +110,8 @@ remember_stop-requires-clause-held g c =
       ap (λ (x : Installed). x.halted) halted,
     )
 
-pub returns-in-Err : goal.returns-in-Err
-returns-in-Err g c =
+pub returns-in-Err-clause-leaves : goal.returns-in-Err-clause-leaves
+returns-in-Err-clause-leaves g c =
     let told = c.requires in let s = c.args.seat.now in let e = c.args.edits.now in let left = c.install.new.self in let log = c.args.log.now in
     let segment : Segment = c.args.written.segment in let d = with_next log.state segment in
     let asked : Option InstalledEdit = Some (asked_for c.args.edit.edit.asked segment e.state.last) in

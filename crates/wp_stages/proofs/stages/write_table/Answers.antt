@@ -5,11 +5,11 @@ use Rattle.wp_model.specs.Flushed.{InstalledEdit, IsEditCovered}
 use Rattle.wp_rule.specs.Knows.{NextNamed}
 use Rattle.wp_core.specs.Effects.{with_failed}
 use Rattle.wp_core.specs.States.{Installed, writes, installed}
+use Rattle.wp_parts.specs.Installs.{SurvivesWrite}
 use Rattle.wp_parts.specs.Log.{LogState}
 use Rattle.wp_shared.specs.Seats.{SeatState}
 use Rattle.wp_shared.specs.Turns.{HoldsTurn}
 use Rattle.wp_maint.specs.Calls.{IsUncalled}
-use Rattle.wp_maint.specs.Renewing.{SurvivesWrite}
 use Rattle.wp_maint.proofs.Made.{second_held}
 use Rattle.wp_stages.proofs.StageLemmas.{has_stopped, none_waits, waits_not}
 use Rattle.wp_stages.proofs.stages.write_table.Goals as goal
@@ -70,7 +70,7 @@ returns-in-Err-clause-writes g c =
     has_stopped z s c.find_edits.new.seat c.remember_tables_fault.new.seat c.remember_stop.new.seat e c.write_table.new.self log c.stop.new.self log.state holds k None
     (ap (λ (x : Installed). x.last) halted) (ap (λ (x : Installed). x.failed) halted ∙ c.devices_agree.ensures.edits.none_failed (c.devices_agree.ensures.edits.running c.requires.running.0))
     (c.remember_tables_fault.ensures.goes log.state e.state (ap (λ (x : SeatState). x.knows.held) k.is ∙ holds.turn.held)) c.remember_stop.ensures.goes
-    (λ before after. SurvivesWrite c.args.edit.now.edit.asked before after × IsUncalled before after) halted
+    (λ before after. SurvivesWrite before after c.args.edit.edit.asked × IsUncalled before after) halted
     (c.stop.ensures ∙ ap (λ (o : Option Segment). record log { state = record log.state { next = o; closed = true; stopped = true } }) (none_waits log.state c.devices_agree-2.ensures.next c.requires.running.1))
     c.in-Err.ensures.first c.in-Err.ensures.cause (c.in-Err.ensures.survives, c.in-Err.ensures.manifest)
     c.devices_agree.ensures.edits c.devices_agree-in-Err.ensures.edits c.devices_agree-2.ensures.log c.devices_agree-in-Err-2.ensures.log c.remember_stop.ensures.stands
