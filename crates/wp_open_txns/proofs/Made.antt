@@ -17,7 +17,7 @@ use Rattle.wp_locks.specs.Locks.{is_free_for}
 use Rattle.wp_model.specs.Holder.{is_same, is_same_txn}
 use Rattle.wp_core.specs.Lists.{IsIn}
 use Rattle.wp_core.specs.States.{locks}
-use Rattle.wp_core.specs.Views.{Account, Fact, passed, in_old_commits, apart, words_stay, has_left, versions_in_memory, versions_nowhere, number_in_heap, number_not_in_heap, pair_delayed, pair_not_delayed, none_waits, undecided_at, prior_values, unprepared, direct_free, tables_stay, live_listed, nothing_flushed, frozen_stay, delayed_flag_stays, old_flag_stays}
+use Rattle.wp_core.specs.Views.{Account, Fact, has_left, undecided_at, prior_values, unprepared, direct_free, live_listed}
 use Rattle.wp_core.specs.World.{Transaction, Actor, World}
 use Rattle.wp_core.specs.Steps.{Step, load_published, claim_name, find_holder, lock_key, set_batch, free_transaction, leave_name, take_name, tell, hear, note}
 use Rattle.wp_core.specs.Changes.{sees, is_held_by, keys_of_holder, with_name, without_transaction}

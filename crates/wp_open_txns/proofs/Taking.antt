@@ -7,7 +7,7 @@ use Rattle.wp_model.specs.History.{entry_at, is_prepare, prepared_name, prepared
 use Rattle.wp_model.specs.LockState.{LockState}
 use Rattle.wp_model.specs.declared.change.Change.{Change}
 use Rattle.wp_model.specs.declared.entry.Entry.{Entry}
-use Rattle.wp_model.specs.declared.entry.Entry.TheVariants.{Write, Prepare, Commit, Undo, Close}
+use Rattle.wp_model.specs.declared.entry.Entry.TheVariants.{Prepare}
 use Rattle.wp_model.specs.declared.holder.Holder.TheVariants.{Txn}
 use Rattle.wp_model.proofs.Entries.{undecided_prepared, undecided_within}
 use Rattle.wp_model.proofs.Found.{found_named}

@@ -119,7 +119,7 @@ pub record StoodWithBoth {D : Type 0} (z : SharedState D) (old : SeatState) (w :
   pub actor : Actor
   pub there : IsAt (place_at z old.by) actor w
   pub state : WriteState
-  pub held : actor.held ≡ locks w.locks ∷ writes table ∷ old.knows.held
+  pub held : actor.held ≡ locks w.locks ∷ writes state ∷ old.knows.held
   pub same : actor ≡ record old.knows { held = actor.held; notes = actor.notes }
 
 -- A prepare of the seen is taken, which is undecided there, and which was nobody's.

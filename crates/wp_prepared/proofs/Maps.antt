@@ -1,11 +1,10 @@
 -- The finite map that a list of entries stands for.
 use Rattle.std.proofs.Common.{◌≡◌, ℕ, cond, List, [], ◌∷◌, length, Option, Some, None, refl, sym, ap, ◌∙◌, arith}
-use Rattle.std.specs.Cmp.{nat_cmp_total, unsigned_tied}
+use Rattle.std.specs.Cmp.{nat_cmp_total}
 use Rattle.std.specs.Ordering.{nat_cmp, eq_by_cmp}
 use Rattle.std.specs.Map.{lookup}
 use Rattle.std.specs.BTreeMap.{is_at}
 use Rattle.std.specs.FinMap.{FinMap, from_entries, get, find, insert, remove, get-from_entries, get-insert, get-remove, same_map, nat_cmp-IsAntisymmetric}
-use Rattle.std.proofs.lemmas.Bool.{eq-eqb}
 use Rattle.wp_prepared.proofs.Sets.{same_either_way}
 
 -- what a list of entries has at q
@@ -39,12 +38,3 @@ from_entries_removed es ns k is = from_entries_same ns _ (λ q. is q ∙ at_old 
 pub none_of_entries : (es : List (ℕ × ℕ)) → length es ≡ 0 → (q : ℕ) → get (map_of es) q ≡ None
 none_of_entries [] empty q = get-map_of [] q
 none_of_entries (e ∷ es) empty q = absurd (omega arith)
-
-pub empty_of_no_entries : (es : List (ℕ × ℕ)) → ((q : ℕ) → get (map_of es) q ≡ None) → length es ≡ 0
-empty_of_no_entries [] none = refl
-empty_of_no_entries (e ∷ es) none =
-    let found : value_of_number (e ∷ es) e.0 ≡ Some e.1 = ap (λ b. cond b (Some e.1) (value_of_number es e.0)) (unsigned_tied e.0 e.0 ∙ eq-eqb e.0 e.0 refl) in
-    absurd (none_some e.1 (sym (none e.0) ∙ get-map_of (e ∷ es) e.0 ∙ found))
-  where
-    none_some : (v : ℕ) → None ≡ Some v → ⊥
-    none_some v e = absurd cc

@@ -117,7 +117,7 @@ numbers_again [] = refl
 numbers_again (n ∷ numbers) = ap (λ (ns : List ℕ). n ∷ ns) (numbers_again numbers)
 
 module _ {D : Type 0} (z : SharedState D) (old : SeatState) (history : List Entry) (floor : Registration) (m : Snapshots) (taken : IsTakenAt z old history floor m) where
-  counted_here : (q : ℕ) (x : snaps.Snapshot) → finite.get m q ≡ Some x → (1 ≤ x.registrations) × (q ≤ floor.number)
+  counted_here : (q : ℕ) (x : snaps.LiveSnapshot) → finite.get m q ≡ Some x → (1 ≤ x.registrations) × (q ≤ floor.number)
   counted_here q x e =
       let k = (at_sound (place_at z old.by) taken.actor taken.world taken.there).registrations.live q x (ap (λ (y : Snapshots). finite.get y q) taken.live ∙ e) in
       (k.0, subst (λ (n : ℕ). q ≤ n) (sym taken.number) k.1)
@@ -128,7 +128,7 @@ module _ {D : Type 0} (z : SharedState D) (old : SeatState) (history : List Entr
   live_low : (q : ℕ) → IsLive m q → q ≤ floor.number
   live_low q live = let x = some_there (finite.get m q) live in (counted_here q x.0 x.1).1
     where
-      some_there : (o : Option snaps.Snapshot) → is_some o ≡ true → (x : snaps.Snapshot) × (o ≡ Some x)
+      some_there : (o : Option snaps.LiveSnapshot) → is_some o ≡ true → (x : snaps.LiveSnapshot) × (o ≡ Some x)
       some_there None e = absurd cc
       some_there (Some x) e = (x, refl)
 

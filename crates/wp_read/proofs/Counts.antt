@@ -13,13 +13,13 @@ use Rattle.wp_read.proofs.Registers.{placed_there, placed_else, registered_and_r
 
 -- ---- one number
 
-some_registered : (o : Option snaps.Snapshot) → IsSome (after_register o)
+some_registered : (o : Option snaps.LiveSnapshot) → IsSome (after_register o)
 some_registered None = refl
 some_registered (Some x) = refl
 
-at_least_one : (o : Option snaps.Snapshot) (x : snaps.Snapshot) → after_register o ≡ Some x → 1 ≤ x.registrations
-at_least_one None x e = let k : 1 ≡ x.registrations = ap (λ (y : snaps.Snapshot). y.registrations) (same_some _ x e) in omega arith
-at_least_one (Some y) x e = let k : y.registrations + 1 ≡ x.registrations = ap (λ (z : snaps.Snapshot). z.registrations) (same_some _ x e) in omega arith
+at_least_one : (o : Option snaps.LiveSnapshot) (x : snaps.LiveSnapshot) → after_register o ≡ Some x → 1 ≤ x.registrations
+at_least_one None x e = let k : 1 ≡ x.registrations = ap (λ (y : snaps.LiveSnapshot). y.registrations) (same_some _ x e) in omega arith
+at_least_one (Some y) x e = let k : y.registrations + 1 ≡ x.registrations = ap (λ (z : snaps.LiveSnapshot). z.registrations) (same_some _ x e) in omega arith
 
 module _ (m : Snapshots) (n : ℕ) where
   is_live : IsLive (with_registered m n) n

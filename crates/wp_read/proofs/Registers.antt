@@ -95,11 +95,11 @@ none_behind r (s ∷ others) = none_behind_by r others (list_any (is_same_regist
 
 -- ---- one number's snapshot
 
-pub placed_there : (m : Snapshots) (n : ℕ) (o : Option snaps.Snapshot) → finite.get (placed m n o) n ≡ o
+pub placed_there : (m : Snapshots) (n : ℕ) (o : Option snaps.LiveSnapshot) → finite.get (placed m n o) n ≡ o
 placed_there m n None = get_removed m n
 placed_there m n (Some x) = get_inserted m n x
 
-pub placed_else : (m : Snapshots) (n : ℕ) (o : Option snaps.Snapshot) (t : ℕ) → t ≢ n → finite.get (placed m n o) t ≡ finite.get m t
+pub placed_else : (m : Snapshots) (n : ℕ) (o : Option snaps.LiveSnapshot) (t : ℕ) → t ≢ n → finite.get (placed m n o) t ≡ finite.get m t
 placed_else m n None t ne = get_removed_else m n t ne
 placed_else m n (Some x) t ne = get_inserted_else m n x t ne
 
@@ -107,14 +107,14 @@ same_snapshots : (m m' : Snapshots) → ((q : ℕ) → finite.get m q ≡ finite
 same_snapshots m m' each = finite.same_map nat_cmp_total finite.nat_cmp-IsAntisymmetric m m' each
 
 -- the number's snapshot changed, and no other
-pub is_placed : (m m' : Snapshots) (n : ℕ) (o : Option snaps.Snapshot) → finite.get m' n ≡ o → ((q : ℕ) → q ≢ n → finite.get m' q ≡ finite.get m q) → m' ≡ placed m n o
+pub is_placed : (m m' : Snapshots) (n : ℕ) (o : Option snaps.LiveSnapshot) → finite.get m' n ≡ o → ((q : ℕ) → q ≢ n → finite.get m' q ≡ finite.get m q) → m' ≡ placed m n o
 is_placed m m' n o here else = same_snapshots m' (placed m n o) (λ q. by q (q == n) refl)
   where
     by : (q : ℕ) (b : Bool) → (q == n) ≡ b → finite.get m' q ≡ finite.get (placed m n o) q
     by q true is = let e : q ≡ n = is_equal q n is in ap (finite.get m') e ∙ (here ∙ (sym (placed_there m n o) ∙ ap (finite.get (placed m n o)) (sym e)))
     by q false is = let ne : q ≢ n = λ (e : q ≡ n). true≢false (sym (eq-eqb q n e) ∙ is) in else q ne ∙ sym (placed_else m n o q ne)
 
-pub changes_placed : (m m' : Snapshots) (n : ℕ) (change : Option snaps.Snapshot → Option snaps.Snapshot) → ChangesWhere (λ q. q == n) change m m' → m' ≡ placed m n (change (finite.get m n))
+pub changes_placed : (m m' : Snapshots) (n : ℕ) (change : Option snaps.LiveSnapshot → Option snaps.LiveSnapshot) → ChangesWhere (λ q. q == n) change m m' → m' ≡ placed m n (change (finite.get m n))
 changes_placed m m' n change c =
     is_placed m m' n (change (finite.get m n)) (c n ∙ ap (λ b. cond b (change (finite.get m n)) (finite.get m n)) (eq-eqb n n refl))
     (λ q ne. c q ∙ ap (λ b. cond b (change (finite.get m q)) (finite.get m q)) (not_same q ne (q == n) refl))
@@ -123,7 +123,7 @@ changes_placed m m' n change c =
     not_same q ne true is = absurd (ne (is_equal q n is))
     not_same q ne false is = is
 
-counted_again : (o : Option snaps.Snapshot) → ((x : snaps.Snapshot) → o ≡ Some x → 1 ≤ x.registrations) → after_release (after_register o) ≡ o
+counted_again : (o : Option snaps.LiveSnapshot) → ((x : snaps.LiveSnapshot) → o ≡ Some x → 1 ≤ x.registrations) → after_release (after_register o) ≡ o
 counted_again None some = refl
 counted_again (Some x) some =
     let n : ℕ = x.registrations in let k : 1 ≤ n = some x refl in
@@ -133,25 +133,25 @@ counted_again (Some x) some =
     by b e same = rw e (ap (λ k. Some (record x { registrations = k })) same)
 
 -- a registration that is taken back leaves no trace
-pub registered_and_released : (m : Snapshots) (n : ℕ) → ((x : snaps.Snapshot) → finite.get m n ≡ Some x → 1 ≤ x.registrations) → with_released (with_registered m n) n ≡ m
+pub registered_and_released : (m : Snapshots) (n : ℕ) → ((x : snaps.LiveSnapshot) → finite.get m n ≡ Some x → 1 ≤ x.registrations) → with_released (with_registered m n) n ≡ m
 registered_and_released m n some =
     sym (is_placed (with_registered m n) m n (after_release (finite.get (with_registered m n) n)) (sym (ap after_release (placed_there m n (after_register (finite.get m n))) ∙ counted_again (finite.get m n) some))
     (λ q ne. sym (placed_else m n (after_register (finite.get m n)) q ne)))
 
 -- ---- old commits
 
-abbrev has_old : ℕ → Option snaps.Snapshot → Bool
+abbrev has_old : ℕ → Option snaps.LiveSnapshot → Bool
 has_old p None = false
 has_old p (Some x) = set.contains x.old_commits p
 
-none_new : (o : Option snaps.Snapshot) (p : ℕ) → has_old p (after_register o) ≡ has_old p o
+none_new : (o : Option snaps.LiveSnapshot) (p : ℕ) → has_old p (after_register o) ≡ has_old p o
 none_new None p = set.contains-empty nat_cmp p
 none_new (Some x) p = refl
 
 is_has_old : (m : Snapshots) (s p : ℕ) → is_old_commit m s p ≡ has_old p (finite.get m s)
 is_has_old m s p = by (finite.get m s)
   where
-    by : (o : Option snaps.Snapshot) → option_map_or (λ x. set.contains x.old_commits p) o false ≡ has_old p o
+    by : (o : Option snaps.LiveSnapshot) → option_map_or (λ x. set.contains x.old_commits p) o false ≡ has_old p o
     by None = refl
     by (Some x) = refl
 

@@ -123,7 +123,7 @@ module _ {D : Type 0} {z : SharedState D} {s t : SeatState} {n : ℕ} {least : O
         by tables None are e none = inl (subst NonePrepared (sym are) none, e)
         by tables (Some p) are e least = inr (subst (λ (x : PreparedSets × ℕ). IsSmallest x.0 x.1) (λ i. ((sym are) i, (sym e) i)) least)
 
-  pub none_zero : (x : snaps.Snapshot) → finite.get m n ≡ Some x → 1 ≤ x.registrations
+  pub none_zero : (x : snaps.LiveSnapshot) → finite.get m n ≡ Some x → 1 ≤ x.registrations
   none_zero x e = ((at_sound (place_at z s.by) s.knows k.world k.there).registrations.live n x (ap (λ (y : Snapshots). finite.get y n) snapshots_are ∙ e)).0
 
   -- it is taken back

@@ -126,7 +126,7 @@ with_each m numbers = fold with_registered m numbers
 
 -- each live number is registered at least once
 abbrev pub AreCounted : Snapshots → Type 0
-AreCounted m = (s : ℕ) (x : snaps.Snapshot) → finite.get m s ≡ Some x → 1 ≤ x.registrations
+AreCounted m = (s : ℕ) (x : snaps.LiveSnapshot) → finite.get m s ≡ Some x → 1 ≤ x.registrations
 
 -- the numbers are just the live ones, ascending, each once
 pub record AreLive (m : Snapshots) (numbers : List ℕ) : Type 0 where

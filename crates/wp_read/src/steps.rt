@@ -130,7 +130,12 @@ fn load_with<D: Disk + Drop, J: Moves>(
 }
 
 /// Makes the next load of the seat's reading, which is of a word.
-pub(crate) fn load<D: Disk + Drop>(store: &Shared<D>, seat: &mut Seat<D>, seen: &mut Observed, which: Load)
+pub(crate) fn load<D: Disk + Drop>(
+    store: &Shared<D>,
+    seat: &mut Seat<D>,
+    seen: &mut Observed,
+    which: Load,
+)
     requires seat { seat.old.table ≡ store.now.table }
     requires next { IsNext seat.old seen.old which }
     requires word { IsOfWord which }
@@ -199,7 +204,11 @@ fn register_with<D: Disk + Drop, J: Moves>(
 
 /// Loads the published number, and registers it with this smallest, or with the next number where none is given. The seat holds the
 /// snapshots turn, and the prepared turn too where the smallest is not 1.
-pub(crate) fn register<D: Disk + Drop>(store: &Shared<D>, seat: &mut Seat<D>, smallest: Option<Seq>) -> Seq
+pub(crate) fn register<D: Disk + Drop>(
+    store: &Shared<D>,
+    seat: &mut Seat<D>,
+    smallest: Option<Seq>,
+) -> Seq
     requires seat { seat.old.table ≡ store.now.table }
     requires snapshots { (m : Snapshots) × IsIn (table.snapshots m) (held_by seat.old) }
     requires smallest { MayRegister (held_by seat.old) smallest }

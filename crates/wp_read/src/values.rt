@@ -3,7 +3,6 @@ ghost use Rattle.std.specs.Prelude.{◌≡◌, ◌≤◌, ◌<◌, ◌==◌, ◌
 ghost use Rattle.std.specs.List.{list_any};
 ghost use Rattle.wp_model.specs.Decision.{IsCommittedAt};
 ghost use Rattle.wp_model.specs.History.{value_at};
-ghost use Rattle.wp_core.specs.Changes.{held_without};
 ghost use Rattle.wp_core.specs.Lists.{IsIn};
 ghost use Rattle.wp_core.specs.Reading.{Registration};
 ghost use Rattle.wp_core.specs.Sound.Reader.{IsRight};
@@ -12,6 +11,7 @@ ghost use Rattle.wp_core.specs.Turns.{store_turn};
 ghost use Rattle.wp_shared.specs.Calls.{Continues};
 ghost use Rattle.wp_shared.specs.Notes.{is_under, GoesOn};
 ghost use Rattle.wp_shared.specs.Seats.{IsFree, held_by, participant_of, seen_by};
+ghost use Rattle.wp_shared.specs.Turns.{comes_last};
 ghost use Rattle.wp_read.specs.Values.{AreVersions, IsFirstCommitted, NoneCommitted, NoneLater, Says, ShowsValue};
 
 use crate::deciding::visible;
@@ -28,7 +28,7 @@ pub(crate) const FIRST_COPIES: usize = 1;
 /// How many times as many are copied next.
 const GROWTH: usize = 4;
 
-/// Copies the newest `most` versions of the key, under the store turn.
+/// Copies the newest `most` versions of the key, under the store turn, which comes behind all that the seat holds.
 pub(crate) fn copy_newest<D: Disk + Drop, R: Wait>(
     store: &Shared<D>,
     rt: &R,
@@ -37,7 +37,7 @@ pub(crate) fn copy_newest<D: Disk + Drop, R: Wait>(
     most: usize,
 ) -> Result<Versions, AllocError>
     requires seat { (seat.old.table ≡ store.now.table) × (seat.old.knows.live ≡ true) }
-    requires others { held_without (held_by seat.old) store_turn ≡ held_by seat.old }
+    requires order { comes_last store_turn (held_by seat.old) ≡ true }
     ensures goes { GoesOn (is_under store_turn) (held_by seat.old) seat.old.turns seat.old seat.new }
     ensures found { IfOk result (λ found. (r : Registration) → IsIn r seat.old.knows.participant.registered → ShowsValue (seen_by seat.old) key.now r.number most found) }
 {

@@ -72,9 +72,9 @@ pub record HasCleared {D : Type 0} (z : SharedState D) (old : SeatState) (histor
   pub same_by : seat.by ≡ old.by
   pub participant : seat.knows.participant ≡ old.knows.participant
   pub state : WriteState
-  pub held : seat.knows.held ≡ writes table ∷ []
-  pub history_is : table.history ≡ history
-  pub pending_is : table.pending ≡ entries
+  pub held : seat.knows.held ≡ writes state ∷ []
+  pub history_is : state.history ≡ history
+  pub pending_is : state.pending ≡ entries
   pub rises : RisesFor z.cells (length history) old.knows seat.knows (ways_of z.cells (suc (length history)) entries)
   pub waits : Noted seat.knows none_waits
 

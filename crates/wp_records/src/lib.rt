@@ -7,7 +7,7 @@
 //! turn. Then it appends the record to the log, and takes no memory from there on: for each entry in turn it keeps the pair in its
 //! way, in its word or among the delayed commits, and publishes the entry. Where memory is wanting before the log call, or that
 //! fails, it takes back what it did, in the opposite order; after a failed log call the log is closed for good. While the log call
-//! runs the caller holds no turn but the write turn: so the code is, and no clause says it.
+//! runs the caller holds no turn but the write turn, as the log's `append` asks.
 //!
 //! That an entry may come next, and that its keys are held, is the caller's to know. See RocksDB's wiki pages "WritePrepared
 //! Transactions" and "Two Phase Commit Implementation".

@@ -64,7 +64,7 @@ fn append<D: Disk + Drop, R: Wait>(
     requires undelayed { Noted seat.old.knows pair_not_delayed }
     ensures { Logs store.now seat.old log.old result seat.new log.new }
 {
-    let Ok(()) = log.append() else {
+    let Ok(()) = log.append(seat.words()) else {
         steps::close_log(store, seat, log);
         take_back(store, rt, seat, log);
         return Err(WriteError::LogFault);

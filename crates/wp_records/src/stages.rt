@@ -9,7 +9,7 @@ ghost use Rattle.wp_model.specs.Record.{IsOneRecord};
 ghost use Rattle.wp_core.specs.Entries.{next_of};
 ghost use Rattle.wp_core.specs.Sound.Views.{IsNowhere};
 ghost use Rattle.wp_core.specs.States.{writes, prepared};
-ghost use Rattle.wp_core.specs.States as table;
+ghost use Rattle.wp_core.specs.States as state;
 ghost use Rattle.wp_core.specs.Views.{versions_in_memory, versions_nowhere, number_in_heap, number_not_in_heap, pair_not_delayed};
 ghost use Rattle.wp_rule.specs.Knows.{HasNoVersions, Noted};
 ghost use Rattle.wp_parts.specs.Stock.{store_state};
@@ -75,10 +75,10 @@ fn insert_versions<D: Disk + Drop>(
     batch: &Batch,
 ) -> Result<(), AllocError>
     requires seat { seat.old.table ≡ store.now.table }
-    requires held { held_by seat.old ≡ table.store (store_state stock.old) ∷ writes log.now.state ∷ [] }
+    requires held { held_by seat.old ≡ state.store (store_state stock.old) ∷ writes log.now.state ∷ [] }
     requires entry { (entry : Entry) × (next_of log.now.state.pending ≡ Some entry) × (changes_in entry ≡ batch.now) }
     requires nowhere { IsNowhere log.now.state (store_state stock.old) }
-    ensures seat { GoesOn is_of_versions (table.store (store_state stock.new) ∷ writes log.now.state ∷ []) seat.old.turns seat.old seat.new }
+    ensures seat { GoesOn is_of_versions (state.store (store_state stock.new) ∷ writes log.now.state ∷ []) seat.old.turns seat.old seat.new }
     ensures ok { OnOk result (Noted seat.new.knows versions_in_memory) }
 {
     stock.insert(log.published() + 1, batch)?;
@@ -118,8 +118,8 @@ fn remove_versions<D: Disk + Drop>(
     stock: &mut Stock,
 )
     requires seat { seat.old.table ≡ store.now.table }
-    requires held { held_by seat.old ≡ table.store (store_state stock.old) ∷ writes log.now.state ∷ [] }
-    ensures seat { GoesOn is_of_versions (table.store (store_state stock.new) ∷ writes log.now.state ∷ []) seat.old.turns seat.old seat.new }
+    requires held { held_by seat.old ≡ state.store (store_state stock.old) ∷ writes log.now.state ∷ [] }
+    ensures seat { GoesOn is_of_versions (state.store (store_state stock.new) ∷ writes log.now.state ∷ []) seat.old.turns seat.old seat.new }
     ensures nowhere { Noted seat.new.knows versions_nowhere }
 {
     store.shows_world(seat);

@@ -2,7 +2,7 @@
 use Rattle.std.proofs.Common.{not, List, [], ◌∷◌, length, inr, ap, ℕ}
 use Rattle.wp_core.specs.Views.{Fact}
 use Rattle.wp_core.specs.World.{Actor, World}
-use Rattle.wp_core.specs.Steps.{Step, note, make_note, learn, join_seat, load_published, register, begin_reading, load, end_reading, store_published, store_max_evicted, store_word, store_delayed_flag, store_old_flag, take_turn, give_turn, make_pending, log_pending, close_log, find_log_closed, drop_pending, write_segment, use_segment, stop_log, add_prepared, take_pending_prepared, add_delayed_commit, delay_pending, take_out, register_again, release, add_old_commit, add_versions, take_versions, move_versions, replace_versions, install, renew, halt, find_edit, claim_name, take_name, leave_name, free_transaction, lock_key, free_key, lock_direct, free_direct, find_holder, tell, hear, set_batch, set_client, make_seat}
+use Rattle.wp_core.specs.Steps.{Step, note, make_note, learn, join_seat}
 use Rattle.wp_core.specs.Notes.{ends, forgets}
 use Rattle.wp_core.proofs.Frames.{filter_in}
 use Rattle.wp_rule.specs.Moves.{actor_after_step, world_after_step, actor_after, TakesIn, Outlasts}

@@ -41,8 +41,8 @@ use Rattle.wp_rule.specs.Words.{Place}
 -- the view has a table of this kind, of which this is so
 pub record Holding (a : Actor) {T : Type 0} (content : T → Content) (so : T → Type 0) : Type 0 where
   pub state : T
-  pub held : IsIn (content table) a.held
-  pub so_is : so table
+  pub held : IsIn (content state) a.held
+  pub so_is : so state
 
 -- the table is the world's
 abbrev pub IsStateOf : World → Content → Type 0

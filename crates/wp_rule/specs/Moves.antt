@@ -150,7 +150,7 @@ pub record MayPublishAs (p : Place) (a : Actor) (number : ℕ) : Type 0 where
   pub state : WriteState
   pub entry : Entry
   pub others : List Entry
-  pub held : IsIn (writes table) a.held
-  pub pending : table.pending ≡ entry ∷ others
-  pub number_is : number ≡ suc (length table.history)
+  pub held : IsIn (writes state) a.held
+  pub pending : state.pending ≡ entry ∷ others
+  pub number_is : number ≡ suc (length state.history)
   pub may : MayStep p a (store_published entry others)

@@ -54,9 +54,9 @@ module _ {S : Type 0} (content : S → Option Content) (tells : S → Type 0) wh
   -- the value is the turn's table as its holder left that at its last step
   pub record IsLeft (turn : Turn) (a : Actor) (value : S) : Type 0 where
     pub state : Content
-    pub held : IsIn table a.held
-    pub of_turn : turn_of table ≡ turn
-    pub is_part : IsPart content tells value table
+    pub held : IsIn state a.held
+    pub of_turn : turn_of state ≡ turn
+    pub is_part : IsPart content tells value state
 
   -- the value may lie in the slot of a turn that is held: it stands in for one that is out, or it is the table as it was left
   abbrev pub MayLie : Turn → Actor → S → Type 0

@@ -1,6 +1,7 @@
 -- What is left of a store once all its seats were handed in.
 use Rattle.std.specs.declared.alloc.Global.{Global}
-use Rattle.std.proofs.Common.{Box, ◌≡◌, ◌⊎◌, inl, inr, ℕ, ◌+◌, ◌≤◌, Bool, true, false, List, [], ◌∷◌, ◌++◌, length, map, Option, Some, None, unwrap_or, refl, sym, ap, subst, ◌∙◌, append-nil, arith}
+use Rattle.std.proofs.Common.{Box, ◌≡◌, ◌⊎◌, inl, inr, ℕ, ◌+◌, ◌≤◌, Bool, true, false, true≢false, List, [], ◌∷◌, ◌++◌, length, map, Option, Some, None, unwrap_or, refl, sym, ap, subst, ◌∙◌, append-nil, arith}
+use Rattle.std.proofs.lemmas.Bool.{false_from_ne_true}
 use Rattle.wp_model.specs.declared.entry.Entry.{Entry}
 use Rattle.wp_model.specs.declared.segment.Segment.{Segment}
 use Rattle.wp_model.specs.Flushed.{InstalledEdit, IsEditCovered}
@@ -213,14 +214,20 @@ module _ {D : Type 0} (z : SharedState D) (first : SeatState) (others : List Sea
   log_caused : w.writes.closed ≡ true → w.writes.stopped ≡ false → Rose log.first.faults log.wal.faults
   log_caused closed not = subst (λ (t : WriteState). t.closed ≡ true → t.stopped ≡ false → Rose log.first.faults log.wal.faults) same_writes (λ c n. k.cause (k.by_fault c n)) closed not
 
+  log_quiet : (w.writes.closed ≡ false) ⊎ (w.writes.stopped ≡ true) → log.wal.faults ≡ log.first.faults
+  log_quiet (inl running) = k.unfailed (false_from_ne_true log.wal.closed (λ shut. true≢false (sym (k.shut shut) ∙ (ap (λ (t : WriteState). t.closed) same_writes ∙ running))))
+  log_quiet (inr stopped) = k.unfailed (k.unclosed (ap (λ (t : WriteState). t.stopped) same_writes ∙ stopped))
+
   since_opened : IsSince o.wal o.set w.writes w.installed (devices_behind log.wal edits.set)
   since_opened = subst (λ (x : WalState × TableSetState). IsSince x.0 x.1 w.writes w.installed (devices_behind log.wal edits.set)) (λ i. (wal_is i, set_is i)) (record {
     log_later = k.later;
     manifest_later = e.manifest_later;
     tables_later = e.later;
     log_cause = log_caused;
+    log_unfailed = log_quiet;
     log_risen = subst (λ (g : Segment). log.first.segment.base ≤ g.base) segment_is k.risen;
     tables_cause = λ halted. e.cause (ap (λ (t : Installed). t.halted) same_installed ∙ halted);
+    tables_unfailed = λ running. e.unfailed (ap (λ (t : Installed). t.halted) same_installed ∙ running);
     log_durable = λ same. k.durable (segment_is ∙ same);
     manifest_durable = e.durable;
     tables_durable = e.fronts;

@@ -9,8 +9,8 @@ use Rattle.atomic_table.proofs.badge.Badge.TheSendSync as badge
 use Rattle.atomic_table.proofs.shared.Seat.TheSendSync as table
 use Rattle.wp_model.proofs.word.Word.TheSendSync as word
 use Rattle.wp_rule.proofs.words.Words.TheSendSync as words
-use Rattle.wp_parts.specs.contracts.part.TurnValue as TurnValue
-use Rattle.wp_parts.specs.contracts.part.TurnValueHoldsPart.TheImpl.{ghosts, no_dict}
+use Rattle.wp_parts.specs.contracts.turn_value.TurnValue as TurnValue
+use Rattle.wp_parts.specs.contracts.turn_value.TurnValueHoldsPart.TheImpl.{ghosts, no_dict}
 use Rattle.wp_parts.proofs.Sent.{part_send}
 use Rattle.wp_shared.proofs.sleepers.Sleepers.TheSendSync as sleepers
 use Rattle.wp_shared.specs.contracts.shared.Shared as Shared

@@ -6,7 +6,7 @@ use Rattle.std.proofs.lemmas.List.{get_or_past}
 use Rattle.wp_judge.specs.Words.{pair_of, CommitPair, is_pair, delta_bound}
 use Rattle.wp_model.specs.Decision.{decision_of}
 use Rattle.wp_model.specs.PreparedSets.{NoneDelayed}
-use Rattle.wp_model.specs.Snapshots.{Snapshots, NoOldCommits}
+use Rattle.wp_model.specs.Snapshots.{NoOldCommits}
 use Rattle.wp_model.specs.declared.entry.Entry.{Entry}
 use Rattle.wp_model.specs.declared.segment.Segment.{Segment}
 use Rattle.wp_model.specs.declared.version.Version.{Version}

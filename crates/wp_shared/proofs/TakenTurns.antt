@@ -1,15 +1,15 @@
 -- A turn that is taken or given, as the table of its value.
-use Rattle.std.proofs.Common.{◌≡◌, inl, inr, ℕ, not, cond, true, List, [], ◌∷◌, ◌++◌, drop, eq-eqb, refl, sym, ap, subst, ◌∙◌, Some}
+use Rattle.std.proofs.Common.{◌≡◌, inl, inr, ℕ, suc, ◌<◌, ◌==◌, nat_lt, not, cond, true, false, List, [], ◌∷◌, ◌++◌, drop, eq-eqb, ne_eqb, ltb-true, refl, sym, ap, subst, ◌∙◌, Some, arith}
 use Rattle.wp_model.specs.declared.entry.Entry.{Entry}
 use Rattle.wp_core.specs.Changes.{turn_index, held_without, sees}
 use Rattle.wp_core.specs.Conditions.{MayGive}
 use Rattle.wp_core.specs.Lists.{IsIn}
 use Rattle.wp_core.specs.Steps.{give_turn}
 use Rattle.wp_core.specs.States.{Content, WriteState, writes, turn_of}
-use Rattle.wp_core.specs.Turns.{Turn, turn_holder}
+use Rattle.wp_core.specs.Turns.{Turn, write_turn, prepared_turn, snapshots_turn, store_turn, locks_turn, tables_turn, turn_holder}
 use Rattle.wp_core.specs.Views.{Fact, words_stay}
 use Rattle.wp_core.specs.World.{Actor, World, content_of}
-use Rattle.wp_model.proofs.Tests.{same_some}
+use Rattle.wp_model.proofs.Tests.{both, same_some}
 use Rattle.wp_rule.specs.Knows.{Noted, IsStateOf}
 use Rattle.wp_rule.specs.Moves.{MayStep}
 use Rattle.wp_rule.specs.Plays.{facts_at}
@@ -20,7 +20,7 @@ use Rattle.wp_parts.specs.Log.{LogState}
 use Rattle.wp_parts.specs.Parts.{content, tells, log_first, IsGuardedBy}
 use Rattle.wp_shared.specs.Notes.{is_under, seeing, SawHistory, GoesOn}
 use Rattle.wp_shared.specs.Seats.{SharedState, SeatState, place_at}
-use Rattle.wp_shared.specs.Turns.{TookPart, MayGivePart, GavePart, HoldsTurn, KnowsToGive, Taken, TookLog, Given}
+use Rattle.wp_shared.specs.Turns.{turn_rank, comes_last, TookPart, MayGivePart, GavePart, HoldsTurn, KnowsToGive, Taken, TookLog, Given}
 use Rattle.wp_shared.proofs.Goes.{goes_with, is_free}
 use Rattle.wp_shared.proofs.Tables.{held_state, none_in, knows_taken, may_give}
 
@@ -32,6 +32,33 @@ in_front x (y ∷ xs) ys (inr there) = inr (in_front x xs ys there)
 in_back : {X : Type 0} (x : X) (xs ys : List X) → IsIn x ys → IsIn x (xs ++ ys)
 in_back x [] ys there = there
 in_back x (y ∷ xs) ys there = inr (in_back x xs ys there)
+
+-- ---- the order of turns
+
+abbrev rank_at : ℕ → ℕ
+rank_at n = cond (n == 5) 0 (suc n)
+
+rank_is : (turn : Turn) → turn_rank turn ≡ rank_at (turn_index turn)
+rank_is write_turn = refl
+rank_is prepared_turn = refl
+rank_is snapshots_turn = refl
+rank_is store_turn = refl
+rank_is locks_turn = refl
+rank_is tables_turn = refl
+
+-- a turn that comes before another one is not that one
+before_other : (first second : Turn) → nat_lt (turn_rank first) (turn_rank second) ≡ true → (turn_index first == turn_index second) ≡ false
+before_other first second before = ne_eqb (turn_index first) (turn_index second) (λ same.
+    let ranks : turn_rank first ≡ turn_rank second = rank_is first ∙ ap rank_at same ∙ sym (rank_is second) in
+    let below : turn_rank first < turn_rank second = ltb-true (turn_rank first) (turn_rank second) before in
+    omega (arith, ranks, below))
+
+-- a turn that comes behind all that are held is none of them
+pub last_without : (turn : Turn) (held : List Content) → comes_last turn held ≡ true → held_without held turn ≡ held
+last_without turn [] last = refl
+last_without turn (first ∷ others) last =
+    let parts = both (nat_lt (turn_rank (turn_of first)) (turn_rank turn)) (comes_last turn others) last in
+    ap (λ b. cond (not b) (first ∷ held_without others turn) (held_without others turn)) (before_other (turn_of first) turn parts.0) ∙ ap (λ rest. first ∷ rest) (last_without turn others parts.1)
 
 -- ---- a turn is taken
 

@@ -50,14 +50,17 @@ pub record OpensAsLeft (id : ℕ) (writes : WriteState) (edits : Installed) (log
   pub named : MayName edits edit
   pub opens : OpensTo id history edit log manifest tables
 
--- Since the devices were opened no fault was forgotten, and none was made up: a log that was closed and not stopped had a fault. What was
--- for good then is so still; of the log, as long as it is in the segment of then. Its base never falls.
+-- Since the devices were opened the log's count of faults rose just where it was closed and not stopped, and one of the tables' counts
+-- just where they were halted. What was for good then is so still; of the log, as long as it is in the segment of then. Its base never
+-- falls.
 pub record IsSince (wal : WalState) (set : TableSetState) (writes : WriteState) (edits : Installed) (left : DevicesLeft) : Type 0 where
   pub log_later : wal.faults ≤ left.log_faults
   pub manifest_later : set.manifest.log.faults ≤ left.manifest_faults
   pub tables_later : set.faults ≤ left.tables_faults
   pub log_cause : writes.closed ≡ true → writes.stopped ≡ false → Rose wal.faults left.log_faults
   pub tables_cause : edits.halted ≡ true → Rose set.manifest.log.faults left.manifest_faults ⊎ Rose set.faults left.tables_faults
+  pub log_unfailed : (writes.closed ≡ false) ⊎ (writes.stopped ≡ true) → left.log_faults ≡ wal.faults
+  pub tables_unfailed : edits.halted ≡ false → (left.manifest_faults ≡ set.manifest.log.faults) × (left.tables_faults ≡ set.faults)
   pub log_risen : wal.segment.base ≤ writes.segment.base
   pub log_durable : writes.segment ≡ wal.segment → LosesNothingAt wal.segment.place wal.moments left.log
   pub manifest_durable : LosesNoRecord MAGIC set.manifest.log.moments left.manifest

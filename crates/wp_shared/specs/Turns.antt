@@ -1,5 +1,5 @@
 -- What it is to take a turn, to hold it, and to give it.
-use Rattle.std.specs.Prelude.{◌≡◌, ℕ, true, false, List, [], ◌∷◌, ◌++◌, length, Some, None}
+use Rattle.std.specs.Prelude.{◌≡◌, ℕ, nat_lt, Bool, true, false, ◌&&◌, List, [], ◌∷◌, ◌++◌, length, Some, None}
 use Rattle.wp_model.specs.declared.entry.Entry.{Entry}
 use Rattle.wp_core.specs.Changes.{turn_index, held_without, sees}
 use Rattle.wp_core.specs.Conditions.{MayGive}
@@ -9,7 +9,7 @@ use Rattle.wp_core.specs.Steps.{give_turn}
 use Rattle.wp_core.specs.States.{Content, writes, prepared, snapshots, store, locks, installed, turn_of}
 use Rattle.wp_model.specs.PreparedSets.{NoneDelayed}
 use Rattle.wp_model.specs.Snapshots.{NoOldCommits}
-use Rattle.wp_core.specs.Turns.{Turn, write_turn, turn_holder}
+use Rattle.wp_core.specs.Turns.{Turn, write_turn, prepared_turn, snapshots_turn, store_turn, locks_turn, tables_turn, turn_holder}
 use Rattle.wp_core.specs.Views.{Fact, words_stay, delayed_flag_stays, old_flag_stays}
 use Rattle.wp_core.specs.World.{Actor, World, content_of}
 use Rattle.wp_rule.specs.Knows.{Noted, KnowsTables, IsStateOf}
@@ -24,6 +24,22 @@ use Rattle.wp_shared.specs.Seats.{SharedState, SeatState, IsFree, Stands, place_
 -- the history that the log's table has
 abbrev pub history_in : LogState → List Entry
 history_in log = log.state.history
+
+-- ---- in which order turns are taken that are held together
+
+-- which of the turns it is
+abbrev pub turn_rank : Turn → ℕ
+turn_rank tables_turn = 0
+turn_rank write_turn = 1
+turn_rank prepared_turn = 2
+turn_rank snapshots_turn = 3
+turn_rank store_turn = 4
+turn_rank locks_turn = 5
+
+-- the turn comes behind each of those whose tables are held
+abbrev pub comes_last : Turn → List Content → Bool
+comes_last turn [] = true
+comes_last turn (first ∷ others) = nat_lt (turn_rank (turn_of first)) (turn_rank turn) && comes_last turn others
 
 -- ---- what a seat knows of a turn's table
 
@@ -63,10 +79,10 @@ pub record TookPart {D : Type 0} (z : SharedState D) (turn : Turn) (old new : Se
 -- The value may go home: it is the table of the turn, which was taken last, as the seat left it, and the turn may be given.
 pub record MayGivePart {D : Type 0} (z : SharedState D) (turn : Turn) (s : SeatState) (part : TurnValue D) : Type 0 where
   pub state : Content
-  pub is : content part ≡ Some table
-  pub of_turn : turn ≡ turn_of table
+  pub is : content part ≡ Some state
+  pub of_turn : turn ≡ turn_of state
   pub told : tells z.first part
-  pub held : IsIn table s.knows.held
+  pub held : IsIn state s.knows.held
   pub others : List ℕ
   pub last_taken : s.turns ≡ turn_index turn ∷ others
   pub may : MayStep (place_at z s.by) s.knows (give_turn turn)

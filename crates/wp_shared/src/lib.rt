@@ -29,4 +29,4 @@ pub use ending::Finished;
 pub use note::Note;
 pub use seat::Seat;
 pub use shared::Shared;
-pub use wp_parts::{Log, ReadyInstall, Stock, VersionSet};
+pub use wp_parts::{Log, ReadyInstall, Stock, VersionSet, WrittenInstall};

@@ -41,6 +41,13 @@ impl<D: Disk + Drop> Seat<D> {
         &self.client
     }
 
+    /// Its seat of the words, which tells the log that it holds the write turn alone.
+    pub fn words(&self) -> &WordSeat<TurnValue<D>>
+        ensures { result.now.me.0 ≡ self.now.knows }
+    {
+        &self.seat
+    }
+
     /// Its seat of the words.
     pub(crate) fn into_words(self) -> WordSeat<TurnValue<D>>
         ensures { self ≡ record { table = result.table_id; by = result.id; knows = result.me.0; turns = turns_of result.me.1 } }

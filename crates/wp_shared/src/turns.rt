@@ -1,9 +1,10 @@
 //! Turns: a seat takes a turn with the value behind it, and gives both.
 ghost use Rattle.std.specs.Prelude.{◌≡◌, ◌∷◌, ℕ, List, true};
-ghost use Rattle.wp_core.specs.Turns.{turn_of};
+ghost use Rattle.wp_core.specs.Turns.{write_turn, turn_of};
 ghost use Rattle.wp_core.specs.Changes.{turn_index};
 ghost use Rattle.wp_core.specs.States.{Content};
-ghost use Rattle.wp_shared.specs.Turns.{TookPart, MayGivePart, GavePart, HoldsTurn, KnowsToGive, Taken, TookLog, Given};
+ghost use Rattle.wp_shared.specs.Seats.{held_by};
+ghost use Rattle.wp_shared.specs.Turns.{comes_last, TookPart, MayGivePart, GavePart, HoldsTurn, KnowsToGive, Taken, TookLog, Given};
 
 use crate::seat::Seat;
 use crate::shared::Shared;
@@ -40,6 +41,7 @@ impl<D: Disk + Drop> Shared<D> {
     fn take_part<R: Wait>(&self, rt: &R, seat: &mut Seat<D>, turn: Turn) -> TurnValue<D>
         requires seat { seat.old.table ≡ self.now.table }
         requires live { seat.old.knows.live ≡ true }
+        requires order { comes_last (turn_of turn) (held_by seat.old) ≡ true }
         ensures same { (seat.new.table ≡ seat.old.table) × (seat.new.by ≡ seat.old.by) × (seat.new.turns ≡ turn_index (turn_of turn) ∷ seat.old.turns) }
         ensures took { TookPart self.now (turn_of turn) seat.old seat.new result }
     {
@@ -80,22 +82,26 @@ impl<D: Disk + Drop> Shared<D> {
         }
     }
 
-    /// Waits for the value's turn, and takes it with the value.
+    /// Waits for the value's turn, and takes it with the value. Each turn that the seat holds comes before it, in the order tables,
+    /// write, prepared, snapshots, store, locks.
     pub fn take_turn<G: BehindTurn<TurnValue<D>>, R: Wait>(
         &self,
         rt: &R,
         seat: &mut Seat<D>,
     ) -> Box<G>
-        requires { (seat.old.table ≡ self.now.table) × (seat.old.knows.live ≡ true) }
+        requires seat { (seat.old.table ≡ self.now.table) × (seat.old.knows.live ≡ true) }
+        requires order { comes_last G.turn (held_by seat.old) ≡ true }
         ensures taken { Taken self.now seat.old seat.new (G.state result.value) }
         ensures of_store { G.is_of self.now.first result.value }
     {
         G::out_of(self.take_part(rt, seat, G::turn()))
     }
 
-    /// Waits for the write turn, and takes it with the log. The seat has then seen the whole history.
+    /// Waits for the write turn, and takes it with the log. The seat, which holds no turn or the tables turn alone, has then seen the
+    /// whole history.
     pub fn take_log<R: Wait>(&self, rt: &R, seat: &mut Seat<D>) -> Box<Log<D>>
-        requires { (seat.old.table ≡ self.now.table) × (seat.old.knows.live ≡ true) }
+        requires seat { (seat.old.table ≡ self.now.table) × (seat.old.knows.live ≡ true) }
+        requires order { comes_last write_turn (held_by seat.old) ≡ true }
         ensures { TookLog self.now seat.old seat.new result.value }
     {
         let log = self.take_turn::<Log<D>, R>(rt, seat);

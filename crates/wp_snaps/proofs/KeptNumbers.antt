@@ -99,9 +99,6 @@ len-changed old new s apart = by (has_old_commits old s) (has_old_commits new s)
       | inr other ↦ at_others q other
     ]))
 
-    with_s : (t : FinSet nat_cmp) → kept_numbers new ≡ t → len (kept_numbers new) ≡ len t
-    with_s t is = ap len is
-
     by : (a b : Bool) → has_old_commits old s ≡ a → has_old_commits new s ≡ b → len (kept_numbers new) + from_bool a ≡ len (kept_numbers old) + from_bool b
     by true true had has = ap (λ n. n + 1) (same true had has)
     by false false had has = ap (λ n. n + 0) (same false had has)

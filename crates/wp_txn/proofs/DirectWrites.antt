@@ -18,7 +18,7 @@ use Rattle.wp_core.specs.Notes.{ends}
 use Rattle.wp_core.specs.Steps.{lock_direct, free_direct, note}
 use Rattle.wp_core.specs.States.{locks}
 use Rattle.wp_core.specs.Turns.{locks_turn}
-use Rattle.wp_core.specs.Views.{Fact, passed, in_old_commits, apart, words_stay, has_left, versions_in_memory, versions_nowhere, number_in_heap, number_not_in_heap, pair_delayed, pair_not_delayed, none_waits, undecided_at, prior_values, unprepared, direct_free, tables_stay, live_listed, nothing_flushed, frozen_stay, delayed_flag_stays, old_flag_stays}
+use Rattle.wp_core.specs.Views.{Fact, has_left, undecided_at, prior_values, unprepared, direct_free, live_listed}
 use Rattle.wp_core.specs.World.{Actor, Participant, World}
 use Rattle.wp_core.specs.Sound.Views.{guarded_by}
 use Rattle.wp_core.proofs.HistoryGrows.{none_is}

@@ -12,7 +12,7 @@ use Rattle.wp_shared.specs.Limits.{limit_at}
 use Rattle.wp_shared.specs.Seats.{SharedState, SeatState, IsFree, place_at}
 use Rattle.wp_shared.proofs.Onward.{starts_on}
 use Rattle.wp_open_txns.specs.declared.error.TxnError.{TxnError}
-use Rattle.wp_open_txns.specs.declared.error.TxnError.TheVariants.{Memory, Taken, Busy, TooMany, Silent, Unknown, InUse, NumbersFull, LogFault, Stopped}
+use Rattle.wp_open_txns.specs.declared.error.TxnError.TheVariants.{Memory, NumbersFull, LogFault, Stopped}
 use Rattle.wp_open_txns.proofs.Still.{HasStill, still}
 use Rattle.wp_txn.specs.Writes.{HasPut, Refuses, SawNoMore, HadLog, LeavesDevice}
 

@@ -13,8 +13,8 @@ use Rattle.wp_commits.proofs.TakenOut.{continues_by}
 use Rattle.wp_commits.proofs.Through.{held_taken, holds_still, goes_through}
 use Rattle.wp_commits.proofs.cleanup.forget_prepared.Goals as goal
 
-pub take_turn-tables-requires : goal.take_turn-tables-requires
-take_turn-tables-requires g c = (c.requires.free.same_table, c.requires.free.live)
+pub take_turn-tables-requires-clause-seat : goal.take_turn-tables-requires-clause-seat
+take_turn-tables-requires-clause-seat g c = (c.requires.free.same_table, c.requires.free.live)
 
 pub forget_prepared-requires : goal.forget_prepared-requires
 forget_prepared-requires g c = let z = c.args.store.now in let s = c.args.seat.now in let t = c.take_turn-tables in let taken = t.ensures.taken in record {

@@ -17,8 +17,8 @@ use Rattle.wp_commits.proofs.Going.{knows_passed, knows_apart}
 use Rattle.wp_commits.proofs.Through.{held_taken, holds_still, goes_through}
 use Rattle.wp_commits.proofs.clear.clear_prepared.Goals as goal
 
-pub take_turn-tables-requires : goal.take_turn-tables-requires
-take_turn-tables-requires g c = c.requires.seat
+pub take_turn-tables-requires-clause-seat : goal.take_turn-tables-requires-clause-seat
+take_turn-tables-requires-clause-seat g c = c.requires.seat
 
 pub raise_past-requires : goal.raise_past-requires
 raise_past-requires g c = let z = c.args.store.now in let s = c.args.seat.now in let d = c.args.log.now.state in let t = c.take_turn-tables in let taken = t.ensures.taken in let k = c.requires.there in record {

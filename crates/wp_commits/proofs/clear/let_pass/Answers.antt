@@ -22,8 +22,8 @@ returns-then-c-bound g c = let s = c.args.seat.now in let d = c.args.log.now.sta
       subst (λ (x : SeatState × ℕ). Noted x.0.knows (words_stay x.1 words)) (λ i. (sym same i, sym (raised_low c.args.store.now.cells (length c.args.log.now.state.history) bound c.args.c low) i)) there;
 }
 
-pub take_turn-tables-requires : goal.take_turn-tables-requires
-take_turn-tables-requires g c = let same = c.max-bound.ensures.same in (ap (λ (x : SeatState). x.table) same ∙ c.requires.seat.0, ap (λ (x : SeatState). x.knows.live) same ∙ c.requires.seat.1)
+pub take_turn-tables-requires-clause-seat : goal.take_turn-tables-requires-clause-seat
+take_turn-tables-requires-clause-seat g c = let same = c.max-bound.ensures.same in (ap (λ (x : SeatState). x.table) same ∙ c.requires.seat.0, ap (λ (x : SeatState). x.knows.live) same ∙ c.requires.seat.1)
 
 pub raise_past-requires-clause-seat : goal.raise_past-requires-clause-seat
 raise_past-requires-clause-seat g c = c.take_turn-tables.ensures.taken.holds.same_table

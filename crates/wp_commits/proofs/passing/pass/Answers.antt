@@ -20,11 +20,11 @@ returns-then-none_delayed-clause-seat g c = let s = c.args.seat.now in let r = c
 pub returns-then-none_delayed-clause-waits : goal.returns-then-none_delayed-clause-waits
 returns-then-none_delayed-clause-waits g c = just_noted c.args.seat.now c.none_delayed.new.seat none_waits (match_true c.none_delayed.result _ _ c.if-none_delayed.true c.none_delayed.ensures)
 
-pub take_turn-tables-requires : goal.take_turn-tables-requires
-take_turn-tables-requires g c = let same = match_false c.none_delayed.result _ _ c.if-none_delayed.false c.none_delayed.ensures in (ap (λ (x : SeatState). x.table) same ∙ c.requires.seat.0, ap (λ (x : SeatState). x.knows.live) same ∙ c.requires.seat.1)
+pub take_turn-tables-requires-clause-seat : goal.take_turn-tables-requires-clause-seat
+take_turn-tables-requires-clause-seat g c = let same = match_false c.none_delayed.result _ _ c.if-none_delayed.false c.none_delayed.ensures in (ap (λ (x : SeatState). x.table) same ∙ c.requires.seat.0, ap (λ (x : SeatState). x.knows.live) same ∙ c.requires.seat.1)
 
-pub take_turn-snaps-requires : goal.take_turn-snaps-requires
-take_turn-snaps-requires g c = let holds = c.take_turn-tables.ensures.taken.holds in (holds.same_table, holds.live)
+pub take_turn-snaps-requires-clause-seat : goal.take_turn-snaps-requires-clause-seat
+take_turn-snaps-requires-clause-seat g c = let holds = c.take_turn-tables.ensures.taken.holds in (holds.same_table, holds.live)
 
 pub pass_all-result-requires : goal.pass_all-result-requires
 pass_all-result-requires g c = let same = match_false c.none_delayed.result _ _ c.if-none_delayed.false c.none_delayed.ensures in let z = c.args.store.now in let d = c.args.log.now.state in let r = c.none_delayed.new.seat in let t = c.take_turn-tables in let u = c.take_turn-snaps in

@@ -3,12 +3,9 @@ use Rattle.std.specs.Prelude.{slice_index_or}
 use Rattle.std.proofs.lemmas.Result.{err_from_is_err_and}
 use Rattle.wp_model.specs.declared.version.Version.{Version}
 use Rattle.wp_model.specs.Decision.{IsCommittedAt}
-use Rattle.wp_core.specs.Changes.{held_without}
 use Rattle.wp_core.specs.Lists.{IsIn}
 use Rattle.wp_core.specs.Sound.Reader.{IsRight}
 use Rattle.wp_core.specs.Sound.Snapshots.{has_versions_at}
-use Rattle.wp_core.specs.States.{Content}
-use Rattle.wp_core.specs.Turns.{store_turn}
 use Rattle.wp_core.specs.World.{Participant}
 use Rattle.wp_core.proofs.HistoryLaws.{is_equal}
 use Rattle.wp_shared.specs.Seats.{SeatState}
@@ -28,9 +25,6 @@ is_none (x ∷ xs) empty is none = let same : suc (length xs) ≡ 0 = is_equal (
 
 pub copy_newest-requires-clause-seat : goal.copy_newest-requires-clause-seat
 copy_newest-requires-clause-seat g c = (c.requires.holds.1.same_table, c.requires.holds.1.live)
-
-pub copy_newest-requires-clause-others : goal.copy_newest-requires-clause-others
-copy_newest-requires-clause-others g c = subst (λ (held : List Content). held_without held store_turn ≡ held) (sym c.requires.holds.1.held) refl
 
 pub decide_free-requires-clause-registered : goal.decide_free-requires-clause-registered
 decide_free-requires-clause-registered g c =

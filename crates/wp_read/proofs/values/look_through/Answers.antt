@@ -4,10 +4,7 @@ use Rattle.wp_model.specs.declared.version.Version.{Version}
 use Rattle.wp_model.specs.Decision.{IsCommittedAt}
 use Rattle.wp_core.specs.Lists.{IsIn}
 use Rattle.wp_core.specs.Sound.Snapshots.{has_versions_at}
-use Rattle.wp_core.specs.States.{Content}
 use Rattle.wp_core.specs.World.{Participant}
-use Rattle.wp_core.specs.Changes.{held_without}
-use Rattle.wp_core.specs.Turns.{store_turn}
 use Rattle.wp_read.specs.Values.{NoneCommitted}
 use Rattle.wp_shared.proofs.Onward.{continues_still}
 use Rattle.wp_read.proofs.AtOnce.{free_client, same_client}
@@ -16,9 +13,6 @@ use Rattle.wp_read.proofs.values.look_through.Goals as goal
 
 pub copy_newest-requires-clause-seat : goal.copy_newest-requires-clause-seat
 copy_newest-requires-clause-seat g c = (c.requires.free.same_table, c.requires.free.live)
-
-pub copy_newest-requires-clause-others : goal.copy_newest-requires-clause-others
-copy_newest-requires-clause-others g c = subst (λ (held : List Content). held_without held store_turn ≡ held) (sym c.requires.free.held) refl
 
 pub returns-in_err-found-clause-continues : goal.returns-in_err-found-clause-continues
 returns-in_err-found-clause-continues g c = free_client c.copy_newest.ensures.goes c.args.store.now c.requires.free

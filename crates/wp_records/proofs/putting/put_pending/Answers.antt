@@ -29,10 +29,10 @@ pub append-requires-clause-undelayed : goal.append-requires-clause-undelayed
 append-requires-clause-undelayed g c = subst (λ (x : SeatState). Noted x.knows pair_not_delayed) (sym c.shows_world.ensures.same) c.ready.ensures.undelayed
 
 pub publish_all-requires-clause-some : goal.publish_all-requires-clause-some
-publish_all-requires-clause-some g c = let l = c.in_ok-append.ensures {u = tt} in subst (λ (e : List Entry). e ≢ []) (sym (ap (λ (x : WriteState). x.pending) l.table)) c.requires.unlogged.some
+publish_all-requires-clause-some g c = let l = c.in_ok-append.ensures {u = tt} in subst (λ (e : List Entry). e ≢ []) (sym (ap (λ (x : WriteState). x.pending) l.state)) c.requires.unlogged.some
 
 pub publish_all-requires-clause-running : goal.publish_all-requires-clause-running
-publish_all-requires-clause-running g c = let l = c.in_ok-append.ensures {u = tt} in ap (λ (x : WriteState). x.closed) l.table ∙ c.requires.unlogged.running
+publish_all-requires-clause-running g c = let l = c.in_ok-append.ensures {u = tt} in ap (λ (x : WriteState). x.closed) l.state ∙ c.requires.unlogged.running
 
 pub publish_all-requires-clause-may : goal.publish_all-requires-clause-may
 publish_all-requires-clause-may g c =

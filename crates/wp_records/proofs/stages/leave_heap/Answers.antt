@@ -29,8 +29,8 @@ returns-then-not-prepares g c = let s = c.args.seat.now in let r = c.note_no_num
       below = just_noted s r number_not_in_heap c.note_no_number.ensures;
     }
 
-pub take_turn-tables-requires : goal.take_turn-tables-requires
-take_turn-tables-requires g c = (c.requires.holds.turn.same_table, c.requires.holds.turn.live)
+pub take_turn-tables-requires-clause-seat : goal.take_turn-tables-requires-clause-seat
+take_turn-tables-requires-clause-seat g c = (c.requires.holds.turn.same_table, c.requires.holds.turn.live)
 
 pub remove_number-requires-clause-seat : goal.remove_number-requires-clause-seat
 remove_number-requires-clause-seat g c = c.take_turn-tables.ensures.taken.holds.same_table

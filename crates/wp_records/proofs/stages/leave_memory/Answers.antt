@@ -10,8 +10,8 @@ use Rattle.wp_records.proofs.Facts.{versions_under_store}
 use Rattle.wp_records.proofs.Holding.{still_holds, words_kept}
 use Rattle.wp_records.proofs.stages.leave_memory.Goals as goal
 
-pub take_turn-stock-requires : goal.take_turn-stock-requires
-take_turn-stock-requires g c = (c.requires.holds.turn.same_table, c.requires.holds.turn.live)
+pub take_turn-stock-requires-clause-seat : goal.take_turn-stock-requires-clause-seat
+take_turn-stock-requires-clause-seat g c = (c.requires.holds.turn.same_table, c.requires.holds.turn.live)
 
 pub remove_versions-requires-clause-seat : goal.remove_versions-requires-clause-seat
 remove_versions-requires-clause-seat g c = c.take_turn-stock.ensures.taken.holds.same_table

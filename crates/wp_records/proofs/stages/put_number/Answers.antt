@@ -22,8 +22,8 @@ returns-then-not-prepares g c = let s = c.args.seat.now in record {
   ok = λ is. absurd (true≢false (sym (c.if-not-prepares.ensures.is ∙ is)));
 }
 
-pub take_turn-tables-requires : goal.take_turn-tables-requires
-take_turn-tables-requires g c = (c.requires.holds.turn.same_table, c.requires.holds.turn.live)
+pub take_turn-tables-requires-clause-seat : goal.take_turn-tables-requires-clause-seat
+take_turn-tables-requires-clause-seat g c = (c.requires.holds.turn.same_table, c.requires.holds.turn.live)
 
 pub insert_number-result-requires-clause-seat : goal.insert_number-result-requires-clause-seat
 insert_number-result-requires-clause-seat g c = c.take_turn-tables.ensures.taken.holds.same_table

@@ -15,8 +15,8 @@ use Rattle.wp_records.proofs.Holding.{still_holds, words_kept}
 use Rattle.wp_records.proofs.Stock.{nowhere_there}
 use Rattle.wp_records.proofs.stages.put_versions.Goals as goal
 
-pub take_turn-stock-requires : goal.take_turn-stock-requires
-take_turn-stock-requires g c = (c.requires.holds.turn.same_table, c.requires.holds.turn.live)
+pub take_turn-stock-requires-clause-seat : goal.take_turn-stock-requires-clause-seat
+take_turn-stock-requires-clause-seat g c = (c.requires.holds.turn.same_table, c.requires.holds.turn.live)
 
 pub insert_versions-result-requires-clause-seat : goal.insert_versions-result-requires-clause-seat
 insert_versions-result-requires-clause-seat g c = c.take_turn-stock.ensures.taken.holds.same_table

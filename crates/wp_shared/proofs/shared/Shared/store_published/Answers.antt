@@ -8,7 +8,7 @@ use Rattle.wp_shared.proofs.shared.Shared.store_published.Goals as goal
 
 pub invariant_of-seat : goal.invariant_of-seat
 invariant_of-seat g c = let t = c.requires.next in
-    let moved = c.store_published.ensures.published t.table t.entry t.others (subst (λ (s : SeatState). IsIn (writes t.table) s.knows.held) (sym c.seat.view_is) t.held) t.pending in
+    let moved = c.store_published.ensures.published t.state t.entry t.others (subst (λ (s : SeatState). IsIn (writes t.state) s.knows.held) (sym c.seat.view_is) t.held) t.pending in
     still_sits _ _ _ c.seat.inside.seat.me.0 c.store_published.new.seat.me.0 c.store_published.ensures.same.2 (moved_keeps _ _ _ _ _ (λ w. (tt, tt)) moved) c.seat.invariant
 
 pub returns-clause-published : goal.returns-clause-published
