@@ -1,5 +1,5 @@
 //! Versions, each read where it is.
-ghost use Rattle.std.specs.Prelude.{◌≡◌, ◌≤◌, Some, true, false, map};
+ghost use Rattle.std.specs.Prelude.{◌≡◌, ◌≤◌, ◌<◌, Some, true, false, map};
 ghost use Rattle.std.specs.Arc.{arc_value};
 ghost use Rattle.std.specs.Option.{option_map, option_copied};
 ghost use Rattle.wp_model.specs.Batch.{change_to};
@@ -11,10 +11,12 @@ ghost use Rattle.wp_cover.specs.Present.{place_cmp};
 ghost use Rattle.wp_cover.specs.Sources.{all_of, is_fixed};
 
 use std::cmp::Ordering;
+use std::marker::Brand;
 use std::sync::Arc;
+use std::sync::ledger::{Blank, Ledger};
 use wp_history::History;
 use wp_model::{Batch, Entry, Key, Seq, Value, Version, Versions};
-use wp_table::Table;
+use wp_table::{Steps, Table};
 
 /// Versions of which each is read where it is: those of a list, then those of tables, one after the other, then those of
 /// the history's entries above the flushed number, which is not below its base. Of several with one key and number the first one counts.
@@ -95,11 +97,20 @@ fn version_at<'a>(versions: &'a Versions, key: &Key, number: Seq) -> Option<Opti
     }
 }
 
-/// The version of the key with that number, of which the block is found by halves.
-fn version_in_table<'a>(table: &'a Table, key: &'a Key, number: Seq) -> Option<Option<&'a [u8]>>
+/// The version of the key with that number. The steps of the look-up are counted under the blank.
+fn version_in_table<'a, L: Ledger>(
+    table: &'a Table,
+    key: &'a Key,
+    number: Seq,
+    blank: Blank,
+) -> Option<Option<&'a [u8]>>
+    requires name { blank.name ≡ L.name }
+    requires parts { blank.parts ≡ L.parts }
+    requires some { 0 < blank.parts }
     ensures { option_map option_copied result ≡ version_at table.now key.now number }
 {
-    for version in table.versions(key) {
+    let mut steps = Steps::<L>::new(blank);
+    for version in table.versions(key, &mut steps) {
         if version.number == number {
             return Some(version.value);
         }
@@ -116,7 +127,7 @@ fn version_in_tables<'a>(
     ensures { option_map option_copied result ≡ version_at (joined (map arc_value tables.now)) key.now number }
 {
     for table in tables {
-        let found = version_in_table(table, key, number);
+        let found = version_in_table::<Brand>(table, key, number, Blank::new(1));
         if found.is_some() {
             return found;
         }

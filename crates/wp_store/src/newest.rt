@@ -1,14 +1,15 @@
 //! The newest versions of one key in one part.
-ghost use Rattle.std.specs.Prelude.{◌≡◌, take, IfOk};
+ghost use Rattle.std.specs.Prelude.{◌≡◌, ◌<◌, take, IfOk};
 ghost use Rattle.std.specs.Option.{option_copied};
 ghost use Rattle.wp_model.specs.Versions.{AreInOrder};
 ghost use Rattle.wp_memtable.specs.Memtable.{under};
 ghost use Rattle.wp_store.specs.Store.{newest_of};
 
 use std::alloc::{AllocError, Global};
+use std::sync::ledger::{Blank, Ledger};
 use wp_memtable::{Found, FrozenPart, Memtable};
 use wp_model::{Key, Seq, Value, Version, Versions, copy_value};
-use wp_table::Table;
+use wp_table::{Steps, Table};
 
 /// A version of the key, with a copy of this value or none.
 fn copied_version(
@@ -39,7 +40,7 @@ fn copied(alloc: Global, key: &Key, found: Found<'_>, n: usize) -> Result<Versio
 }
 
 /// A copy of at most `n` versions.
-pub fn newest_in_memory(
+pub(crate) fn newest_in_memory(
     alloc: Global,
     memory: &Memtable,
     key: &Key,
@@ -52,7 +53,7 @@ pub fn newest_in_memory(
 }
 
 /// A copy of at most `n` versions.
-pub fn newest_in_frozen(
+pub(crate) fn newest_in_frozen(
     alloc: Global,
     part: &FrozenPart,
     key: &Key,
@@ -64,18 +65,23 @@ pub fn newest_in_frozen(
     copied(alloc, key, part.versions(key), n)
 }
 
-/// A copy of at most `n` versions.
-pub fn newest_in_table(
+/// A copy of at most `n` versions. The steps of the look-up are counted under the blank.
+pub(crate) fn newest_in_table<L: Ledger>(
     alloc: Global,
     table: &Table,
     key: &Key,
     n: usize,
+    blank: Blank,
 ) -> Result<Versions, AllocError>
+    requires name { blank.name ≡ L.name }
+    requires parts { blank.parts ≡ L.parts }
+    requires some { 0 < blank.parts }
     ensures newest { IfOk result (λ versions. versions ≡ newest_of n key.now table.now) }
     ensures in_order { AreInOrder table.now }
 {
+    let mut steps = Steps::<L>::new(blank);
     let mut list = Vec::new(alloc);
-    for version in table.versions(key).take(n) {
+    for version in table.versions(key, &mut steps).take(n) {
         list.push(version.copy(alloc)?)?;
     }
     Ok(Versions::of(list))

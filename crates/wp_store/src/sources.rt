@@ -9,7 +9,9 @@ ghost use Rattle.wp_store.specs.Store.{newest_of};
 use crate::newest::{newest_in_frozen, newest_in_table};
 use std::alloc::{AllocError, Global};
 use std::collections::VecDeque;
+use std::marker::Brand;
 use std::sync::Arc;
+use std::sync::ledger::Blank;
 use wp_memtable::FrozenPart;
 use wp_merge::Merge;
 use wp_model::{Key, Versions};
@@ -28,7 +30,7 @@ fn listed(alloc: Global, merge: Merge) -> Result<Versions, AllocError>
 }
 
 /// All versions of the lists, in order. Of two with one key and number it is the earlier list's.
-pub fn merged(alloc: Global, sources: Vec<Versions>) -> Result<Versions, AllocError>
+pub(crate) fn merged(alloc: Global, sources: Vec<Versions>) -> Result<Versions, AllocError>
     ensures { IfOk result (λ all. AreMerged sources.items all) }
 {
     listed(alloc, Merge::of(alloc, sources)?)
@@ -41,7 +43,7 @@ pub fn merged_tables(alloc: Global, tables: &VecDeque<Arc<Table>>) -> Result<Ver
     listed(alloc, Merge::of_tables(alloc, tables)?)
 }
 
-pub fn push_frozen(
+pub(crate) fn push_frozen(
     sources: &mut Vec<Versions>,
     frozen: &VecDeque<FrozenPart>,
 ) -> Result<(), AllocError>
@@ -54,7 +56,7 @@ pub fn push_frozen(
 }
 
 /// Puts the newest `n` versions of the key in each frozen part at the end.
-pub fn push_newest_frozen(
+pub(crate) fn push_newest_frozen(
     alloc: Global,
     sources: &mut Vec<Versions>,
     frozen: &VecDeque<FrozenPart>,
@@ -71,7 +73,7 @@ pub fn push_newest_frozen(
 }
 
 /// Puts the newest `n` versions of the key in each table at the end.
-pub fn push_newest_tables(
+pub(crate) fn push_newest_tables(
     alloc: Global,
     sources: &mut Vec<Versions>,
     tables: &VecDeque<Arc<Table>>,
@@ -82,7 +84,7 @@ pub fn push_newest_tables(
     ensures in_order { OnOk result (AllByRecursion AreInOrder (map arc_value tables.now.items)) }
 {
     for table in tables {
-        sources.push(newest_in_table(alloc, table, key, n)?)?;
+        sources.push(newest_in_table::<Brand>(alloc, table, key, n, Blank::new(1))?)?;
     }
     Ok(())
 }

@@ -1,6 +1,7 @@
 -- Steps that each halve a number.
 use Rattle.std.proofs.Common.{◌≡◌, ℕ, suc, ◌+◌, ◌-◌, ◌*◌, ◌^◌, ◌≤◌, ap, ◌∙◌, arith, le_refl, mul_comm, mul_assoc, mul-one, pow-suc}
 use Rattle.std.proofs.lemmas.Nat.{mul-le}
+use Rattle.std.proofs.Math.Pow.{pow_mono}
 
 -- one step more is twice the power
 pub one_more : (steps before : ℕ) → before ≤ steps → 2 ^ (steps + 1 - before) ≡ 2 * 2 ^ (steps - before)
@@ -21,3 +22,9 @@ pub no_step : (steps most : ℕ) → 1 ≤ most → (2 ^ (steps - steps) * (most
 no_step steps most some =
     let none : steps - steps ≡ 0 = omega arith in
     rw none (omega arith, omega arith)
+
+-- so many steps more than those that halve
+pub more_steps : (more start halved end most : ℕ) → 2 ^ (halved - start) ≤ most → end ≤ halved + more → 2 ^ (end - start - more) ≤ most
+more_steps more start halved end most cost le =
+    let fewer : end - start - more ≤ halved - start = omega arith in
+    omega (arith, pow_mono fewer, cost)

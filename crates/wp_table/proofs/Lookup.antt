@@ -1,5 +1,5 @@
 -- Versions in order, searched for those of one key.
-use Rattle.std.proofs.Common.{◌≡◌, ℕ, zero, suc, ◌*◌, ◌<◌, ◌≤◌, Bool, true, false, Less, Equal, Greater, List, [], ◌∷◌, length, drop, filter, Option, Some, None, refl, sym, ap, ◌∙◌, arith, inl, inr, ◌⊎◌}
+use Rattle.std.proofs.Common.{◌≡◌, ℕ, zero, suc, ◌+◌, ◌*◌, ◌<◌, ◌≤◌, Bool, true, false, Less, Equal, Greater, List, [], ◌∷◌, length, drop, filter, Option, Some, None, refl, sym, ap, ◌∙◌, arith, inl, inr, ◌⊎◌}
 use Rattle.std.specs.declared.cmp.Ordering.{Ordering}
 use Rattle.std.specs.Ordering.{nat_cmp, is_lt, ordering_then, ordering_reverse}
 use Rattle.std.specs.Str.{bytes_eq}
@@ -13,7 +13,7 @@ use Rattle.wp_model.specs.Versions.{AreInOrder, version_cmp}
 use Rattle.wp_model.proofs.BatchLemmas.{less_from_test}
 use Rattle.wp_model.proofs.VersionLists.{IsBefore, in_order_parts}
 use Rattle.wp_table.specs.Borrowed.{with_next, begins_below, skip_below, front_with}
-use Rattle.std.proofs.lemmas.List.{drop_all}
+use Rattle.std.proofs.lemmas.List.{drop_all, drop-drop}
 use Rattle.wp_table.specs.declared.layout.TheConstants.{BLOCK}
 use Rattle.wp_table.specs.Table.{block_count}
 use Rattle.wp_table.specs.Walk.{StandsFrom}
@@ -126,17 +126,33 @@ found_from n vs key h from = found_in (drop n vs) key (in_order_drop n vs h) ∙
 
 -- ---- what is skipped
 
-pub skipped : (key : List ℕ) (next : Option Version) (rest : List Version) → begins_below key (with_next next []) ≡ true → skip_below key (with_next next rest) ≡ skip_below key rest
-skipped key None rest less = absurd cc
-skipped key (Some v) rest less = rw less refl
+pub below_front : (key : List ℕ) (next : Option Version) (rest : List Version) → begins_below key (with_next next []) ≡ begins_below key (with_next next rest)
+below_front key None rest = refl
+below_front key (Some v) rest = refl
 
-pub none_skipped : (key : List ℕ) (next : Option Version) (rest : List Version) → begins_below key (with_next next []) ≡ false → skip_below key (with_next next rest) ≡ with_next next rest
-none_skipped key None rest not_less = refl
-none_skipped key (Some v) rest not_less = rw not_less refl
+pub one_skipped : (key : List ℕ) (next : Option Version) (rest : List Version) → begins_below key (with_next next []) ≡ true → length (with_next next rest) ≡ length rest + 1
+one_skipped key None rest less = absurd cc
+one_skipped key (Some v) rest less = omega arith
 
-pub fewer_left : (key : List ℕ) (next : Option Version) (rest : List Version) → begins_below key (with_next next []) ≡ true → length rest < length (with_next next rest)
-fewer_left key None rest less = absurd cc
-fewer_left key (Some v) rest less = omega arith
+none_skipped : (vs : List Version) (key : List ℕ) → begins_below key vs ≡ false → length vs ≤ length (skip_below key vs)
+none_skipped [] key not_less = omega arith
+none_skipped (v ∷ vs) key not_less = rw not_less (omega arith)
+
+few_skipped : (n : ℕ) (vs : List Version) (key : List ℕ) → begins_below key (drop n vs) ≡ false → length vs ≤ n + length (skip_below key vs)
+few_skipped zero vs key h = omega (arith, none_skipped vs key h)
+few_skipped (suc n) [] key h = omega arith
+few_skipped (suc n) (v ∷ vs) key h =
+    elim (either (is_lt (key_cmp v.key key))) [
+      | inl less ↦ rw less (omega (arith, few_skipped n vs key h))
+      | inr not_less ↦ rw not_less (omega arith)
+    ]
+
+-- From a block on, behind which no key is lesser, at most the block is skipped.
+pub block_skipped : (block : ℕ) (vs : List Version) (key : List ℕ) → begins_below key (drop ((block + 1) * BLOCK) vs) ≡ false
+    → length (drop (block * BLOCK) vs) ≤ BLOCK + length (skip_below key (drop (block * BLOCK) vs))
+block_skipped block vs key h =
+    let behind : block * BLOCK + BLOCK ≡ (block + 1) * BLOCK = omega arith in
+    few_skipped BLOCK (drop (block * BLOCK) vs) key (ap (begins_below key) (drop-drop BLOCK (block * BLOCK) vs ∙ ap (λ n. drop n vs) behind) ∙ h)
 
 -- ---- where the key stands
 

@@ -1,12 +1,12 @@
-ghost use Rattle.std.specs.Prelude.{◌≡◌, []};
+ghost use Rattle.std.specs.Prelude.{◌≡◌, ◌+◌, ◌≤◌, length};
 ghost use Rattle.std.specs.Iterator.{YieldsFirstBy, item_count};
-ghost use Rattle.std.specs.Option.{option_map};
-ghost use Rattle.std.specs.Ordering.{is_lt};
-ghost use Rattle.wp_table.specs.Borrowed.{seen, with_next, begins_below, skip_below, front_with};
+ghost use Rattle.wp_table.specs.Borrowed.{seen, skip_below, front_with};
 
 use crate::all::All;
+use crate::steps::Steps;
 use crate::version::VersionRef;
 use std::marker::Model;
+use std::sync::ledger::Ledger;
 
 /// The versions of one key in a table, the newest first.
 #[derive(Drop)]
@@ -28,24 +28,16 @@ impl<'a> Model for Found<'a> {
     ghost view = { λ f. front_with f.key.now (with_next (option_map seen f.next) f.rest) };
 }
 
-/// Whether there is a version, and its key is lesser.
-fn is_below(version: Option<VersionRef<'_>>, key: &[u8]) -> bool
-    ensures { result ≡ begins_below key.now (with_next (option_map seen version.entry) []) }
-{
-    match version {
-        Some(version) => version.key.cmp(key).is_lt(),
-        None => false,
-    }
-}
-
 impl<'a> Found<'a> {
-    /// Those of the versions, none of which comes behind one with a greater key, that have the key.
-    pub(crate) fn of(versions: All<'a>, key: &'a [u8]) -> Found<'a>
-        ensures { result ≡ front_with key.now (skip_below key.now versions.entry) }
+    /// Those of the versions, none of which comes behind one with a greater key, that have the key. Each that it passes over
+    /// is one step, and the one where it stops is another.
+    pub(crate) fn of<L: Ledger>(versions: All<'a>, key: &'a [u8], steps: &mut Steps<L>) -> Found<'a>
+        ensures found { result ≡ front_with key.now (skip_below key.now versions.entry) }
+        ensures cost { steps.new + length (skip_below key.now versions.entry) ≤ steps.old + length versions.entry + 1 }
     {
         let mut rest = versions;
         let mut next = rest.advance();
-        while is_below(next, key) {
+        while steps.is_below(next, key) {
             next = rest.advance();
         }
         Found { key, next, rest }

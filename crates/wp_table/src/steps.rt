@@ -1,9 +1,13 @@
-ghost use Rattle.std.specs.Prelude.{◌≡◌, ◌+◌, ◌<◌};
+ghost use Rattle.std.specs.Prelude.{◌≡◌, ◌+◌, ◌<◌, []};
+ghost use Rattle.std.specs.Option.{option_map};
+ghost use Rattle.wp_table.specs.Borrowed.{seen, with_next, begins_below};
 
+use crate::version::VersionRef;
 use std::marker::Model;
 use std::sync::ledger::{Blank, Book, Ledger, Share};
 
-/// How many steps were taken. It takes no bytes, and nothing is done for it when the program runs.
+/// How many steps a look-up took, each a comparison of a key in a table with the one that is looked for. It takes no bytes,
+/// and nothing is done for it when the program runs.
 #[derive(Drop)]
 pub struct Steps<L: Ledger> {
     book: Book<L>,
@@ -32,10 +36,15 @@ impl<L: Ledger> Steps<L> {
         Steps { book, share }
     }
 
-    /// One more.
-    pub(crate) fn tick(&mut self)
-        ensures { self.new ≡ self.old + 1 }
+    /// Whether there is a version, and its key is lesser, which is one step.
+    pub(crate) fn is_below(&mut self, version: Option<VersionRef<'_>>, key: &[u8]) -> bool
+        ensures below { result ≡ begins_below key.now (with_next (option_map seen version.entry) []) }
+        ensures step { self.new ≡ self.old + 1 }
     {
         self.book.add(&mut self.share, 1);
+        match version {
+            Some(version) => version.key.cmp(key).is_lt(),
+            None => false,
+        }
     }
 }

@@ -21,9 +21,9 @@ use crate::layout::{BLOCK, HEAD};
 use crate::reading::judge;
 use crate::steps::Steps;
 use std::alloc::Global;
-use std::marker::{Brand, Model};
+use std::marker::Model;
 use std::sync::Arc;
-use std::sync::ledger::{Blank, Ledger};
+use std::sync::ledger::Ledger;
 use wp_fields::Format;
 use wp_model::{Key, Seq};
 
@@ -120,11 +120,8 @@ impl Table {
         ensures step { steps.new ≡ steps.old + 1 }
         ensures in_order { AreInOrder self.now }
     {
-        steps.tick();
-        match self.from_block(block).next() {
-            Some(first) => first.key.cmp(key.bytes()).is_lt(),
-            None => false,
-        }
+        let first = self.from_block(block).advance();
+        steps.is_below(first, key.bytes())
     }
 
     /// The half of these blocks that the key's versions stand from, by one step.
@@ -168,27 +165,16 @@ impl Table {
         first
     }
 
-    /// The same, where nobody counts the steps.
-    fn uncounted_first_block<L: Ledger>(&self, key: &Key, blank: Blank) -> usize
-        requires name { blank.name ≡ L.name }
-        requires parts { blank.parts ≡ L.parts }
-        requires some { 0 < blank.parts }
-        ensures within { result < block_count (length self.now) }
-        ensures from { filter (λ v. bytes_eq v.key key.now) (drop (result * BLOCK) self.now) ≡ filter (λ v. bytes_eq v.key key.now) self.now }
-    {
-        let mut steps = Steps::<L>::new(blank);
-        self.first_block(key, &mut steps)
-    }
-
     /// The versions of the key, the newest first, borrowed from the table's bytes. The block where they stand is found by
-    /// binary search.
-    pub fn versions<'a>(&'a self, key: &'a Key) -> Found<'a>
+    /// binary search, and at most one block is passed over there. A step is one comparison with a key of the table.
+    pub fn versions<'a, L: Ledger>(&'a self, key: &'a Key, steps: &mut Steps<L>) -> Found<'a>
         ensures found { result ≡ filter (λ v. bytes_eq v.key key.now) self.now }
         ensures in_range { list_all has_words result ≡ true }
         ensures in_order { AreInOrder self.now }
+        ensures cost { 2 ^ (steps.new - steps.old - (BLOCK + 1)) ≤ 2 * block_count (length self.now) + 1 }
     {
-        let block = self.uncounted_first_block::<Brand>(key, Blank::new(1));
-        Found::of(self.from_block(block), key.bytes())
+        let block = self.first_block(key, steps);
+        Found::of(self.from_block(block), key.bytes(), steps)
     }
 
     /// All versions, in order, borrowed from the table's bytes.

@@ -10,7 +10,7 @@ use Rattle.wp_store.proofs.Taken.{taken_next, taken_all}
 use Rattle.wp_store.proofs.newest.newest_in_table.Goals as goal
 
 pub loop-version-init : goal.loop-version-init
-loop-version-init c =
+loop-version-init g c =
     let begun = c.into_iter-version-iterator.ensures.into_iter_gives in
     let source = ap take_source begun ∙ c.take-version-items.ensures.source in
     let found = source ∙ c.versions.ensures.found in
@@ -21,12 +21,12 @@ loop-version-init c =
     }
 
 pub copy-requires : goal.copy-requires
-copy-requires c =
+copy-requires g c =
     let rest = take_source c.next.new.self in
     (and_parts (has_words (seen c.in-Some.version)) (list_all has_words rest) (sym (ap (list_all has_words) c.in-Some.ensures.steps.0) ∙ c.loop-version.invariant.in_range)).0
 
 pub loop-version-preserved : goal.loop-version-preserved
-loop-version-preserved c =
+loop-version-preserved g c =
     let step = c.in-Some.ensures.steps in
     let before = c.loop-version.invariant in
     let rest = take_source c.next.new.self in
@@ -37,6 +37,6 @@ loop-version-preserved c =
     }
 
 pub of-requires : goal.of-requires
-of-requires c =
+of-requires g c =
     let all = taken_all c.loop-version.list.items _ _ _ (λ some. (c.in-None.ensures.steps some).0) c.loop-version.invariant.newest in
     subst AreInOrder (sym all) (in_order-newest c.args.key.now c.args.n c.args.table.now c.versions.ensures.in_order)

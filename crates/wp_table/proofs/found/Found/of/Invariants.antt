@@ -1,10 +1,13 @@
-use Rattle.std.proofs.Common.{◌≡◌, length}
+use Rattle.std.proofs.Common.{◌≡◌, ◌+◌, length}
 use Rattle.std.specs.Option.{option_map}
 use Rattle.wp_table.specs.Borrowed.{seen, with_next, skip_below}
 use Rattle.wp_table.proofs.found.Found.of.Given as goal
 
 abbrev pub invariant-loop-next : goal.invariant-loop-next
-invariant-loop-next l = skip_below l.key (with_next (option_map seen l.next) l.rest) ≡ skip_below l.key l.fn.versions
+invariant-loop-next g l = record {
+  found : skip_below l.key (with_next (option_map seen l.next) l.rest) ≡ skip_below l.key l.fn.versions;
+  cost : l.steps + length (with_next (option_map seen l.next) l.rest) ≡ l.fn.steps + length l.fn.versions;
+}
 
 abbrev pub decreases-loop-next : goal.decreases-loop-next
-decreases-loop-next l = length (with_next (option_map seen l.next) l.rest)
+decreases-loop-next g l = length (with_next (option_map seen l.next) l.rest)

@@ -1,10 +1,12 @@
-use Rattle.std.proofs.Common.{ap, sym, ◌∙◌}
-use Rattle.std.specs.Ordering.{is_lt}
-use Rattle.wp_model.specs.Batch.{key_cmp}
-use Rattle.wp_table.specs.Borrowed.{begins_below}
+use Rattle.std.proofs.Common.{[], ap, sym, ◌∙◌}
+use Rattle.std.specs.Option.{option_map}
+use Rattle.wp_table.specs.Borrowed.{seen, with_next, begins_below}
+use Rattle.wp_table.proofs.Lookup.{below_front}
 use Rattle.wp_table.proofs.table.Table.begins_below.Goals as goal
 
-pub returns-in-Some-clause-below : goal.returns-in-Some-clause-below
-returns-in-Some-clause-below g c =
-    let are = sym c.from_block.ensures.versions ∙ c.in-Some.ensures.steps in
-    c.is_lt.ensures ∙ ap is_lt c.cmp.ensures ∙ ap (λ k. is_lt (key_cmp c.in-Some.first.key.now k)) c.bytes.ensures.value ∙ sym (ap (begins_below c.args.key.now) are)
+pub returns-clause-below : goal.returns-clause-below
+returns-clause-below g c =
+    c.is_below.ensures.below
+    ∙ ap (λ k. begins_below k (with_next (option_map seen c.advance-first.result) [])) c.bytes.ensures.value
+    ∙ below_front c.args.key.now (option_map seen c.advance-first.result) c.advance-first.new.self
+    ∙ sym (ap (begins_below c.args.key.now) (sym c.from_block.ensures.versions ∙ c.advance-first.ensures))
